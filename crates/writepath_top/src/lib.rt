@@ -1,0 +1,6 @@
+//! The top call: it reads a script, runs it over the write path, and prints the outcome.
+#![tactic(auto)]
+
+mod script;
+
+pub use script::{Command, Script, ScriptError, TEXT_LIMIT};
