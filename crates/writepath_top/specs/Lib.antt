@@ -1,1 +1,3 @@
 pub mod Scripts
+pub mod Published
+pub mod Shows

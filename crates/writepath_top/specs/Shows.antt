@@ -1,0 +1,38 @@
+-- The outcome that a run's values show. What no value holds, and no text shows, is the records of a batch: they are those of its bytes.
+use Rattle.std.specs.Prelude.{◌≡◌, ℕ, List, Option}
+use Rattle.std.specs.List.{AllZip}
+use Rattle.wp_model.specs.Batch.{Record, batch}
+use Rattle.wp_model.specs.History as history
+use Rattle.wp_model.specs.Calls as calls
+use Rattle.writepath_top.specs.declared.outcome.Reply.{Reply}
+use Rattle.writepath_top.specs.declared.outcome.Reply.TheVariants.{Quiet, Accepted, Refused, Found, NoMemory}
+use Rattle.writepath_top.specs.declared.outcome.Entry.{Entry}
+use Rattle.writepath_top.specs.declared.outcome.Outcome.{Outcome}
+use Rattle.writepath_top.specs.Published.{pairs_of}
+
+-- a reply, whatever command it is to
+abbrev pub ShowsReply : Reply → calls.Call → Type 0
+ShowsReply Quiet c = c.reply ≡ calls.quiet
+ShowsReply (Accepted first last) c = (records : List Record) × (c.reply ≡ calls.accepted first last records)
+ShowsReply (Refused why) c = c.reply ≡ calls.refused why
+ShowsReply (Found at value) c = c.reply ≡ calls.found at value
+ShowsReply NoMemory c = c.reply ≡ calls.no_memory
+
+abbrev pub ShowsReplies : List Reply → List calls.Call → Type 0
+ShowsReplies replies cs = AllZip ShowsReply replies cs
+
+pub record ShowsEntry (shown : Entry) (e : history.Entry) : Type 0 where
+  pub client : e.client ≡ shown.client
+  pub ordinal : e.ordinal ≡ shown.ordinal
+  pub first : e.first ≡ shown.first
+  pub last : history.last_of e ≡ shown.last
+  pub flag : e.flag ≡ shown.flag
+  pub bytes : shown.batch ≡ batch e.first e.records
+
+pub record ShowsOutcome (shown : Outcome) (o : calls.Outcome) : Type 0 where
+  pub transcripts : AllZip (λ v. ShowsReplies v.items) shown.transcripts.items o.transcripts
+  pub history : AllZip ShowsEntry shown.history.items o.history
+  pub last : o.last ≡ shown.last
+  pub state : o.state ≡ pairs_of shown.state
+  pub log_len : o.log_len ≡ shown.log_len
+  pub fault : o.fault ≡ shown.fault

@@ -1,0 +1,47 @@
+//! What a run comes to: each client's replies, the one history of batches, and what the log then holds.
+
+use crate::published::Published;
+use wp_coding::Bytes;
+use wp_model::{Flag, Refusal};
+
+/// The reply to a command.
+#[derive(Debug, Drop)]
+pub enum Reply {
+    /// What adds to the batch has no reply.
+    Quiet,
+    /// The batch has this run of sequences.
+    Accepted { first: u64, last: u64 },
+    Refused(Refusal),
+    /// What was read at which sequence.
+    Found { at: u64, value: Option<Bytes> },
+    /// There was no memory. It is a client's last reply.
+    NoMemory,
+}
+
+/// An accepted batch.
+#[derive(Debug, Drop)]
+pub struct Entry {
+    pub client: u32,
+    /// The how many-th of that client's, from 1.
+    pub ordinal: u64,
+    pub first: u64,
+    pub last: u64,
+    pub flag: Flag,
+    /// The batch's bytes, with its sequence set.
+    pub batch: Bytes,
+}
+
+/// The outcome of a run.
+#[derive(Debug, Drop)]
+pub struct Outcome {
+    /// The replies of each client, in order of the clients' numbers.
+    pub transcripts: Vec<Vec<Reply>>,
+    /// In order of their sequences.
+    pub history: Vec<Entry>,
+    /// The published sequence, and the map there.
+    pub last: u64,
+    pub state: Published,
+    /// The bytes of the groups that were written whole, and the count of the log's fault.
+    pub log_len: u64,
+    pub fault: Option<u64>,
+}
