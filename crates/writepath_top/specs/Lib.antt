@@ -1,3 +1,16 @@
 pub mod Scripts
+pub mod ScriptWords
+pub mod ScriptLines
+pub mod Keys
+pub mod Places
 pub mod Published
 pub mod Shows
+pub mod ShownText
+pub mod Texts
+pub mod Logs
+pub mod Commits
+pub mod Clients
+pub mod CommandLine
+pub mod Reading
+pub mod Ends
+pub mod Running

@@ -1,7 +1,7 @@
 -- The outcome that a run's values show. What no value holds, and no text shows, is the records of a batch: they are those of its bytes.
-use Rattle.std.specs.Prelude.{◌≡◌, ℕ, List, Option}
+use Rattle.std.specs.Prelude.{◌≡◌, ℕ, Bool, true, false, List, Option}
 use Rattle.std.specs.List.{AllZip}
-use Rattle.wp_model.specs.Batch.{Record, batch}
+use Rattle.wp_model.specs.Batch.{Record}
 use Rattle.wp_model.specs.History as history
 use Rattle.wp_model.specs.Calls as calls
 use Rattle.writepath_top.specs.declared.outcome.Reply.{Reply}
@@ -9,6 +9,13 @@ use Rattle.writepath_top.specs.declared.outcome.Reply.TheVariants.{Quiet, Accept
 use Rattle.writepath_top.specs.declared.outcome.Entry.{Entry}
 use Rattle.writepath_top.specs.declared.outcome.Outcome.{Outcome}
 use Rattle.writepath_top.specs.Published.{pairs_of}
+
+abbrev pub lacks_memory : Reply → Bool
+lacks_memory NoMemory = true
+lacks_memory Quiet = false
+lacks_memory (Accepted first last) = false
+lacks_memory (Refused why) = false
+lacks_memory (Found at value) = false
 
 -- a reply, whatever command it is to
 abbrev pub ShowsReply : Reply → calls.Call → Type 0
@@ -27,7 +34,7 @@ pub record ShowsEntry (shown : Entry) (e : history.Entry) : Type 0 where
   pub first : e.first ≡ shown.first
   pub last : history.last_of e ≡ shown.last
   pub flag : e.flag ≡ shown.flag
-  pub bytes : shown.batch ≡ batch e.first e.records
+  pub batch : shown.batch ≡ record { sequence = e.first; records = e.records }
 
 pub record ShowsOutcome (shown : Outcome) (o : calls.Outcome) : Type 0 where
   pub transcripts : AllZip (λ v. ShowsReplies v.items) shown.transcripts.items o.transcripts

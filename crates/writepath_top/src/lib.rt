@@ -1,8 +1,17 @@
 //! The top call: it reads a script, runs it over the write path, and prints the outcome.
 #![tactic(auto)]
 
+mod client;
+mod command_line;
+mod log;
 mod outcome;
+mod pending;
 mod published;
+mod reading;
+mod running;
 mod script;
+mod text;
 
-pub use script::{Command, Script, ScriptError, TEXT_LIMIT};
+mod write_path;
+
+pub use script::{Command, Script, ScriptError, TEXT_LIMIT, is_one_form, parse};

@@ -3,6 +3,7 @@
 use crate::published::Published;
 use wp_coding::Bytes;
 use wp_model::{Flag, Refusal};
+use write_batch::Batch;
 
 /// The reply to a command.
 #[derive(Debug, Drop)]
@@ -18,6 +19,18 @@ pub enum Reply {
     NoMemory,
 }
 
+impl Reply {
+    ghost use Rattle.std.specs.Prelude.{◌≡◌};
+    ghost use Rattle.writepath_top.specs.Shows.{lacks_memory};
+
+    /// Whether the call found no memory.
+    pub fn lacks_memory(&self) -> bool
+        ensures { result ≡ lacks_memory self.now }
+    {
+        matches!(self, Reply::NoMemory)
+    }
+}
+
 /// An accepted batch.
 #[derive(Debug, Drop)]
 pub struct Entry {
@@ -27,8 +40,8 @@ pub struct Entry {
     pub first: u64,
     pub last: u64,
     pub flag: Flag,
-    /// The batch's bytes, with its sequence set.
-    pub batch: Bytes,
+    /// With its sequence set.
+    pub batch: Batch,
 }
 
 /// The outcome of a run.

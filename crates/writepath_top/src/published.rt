@@ -1,13 +1,14 @@
 //! The published state: an ordered map.
 
-ghost use Rattle.std.specs.Prelude.{◌≡◌, ◌+◌, ◌≤◌, [], OnOk, OnErr, IfNone, IfSome, Some, None, slice_get, length};
-ghost use Rattle.std.specs.BTreeMap.{insert_entry};
-ghost use Rattle.wp_model.specs.Map.{byte_order, value_at};
-ghost use Rattle.writepath_top.specs.Published.{pairs_of, room_of};
+ghost use Rattle.std.specs.List.Sorted.{IsStrictlySortedBy-prop};
+ghost use Rattle.wp_model.specs.Map.{byte_order};
+ghost use Rattle.writepath_top.specs.Keys.{keys_of, AreAscending};
 
-use std::alloc::Global;
+mod map;
+#[cfg(test)]
+mod tests;
+
 use wp_coding::Bytes;
-use wp_model::NoMemory;
 
 /// A key with its value.
 #[derive(Debug, Drop)]
@@ -20,4 +21,5 @@ pub struct Pair {
 #[derive(Debug, Drop)]
 pub struct Published {
     pairs: Vec<Pair>,
+    ghost ascending: { AreAscending pairs.items } by { IsStrictlySortedBy-prop byte_order (keys_of pairs.items) },
 }

@@ -1,8 +1,17 @@
 //! The script that a run is given: lines of words, and the commands that they say.
 
-use std::alloc::{AllocError, AllocFailed, Global};
+mod form;
+mod lines;
+mod numbers;
+mod parser;
+#[cfg(test)]
+mod tests;
+mod words;
+
+pub use form::is_one_form;
+pub use parser::parse;
 use wp_coding::Bytes;
-use wp_model::{NoMemory, ScriptFault};
+use wp_model::ScriptFault;
 
 /// How many bytes a script may have.
 pub const TEXT_LIMIT: usize = 16384;

@@ -1,0 +1,5 @@
+-- Why the checksum by a table is the remainder of long division.
+pub mod Register
+pub mod Division
+pub mod Message
+pub mod Table

@@ -1,0 +1,15 @@
+//! Why a batch takes no more.
+
+use thiserror::Error;
+
+/// Why an addition to a batch was refused.
+#[derive(Clone, Copy, Debug, PartialEq, Eq, Error)]
+pub enum AddError {
+    /// There was no memory.
+    #[error("no memory")]
+    NoMemory,
+    /// With the addition the batch would have this many bytes, which are too many. More than the
+    /// greatest u64 are given as that.
+    #[error("the batch would have {size} bytes")]
+    TooLarge { size: u64 },
+}

@@ -1,0 +1,127 @@
+//! A batch of additions.
+
+ghost use Rattle.std.specs.Prelude.{◌≡◌, ◌<◌, ◌≤◌, ◌^◌, ◌-◌, min, IfOk, OnOk, OnErr, IsOkUnless};
+ghost use Rattle.wp_model.specs.Batch as model;
+ghost use Rattle.write_batch.specs.Contents.{IsBatch, empty, added, size_with};
+ghost use Rattle.write_batch.specs.OneBatch.{IsBatch-prop};
+
+use crate::AddError;
+use crate::record_bytes::{append_value, size_with_value};
+use std::alloc::Global;
+use std::marker::Model;
+use wp_coding::Bytes;
+use wp_model::NoMemory;
+
+/// The most bytes that a batch has.
+pub const MAX_SIZE: u64 = 16_777_216;
+
+/// How many bytes the header has, and where the count stands in it.
+const HEADER_LEN: usize = 12;
+
+const COUNT_AT: usize = 8;
+
+/// A batch of additions. Contracts see its sequence and the additions in order.
+///
+/// Its bytes are a header of twelve, which are the sequence in eight and the count in four, the lowest
+/// byte first, and then the records of the additions.
+#[derive(Debug, Drop)]
+pub struct Batch {
+    bytes: Bytes,
+    sequence: u64,
+    count: u32,
+    ghost holds: { IsBatch bytes sequence count } by { IsBatch-prop bytes sequence count },
+}
+
+impl Model for Batch {
+    ghost use Rattle.write_batch.specs.Contents.{Contents};
+
+    ghost Value = { Contents };
+
+    ghost view = { λ b. record { sequence = b.sequence; records = b.holds.records } };
+}
+
+impl Batch {
+    /// A batch of no additions, with the sequence 0.
+    pub fn new(alloc: Global) -> Result<Batch, NoMemory>
+        ensures { IfOk result (λ batch. batch ≡ empty) }
+    {
+        Ok(Batch {
+            bytes: Bytes::copy(alloc, &[0; HEADER_LEN])?,
+            sequence: 0,
+            count: 0,
+        })
+    }
+
+    /// Adds a key with its value.
+    ///
+    /// Refused before all where the batch would have more than [`MAX_SIZE`] bytes, by `TooLarge` with
+    /// the size that it would have; a length of 2^32 or more counts as a varint of five bytes. A
+    /// refused addition leaves the batch as it was.
+    pub fn put(&mut self, key: &[u8], value: &[u8]) -> Result<(), AddError>
+        ensures ok { OnOk result (self.new ≡ added self.old (model.value key.now value.now)) }
+        ensures err { OnErr result (self.new ≡ self.old) }
+        ensures too_large { let size = size_with self.old (model.value key.now value.now) in
+            MAX_SIZE < size → result ≡ Err (AddError.TooLarge (min size (2 ^ 64 - 1))) }
+        ensures fits { size_with self.old (model.value key.now value.now) ≤ MAX_SIZE → IsOkUnless result AddError.NoMemory }
+    {
+        let size = size_with_value(self.size(), key, value);
+        if size > MAX_SIZE {
+            return Err(AddError::TooLarge { size });
+        }
+        let len = self.bytes.len();
+        if append_value(&mut self.bytes, key, value).is_err() {
+            self.bytes.truncate(len);
+            return Err(AddError::NoMemory);
+        }
+        self.count += 1;
+        self.bytes.overwrite(COUNT_AT, &self.count.to_le_bytes());
+        Ok(())
+    }
+
+    /// Takes out all additions, and sets the sequence to 0.
+    pub fn clear(&mut self)
+        ensures { self.new ≡ empty }
+    {
+        self.bytes.truncate(HEADER_LEN);
+        self.bytes.overwrite(0, &[0; HEADER_LEN]);
+        self.sequence = 0;
+        self.count = 0;
+    }
+
+    /// The sequence of the first addition that counts.
+    pub fn sequence(&self) -> u64
+        ensures { result ≡ self.now.sequence }
+    {
+        self.sequence
+    }
+
+    /// Gives it another sequence, and changes nothing else.
+    pub fn set_sequence(&mut self, sequence: u64)
+        ensures { self.new ≡ record self.old { sequence = sequence } }
+    {
+        self.sequence = sequence;
+        self.bytes.overwrite(0, &sequence.to_le_bytes());
+    }
+
+    /// How many additions count. Each of those takes a sequence.
+    pub fn count(&self) -> u32
+        ensures { result ≡ model.count_of self.now.records }
+    {
+        self.count
+    }
+
+    /// How many bytes it has.
+    pub fn size(&self) -> u64
+        ensures value { result ≡ model.size_of_batch self.now.records }
+        ensures limit { result ≤ MAX_SIZE }
+    {
+        self.bytes.len() as u64
+    }
+
+    /// Its bytes.
+    pub fn bytes(&self) -> &[u8]
+        ensures { result.now ≡ model.batch self.now.sequence self.now.records }
+    {
+        self.bytes.as_slice()
+    }
+}

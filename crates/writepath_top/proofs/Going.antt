@@ -1,0 +1,107 @@
+-- A client on its way through its commands.
+use Rattle.std.specs.Prelude.{⊤}
+use Rattle.std.proofs.Common.{◌≡◌, ℕ, ◌+◌, ◌*◌, ◌≤◌, Bool, true, false, List, [], ◌∷◌, ◌++◌, map, Option, Some, None, IfSome, refl, ap, sym, ◌∙◌}
+use Rattle.std.specs.List.{AllByRecursion, AllZip}
+use Rattle.std.specs.List.{list_any}
+use Rattle.wp_edge.specs.Disk.{Disk}
+use Rattle.wp_model.specs.History as history
+use Rattle.wp_model.specs.History.{IsBoundary, last_sequence}
+use Rattle.wp_model.specs.Batch.{Record, size_of_batch}
+use Rattle.wp_model.specs.Handled.{Handling, Fate, taken, slowed, faulted, full, is_faulted, knows_dead}
+use Rattle.wp_model.specs.Groups.{IsFate, AreFates}
+use Rattle.wp_model.specs.Progress.{Progress, fresh}
+use Rattle.wp_model.specs.Runs.{Run, commands_of}
+use Rattle.wp_model.specs.Calls.{Call}
+use Rattle.writepath_top.specs.declared.script.Command.{Command}
+use Rattle.writepath_top.specs.declared.outcome.Reply.{Reply}
+use Rattle.writepath_top.specs.declared.write_path.WritePath.{WritePath}
+use Rattle.writepath_top.specs.Scripts.{command_of, lines_len}
+use Rattle.writepath_top.specs.Shows.{ShowsReply}
+use Rattle.writepath_top.specs.Logs.{IsReached}
+use Rattle.writepath_top.specs.Clients.{Holds, home_of, story_of}
+use Rattle.writepath_top.proofs.Histories.{boundary_more}
+
+-- Fates
+
+-- what became of a commit is that of this history and this fault
+abbrev pub IsFineFate : List history.Entry → Option ℕ → Fate → Type 0
+IsFineFate entries fault taken = ⊤
+IsFineFate entries fault (slowed place) = ⊥
+IsFineFate entries fault (faulted count) = fault ≡ Some count
+IsFineFate entries fault (full last) = IsBoundary 0 entries last
+
+abbrev pub AreFine : List history.Entry → Option ℕ → List Handling → Type 0
+AreFine entries fault handled = AllByRecursion (λ (h : Handling). IsFineFate entries fault h.fate) handled
+
+fate_longer : (entries : List history.Entry) (e : history.Entry) (fault : Option ℕ) (fate : Fate) → IsFineFate entries fault fate → IsFineFate (entries ++ e ∷ []) fault fate
+fate_longer entries e fault taken fine = fine
+fate_longer entries e fault (slowed place) fine = fine
+fate_longer entries e fault (faulted count) fine = fine
+fate_longer entries e fault (full last) fine = boundary_more 0 entries e last fine
+
+-- with one entry more
+pub fine_longer : (entries : List history.Entry) (e : history.Entry) (fault : Option ℕ) (handled : List Handling) → AreFine entries fault handled → AreFine (entries ++ e ∷ []) fault handled
+fine_longer entries e fault [] fine = tt
+fine_longer entries e fault (h ∷ handled) fine = (fate_longer entries e fault h.fate fine.0, fine_longer entries e fault handled fine.1)
+
+fate_of_fault : (entries : List history.Entry) (fault : Option ℕ) (fate : Fate) → IsFineFate entries None fate → IsFineFate entries fault fate
+fate_of_fault entries fault taken fine = fine
+fate_of_fault entries fault (slowed place) fine = fine
+fate_of_fault entries fault (faulted count) fine = absurd (cc fine)
+fate_of_fault entries fault (full last) fine = fine
+
+-- before a fault nothing came to one
+pub fine_of_fault : (entries : List history.Entry) (fault : Option ℕ) (handled : List Handling) → AreFine entries None handled → AreFine entries fault handled
+fine_of_fault entries fault [] fine = tt
+fine_of_fault entries fault (h ∷ handled) fine = (fate_of_fault entries fault h.fate fine.0, fine_of_fault entries fault handled fine.1)
+
+not_faulted : (entries : List history.Entry) (fate : Fate) → IsFineFate entries None fate → is_faulted fate ≡ false
+not_faulted entries taken fine = refl
+not_faulted entries (slowed place) fine = refl
+not_faulted entries (faulted count) fine = absurd (cc fine)
+not_faulted entries (full last) fine = refl
+
+pub none_dead : (entries : List history.Entry) (handled : List Handling) → AreFine entries None handled → knows_dead handled ≡ false
+none_dead entries [] fine = refl
+none_dead entries (h ∷ handled) fine = rw (not_faulted entries h.fate fine.0) (none_dead entries handled fine.1)
+
+pub fate_of : (entries : List history.Entry) (fault : Option ℕ) (call : ℕ) (fate : Fate) → IsFineFate entries fault fate → IsFate (story_of entries) [] fault 1 call fate
+fate_of entries fault call taken fine = tt
+fate_of entries fault call (slowed place) fine = absurd fine
+fate_of entries fault call (faulted count) fine = fine
+fate_of entries fault call (full last) fine = fine
+
+pub fates_of : (entries : List history.Entry) (fault : Option ℕ) (call : ℕ) (handled : List Handling) → AreFine entries fault handled → AreFates (story_of entries) [] fault 1 call handled
+fates_of entries fault call [] fine = tt
+fates_of entries fault call (h ∷ handled) fine = (fate_of entries fault call h.fate fine.0, fates_of entries fault (call + 1) handled fine.1)
+
+-- On the way
+
+-- where a client stands that was never told of a controller
+abbrev pub place : List Record → List history.Entry → List Handling → ℕ → Progress
+place pending mine handled least = record { pending = pending; mine = mine; asked = []; handled = handled; least = least; known = 0 }
+
+-- what a batch with an addition has cost less than its lines have bytes
+abbrev pub spare : List Record → ℕ
+spare [] = 0
+spare (r ∷ records) = 39
+
+-- five bytes of log and batch for eight of the script: that is within a block for a script of 16,384 bytes
+abbrev pub IsSmall : ℕ → List Record → ℕ → Type 0
+IsSmall logged pending lines = 5 * (logged + size_of_batch pending) + spare pending ≤ 60 + 8 * lines
+
+-- these commands were answered so, and brought it here
+pub record Going {D : Type 0} (told : D → Option Disk) (faults : D → ℕ) (old path : WritePath D) (done : List Command) (replies : List Reply) (pending : List Record) : Type 0 where
+  pub entries : List history.Entry
+  pub handled : List Handling
+  pub least : ℕ
+  pub calls : List Call
+  pub holds : Holds told path entries
+  pub run : (opened : ℕ) → Run (home_of opened) (story_of entries) 1 fresh calls (place pending entries handled least)
+  pub commands : commands_of calls ≡ map command_of done
+  pub shown : AllZip ShowsReply replies calls
+  pub below : least ≤ last_sequence 0 entries
+  pub fine : AreFine entries path.log.fault handled
+  pub fault : IfSome path.log.fault (λ count. IsReached (faults old.log.disk) count (faults path.log.disk))
+  pub later : faults old.log.disk ≤ faults path.log.disk
+  pub small : IsSmall path.log.len pending (lines_len done)

@@ -1,0 +1,39 @@
+-- The text of what a run's values show, part by part.
+use Rattle.std.specs.Prelude.{ℕ, List, [], ◌∷◌, ◌++◌, length, flat_map, codes, decimal, Vec}
+use Rattle.std.specs.List.{enumerate_from}
+use Rattle.std.specs.declared.alloc.Global.{Global}
+use Rattle.wp_model.specs.Batch.{batch}
+use Rattle.wp_model.specs.Calls as calls
+use Rattle.wp_model.specs.Text.{line, hex, reply_text, flag_word, state_text, log_text}
+use Rattle.writepath_top.specs.declared.outcome.Reply.{Reply}
+use Rattle.writepath_top.specs.declared.outcome.Reply.TheVariants.{Quiet, Accepted, Refused, Found, NoMemory}
+use Rattle.writepath_top.specs.declared.outcome.Entry.{Entry}
+use Rattle.writepath_top.specs.declared.outcome.Outcome.{Outcome}
+use Rattle.writepath_top.specs.Published.{pairs_of}
+
+-- a reply as shown; its text doesn't tell the records
+abbrev pub shown_reply : Reply → calls.Reply
+shown_reply Quiet = calls.quiet
+shown_reply (Accepted first last) = calls.accepted first last []
+shown_reply (Refused why) = calls.refused why
+shown_reply (Found at value) = calls.found at value
+shown_reply NoMemory = calls.no_memory
+
+abbrev pub reply_line : Reply → List ℕ
+reply_line r = reply_text (shown_reply r)
+
+-- a client's section, from its number
+abbrev pub client_lines : ℕ × Vec Reply Global → List ℕ
+client_lines p = line (codes "client" ∷ decimal p.0 ∷ []) ++ flat_map reply_line p.1.items
+
+abbrev pub clients_lines : List (Vec Reply Global) → List ℕ
+clients_lines transcripts = flat_map client_lines (enumerate_from 1 transcripts)
+
+abbrev pub entry_line : Entry → List ℕ
+entry_line e = line (decimal e.first ∷ decimal e.last ∷ decimal e.client ∷ decimal e.ordinal ∷ flag_word e.flag ∷ hex (batch e.batch.sequence e.batch.records) ∷ [])
+
+abbrev pub history_lines : List Entry → List ℕ
+history_lines entries = line (codes "history" ∷ decimal (length entries) ∷ []) ++ flat_map entry_line entries
+
+abbrev pub shown_text : Outcome → List ℕ
+shown_text v = clients_lines v.transcripts.items ++ history_lines v.history.items ++ state_text (λ w. w) v.last (pairs_of v.state) ++ log_text v.log_len v.fault

@@ -1,0 +1,67 @@
+//! The script from its source.
+
+ghost use Rattle.std.specs.Prelude.{◌≡◌, ◌+◌, ◌-◌, ◌≤◌, ◌<◌, ℕ, [], length, vec_len, Some, None, IfOk, IfErr, IfSome};
+ghost use Rattle.writepath_top.specs.Reading.{HasRead, IsReadError, HasScript, IsScriptError};
+
+use crate::script::{Script, ScriptError, TEXT_LIMIT, is_one_form, parse};
+use std::alloc::Global;
+use wp_edge::Source;
+use wp_model::NoMemory;
+
+/// How many bytes are asked for in a call.
+const PIECE: usize = 4096;
+
+/// Why no script was read.
+#[derive(Clone, Copy, Debug, PartialEq, Eq)]
+pub enum ReadError {
+    /// The source failed, for the how many-th time.
+    Fault { count: u64 },
+    /// The text is not a script.
+    NotScript,
+    NoMemory,
+}
+
+/// Reads a text to its end, or to one byte past the limit of a script.
+fn read_text<S: Source>(alloc: Global, source: &mut S) -> Result<Vec<u8>, ReadError>
+    ensures text { IfOk result (λ text. HasRead (S.left source.old) (S.left source.new) text.items) }
+    ensures error { IfErr result (IsReadError (S.faults source.old) (S.faults source.new)) }
+    ensures later { S.faults source.old ≤ S.faults source.new }
+{
+    let mut text = Vec::new(alloc);
+    let mut piece = [0; PIECE];
+    while text.len() <= TEXT_LIMIT {
+        let room = (TEXT_LIMIT + 1 - text.len()).min(PIECE);
+        let Ok(n) = source.read(&mut piece[..room]) else {
+            return Err(ReadError::Fault {
+                count: source.faults(),
+            });
+        };
+        if n == 0 {
+            return Ok(text);
+        }
+        if text.extend_from_slice(&piece[..n]).is_err() {
+            return Err(ReadError::NoMemory);
+        }
+    }
+    Ok(text)
+}
+
+/// Reads a script of the one form.
+pub fn read_script<S: Source>(alloc: Global, source: &mut S) -> Result<Script, ReadError>
+    ensures script { IfOk result (HasScript (S.left source.old) (S.left source.new)) }
+    ensures error { IfErr result (IsScriptError (S.left source.old) (S.faults source.old) (S.faults source.new)) }
+    ensures later { S.faults source.old ≤ S.faults source.new }
+{
+    let text = read_text(alloc, source)?;
+    match parse(alloc, &text) {
+        Ok(script) => {
+            if is_one_form(&text, &script) {
+                Ok(script)
+            } else {
+                Err(ReadError::NotScript)
+            }
+        }
+        Err(ScriptError::Fault { .. }) => Err(ReadError::NotScript),
+        Err(ScriptError::NoMemory) => Err(ReadError::NoMemory),
+    }
+}

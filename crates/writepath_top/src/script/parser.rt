@@ -1,0 +1,124 @@
+//! All lines of a script.
+
+ghost use Rattle.std.specs.Prelude.{◌≡◌, ◌+◌, ◌≤◌, Ok, length, IfOk, IfErr, OnOk};
+ghost use Rattle.wp_model.specs.Script as model;
+ghost use Rattle.wp_model.specs.Script.{script_of, first_grammar, lines_read};
+ghost use Rattle.writepath_top.specs.Scripts.{commands_of, command_of, IsFaultOf, script_len, line_len, HasShortWords, AreShort};
+ghost use Rattle.writepath_top.specs.ScriptLines.{Reads, line_added};
+
+use super::lines::{Line, LineError, is_passed_over, read_line};
+use super::words::split_once;
+use super::{Command, Script, ScriptError, TEXT_LIMIT};
+use std::alloc::Global;
+use wp_model::ScriptFault;
+
+/// How many clients a script may have.
+const CLIENT_LIMIT: u64 = 1;
+
+/// Parses a script: lines that end with a line feed, which the last may lack. Empty lines and
+/// lines that begin with `#` are passed over whole. The others are words of 1 to 1024 printing
+/// characters, with one space between them:
+///
+/// - `client N` begins the section of a client;
+/// - `put K V` adds a value to its batch;
+/// - `commit` writes the batch;
+/// - `get K` reads a key.
+///
+/// The first line with a fault decides, and within a line the first kind in the order byte, word,
+/// form, client, clients. The text as a whole may be too long, before all else, or have no client,
+/// after all else.
+pub fn parse(alloc: Global, text: &[u8]) -> Result<Script, ScriptError>
+    ensures script { IfOk result (λ s. script_of first_grammar text.now ≡ Ok (commands_of s)) }
+    ensures fault { IfErr result (IsFaultOf (script_of first_grammar text.now)) }
+
+    // What is read takes no more room than its text.
+    ensures small { IfOk result (λ s. script_len s ≤ length text.now + 1) }
+    ensures words { IfOk result HasShortWords }
+{
+    if text.len() > TEXT_LIMIT {
+        return Err(ScriptError::Fault {
+            line: 0,
+            kind: ScriptFault::Long,
+        });
+    }
+    let script = read_lines(alloc, text)?;
+    if script.clients.is_empty() {
+        return Err(ScriptError::Fault {
+            line: 0,
+            kind: ScriptFault::NoClient,
+        });
+    }
+    Ok(script)
+}
+
+/// Reads all lines of a text, whatever its length.
+fn read_lines(alloc: Global, text: &[u8]) -> Result<Script, ScriptError>
+    ensures script { IfOk result (λ s. lines_read first_grammar text.now ≡ Ok (commands_of s)) }
+    ensures fault { IfErr result (IsFaultOf (lines_read first_grammar text.now)) }
+    ensures small { IfOk result (λ s. script_len s ≤ length text.now + 1) }
+    ensures words { IfOk result HasShortWords }
+{
+    let mut script = Script {
+        clients: Vec::new(alloc),
+    };
+    let mut number: u64 = 0;
+    let mut rest = Some(text);
+    while let Some(lines) = rest {
+        let (line, behind) = split_once(lines, b'\n');
+        number += 1;
+        if let Err(error) = add_line(alloc, &mut script, line) {
+            return Err(error.at_line(number));
+        }
+        rest = behind;
+    }
+    Ok(script)
+}
+
+/// Reads one more line. After an error the script is not used.
+fn add_line(alloc: Global, script: &mut Script, line: &[u8]) -> Result<(), LineError>
+    ensures script { Reads (λ _. commands_of script.new)
+        (line_added (commands_of script.old) line.now) result }
+    ensures len { OnOk result
+        (script_len script.new ≤ script_len script.old + length line.now + 1) }
+    ensures short { HasShortWords script.old → OnOk result (HasShortWords script.new) }
+{
+    if is_passed_over(line) {
+        return Ok(());
+    }
+    match read_line(alloc, line)? {
+        Line::Section(number) => add_section(alloc, script, number),
+        Line::Command(command) => add_command(script, command),
+    }
+}
+
+/// Begins the section of a client behind the others.
+fn add_section(alloc: Global, script: &mut Script, number: u64) -> Result<(), LineError>
+    ensures script { Reads (λ _. commands_of script.new)
+        (model.with_section first_grammar.client_limit (commands_of script.old) number) result }
+    ensures len { OnOk result (script_len script.new ≡ script_len script.old) }
+    ensures short { HasShortWords script.old → OnOk result (HasShortWords script.new) }
+{
+    if number != script.clients.len() as u64 + 1 {
+        return Err(LineError::Fault(ScriptFault::Client));
+    }
+    if number == CLIENT_LIMIT + 1 {
+        return Err(LineError::Fault(ScriptFault::Clients));
+    }
+    script.clients.push(Vec::new(alloc))?;
+    Ok(())
+}
+
+/// Adds a command to those of the last client.
+fn add_command(script: &mut Script, command: Command) -> Result<(), LineError>
+    ensures script { Reads (λ _. commands_of script.new)
+        (model.with_command (commands_of script.old) (command_of command)) result }
+    ensures len { OnOk result (script_len script.new ≡ script_len script.old + line_len command) }
+    ensures short { HasShortWords script.old → AreShort command
+        → OnOk result (HasShortWords script.new) }
+{
+    let Some(commands) = script.clients.last_mut() else {
+        return Err(LineError::Fault(ScriptFault::Client));
+    };
+    commands.push(command)?;
+    Ok(())
+}

@@ -1,0 +1,72 @@
+//! What a call prints: the outcome of a run, or why it refused. Numbers are decimal, and each line ends with a line feed.
+
+ghost use Rattle.std.specs.Prelude.{◌≡◌, IfOk};
+ghost use Rattle.wp_model.specs.Calls as calls;
+ghost use Rattle.wp_model.specs.Text.{outcome_text};
+ghost use Rattle.writepath_top.specs.Shows.{ShowsOutcome};
+ghost use Rattle.writepath_top.specs.Texts as texts;
+
+mod lines;
+mod parts;
+#[cfg(test)]
+mod tests;
+
+use crate::outcome::Outcome;
+use crate::text::lines::put_line;
+use crate::text::parts::{put_clients, put_history, put_log, put_state};
+use std::alloc::Global;
+use wp_coding::Bytes;
+use wp_model::NoMemory;
+
+/// The text of an outcome: each client's replies, the history, the published state, the log.
+pub fn outcome_text(alloc: Global, outcome: &Outcome) -> Result<Bytes, NoMemory>
+    ensures { (o : calls.Outcome) → ShowsOutcome outcome.now o → IfOk result (λ t. t ≡ outcome_text o) }
+{
+    let mut text = Bytes::new(alloc);
+    put_clients(&mut text, &outcome.transcripts)?;
+    put_history(alloc, &mut text, &outcome.history)?;
+    put_state(&mut text, outcome.last, &outcome.state)?;
+    put_log(&mut text, outcome.log_len, outcome.fault)?;
+    Ok(text)
+}
+
+/// The words of the call aren't lawful.
+pub fn usage() -> &'static [u8]
+    ensures { result.now ≡ texts.usage }
+{
+    b"usage\n"
+}
+
+/// The text isn't a script.
+pub fn script_refused() -> &'static [u8]
+    ensures { result.now ≡ texts.script_refused }
+{
+    b"script\n"
+}
+
+/// The source failed, for the how many-th time.
+pub fn source_fault(alloc: Global, count: u64) -> Result<Bytes, NoMemory>
+    ensures { IfOk result (λ t. t ≡ texts.source_fault count) }
+{
+    let mut text = Bytes::new(alloc);
+    put_line(&mut text, b"source fault", &[count])?;
+    Ok(text)
+}
+
+/// The disk failed before the log was opened, for the how many-th time.
+pub fn disk_fault(alloc: Global, count: u64) -> Result<Bytes, NoMemory>
+    ensures { IfOk result (λ t. t ≡ texts.disk_fault count) }
+{
+    let mut text = Bytes::new(alloc);
+    put_line(&mut text, b"disk fault", &[count])?;
+    Ok(text)
+}
+
+/// The log holds bytes already, this many.
+pub fn log_not_empty(alloc: Global, len: u64) -> Result<Bytes, NoMemory>
+    ensures { IfOk result (λ t. t ≡ texts.not_empty len) }
+{
+    let mut text = Bytes::new(alloc);
+    put_line(&mut text, b"log not empty", &[len])?;
+    Ok(text)
+}

@@ -1,0 +1,45 @@
+//! Lines: words with one space between them, and a line feed behind the last.
+
+ghost use Rattle.std.specs.Prelude.{◌≡◌, ◌∷◌, ◌++◌, map, flat_map, decimal, OnOk};
+ghost use Rattle.wp_model.specs.Text.{line, hex};
+
+use itoa::Buffer;
+use std::alloc::Global;
+use wp_coding::Bytes;
+use wp_model::NoMemory;
+
+/// Puts a number behind the text, in decimal.
+pub fn put_number(text: &mut Bytes, number: u64) -> Result<(), NoMemory>
+    ensures { OnOk result (text.new ≡ text.old ++ decimal number) }
+{
+    let mut buffer = Buffer::new();
+    text.append(buffer.format(number).as_bytes())
+}
+
+/// Puts numbers behind the text, each behind a space.
+pub fn put_numbers(text: &mut Bytes, numbers: &[u64]) -> Result<(), NoMemory>
+    ensures { OnOk result (text.new ≡ text.old ++ flat_map (λ n. 32 ∷ decimal n) numbers.now) }
+{
+    for number in numbers {
+        text.append(b" ")?;
+        put_number(text, *number)?;
+    }
+    Ok(())
+}
+
+/// Puts a line behind the text: its first words as they stand, and then numbers.
+pub fn put_line(text: &mut Bytes, words: &[u8], numbers: &[u64]) -> Result<(), NoMemory>
+    ensures { OnOk result (text.new ≡ text.old ++ line (words.now ∷ map decimal numbers.now)) }
+{
+    text.append(words)?;
+    put_numbers(text, numbers)?;
+    text.append(b"\n")
+}
+
+/// Puts bytes behind the text, each as two lower-case digits.
+pub fn put_hex(alloc: Global, text: &mut Bytes, bytes: &[u8]) -> Result<(), NoMemory>
+    ensures { OnOk result (text.new ≡ text.old ++ hex bytes.now) }
+{
+    let digits = hex::encode(alloc, bytes)?;
+    text.append(digits.as_bytes())
+}
