@@ -15,3 +15,4 @@ mod Budget
 mod Steps
 mod Finished
 mod Loops
+mod Legal

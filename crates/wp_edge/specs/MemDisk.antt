@@ -1,0 +1,43 @@
+-- What a disk in memory shows.
+use Rattle.std.specs.Prelude.{◌≡◌, ◌⊎◌, ℕ, List, length, drop, Option, Some}
+use Rattle.wp_edge.specs.Disk.{Disk, IsImage}
+use Rattle.wp_edge.specs.Eras.{WasImage, told_from}
+use Rattle.wp_edge.specs.Listed.{Listed}
+use Rattle.wp_edge.specs.declared.mem_disk.MemDisk.{MemDisk}
+
+-- the content, how much of it is safe, and how far writes came
+abbrev pub disk_of : MemDisk → Disk
+disk_of d = record { content = d.content.items; synced = d.synced; reach = d.reach }
+
+abbrev pub told_of : MemDisk → Option Disk
+told_of d = Some (disk_of d)
+
+-- how many bytes the content may have
+abbrev pub capacity_of : MemDisk → ℕ
+capacity_of d = d.capacity
+
+-- the calls that are to fail, those made, and the faults
+abbrev pub disk_calls : MemDisk → Listed
+disk_calls d = d.calls
+
+-- how many eras have ended
+abbrev pub moment_of : MemDisk → ℕ
+moment_of d = length d.past.items
+
+-- the first moment of which it tells what a crash might have left
+abbrev pub from_of : MemDisk → ℕ
+from_of d = told_from d.forgot d.past.items
+
+-- what a crash might have left since a moment: now, or in an era that ended since then
+abbrev pub since_of : MemDisk → ℕ → List ℕ → Type 0
+since_of d t image = IsImage (disk_of d) image ⊎ WasImage d.content.items (drop t d.past.items) image
+
+-- it tells of crashes from now on
+pub record StartsAnew (d : MemDisk) : Type 0 where
+  pub moment : moment_of d ≡ 0
+  pub from : from_of d ≡ 0
+
+-- no era has ended
+pub record SameEra (old new : MemDisk) : Type 0 where
+  pub moment : moment_of new ≡ moment_of old
+  pub from : from_of new ≡ from_of old

@@ -1,0 +1,16 @@
+-- What a source in memory shows.
+use Rattle.std.specs.Prelude.{ℕ, List, drop}
+use Rattle.wp_edge.specs.Listed.{Listed}
+use Rattle.wp_edge.specs.declared.mem_source.MemSource.{MemSource}
+
+-- the bytes that are left
+abbrev pub left_of : MemSource → List ℕ
+left_of s = drop s.at s.bytes.items
+
+-- how many bytes a read gives at most
+abbrev pub source_piece : MemSource → ℕ
+source_piece s = s.piece
+
+-- the calls that are to fail, those made, and the faults
+abbrev pub source_calls : MemSource → Listed
+source_calls s = s.calls

@@ -1,0 +1,50 @@
+//! Standard output as a sink.
+
+ghost use Rattle.std.specs.Prelude.{◌≡◌, None};
+
+use crate::failed::count_fault;
+use crate::{Failed, Sink};
+use std::marker::Model;
+
+/// Standard output. It tells nothing of its bytes. It has no buffer: what was taken was handed to the system.
+#[derive(Drop)]
+pub struct StdSink<R: Print + Drop> {
+    runtime: R,
+    faults: u64,
+}
+
+impl<R: Print + Drop> Model for StdSink<R> {
+    ghost use Rattle.std.specs.Prelude.{ℕ};
+
+    // The count of faults.
+    ghost Value = { ℕ };
+
+    ghost view = { λ s. s.faults };
+}
+
+impl<R: Print + Drop> StdSink<R> {
+    /// Standard output, to which nothing was written yet.
+    pub fn new(runtime: R) -> Self
+        ensures { result ≡ 0 }
+    {
+        StdSink { runtime, faults: 0 }
+    }
+}
+
+impl<R: Print + Drop> Sink for StdSink<R> {
+    ghost taken = { λ _. None };
+
+    ghost faults = { λ count. count };
+
+    fn faults(&self) -> u64 {
+        self.faults
+    }
+
+    // One write of the system. Each of its errors is a fault, and so is that it took no byte of some.
+    fn write(&mut self, piece: &[u8]) -> Result<usize, Failed> {
+        match self.runtime.write_some(piece) {
+            Ok(n) if n > 0 || piece.is_empty() => Ok(n),
+            _ => Err(count_fault(&mut self.faults)),
+        }
+    }
+}
