@@ -21,9 +21,9 @@ use Rattle.writepath_top.specs.Shows.{ShowsReply, ShowsEntry, lacks_memory}
 use Rattle.writepath_top.specs.Logs.{IsReached}
 use Rattle.writepath_top.specs.Commits as commits
 use Rattle.writepath_top.specs.Commits.{IsFresh, Refuses, Keeps}
-use Rattle.writepath_top.specs.Clients.{Answers, Holds, home_of, story_of, Ran}
+use Rattle.writepath_top.specs.Clients.{Answers, Holds, home_of, story_of, TellsOn, Ran}
 use Rattle.writepath_top.proofs.Histories.{zip_more}
-use Rattle.writepath_top.proofs.Going.{AreFine, fates_of, place, Going}
+use Rattle.writepath_top.proofs.Going.{AreFine, fates_of, place, tells_on_same, Going}
 use Rattle.writepath_top.proofs.Steps.{holds_same}
 
 -- want of memory is none of the early checks' refusals
@@ -61,6 +61,7 @@ module _ {D : Type 0} (told : D → Option Disk) (faults : D → ℕ) where
     fine = tt;
     fault = subst (λ f. IfSome f (λ count. IsReached (faults path.log.disk) count (faults path.log.disk))) (sym is_fresh.fault) tt;
     later = omega arith;
+    tells_on = tells_on_same (told path.log.disk);
     small = (let l = is_fresh.len in omega (arith, l));
   })
 
@@ -78,6 +79,8 @@ module _ {D : Type 0} (told : D → Option Disk) (faults : D → ℕ) where
       asked = refl;
       fates = fates_of going.entries path.log.fault 0 going.handled going.fine;
       fault = going.fault;
+      later = going.later;
+      tells_on = going.tells_on;
     }
 
     -- one found no memory, and wrote nothing
@@ -86,9 +89,9 @@ module _ {D : Type 0} (told : D → Option Disk) (faults : D → ℕ) where
     cut new c rest keeps same may =
         let last : calls.Call = record { command = command_of c; reply = calls.no_memory } in
         let commands : map command_of (done ++ c ∷ rest) ≡ commands_of (going.calls ++ last ∷ []) ++ map command_of rest =
-            map-append command_of done (c ∷ rest) ∙ (ap (λ cs. cs ++ command_of c ∷ map command_of rest) (sym going.commands)
-            ∙ (sym (append_assoc (commands_of going.calls) (command_of c ∷ []) (map command_of rest))
-            ∙ ap (λ cs. cs ++ map command_of rest) (sym (map-append (λ (x : calls.Call). x.command) going.calls (last ∷ []))))) in
+        map-append command_of done (c ∷ rest) ∙ (ap (λ cs. cs ++ command_of c ∷ map command_of rest) (sym going.commands)
+        ∙ (sym (append_assoc (commands_of going.calls) (command_of c ∷ []) (map command_of rest))
+        ∙ ap (λ cs. cs ++ map command_of rest) (sym (map-append (λ (x : calls.Call). x.command) going.calls (last ∷ []))))) in
         record {
           entries = going.entries;
           holds = holds_same told faults old path done replies pending going new keeps same;
@@ -100,6 +103,8 @@ module _ {D : Type 0} (told : D → Option Disk) (faults : D → ℕ) where
           asked = refl;
           fates = fates_of going.entries new.log.fault 0 going.handled (subst (λ l. AreFine going.entries l.fault going.handled) (sym same) going.fine);
           fault = subst (λ l. IfSome l.fault (λ count. IsReached (faults old.log.disk) count (faults l.disk))) (sym same) going.fault;
+          later = subst (λ l. faults old.log.disk ≤ faults l.disk) (sym same) going.later;
+          tells_on = subst (λ l. TellsOn (told old.log.disk) (told l.disk)) (sym same) going.tells_on;
         }
 
     same_keeps : (new : WritePath D) → new ≡ path → Keeps path new

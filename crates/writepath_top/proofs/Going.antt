@@ -3,7 +3,7 @@ use Rattle.std.specs.Prelude.{⊤}
 use Rattle.std.proofs.Common.{◌≡◌, ℕ, ◌+◌, ◌*◌, ◌≤◌, Bool, true, false, List, [], ◌∷◌, ◌++◌, map, Option, Some, None, IfSome, refl, ap, sym, ◌∙◌}
 use Rattle.std.specs.List.{AllByRecursion, AllZip}
 use Rattle.std.specs.List.{list_any}
-use Rattle.wp_edge.specs.Disk.{Disk}
+use Rattle.wp_edge.specs.Disk.{Disk, Told}
 use Rattle.wp_model.specs.History as history
 use Rattle.wp_model.specs.History.{IsBoundary, last_sequence}
 use Rattle.wp_model.specs.Batch.{Record, size_of_batch}
@@ -18,7 +18,7 @@ use Rattle.writepath_top.specs.declared.write_path.WritePath.{WritePath}
 use Rattle.writepath_top.specs.Scripts.{command_of, lines_len}
 use Rattle.writepath_top.specs.Shows.{ShowsReply}
 use Rattle.writepath_top.specs.Logs.{IsReached}
-use Rattle.writepath_top.specs.Clients.{Holds, home_of, story_of}
+use Rattle.writepath_top.specs.Clients.{Holds, home_of, story_of, TellsOn}
 use Rattle.writepath_top.proofs.Histories.{boundary_more}
 
 -- Fates
@@ -75,6 +75,20 @@ pub fates_of : (entries : List history.Entry) (fault : Option ℕ) (call : ℕ) 
 fates_of entries fault call [] fine = tt
 fates_of entries fault call (h ∷ handled) fine = (fate_of entries fault call h.fate fine.0, fates_of entries fault (call + 1) handled fine.1)
 
+-- What is told
+
+pub tells_on_same : (a : Option Disk) → TellsOn a a
+tells_on_same None = tt
+tells_on_same (Some d) = tt
+
+pub tells_on_more : (R : Disk → Disk → Type 0) (a b c : Option Disk) → TellsOn a b → Told b c R → TellsOn a c
+tells_on_more R None None None on told = tt
+tells_on_more R None None (Some z) on told = absurd told
+tells_on_more R None (Some y) c on told = absurd on
+tells_on_more R (Some x) None c on told = absurd on
+tells_on_more R (Some x) (Some y) None on told = absurd told
+tells_on_more R (Some x) (Some y) (Some z) on told = tt
+
 -- On the way
 
 -- where a client stands that was never told of a controller
@@ -104,4 +118,5 @@ pub record Going {D : Type 0} (told : D → Option Disk) (faults : D → ℕ) (o
   pub fine : AreFine entries path.log.fault handled
   pub fault : IfSome path.log.fault (λ count. IsReached (faults old.log.disk) count (faults path.log.disk))
   pub later : faults old.log.disk ≤ faults path.log.disk
+  pub tells_on : TellsOn (told old.log.disk) (told path.log.disk)
   pub small : IsSmall path.log.len pending (lines_len done)

@@ -37,11 +37,14 @@ pub prefix_more : {A : Type 0} (xs : List A) (x : A) → IsPrefix xs (xs ++ x �
 prefix_more xs x = (x ∷ [], refl)
 
 pub boundary_more : (start : ℕ) (es : List Entry) (e : Entry) (s : ℕ) → IsBoundary start es s → IsBoundary start (es ++ e ∷ []) s
-boundary_more start es e s at = (at.0, record {
-  rest = at.1.rest ++ e ∷ [];
-  split = ap (λ (l : List Entry). l ++ e ∷ []) at.1.split ∙ append_assoc at.0 at.1.rest (e ∷ []);
-  ends = at.1.ends;
-})
+boundary_more start es e s at = (
+  at.0,
+  record {
+    rest = at.1.rest ++ e ∷ [];
+    split = ap (λ (l : List Entry). l ++ e ∷ []) at.1.split ∙ append_assoc at.0 at.1.rest (e ∷ []);
+    ends = at.1.ends;
+  },
+)
 
 -- the end of a history is a boundary
 pub boundary_last : (start : ℕ) (es : List Entry) → IsUpTo start es (last_sequence start es) es

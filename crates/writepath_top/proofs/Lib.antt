@@ -16,3 +16,5 @@ mod Steps
 mod Finished
 mod Loops
 mod Legal
+mod Refusing
+mod Endings

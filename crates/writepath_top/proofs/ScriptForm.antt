@@ -14,6 +14,7 @@ is_get (Put key value) = false
 is_get Commit = false
 is_get (Get key) = true
 
+-- that all are reads, as the definition tests it
 pub are_gets-map : (commands : List Command) → list_all is_get commands ≡ model.are_gets (map command_of commands)
 are_gets-map [] = refl
 are_gets-map (Put key value ∷ cs) = refl

@@ -10,10 +10,12 @@ use Rattle.std.proofs.lemmas.List.{take_rest}
 use Rattle.std.proofs.lemmas.List.Sums.{fails_before_first}
 use Rattle.std.proofs.lemmas.List.Splits.{slice_split_first, slice_split_none}
 
+-- what a choice that gave a place chose by
 some_from_cond : (b : Bool) (m n : ℕ) → Some m ≡ cond b (Some n) None → (b ≡ true) × (m ≡ n)
 some_from_cond true m n h = (refl, cc)
 some_from_cond false m n h = cc
 
+-- what a choice that gave no place chose by
 none_from_cond : (b : Bool) (n : ℕ) → None ≡ cond b (Some n) None → b ≡ false
 none_from_cond true n h = cc
 none_from_cond false n h = refl
@@ -32,6 +34,7 @@ slice_split-not_found p text found =
     let past : length text ≤ position_or_len p text = ltb-false _ _ (none_from_cond _ _ found) in
     slice_split_none p text (λ k d h. fails_before_first p text k d (omega arith))
 
+-- a part is left with a byte put onto the first
 onto_first-cons : (b : ℕ) (parts : List (List ℕ)) → (part : List ℕ) × (rest : List (List ℕ)) × (onto_first b parts ≡ part ∷ rest)
 onto_first-cons b [] = (b ∷ [], [], refl)
 onto_first-cons b (part ∷ parts) = (b ∷ part, parts, refl)

@@ -13,6 +13,7 @@ add_to_last-set : {X : Type 0} (f : X → List Command) (y : X) (ys : List X) (x
 add_to_last-set f y [] x d c is = ap (λ cs. cs ∷ []) (sym is)
 add_to_last-set f y (z ∷ zs) x d c is = ap (λ rest. f y ∷ rest) (add_to_last-set f z zs x d c is)
 
+-- a command behind those of the last client, at the end of a list that is known by its length
 pub with_command-set : {X : Type 0} (f : X → List Command) (xs : List X) (n : ℕ) (x d : X) (c : Command) → n ≡ length xs → 0 < n → f x ≡ f (get_or xs (n - 1) d) ++ c ∷ [] → with_command (map f xs) c ≡ Ok (map f (set xs (n - 1) x))
 with_command-set f [] n x d c len some is = absurd (omega arith)
 with_command-set f (y ∷ ys) n x d c len some is =
@@ -29,6 +30,7 @@ pub fold_after_line-err : (g : Grammar) (fault : Fault) (ls : List (ℕ × List 
 fold_after_line-err g fault [] = refl
 fold_after_line-err g fault (l ∷ ls) = fold_after_line-err g fault ls
 
+-- an empty line changes nothing
 after_line-empty : (g : Grammar) (r : Result Script Fault) (n : ℕ) → r ≡ after_line g r (n, [])
 after_line-empty g (Ok script) n = refl
 after_line-empty g (Err fault) n = refl

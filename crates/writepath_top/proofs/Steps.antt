@@ -31,12 +31,12 @@ use Rattle.writepath_top.specs.Shows.{ShowsReply, ShowsEntry, lacks_memory}
 use Rattle.writepath_top.specs.Logs.{IsReached, whole_record}
 use Rattle.writepath_top.specs.Commits as commits
 use Rattle.writepath_top.specs.Commits.{Accepts, Refuses, Keeps, Writes}
-use Rattle.writepath_top.specs.Clients.{Holds, home_of, story_of, log_of, Answers, HasRoom}
+use Rattle.writepath_top.specs.Clients.{Holds, home_of, story_of, log_of, TellsOn, Answers, HasRoom}
 use Rattle.writepath_top.proofs.Histories.{all_more, zip_more, zip_length, last_more, history_more, map_more, prefix_more, boundary_last, all_below}
 use Rattle.writepath_top.proofs.LogTexts.{whole_len, log_more}
 use Rattle.writepath_top.proofs.Sizes.{size_is}
 use Rattle.writepath_top.proofs.Budget.{small_put, small_accepted, small_kept}
-use Rattle.writepath_top.proofs.Going.{AreFine, IsFineFate, fine_longer, fine_of_fault, none_dead, place, IsSmall, Going}
+use Rattle.writepath_top.proofs.Going.{AreFine, IsFineFate, fine_longer, fine_of_fault, none_dead, place, IsSmall, tells_on_more, Going}
 
 -- What a run is when it has one step more, in the same history or in one that is longer by an entry.
 
@@ -82,9 +82,9 @@ module _ {D : Type 0} (told : D → Option Disk) (faults : D → ℕ) (old path 
   going_on : (new : WritePath D) (c : Command) (r : Reply) (after : List Record) (shown : calls.Reply) (handled : List Handling) (least : ℕ) → Holds told new going.entries
       → ((opened : ℕ) → Step (home_of opened) (story_of going.entries) 1 (place before going.entries going.handled going.least) (command_of c) shown (place after going.entries handled least))
       → ShowsReply r (call (command_of c) shown) → least ≤ last_sequence 0 going.entries → AreFine going.entries new.log.fault handled
-      → IfSome new.log.fault (λ count. IsReached (faults old.log.disk) count (faults new.log.disk)) → faults old.log.disk ≤ faults new.log.disk → IsSmall new.log.len after (lines_len (done ++ c ∷ []))
-      → Going told faults old new (done ++ c ∷ []) (replies ++ r ∷ []) after
-  going_on new c r after shown handled least holds goes shows below fine fault later small = record {
+      → IfSome new.log.fault (λ count. IsReached (faults old.log.disk) count (faults new.log.disk)) → faults old.log.disk ≤ faults new.log.disk → TellsOn (told old.log.disk) (told new.log.disk)
+      → IsSmall new.log.len after (lines_len (done ++ c ∷ [])) → Going told faults old new (done ++ c ∷ []) (replies ++ r ∷ []) after
+  going_on new c r after shown handled least holds goes shows below fine fault later on small = record {
     entries = going.entries;
     handled = handled;
     least = least;
@@ -97,6 +97,7 @@ module _ {D : Type 0} (told : D → Option Disk) (faults : D → ℕ) (old path 
     fine = fine;
     fault = fault;
     later = later;
+    tells_on = on;
     small = small;
   }
 
@@ -105,7 +106,7 @@ module _ {D : Type 0} (told : D → Option Disk) (faults : D → ℕ) (old path 
       → ((opened : ℕ) → Step (home_of opened) (story_of going.entries) 1 (place before going.entries going.handled going.least) (command_of c) shown (place after going.entries going.handled least))
       → ShowsReply r (call (command_of c) shown) → least ≤ last_sequence 0 going.entries → IsSmall path.log.len after (lines_len (done ++ c ∷ []))
       → Going told faults old path (done ++ c ∷ []) (replies ++ r ∷ []) after
-  going_same c r after shown least goes shows below small = going_on path c r after shown going.handled least going.holds goes shows below going.fine going.fault going.later small
+  going_same c r after shown least goes shows below small = going_on path c r after shown going.handled least going.holds goes shows below going.fine going.fault going.later going.tells_on small
 
   pub going_put : (key v : List ℕ) → IsSmall path.log.len (before ++ value key v ∷ []) (lines_len (done ++ Put key v ∷ []))
       → Going told faults old path (done ++ Put key v ∷ []) (replies ++ reply.Quiet ∷ []) (before ++ value key v ∷ [])
@@ -128,65 +129,66 @@ module _ {D : Type 0} (told : D → Option Disk) (faults : D → ℕ) (old path 
   pub going_accepted : (new : WritePath D) (run : Run) → Accepts told path new before run → faults path.log.disk ≤ faults new.log.disk → path.log.len + 7 + size_of_batch before ≤ 32768
       → IsSmall new.log.len [] (lines_len (done ++ Commit ∷ [])) → Going told faults old new (done ++ Commit ∷ []) (replies ++ reply.Accepted run.first run.last ∷ []) []
   going_accepted new run accepts later room small =
-    let written = accepts.writes in
-    let e = next_entry 1 going.entries plain run.first before in
-    let entries = going.entries ++ e ∷ [] in
-    let some : 1 ≤ count_of before = counted before accepts.passed in
-    let ends : last_of e ≡ run.last = (let a = written.first in let b = written.last in omega (arith, some, a, b)) in
-    let last : run.last ≡ last_sequence 0 entries = sym (last_more 0 going.entries e ∙ ends) in
-    let was : path.last ≡ last_sequence 0 going.entries = going.holds.last in
-    let fits : length (log_of going.entries) + 7 + length (batch run.first before) ≤ 32768 = (let l = going.holds.len in omega (arith, room, l, size_is run.first before, size_is 0 before)) in
-    let text : log_of entries ≡ log_of going.entries ++ whole_record (batch run.first before) = log_more going.entries e fits in
-    let alive : AreFine going.entries None going.handled = subst (λ f. AreFine going.entries f going.handled) written.alive going.fine in
-    let shown = calls.accepted run.first run.last before in
-    let same_fault : None ≡ new.log.fault = sym written.logged.fault in
-    record {
-      entries = entries;
-      handled = going.handled ++ record { records = before; options = plain; fate = taken } ∷ [];
-      least = max going.least run.last;
-      calls = going.calls ++ call (calls.commit plain) shown ∷ [];
-      holds = record {
-        is_history = history_more 0 going.entries e going.holds.is_history (record {
-          counted = refl;
-          some = some;
-          first = written.first ∙ ap (λ n. n + 1) was;
-          fits = (let f = written.fits in omega (arith, f, ends));
-        });
-        ours = all_more _ going.entries e going.holds.ours refl;
-        logged = all_more _ going.entries e going.holds.logged refl;
-        last = accepts.last ∙ last;
-        pairs = accepts.pairs ∙ (ap (λ m. after_records m before) going.holds.pairs ∙ sym (map_more [] going.entries e));
-        shown = subst (λ l. AllZip ShowsEntry l entries) (sym accepts.history) (zip_more ShowsEntry path.history.items going.entries _ e going.holds.shown (record {
-          client = refl;
-          ordinal = (let n = zip_length ShowsEntry path.history.items going.entries going.holds.shown in omega (arith, n));
-          first = refl;
-          last = ends;
-          flag = refl;
-          batch = refl;
-        }));
-        len = (let a = written.logged.len in let b = going.holds.len in omega (arith, a, b, ap length text, length-append (log_of going.entries) (whole_record (batch run.first before)), whole_len (batch run.first before)));
-        content = content_more (told path.log.disk) (told new.log.disk) _ _ _ going.holds.content written.logged.content (sym text);
-      };
-      run = λ opened. run_more (home_of opened) (story_of entries) 1 fresh going.calls _ (call (calls.commit plain) shown) _
-          (run_in (story_of going.entries) (story_of entries) (longer going.entries e) (home_of opened) 1 fresh going.calls _ (going.run opened))
-          (step opened entries (place before going.entries going.handled going.least) (calls.commit plain) shown (place [] entries (going.handled ++ record { records = before; options = plain; fate = taken } ∷ []) (max going.least run.last)) refl refl
-          (subst (λ (o : Option Refusal). MatchOption o (IsHandled (story_of entries) 1 (place before going.entries going.handled going.least) plain shown (place [] entries (going.handled ++ record { records = before; options = plain; fate = taken } ∷ []) (max going.least run.last)))
-              (λ why. (shown ≡ calls.refused why) × Stays (place before going.entries going.handled going.least) (place [] entries (going.handled ++ record { records = before; options = plain; fate = taken } ∷ []) (max going.least run.last))))
-              (sym accepts.passed) (record {
+      let written = accepts.writes in
+      let e = next_entry 1 going.entries plain run.first before in
+      let entries = going.entries ++ e ∷ [] in
+      let some : 1 ≤ count_of before = counted before accepts.passed in
+      let ends : last_of e ≡ run.last = (let a = written.first in let b = written.last in omega (arith, some, a, b)) in
+      let last : run.last ≡ last_sequence 0 entries = sym (last_more 0 going.entries e ∙ ends) in
+      let was : path.last ≡ last_sequence 0 going.entries = going.holds.last in
+      let fits : length (log_of going.entries) + 7 + length (batch run.first before) ≤ 32768 = (let l = going.holds.len in omega (arith, room, l, size_is run.first before, size_is 0 before)) in
+      let text : log_of entries ≡ log_of going.entries ++ whole_record (batch run.first before) = log_more going.entries e fits in
+      let alive : AreFine going.entries None going.handled = subst (λ f. AreFine going.entries f going.handled) written.alive going.fine in
+      let shown = calls.accepted run.first run.last before in
+      let same_fault : None ≡ new.log.fault = sym written.logged.fault in
+      record {
+        entries = entries;
+        handled = going.handled ++ record { records = before; options = plain; fate = taken } ∷ [];
+        least = max going.least run.last;
+        calls = going.calls ++ call (calls.commit plain) shown ∷ [];
+        holds = record {
+          is_history = history_more 0 going.entries e going.holds.is_history (record {
+            counted = refl;
+            some = some;
+            first = written.first ∙ ap (λ n. n + 1) was;
+            fits = (let f = written.fits in omega (arith, f, ends));
+          });
+          ours = all_more _ going.entries e going.holds.ours refl;
+          logged = all_more _ going.entries e going.holds.logged refl;
+          last = accepts.last ∙ last;
+          pairs = accepts.pairs ∙ (ap (λ m. after_records m before) going.holds.pairs ∙ sym (map_more [] going.entries e));
+          shown = subst (λ l. AllZip ShowsEntry l entries) (sym accepts.history) (zip_more ShowsEntry path.history.items going.entries _ e going.holds.shown (record {
+            client = refl;
+            ordinal = (let n = zip_length ShowsEntry path.history.items going.entries going.holds.shown in omega (arith, n));
+            first = refl;
+            last = ends;
+            flag = refl;
             batch = refl;
-            run = (let a = written.first in let b = written.last in omega (arith, a, b));
-            alive = none_dead going.entries going.handled alive;
-            after = refl;
-          })));
-      commands = commands_more going.calls (call (calls.commit plain) shown) ∙ (ap (λ cs. cs ++ calls.commit plain ∷ []) going.commands ∙ sym (done_more done Commit));
-      shown = zip_more ShowsReply replies going.calls (reply.Accepted run.first run.last) (call (calls.commit plain) shown) going.shown (before, refl);
-      below = (let b = going.below in let a = written.last in omega (arith, b, a, was, last));
-      fine = subst (λ f. AreFine entries f (going.handled ++ record { records = before; options = plain; fate = taken } ∷ [])) same_fault
-          (all_more _ going.handled (record { records = before; options = plain; fate = taken }) (fine_longer going.entries e None going.handled alive) tt);
-      fault = subst (λ f. IfSome f (λ count. IsReached (faults old.log.disk) count (faults new.log.disk))) same_fault tt;
-      later = (let l = going.later in omega (arith, l, later));
-      small = small;
-    }
+          }));
+          len = (let a = written.logged.len in let b = going.holds.len in omega (arith, a, b, ap length text, length-append (log_of going.entries) (whole_record (batch run.first before)), whole_len (batch run.first before)));
+          content = content_more (told path.log.disk) (told new.log.disk) _ _ _ going.holds.content written.logged.content (sym text);
+        };
+        run = λ opened. run_more (home_of opened) (story_of entries) 1 fresh going.calls _ (call (calls.commit plain) shown) _
+            (run_in (story_of going.entries) (story_of entries) (longer going.entries e) (home_of opened) 1 fresh going.calls _ (going.run opened))
+            (step opened entries (place before going.entries going.handled going.least) (calls.commit plain) shown (place [] entries (going.handled ++ record { records = before; options = plain; fate = taken } ∷ []) (max going.least run.last)) refl refl
+            (subst (λ (o : Option Refusal). MatchOption o (IsHandled (story_of entries) 1 (place before going.entries going.handled going.least) plain shown (place [] entries (going.handled ++ record { records = before; options = plain; fate = taken } ∷ []) (max going.least run.last)))
+            (λ why. (shown ≡ calls.refused why) × Stays (place before going.entries going.handled going.least) (place [] entries (going.handled ++ record { records = before; options = plain; fate = taken } ∷ []) (max going.least run.last))))
+            (sym accepts.passed) (record {
+              batch = refl;
+              run = (let a = written.first in let b = written.last in omega (arith, a, b));
+              alive = none_dead going.entries going.handled alive;
+              after = refl;
+            })));
+        commands = commands_more going.calls (call (calls.commit plain) shown) ∙ (ap (λ cs. cs ++ calls.commit plain ∷ []) going.commands ∙ sym (done_more done Commit));
+        shown = zip_more ShowsReply replies going.calls (reply.Accepted run.first run.last) (call (calls.commit plain) shown) going.shown (before, refl);
+        below = (let b = going.below in let a = written.last in omega (arith, b, a, was, last));
+        fine = subst (λ f. AreFine entries f (going.handled ++ record { records = before; options = plain; fate = taken } ∷ [])) same_fault
+            (all_more _ going.handled (record { records = before; options = plain; fate = taken }) (fine_longer going.entries e None going.handled alive) tt);
+        fault = subst (λ f. IfSome f (λ count. IsReached (faults old.log.disk) count (faults new.log.disk))) same_fault tt;
+        later = (let l = going.later in omega (arith, l, later));
+        tells_on = tells_on_more _ (told old.log.disk) (told path.log.disk) (told new.log.disk) going.tells_on written.logged.content;
+        small = small;
+      }
 
   -- what a refusal keeps, the log aside
   holds_kept : (new : WritePath D) → Keeps path new → new.log.len ≡ path.log.len → Told (told path.log.disk) (told new.log.disk) (λ a b. b.content ≡ a.content) → Holds told new going.entries
@@ -214,8 +216,8 @@ module _ {D : Type 0} (told : D → Option Disk) (faults : D → ℕ) (old path 
       → Step (home_of opened) (story_of going.entries) 1 (place before going.entries going.handled going.least) (calls.commit plain) (calls.refused why) (place before going.entries going.handled going.least)
   refused_early new why opened early = step opened going.entries (place before going.entries going.handled going.least) (calls.commit plain) (calls.refused why) (place before going.entries going.handled going.least) refl refl
       (subst (λ (o : Option Refusal). MatchOption o (IsHandled (story_of going.entries) 1 (place before going.entries going.handled going.least) plain (calls.refused why) (place before going.entries going.handled going.least))
-          (λ x. (calls.refused why ≡ calls.refused x) × Stays (place before going.entries going.handled going.least) (place before going.entries going.handled going.least)))
-          (sym early) (refl, refl))
+      (λ x. (calls.refused why ≡ calls.refused x) × Stays (place before going.entries going.handled going.least) (place before going.entries going.handled going.least)))
+      (sym early) (refl, refl))
 
   -- a refusal behind them, with what became of the commit
   abbrev handled_with : Fate → List Handling
@@ -225,8 +227,8 @@ module _ {D : Type 0} (told : D → Option Disk) (faults : D → ℕ) (old path 
       → Step (home_of opened) (story_of going.entries) 1 (place before going.entries going.handled going.least) (calls.commit plain) (calls.refused why) (place before going.entries (handled_with fate) going.least)
   refused_late why fate opened passed may = step opened going.entries (place before going.entries going.handled going.least) (calls.commit plain) (calls.refused why) (place before going.entries (handled_with fate) going.least) refl refl
       (subst (λ (o : Option Refusal). MatchOption o (IsHandled (story_of going.entries) 1 (place before going.entries going.handled going.least) plain (calls.refused why) (place before going.entries (handled_with fate) going.least))
-          (λ x. (calls.refused why ≡ calls.refused x) × Stays (place before going.entries going.handled going.least) (place before going.entries (handled_with fate) going.least)))
-          (sym passed) (Some fate, may, refl))
+      (λ x. (calls.refused why ≡ calls.refused x) × Stays (place before going.entries going.handled going.least) (place before going.entries (handled_with fate) going.least)))
+      (sym passed) (Some fate, may, refl))
 
   -- a fault, old or new
   dead : (new : WritePath D) (count : ℕ) → Keeps path new → early_refusal 16777216 false before plain ≡ None → commits.IsDead told faults path new count → faults path.log.disk ≤ faults new.log.disk
@@ -238,7 +240,7 @@ module _ {D : Type 0} (told : D → Option Disk) (faults : D → ℕ) (old path 
       (λ opened. refused_late (no.LogFault count) (faulted count) opened passed refl) refl going.below
       (all_more _ going.handled _ (subst (λ f. AreFine going.entries f going.handled) same going.fine) fault)
       (subst (λ l. IfSome l.fault (λ n. IsReached (faults old.log.disk) n (faults l.disk))) (sym was.1) going.fault)
-      (let l = going.later in omega (arith, l, later)) (subst (λ l. IsSmall l.len before (lines_len (done ++ Commit ∷ []))) (sym was.1) small)
+      (let l = going.later in omega (arith, l, later)) (subst (λ l. TellsOn (told old.log.disk) (told l.disk)) (sym was.1) going.tells_on) (subst (λ l. IsSmall l.len before (lines_len (done ++ Commit ∷ []))) (sym was.1) small)
   dead new count keeps passed (inr now) later small =
       let stops = now.1 in
       going_on new Commit (reply.Refused (no.LogFault count)) before (calls.refused (no.LogFault count)) (handled_with (faulted count)) going.least (holds_kept new keeps stops.len stops.content)
@@ -248,7 +250,7 @@ module _ {D : Type 0} (told : D → Option Disk) (faults : D → ℕ) (old path 
         (let r = stops.reached.0 in let l = going.later in omega (arith, r, l)),
         stops.reached.1,
       ))
-      (let l = going.later in omega (arith, l, later)) (subst (λ n. IsSmall n before (lines_len (done ++ Commit ∷ []))) (sym stops.len) small)
+      (let l = going.later in omega (arith, l, later)) (tells_on_more _ (told old.log.disk) (told path.log.disk) (told new.log.disk) going.tells_on stops.content) (subst (λ n. IsSmall n before (lines_len (done ++ Commit ∷ []))) (sym stops.len) small)
 
   -- no room for its run
   full_now : (new : WritePath D) (last : ℕ) → Keeps path new → early_refusal 16777216 false before plain ≡ None → path.log.fault ≡ None → last ≡ path.last → max_sequence < last + count_of before → new.log ≡ path.log
@@ -262,7 +264,7 @@ module _ {D : Type 0} (told : D → Option Disk) (faults : D → ℕ) (old path 
       (λ opened. refused_late (no.SequenceFull last) (full last) opened passed (refl, none_dead going.entries going.handled fine, below, passes)) refl going.below
       (all_more _ going.handled _ (subst (λ l. AreFine going.entries l.fault going.handled) (sym same) going.fine) (going.entries, record { rest = whole.rest; split = whole.split; ends = ends }))
       (subst (λ l. IfSome l.fault (λ n. IsReached (faults old.log.disk) n (faults l.disk))) (sym same) going.fault)
-      (let l = going.later in omega (arith, l, later)) (subst (λ l. IsSmall l.len before (lines_len (done ++ Commit ∷ []))) (sym same) small)
+      (let l = going.later in omega (arith, l, later)) (subst (λ l. TellsOn (told old.log.disk) (told l.disk)) (sym same) going.tells_on) (subst (λ l. IsSmall l.len before (lines_len (done ++ Commit ∷ []))) (sym same) small)
 
   pub going_refused : (new : WritePath D) (why : Refusal) → Refuses told faults path new before why → (why ≡ no.NoMemory → ⊥) → faults path.log.disk ≤ faults new.log.disk
       → IsSmall path.log.len before (lines_len (done ++ Commit ∷ [])) → Going told faults old new (done ++ Commit ∷ []) (replies ++ reply.Refused why ∷ []) before
@@ -273,6 +275,7 @@ module _ {D : Type 0} (told : D → Option Disk) (faults : D → ℕ) (old path 
       late (no.LogFault count) not passed is = dead new count refuses.keeps passed is later small
       late (no.SequenceFull last) not passed is = full_now new last refuses.keeps passed is.0 is.1 is.2 is.3 later small
       late w not passed is = absurd is
+
       by_check : (o : Option Refusal) → early_refusal 16777216 false before plain ≡ o
           → MatchOption o (commits.IsRefusal told faults path new before why) (λ early. (why ≡ early) × (new.log ≡ path.log)) → Going told faults old new (done ++ Commit ∷ []) (replies ++ reply.Refused why ∷ []) before
       by_check None e (inl memory) = absurd (other memory.0)
@@ -281,7 +284,7 @@ module _ {D : Type 0} (told : D → Option Disk) (faults : D → ℕ) (old path 
           (λ opened. refused_early new why opened (e ∙ ap Some (sym is.0))) refl going.below
           (subst (λ l. AreFine going.entries l.fault going.handled) (sym is.1) going.fine)
           (subst (λ l. IfSome l.fault (λ n. IsReached (faults old.log.disk) n (faults l.disk))) (sym is.1) going.fault)
-          (let l = going.later in omega (arith, l, later)) (subst (λ l. IsSmall l.len before (lines_len (done ++ Commit ∷ []))) (sym is.1) small)
+          (let l = going.later in omega (arith, l, later)) (subst (λ l. TellsOn (told old.log.disk) (told l.disk)) (sym is.1) going.tells_on) (subst (λ l. IsSmall l.len before (lines_len (done ++ Commit ∷ []))) (sym is.1) small)
 
   -- each reply but want of memory leads on
   pub going_next : (new : WritePath D) (c : Command) (r : Reply) (after : List Record) → Answers told faults path new before after c r → lacks_memory r ≡ false → faults path.log.disk ≤ faults new.log.disk

@@ -1,7 +1,7 @@
 -- What a client's commands come to, one after another.
 use Rattle.std.specs.Prelude.{◌≡◌, ◌≢◌, ⊤, ℕ, ◌+◌, ◌≤◌, List, [], ◌∷◌, ◌++◌, length, map, None, Option, IfSome}
 use Rattle.std.specs.List.{AllByRecursion, AllZip}
-use Rattle.wp_edge.specs.Disk.{Disk}
+use Rattle.wp_edge.specs.Disk.{Disk, Told}
 use Rattle.wp_model.specs.declared.history.Flag.TheVariants as flag
 use Rattle.wp_model.specs.declared.write.Refusal.TheVariants.{NoMemory}
 use Rattle.wp_model.specs.Batch.{Record, value, size_of_batch}
@@ -67,6 +67,10 @@ pub record Holds {D : Type 0} (told : D → Option Disk) (path : WritePath D) (e
   pub len : path.log.len ≡ length (log_of entries)
   pub content : IfSome (told path.log.disk) (λ d. d.content ≡ log_of entries)
 
+-- what a disk tells is told throughout
+abbrev pub TellsOn : Option Disk → Option Disk → Type 0
+TellsOn old new = Told old new (λ before after. ⊤)
+
 -- without a controller
 abbrev pub story_of : List history.Entry → Story
 story_of entries = record { start = 0; entries = entries; turns = [] }
@@ -87,3 +91,5 @@ pub record Ran {D : Type 0} (told : D → Option Disk) (faults : D → ℕ) (old
   pub asked : end.asked ≡ []
   pub fates : AreFates (story_of entries) [] new.log.fault 1 0 end.handled
   pub fault : IfSome new.log.fault (λ count. IsReached (faults old.log.disk) count (faults new.log.disk))
+  pub later : faults old.log.disk ≤ faults new.log.disk
+  pub tells_on : TellsOn (told old.log.disk) (told new.log.disk)

@@ -14,3 +14,5 @@ pub mod CommandLine
 pub mod Reading
 pub mod Ends
 pub mod Running
+pub mod Telling
+pub mod Outcomes

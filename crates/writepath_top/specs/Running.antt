@@ -1,5 +1,5 @@
 -- What a run of a script comes to: an outcome, and the log that it leaves.
-use Rattle.std.specs.Prelude.{◌≡◌, ◌<◌, ℕ, Bool, List, [], length, Option, Some, None, IfSome}
+use Rattle.std.specs.Prelude.{◌≡◌, ◌<◌, ℕ, Bool, List, [], length, Option, Some, None, IfSome, Vec}
 use Rattle.std.specs.List.{list_any}
 use Rattle.wp_edge.specs.Disk.{Disk, Told}
 use Rattle.wp_model.specs.History as history
@@ -7,7 +7,10 @@ use Rattle.wp_model.specs.Story.{Home}
 use Rattle.wp_model.specs.Calls as calls
 use Rattle.wp_model.specs.Outcomes.{IsLegal}
 use Rattle.wp_model.specs.LogContents.{IsLogOf}
+use Rattle.std.specs.declared.alloc.Global.{Global}
+use Rattle.writepath_top.specs.declared.outcome.Reply.{Reply}
 use Rattle.writepath_top.specs.declared.outcome.Outcome.{Outcome}
+use Rattle.writepath_top.specs.declared.write_path.WritePath.{WritePath}
 use Rattle.writepath_top.specs.declared.running.End.{End}
 use Rattle.writepath_top.specs.declared.running.End.TheVariants.{DiskFault, NotEmpty, NoMemory, Ran}
 use Rattle.writepath_top.specs.Shows.{ShowsOutcome, lacks_memory}
@@ -49,6 +52,10 @@ IsEnd script old new failed fails (DiskFault count) = (new ≡ old) × IsReached
 IsEnd script old new failed fails (NotEmpty len) = (new ≡ old) × (0 < len) × IfSome old (λ d. length d.content ≡ len)
 IsEnd script old new failed fails NoMemory = new ≡ old
 IsEnd script old new failed fails (Ran shown) = HasRun (setting_of script failed fails) old new shown
+
+-- what stands at the end of a run
+abbrev pub outcome_of : {D : Type 0} → WritePath D → Vec (Vec Reply Global) Global → Outcome
+outcome_of path transcripts = record { transcripts = transcripts; history = path.history; last = path.last; state = path.published; log_len = path.log.len; fault = path.log.fault }
 
 -- a client ran out of memory
 abbrev pub ran_short : Outcome → Bool

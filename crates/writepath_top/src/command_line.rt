@@ -23,5 +23,9 @@ pub fn read_words(words: &[String]) -> Option<Asked>
 fn command_asked(word: &str) -> Option<Asked>
     ensures { result ≡ command_of word.now }
 {
-    if word == "run" { Some(Asked::Run) } else { None }
+    if word == "run" {
+        Some(Asked::Run)
+    } else {
+        None
+    }
 }

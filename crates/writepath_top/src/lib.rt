@@ -10,8 +10,10 @@ mod published;
 mod reading;
 mod running;
 mod script;
+mod telling;
 mod text;
-
+mod top;
 mod write_path;
 
 pub use script::{Command, Script, ScriptError, TEXT_LIMIT, is_one_form, parse};
+pub use top::{Ended, run};

@@ -40,6 +40,21 @@ pub struct Log<D> {
     ghost room: { 32768 ≤ vec_capacity block },
 }
 
+impl<D> Log<D> {
+    /// The disk as it is.
+    pub fn into_disk(self) -> D
+        ensures { result ≡ self.disk }
+    {
+        let Log {
+            disk,
+            block: _,
+            len: _,
+            fault: _,
+        } = self;
+        disk
+    }
+}
+
 impl<D: Disk> Log<D> {
     ghost use Rattle.writepath_top.specs.Logs.{HasOpened, IsOpenError, Appends, Stops};
 

@@ -1,5 +1,9 @@
 //! What a run comes to: each client's replies, the one history of batches, and what the log then holds.
 
+ghost use Rattle.std.specs.Prelude.{◌≡◌};
+ghost use Rattle.std.specs.List.{list_any};
+ghost use Rattle.writepath_top.specs.Shows.{lacks_memory};
+
 use crate::published::Published;
 use wp_coding::Bytes;
 use wp_model::{Flag, Refusal};
@@ -57,4 +61,24 @@ pub struct Outcome {
     /// The bytes of the groups that were written whole, and the count of the log's fault.
     pub log_len: u64,
     pub fault: Option<u64>,
+}
+
+impl Outcome {
+    ghost use Rattle.std.specs.Prelude.{◌≡◌};
+    ghost use Rattle.writepath_top.specs.Running.{ran_short};
+
+    /// Whether a client ran out of memory.
+    pub fn lacks_memory(&self) -> bool
+        ensures { result ≡ ran_short self.now }
+    {
+        self.transcripts
+            .iter()
+            .any(|replies| any_lacks_memory(replies))
+    }
+}
+
+fn any_lacks_memory(replies: &[Reply]) -> bool
+    ensures { result ≡ list_any lacks_memory replies.now }
+{
+    replies.iter().any(|reply| reply.lacks_memory())
 }

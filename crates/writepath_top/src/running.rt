@@ -2,14 +2,16 @@
 
 ghost use Rattle.std.specs.Prelude.{◌≡◌, ◌≤◌, length};
 ghost use Rattle.writepath_top.specs.Scripts.{commands_of, script_len, HasShortWords};
+ghost use Rattle.writepath_top.specs.Running.{IsEnd, outcome_of};
 
 use crate::client::run_client;
 use crate::log::OpenError;
-use crate::outcome::Outcome;
+use crate::outcome::{Outcome, Reply};
 use crate::script::Script;
 use crate::write_path::WritePath;
 use std::alloc::Global;
 use wp_edge::Disk;
+use wp_model::NoMemory;
 
 /// How a run ended.
 #[derive(Debug, Drop)]
@@ -41,5 +43,71 @@ impl From<OpenError> for End {
             OpenError::NotEmpty { len } => End::NotEmpty { len },
             OpenError::NoMemory => End::NoMemory,
         }
+    }
+}
+
+/// Runs a script of one client over the write path of a disk's log, and gives the disk back.
+pub fn execute<D: Disk>(alloc: Global, disk: D, script: &Script) -> Executed<D>
+    requires one { length script.now.clients.items ≡ 1 }
+    requires small { script_len script.now ≤ 16385 }
+    requires words { HasShortWords script.now }
+    ensures end { IsEnd (commands_of script.now) (D.told disk) (D.told result.disk) (D.faults disk) (D.faults result.disk) result.end }
+    ensures later { D.faults disk ≤ D.faults result.disk }
+{
+    let mut path = match WritePath::open(alloc, disk) {
+        Ok(path) => path,
+        Err((disk, why)) => {
+            return Executed {
+                disk,
+                end: End::from(why),
+            };
+        }
+    };
+    let Ok(mut transcripts) = Vec::with_capacity(alloc, 1) else {
+        return given_up(path);
+    };
+    match run_client(alloc, &mut path, &script.clients[0]) {
+        Ok(replies) => {
+            transcripts.push_reserved(replies);
+            finished(path, transcripts)
+        }
+        Err(NoMemory) => given_up(path),
+    }
+}
+
+/// Nothing was run.
+fn given_up<D>(path: WritePath<D>) -> Executed<D>
+    ensures disk { result.disk ≡ path.log.disk }
+    ensures end { result.end ≡ End.NoMemory }
+{
+    Executed {
+        disk: path.into_disk(),
+        end: End::NoMemory,
+    }
+}
+
+/// The outcome of a run, and its disk.
+fn finished<D>(path: WritePath<D>, transcripts: Vec<Vec<Reply>>) -> Executed<D>
+    ensures disk { result.disk ≡ path.log.disk }
+    ensures end { result.end ≡ End.Ran (outcome_of path transcripts) }
+{
+    let WritePath {
+        log,
+        published,
+        last,
+        history,
+    } = path;
+    let log_len = log.len;
+    let fault = log.fault;
+    Executed {
+        disk: log.into_disk(),
+        end: End::Ran(Outcome {
+            transcripts,
+            history,
+            last,
+            state: published,
+            log_len,
+            fault,
+        }),
     }
 }

@@ -42,6 +42,21 @@ pub struct WritePath<D> {
     ghost within: { last < 2 ^ 56 },
 }
 
+impl<D> WritePath<D> {
+    /// The log's disk. What stood beside it is given up.
+    pub fn into_disk(self) -> D
+        ensures { result ≡ self.log.disk }
+    {
+        let WritePath {
+            log,
+            published: _,
+            last: _,
+            history: _,
+        } = self;
+        log.into_disk()
+    }
+}
+
 impl<D: Disk> WritePath<D> {
     ghost use Rattle.wp_model.specs.Batch.{size_of_batch, count_of};
     ghost use Rattle.wp_model.specs.Map.{value_at};

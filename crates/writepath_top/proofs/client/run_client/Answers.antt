@@ -23,8 +23,10 @@ answer-reply-requires g c =
     let here : i < length commands = c.loop-command-test.true in
     let within = lines_front commands i in
     let fits = c.requires.fits in
-    record { fits = has_room c.loop-command.path c.loop-command.pending.batch.records (take i commands) c.command-item.result c.loop-command.invariant.going.small (omega (arith, within, fits))
-        (item_has AreShort commands i c.command-item.result here c.command-item.is c.requires.short) }
+    record {
+      fits = has_room c.loop-command.path c.loop-command.pending.batch.records (take i commands) c.command-item.result c.loop-command.invariant.going.small (omega (arith, within, fits))
+          (item_has AreShort commands i c.command-item.result here c.command-item.is c.requires.short);
+    }
 
 pub loop-command-preserved : goal.loop-command-preserved
 loop-command-preserved g c =
@@ -38,7 +40,7 @@ loop-command-preserved g c =
     let answered = c.answer-reply.ensures in
     let room = has_room c.loop-command.path c.loop-command.pending.batch.records (take i commands) c.command-item.result going.small (omega (arith, within, fits)) short in
     let next = going_next g.D.Disk.told g.D.Disk.faults c.args.path.now c.loop-command.path (take i commands) c.loop-command.replies.items c.loop-command.pending.batch.records going
-        c.answer-reply.new.path c.command-item.result c.answer-reply.result c.answer-reply.new.pending.batch.records answered.answers (sym c.lacks_memory-is_last.ensures ∙ c.if-is_last.false) answered.counts room short in
+    c.answer-reply.new.path c.command-item.result c.answer-reply.result c.answer-reply.new.pending.batch.records answered.answers (sym c.lacks_memory-is_last.ensures ∙ c.if-is_last.false) answered.counts room short in
     record {
       going = rw (item_more commands i c.command-item.result here c.command-item.is, c.push_reserved.ensures.items) next;
       count = omega (arith, c.push_reserved.ensures.len, c.loop-command.invariant.count);
@@ -53,9 +55,9 @@ returns-then-is_last-clause-ran g c =
     let i = c.loop-command.command-index in
     let here : i < length commands = c.loop-command-test.true in
     let ran = ran_cut told faults c.args.path.now c.loop-command.path (take i commands) c.loop-command.replies.items c.loop-command.pending.batch.records c.loop-command.invariant.going
-        c.answer-reply.new.path c.command-item.result (drop (i + 1) commands) c.answer-reply.result c.answer-reply.new.pending.batch.records c.answer-reply.ensures.answers (sym c.lacks_memory-is_last.ensures ∙ c.if-is_last.true) in
+    c.answer-reply.new.path c.command-item.result (drop (i + 1) commands) c.answer-reply.result c.answer-reply.new.pending.batch.records c.answer-reply.ensures.answers (sym c.lacks_memory-is_last.ensures ∙ c.if-is_last.true) in
     rw c.push_reserved.ensures.items (subst (λ (l : List Command). Ran told faults c.args.path.now c.answer-reply.new.path l (c.loop-command.replies.items ++ c.answer-reply.result ∷ []))
-        (item_splits commands i c.command-item.result here c.command-item.is) ran)
+    (item_splits commands i c.command-item.result here c.command-item.is) ran)
 
 pub returns-clause-ran : goal.returns-clause-ran
 returns-clause-ran g c =

@@ -1,0 +1,103 @@
+//! What a call prints, and the status that it ends with.
+
+ghost use Rattle.std.specs.Prelude.{◌≡◌, ◌≤◌, IfOk, OnErr};
+ghost use Rattle.writepath_top.specs.Texts.{SaysTo};
+ghost use Rattle.writepath_top.specs.Telling.{TellsReadError, TellsEnd, TellsOutcome, ran_status};
+
+use crate::outcome::Outcome;
+use crate::reading::ReadError;
+use crate::running::End;
+use crate::text::{disk_fault, log_not_empty, outcome_text, script_refused, source_fault};
+use std::alloc::Global;
+use wp_coding::Bytes;
+use wp_edge::{Sink, write_all};
+use wp_model::NoMemory;
+
+/// The exit statuses, in the order in which they are numbered.
+#[derive(Clone, Copy, Debug, PartialEq, Eq)]
+pub enum Status {
+    Done,
+    Usage,
+    Script,
+    Disk,
+    Source,
+    Sink,
+    Memory,
+    NotEmpty,
+}
+
+/// Prints a refusal. Its status stands though the sink fails at its text.
+pub fn refuse<K: Sink>(sink: &mut K, text: &[u8])
+    ensures says { SaysTo (K.taken sink.old) (K.taken sink.new) text.now (K.faults sink.old) (K.faults sink.new) }
+    ensures later { K.faults sink.old ≤ K.faults sink.new }
+{
+    let _ = write_all(sink, text);
+}
+
+/// Prints a refusal whose text was made, if there was memory for it.
+fn refuse_with<K: Sink>(sink: &mut K, text: Result<Bytes, NoMemory>, status: Status) -> Status
+    ensures made { IfOk text (λ t. (result ≡ status) × SaysTo (K.taken sink.old) (K.taken sink.new) t (K.faults sink.old) (K.faults sink.new)) }
+    ensures none { OnErr text ((result ≡ Status.Memory) × (K.taken sink.new ≡ K.taken sink.old)) }
+{
+    match text {
+        Ok(text) => {
+            refuse(sink, text.as_slice());
+            status
+        }
+        Err(NoMemory) => Status::Memory,
+    }
+}
+
+/// Says why no script was read.
+pub fn tell_read_error<K: Sink>(alloc: Global, sink: &mut K, why: ReadError) -> Status
+    ensures { TellsReadError (K.taken sink.old) (K.taken sink.new) (K.faults sink.old) (K.faults sink.new) why result }
+{
+    match why {
+        ReadError::Fault { count } => {
+            refuse_with(sink, source_fault(alloc, count), Status::Source)
+        }
+        ReadError::NotScript => {
+            refuse(sink, script_refused());
+            Status::Script
+        }
+        ReadError::NoMemory => Status::Memory,
+    }
+}
+
+/// Says how a run ended.
+pub fn tell_end<K: Sink>(alloc: Global, sink: &mut K, end: &End) -> Status
+    ensures { TellsEnd (K.taken sink.old) (K.taken sink.new) (K.faults sink.old) (K.faults sink.new) end.now result }
+{
+    match end {
+        End::DiskFault { count } => refuse_with(sink, disk_fault(alloc, *count), Status::Disk),
+        End::NotEmpty { len } => refuse_with(sink, log_not_empty(alloc, *len), Status::NotEmpty),
+        End::NoMemory => Status::Memory,
+        End::Ran(outcome) => tell_outcome(alloc, sink, outcome),
+    }
+}
+
+/// Prints an outcome, whole.
+fn tell_outcome<K: Sink>(alloc: Global, sink: &mut K, outcome: &Outcome) -> Status
+    ensures { TellsOutcome (K.taken sink.old) (K.taken sink.new) (K.faults sink.old) (K.faults sink.new) outcome.now result }
+{
+    let Ok(text) = outcome_text(alloc, outcome) else {
+        return Status::Memory;
+    };
+    match write_all(sink, text.as_slice()) {
+        Err(_) => Status::Sink,
+        Ok(()) => status_of(outcome),
+    }
+}
+
+/// The status of an outcome that was printed.
+fn status_of(outcome: &Outcome) -> Status
+    ensures { result ≡ ran_status outcome.now }
+{
+    if outcome.fault.is_some() {
+        Status::Disk
+    } else if outcome.lacks_memory() {
+        Status::Memory
+    } else {
+        Status::Done
+    }
+}
