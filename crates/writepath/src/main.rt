@@ -1,0 +1,42 @@
+//! The program `writepath LOGPATH COMMAND`: the top call over a file, the standard streams and the system's clock.
+#![tactic(auto)]
+
+use std::env;
+use std::io::{self, ErrorKind};
+use std::process::ExitCode;
+use wp_edge::{FileDisk, RealClock, StdSink, StdSource};
+use writepath_top::{Ended, run};
+
+/// The exit status where there is no memory for the arguments.
+const OUT_OF_MEMORY: u8 = 6;
+
+fn main(rt: HostRuntime) -> ExitCode {
+    let (path, words) = match arguments(&rt) {
+        Ok(arguments) => arguments,
+        Err(error) if error.kind() == ErrorKind::OutOfMemory => {
+            return ExitCode::from(OUT_OF_MEMORY);
+        }
+        // Arguments that are no text are no lawful words.
+        Err(_) => (String::new(rt.alloc()), Vec::new(rt.alloc())),
+    };
+    let mut source = StdSource::new(&rt);
+    let mut sink = StdSink::new(&rt);
+    let disk = FileDisk::new(&rt, path);
+    let clock = RealClock::new(&rt);
+    let Ended { status, disk: _ } = run(rt.alloc(), &words, &mut source, disk, &mut sink, clock);
+    ExitCode::from(status)
+}
+
+/// The log's path, and the words of the call: the program's name and all behind the path.
+fn arguments(rt: &HostRuntime) -> io::Result<(String, Vec<String>)> {
+    let mut path = String::new(rt.alloc());
+    let mut words = Vec::new(rt.alloc());
+    for (at, word) in env::args(rt)?.enumerate() {
+        if at == 1 {
+            path = word;
+        } else {
+            words.push(word)?;
+        }
+    }
+    Ok((path, words))
+}
