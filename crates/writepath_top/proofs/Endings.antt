@@ -153,7 +153,7 @@ module _ (script : Script) (failed fails kf kfs n : ℕ) (given : Status) (is : 
 
   pub tells_to_fault : (left sold snew : Option (List ℕ)) (old new : Option Disk) (e : End) → IfSome left (λ text. one_script_of text ≡ Some script) → IsEnd script old new failed fails e → TellsEnd sold snew kf kfs e given
       → Tells left sold snew old new (λ text before after opened ended. n ≡ 3 → (sc : Script) × (one_script_of text ≡ Some sc)
-          × (DiskRefused before after opened ended failed fails kf kfs ⊎ RanToFault (setting_of sc failed fails) before after opened ended))
+      × (DiskRefused before after opened ended failed fails kf kfs ⊎ RanToFault (setting_of sc failed fails) before after opened ended))
   tells_to_fault (Some text) (Some before) (Some after) (Some opened) (Some ended) e said ends tells = λ three. (script, said, ran_to_fault before after opened ended e ends tells three)
   tells_to_fault left sold snew old new e said ends tells = tt
 

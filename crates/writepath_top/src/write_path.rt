@@ -1,11 +1,11 @@
 //! The write path of one client: batches go to the log, and then into the published map.
 
-ghost use Rattle.wp_model.specs.Batch.{value};
-ghost use Rattle.wp_model.specs.Map.{after_records};
+ghost use Rattle.std.specs.Prelude.{◌≡◌, ◌+◌, ◌^◌, ◌<◌, ◌≤◌, [], ◌∷◌, ◌++◌, length, map, IfOk, IfErr, OnOk, OnErr, vec_len, vec_capacity, false};
+ghost use Rattle.wp_model.specs.Batch.{size_of_batch, count_of, value};
+ghost use Rattle.wp_model.specs.Map.{after_records, value_at};
 ghost use Rattle.wp_model.specs.Progress.{early_refusal};
 ghost use Rattle.writepath_top.specs.Scripts.{plain};
 ghost use Rattle.writepath_top.specs.Published.{pairs_of, room_of};
-ghost use Rattle.std.specs.Prelude.{◌≡◌, ◌≢◌, ◌+◌, ◌-◌, ◌^◌, ◌<◌, ◌≤◌, [], ◌∷◌, ◌++◌, length, map, fold, Some, None, Ok, Err, IfOk, IfErr, IfSome, IfNone, OnOk, OnErr, vec_len, vec_capacity, false};
 
 use crate::log::{Log, OpenError};
 use crate::outcome::Entry;
@@ -58,13 +58,8 @@ impl<D> WritePath<D> {
 }
 
 impl<D: Disk> WritePath<D> {
-    ghost use Rattle.wp_model.specs.Batch.{size_of_batch, count_of};
-    ghost use Rattle.wp_model.specs.Map.{value_at};
-    ghost use Rattle.wp_model.specs.Progress.{early_refusal};
-    ghost use Rattle.writepath_top.specs.Scripts.{plain};
-    ghost use Rattle.writepath_top.specs.Published.{pairs_of};
     ghost use Rattle.writepath_top.specs.Logs.{HasOpened, IsOpenError};
-    ghost use Rattle.writepath_top.specs.Commits.{IsFresh, Accepts, Refuses};
+    ghost use Rattle.writepath_top.specs.Commits.{IsFresh, Accepts, Refuses, Writes, IsLateRefusal, next_entry};
 
     /// Opens the log of an empty disk. Nothing was written yet.
     pub fn open(alloc: Global, disk: D) -> Result<WritePath<D>, (D, OpenError)>
@@ -113,13 +108,6 @@ impl<D: Disk> WritePath<D> {
             None => Ok(None),
         }
     }
-}
-
-impl<D: Disk> WritePath<D> {
-    ghost use Rattle.wp_model.specs.Batch.{size_of_batch, count_of, value};
-    ghost use Rattle.wp_model.specs.Map.{after_records};
-    ghost use Rattle.writepath_top.specs.Published.{pairs_of, room_of};
-    ghost use Rattle.writepath_top.specs.Commits.{Writes, IsLateRefusal, next_entry};
 
     /// Makes all the room that a write takes, so that nothing lacks memory once it is in the log. It gives the client's next batch.
     fn make_room(&mut self, alloc: Global, pending: &Pending) -> Result<Batch, NoMemory>
