@@ -11,6 +11,8 @@ mod reading;
 mod running;
 mod script;
 mod telling;
+#[cfg(test)]
+mod tests;
 mod text;
 mod top;
 mod write_path;
