@@ -1,5 +1,5 @@
 -- A read of an older map than the client was shown.
-use Rattle.std.proofs.Common.{◌≡◌, ℕ, ◌≤◌, List, [], ◌∷◌, ◌++◌, fold, refl, sym, ◌∙◌, Some, None, arith, ap, max, Option, MatchOption, slice_get}
+use Rattle.std.proofs.Common.{◌≡◌, ℕ, ◌≤◌, List, [], ◌∷◌, fold, refl, ◌∙◌, Some, None, arith, ap, max, Option, MatchOption}
 use Rattle.std.proofs.lemmas.List.Sums.{fold-append}
 use Rattle.wp_model.specs.declared.write.WriteOptions.{WriteOptions}
 use Rattle.wp_model.specs.declared.write.Refusal.{Refusal}

@@ -1,5 +1,5 @@
 -- What the examples are made of.
-use Rattle.std.specs.Prelude.{ℕ, false, codes, List, [], ◌∷◌, Result, Err}
+use Rattle.std.specs.Prelude.{ℕ, false, codes, Result, Err}
 use Rattle.wp_model.specs.declared.script.ScriptFault.{ScriptFault}
 use Rattle.wp_model.specs.declared.write.WriteOptions.{WriteOptions}
 use Rattle.wp_model.specs.declared.group.Item.{Item}
