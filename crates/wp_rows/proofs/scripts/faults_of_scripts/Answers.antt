@@ -1,0 +1,31 @@
+use Rattle.std.proofs.Common.{refl}
+use Rattle.std.specs.Fmt.{digits}
+use Rattle.wp_rows.proofs.scripts.faults_of_scripts.Goals as goal
+
+pub returns-clause-unknown_word : goal.returns-clause-unknown_word
+unfolding digits
+returns-clause-unknown_word c = refl
+
+pub returns-clause-too_few_words : goal.returns-clause-too_few_words
+unfolding digits
+returns-clause-too_few_words c = refl
+
+pub returns-clause-two_spaces : goal.returns-clause-two_spaces
+unfolding digits
+returns-clause-two_spaces c = refl
+
+pub returns-clause-leading_zero : goal.returns-clause-leading_zero
+unfolding digits
+returns-clause-leading_zero c = refl
+
+pub returns-clause-wrong_number : goal.returns-clause-wrong_number
+unfolding digits
+returns-clause-wrong_number c = refl
+
+pub returns-clause-too_many_clients : goal.returns-clause-too_many_clients
+unfolding digits
+returns-clause-too_many_clients c = refl
+
+pub returns-clause-tab : goal.returns-clause-tab
+unfolding digits
+returns-clause-tab c = refl
