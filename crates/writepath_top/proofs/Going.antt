@@ -100,7 +100,7 @@ abbrev pub spare : List Record → ℕ
 spare [] = 0
 spare (r ∷ records) = 39
 
--- five bytes of log and batch for eight of the script: that is within a block for a script of 16,384 bytes
+-- at most eight bytes of log and batch for five of the script: that is within a block for a script of 16,384 bytes
 abbrev pub IsSmall : ℕ → List Record → ℕ → Type 0
 IsSmall logged pending lines = 5 * (logged + size_of_batch pending) + spare pending ≤ 60 + 8 * lines
 
