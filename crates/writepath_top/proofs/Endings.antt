@@ -1,5 +1,5 @@
 -- How a run ended, and what stands printed: the outcome, or why there is none.
-use Rattle.std.proofs.Common.{◌≡◌, ◌⊎◌, inl, inr, ⊎_elim, ℕ, Bool, true, false, ◌||◌, List, [], ◌∷◌, ◌++◌, length, take, Option, Some, None, IfSome, Vec, refl, ap, sym, ◌∙◌, subst, arith}
+use Rattle.std.proofs.Common.{◌≡◌, ◌⊎◌, inl, inr, ⊎_elim, ℕ, Bool, true, false, ◌||◌, List, [], ◌∷◌, length, Option, Some, None, IfSome, Vec, refl, ap, sym, ◌∙◌, subst, arith}
 use Rattle.std.specs.Prelude.{IsSome}
 use Rattle.std.specs.List.{AllByRecursion, AllZip, list_any}
 use Rattle.std.specs.declared.alloc.Global.{Global}
@@ -21,8 +21,8 @@ use Rattle.writepath_top.specs.declared.reading.ReadError.TheVariants as read
 use Rattle.writepath_top.specs.Reading.{IsScriptError}
 use Rattle.writepath_top.specs.Texts.{SaysTo, not_empty, source_fault, IsReached, Untouched}
 use Rattle.writepath_top.specs.Running.{setting_of, HasRun, IsEnd}
-use Rattle.writepath_top.specs.Telling.{Refuses, EndsSo, TellsOutcome, TellsEnd, TellsReadError, code}
-use Rattle.writepath_top.specs.Outcomes.{Tells, IsOutcome, RanWhole, RanToFault, DiskRefused, RanSilent, RanShort, RanOutOfMemory}
+use Rattle.writepath_top.specs.Telling.{Refuses, EndsSo, TellsEnd, TellsReadError, code}
+use Rattle.writepath_top.specs.Outcomes.{Tells, IsOutcome, RanWhole, RanToFault, DiskRefused, RanOutOfMemory}
 
 -- No reply lacks memory
 

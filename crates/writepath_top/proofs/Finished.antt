@@ -1,14 +1,14 @@
 -- A client's first moment, and its last.
-use Rattle.std.proofs.Common.{◌≡◌, ◌⊎◌, inl, inr, ℕ, ◌≤◌, Bool, true, false, cond, nat_lt, ◌==◌, List, [], ◌∷◌, ◌++◌, length, map, Option, Some, None, IfSome, MatchOption, refl, ap, sym, ◌∙◌, subst, arith, append_assoc}
+use Rattle.std.proofs.Common.{◌≡◌, inl, inr, ℕ, ◌≤◌, Bool, true, false, cond, nat_lt, ◌==◌, List, [], ◌∷◌, ◌++◌, map, Option, Some, None, IfSome, MatchOption, refl, ap, sym, ◌∙◌, subst, arith, append_assoc}
 use Rattle.std.proofs.lemmas.List.{map-append}
 use Rattle.std.specs.List.{AllZip}
 use Rattle.wp_edge.specs.Disk.{Disk}
 use Rattle.wp_model.specs.declared.write.Refusal.{Refusal}
-use Rattle.wp_model.specs.declared.write.Refusal.TheVariants.{Empty, TooLarge, SyncWithoutLog, SelfStop, NoMemory}
+use Rattle.wp_model.specs.declared.write.Refusal.TheVariants.{Empty, TooLarge, NoMemory}
 use Rattle.wp_model.specs.Batch.{Record, count_of, size_of_batch}
-use Rattle.wp_model.specs.Progress.{Progress, fresh, early_refusal}
+use Rattle.wp_model.specs.Progress.{early_refusal}
 use Rattle.wp_model.specs.Replies.{MayLackMemory}
-use Rattle.wp_model.specs.Runs.{IsTranscript, whole, cut_off, commands_of}
+use Rattle.wp_model.specs.Runs.{whole, cut_off, commands_of}
 use Rattle.wp_model.specs.Calls as calls
 use Rattle.writepath_top.specs.declared.script.Command.{Command}
 use Rattle.writepath_top.specs.declared.script.Command.TheVariants.{Put, Commit, Get}
@@ -16,12 +16,11 @@ use Rattle.writepath_top.specs.declared.outcome.Reply.{Reply}
 use Rattle.writepath_top.specs.declared.outcome.Reply.TheVariants as reply
 use Rattle.writepath_top.specs.declared.write_path.WritePath.{WritePath}
 use Rattle.writepath_top.specs.Scripts.{plain, command_of}
-use Rattle.writepath_top.specs.Published.{pairs_of}
 use Rattle.writepath_top.specs.Shows.{ShowsReply, ShowsEntry, lacks_memory}
 use Rattle.writepath_top.specs.Logs.{IsReached}
 use Rattle.writepath_top.specs.Commits as commits
 use Rattle.writepath_top.specs.Commits.{IsFresh, Refuses, Keeps}
-use Rattle.writepath_top.specs.Clients.{Answers, Holds, home_of, story_of, TellsOn, Ran}
+use Rattle.writepath_top.specs.Clients.{Answers, home_of, TellsOn, Ran}
 use Rattle.writepath_top.proofs.Histories.{zip_more}
 use Rattle.writepath_top.proofs.Going.{AreFine, fates_of, place, tells_on_same, Going}
 use Rattle.writepath_top.proofs.Steps.{holds_same}

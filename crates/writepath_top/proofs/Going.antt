@@ -1,8 +1,7 @@
 -- A client on its way through its commands.
 use Rattle.std.specs.Prelude.{⊤}
-use Rattle.std.proofs.Common.{◌≡◌, ℕ, ◌+◌, ◌*◌, ◌≤◌, Bool, true, false, List, [], ◌∷◌, ◌++◌, map, Option, Some, None, IfSome, refl, ap, sym, ◌∙◌}
+use Rattle.std.proofs.Common.{◌≡◌, ℕ, ◌+◌, ◌*◌, ◌≤◌, false, List, [], ◌∷◌, ◌++◌, map, Option, Some, None, IfSome, refl}
 use Rattle.std.specs.List.{AllByRecursion, AllZip}
-use Rattle.std.specs.List.{list_any}
 use Rattle.wp_edge.specs.Disk.{Disk, Told}
 use Rattle.wp_model.specs.History as history
 use Rattle.wp_model.specs.History.{IsBoundary, last_sequence}

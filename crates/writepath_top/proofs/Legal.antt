@@ -1,26 +1,22 @@
 -- A client's run is a legal outcome.
-use Rattle.std.proofs.Common.{◌≡◌, ℕ, zero, suc, ◌+◌, ◌<◌, ◌≤◌, Bool, true, false, cond, ◌==◌, List, [], ◌∷◌, ◌++◌, length, map, take, filter, Option, Some, None, IfSome, slice_get, get_or, Vec, refl, ap, sym, ◌∙◌, subst, arith}
+use Rattle.std.proofs.Common.{◌≡◌, ℕ, zero, suc, ◌+◌, ◌<◌, ◌≤◌, true, ◌==◌, List, [], ◌∷◌, length, map, Option, Some, None, IfSome, slice_get, get_or, Vec, refl, ap, sym, ◌∙◌, subst, arith}
 use Rattle.std.specs.List.{AllByRecursion, AllZip, flat_map}
-use Rattle.std.proofs.lemmas.List.{take_all, append-nil}
+use Rattle.std.proofs.lemmas.List.{take_all}
 use Rattle.std.specs.declared.alloc.Global.{Global}
 use Rattle.wp_edge.specs.Disk.{Disk, Told}
-use Rattle.wp_model.specs.declared.history.Flag.{Flag}
 use Rattle.wp_model.specs.declared.history.Flag.TheVariants as flag
 use Rattle.wp_model.specs.Counts.{Rose}
-use Rattle.wp_model.specs.Log.{text}
 use Rattle.wp_model.specs.History as history
 use Rattle.wp_model.specs.History.{logged, is_logged, map_of, last_sequence, RunsFollow}
 use Rattle.wp_model.specs.Handled.{Handling}
-use Rattle.wp_model.specs.Tokens.{given_back}
-use Rattle.wp_model.specs.Outcomes.{own, IsLegal, IsLegalIn, IsLegalTranscript}
-use Rattle.wp_model.specs.LogContents.{AreGroupsOf, records_of, IsLogOf}
+use Rattle.wp_model.specs.Outcomes.{own, IsLegalTranscript}
 use Rattle.wp_model.specs.Calls as calls
 use Rattle.writepath_top.specs.declared.script.Command.{Command}
 use Rattle.writepath_top.specs.declared.outcome.Reply.{Reply}
 use Rattle.writepath_top.specs.declared.write_path.WritePath.{WritePath}
 use Rattle.writepath_top.specs.Scripts.{command_of}
 use Rattle.writepath_top.specs.Texts.{IsReached}
-use Rattle.writepath_top.specs.Clients.{home_of, story_of, log_of, TellsOn, Holds, Ran}
+use Rattle.writepath_top.specs.Clients.{home_of, story_of, log_of, TellsOn, Ran}
 use Rattle.writepath_top.specs.Running.{setting_of, IsLegalOf, LeavesLog, HasRun, outcome_of}
 use Rattle.writepath_top.specs.Shows.{ShowsReplies, ShowsOutcome}
 

@@ -1,8 +1,8 @@
 -- The log's text as long as it stands in one block: a whole record more is one fragment more.
-use Rattle.std.proofs.Common.{◌≡◌, ℕ, ◌+◌, ◌-◌, ◌%◌, ◌<◌, ◌≤◌, Bool, true, false, cond, nat_lt, nat_le, List, [], ◌∷◌, ◌++◌, length, map, take, drop, replicate, Option, None, refl, ap, sym, ◌∙◌, arith, append_assoc, length-append, add-zero}
+use Rattle.std.proofs.Common.{◌≡◌, ℕ, ◌+◌, ◌-◌, ◌≤◌, Bool, true, false, cond, nat_lt, nat_le, List, [], ◌∷◌, ◌++◌, length, map, replicate, None, refl, ap, sym, ◌∙◌, arith, append_assoc, length-append, add-zero}
 use Rattle.std.proofs.lemmas.List.{append-nil}
-use Rattle.wp_model.specs.Batch.{Record, batch}
-use Rattle.wp_model.specs.Log.{full, Fragment, header, fragment_bytes, room, trailer, next_place, placed, pieces_of, parts_of, as_fragments, record_text, text_from, text}
+use Rattle.wp_model.specs.Batch.{batch}
+use Rattle.wp_model.specs.Log.{header, room, trailer, placed, parts_of, as_fragments, record_text, text_from, text}
 use Rattle.wp_model.specs.History.{Entry}
 use Rattle.wp_model.specs.LogContents.{record_of_entries, records_of}
 use Rattle.writepath_top.specs.Logs.{whole_record}

@@ -1,5 +1,5 @@
 -- A refusal's text was made and printed, or neither.
-use Rattle.std.proofs.Common.{◌≡◌, ◌⊎◌, inl, inr, ℕ, List, Option, Result, Ok, Err, subst}
+use Rattle.std.proofs.Common.{◌≡◌, inl, inr, ℕ, List, Option, Result, Ok, Err, subst}
 use Rattle.std.specs.Prelude.{IfOk, OnErr}
 use Rattle.wp_model.specs.declared.memory.NoMemory.{NoMemory}
 use Rattle.wp_coding.specs.declared.bytes.Bytes.{Bytes}

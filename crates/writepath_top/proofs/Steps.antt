@@ -1,16 +1,15 @@
 -- One command more.
-use Rattle.std.proofs.Common.{◌≡◌, ◌⊎◌, inl, inr, ℕ, ◌+◌, ◌-◌, ◌*◌, ◌<◌, ◌≤◌, Bool, true, false, cond, ◌==◌, List, [], ◌∷◌, ◌++◌, length, map, take, Option, Some, None, IfSome, MatchOption, refl, ap, sym, ◌∙◌, subst, arith, max, length-append}
+use Rattle.std.proofs.Common.{◌≡◌, inl, inr, ℕ, ◌+◌, ◌<◌, ◌≤◌, Bool, true, false, cond, ◌==◌, List, [], ◌∷◌, ◌++◌, length, map, Option, Some, None, IfSome, MatchOption, refl, ap, sym, ◌∙◌, subst, arith, max, length-append}
 use Rattle.std.proofs.lemmas.List.{map-append}
 use Rattle.std.specs.List.{AllByRecursion, AllZip}
 use Rattle.wp_edge.specs.Disk.{Disk, Told}
-use Rattle.wp_model.specs.declared.history.Flag.TheVariants as flag
 use Rattle.wp_model.specs.declared.write.Refusal.{Refusal}
 use Rattle.wp_model.specs.declared.write.Refusal.TheVariants as no
 use Rattle.wp_model.specs.Batch.{Record, value, count_of, batch, size_of_batch}
 use Rattle.wp_model.specs.Map.{after_records, value_at}
 use Rattle.wp_model.specs.History as history
 use Rattle.wp_model.specs.History.{last_sequence, last_of, map_of, max_sequence}
-use Rattle.wp_model.specs.Story.{Story, Begins}
+use Rattle.wp_model.specs.Story.{Begins}
 use Rattle.wp_model.specs.Handled.{Handling, Fate, taken, faulted, full}
 use Rattle.wp_model.specs.Progress.{Progress, fresh, early_refusal, next_entry}
 use Rattle.wp_model.specs.Replies.{IsHandled, Stays, MayRefuse}
@@ -22,10 +21,9 @@ use Rattle.writepath_top.specs.declared.script.Command.{Command}
 use Rattle.writepath_top.specs.declared.script.Command.TheVariants.{Put, Commit, Get}
 use Rattle.writepath_top.specs.declared.outcome.Reply.{Reply}
 use Rattle.writepath_top.specs.declared.outcome.Reply.TheVariants as reply
-use Rattle.writepath_top.specs.declared.outcome.Entry.{Entry}
 use Rattle.writepath_top.specs.declared.write_path.WritePath.{WritePath}
 use Rattle.writepath_top.specs.declared.write_path.Run.{Run}
-use Rattle.writepath_top.specs.Scripts.{plain, command_of, line_len, lines_len, AreShort}
+use Rattle.writepath_top.specs.Scripts.{plain, command_of, lines_len, AreShort}
 use Rattle.writepath_top.specs.Published.{pairs_of}
 use Rattle.writepath_top.specs.Shows.{ShowsReply, ShowsEntry, lacks_memory}
 use Rattle.writepath_top.specs.Logs.{IsReached, whole_record}
@@ -36,7 +34,7 @@ use Rattle.writepath_top.proofs.Histories.{all_more, zip_more, zip_length, last_
 use Rattle.writepath_top.proofs.LogTexts.{whole_len, log_more}
 use Rattle.writepath_top.proofs.Sizes.{size_is}
 use Rattle.writepath_top.proofs.Budget.{small_put, small_accepted, small_kept}
-use Rattle.writepath_top.proofs.Going.{AreFine, IsFineFate, fine_longer, fine_of_fault, none_dead, place, IsSmall, tells_on_more, Going}
+use Rattle.writepath_top.proofs.Going.{AreFine, fine_longer, fine_of_fault, none_dead, place, IsSmall, tells_on_more, Going}
 
 -- What a run is when it has one step more, in the same history or in one that is longer by an entry.
 

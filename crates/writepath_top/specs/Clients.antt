@@ -11,7 +11,7 @@ use Rattle.wp_model.specs.History as history
 use Rattle.wp_model.specs.History.{IsHistory, last_sequence, map_of}
 use Rattle.wp_model.specs.Story.{Story, Home}
 use Rattle.wp_model.specs.Groups.{AreFates}
-use Rattle.wp_model.specs.Progress.{Progress, fresh}
+use Rattle.wp_model.specs.Progress.{Progress}
 use Rattle.wp_model.specs.Runs.{IsTranscript}
 use Rattle.wp_model.specs.Calls.{Call}
 use Rattle.wp_model.specs.LogContents.{records_of}

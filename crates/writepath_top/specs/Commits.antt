@@ -1,6 +1,6 @@
 -- What a commit does to the write path.
-use Rattle.std.specs.Prelude.{◌≡◌, ◌⊎◌, ◌^◌, ◌-◌, ℕ, ◌+◌, ◌<◌, ◌≤◌, List, [], ◌∷◌, ◌++◌, length, Option, Some, None, MatchOption, false}
-use Rattle.wp_edge.specs.Disk.{Disk, Told}
+use Rattle.std.specs.Prelude.{◌≡◌, ◌⊎◌, ℕ, ◌+◌, ◌<◌, ◌≤◌, List, [], ◌∷◌, ◌++◌, length, Option, Some, None, MatchOption, false}
+use Rattle.wp_edge.specs.Disk.{Disk}
 use Rattle.wp_model.specs.declared.history.Flag.TheVariants as Flag
 use Rattle.wp_model.specs.declared.write.Refusal.{Refusal}
 use Rattle.wp_model.specs.declared.write.Refusal.TheVariants as no

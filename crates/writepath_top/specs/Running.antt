@@ -1,5 +1,5 @@
 -- What a run of a script comes to: an outcome, and the log that it leaves.
-use Rattle.std.specs.Prelude.{◌≡◌, ◌<◌, ℕ, Bool, List, [], length, Option, Some, None, IfSome, Vec}
+use Rattle.std.specs.Prelude.{◌≡◌, ◌<◌, ℕ, Bool, List, [], length, Option, IfSome, Vec}
 use Rattle.std.specs.List.{list_any}
 use Rattle.wp_edge.specs.Disk.{Disk, Told}
 use Rattle.wp_model.specs.History as history

@@ -1,5 +1,5 @@
 -- The outcome that a run's values show. What no value holds, and no text shows, is the records of a batch: they are those of its bytes.
-use Rattle.std.specs.Prelude.{◌≡◌, ℕ, Bool, true, false, List, Option}
+use Rattle.std.specs.Prelude.{◌≡◌, Bool, true, false, List}
 use Rattle.std.specs.List.{AllZip}
 use Rattle.wp_model.specs.Batch.{Record}
 use Rattle.wp_model.specs.History as history

@@ -1,4 +1,3 @@
-use Rattle.std.proofs.Common.{◌≡◌, ◌≤◌}
 use Rattle.writepath_top.proofs.Sizes.{put_fits}
 use Rattle.writepath_top.proofs.pending.Pending.put.Goals as goal
 

@@ -1,4 +1,4 @@
-use Rattle.std.proofs.Common.{◌≡◌, ◌<◌, ◌++◌, length, take, ap, ◌∙◌}
+use Rattle.std.proofs.Common.{◌<◌, ◌++◌, length, take, ap, ◌∙◌}
 use Rattle.std.proofs.lemmas.List.{flat_map_more}
 use Rattle.writepath_top.specs.ShownText.{entry_line}
 use Rattle.writepath_top.proofs.Loops.{item_more}
