@@ -1,9 +1,8 @@
 //! The call as a whole, over devices in memory.
 
-ghost use Rattle.std.specs.Prelude.{◌<◌, ◌≤◌, length};
-
 use crate::{Ended, TEXT_LIMIT, run};
 use std::alloc::Global;
+use std::process::Abort;
 use std::test::Fail;
 use wp_edge::{MemDisk, MemSink, MemSource, SteppedClock};
 
@@ -44,10 +43,9 @@ const PLAIN: Given<'static> = Given {
 };
 
 /// The status of a call, its sink and its disk.
-fn ended(alloc: Global, given: Given) -> Result<(u8, MemSink, MemDisk), Fail>
-    requires piece { 0 < given.piece }
-    requires content { length given.content.now ≤ 256 }
-{
+fn ended(rt: &impl Abort, alloc: Global, given: Given) -> Result<(u8, MemSink, MemDisk), Fail> {
+    assert!(rt; given.piece > 0);
+    assert!(rt; given.content.len() <= ROOM);
     let words = vec![in alloc;
         String::from_str(alloc, "writepath")?,
         String::from_str(alloc, given.command)?,
@@ -132,7 +130,7 @@ fn prints_what_came_of_it(rt: HostRuntime) -> Result<(), Fail> {
         ),
     ];
     for (given, want, text) in rows {
-        let (status, sink, disk) = ended(rt.alloc(), given)?;
+        let (status, sink, disk) = ended(&rt, rt.alloc(), given)?;
         assert_eq!(rt; status, want, "for {text:?}");
         assert_eq!(rt; sink.taken(), text);
         if want != 0 && want != 5 {
@@ -144,7 +142,7 @@ fn prints_what_came_of_it(rt: HostRuntime) -> Result<(), Fail> {
 
 #[test]
 fn writes_one_record(rt: HostRuntime) -> Result<(), Fail> {
-    let (status, sink, disk) = ended(rt.alloc(), PLAIN)?;
+    let (status, sink, disk) = ended(&rt, rt.alloc(), PLAIN)?;
     assert_eq!(rt; status, 0);
     assert_eq!(rt; sink.taken(), OUTCOME);
     assert_eq!(rt; disk.content(), RECORD);
