@@ -50,7 +50,7 @@ pub fn run<S: Source, D: Disk + Send, K: Sink, C: Clock + Send + Drop>(
 
     // 1: the words aren't lawful.
     ensures words { result.status ≡ 1 → IsNone (asked_of words.now) }
-    ensures other_words { IsNone (asked_of words.now) → (result.status ≡ 1) ⊎ (result.status ≡ 6) }
+    ensures other_words { IsNone (asked_of words.now) → result.status ≡ 1 }
 
     // 2: the text isn't a script.
     ensures script { result.status ≡ 2 → IfSome (S.left source.old) (λ text. IsNone (one_script_of text)) }
