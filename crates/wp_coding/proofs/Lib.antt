@@ -1,3 +1,6 @@
 pub mod Crc
 pub mod Spellings
 pub mod Records
+pub mod MapPairs
+pub mod OneAnswer
+pub mod LongVarints

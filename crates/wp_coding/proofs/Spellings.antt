@@ -1,11 +1,11 @@
 -- The spelling of a number, as a list, spells it; and a number has one spelling.
-use Rattle.std.proofs.Common.{◌≡◌, ℕ, zero, suc, ◌+◌, ◌*◌, ◌/◌, ◌%◌, ◌^◌, ◌<◌, ◌≤◌, true, false, List, [], ◌∷◌, ◌++◌, length, take, set, refl, sym, ◌∙◌, ap, arith, cond, nat_lt, pow-suc, append_assoc}
+use Rattle.std.proofs.Common.{◌≡◌, ℕ, zero, suc, ◌+◌, ◌*◌, ◌/◌, ◌%◌, ◌^◌, ◌<◌, ◌≤◌, true, false, List, [], ◌∷◌, ◌++◌, length, take, set, refl, sym, ◌∙◌, ap, subst, arith, cond, nat_lt, pow-suc, append_assoc}
 use Rattle.std.proofs.lemmas.Bool.{ltb-true, ltb-false, le-ltb, lt-ltb}
 use Rattle.std.proofs.lemmas.List.{take_more_set}
 use Rattle.wp_model.specs.Varint.{IsVarint, varint_within, varint}
 
--- a byte in front of a spelling
-in_front : (b high n : ℕ) (bytes : List ℕ) → 128 ≤ b → b < 256 → 0 < high → n + 128 ≡ b + 128 * high → IsVarint bytes high → IsVarint (b ∷ bytes) n
+-- A byte in front of a spelling.
+pub in_front : (b high n : ℕ) (bytes : List ℕ) → 128 ≤ b → b < 256 → 0 < high → n + 128 ≡ b + 128 * high → IsVarint bytes high → IsVarint (b ∷ bytes) n
 in_front b high n [] low fits some e is = absurd is
 in_front b high n (c ∷ bytes) low fits some e is = (low, fits, high, some, e, is)
 
@@ -39,6 +39,23 @@ one_varint (c ∷ g ∷ a) (d ∷ f ∷ b) x y m n is_a is_b e =
     let tails : (g ∷ a) ++ x ≡ (f ∷ b) ++ y = cc in
     let rest = one_varint (g ∷ a) (f ∷ b) x y is_a.2 is_b.2 is_a.5 is_b.5 tails in
     (ap (λ (v : ℕ). v ∷ g ∷ a) same ∙ ap (λ (l : List ℕ). d ∷ l) rest.0, omega (arith, same, rest.1, is_a.4, is_b.4))
+
+-- A number is spelled in one way.
+pub one_number : (a b : List ℕ) (n : ℕ) → IsVarint a n → IsVarint b n → a ≡ b
+one_number [] b n is_a is_b = absurd is_a
+one_number (c ∷ a) [] n is_a is_b = absurd is_b
+one_number (c ∷ []) (d ∷ []) n is_a is_b = ap (λ (v : ℕ). v ∷ []) (sym is_a.1 ∙ is_b.1)
+one_number (c ∷ []) (d ∷ f ∷ b) n is_a is_b = absurd (omega (arith, is_a.0, is_a.1, is_b.0, is_b.3, is_b.4))
+one_number (c ∷ g ∷ a) (d ∷ []) n is_a is_b = absurd (omega (arith, is_b.0, is_b.1, is_a.0, is_a.3, is_a.4))
+one_number (c ∷ g ∷ a) (d ∷ f ∷ b) n is_a is_b =
+    let first : c ≡ d = omega (arith, is_a.0, is_a.1, is_a.4, is_b.0, is_b.1, is_b.4) in
+    let high : is_b.2 ≡ is_a.2 = omega (arith, is_a.0, is_a.1, is_a.4, is_b.0, is_b.1, is_b.4) in
+    let rest = one_number (g ∷ a) (f ∷ b) is_a.2 is_a.5 (subst (IsVarint (f ∷ b)) high is_b.5) in
+    ap (λ (v : ℕ). v ∷ g ∷ a) first ∙ ap (λ (l : List ℕ). d ∷ l) rest
+
+-- So its spelling is that as a list.
+pub spelled_as : (spelling : List ℕ) (n : ℕ) → n < 2 ^ 32 → IsVarint spelling n → spelling ≡ varint n
+spelled_as spelling n small is = one_number spelling (varint n) n is (varint_spells n small)
 
 -- a number of more than one byte begins with its low seven bits
 varint_within-more : (k n : ℕ) → 128 ≤ n → varint_within (suc k) n ≡ (128 + n % 128) ∷ varint_within k (n / 128)

@@ -61,10 +61,11 @@ pub fn put_fixed64(bytes: &mut Bytes, n: u64) -> Result<(), NoMemory>
     bytes.append(&fixed)
 }
 
-/// The varint of a number spells it, and no spelling begins another: each number has one, and each
-/// spelling is of one number.
+/// The varint of a number spells it, and no other spelling does. No spelling begins another, so each is
+/// of one number.
 pub fn one_spelling()
     ensures spelled { (n : ℕ) → n < 2 ^ 32 → IsVarint (varint n) n }
+    ensures only { (a : List ℕ) (n : ℕ) → n < 2 ^ 32 → IsVarint a n → a ≡ varint n }
     ensures unique { (a b x y : List ℕ) (m n : ℕ) → IsVarint a m → IsVarint b n → a ++ x ≡ b ++ y → (a ≡ b) × (m ≡ n) }
 {}
 

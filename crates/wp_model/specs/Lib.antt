@@ -3,8 +3,10 @@ pub mod Varint
 pub mod Batch
 pub mod Checksum
 pub mod Log
+pub mod Reading
 pub mod Map
 pub mod History
+pub mod Recovery
 pub mod Calls
 pub mod Text
 pub mod Grouping

@@ -1,5 +1,5 @@
 -- What an addition makes of a batch.
-use Rattle.std.proofs.Common.{◌≡◌, ℕ, ◌+◌, ◌≤◌, List, [], ◌∷◌, ◌++◌, length, take, drop, refl, sym, ◌∙◌, ap, arith, length-append, append_assoc, append-nil}
+use Rattle.std.proofs.Common.{◌≡◌, ℕ, ◌+◌, ◌≤◌, true, List, [], ◌∷◌, ◌++◌, length, take, drop, refl, sym, ◌∙◌, ap, arith, length-append, append_assoc, append-nil}
 use Rattle.std.proofs.lemmas.Grind.{flat_map-append, common_steps}
 use Rattle.std.proofs.lemmas.List.Sums.{count_by-le-length}
 use Rattle.std.specs.Int.{w32, w64, to_le_bytes}
@@ -19,6 +19,10 @@ body-added records r = flat_map-append record_bytes records (r ∷ []) ∙ ap (�
 -- The count with one record more that counts.
 pub count_of-added : (records : List Record) (k v : List ℕ) → count_of (records ++ value k v ∷ []) ≡ count_of records + 1
 count_of-added records k v = grind (arith, common_steps)
+
+-- The same for any record that counts.
+pub count_of-counted : (records : List Record) (r : Record) → is_counted r ≡ true → count_of (records ++ r ∷ []) ≡ count_of records + 1
+count_of-counted records r counts = grind (arith, common_steps, counts)
 
 -- Each record has a byte at least, so there are no more records than bytes.
 pub few_records : (records : List Record) → length records ≤ length (body records)

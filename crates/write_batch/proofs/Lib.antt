@@ -1,1 +1,4 @@
 pub mod Additions
+pub mod OneRecord
+pub mod OneReading
+pub mod OneAnswer

@@ -1,2 +1,5 @@
+pub mod Body
 pub mod Contents
 pub mod OneBatch
+pub mod OneBody
+pub mod View

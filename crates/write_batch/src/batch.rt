@@ -16,9 +16,9 @@ use wp_model::NoMemory;
 pub const MAX_SIZE: u64 = 16_777_216;
 
 /// How many bytes the header has, and where the count stands in it.
-const HEADER_LEN: usize = 12;
+pub const HEADER_LEN: usize = 12;
 
-const COUNT_AT: usize = 8;
+pub const COUNT_AT: usize = 8;
 
 /// A batch of additions. Contracts see its sequence and the additions in order.
 ///

@@ -4,9 +4,16 @@
 mod add_error;
 mod batch;
 mod record_bytes;
+mod record_view;
+mod records;
+mod split;
+mod view;
 
 pub use add_error::AddError;
 pub use batch::{Batch, MAX_SIZE};
+pub use record_view::RecordView;
+pub use records::Records;
+pub use view::{BatchView, read_batch};
 
 #[cfg(test)]
 mod tests;

@@ -7,7 +7,7 @@ use wp_coding::{Bytes, put_varint32, varint32_len};
 use wp_model::NoMemory;
 
 /// The tag of an addition of a key and its value.
-const VALUE: u8 = 1;
+pub const VALUE: u8 = 1;
 
 /// How many bytes a string has behind its length. A length of 2^32 or more, which has no varint32,
 /// counts as one of five bytes.
