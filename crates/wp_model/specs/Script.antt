@@ -1,6 +1,6 @@
 -- The text of a script: lines of words, and what each line says.
 use Rattle.std.specs.Prelude.{ℕ, ◌+◌, ◌-◌, ◌*◌, ◌^◌, Bool, true, false, not, ◌&&◌, List, [], ◌∷◌, ◌++◌, length, fold, Option, Some, None, Result, Ok, Err, codes, decimal, bytes_eq, nat_lt, nat_le, ◌==◌, if◌then◌else◌, option_map}
-use Rattle.std.specs.List.{list_all, list_any, slice_split, enumerate_from}
+use Rattle.std.specs.List.{list_all, slice_split, enumerate_from}
 use Rattle.wp_model.specs.declared.script.ScriptFault.{ScriptFault}
 use Rattle.wp_model.specs.declared.script.ScriptFault.TheVariants.{Long, Byte, Word, Form, Client, Clients, NoClient}
 use Rattle.wp_model.specs.Batch.{value}
@@ -165,24 +165,6 @@ with_client (Ok (cs ∷ rest)) = Ok (cs ∷ rest)
 -- What a script says, or its first fault; before all a text that is too long.
 abbrev pub script_of : Grammar → List ℕ → Result Script Fault
 script_of g text = if nat_lt g.text_limit (length text) then Err (record { line = 0; kind = Long }) else with_client (lines_read g text)
-
--- The first form of all: the line `client 1`, one or more lines `put`, the line `commit`, and any lines `get`; no line is passed over.
-abbrev pub are_gets : List Command → Bool
-are_gets [] = true
-are_gets (get key ∷ cs) = are_gets cs
-are_gets (c ∷ cs) = false
-
-abbrev pub are_puts_to_commit : Bool → List Command → Bool
-are_puts_to_commit some (add r ∷ cs) = are_puts_to_commit true cs
-are_puts_to_commit some (commit how ∷ cs) = some && are_gets cs
-are_puts_to_commit some cs = false
-
-abbrev pub one_form : Result Script Fault → Option Script
-one_form (Ok (cs ∷ [])) = if are_puts_to_commit false cs then Some (cs ∷ []) else None
-one_form other = None
-
-abbrev pub one_script_of : List ℕ → Option Script
-one_script_of text = if list_any is_passed_over (lines_of text) then None else one_form (script_of first_grammar text)
 
 -- the word of each kind of fault
 abbrev pub fault_word : ScriptFault → List ℕ

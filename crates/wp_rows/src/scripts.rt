@@ -1,23 +1,21 @@
 //! What scripts say, and their first faults.
 
-ghost use Rattle.std.specs.Prelude.{◌≡◌, [], ◌∷◌, replicate, codes, Ok, Some, None};
+ghost use Rattle.std.specs.Prelude.{◌≡◌, [], ◌∷◌, replicate, codes, Ok};
 ghost use Rattle.wp_model.specs.declared.script.ScriptFault.TheVariants.{Long, Byte, Word, Form, Client, Clients, NoClient};
 ghost use Rattle.wp_model.specs.Calls.{add, commit, get};
-ghost use Rattle.wp_model.specs.Script.{script_of, one_script_of, first_grammar};
+ghost use Rattle.wp_model.specs.Script.{script_of, first_grammar};
 ghost use Rattle.wp_rows.specs.Examples.{put_a1, plain, fault_at};
 
 /// A script of one batch and one read. Its last line feed may lack.
 pub fn one_script()
     ensures whole { script_of first_grammar (codes "client 1\nput a 1\ncommit\nget a\n") ≡ Ok ((add put_a1 ∷ commit plain ∷ get (codes "a") ∷ []) ∷ []) }
     ensures without_last_line_feed { script_of first_grammar (codes "client 1\nput a 1\ncommit\nget a") ≡ Ok ((add put_a1 ∷ commit plain ∷ get (codes "a") ∷ []) ∷ []) }
-    ensures one { one_script_of (codes "client 1\nput a 1\ncommit\nget a\n") ≡ Some ((add put_a1 ∷ commit plain ∷ get (codes "a") ∷ []) ∷ []) }
-    ensures one_without_last_line_feed { one_script_of (codes "client 1\nput a 1\ncommit\nget a") ≡ Some ((add put_a1 ∷ commit plain ∷ get (codes "a") ∷ []) ∷ []) }
 {}
 
-/// Comments and empty lines are passed over. A script of one batch has none.
+/// Comments and empty lines are passed over. Where there is nothing else there is no client.
 pub fn passed_over_lines()
     ensures commented { script_of first_grammar (codes "# x\nclient 1\n\nput a 1\ncommit\nget a\n") ≡ Ok ((add put_a1 ∷ commit plain ∷ get (codes "a") ∷ []) ∷ []) }
-    ensures not_one { one_script_of (codes "# x\nclient 1\nput a 1\ncommit\nget a\n") ≡ None }
+    ensures nothing_else { script_of first_grammar (codes "# x\n\n") ≡ fault_at 0 NoClient }
 {}
 
 /// Each kind of fault, and its line.

@@ -1,5 +1,5 @@
 -- How a run ended, and what stands printed: the outcome, or why there is none.
-use Rattle.std.proofs.Common.{◌≡◌, ◌⊎◌, inl, inr, ⊎_elim, ℕ, Bool, true, false, ◌||◌, List, [], ◌∷◌, length, Option, Some, None, IfSome, Vec, refl, ap, sym, ◌∙◌, subst, arith}
+use Rattle.std.proofs.Common.{◌≡◌, ◌⊎◌, inl, inr, ⊎_elim, ℕ, Bool, true, false, ◌||◌, List, [], ◌∷◌, length, Option, Some, None, Ok, IfSome, Vec, refl, ap, sym, ◌∙◌, subst, arith}
 use Rattle.std.specs.Prelude.{IsSome}
 use Rattle.std.specs.List.{AllByRecursion, AllZip, list_any}
 use Rattle.std.specs.declared.alloc.Global.{Global}
@@ -7,7 +7,7 @@ use Rattle.wp_edge.specs.Disk.{Disk}
 use Rattle.wp_model.specs.Calls as calls
 use Rattle.wp_model.specs.Text.{outcome_text}
 use Rattle.wp_model.specs.Runs.{NoneWithoutMemory}
-use Rattle.wp_model.specs.Script.{Script, one_script_of}
+use Rattle.wp_model.specs.Script.{Script, script_of, first_grammar}
 use Rattle.writepath_top.specs.declared.outcome.Reply.{Reply}
 use Rattle.writepath_top.specs.declared.outcome.Reply.TheVariants as reply
 use Rattle.writepath_top.specs.declared.outcome.Outcome.{Outcome}
@@ -146,19 +146,19 @@ module _ (script : Script) (failed fails kf kfs n : ℕ) (given : Status) (is : 
 
   -- The same where the devices tell
 
-  pub tells_whole : (left sold snew : Option (List ℕ)) (old new : Option Disk) (e : End) → IfSome left (λ text. one_script_of text ≡ Some script) → IsEnd script old new failed fails e → TellsEnd sold snew kf kfs e given
-      → Tells left sold snew old new (λ text before after opened ended. n ≡ 0 → (sc : Script) × (one_script_of text ≡ Some sc) × RanWhole (setting_of sc failed fails) before after opened ended)
+  pub tells_whole : (left sold snew : Option (List ℕ)) (old new : Option Disk) (e : End) → IfSome left (λ text. script_of first_grammar text ≡ Ok script) → IsEnd script old new failed fails e → TellsEnd sold snew kf kfs e given
+      → Tells left sold snew old new (λ text before after opened ended. n ≡ 0 → (sc : Script) × (script_of first_grammar text ≡ Ok sc) × RanWhole (setting_of sc failed fails) before after opened ended)
   tells_whole (Some text) (Some before) (Some after) (Some opened) (Some ended) e said ends tells = λ zero. (script, said, ran_whole before after opened ended e ends tells zero)
   tells_whole left sold snew old new e said ends tells = tt
 
-  pub tells_to_fault : (left sold snew : Option (List ℕ)) (old new : Option Disk) (e : End) → IfSome left (λ text. one_script_of text ≡ Some script) → IsEnd script old new failed fails e → TellsEnd sold snew kf kfs e given
-      → Tells left sold snew old new (λ text before after opened ended. n ≡ 3 → (sc : Script) × (one_script_of text ≡ Some sc)
+  pub tells_to_fault : (left sold snew : Option (List ℕ)) (old new : Option Disk) (e : End) → IfSome left (λ text. script_of first_grammar text ≡ Ok script) → IsEnd script old new failed fails e → TellsEnd sold snew kf kfs e given
+      → Tells left sold snew old new (λ text before after opened ended. n ≡ 3 → (sc : Script) × (script_of first_grammar text ≡ Ok sc)
       × (DiskRefused before after opened ended failed fails kf kfs ⊎ RanToFault (setting_of sc failed fails) before after opened ended))
   tells_to_fault (Some text) (Some before) (Some after) (Some opened) (Some ended) e said ends tells = λ three. (script, said, ran_to_fault before after opened ended e ends tells three)
   tells_to_fault left sold snew old new e said ends tells = tt
 
-  pub tells_out : (left sold snew : Option (List ℕ)) (old new : Option Disk) (e : End) → IfSome left (λ text. one_script_of text ≡ Some script) → IsEnd script old new failed fails e → TellsEnd sold snew kf kfs e given
-      → Tells left sold snew old new (λ text before after opened ended. n ≡ 6 → (sc : Script) → one_script_of text ≡ Some sc → RanOutOfMemory (setting_of sc failed fails) before after opened ended)
+  pub tells_out : (left sold snew : Option (List ℕ)) (old new : Option Disk) (e : End) → IfSome left (λ text. script_of first_grammar text ≡ Ok script) → IsEnd script old new failed fails e → TellsEnd sold snew kf kfs e given
+      → Tells left sold snew old new (λ text before after opened ended. n ≡ 6 → (sc : Script) → script_of first_grammar text ≡ Ok sc → RanOutOfMemory (setting_of sc failed fails) before after opened ended)
   tells_out (Some text) (Some before) (Some after) (Some opened) (Some ended) e said ends tells =
       λ six sc other. (let same : script ≡ sc = cc (said, other) in subst (λ s. RanOutOfMemory (setting_of s failed fails) before after opened ended) same (ran_out before after opened ended e ends tells six))
   tells_out left sold snew old new e said ends tells = tt
@@ -169,17 +169,19 @@ pub says_source : (left sold snew : Option (List ℕ)) (failed fails kf kfs n : 
     → n ≡ 4 → (count : ℕ) × IsReached failed count fails × SaysTo sold snew (source_fault count) kf kfs
 says_source left sold snew failed fails kf kfs n given is (read.Fault count) error tells four =
     ⊎_elim (λ said. (count, error, said.1)) (λ none. absurd (let a = none.0 in omega (arith, a, four))) (refused_as sold snew kf kfs _ _ given n is tells)
-says_source left sold snew failed fails kf kfs n given is read.NotScript error tells four = absurd (let a : n ≡ 2 = is ∙ ap code tells.0 in omega (arith, a, four))
+says_source left sold snew failed fails kf kfs n given is (read.Script line kind) error tells four =
+    ⊎_elim (λ said. absurd (let a = said.0 in omega (arith, a, four))) (λ none. absurd (let a = none.0 in omega (arith, a, four))) (refused_as sold snew kf kfs _ _ given n is tells)
 says_source left sold snew failed fails kf kfs n given is read.NoMemory error tells four = absurd (let a : n ≡ 6 = is ∙ ap code tells.0 in omega (arith, a, four))
 
 silent : (sold snew : Option (List ℕ)) (kf kfs n : ℕ) (given : Status) → n ≡ code given → (why : ReadError) → TellsReadError sold snew kf kfs why given → n ≡ 6 → snew ≡ sold
 silent sold snew kf kfs n given is (read.Fault count) tells six =
     ⊎_elim (λ said. absurd (let a = said.0 in omega (arith, a, six))) (λ none. none.1) (refused_as sold snew kf kfs _ _ given n is tells)
-silent sold snew kf kfs n given is read.NotScript tells six = absurd (let a : n ≡ 2 = is ∙ ap code tells.0 in omega (arith, a, six))
+silent sold snew kf kfs n given is (read.Script line kind) tells six =
+    ⊎_elim (λ said. absurd (let a = said.0 in omega (arith, a, six))) (λ none. none.1) (refused_as sold snew kf kfs _ _ given n is tells)
 silent sold snew kf kfs n given is read.NoMemory tells six = tells.1
 
 pub none_read : (left sold snew : Option (List ℕ)) (disk : Option Disk) (failed fails kf kfs n : ℕ) (given : Status) → n ≡ code given → (why : ReadError) → TellsReadError sold snew kf kfs why given
-    → Tells left sold snew disk disk (λ text before after opened ended. n ≡ 6 → (sc : Script) → one_script_of text ≡ Some sc → RanOutOfMemory (setting_of sc failed fails) before after opened ended)
+    → Tells left sold snew disk disk (λ text before after opened ended. n ≡ 6 → (sc : Script) → script_of first_grammar text ≡ Ok sc → RanOutOfMemory (setting_of sc failed fails) before after opened ended)
 none_read (Some text) (Some before) (Some after) (Some d) failed fails kf kfs n given is why tells =
     λ six sc said. inl (cc (silent (Some before) (Some after) kf kfs n given is why tells six), record { content = refl; synced = refl; reach = refl })
 none_read left sold snew disk failed fails kf kfs n given is why tells = tt

@@ -16,3 +16,7 @@ pub mod Ends
 pub mod Running
 pub mod Telling
 pub mod Outcomes
+pub mod Walking
+pub mod Keeping
+pub mod Recovering
+pub mod Recovers

@@ -1,10 +1,10 @@
 -- What reading a script's text from its source comes to.
-use Rattle.std.specs.Prelude.{◌≡◌, ℕ, ◌≤◌, List, length, Option, Some, None, IfSome}
+use Rattle.std.specs.Prelude.{◌≡◌, ℕ, ◌≤◌, List, length, Option, Ok, Err, IfSome}
 use Rattle.std.specs.Io.KnownBytes.{Consumes, IsAtEnd}
 use Rattle.writepath_top.specs.declared.reading.ReadError.{ReadError}
-use Rattle.writepath_top.specs.declared.reading.ReadError.TheVariants.{Fault, NotScript, NoMemory}
-use Rattle.wp_model.specs.Script.{one_script_of}
-use Rattle.writepath_top.specs.declared.script.Script.{Script}
+use Rattle.writepath_top.specs.declared.reading.ReadError.TheVariants.{Fault, Script, NoMemory}
+use Rattle.wp_model.specs.Script as model
+use Rattle.writepath_top.specs.declared.script.Script as script
 use Rattle.writepath_top.specs.Scripts.{commands_of, script_len, HasShortWords}
 use Rattle.writepath_top.specs.Texts.{IsReached}
 
@@ -17,19 +17,19 @@ pub record HasRead (old new : Option (List ℕ)) (text : List ℕ) : Type 0 wher
 -- a fault of the source, or no memory
 abbrev pub IsReadError : ℕ → ℕ → ReadError → Type 0
 IsReadError before now (Fault count) = IsReached before count now
-IsReadError before now NotScript = ⊥
+IsReadError before now (Script line kind) = ⊥
 IsReadError before now NoMemory = Unit {0}
 
 -- the source had just this script, of one client
-pub record HasScript (old new : Option (List ℕ)) (script : Script) : Type 0 where
-  pub said : IfSome old (λ text. one_script_of text ≡ Some (commands_of script))
+pub record HasScript (old new : Option (List ℕ)) (s : script.Script) : Type 0 where
+  pub said : IfSome old (λ text. model.script_of model.first_grammar text ≡ Ok (commands_of s))
   pub ended : IsAtEnd new
-  pub one : length script.clients.items ≡ 1
-  pub small : script_len script ≤ 16385
-  pub words : HasShortWords script
+  pub one : length s.clients.items ≡ 1
+  pub small : script_len s ≤ 16385
+  pub words : HasShortWords s
 
 -- no script: a fault of the source, another text, or no memory
 abbrev pub IsScriptError : Option (List ℕ) → ℕ → ℕ → ReadError → Type 0
 IsScriptError old before now (Fault count) = IsReached before count now
-IsScriptError old before now NotScript = IfSome old (λ text. one_script_of text ≡ None)
+IsScriptError old before now (Script line kind) = IfSome old (λ text. model.script_of model.first_grammar text ≡ Err (record { line = line; kind = kind }))
 IsScriptError old before now NoMemory = Unit {0}

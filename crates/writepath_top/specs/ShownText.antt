@@ -4,11 +4,14 @@ use Rattle.std.specs.List.{enumerate_from}
 use Rattle.std.specs.declared.alloc.Global.{Global}
 use Rattle.wp_model.specs.Batch.{batch}
 use Rattle.wp_model.specs.Calls as calls
-use Rattle.wp_model.specs.Text.{line, hex, reply_text, flag_word, state_text, log_text}
+use Rattle.wp_model.specs.declared.log.EndReason.{EndReason}
+use Rattle.wp_model.specs.Text.{line, hex, reply_text, flag_word, state_text, log_text, hex_word, end_words}
 use Rattle.writepath_top.specs.declared.outcome.Reply.{Reply}
 use Rattle.writepath_top.specs.declared.outcome.Reply.TheVariants.{Quiet, Accepted, Refused, Found, NoMemory}
 use Rattle.writepath_top.specs.declared.outcome.Entry.{Entry}
 use Rattle.writepath_top.specs.declared.outcome.Outcome.{Outcome}
+use Rattle.writepath_top.specs.declared.recovery.kept.GroupNote.{GroupNote}
+use Rattle.writepath_top.specs.declared.recovery.Recovered.{Recovered}
 use Rattle.writepath_top.specs.Published.{pairs_of}
 
 -- a reply as shown; its text doesn't tell the records
@@ -37,3 +40,16 @@ history_lines entries = line (codes "history" ∷ decimal (length entries) ∷ [
 
 abbrev pub shown_text : Outcome → List ℕ
 shown_text v = clients_lines v.transcripts.items ++ history_lines v.history.items ++ state_text (λ w. w) v.last (pairs_of v.state) ++ log_text v.log_len v.fault
+
+abbrev pub group_line : GroupNote → List ℕ
+group_line g = line (decimal g.first ∷ decimal g.count ∷ decimal g.size ∷ [])
+
+abbrev pub groups_lines : List GroupNote → List ℕ
+groups_lines groups = line (codes "groups" ∷ decimal (length groups) ∷ []) ++ flat_map group_line groups
+
+-- where recovery ended, and why
+abbrev pub end_line : ℕ → EndReason → List ℕ
+end_line at why = line (codes "end" ∷ decimal at ∷ end_words why)
+
+abbrev pub shown_recovered_text : Recovered → List ℕ
+shown_recovered_text v = groups_lines v.groups.items ++ state_text hex_word v.last v.map ++ end_line v.at v.why

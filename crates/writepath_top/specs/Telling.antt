@@ -1,5 +1,5 @@
 -- What is printed of each way to end, and the status that it has.
-use Rattle.std.specs.Prelude.{◌≡◌, ◌⊎◌, ℕ, false, List, take, Option, None, IsSome, is_some, if◌then◌else◌}
+use Rattle.std.specs.Prelude.{◌≡◌, ◌⊎◌, ℕ, false, List, take, Option, None, IsSome, is_some, if◌then◌else◌, Result, Ok, Err}
 use Rattle.std.specs.Io.KnownBytes.{Appends}
 use Rattle.wp_model.specs.Counts.{Rose}
 use Rattle.wp_model.specs.Calls as calls
@@ -11,9 +11,14 @@ use Rattle.writepath_top.specs.declared.running.End.{End}
 use Rattle.writepath_top.specs.declared.running.End.TheVariants as end
 use Rattle.writepath_top.specs.declared.telling.Status.{Status}
 use Rattle.writepath_top.specs.declared.telling.Status.TheVariants as status
+use Rattle.writepath_top.specs.declared.recovery.Recovered.{Recovered}
+use Rattle.writepath_top.specs.declared.recovery.RecoverError.{RecoverError}
+use Rattle.writepath_top.specs.declared.recovery.RecoverError.TheVariants as none
+use Rattle.wp_model.specs.Recovery as recovery
+use Rattle.writepath_top.specs.Recovering.{ShowsRecovered}
 use Rattle.writepath_top.specs.Shows.{ShowsOutcome}
 use Rattle.writepath_top.specs.Running.{ran_short}
-use Rattle.writepath_top.specs.Texts.{SaysTo, script_refused, source_fault, disk_fault, not_empty}
+use Rattle.writepath_top.specs.Texts.{SaysTo, script_fault, source_fault, disk_fault, not_empty}
 
 -- the refusal's text was printed, or there was no memory for it and nothing was
 abbrev pub Refuses : Option (List ℕ) → Option (List ℕ) → ℕ → ℕ → List ℕ → Status → Status → Type 0
@@ -21,7 +26,7 @@ Refuses old new failed fails text wanted given = ((given ≡ wanted) × SaysTo o
 
 abbrev pub TellsReadError : Option (List ℕ) → Option (List ℕ) → ℕ → ℕ → ReadError → Status → Type 0
 TellsReadError old new failed fails (read.Fault count) given = Refuses old new failed fails (source_fault count) status.Source given
-TellsReadError old new failed fails read.NotScript given = (given ≡ status.Script) × SaysTo old new script_refused failed fails
+TellsReadError old new failed fails (read.Script line kind) given = Refuses old new failed fails (script_fault (record { line = line; kind = kind })) status.Script given
 TellsReadError old new failed fails read.NoMemory given = (given ≡ status.Memory) × (new ≡ old)
 
 -- The status of an outcome's text. At 5 the sink failed, and a front of it was taken; at 3 the log has a fault; at 6 there was no memory for the text,
@@ -46,6 +51,25 @@ TellsEnd old new failed fails (end.DiskFault count) given = Refuses old new fail
 TellsEnd old new failed fails (end.NotEmpty len) given = Refuses old new failed fails (not_empty len) status.NotEmpty given
 TellsEnd old new failed fails end.NoMemory given = (given ≡ status.Memory) × (new ≡ old)
 TellsEnd old new failed fails (end.Ran shown) given = TellsOutcome old new failed fails shown given
+
+-- the text of whatever recovery the values show
+abbrev pub IsTextOf : Recovered → List ℕ → Type 0
+IsTextOf shown text = (r : recovery.Recovered) → ShowsRecovered shown r → text ≡ model.recovered_text r
+
+-- The status of a recovery's text. At 5 the sink failed, and a front of it was taken; at 6 there was no memory for it.
+abbrev pub ShownEndsSo : Option (List ℕ) → Option (List ℕ) → ℕ → ℕ → Recovered → Status → Type 0
+ShownEndsSo old new failed fails shown status.Done = (text : List ℕ) × IsTextOf shown text × Appends old new text
+ShownEndsSo old new failed fails shown status.Sink = Rose failed fails × (text : List ℕ) × IsTextOf shown text × (n : ℕ) × Appends old new (take n text)
+ShownEndsSo old new failed fails shown status.Memory = new ≡ old
+ShownEndsSo old new failed fails shown other = ⊥
+
+abbrev pub TellsRecoverError : Option (List ℕ) → Option (List ℕ) → ℕ → ℕ → RecoverError → Status → Type 0
+TellsRecoverError old new failed fails (none.Fault count) given = Refuses old new failed fails (disk_fault count) status.Disk given
+TellsRecoverError old new failed fails none.NoMemory given = (given ≡ status.Memory) × (new ≡ old)
+
+abbrev pub TellsRecovery : Option (List ℕ) → Option (List ℕ) → ℕ → ℕ → Result Recovered RecoverError → Status → Type 0
+TellsRecovery old new failed fails (Ok shown) given = ShownEndsSo old new failed fails shown given
+TellsRecovery old new failed fails (Err why) given = TellsRecoverError old new failed fails why given
 
 -- its number
 abbrev pub code : Status → ℕ

@@ -8,6 +8,8 @@ ghost use Rattle.writepath_top.specs.CommandLine.{asked_of, command_of};
 pub enum Asked {
     /// To run a script.
     Run,
+    /// To say what the log recovers.
+    Recover,
 }
 
 /// What the words ask for, where they are lawful.
@@ -25,6 +27,8 @@ fn command_asked(word: &str) -> Option<Asked>
 {
     if word == "run" {
         Some(Asked::Run)
+    } else if word == "recover" {
+        Some(Asked::Recover)
     } else {
         None
     }

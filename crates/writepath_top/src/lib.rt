@@ -1,4 +1,4 @@
-//! The top call: it reads a script, runs it over the write path, and prints the outcome.
+//! The top call: it runs a script over the write path and prints the outcome, or prints what a log recovers.
 #![tactic(auto)]
 
 mod client;
@@ -8,6 +8,7 @@ mod outcome;
 mod pending;
 mod published;
 mod reading;
+mod recovery;
 mod running;
 mod script;
 mod telling;
@@ -17,5 +18,5 @@ mod text;
 mod top;
 mod write_path;
 
-pub use script::{Command, Script, ScriptError, TEXT_LIMIT, is_one_form, parse};
+pub use script::{Command, Script, ScriptError, TEXT_LIMIT, parse};
 pub use top::{Ended, run};

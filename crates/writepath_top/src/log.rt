@@ -2,21 +2,11 @@
 //! Format" lays it out.
 
 ghost use Rattle.std.specs.Prelude.{◌≡◌, ◌+◌, ◌-◌, ◌^◌, ◌<◌, ◌≤◌, [], ◌++◌, length, vec_capacity, Some, None, Ok, Err, IfOk, IfErr, IfSome, OnOk};
-ghost use Rattle.wp_model.specs.Log as text;
 
+use log_block::{BLOCK_LEN, FULL, HEADER_LEN, header};
 use std::alloc::Global;
-use wp_coding::{crc32c, extend, mask};
 use wp_edge::Disk;
 use wp_model::NoMemory;
-
-/// The bytes of a block.
-const BLOCK: usize = 32768;
-
-/// The bytes of a fragment's header.
-const HEADER: usize = 7;
-
-/// The code of a fragment that is a whole record.
-const FULL: u8 = 1;
 
 /// Why a log was not opened.
 #[derive(Clone, Copy, Debug, PartialEq, Eq)]
@@ -73,7 +63,7 @@ impl<D: Disk> Log<D> {
         if len > 0 {
             return Err((disk, OpenError::NotEmpty { len }));
         }
-        match Vec::with_capacity(alloc, BLOCK) {
+        match Vec::with_capacity(alloc, BLOCK_LEN) {
             Ok(block) => Ok(Log {
                 disk,
                 block,
@@ -100,7 +90,7 @@ impl<D: Disk> Log<D> {
         put_reserved(&mut self.block, bytes);
         match self.disk.append(&self.block) {
             Ok(()) => {
-                self.len += (HEADER + bytes.len()) as u64;
+                self.len += (HEADER_LEN + bytes.len()) as u64;
                 Ok(())
             }
             Err(_) => {
@@ -110,16 +100,6 @@ impl<D: Disk> Log<D> {
             }
         }
     }
-}
-
-/// The header of a fragment: the masked checksum of its kind and its data, the data's length, and the kind.
-fn header(kind: u8, part: &[u8]) -> [u8; 7]
-    requires { length part.now ≤ 32761 }
-    ensures { result ≡ text.header None kind part.now }
-{
-    let [c0, c1, c2, c3] = mask(extend(crc32c(&[kind]), part)).to_le_bytes();
-    let [l0, l1] = (part.len() as u16).to_le_bytes();
-    [c0, c1, c2, c3, l0, l1, kind]
 }
 
 /// Puts bytes behind the others, where there is room.

@@ -3,10 +3,10 @@
 ghost use Rattle.std.specs.Prelude.{◌≡◌, ◌+◌, ◌-◌, ◌≤◌, ◌<◌, ℕ, [], length, vec_len, Some, None, IfOk, IfErr, IfSome};
 ghost use Rattle.writepath_top.specs.Reading.{HasRead, IsReadError, HasScript, IsScriptError};
 
-use crate::script::{Script, ScriptError, TEXT_LIMIT, is_one_form, parse};
+use crate::script::{Script, ScriptError, TEXT_LIMIT, parse};
 use std::alloc::Global;
 use wp_edge::Source;
-use wp_model::NoMemory;
+use wp_model::ScriptFault;
 
 /// How many bytes are asked for in a call.
 const PIECE: usize = 4096;
@@ -16,8 +16,8 @@ const PIECE: usize = 4096;
 pub enum ReadError {
     /// The source failed, for the how many-th time.
     Fault { count: u64 },
-    /// The text is not a script.
-    NotScript,
+    /// The text is not a script: its first fault, and the number of its line, or 0 for the whole text.
+    Script { line: u64, kind: ScriptFault },
     NoMemory,
 }
 
@@ -46,7 +46,7 @@ fn read_text<S: Source>(alloc: Global, source: &mut S) -> Result<Vec<u8>, ReadEr
     Ok(text)
 }
 
-/// Reads a script of the one form.
+/// Reads a script.
 pub fn read_script<S: Source>(alloc: Global, source: &mut S) -> Result<Script, ReadError>
     ensures script { IfOk result (HasScript (S.left source.old) (S.left source.new)) }
     ensures error { IfErr result (IsScriptError (S.left source.old) (S.faults source.old) (S.faults source.new)) }
@@ -54,14 +54,8 @@ pub fn read_script<S: Source>(alloc: Global, source: &mut S) -> Result<Script, R
 {
     let text = read_text(alloc, source)?;
     match parse(alloc, &text) {
-        Ok(script) => {
-            if is_one_form(&text, &script) {
-                Ok(script)
-            } else {
-                Err(ReadError::NotScript)
-            }
-        }
-        Err(ScriptError::Fault { .. }) => Err(ReadError::NotScript),
+        Ok(script) => Ok(script),
+        Err(ScriptError::Fault { line, kind }) => Err(ReadError::Script { line, kind }),
         Err(ScriptError::NoMemory) => Err(ReadError::NoMemory),
     }
 }

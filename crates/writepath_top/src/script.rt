@@ -1,6 +1,5 @@
 //! The script that a run is given: lines of words, and the commands that they say.
 
-mod form;
 mod lines;
 mod numbers;
 mod parser;
@@ -8,7 +7,6 @@ mod parser;
 mod tests;
 mod words;
 
-pub use form::is_one_form;
 pub use parser::parse;
 use wp_coding::Bytes;
 use wp_model::ScriptFault;

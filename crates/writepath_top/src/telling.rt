@@ -2,12 +2,15 @@
 
 ghost use Rattle.std.specs.Prelude.{◌≡◌, ◌≤◌, IfOk, OnErr};
 ghost use Rattle.writepath_top.specs.Texts.{SaysTo};
-ghost use Rattle.writepath_top.specs.Telling.{TellsReadError, TellsEnd, TellsOutcome, ran_status};
+ghost use Rattle.writepath_top.specs.Telling.{TellsReadError, TellsEnd, TellsOutcome, TellsRecovery, TellsRecoverError, ShownEndsSo, ran_status};
 
 use crate::outcome::Outcome;
 use crate::reading::ReadError;
+use crate::recovery::{RecoverError, Recovered};
 use crate::running::End;
-use crate::text::{disk_fault, log_not_empty, outcome_text, script_refused, source_fault};
+use crate::text::{
+    disk_fault, log_not_empty, outcome_text, recovered_text, script_fault, source_fault,
+};
 use std::alloc::Global;
 use wp_coding::Bytes;
 use wp_edge::{Sink, write_all};
@@ -56,9 +59,8 @@ pub fn tell_read_error<K: Sink>(alloc: Global, sink: &mut K, why: ReadError) -> 
         ReadError::Fault { count } => {
             refuse_with(sink, source_fault(alloc, count), Status::Source)
         }
-        ReadError::NotScript => {
-            refuse(sink, script_refused());
-            Status::Script
+        ReadError::Script { line, kind } => {
+            refuse_with(sink, script_fault(alloc, line, kind), Status::Script)
         }
         ReadError::NoMemory => Status::Memory,
     }
@@ -99,5 +101,40 @@ fn status_of(outcome: &Outcome) -> Status
         Status::Memory
     } else {
         Status::Done
+    }
+}
+
+/// Prints what a log recovers, whole, or says why nothing was recovered.
+pub fn tell_recovery<K: Sink>(
+    alloc: Global,
+    sink: &mut K,
+    found: &Result<Recovered, RecoverError>,
+) -> Status
+    ensures { TellsRecovery (K.taken sink.old) (K.taken sink.new) (K.faults sink.old) (K.faults sink.new) found.now result }
+{
+    match found {
+        Ok(recovered) => tell_recovered(alloc, sink, recovered),
+        Err(why) => tell_recover_error(alloc, sink, *why),
+    }
+}
+
+fn tell_recover_error<K: Sink>(alloc: Global, sink: &mut K, why: RecoverError) -> Status
+    ensures { TellsRecoverError (K.taken sink.old) (K.taken sink.new) (K.faults sink.old) (K.faults sink.new) why result }
+{
+    match why {
+        RecoverError::Fault { count } => refuse_with(sink, disk_fault(alloc, count), Status::Disk),
+        RecoverError::NoMemory => Status::Memory,
+    }
+}
+
+fn tell_recovered<K: Sink>(alloc: Global, sink: &mut K, recovered: &Recovered) -> Status
+    ensures { ShownEndsSo (K.taken sink.old) (K.taken sink.new) (K.faults sink.old) (K.faults sink.new) recovered.now result }
+{
+    let Ok(text) = recovered_text(alloc, recovered) else {
+        return Status::Memory;
+    };
+    match write_all(sink, text.as_slice()) {
+        Err(_) => Status::Sink,
+        Ok(()) => Status::Done,
     }
 }

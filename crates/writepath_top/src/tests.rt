@@ -17,7 +17,7 @@ const RECORD: &[u8] =
     b"\xe9\x9f\x78\x19\x11\x00\x01\x01\x00\x00\x00\x00\x00\x00\x00\x01\x00\x00\x00\x01\x01a\x011";
 
 /// How many bytes the sink and the disk may have.
-const ROOM: usize = 256;
+const ROOM: usize = 512;
 
 /// What a call is given. The lists number the calls of each device that fail.
 #[derive(Clone, Copy)]
@@ -59,10 +59,25 @@ fn ended(rt: &impl Abort, alloc: Global, given: Given) -> Result<(u8, MemSink, M
 }
 
 #[test]
-fn prints_what_came_of_it(rt: HostRuntime) -> Result<(), Fail> {
+fn refusals_leave_the_disk(rt: HostRuntime) -> Result<(), Fail> {
     let long = [b'#'; TEXT_LIMIT + 1];
-    let rows: [(Given, u8, &[u8]); 10] = [
-        (Given { piece: 1, ..PLAIN }, 0, OUTCOME),
+    let scripts: [(&[u8], &[u8]); 8] = [
+        (b"", b"script 0 none\n"),
+        (&long, b"script 0 long\n"),
+        (b"put a 1\n", b"script 1 client\n"),
+        (b"client 1\npot a 1\n", b"script 2 word\n"),
+        (b"client 1\nput a\n", b"script 2 form\n"),
+        (b"client 1\nget\ta\n", b"script 2 byte\n"),
+        (b"client 1\nclient 2\n", b"script 2 clients\n"),
+        (b"client 1\n\n# x\nclient 3\n", b"script 4 client\n"),
+    ];
+    for (text, want) in scripts {
+        let (status, sink, disk) = ended(&rt, rt.alloc(), Given { text, ..PLAIN })?;
+        assert_eq!(rt; status, 2, "for {want:?}");
+        assert_eq!(rt; sink.taken(), want);
+        assert_eq!(rt; disk.content(), b"".as_slice());
+    }
+    let rows: [(Given, u8, &[u8]); 5] = [
         (
             Given {
                 command: "walk",
@@ -70,23 +85,6 @@ fn prints_what_came_of_it(rt: HostRuntime) -> Result<(), Fail> {
             },
             1,
             b"usage\n",
-        ),
-        (
-            Given {
-                text: b"# x\nclient 1\nput a 1\ncommit\nget a\n",
-                ..PLAIN
-            },
-            2,
-            b"script\n",
-        ),
-        (Given { text: b"", ..PLAIN }, 2, b"script\n"),
-        (
-            Given {
-                text: &long,
-                ..PLAIN
-            },
-            2,
-            b"script\n",
         ),
         (
             Given {
@@ -114,14 +112,6 @@ fn prints_what_came_of_it(rt: HostRuntime) -> Result<(), Fail> {
         ),
         (
             Given {
-                sink_fails: &[1],
-                ..PLAIN
-            },
-            5,
-            b"",
-        ),
-        (
-            Given {
                 content: b"x",
                 ..PLAIN
             },
@@ -133,9 +123,122 @@ fn prints_what_came_of_it(rt: HostRuntime) -> Result<(), Fail> {
         let (status, sink, disk) = ended(&rt, rt.alloc(), given)?;
         assert_eq!(rt; status, want, "for {text:?}");
         assert_eq!(rt; sink.taken(), text);
-        if want != 0 && want != 5 {
-            assert_eq!(rt; disk.content(), given.content, "after {status}");
-        }
+        assert_eq!(rt; disk.content(), given.content, "after {status}");
+    }
+    Ok(())
+}
+
+#[test]
+fn prints_what_came_of_a_script(rt: HostRuntime) -> Result<(), Fail> {
+    let rows: [(Given, u8, &[u8]); 6] = [
+        (Given { piece: 1, ..PLAIN }, 0, OUTCOME),
+        (
+            Given {
+                text: b"# x\nclient 1\nput a 1\ncommit\nget a\n",
+                ..PLAIN
+            },
+            0,
+            OUTCOME,
+        ),
+        (
+            Given {
+                text: b"client 1\ncommit\n",
+                ..PLAIN
+            },
+            0,
+            b"client 1\nno empty\nhistory 0\nstate 0 0\nlog 0\n",
+        ),
+        (
+            Given {
+                text: b"client 1\nput a 1\ncommit\nput a 2\ncommit\nget a\n",
+                ..PLAIN
+            },
+            0,
+            b"client 1\nok 1 1\nok 2 2\nval 2 2\nhistory 2\n1 1 1 1 log 0100000000000000010000000101610131\n2 2 1 2 log 0200000000000000010000000101610132\nstate 2 1\na 2\nlog 48\n",
+        ),
+        (
+            Given {
+                text: b"client 1\nput a 1\ncommit\nput b 2\ncommit\ncommit\nget b\nget a\n",
+                disk_fails: &[3],
+                ..PLAIN
+            },
+            3,
+            b"client 1\nok 1 1\nno logfault 1\nno logfault 1\nnil 1\nval 1 1\nhistory 1\n1 1 1 1 log 0100000000000000010000000101610131\nstate 1 1\na 1\nlog 24 fault 1\n",
+        ),
+        (
+            Given {
+                sink_fails: &[1],
+                ..PLAIN
+            },
+            5,
+            b"",
+        ),
+    ];
+    for (given, want, text) in rows {
+        let (status, sink, _) = ended(&rt, rt.alloc(), given)?;
+        assert_eq!(rt; status, want, "for {text:?}");
+        assert_eq!(rt; sink.taken(), text);
+    }
+    Ok(())
+}
+
+#[test]
+fn prints_what_a_log_recovers(rt: HostRuntime) -> Result<(), Fail> {
+    const RECOVER: Given<'static> = Given {
+        command: "recover",
+        ..PLAIN
+    };
+    let rows: [(Given, u8, &[u8]); 6] = [
+        (
+            Given {
+                content: RECORD,
+                ..RECOVER
+            },
+            0,
+            b"groups 1\n1 1 17\nstate 1 1\n61 31\nend 24 clean\n",
+        ),
+        (RECOVER, 0, b"groups 0\nstate 0 0\nend 0 clean\n"),
+        (
+            Given {
+                content: b"\x05\x2b\x28\x43\x00\x00\x01",
+                ..RECOVER
+            },
+            0,
+            b"groups 0\nstate 0 0\nend 0 short\n",
+        ),
+        (
+            Given {
+                content: b"x",
+                source_fails: &[1],
+                ..RECOVER
+            },
+            0,
+            b"groups 0\nstate 0 0\nend 0 shortheader\n",
+        ),
+        (
+            Given {
+                content: RECORD,
+                disk_fails: &[1],
+                ..RECOVER
+            },
+            3,
+            b"disk fault 1\n",
+        ),
+        (
+            Given {
+                content: RECORD,
+                sink_fails: &[1],
+                ..RECOVER
+            },
+            5,
+            b"",
+        ),
+    ];
+    for (given, want, text) in rows {
+        let (status, sink, disk) = ended(&rt, rt.alloc(), given)?;
+        assert_eq!(rt; status, want, "for {text:?}");
+        assert_eq!(rt; sink.taken(), text);
+        assert_eq!(rt; disk.content(), given.content, "after {status}");
     }
     Ok(())
 }

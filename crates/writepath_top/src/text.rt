@@ -4,19 +4,22 @@ ghost use Rattle.std.specs.Prelude.{◌≡◌, IfOk};
 ghost use Rattle.wp_model.specs.Calls as calls;
 ghost use Rattle.wp_model.specs.Text.{outcome_text};
 ghost use Rattle.writepath_top.specs.Shows.{ShowsOutcome};
+ghost use Rattle.wp_model.specs.Script as model;
 ghost use Rattle.writepath_top.specs.Texts as texts;
 
 mod lines;
 mod parts;
+mod recovered;
 #[cfg(test)]
 mod tests;
 
 use crate::outcome::Outcome;
-use crate::text::lines::put_line;
+use crate::text::lines::{put_line, put_numbers};
 use crate::text::parts::{put_clients, put_history, put_log, put_state};
+pub use recovered::recovered_text;
 use std::alloc::Global;
 use wp_coding::Bytes;
-use wp_model::NoMemory;
+use wp_model::{NoMemory, ScriptFault};
 
 /// The text of an outcome: each client's replies, the history, the published state, the log.
 pub fn outcome_text(alloc: Global, outcome: &Outcome) -> Result<Bytes, NoMemory>
@@ -37,11 +40,31 @@ pub fn usage() -> &'static [u8]
     b"usage\n"
 }
 
-/// The text isn't a script.
-pub fn script_refused() -> &'static [u8]
-    ensures { result.now ≡ texts.script_refused }
+/// The text isn't a script: its first fault, and the number of its line.
+pub fn script_fault(alloc: Global, line: u64, kind: ScriptFault) -> Result<Bytes, NoMemory>
+    ensures { IfOk result (λ t. t ≡ texts.script_fault (record { line = line; kind = kind })) }
 {
-    b"script\n"
+    let mut text = Bytes::new(alloc);
+    text.append(b"script")?;
+    put_numbers(&mut text, &[line])?;
+    text.append(b" ")?;
+    text.append(fault_word(kind))?;
+    text.append(b"\n")?;
+    Ok(text)
+}
+
+fn fault_word(kind: ScriptFault) -> &'static [u8]
+    ensures { result.now ≡ model.fault_word kind }
+{
+    match kind {
+        ScriptFault::Long => b"long",
+        ScriptFault::Byte => b"byte",
+        ScriptFault::Word => b"word",
+        ScriptFault::Form => b"form",
+        ScriptFault::Client => b"client",
+        ScriptFault::Clients => b"clients",
+        ScriptFault::NoClient => b"none",
+    }
 }
 
 /// The source failed, for the how many-th time.

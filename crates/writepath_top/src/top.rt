@@ -1,18 +1,21 @@
 //! The call that the program makes.
 
-ghost use Rattle.std.specs.Prelude.{◌≡◌, ◌≢◌, ◌⊎◌, ◌<◌, ℕ, [], ◌∷◌, length, Some, None, IsNone, IfSome};
+ghost use Rattle.std.specs.Prelude.{◌≡◌, ◌≢◌, ◌⊎◌, ◌<◌, ℕ, [], ◌∷◌, length, Some, None, Ok, Err, IsNone, IfSome};
 ghost use Rattle.wp_model.specs.Counts.{Rose};
-ghost use Rattle.wp_model.specs.Script.{Script, one_script_of};
+ghost use Rattle.wp_model.specs.Script.{Script, Fault, script_of, first_grammar};
 ghost use Rattle.writepath_top.specs.CommandLine.{asked_of};
-ghost use Rattle.writepath_top.specs.Texts.{SaysTo, IsReached, usage, script_refused, source_fault, not_empty};
+ghost use Rattle.writepath_top.specs.declared.command_line.Asked.TheVariants.{Run, Recover};
+ghost use Rattle.writepath_top.specs.Recovers.{TellsDisk, Recovers, RecoversFront, RecoveryRefused};
+ghost use Rattle.writepath_top.specs.Texts.{SaysTo, IsReached, usage, script_fault, source_fault, not_empty};
 ghost use Rattle.writepath_top.specs.Running.{setting_of};
 ghost use Rattle.writepath_top.specs.Telling.{code};
 ghost use Rattle.writepath_top.specs.Outcomes.{Tells, RanWhole, RanToFault, DiskRefused, RanToSinkFault, RanOutOfMemory};
 
-use crate::command_line::read_words;
+use crate::command_line::{Asked, read_words};
 use crate::reading::read_script;
+use crate::recovery::recover;
 use crate::running::{Executed, execute};
-use crate::telling::{Status, refuse, tell_end, tell_read_error};
+use crate::telling::{Status, refuse, tell_end, tell_read_error, tell_recovery};
 use crate::text::usage;
 use std::alloc::Global;
 use wp_edge::{Clock, Disk, Sink, Source};
@@ -25,7 +28,7 @@ pub struct Ended<D> {
     /// |---|---|---|
     /// | 0 | none of the others; the script was read to its end | the outcome |
     /// | 1 | the words aren't lawful | `usage` |
-    /// | 2 | the text isn't a script | `script` |
+    /// | 2 | the text isn't a script | `script LINE KIND` |
     /// | 3 | the disk failed | `disk fault COUNT`, or the outcome where the log was opened |
     /// | 4 | the source failed | `source fault COUNT` |
     /// | 5 | the sink failed | a front of the outcome |
@@ -35,9 +38,10 @@ pub struct Ended<D> {
     pub disk: D,
 }
 
-/// Runs the script of one client that commits once, over the log on a disk, and prints the outcome to a sink.
+/// Does what the words ask for, over the log on a disk, and prints what came of it to a sink.
 ///
-/// The words are the program's name and `run`. The script is read from the source to its end. The disk comes back on every path.
+/// The words are the program's name and a command. `run` reads the script of one client from the source to its end, runs it, and prints the outcome;
+/// the log must be empty. `recover` prints what the log recovers, and changes nothing. The disk comes back on every path.
 pub fn run<S: Source, D: Disk + Send, K: Sink, C: Clock + Send + Drop>(
     alloc: Global,
     words: &[String],
@@ -47,15 +51,18 @@ pub fn run<S: Source, D: Disk + Send, K: Sink, C: Clock + Send + Drop>(
     _clock: C,
 ) -> Ended<D>
     ensures status { result.status < 8 }
+    ensures recovery_status { asked_of words.now ≡ Some Recover
+        → (result.status ≡ 0) ⊎ (result.status ≡ 3) ⊎ (result.status ≡ 5) ⊎ (result.status ≡ 6) }
 
     // 1: the words aren't lawful.
     ensures words { result.status ≡ 1 → IsNone (asked_of words.now) }
     ensures other_words { IsNone (asked_of words.now) → result.status ≡ 1 }
 
-    // 2: the text isn't a script.
-    ensures script { result.status ≡ 2 → IfSome (S.left source.old) (λ text. IsNone (one_script_of text)) }
-    ensures other_script { result.status ≢ 1 → result.status ≢ 6 → (Rose (S.faults source.old) (S.faults source.new) → ⊥)
-        → IfSome (S.left source.old) (λ text. IsNone (one_script_of text) → result.status ≡ 2) }
+    // 2: the text isn't a script; its first fault is told.
+    ensures script { result.status ≡ 2 → IfSome (S.left source.old) (λ text. (f : Fault) × (script_of first_grammar text ≡ Err f)
+        × SaysTo (K.taken sink.old) (K.taken sink.new) (script_fault f) (K.faults sink.old) (K.faults sink.new)) }
+    ensures other_script { asked_of words.now ≡ Some Run → result.status ≢ 6 → (Rose (S.faults source.old) (S.faults source.new) → ⊥)
+        → IfSome (S.left source.old) (λ text. (f : Fault) → script_of first_grammar text ≡ Err f → result.status ≡ 2) }
 
     // 3 to 5: a device failed in this call.
     ensures disk { result.status ≡ 3 → Rose (D.faults disk) (D.faults result.disk) }
@@ -64,18 +71,16 @@ pub fn run<S: Source, D: Disk + Send, K: Sink, C: Clock + Send + Drop>(
 
     // 7: the log isn't empty. Then no other status follows the script, a fault of the disk and want of memory aside.
     ensures not_empty { result.status ≡ 7 → IfSome (D.told disk) (λ d. 0 < length d.content) }
-    ensures empty { IfSome (D.told disk) (λ d. 0 < length d.content → (result.status ≢ 0) × (result.status ≢ 5)) }
+    ensures empty { asked_of words.now ≡ Some Run → IfSome (D.told disk) (λ d. 0 < length d.content → (result.status ≢ 0) × (result.status ≢ 5)) }
 
-    // A refusal touches no device whose turn comes later, and leaves the disk as it was.
-    ensures source_untouched { result.status ≡ 1 → source.new ≡ source.old }
+    // A refusal touches no device whose turn comes later, and leaves the disk as it was. So does recovery.
+    ensures source_untouched { (result.status ≡ 1) ⊎ (asked_of words.now ≡ Some Recover) → source.new ≡ source.old }
     ensures disk_untouched { (result.status ≡ 1) ⊎ (result.status ≡ 2) ⊎ (result.status ≡ 4) → result.disk ≡ disk }
-    ensures disk_as_before { result.status ≡ 7 → D.told result.disk ≡ D.told disk }
+    ensures disk_as_before { (result.status ≡ 7) ⊎ (asked_of words.now ≡ Some Recover) → D.told result.disk ≡ D.told disk }
 
     // The texts of the refusals, of which a sink that fails takes a front.
     ensures says_usage { result.status ≡ 1 →
         SaysTo (K.taken sink.old) (K.taken sink.new) usage (K.faults sink.old) (K.faults sink.new) }
-    ensures says_script { result.status ≡ 2 →
-        SaysTo (K.taken sink.old) (K.taken sink.new) script_refused (K.faults sink.old) (K.faults sink.new) }
     ensures says_source { result.status ≡ 4 → (count : ℕ) × IsReached (S.faults source.old) count (S.faults source.new)
         × SaysTo (K.taken sink.old) (K.taken sink.new) (source_fault count) (K.faults sink.old) (K.faults sink.new) }
     ensures says_not_empty { result.status ≡ 7 → IfSome (D.told disk) (λ d.
@@ -83,33 +88,58 @@ pub fn run<S: Source, D: Disk + Send, K: Sink, C: Clock + Send + Drop>(
 
     // Every reply that is printed is that of a plain map at its point of one printed history of whole batches, in which the client's acknowledged
     // batches stand once, in order, each under its own run of sequences; and up to the printed length the log is the text of the logged ones.
-    ensures ran { Tells (S.left source.old) (K.taken sink.old) (K.taken sink.new) (D.told disk) (D.told result.disk)
-        (λ text before after opened ended. result.status ≡ 0 → (script : Script) × (one_script_of text ≡ Some script)
+    ensures ran { asked_of words.now ≡ Some Run → Tells (S.left source.old) (K.taken sink.old) (K.taken sink.new) (D.told disk) (D.told result.disk)
+        (λ text before after opened ended. result.status ≡ 0 → (script : Script) × (script_of first_grammar text ≡ Ok script)
         × RanWhole (setting_of script (D.faults disk) (D.faults result.disk)) before after opened ended) }
-    ensures ran_to_fault { Tells (S.left source.old) (K.taken sink.old) (K.taken sink.new) (D.told disk) (D.told result.disk)
-        (λ text before after opened ended. result.status ≡ 3 → (script : Script) × (one_script_of text ≡ Some script)
+    ensures ran_to_fault { asked_of words.now ≡ Some Run → Tells (S.left source.old) (K.taken sink.old) (K.taken sink.new) (D.told disk) (D.told result.disk)
+        (λ text before after opened ended. result.status ≡ 3 → (script : Script) × (script_of first_grammar text ≡ Ok script)
         × (DiskRefused before after opened ended (D.faults disk) (D.faults result.disk) (K.faults sink.old) (K.faults sink.new)
         ⊎ RanToFault (setting_of script (D.faults disk) (D.faults result.disk)) before after opened ended)) }
-    ensures ran_to_sink_fault { Tells (S.left source.old) (K.taken sink.old) (K.taken sink.new) (D.told disk) (D.told result.disk)
-        (λ text before after opened ended. result.status ≡ 5 → (script : Script) × (one_script_of text ≡ Some script)
+    ensures ran_to_sink_fault { asked_of words.now ≡ Some Run → Tells (S.left source.old) (K.taken sink.old) (K.taken sink.new) (D.told disk) (D.told result.disk)
+        (λ text before after opened ended. result.status ≡ 5 → (script : Script) × (script_of first_grammar text ≡ Ok script)
         × RanToSinkFault (setting_of script (D.faults disk) (D.faults result.disk)) before after opened ended) }
-    ensures out_of_memory { Tells (S.left source.old) (K.taken sink.old) (K.taken sink.new) (D.told disk) (D.told result.disk)
-        (λ text before after opened ended. result.status ≡ 6 → (script : Script) → one_script_of text ≡ Some script
+    ensures out_of_memory { asked_of words.now ≡ Some Run → Tells (S.left source.old) (K.taken sink.old) (K.taken sink.new) (D.told disk) (D.told result.disk)
+        (λ text before after opened ended. result.status ≡ 6 → (script : Script) → script_of first_grammar text ≡ Ok script
         → RanOutOfMemory (setting_of script (D.faults disk) (D.faults result.disk)) before after opened ended) }
 
     // Where the script was run, or would have been, the source was read to its end.
-    ensures read_to_end { (result.status ≡ 0) ⊎ (result.status ≡ 3) ⊎ (result.status ≡ 5) ⊎ (result.status ≡ 7) → IfSome (S.left source.new) (λ left. left ≡ []) }
+    ensures read_to_end { asked_of words.now ≡ Some Run → (result.status ≡ 0) ⊎ (result.status ≡ 3) ⊎ (result.status ≡ 5) ⊎ (result.status ≡ 7)
+        → IfSome (S.left source.new) (λ left. left ≡ []) }
+
+    // What the log recovers is printed, whatever its bytes are.
+    ensures recovered { asked_of words.now ≡ Some Recover → TellsDisk (K.taken sink.old) (K.taken sink.new) (D.told disk) (λ before after d.
+        result.status ≡ 0 → Recovers before after d.content) }
+    ensures recovered_front { asked_of words.now ≡ Some Recover → TellsDisk (K.taken sink.old) (K.taken sink.new) (D.told disk) (λ before after d.
+        result.status ≡ 5 → RecoversFront before after d.content) }
+    ensures recovery_refused { asked_of words.now ≡ Some Recover → TellsDisk (K.taken sink.old) (K.taken sink.new) (D.told disk) (λ before after d.
+        result.status ≡ 3 → RecoveryRefused before after (D.faults disk) (D.faults result.disk) (K.faults sink.old) (K.faults sink.new)) }
+    ensures recovery_silent { asked_of words.now ≡ Some Recover → TellsDisk (K.taken sink.old) (K.taken sink.new) (D.told disk) (λ before after d.
+        result.status ≡ 6 → after ≡ before) }
+
+    // Where no device fails both end well, want of memory aside: a script over an empty log, and recovery.
+    ensures runs { asked_of words.now ≡ Some Run → (Rose (S.faults source.old) (S.faults source.new) → ⊥) → (Rose (K.faults sink.old) (K.faults sink.new) → ⊥)
+        → (Rose (D.faults disk) (D.faults result.disk) → ⊥) → IfSome (S.left source.old) (λ text. IfSome (D.told disk) (λ d.
+        (script : Script) → script_of first_grammar text ≡ Ok script → length d.content ≡ 0 → (result.status ≡ 0) ⊎ (result.status ≡ 6))) }
+    ensures recovers { asked_of words.now ≡ Some Recover → (Rose (K.faults sink.old) (K.faults sink.new) → ⊥) → (Rose (D.faults disk) (D.faults result.disk) → ⊥)
+        → (result.status ≡ 0) ⊎ (result.status ≡ 6) }
 {
-    if read_words(words).is_none() {
-        refuse(sink, usage());
-        return end_with(Status::Usage, disk);
-    }
-    match read_script(alloc, source) {
-        Ok(script) => {
-            let Executed { disk, end } = execute(alloc, disk, &script);
-            end_with(tell_end(alloc, sink, &end), disk)
+    match read_words(words) {
+        Some(Asked::Run) => match read_script(alloc, source) {
+            Ok(script) => {
+                let Executed { disk, end } = execute(alloc, disk, &script);
+                end_with(tell_end(alloc, sink, &end), disk)
+            }
+            Err(why) => end_with(tell_read_error(alloc, sink, why), disk),
+        },
+        Some(Asked::Recover) => {
+            let mut disk = disk;
+            let found = recover(alloc, &mut disk);
+            end_with(tell_recovery(alloc, sink, &found), disk)
         }
-        Err(why) => end_with(tell_read_error(alloc, sink, why), disk),
+        None => {
+            refuse(sink, usage());
+            end_with(Status::Usage, disk)
+        }
     }
 }
 

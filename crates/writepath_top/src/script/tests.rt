@@ -1,6 +1,6 @@
-//! Scripts, their faults, and their form.
+//! Scripts and their faults.
 
-use super::{ScriptError, TEXT_LIMIT, is_one_form, parse};
+use super::{ScriptError, TEXT_LIMIT, parse};
 use std::alloc::{AllocError, Global};
 use std::test::Fail;
 use wp_model::ScriptFault;
@@ -62,27 +62,6 @@ fn limits_are_heeded(rt: HostRuntime) -> Result<(), Fail> {
         let text = read_of_long_key(rt.alloc(), len)?;
         let error = parse(rt.alloc(), &text).err();
         assert_eq!(rt; error, want, "at {len}");
-    }
-    Ok(())
-}
-
-#[test]
-fn one_form_is_told_from_others(rt: HostRuntime) -> Result<(), Fail> {
-    for (text, want) in [
-        ("client 1\nput a 1\ncommit\nget a\n", true),
-        ("client 1\nput a 1\nput b 2\ncommit", true),
-        ("# x\nclient 1\nput a 1\ncommit\nget a\n", false),
-        ("client 1\nput a 1\ncommit\n\nget a\n", false),
-        ("client 1\nput a 1\ncommit\nget a\n\n", false),
-        ("client 1\nput a 1\ncommit\ncommit\n", false),
-        ("client 1\nput a 1\ncommit\nput a 2\ncommit\n", false),
-        ("client 1\ncommit\nget a\n", false),
-        ("client 1\nget a\nput a 1\ncommit\n", false),
-        ("client 1\nput a 1\n", false),
-        ("client 1\n", false),
-    ] {
-        let script = parse(rt.alloc(), text.as_bytes())?;
-        assert_eq!(rt; is_one_form(text.as_bytes(), &script), want, "in {text:?}");
     }
     Ok(())
 }

@@ -9,11 +9,3 @@ returns-clause-whole c = refl
 pub returns-clause-without_last_line_feed : goal.returns-clause-without_last_line_feed
 unfolding digits
 returns-clause-without_last_line_feed c = refl
-
-pub returns-clause-one : goal.returns-clause-one
-unfolding digits
-returns-clause-one c = refl
-
-pub returns-clause-one_without_last_line_feed : goal.returns-clause-one_without_last_line_feed
-unfolding digits
-returns-clause-one_without_last_line_feed c = refl

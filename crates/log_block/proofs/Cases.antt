@@ -1,0 +1,66 @@
+-- What is seen in front of some bytes, case by case.
+use Rattle.std.proofs.Common.{◌≡◌, ℕ, ◌+◌, ◌<◌, ◌≤◌, true, false, List, ◌∷◌, length, take, drop, None, nat_lt, ◌==◌, cond, refl, ap, ◌∙◌, arith}
+use Rattle.std.proofs.lemmas.Bool.{lt-ltb, le-ltb, ne_eqb}
+use Rattle.wp_model.specs.declared.log.Damage.TheVariants.{ShortHeader, Zeros, BadLength, BadChecksum, BadTrailer}
+use Rattle.wp_model.specs.Checksum.{crc32c, masked}
+use Rattle.wp_model.specs.Log.{full}
+use Rattle.wp_model.specs.Reading.{Seen, fragment, nothing, damage, seen_within, are_zeros, checksum_field, length_field, type_field, kind_of_code, checked}
+
+-- the trailer of a block: zeros
+pub seen_zeros : (space : ℕ) (bytes : List ℕ) → space < 7 → are_zeros bytes ≡ true → seen_within None space bytes ≡ nothing
+unfolding seen_within
+seen_zeros space bytes few zeros = let e : nat_lt space 7 ≡ true = lt-ltb space 7 few in rw (e, zeros) refl
+
+-- the trailer of a block: other bytes
+pub seen_trailer : (space : ℕ) (bytes : List ℕ) → space < 7 → are_zeros bytes ≡ false → seen_within None space bytes ≡ damage BadTrailer
+unfolding seen_within
+seen_trailer space bytes few others = let e : nat_lt space 7 ≡ true = lt-ltb space 7 few in rw (e, others) refl
+
+-- no bytes
+pub seen_none : (space : ℕ) (bytes : List ℕ) → 7 ≤ space → length bytes ≡ 0 → seen_within None space bytes ≡ nothing
+unfolding seen_within
+seen_none space bytes many none = let e : nat_lt space 7 ≡ false = le-ltb space 7 many in rw (e, none) refl
+
+-- some bytes, too few for a header
+pub seen_short : (space : ℕ) (bytes : List ℕ) → 7 ≤ space → 0 < length bytes → length bytes < 7 → seen_within None space bytes ≡ damage ShortHeader
+unfolding seen_within
+seen_short space bytes many some few =
+    let e : nat_lt space 7 ≡ false = le-ltb space 7 many in
+    let f = ne_eqb (length bytes) 0 (λ none. omega arith) in
+    let g : nat_lt (length bytes) 7 ≡ true = lt-ltb (length bytes) 7 few in
+    rw (e, f, g) refl
+
+-- a header of zeros
+pub seen_no_header : (space : ℕ) (bytes : List ℕ) → 7 ≤ space → 7 ≤ length bytes → are_zeros (take 7 bytes) ≡ true → seen_within None space bytes ≡ damage Zeros
+unfolding seen_within
+seen_no_header space bytes many there zeros =
+    let e : nat_lt space 7 ≡ false = le-ltb space 7 many in
+    let f = ne_eqb (length bytes) 0 (λ none. omega arith) in
+    let g : nat_lt (length bytes) 7 ≡ false = le-ltb (length bytes) 7 there in
+    rw (e, f, g, zeros) refl
+
+-- a header that isn't zeros: its fields decide
+pub seen_header : (space : ℕ) (bytes : List ℕ) → 7 ≤ space → 7 ≤ length bytes → are_zeros (take 7 bytes) ≡ false
+    → seen_within None space bytes ≡ cond (nat_lt (length bytes) (7 + length_field bytes)) (damage BadLength) (checked bytes (kind_of_code None (type_field bytes)))
+unfolding seen_within
+seen_header space bytes many there others =
+    let e : nat_lt space 7 ≡ false = le-ltb space 7 many in
+    let f = ne_eqb (length bytes) 0 (λ none. omega arith) in
+    let g : nat_lt (length bytes) 7 ≡ false = le-ltb (length bytes) 7 there in
+    rw (e, f, g, others) refl
+
+-- what the fields of a header that isn't zeros say
+abbrev pub decided : List ℕ → Seen
+decided bytes = cond (nat_lt (length bytes) (7 + length_field bytes)) (damage BadLength) (checked bytes (kind_of_code None (type_field bytes)))
+
+-- the header of a whole record, whose part is there: its checksum decides
+pub decided_by_checksum : (bytes : List ℕ) (len : ℕ) → length_field bytes ≡ len → 7 + len ≤ length bytes → type_field bytes ≡ 1
+    → decided bytes ≡ cond (checksum_field bytes == masked (crc32c (1 ∷ take len (drop 7 bytes)))) (fragment (record { kind = full; part = take len (drop 7 bytes) })) (damage BadChecksum)
+decided_by_checksum bytes len length_is there is_full =
+    let e : nat_lt (length bytes) (7 + length_field bytes) ≡ false = le-ltb (length bytes) (7 + length_field bytes) (omega arith) in
+    ap (λ b. cond b (damage BadLength) (checked bytes (kind_of_code None (type_field bytes)))) e
+    ∙ (ap (λ (t : ℕ). checked bytes (kind_of_code None t)) is_full
+    ∙ (ap (λ (t : ℕ). by_sum t (length_field bytes)) is_full ∙ ap (λ (n : ℕ). by_sum 1 n) length_is))
+  where
+    by_sum : ℕ → ℕ → Seen
+    by_sum t n = cond (checksum_field bytes == masked (crc32c (t ∷ take n (drop 7 bytes)))) (fragment (record { kind = full; part = take n (drop 7 bytes) })) (damage BadChecksum)

@@ -1,0 +1,36 @@
+//! A fragment's header.
+
+ghost use Rattle.std.specs.Prelude.{◌≡◌, ◌≤◌, ◌∷◌, length, None};
+ghost use Rattle.wp_model.specs.Checksum.{crc32c, masked};
+ghost use Rattle.wp_model.specs.Log as log;
+
+use wp_coding::{crc32c, extend, mask};
+
+/// The bytes of a block.
+pub const BLOCK_LEN: usize = 32768;
+
+/// The bytes of a fragment's header.
+pub const HEADER_LEN: usize = 7;
+
+/// The bytes of the longest part, which fills a block with its header.
+pub const MAX_PART_LEN: usize = 32761;
+
+/// The type of a fragment that is a whole record.
+pub const FULL: u8 = 1;
+
+/// The header of a fragment of this type with this part, which has at most `MAX_PART_LEN` bytes.
+pub fn header(kind: u8, part: &[u8]) -> [u8; 7]
+    requires { length part.now ≤ MAX_PART_LEN }
+    ensures { result ≡ log.header None kind part.now }
+{
+    let [c0, c1, c2, c3] = checksum(kind, part).to_le_bytes();
+    let [l0, l1] = (part.len() as u16).to_le_bytes();
+    [c0, c1, c2, c3, l0, l1, kind]
+}
+
+/// The checksum that a fragment's header has.
+pub(crate) fn checksum(kind: u8, part: &[u8]) -> u32
+    ensures { result ≡ masked (crc32c (kind ∷ part.now)) }
+{
+    mask(extend(crc32c(&[kind]), part))
+}

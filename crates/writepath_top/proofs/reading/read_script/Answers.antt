@@ -1,0 +1,11 @@
+use Rattle.std.proofs.Common.{sym, subst}
+use Rattle.writepath_top.specs.Reading.{HasRead}
+use Rattle.writepath_top.proofs.WholeTexts.{has_script}
+use Rattle.writepath_top.proofs.reading.read_script.Goals as goal
+
+pub returns-in-Ok-clause-script : goal.returns-in-Ok-clause-script
+returns-in-Ok-clause-script g c =
+    let old = g.S.Source.left c.args.source.now in
+    let new = g.S.Source.left c.read_text.new.source in
+    let has = subst (λ t. HasRead old new t) (sym c.deref.ensures.value) c.in_ok-text.ensures.text in
+    has_script old new c.deref.result.now c.in-Ok.script has c.in-Ok.ensures.script c.in-Ok.ensures.small c.in-Ok.ensures.words

@@ -1,0 +1,29 @@
+-- What the command `recover` promises.
+use Rattle.std.specs.Prelude.{ℕ, List, Option, Some, None, ⊤}
+use Rattle.wp_edge.specs.Disk.{Disk}
+use Rattle.wp_model.specs.Recovery.{Recovered, IsRecovered}
+use Rattle.wp_model.specs.Text.{recovered_text}
+use Rattle.writepath_top.specs.Texts.{Prints, PrintsFront, Says, disk_fault, IsReached}
+
+-- the sink's bytes before and after a call, and the disk, where they are told
+abbrev pub TellsDisk : Option (List ℕ) → Option (List ℕ) → Option Disk → (List ℕ → List ℕ → Disk → Type 0) → Type 0
+TellsDisk (Some before) (Some after) (Some disk) P = P before after disk
+TellsDisk before after disk P = ⊤
+
+-- status 0: the text of what the file recovers was printed
+pub record Recovers (before after file : List ℕ) : Type 0 where
+  pub recovered : Recovered
+  pub is_recovered : IsRecovered None file recovered
+  pub printed : Prints before after (recovered_text recovered)
+
+-- status 5: a front of it was taken
+pub record RecoversFront (before after file : List ℕ) : Type 0 where
+  pub recovered : Recovered
+  pub is_recovered : IsRecovered None file recovered
+  pub printed : PrintsFront before after (recovered_text recovered)
+
+-- status 3: the disk failed
+pub record RecoveryRefused (before after : List ℕ) (failed fails sink_failed sink_fails : ℕ) : Type 0 where
+  pub count : ℕ
+  pub reached : IsReached failed count fails
+  pub said : Says before after (disk_fault count) sink_failed sink_fails

@@ -1,0 +1,127 @@
+//! The text of what a log recovers.
+
+ghost use Rattle.std.specs.Prelude.{◌≡◌, ◌++◌, [], ◌∷◌, OnOk, IfOk};
+ghost use Rattle.wp_model.specs.Recovery as recovery;
+ghost use Rattle.wp_model.specs.Text as model;
+ghost use Rattle.wp_model.specs.Text.{line, hex_word, state_text, damage_words, end_words};
+ghost use Rattle.writepath_top.specs.Recovering.{ShowsRecovered};
+ghost use Rattle.writepath_top.specs.ShownText.{group_line, groups_lines, end_line};
+
+use crate::recovery::{GroupNote, Recovered};
+use crate::text::lines::{put_hex, put_line, put_number, put_numbers};
+use std::alloc::Global;
+use wp_coding::{Bytes, PairMap};
+use wp_model::{Damage, EndReason, NoMemory};
+
+/// The text of what a log recovers: a line for each group, the map at the last sequence in hexadecimal digits, and where and
+/// why recovery ended.
+pub fn recovered_text(alloc: Global, recovered: &Recovered) -> Result<Bytes, NoMemory>
+    ensures { IfOk result (λ t. (r : recovery.Recovered) → ShowsRecovered recovered.now r → t ≡ model.recovered_text r) }
+{
+    let mut text = Bytes::new(alloc);
+    put_groups(&mut text, &recovered.groups)?;
+    put_state_in_digits(alloc, &mut text, recovered.last, &recovered.map)?;
+    put_end(&mut text, recovered.at, recovered.why)?;
+    Ok(text)
+}
+
+fn put_group(text: &mut Bytes, group: &GroupNote) -> Result<(), NoMemory>
+    ensures { OnOk result (text.new ≡ text.old ++ group_line group.now) }
+{
+    put_number(text, group.first)?;
+    put_numbers(text, &[u64::from(group.count), group.size])?;
+    text.append(b"\n")
+}
+
+/// Puts the groups behind the text: how many there are, and a line for each.
+fn put_groups(text: &mut Bytes, groups: &[GroupNote]) -> Result<(), NoMemory>
+    ensures { OnOk result (text.new ≡ text.old ++ groups_lines groups.now) }
+{
+    put_line(text, b"groups", &[groups.len() as u64])?;
+    for group in groups {
+        put_group(text, group)?;
+    }
+    Ok(())
+}
+
+/// Puts bytes behind the text in digits, and `-` for none.
+fn put_hex_word(alloc: Global, text: &mut Bytes, bytes: &[u8]) -> Result<(), NoMemory>
+    ensures { OnOk result (text.new ≡ text.old ++ hex_word bytes.now) }
+{
+    if bytes.is_empty() {
+        text.append(b"-")
+    } else {
+        put_hex(alloc, text, bytes)
+    }
+}
+
+fn put_pair_in_digits(
+    alloc: Global,
+    text: &mut Bytes,
+    key: &[u8],
+    value: &[u8],
+) -> Result<(), NoMemory>
+    ensures { OnOk result (text.new ≡ text.old ++ line (hex_word key.now ∷ hex_word value.now ∷ [])) }
+{
+    put_hex_word(alloc, text, key)?;
+    text.append(b" ")?;
+    put_hex_word(alloc, text, value)?;
+    text.append(b"\n")
+}
+
+/// Puts a state behind the text: its last sequence, how many keys there are, and a line for each.
+fn put_state_in_digits(
+    alloc: Global,
+    text: &mut Bytes,
+    last: u64,
+    map: &PairMap,
+) -> Result<(), NoMemory>
+    ensures { OnOk result (text.new ≡ text.old ++ state_text hex_word last map.now) }
+{
+    put_line(text, b"state", &[last, map.len() as u64])?;
+    for (key, value) in map.iter() {
+        put_pair_in_digits(alloc, text, key, value)?;
+    }
+    Ok(())
+}
+
+/// Puts where and why recovery ended behind the text.
+fn put_end(text: &mut Bytes, at: u64, why: EndReason) -> Result<(), NoMemory>
+    ensures { OnOk result (text.new ≡ text.old ++ end_line at why) }
+{
+    text.append(b"end")?;
+    put_numbers(text, &[at])?;
+    text.append(b" ")?;
+    put_reason(text, why)
+}
+
+fn put_reason(text: &mut Bytes, why: EndReason) -> Result<(), NoMemory>
+    ensures { OnOk result (text.new ≡ text.old ++ line (end_words why)) }
+{
+    match why {
+        EndReason::Clean => put_line(text, b"clean", &[]),
+        EndReason::Broken(damage) => put_damage(text, damage),
+        EndReason::BadOrder => put_line(text, b"badorder", &[]),
+        EndReason::Unfinished => put_line(text, b"unfinished", &[]),
+        EndReason::Short => put_line(text, b"short", &[]),
+        EndReason::BadVarint => put_line(text, b"badvarint", &[]),
+        EndReason::Tag(tag) => put_line(text, b"tag", &[u64::from(tag)]),
+        EndReason::Count { said, found } => put_line(text, b"count", &[u64::from(said), found]),
+        EndReason::Order { first, last } => put_line(text, b"order", &[first, last]),
+        EndReason::High { first, count } => put_line(text, b"high", &[first, u64::from(count)]),
+    }
+}
+
+fn put_damage(text: &mut Bytes, damage: Damage) -> Result<(), NoMemory>
+    ensures { OnOk result (text.new ≡ text.old ++ line (damage_words damage)) }
+{
+    match damage {
+        Damage::ShortHeader => put_line(text, b"shortheader", &[]),
+        Damage::Zeros => put_line(text, b"zeros", &[]),
+        Damage::BadLength => put_line(text, b"badlength", &[]),
+        Damage::BadType(kind) => put_line(text, b"badtype", &[u64::from(kind)]),
+        Damage::BadChecksum => put_line(text, b"badchecksum", &[]),
+        Damage::BadTrailer => put_line(text, b"badtrailer", &[]),
+        Damage::OldLog(number) => put_line(text, b"oldlog", &[u64::from(number)]),
+    }
+}
