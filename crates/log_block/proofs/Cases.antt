@@ -1,9 +1,9 @@
 -- What is seen in front of some bytes, case by case.
-use Rattle.std.proofs.Common.{◌≡◌, ℕ, ◌+◌, ◌<◌, ◌≤◌, true, false, List, ◌∷◌, length, take, drop, None, nat_lt, ◌==◌, cond, refl, ap, ◌∙◌, arith}
+use Rattle.std.proofs.Common.{◌≡◌, ℕ, ◌+◌, ◌<◌, ◌≤◌, true, false, List, ◌∷◌, length, take, drop, Some, None, nat_lt, ◌==◌, cond, refl, ap, ◌∙◌, arith}
 use Rattle.std.proofs.lemmas.Bool.{lt-ltb, le-ltb, ne_eqb}
-use Rattle.wp_model.specs.declared.log.Damage.TheVariants.{ShortHeader, Zeros, BadLength, BadChecksum, BadTrailer}
+use Rattle.wp_model.specs.declared.log.Damage.TheVariants.{ShortHeader, Zeros, BadLength, BadType, BadChecksum, BadTrailer}
 use Rattle.wp_model.specs.Checksum.{crc32c, masked}
-use Rattle.wp_model.specs.Log.{full}
+use Rattle.wp_model.specs.Log.{Kind}
 use Rattle.wp_model.specs.Reading.{Seen, fragment, nothing, damage, seen_within, are_zeros, checksum_field, length_field, type_field, kind_of_code, checked}
 
 -- the trailer of a block: zeros
@@ -53,14 +53,19 @@ seen_header space bytes many there others =
 abbrev pub decided : List ℕ → Seen
 decided bytes = cond (nat_lt (length bytes) (7 + length_field bytes)) (damage BadLength) (checked bytes (kind_of_code None (type_field bytes)))
 
--- the header of a whole record, whose part is there: its checksum decides
-pub decided_by_checksum : (bytes : List ℕ) (len : ℕ) → length_field bytes ≡ len → 7 + len ≤ length bytes → type_field bytes ≡ 1
-    → decided bytes ≡ cond (checksum_field bytes == masked (crc32c (1 ∷ take len (drop 7 bytes)))) (fragment (record { kind = full; part = take len (drop 7 bytes) })) (damage BadChecksum)
-decided_by_checksum bytes len length_is there is_full =
+-- the header of a fragment whose part is there: its checksum decides
+pub decided_by_checksum : (bytes : List ℕ) (len : ℕ) (kind : Kind) → length_field bytes ≡ len → 7 + len ≤ length bytes → kind_of_code None (type_field bytes) ≡ Some kind
+    → decided bytes ≡ cond (checksum_field bytes == masked (crc32c (type_field bytes ∷ take len (drop 7 bytes)))) (fragment (record { kind = kind; part = take len (drop 7 bytes) })) (damage BadChecksum)
+decided_by_checksum bytes len kind length_is there read =
     let e : nat_lt (length bytes) (7 + length_field bytes) ≡ false = le-ltb (length bytes) (7 + length_field bytes) (omega arith) in
     ap (λ b. cond b (damage BadLength) (checked bytes (kind_of_code None (type_field bytes)))) e
-    ∙ (ap (λ (t : ℕ). checked bytes (kind_of_code None t)) is_full
-    ∙ (ap (λ (t : ℕ). by_sum t (length_field bytes)) is_full ∙ ap (λ (n : ℕ). by_sum 1 n) length_is))
+    ∙ (ap (checked bytes) read ∙ ap by_sum length_is)
   where
-    by_sum : ℕ → ℕ → Seen
-    by_sum t n = cond (checksum_field bytes == masked (crc32c (t ∷ take n (drop 7 bytes)))) (fragment (record { kind = full; part = take n (drop 7 bytes) })) (damage BadChecksum)
+    by_sum : ℕ → Seen
+    by_sum n = cond (checksum_field bytes == masked (crc32c (type_field bytes ∷ take n (drop 7 bytes)))) (fragment (record { kind = kind; part = take n (drop 7 bytes) })) (damage BadChecksum)
+
+-- the header of no kind, whose part would be there
+pub decided_by_type : (bytes : List ℕ) (len : ℕ) → length_field bytes ≡ len → 7 + len ≤ length bytes → kind_of_code None (type_field bytes) ≡ None → decided bytes ≡ damage (BadType (type_field bytes))
+decided_by_type bytes len length_is there read =
+    let e : nat_lt (length bytes) (7 + length_field bytes) ≡ false = le-ltb (length bytes) (7 + length_field bytes) (omega arith) in
+    ap (λ b. cond b (damage BadLength) (checked bytes (kind_of_code None (type_field bytes)))) e ∙ ap (checked bytes) read

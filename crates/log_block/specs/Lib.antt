@@ -1,1 +1,3 @@
 pub mod Fragments
+pub mod Pieces
+pub mod Cutting

@@ -1,11 +1,11 @@
 //! What stands at a place of a block.
 
-ghost use Rattle.std.specs.Prelude.{◌≡◌, ◌+◌, ◌≤◌, length, drop, Option, Some, None, nat_lt, if◌then◌else◌};
+ghost use Rattle.std.specs.Prelude.{◌≡◌, ◌+◌, ◌≤◌, ◌↔◌, IsTrue, length, drop, Option, Some, None, nat_lt, if◌then◌else◌};
 ghost use Rattle.wp_model.specs.Reading as reading;
 ghost use Rattle.wp_model.specs.declared.log.Damage.TheVariants as damages;
 ghost use Rattle.log_block.specs.Fragments.{Tells};
 
-use crate::headers::{BLOCK_LEN, FULL, HEADER_LEN, checksum};
+use crate::headers::{BLOCK_LEN, FULL, HEADER_LEN, LAST, checksum};
 use byteorder::{ByteOrder, LittleEndian};
 use wp_model::Damage;
 
@@ -27,7 +27,7 @@ pub enum Seen {
 /// - Fewer than 7 bytes are there: `ShortHeader`.
 /// - The header is zeros: `Zeros`.
 /// - The part would pass the end of the block or of the file: `BadLength`.
-/// - The type isn't one that is read: `BadType`.
+/// - The type is none of 1 to 4: `BadType`.
 /// - The checksum differs: `BadChecksum`.
 /// - A fragment stands there.
 pub fn read_fragment(block: &[u8], at: usize) -> Seen
@@ -67,7 +67,7 @@ fn read_part(block: &[u8], at: usize) -> Seen
         return Seen::Damage(Damage::BadLength);
     }
     let kind = bytes[6];
-    if kind != FULL {
+    if !is_type(kind) {
         return Seen::Damage(Damage::BadType(kind));
     }
     let part = &bytes[HEADER_LEN..HEADER_LEN + len];
@@ -80,6 +80,13 @@ fn read_part(block: &[u8], at: usize) -> Seen
         start,
         end: start + len,
     }
+}
+
+/// Whether it is the type of a fragment.
+fn is_type(kind: u8) -> bool
+    ensures { IsTrue result ↔ (FULL ≤ kind) × (kind ≤ LAST) }
+{
+    (FULL..=LAST).contains(&kind)
 }
 
 /// Whether each byte is 0.

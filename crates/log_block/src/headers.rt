@@ -18,6 +18,15 @@ pub const MAX_PART_LEN: usize = 32761;
 /// The type of a fragment that is a whole record.
 pub const FULL: u8 = 1;
 
+/// The type of a record's first fragment of several.
+pub const FIRST: u8 = 2;
+
+/// The type of a fragment between a record's first and last.
+pub const MIDDLE: u8 = 3;
+
+/// The type of a record's last fragment of several.
+pub const LAST: u8 = 4;
+
 /// The header of a fragment of this type with this part, which has at most `MAX_PART_LEN` bytes.
 pub fn header(kind: u8, part: &[u8]) -> [u8; 7]
     requires { length part.now ≤ MAX_PART_LEN }

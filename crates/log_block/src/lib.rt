@@ -7,17 +7,25 @@
 //!     +--------------+-------------+-----------+--- ... ---+
 //!
 //! Numbers stand with their low byte first. The length is the part's. The checksum is the masked CRC-32C of
-//! the type byte and the part. The type is 1 for a fragment that is a whole record (FULL). Types 2 to 4, of a
-//! record's first, middle and last fragments, aren't read so far.
+//! the type byte and the part. The type is 1 for a fragment that is a whole record (FULL), and 2, 3 and 4 for the
+//! first, a middle and the last of those that a record is cut into (FIRST, MIDDLE, LAST).
 //!
 //! No fragment begins where fewer than 7 bytes are left of a block. Zeros stand there, the block's trailer.
+//!
+//! Records of 1000, 97270 and 8000 bytes make this log. The first is a FULL fragment. The second is cut into a FIRST of
+//! 31754 bytes, which fills the first block, a MIDDLE of 32761, which fills the second, and a LAST of 32755. Six bytes
+//! are left of the third block, which are zeros, and the third record is a FULL fragment in the fourth.
 #![tactic(auto)]
 
 mod fragments;
 mod headers;
+mod laws;
+mod pieces;
 
 pub use fragments::{Seen, read_fragment};
-pub use headers::{BLOCK_LEN, FULL, HEADER_LEN, MAX_PART_LEN, header};
+pub use headers::{BLOCK_LEN, FIRST, FULL, HEADER_LEN, LAST, MAX_PART_LEN, MIDDLE, header};
+pub use laws::text_by_place;
+pub use pieces::{Fragmenter, Piece};
 
 #[cfg(test)]
 mod tests;

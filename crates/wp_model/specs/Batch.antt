@@ -30,9 +30,9 @@ strings_of (value key v) = key ∷ v ∷ []
 strings_of (log_data blob) = blob ∷ []
 strings_of (single_deletion key) = key ∷ []
 
--- The tags that are read so far. A tag that is left out here is refused by its number.
+-- The tags that are read. A tag that is left out here is refused by its number.
 abbrev pub tags : List ℕ
-tags = 1 ∷ []
+tags = 0 ∷ 1 ∷ 3 ∷ 7 ∷ []
 
 abbrev pub is_tag : ℕ → Bool
 is_tag t = list_any (λ u. u == t) tags

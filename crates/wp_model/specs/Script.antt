@@ -2,7 +2,7 @@
 use Rattle.std.specs.Prelude.{ℕ, ◌+◌, ◌-◌, ◌*◌, ◌^◌, Bool, true, false, not, ◌&&◌, List, [], ◌∷◌, ◌++◌, length, fold, Option, Some, None, Result, Ok, Err, codes, decimal, bytes_eq, nat_lt, nat_le, ◌==◌, if◌then◌else◌, option_map}
 use Rattle.std.specs.List.{list_all, slice_split, enumerate_from}
 use Rattle.wp_model.specs.declared.script.ScriptFault.{ScriptFault}
-use Rattle.wp_model.specs.declared.script.ScriptFault.TheVariants.{Long, Byte, Word, Form, Client, Clients, NoClient}
+use Rattle.wp_model.specs.declared.script.ScriptFault.TheVariants.{Long, Byte, Word, Form, Client, Clients, NoClient, NoSchedule}
 use Rattle.wp_model.specs.Batch.{value}
 use Rattle.wp_model.specs.Calls.{Command, add, commit, get}
 
@@ -175,3 +175,4 @@ fault_word Form = codes "form"
 fault_word Client = codes "client"
 fault_word Clients = codes "clients"
 fault_word NoClient = codes "none"
+fault_word NoSchedule = codes "schedule"

@@ -17,4 +17,6 @@ pub enum ScriptFault {
     Clients,
     /// No client at all.
     NoClient,
+    /// No schedule where one is wanted.
+    NoSchedule,
 }

@@ -1,3 +1,4 @@
 pub mod Alone
 pub mod Legal
 pub mod Stale
+pub mod WholeLogs

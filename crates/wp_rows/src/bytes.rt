@@ -1,8 +1,9 @@
 //! Numbers and write batches as bytes.
 
-ghost use Rattle.std.specs.Prelude.{◌≡◌, [], ◌∷◌, codes};
+ghost use Rattle.std.specs.Prelude.{◌≡◌, [], ◌∷◌, ◌++◌, codes};
+ghost use Rattle.wp_model.specs.declared.batch.BatchError.TheVariants as refused;
 ghost use Rattle.wp_model.specs.Varint.{varint};
-ghost use Rattle.wp_model.specs.Batch.{deletion, single_deletion, log_data, batch, group_record, size_of_batch};
+ghost use Rattle.wp_model.specs.Batch.{deletion, single_deletion, log_data, header, batch, group_record, size_of_batch, IsBatchError};
 ghost use Rattle.wp_model.specs.Text.{hex};
 ghost use Rattle.wp_rows.specs.Examples.{put_a1, put_a2, put_b2};
 
@@ -21,6 +22,11 @@ pub fn batches()
     ensures three_records { hex (batch 1 (put_a1 ∷ put_a2 ∷ deletion (codes "a") ∷ [])) ≡ codes "01000000000000000300000001016101310101610132000161" }
     ensures noted { hex (batch 1 (log_data (codes "x") ∷ put_a1 ∷ [])) ≡ codes "0100000000000000010000000301780101610131" }
     ensures single_deletion { hex (batch 3 (single_deletion (codes "a") ∷ [])) ≡ codes "030000000000000001000000070161" }
+{}
+
+/// A record with a tag that isn't read. The bytes are refused by its number.
+pub fn batch_with_another_tag()
+    ensures { IsBatchError (header 1 1 ++ (2 ∷ 1 ∷ 0x61 ∷ 1 ∷ 0x31 ∷ [])) (refused.Tag 2) }
 {}
 
 /// Sizes of batches.

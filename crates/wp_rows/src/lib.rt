@@ -7,6 +7,7 @@ mod grouping;
 mod histories;
 mod logs;
 mod outcomes;
+mod recoveries;
 mod scripts;
 mod texts;
 
@@ -16,5 +17,6 @@ pub use grouping::{group_of_one, groups_by_options, groups_by_size};
 pub use histories::{flags_of_commits, logs_of_histories, maps_of_batches};
 pub use logs::{end_of_block, log_of_one_batch, long_records, record_of_no_bytes};
 pub use outcomes::{failed_write, one_commit, refused_commit, stale_read};
+pub use recoveries::{empty_log_recovered, two_batches_recovered};
 pub use scripts::{faults_of_scripts, one_script, passed_over_lines};
 pub use texts::{digits_of_bytes, text_of_one_commit, text_of_refused_commit};

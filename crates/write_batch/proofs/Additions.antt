@@ -1,9 +1,9 @@
 -- What an addition makes of a batch.
-use Rattle.std.proofs.Common.{◌≡◌, ℕ, ◌+◌, ◌≤◌, true, List, [], ◌∷◌, ◌++◌, length, take, drop, refl, sym, ◌∙◌, ap, arith, length-append, append_assoc, append-nil}
+use Rattle.std.proofs.Common.{◌≡◌, ℕ, ◌+◌, ◌≤◌, List, [], ◌∷◌, ◌++◌, length, take, drop, refl, sym, ◌∙◌, ap, arith, length-append, append_assoc, append-nil}
 use Rattle.std.proofs.lemmas.Grind.{flat_map-append, common_steps}
 use Rattle.std.proofs.lemmas.List.Sums.{count_by-le-length}
 use Rattle.std.specs.Int.{w32, w64, to_le_bytes}
-use Rattle.wp_model.specs.Batch.{Record, value, is_counted, count_of, header, record_bytes, body, size_of_batch}
+use Rattle.wp_model.specs.Batch.{Record, value, deletion, single_deletion, log_data, is_counted, count_of, header, record_bytes, body, size_of_batch}
 use Rattle.write_batch.specs.Contents.{IsBatch}
 use Rattle.write_batch.specs.OneBatch.{same_records}
 
@@ -16,13 +16,16 @@ records_are bytes sequence count h records count_is bytes_are =
 pub body-added : (records : List Record) (r : Record) → body (records ++ r ∷ []) ≡ body records ++ record_bytes r
 body-added records r = flat_map-append record_bytes records (r ∷ []) ∙ ap (λ (l : List ℕ). body records ++ l) (append-nil (record_bytes r))
 
--- The count with one record more that counts.
-pub count_of-added : (records : List Record) (k v : List ℕ) → count_of (records ++ value k v ∷ []) ≡ count_of records + 1
-count_of-added records k v = grind (arith, common_steps)
+-- The count with one record more.
+pub count_of-added : (records : List Record) (r : Record) → count_of (records ++ r ∷ []) ≡ count_of records + count_of (r ∷ [])
+count_of-added records r = grind (arith, common_steps)
 
--- The same for any record that counts.
-pub count_of-counted : (records : List Record) (r : Record) → is_counted r ≡ true → count_of (records ++ r ∷ []) ≡ count_of records + 1
-count_of-counted records r counts = grind (arith, common_steps, counts)
+-- A record counts once at most.
+pub counts_once : (r : Record) → count_of (r ∷ []) ≤ 1
+counts_once (value k v) = omega arith
+counts_once (deletion k) = omega arith
+counts_once (single_deletion k) = omega arith
+counts_once (log_data k) = omega arith
 
 -- Each record has a byte at least, so there are no more records than bytes.
 pub few_records : (records : List Record) → length records ≤ length (body records)
@@ -47,12 +50,12 @@ small_count bytes s n h =
     omega (arith, h.count_is, count_by-le-length is_counted h.records, few_records h.records, h.fits, ap length h.bytes_are, length-append (header s n) (body h.records))
 
 -- The record behind the old bytes and then the new count in the header make the batch with one addition more.
-pub added_bytes : (old more now : List ℕ) (s n : ℕ) (records : List Record) (r : Record) → old ≡ header s n ++ body records → more ≡ old ++ record_bytes r
-    → now ≡ take 8 more ++ to_le_bytes w32 (n + 1) ++ drop (8 + length (to_le_bytes w32 (n + 1))) more → now ≡ header s (n + 1) ++ body (records ++ r ∷ [])
-added_bytes old more now s n records r is_old is_more is_now =
+pub added_bytes : (old more now : List ℕ) (s n m : ℕ) (records : List Record) (r : Record) → old ≡ header s n ++ body records → more ≡ old ++ record_bytes r
+    → now ≡ take 8 more ++ to_le_bytes w32 m ++ drop (8 + length (to_le_bytes w32 m)) more → now ≡ header s m ++ body (records ++ r ∷ [])
+added_bytes old more now s n m records r is_old is_more is_now =
     let behind : more ≡ header s n ++ (body records ++ record_bytes r) =
     is_more ∙ ap (λ (l : List ℕ). l ++ record_bytes r) is_old ∙ append_assoc (header s n) (body records) (record_bytes r) in
-    is_now ∙ count_set more s n (n + 1) (body records ++ record_bytes r) behind ∙ ap (λ (l : List ℕ). header s (n + 1) ++ l) (sym (body-added records r))
+    is_now ∙ count_set more s n m (body records ++ record_bytes r) behind ∙ ap (λ (l : List ℕ). header s m ++ l) (sym (body-added records r))
 
 -- The batch with one addition more has the bytes of the old one and those of the record.
 pub added_fits : (now : List ℕ) (s n limit : ℕ) (records : List Record) (r : Record) → now ≡ header s n ++ body (records ++ r ∷ []) → size_of_batch records + length (record_bytes r) ≤ limit

@@ -2,3 +2,4 @@ pub mod Additions
 pub mod OneRecord
 pub mod OneReading
 pub mod OneAnswer
+pub mod OwnRecords

@@ -1,14 +1,11 @@
 -- Bytes are one list of records or break off with one error, and not both.
-use Rattle.std.proofs.Common.{◌≡◌, ℕ, ◌+◌, ◌<◌, true, List, [], ◌∷◌, ◌++◌, refl, sym, ◌∙◌, ap, arith, append_assoc, append-nil, length}
+use Rattle.std.proofs.Common.{◌≡◌, ℕ, ◌+◌, ◌<◌, List, [], ◌∷◌, ◌++◌, refl, sym, ◌∙◌, ap, arith, append_assoc, append-nil, length}
 use Rattle.std.specs.List.{AllByRecursion}
 use Rattle.wp_model.specs.declared.batch.BatchError.{BatchError}
-use Rattle.wp_model.specs.Batch.{Record, is_counted, count_of, record_bytes, body, IsReadable, NoRecord}
+use Rattle.wp_model.specs.Batch.{Record, count_of, record_bytes, body, IsReadable, NoRecord}
 use Rattle.wp_coding.proofs.Records.{one_record, one_read}
-use Rattle.write_batch.specs.declared.record_view.RecordView.{RecordView}
-use Rattle.write_batch.specs.declared.record_view.RecordView.TheVariants as view
 use Rattle.write_batch.specs.Body.{IsBody}
-use Rattle.write_batch.specs.View.{record_of}
-use Rattle.write_batch.proofs.Additions.{body-added, count_of-counted}
+use Rattle.write_batch.proofs.Additions.{body-added, count_of-added}
 use Rattle.write_batch.proofs.OneRecord.{no_record_error}
 
 -- no record that is read begins the bytes
@@ -74,18 +71,13 @@ pub record Walks (bytes rest : List ℕ) (found : ℕ) : Type 0 where
   pub counted : found ≡ count_of records
 
 -- One record more.
-pub walks_more : (bytes rest : List ℕ) (found : ℕ) (v : RecordView) (behind : List ℕ) → Walks bytes rest found → IsReadable (record_of v) → rest ≡ record_bytes (record_of v) ++ behind → Walks bytes behind (found + 1)
-walks_more bytes rest found v behind walks readable first =
-    let r = record_of v in
-    let counts : is_counted r ≡ true = counted_view v in
-    record {
-      records = walks.records ++ r ∷ [];
-      readable = all_more IsReadable walks.records r walks.readable readable;
-      spelled = walks.spelled ∙ ap (λ (l : List ℕ). body walks.records ++ l) first ∙ sym (append_assoc (body walks.records) (record_bytes r) behind) ∙ ap (λ (l : List ℕ). l ++ behind) (sym (body-added walks.records r));
-      counted = ap (λ n. n + 1) walks.counted ∙ sym (count_of-counted walks.records r counts);
-    } where
-      counted_view : (v : RecordView) → is_counted (record_of v) ≡ true
-      counted_view (view.Value k w) = refl
+pub walks_more : (bytes rest : List ℕ) (found : ℕ) (r : Record) (behind : List ℕ) → Walks bytes rest found → IsReadable r → rest ≡ record_bytes r ++ behind → Walks bytes behind (found + count_of (r ∷ []))
+walks_more bytes rest found r behind walks readable first = record {
+  records = walks.records ++ r ∷ [];
+  readable = all_more IsReadable walks.records r walks.readable readable;
+  spelled = walks.spelled ∙ ap (λ (l : List ℕ). body walks.records ++ l) first ∙ sym (append_assoc (body walks.records) (record_bytes r) behind) ∙ ap (λ (l : List ℕ). l ++ behind) (sym (body-added walks.records r));
+  counted = ap (λ n. n + count_of (r ∷ [])) walks.counted ∙ sym (count_of-added walks.records r);
+}
 
 -- At the end the bytes are the records.
 pub walked_all : (bytes rest : List ℕ) (found : ℕ) → Walks bytes rest found → length rest ≡ 0 → (h : IsBody bytes) × (found ≡ count_of h.records)

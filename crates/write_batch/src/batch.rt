@@ -1,12 +1,14 @@
 //! A batch of additions.
 
-ghost use Rattle.std.specs.Prelude.{◌≡◌, ◌<◌, ◌≤◌, ◌^◌, ◌-◌, min, IfOk, OnOk, OnErr, IsOkUnless};
+ghost use Rattle.std.specs.Prelude.{◌≡◌, ◌<◌, ◌≤◌, ◌^◌, ◌-◌, length, min, IfOk, OnOk, OnErr, IsOkUnless};
 ghost use Rattle.wp_model.specs.Batch as model;
 ghost use Rattle.write_batch.specs.Contents.{IsBatch, empty, added, size_with};
 ghost use Rattle.write_batch.specs.OneBatch.{IsBatch-prop};
+ghost use Rattle.write_batch.specs.View.{record_of};
 
-use crate::AddError;
-use crate::record_bytes::{append_value, size_with_value};
+use crate::record_bytes::{append_record, size_with_record};
+use crate::record_view::sequences_of;
+use crate::{AddError, RecordView, Records};
 use std::alloc::Global;
 use std::marker::Model;
 use wp_coding::Bytes;
@@ -64,16 +66,60 @@ impl Batch {
             MAX_SIZE < size → result ≡ Err (AddError.TooLarge (min size (2 ^ 64 - 1))) }
         ensures fits { size_with self.old (model.value key.now value.now) ≤ MAX_SIZE → IsOkUnless result AddError.NoMemory }
     {
-        let size = size_with_value(self.size(), key, value);
+        self.add(RecordView::Value { key, value })
+    }
+
+    /// Adds a deletion of a key. Refused as [`Batch::put`] is.
+    pub fn delete(&mut self, key: &[u8]) -> Result<(), AddError>
+        ensures ok { OnOk result (self.new ≡ added self.old (model.deletion key.now)) }
+        ensures err { OnErr result (self.new ≡ self.old) }
+        ensures too_large { let size = size_with self.old (model.deletion key.now) in
+            MAX_SIZE < size → result ≡ Err (AddError.TooLarge (min size (2 ^ 64 - 1))) }
+        ensures fits { size_with self.old (model.deletion key.now) ≤ MAX_SIZE → IsOkUnless result AddError.NoMemory }
+    {
+        self.add(RecordView::Deletion { key })
+    }
+
+    /// Adds a single deletion of a key. Refused as [`Batch::put`] is.
+    pub fn single_delete(&mut self, key: &[u8]) -> Result<(), AddError>
+        ensures ok { OnOk result (self.new ≡ added self.old (model.single_deletion key.now)) }
+        ensures err { OnErr result (self.new ≡ self.old) }
+        ensures too_large { let size = size_with self.old (model.single_deletion key.now) in
+            MAX_SIZE < size → result ≡ Err (AddError.TooLarge (min size (2 ^ 64 - 1))) }
+        ensures fits { size_with self.old (model.single_deletion key.now) ≤ MAX_SIZE → IsOkUnless result AddError.NoMemory }
+    {
+        self.add(RecordView::SingleDeletion { key })
+    }
+
+    /// Adds log data, which isn't counted and takes no sequence. Refused as [`Batch::put`] is.
+    pub fn log_data(&mut self, blob: &[u8]) -> Result<(), AddError>
+        ensures ok { OnOk result (self.new ≡ added self.old (model.log_data blob.now)) }
+        ensures err { OnErr result (self.new ≡ self.old) }
+        ensures too_large { let size = size_with self.old (model.log_data blob.now) in
+            MAX_SIZE < size → result ≡ Err (AddError.TooLarge (min size (2 ^ 64 - 1))) }
+        ensures fits { size_with self.old (model.log_data blob.now) ≤ MAX_SIZE → IsOkUnless result AddError.NoMemory }
+    {
+        self.add(RecordView::LogData { blob })
+    }
+
+    /// Adds a record behind the others.
+    fn add(&mut self, view: RecordView<'_>) -> Result<(), AddError>
+        ensures ok { OnOk result (self.new ≡ added self.old (record_of view.entry)) }
+        ensures err { OnErr result (self.new ≡ self.old) }
+        ensures too_large { let size = size_with self.old (record_of view.entry) in
+            MAX_SIZE < size → result ≡ Err (AddError.TooLarge (min size (2 ^ 64 - 1))) }
+        ensures fits { size_with self.old (record_of view.entry) ≤ MAX_SIZE → IsOkUnless result AddError.NoMemory }
+    {
+        let size = size_with_record(self.size(), view);
         if size > MAX_SIZE {
             return Err(AddError::TooLarge { size });
         }
         let len = self.bytes.len();
-        if append_value(&mut self.bytes, key, value).is_err() {
+        if append_record(&mut self.bytes, view).is_err() {
             self.bytes.truncate(len);
             return Err(AddError::NoMemory);
         }
-        self.count += 1;
+        self.count += sequences_of(view);
         self.bytes.overwrite(COUNT_AT, &self.count.to_le_bytes());
         Ok(())
     }
@@ -123,5 +169,13 @@ impl Batch {
         ensures { result.now ≡ model.batch self.now.sequence self.now.records }
     {
         self.bytes.as_slice()
+    }
+
+    /// The additions in order, as parts of its bytes.
+    pub fn records(&self) -> Records<'_>
+        ensures value { result ≡ self.now.records }
+        ensures bound { length result < 2 ^ 64 }
+    {
+        Records::of_body(&self.bytes.as_slice()[HEADER_LEN..])
     }
 }

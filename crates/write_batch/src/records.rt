@@ -7,6 +7,7 @@ ghost use Rattle.write_batch.specs.Body.{IsBody};
 ghost use Rattle.write_batch.specs.OneBody.{IsBody-prop};
 
 use crate::RecordView;
+use crate::record_view::sequences_of;
 use crate::split::split_record;
 use std::marker::Model;
 use wp_model::BatchError;
@@ -54,6 +55,16 @@ impl<'a> Iterator for Records<'a> {
 }
 
 impl<'a> Records<'a> {
+    /// Those that bytes are.
+    pub(crate) fn of_body(bytes: &'a [u8]) -> Records<'a>
+        requires { IsBody bytes.now }
+        ensures spelled { bytes.now ≡ model.body result }
+        ensures readable { AllByRecursion model.IsReadable result }
+        ensures bound { length result < 2 ^ 64 }
+    {
+        Records { rest: bytes }
+    }
+
     /// The same records from the same place on.
     pub(crate) fn again(&self) -> Records<'a>
         ensures same { result ≡ self.now }
@@ -84,8 +95,8 @@ fn count_records(bytes: &[u8]) -> Result<u64, BatchError>
     let mut rest = bytes;
     let mut found = 0;
     while !rest.is_empty() {
-        let (_, behind) = split_record(rest)?;
-        found += 1;
+        let (record, behind) = split_record(rest)?;
+        found += u64::from(sequences_of(record));
         rest = behind;
     }
     Ok(found)

@@ -5,7 +5,7 @@ ghost use Rattle.wp_model.specs.Batch as model;
 ghost use Rattle.write_batch.specs.View.{record_of};
 
 use crate::RecordView;
-use crate::record_bytes::VALUE;
+use crate::record_bytes::{DELETION, LOG_DATA, SINGLE_DELETION, VALUE};
 use wp_coding::get_varint32;
 use wp_model::{BatchError, CodeError};
 
@@ -31,11 +31,24 @@ pub fn split_record(bytes: &[u8]) -> Result<(RecordView<'_>, &[u8]), BatchError>
     ensures readable { IfOk result (λ p. model.IsReadable (record_of p.0)) }
     ensures err { IfErr result (model.NoRecord bytes.now) }
 {
+    let strings = &bytes[1..];
     match bytes[0] {
+        DELETION => {
+            let (key, rest) = split_varstring(strings)?;
+            Ok((RecordView::Deletion { key }, rest))
+        }
         VALUE => {
-            let (key, behind) = split_varstring(&bytes[1..])?;
+            let (key, behind) = split_varstring(strings)?;
             let (value, rest) = split_varstring(behind)?;
             Ok((RecordView::Value { key, value }, rest))
+        }
+        LOG_DATA => {
+            let (blob, rest) = split_varstring(strings)?;
+            Ok((RecordView::LogData { blob }, rest))
+        }
+        SINGLE_DELETION => {
+            let (key, rest) = split_varstring(strings)?;
+            Ok((RecordView::SingleDeletion { key }, rest))
         }
         tag => Err(BatchError::Tag(tag)),
     }

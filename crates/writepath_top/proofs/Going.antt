@@ -1,8 +1,10 @@
 -- A client on its way through its commands.
 use Rattle.std.specs.Prelude.{⊤}
-use Rattle.std.proofs.Common.{◌≡◌, ℕ, ◌+◌, ◌*◌, ◌≤◌, false, List, [], ◌∷◌, ◌++◌, map, Option, Some, None, IfSome, refl}
+use Rattle.std.proofs.Common.{◌≡◌, ℕ, ◌+◌, ◌*◌, ◌≤◌, false, List, [], ◌∷◌, ◌++◌, length, map, Option, Some, None, IfSome, refl}
 use Rattle.std.specs.List.{AllByRecursion, AllZip}
 use Rattle.wp_edge.specs.Disk.{Disk, Told}
+use Rattle.wp_edge.specs.declared.disk.Disk.{Ghosts}
+use Rattle.log_writer.specs.Words.{disk_of, fault_of}
 use Rattle.wp_model.specs.History as history
 use Rattle.wp_model.specs.History.{IsBoundary, last_sequence}
 use Rattle.wp_model.specs.Batch.{Record, size_of_batch}
@@ -11,13 +13,15 @@ use Rattle.wp_model.specs.Groups.{IsFate, AreFates}
 use Rattle.wp_model.specs.Progress.{Progress, fresh}
 use Rattle.wp_model.specs.Runs.{Run, commands_of}
 use Rattle.wp_model.specs.Calls.{Call}
-use Rattle.writepath_top.specs.declared.script.Command.{Command}
+use Rattle.client_script.specs.declared.script.Command.{Command}
 use Rattle.writepath_top.specs.declared.outcome.Reply.{Reply}
 use Rattle.writepath_top.specs.declared.write_path.WritePath.{WritePath}
-use Rattle.writepath_top.specs.Scripts.{command_of, lines_len}
+use Rattle.client_script.specs.Scripts.{command_of, lines_len}
 use Rattle.writepath_top.specs.Shows.{ShowsReply}
-use Rattle.writepath_top.specs.Logs.{IsReached}
+use Rattle.writepath_top.specs.Texts.{IsReached}
+use Rattle.writepath_top.specs.Crashes.{HoldsLog}
 use Rattle.writepath_top.specs.Clients.{Holds, home_of, story_of, TellsOn}
+use Rattle.writepath_top.specs.Refusals.{OnlyEmptyIsRefused}
 use Rattle.writepath_top.proofs.Histories.{boundary_more}
 
 -- Fates
@@ -94,28 +98,27 @@ tells_on_more R (Some x) (Some y) (Some z) on told = tt
 abbrev pub place : List Record → List history.Entry → List Handling → ℕ → Progress
 place pending mine handled least = record { pending = pending; mine = mine; asked = []; handled = handled; least = least; known = 0 }
 
--- what a batch with an addition has cost less than its lines have bytes
-abbrev pub spare : List Record → ℕ
-spare [] = 0
-spare (r ∷ records) = 39
-
--- at most eight bytes of log and batch for five of the script: that is within a block for a script of 16,384 bytes
-abbrev pub IsSmall : ℕ → List Record → ℕ → Type 0
-IsSmall logged pending lines = 5 * (logged + size_of_batch pending) + spare pending ≤ 60 + 8 * lines
+-- an addition costs at most two bytes for one of the script
+abbrev pub IsSmall : List Record → ℕ → Type 0
+IsSmall pending lines = size_of_batch pending ≤ 12 + 2 * lines
 
 -- these commands were answered so, and brought it here
-pub record Going {D : Type 0} (told : D → Option Disk) (faults : D → ℕ) (old path : WritePath D) (done : List Command) (replies : List Reply) (pending : List Record) : Type 0 where
+pub record Going {D : Type 0} {ghosts : Ghosts D} (old path : WritePath D ghosts) (done : List Command) (replies : List Reply) (pending : List Record) : Type 0 where
   pub entries : List history.Entry
   pub handled : List Handling
   pub least : ℕ
   pub calls : List Call
-  pub holds : Holds told path entries
+  pub holds : Holds path entries
+  pub content : IfSome (ghosts.told (disk_of path.log)) (λ d. HoldsLog entries handled (fault_of path.log) d.content)
   pub run : (opened : ℕ) → Run (home_of opened) (story_of entries) 1 fresh calls (place pending entries handled least)
   pub commands : commands_of calls ≡ map command_of done
   pub shown : AllZip ShowsReply replies calls
   pub below : least ≤ last_sequence 0 entries
-  pub fine : AreFine entries path.log.fault handled
-  pub fault : IfSome path.log.fault (λ count. IsReached (faults old.log.disk) count (faults path.log.disk))
-  pub later : faults old.log.disk ≤ faults path.log.disk
-  pub tells_on : TellsOn (told old.log.disk) (told path.log.disk)
-  pub small : IsSmall path.log.len pending (lines_len done)
+  pub fine : AreFine entries (fault_of path.log) handled
+  pub fault : IfSome (fault_of path.log) (λ count. IsReached (ghosts.faults (disk_of old.log)) count (ghosts.faults (disk_of path.log)))
+  pub later : ghosts.faults (disk_of old.log) ≤ ghosts.faults (disk_of path.log)
+  pub tells_on : TellsOn (ghosts.told (disk_of old.log)) (ghosts.told (disk_of path.log))
+  pub small : IsSmall pending (lines_len done)
+  -- each record has a line of its own, so sequences never run out
+  pub few : last_sequence 0 entries + length pending ≤ lines_len done
+  pub taken : fault_of path.log ≡ None → OnlyEmptyIsRefused calls

@@ -1,9 +1,11 @@
 -- A client's run is a legal outcome.
-use Rattle.std.proofs.Common.{◌≡◌, ℕ, zero, suc, ◌+◌, ◌<◌, ◌≤◌, true, ◌==◌, List, [], ◌∷◌, length, map, Option, Some, None, IfSome, slice_get, get_or, Vec, refl, ap, sym, ◌∙◌, subst, arith}
+use Rattle.std.proofs.Common.{◌≡◌, ℕ, zero, suc, ◌+◌, ◌<◌, ◌≤◌, true, ◌==◌, List, [], ◌∷◌, length, take, map, Option, Some, None, IfSome, slice_get, get_or, Vec, refl, ap, sym, ◌∙◌, subst, arith}
 use Rattle.std.specs.List.{AllByRecursion, AllZip, flat_map}
 use Rattle.std.proofs.lemmas.List.{take_all}
+use Rattle.std.proofs.Math.Seq.{take-append_seam}
 use Rattle.std.specs.declared.alloc.Global.{Global}
-use Rattle.wp_edge.specs.Disk.{Disk, Told}
+use Rattle.wp_edge.specs.Disk.{Disk, Told, IsImage}
+use Rattle.wp_edge.specs.declared.disk.Disk.{Ghosts}
 use Rattle.wp_model.specs.declared.history.Flag.TheVariants as flag
 use Rattle.wp_model.specs.Counts.{Rose}
 use Rattle.wp_model.specs.History as history
@@ -11,14 +13,17 @@ use Rattle.wp_model.specs.History.{logged, is_logged, map_of, last_sequence, Run
 use Rattle.wp_model.specs.Handled.{Handling}
 use Rattle.wp_model.specs.Outcomes.{own, IsLegalTranscript}
 use Rattle.wp_model.specs.Calls as calls
-use Rattle.writepath_top.specs.declared.script.Command.{Command}
+use Rattle.client_script.specs.declared.script.Command.{Command}
+use Rattle.log_writer.specs.Words.{disk_of, fault_of}
 use Rattle.writepath_top.specs.declared.outcome.Reply.{Reply}
 use Rattle.writepath_top.specs.declared.write_path.WritePath.{WritePath}
-use Rattle.writepath_top.specs.Scripts.{command_of}
+use Rattle.client_script.specs.Scripts.{command_of}
 use Rattle.writepath_top.specs.Texts.{IsReached}
+use Rattle.writepath_top.specs.Crashes.{alone, HoldsLog}
 use Rattle.writepath_top.specs.Clients.{home_of, story_of, log_of, TellsOn, Ran}
-use Rattle.writepath_top.specs.Running.{setting_of, IsLegalOf, LeavesLog, HasRun, outcome_of}
+use Rattle.writepath_top.specs.Running.{setting_of, IsLegalOf, LeavesLog, LeavesSafeLog, HasRun, outcome_of}
 use Rattle.writepath_top.specs.Shows.{ShowsReplies, ShowsOutcome}
+use Rattle.writepath_top.proofs.Crashed.{crash_safe}
 
 -- a client's own entries are all, where there is no other
 own_all : (entries : List history.Entry) → AllByRecursion (λ (e : history.Entry). e.client ≡ 1) entries → own 1 entries ≡ entries
@@ -52,6 +57,11 @@ runs_follow : (entries : List history.Entry) → AllByRecursion RunsFollow (map 
 runs_follow [] = tt
 runs_follow (e ∷ entries) = (tt, runs_follow entries)
 
+-- up to the end of the records' text the content is that text, whatever a fault has left behind it
+front_is : (entries : List history.Entry) (commits : List Handling) (fault : Option ℕ) (content : List ℕ) → HoldsLog entries commits fault content → take (length (log_of entries)) content ≡ log_of entries
+front_is entries commits None content holds = take_all (length (log_of entries)) content (omega (arith, ap length holds)) ∙ holds
+front_is entries commits (Some count) content holds = ap (take (length (log_of entries))) holds.2.content_is ∙ take-append_seam (log_of entries) _
+
 -- a script of one client
 pub one_client : (xs : List (Vec Command Global)) (x : Vec Command Global) → length xs ≡ 1 → x ≡ get_or xs 0 x → map (λ (cs : Vec Command Global). map command_of cs.items) xs ≡ map command_of x.items ∷ []
 one_client [] x one is = absurd (omega (arith, one))
@@ -75,7 +85,7 @@ fault_earlier : (fault : Option ℕ) (a b c : ℕ) → a ≤ b → IfSome fault 
 fault_earlier None a b c le reached = tt
 fault_earlier (Some count) a b c le reached = (rose_earlier a b count le reached.0, reached.1)
 
-module _ {D : Type 0} (told : D → Option Disk) (faults : D → ℕ) (old new : WritePath D) (commands : List Command) (replies : List Reply) (ran : Ran told faults old new commands replies) where
+module _ {D : Type 0} {ghosts : Ghosts D} (old new : WritePath D ghosts) (commands : List Command) (replies : List Reply) (ran : Ran old new commands replies) where
   -- the outcome that the write path and the replies show
   abbrev pub outcome : calls.Outcome
   outcome = record {
@@ -84,10 +94,10 @@ module _ {D : Type 0} (told : D → Option Disk) (faults : D → ℕ) (old new :
     last = last_sequence 0 ran.entries;
     state = map_of ran.entries;
     log_len = length (log_of ran.entries);
-    fault = new.log.fault;
+    fault = fault_of new.log;
   }
 
-  transcript : (opened : ℕ) → IsLegalTranscript (home_of opened) (story_of ran.entries) [] new.log.fault 1 (map command_of commands) ran.calls ran.end.handled
+  transcript : (opened : ℕ) → IsLegalTranscript (home_of opened) (story_of ran.entries) [] (fault_of new.log) 1 (map command_of commands) ran.calls ran.end.handled
   transcript opened = record {
     end = ran.end;
     is_transcript = ran.transcript opened;
@@ -97,8 +107,8 @@ module _ {D : Type 0} (told : D → Option Disk) (faults : D → ℕ) (old new :
     fates = ran.fates;
   }
 
-  pub legal : (opened : ℕ) → opened ≤ faults old.log.disk → IsLegalOf (setting_of (map command_of commands ∷ []) opened (faults new.log.disk)) outcome
-  legal opened le = record {
+  pub legal : (left : List ℕ → Type 0) (opened : ℕ) → opened ≤ ghosts.faults (disk_of old.log) → IsLegalOf (setting_of (map command_of commands ∷ []) opened (ghosts.faults (disk_of new.log)) left) outcome
+  legal left opened le = record {
     story = story_of ran.entries;
     handled = ran.end.handled ∷ [];
     legal = record {
@@ -109,34 +119,42 @@ module _ {D : Type 0} (told : D → Option Disk) (faults : D → ℕ) (old new :
       count_handled = refl;
       groups = [];
       are_groups = record { each = tt; all = tt; places = tt; commits = tt; apart = tt };
-      each = each_one (IsLegalTranscript (home_of opened) (story_of ran.entries) [] new.log.fault) (map command_of commands) ran.calls ran.end.handled (transcript opened);
+      each = each_one (IsLegalTranscript (home_of opened) (story_of ran.entries) [] (fault_of new.log)) (map command_of commands) ran.calls ran.end.handled (transcript opened);
       last = refl;
       state = refl;
-      fault = fault_earlier new.log.fault opened (faults old.log.disk) (faults new.log.disk) le ran.fault;
+      fault = fault_earlier (fault_of new.log) opened (ghosts.faults (disk_of old.log)) (ghosts.faults (disk_of new.log)) le ran.fault;
     };
   }
 
   -- the log holds each batch as a group of its own
-  pub leaves : (opened ended : Disk) → opened.content ≡ [] → ended.content ≡ log_of ran.entries → LeavesLog outcome opened ended
-  leaves opened ended empty content = record {
+  leaves_log : (opened ended : Disk) → opened.content ≡ [] → HoldsLog ran.entries ran.end.handled (fault_of new.log) ended.content → LeavesLog outcome opened ended
+  leaves_log opened ended empty holds = record {
     found_empty = empty;
-    groups = map (λ (e : history.Entry). e ∷ []) ran.entries;
+    groups = alone ran.entries;
     log = record {
       of_history = record { cut = logged_all ran.entries ran.holds.logged ∙ sym (joined ran.entries); none_empty = none_empty ran.entries; runs = runs_follow ran.entries };
-      content_is = take_all (length (log_of ran.entries)) ended.content (omega (arith, ap length content)) ∙ content;
+      content_is = front_is ran.entries ran.end.handled (fault_of new.log) ended.content holds;
       length_is = refl;
     };
   }
 
+  -- and a crash leaves a prefix of them
+  pub leaves : (left : List ℕ → Type 0) (opened ended : Disk) → opened.content ≡ [] → HoldsLog ran.entries ran.end.handled (fault_of new.log) ended.content → LeavesSafeLog left (ran.end.handled ∷ []) outcome opened ended
+  unfolding leaves_log
+  leaves left opened ended empty holds = record {
+    log = leaves_log opened ended empty holds;
+    crash = crash_safe outcome ran.entries ran.end.handled ended.content refl ran.holds.logged holds left (IsImage ended);
+  }
+
   -- where the disk tells its content before and after
-  pub leaves_told : (before : Option Disk) → told old.log.disk ≡ before → IfSome before (λ d. d.content ≡ []) → Told before (told new.log.disk) (LeavesLog outcome)
-  leaves_told before same empty = by_told before (told new.log.disk) empty (subst (λ d. TellsOn d (told new.log.disk)) same ran.tells_on) ran.holds.content
+  pub leaves_told : (left : List ℕ → Type 0) (before : Option Disk) → ghosts.told (disk_of old.log) ≡ before → IfSome before (λ d. d.content ≡ []) → Told before (ghosts.told (disk_of new.log)) (LeavesSafeLog left (ran.end.handled ∷ []) outcome)
+  leaves_told left before same empty = by_told before (ghosts.told (disk_of new.log)) empty (subst (λ d. TellsOn d (ghosts.told (disk_of new.log))) same ran.tells_on) ran.content
     where
-      by_told : (a c : Option Disk) → IfSome a (λ d. d.content ≡ []) → TellsOn a c → IfSome c (λ d. d.content ≡ log_of ran.entries) → Told a c (LeavesLog outcome)
-      by_told None None empty on content = tt
-      by_told None (Some y) empty on content = absurd on
-      by_told (Some x) None empty on content = absurd on
-      by_told (Some x) (Some y) empty on content = leaves x y empty content
+      by_told : (a c : Option Disk) → IfSome a (λ d. d.content ≡ []) → TellsOn a c → IfSome c (λ d. HoldsLog ran.entries ran.end.handled (fault_of new.log) d.content) → Told a c (LeavesSafeLog left (ran.end.handled ∷ []) outcome)
+      by_told None None empty on holds = tt
+      by_told None (Some y) empty on holds = absurd on
+      by_told (Some x) None empty on holds = absurd on
+      by_told (Some x) (Some y) empty on holds = leaves left x y empty holds
 
   -- what the values show
   pub shows : (transcripts : Vec (Vec Reply Global) Global) (v : Vec Reply Global) → transcripts.items ≡ v ∷ [] → v.items ≡ replies → ShowsOutcome (outcome_of new transcripts) outcome
@@ -149,12 +167,15 @@ module _ {D : Type 0} (told : D → Option Disk) (faults : D → ℕ) (old new :
     fault = refl;
   }
 
-  pub has_run : (script : List (List calls.Command)) (before : Option Disk) (opened : ℕ) (transcripts : Vec (Vec Reply Global) Global) (v : Vec Reply Global) → script ≡ map command_of commands ∷ []
-      → told old.log.disk ≡ before → IfSome before (λ d. d.content ≡ []) → opened ≤ faults old.log.disk → transcripts.items ≡ v ∷ [] → v.items ≡ replies
-      → HasRun (setting_of script opened (faults new.log.disk)) before (told new.log.disk) (outcome_of new transcripts)
-  has_run script before opened transcripts v one same empty le said shown = record {
-    outcome = outcome;
-    shows = shows transcripts v said shown;
-    legal = subst (λ sc. IsLegalOf (setting_of sc opened (faults new.log.disk)) outcome) (sym one) (legal opened le);
-    log = leaves_told before same empty;
-  }
+  pub has_run : (script : List (List calls.Command)) (before : Option Disk) (opened : ℕ) (left : List ℕ → Type 0) (transcripts : Vec (Vec Reply Global) Global) (v : Vec Reply Global) → script ≡ map command_of commands ∷ []
+      → ghosts.told (disk_of old.log) ≡ before → IfSome before (λ d. d.content ≡ []) → opened ≤ ghosts.faults (disk_of old.log) → transcripts.items ≡ v ∷ [] → v.items ≡ replies
+      → HasRun (setting_of script opened (ghosts.faults (disk_of new.log)) left) before (ghosts.told (disk_of new.log)) (outcome_of new transcripts)
+  unfolding legal
+  has_run script before opened left transcripts v one same empty le said shown =
+      subst (λ sc. HasRun (setting_of sc opened (ghosts.faults (disk_of new.log)) left) before (ghosts.told (disk_of new.log)) (outcome_of new transcripts)) (sym one) (record {
+        outcome = outcome;
+        shows = shows transcripts v said shown;
+        legal = legal left opened le;
+        taken = λ none. (ran.taken none, tt);
+        log = leaves_told left before same empty;
+      })

@@ -1,6 +1,3 @@
-pub mod ScriptParts
-pub mod ScriptNumbers
-pub mod ScriptReading
 mod Finding
 mod Searching
 mod Words
@@ -15,19 +12,10 @@ mod Budget
 mod Steps
 mod Finished
 mod Loops
+mod Crashed
 mod Legal
 mod Refusing
 mod Endings
 mod OneClient
 mod WholeTexts
 mod Recoveries
-mod LogSeen
-mod LogPlaced
-mod LogNext
-mod LogKept
-mod LogEnds
-mod LogBlocks
-mod LogKeeping
-mod LogWalk
-mod LogReading
-mod LogRecover

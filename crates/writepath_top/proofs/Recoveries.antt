@@ -2,12 +2,12 @@
 use Rattle.std.proofs.Common.{◌≡◌, ⊎_elim, ℕ, List, Option, Some, Result, Ok, Err, ap, ◌∙◌, arith}
 use Rattle.std.specs.Prelude.{IfErr}
 use Rattle.wp_edge.specs.Disk.{Disk}
-use Rattle.writepath_top.specs.declared.recovery.Recovered.{Recovered}
-use Rattle.writepath_top.specs.declared.recovery.RecoverError.{RecoverError}
-use Rattle.writepath_top.specs.declared.recovery.RecoverError.TheVariants as none
+use Rattle.wal_recover.specs.declared.recovery.Recovered.{Recovered}
+use Rattle.wal_recover.specs.declared.recovery.RecoverError.{RecoverError}
+use Rattle.wal_recover.specs.declared.recovery.RecoverError.TheVariants as none
 use Rattle.writepath_top.specs.declared.telling.Status.{Status}
 use Rattle.writepath_top.specs.declared.telling.Status.TheVariants as status
-use Rattle.writepath_top.specs.Recovering.{IsRecoverError}
+use Rattle.wal_recover.specs.Recovering.{IsRecoverError}
 use Rattle.writepath_top.specs.Recovers.{TellsDisk, RecoveryRefused}
 use Rattle.writepath_top.specs.Telling.{code, TellsRecovery}
 use Rattle.writepath_top.proofs.Endings.{refused_as}

@@ -5,9 +5,9 @@ use Rattle.std.proofs.lemmas.List.{length-map}
 use Rattle.std.proofs.lemmas.List.Folds.{flat_map-map}
 use Rattle.wp_model.specs.Recovery as recovery
 use Rattle.wp_model.specs.Text.{line, hex_word, state_text, group_text, recovered_text}
-use Rattle.writepath_top.specs.declared.recovery.Recovered.{Recovered}
-use Rattle.writepath_top.specs.Keeping.{note_of}
-use Rattle.writepath_top.specs.Recovering.{ShowsRecovered}
+use Rattle.wal_recover.specs.declared.recovery.Recovered.{Recovered}
+use Rattle.wal_recover.specs.Keeping.{note_of}
+use Rattle.wal_recover.specs.Recovering.{ShowsRecovered}
 use Rattle.writepath_top.specs.ShownText.{group_line, groups_lines, end_line, shown_recovered_text}
 
 -- the notes of batches have the batches' lines
@@ -19,9 +19,9 @@ pub recovered_shown : (v : Recovered) (r : recovery.Recovered) → ShowsRecovere
 recovered_shown v r shows =
     let head = line (codes "groups" ∷ decimal (length r.batches) ∷ []) ++ flat_map group_text r.batches in
     let state = state_text hex_word (recovery.recovered_last r) (recovery.recovered_map r) in
-    ap (λ groups. groups_lines groups ++ state_text hex_word v.last v.map ++ end_line v.at v.why) shows.groups
-    ∙ ap (λ t. t ++ state_text hex_word v.last v.map ++ end_line v.at v.why) (groups_shown r.batches)
-    ∙ ap (λ map. head ++ state_text hex_word v.last map ++ end_line v.at v.why) shows.map_is
-    ∙ ap (λ last. head ++ state_text hex_word last (recovery.recovered_map r) ++ end_line v.at v.why) shows.last
-    ∙ ap (λ at. head ++ state ++ end_line at v.why) shows.at
+    ap (λ groups. groups_lines groups ++ state_text hex_word v.last v.map ++ end_line v.end.at v.end.why) shows.groups
+    ∙ ap (λ t. t ++ state_text hex_word v.last v.map ++ end_line v.end.at v.end.why) (groups_shown r.batches)
+    ∙ ap (λ map. head ++ state_text hex_word v.last map ++ end_line v.end.at v.end.why) shows.map_is
+    ∙ ap (λ last. head ++ state_text hex_word last (recovery.recovered_map r) ++ end_line v.end.at v.end.why) shows.last
+    ∙ ap (λ at. head ++ state ++ end_line at v.end.why) shows.at
     ∙ ap (λ why. head ++ state ++ end_line r.at why) shows.why

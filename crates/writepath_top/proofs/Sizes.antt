@@ -1,9 +1,7 @@
 -- How long a batch is, and by how much an addition makes it longer.
-use Rattle.std.proofs.Common.{zero, suc, ◌/◌, ◌%◌, Bool, true, false, cond, nat_lt, ◌≡◌, ℕ, ◌+◌, ◌*◌, ◌<◌, ◌≤◌, List, [], ◌∷◌, ◌++◌, length, refl, ap, ◌∙◌, arith, length-append}
-use Rattle.std.proofs.lemmas.Bool.{ltb-true, ltb-false}
+use Rattle.std.proofs.Common.{zero, suc, ◌/◌, ◌%◌, Bool, true, false, cond, nat_lt, ◌≡◌, ℕ, ◌+◌, ◌≤◌, List, [], ◌∷◌, ◌++◌, length, ap, ◌∙◌, arith, length-append}
 use Rattle.std.proofs.lemmas.Grind.{flat_map-append}
 use Rattle.std.proofs.lemmas.List.{append-nil}
-use Rattle.wp_coding.proofs.Spellings.{one_byte, two_bytes}
 use Rattle.wp_model.specs.Varint.{varint, varint_within}
 use Rattle.wp_model.specs.Batch.{Record, value, count_of, record_bytes, header, body, batch, size_of_batch}
 
@@ -24,14 +22,6 @@ value_len key v =
     let b = varint (length v) in
     let parts : length ((a ++ key) ++ ((b ++ v) ++ [])) ≡ length (a ++ key) + length (b ++ v) = length-append (a ++ key) ((b ++ v) ++ []) ∙ ap (λ (l : List ℕ). length (a ++ key) + length l) (append-nil (b ++ v)) in
     ap suc parts ∙ omega (arith, length-append a key, length-append b v)
-
--- a length's spelling is short
-pub varint_short : (n : ℕ) → n < 16384 → (length (varint n) ≤ 2) × (128 * length (varint n) ≤ 128 + n)
-varint_short n small = by_size (nat_lt n 128) refl
-  where
-    by_size : (b : Bool) → nat_lt n 128 ≡ b → (length (varint n) ≤ 2) × (128 * length (varint n) ≤ 128 + n)
-    by_size true e = let one = one_byte n (ltb-true n 128 e) in (omega (arith, one), omega (arith, one))
-    by_size false e = let two = two_bytes n (ltb-false n 128 e) small in (omega (arith, two), omega (arith, two, ltb-false n 128 e))
 
 -- a spelling in k bytes at most has k bytes at most
 within : (k n : ℕ) → length (varint_within k n) ≤ k

@@ -5,9 +5,9 @@ use Rattle.std.proofs.lemmas.List.{length-map}
 use Rattle.wp_model.specs.declared.script.ScriptFault.TheVariants.{Long}
 use Rattle.wp_model.specs.Script as model
 use Rattle.wp_model.specs.Script.{script_of, first_grammar, lines_read, with_client}
-use Rattle.writepath_top.specs.declared.script.Script.{Script}
+use Rattle.client_script.specs.declared.script.Script.{Script}
 use Rattle.writepath_top.specs.Reading.{HasRead, HasScript}
-use Rattle.writepath_top.specs.Scripts.{commands_of, command_of, script_len, HasShortWords}
+use Rattle.client_script.specs.Scripts.{commands_of, command_of, script_len, HasShortWords}
 use Rattle.writepath_top.proofs.OneClient.{one_said}
 
 -- a longer text has a fault

@@ -1,6 +1,6 @@
 -- A log that was not opened ends the run.
-use Rattle.writepath_top.specs.declared.log.OpenError.{OpenError}
-use Rattle.writepath_top.specs.declared.log.OpenError.TheVariants as why
+use Rattle.log_writer.specs.declared.errors.OpenError.{OpenError}
+use Rattle.log_writer.specs.declared.errors.OpenError.TheVariants as why
 use Rattle.writepath_top.specs.declared.running.End.{End}
 use Rattle.writepath_top.specs.declared.running.End.TheVariants as end
 

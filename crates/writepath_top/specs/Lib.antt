@@ -1,14 +1,12 @@
-pub mod Scripts
-pub mod ScriptWords
-pub mod ScriptLines
 pub mod Keys
 pub mod Places
 pub mod Published
 pub mod Shows
 pub mod ShownText
 pub mod Texts
-pub mod Logs
 pub mod Commits
+pub mod Refusals
+pub mod Crashes
 pub mod Clients
 pub mod CommandLine
 pub mod Reading
@@ -16,7 +14,4 @@ pub mod Ends
 pub mod Running
 pub mod Telling
 pub mod Outcomes
-pub mod Walking
-pub mod Keeping
-pub mod Recovering
 pub mod Recovers

@@ -4,8 +4,8 @@ use Rattle.std.specs.Io.KnownBytes.{Consumes, IsAtEnd}
 use Rattle.writepath_top.specs.declared.reading.ReadError.{ReadError}
 use Rattle.writepath_top.specs.declared.reading.ReadError.TheVariants.{Fault, Script, NoMemory}
 use Rattle.wp_model.specs.Script as model
-use Rattle.writepath_top.specs.declared.script.Script as script
-use Rattle.writepath_top.specs.Scripts.{commands_of, script_len, HasShortWords}
+use Rattle.client_script.specs.declared.script.Script as script
+use Rattle.client_script.specs.Scripts.{commands_of, script_len, HasShortWords}
 use Rattle.writepath_top.specs.Texts.{IsReached}
 
 -- it was read to its end, or to one byte past the limit of 16,384

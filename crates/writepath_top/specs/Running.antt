@@ -1,10 +1,12 @@
 -- What a run of a script comes to: an outcome, and the log that it leaves.
-use Rattle.std.specs.Prelude.{◌≡◌, ◌<◌, ℕ, Bool, List, [], length, Option, IfSome, Vec}
-use Rattle.std.specs.List.{list_any}
-use Rattle.wp_edge.specs.Disk.{Disk, Told}
+use Rattle.std.specs.Prelude.{◌≡◌, ◌<◌, ℕ, Bool, List, [], length, Option, None, IfSome, Vec}
+use Rattle.std.specs.List.{AllByRecursion, list_any}
+use Rattle.wp_edge.specs.Disk.{Disk, Told, IsImage}
+use Rattle.wp_edge.specs.declared.disk.Disk.{Ghosts}
 use Rattle.wp_model.specs.History as history
 use Rattle.wp_model.specs.Story.{Home}
 use Rattle.wp_model.specs.Calls as calls
+use Rattle.wp_model.specs.Handled.{Handling}
 use Rattle.wp_model.specs.Outcomes.{IsLegal}
 use Rattle.wp_model.specs.LogContents.{IsLogOf}
 use Rattle.std.specs.declared.alloc.Global.{Global}
@@ -13,21 +15,27 @@ use Rattle.writepath_top.specs.declared.outcome.Outcome.{Outcome}
 use Rattle.writepath_top.specs.declared.write_path.WritePath.{WritePath}
 use Rattle.writepath_top.specs.declared.running.End.{End}
 use Rattle.writepath_top.specs.declared.running.End.TheVariants.{DiskFault, NotEmpty, NoMemory, Ran}
+use Rattle.log_writer.specs.Words.{len_of, fault_of}
 use Rattle.writepath_top.specs.Shows.{ShowsOutcome, lacks_memory}
 use Rattle.writepath_top.specs.Texts.{IsReached}
+use Rattle.writepath_top.specs.Crashes.{IsCrashSafe}
+use Rattle.writepath_top.specs.Refusals.{OnlyEmptyIsRefused}
 
--- How a run was set up, what its clients were to do, and the count of faults of the log's disk at its end
-pub record Setting : Type 0 where
+-- How a run was set up, what its clients were to do, the count of faults of the log's disk at its end, and what a crash at some moment of it might
+-- have left
+pub record Setting : Type 1 where
   pub home : Home
   pub script : List (List calls.Command)
   pub ended : ℕ
+  pub left : List ℕ → Type 0
 
 -- a run without options
-abbrev pub setting_of : List (List calls.Command) → ℕ → ℕ → Setting
-setting_of script opened ended = record {
+abbrev pub setting_of : List (List calls.Command) → ℕ → ℕ → (List ℕ → Type 0) → Setting
+setting_of script opened ended left = record {
   home = record { start = 0; clients = length script; group_bytes = 1048576; batch_bytes = 16777216; opened = opened };
   script = script;
   ended = ended;
+  left = left;
 }
 
 abbrev pub IsLegalOf : Setting → calls.Outcome → Type 0
@@ -39,23 +47,29 @@ pub record LeavesLog (o : calls.Outcome) (opened ended : Disk) : Type 0 where
   pub groups : List (List history.Entry)
   pub log : IsLogOf o ended.content groups
 
--- the values show a legal outcome, and the log is left so where the disk tells it
+-- and a crash leaves a prefix of it, of the same groups
+pub record LeavesSafeLog (left : List ℕ → Type 0) (handled : List (List Handling)) (o : calls.Outcome) (opened ended : Disk) : Type 0 where
+  pub log : LeavesLog o opened ended
+  pub crash : IsCrashSafe handled o log.groups ended.content left (IsImage ended)
+
+-- The values show a legal outcome, and the log is left so where the disk tells it. Where the log has no fault only empty batches were refused
 pub record HasRun (setting : Setting) (old new : Option Disk) (shown : Outcome) : Type 0 where
   pub outcome : calls.Outcome
   pub shows : ShowsOutcome shown outcome
   pub legal : IsLegalOf setting outcome
-  pub log : Told old new (LeavesLog outcome)
+  pub taken : shown.fault ≡ None → AllByRecursion OnlyEmptyIsRefused outcome.transcripts
+  pub log : Told old new (LeavesSafeLog setting.left legal.handled outcome)
 
 -- a refusal leaves the disk as it was
-abbrev pub IsEnd : List (List calls.Command) → Option Disk → Option Disk → ℕ → ℕ → End → Type 0
-IsEnd script old new failed fails (DiskFault count) = (new ≡ old) × IsReached failed count fails
-IsEnd script old new failed fails (NotEmpty len) = (new ≡ old) × (0 < len) × IfSome old (λ d. length d.content ≡ len)
-IsEnd script old new failed fails NoMemory = new ≡ old
-IsEnd script old new failed fails (Ran shown) = HasRun (setting_of script failed fails) old new shown
+abbrev pub IsEnd : List (List calls.Command) → Option Disk → Option Disk → ℕ → ℕ → (List ℕ → Type 0) → End → Type 0
+IsEnd script old new failed fails left (DiskFault count) = (new ≡ old) × IsReached failed count fails
+IsEnd script old new failed fails left (NotEmpty len) = (new ≡ old) × (0 < len) × IfSome old (λ d. length d.content ≡ len)
+IsEnd script old new failed fails left NoMemory = new ≡ old
+IsEnd script old new failed fails left (Ran shown) = HasRun (setting_of script failed fails left) old new shown
 
 -- what stands at the end of a run
-abbrev pub outcome_of : {D : Type 0} → WritePath D → Vec (Vec Reply Global) Global → Outcome
-outcome_of path transcripts = record { transcripts = transcripts; history = path.history; last = path.last; state = path.published; log_len = path.log.len; fault = path.log.fault }
+abbrev pub outcome_of : {D : Type 0} {ghosts : Ghosts D} → WritePath D ghosts → Vec (Vec Reply Global) Global → Outcome
+outcome_of path transcripts = record { transcripts = transcripts; history = path.history; last = path.last; state = path.published; log_len = len_of path.log; fault = fault_of path.log }
 
 -- a client ran out of memory
 abbrev pub ran_short : Outcome → Bool

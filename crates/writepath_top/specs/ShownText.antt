@@ -10,8 +10,8 @@ use Rattle.writepath_top.specs.declared.outcome.Reply.{Reply}
 use Rattle.writepath_top.specs.declared.outcome.Reply.TheVariants.{Quiet, Accepted, Refused, Found, NoMemory}
 use Rattle.writepath_top.specs.declared.outcome.Entry.{Entry}
 use Rattle.writepath_top.specs.declared.outcome.Outcome.{Outcome}
-use Rattle.writepath_top.specs.declared.recovery.kept.GroupNote.{GroupNote}
-use Rattle.writepath_top.specs.declared.recovery.Recovered.{Recovered}
+use Rattle.wal_recover.specs.declared.kept.GroupNote.{GroupNote}
+use Rattle.wal_recover.specs.declared.recovery.Recovered.{Recovered}
 use Rattle.writepath_top.specs.Published.{pairs_of}
 
 -- a reply as shown; its text doesn't tell the records
@@ -52,4 +52,4 @@ abbrev pub end_line : ℕ → EndReason → List ℕ
 end_line at why = line (codes "end" ∷ decimal at ∷ end_words why)
 
 abbrev pub shown_recovered_text : Recovered → List ℕ
-shown_recovered_text v = groups_lines v.groups.items ++ state_text hex_word v.last v.map ++ end_line v.at v.why
+shown_recovered_text v = groups_lines v.groups.items ++ state_text hex_word v.last v.map ++ end_line v.end.at v.end.why

@@ -11,11 +11,11 @@ use Rattle.writepath_top.specs.declared.running.End.{End}
 use Rattle.writepath_top.specs.declared.running.End.TheVariants as end
 use Rattle.writepath_top.specs.declared.telling.Status.{Status}
 use Rattle.writepath_top.specs.declared.telling.Status.TheVariants as status
-use Rattle.writepath_top.specs.declared.recovery.Recovered.{Recovered}
-use Rattle.writepath_top.specs.declared.recovery.RecoverError.{RecoverError}
-use Rattle.writepath_top.specs.declared.recovery.RecoverError.TheVariants as none
+use Rattle.wal_recover.specs.declared.recovery.Recovered.{Recovered}
+use Rattle.wal_recover.specs.declared.recovery.RecoverError.{RecoverError}
+use Rattle.wal_recover.specs.declared.recovery.RecoverError.TheVariants as none
 use Rattle.wp_model.specs.Recovery as recovery
-use Rattle.writepath_top.specs.Recovering.{ShowsRecovered}
+use Rattle.wal_recover.specs.Recovering.{ShowsRecovered}
 use Rattle.writepath_top.specs.Shows.{ShowsOutcome}
 use Rattle.writepath_top.specs.Running.{ran_short}
 use Rattle.writepath_top.specs.Texts.{SaysTo, script_fault, source_fault, disk_fault, not_empty}

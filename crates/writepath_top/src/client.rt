@@ -2,14 +2,15 @@
 
 ghost use Rattle.std.specs.Prelude.{◌≡◌, ◌≤◌, [], IfOk, IfSome, OnErr};
 ghost use Rattle.std.specs.List.{AllByRecursion};
-ghost use Rattle.writepath_top.specs.Scripts.{AreShort, lines_len};
+ghost use Rattle.client_script.specs.Scripts.{AreShort, lines_len};
+ghost use Rattle.log_writer.specs.Words.{disk_of};
 ghost use Rattle.writepath_top.specs.Commits.{IsFresh};
 ghost use Rattle.writepath_top.specs.Clients.{HasRoom, Answers, Ran};
 
 use crate::outcome::Reply;
 use crate::pending::Pending;
-use crate::script::Command;
 use crate::write_path::WritePath;
+use client_script::Command;
 use std::alloc::Global;
 use wp_edge::Disk;
 use wp_model::{NoMemory, Refusal};
@@ -22,10 +23,10 @@ pub fn run_client<D: Disk>(
     commands: &[Command],
 ) -> Result<Vec<Reply>, NoMemory>
     requires fresh { IsFresh path.old }
-    requires empty { IfSome (D.told path.old.log.disk) (λ disk. disk.content ≡ []) }
+    requires empty { IfSome (D.told (disk_of path.old.log)) (λ disk. disk.content ≡ []) }
     requires short { AllByRecursion AreShort commands.now }
     requires fits { lines_len commands.now ≤ 16385 }
-    ensures ran { IfOk result (λ replies. Ran D.told D.faults path.old path.new commands.now replies.items) }
+    ensures ran { IfOk result (λ replies. Ran path.old path.new commands.now replies.items) }
     ensures none { OnErr result (path.new ≡ path.old) }
 {
     let mut replies = Vec::with_capacity(alloc, commands.len())?;
@@ -48,9 +49,9 @@ fn answer<D: Disk>(
     pending: &mut Pending,
     command: &Command,
 ) -> Reply
-    requires fits { HasRoom path.old pending.old.batch.records command.now }
-    ensures answers { Answers D.told D.faults path.old path.new pending.old.batch.records pending.new.batch.records command.now result }
-    ensures counts { D.faults path.old.log.disk ≤ D.faults path.new.log.disk }
+    requires fits { HasRoom pending.old.batch.records command.now }
+    ensures answers { Answers path.old path.new pending.old.batch.records pending.new.batch.records command.now result }
+    ensures counts { D.faults (disk_of path.old.log) ≤ D.faults (disk_of path.new.log) }
 {
     match command {
         Command::Put { key, value } => match pending.put(alloc, key, value) {

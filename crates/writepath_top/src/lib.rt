@@ -3,14 +3,11 @@
 
 mod client;
 mod command_line;
-mod log;
 mod outcome;
 mod pending;
 mod published;
 mod reading;
-mod recovery;
 mod running;
-mod script;
 mod telling;
 #[cfg(test)]
 mod tests;
@@ -18,5 +15,4 @@ mod text;
 mod top;
 mod write_path;
 
-pub use script::{Command, Script, ScriptError, TEXT_LIMIT, parse};
 pub use top::{Ended, run};

@@ -3,7 +3,7 @@
 ghost use Rattle.std.specs.Prelude.{◌≡◌, ◌+◌, ◌-◌, ◌≤◌, ◌<◌, ℕ, [], length, vec_len, Some, None, IfOk, IfErr, IfSome};
 ghost use Rattle.writepath_top.specs.Reading.{HasRead, IsReadError, HasScript, IsScriptError};
 
-use crate::script::{Script, ScriptError, TEXT_LIMIT, parse};
+use client_script::{Script, ScriptError, TEXT_LIMIT, parse};
 use std::alloc::Global;
 use wp_edge::Source;
 use wp_model::ScriptFault;

@@ -1,14 +1,16 @@
 //! A run of a script: its client over the write path.
 
 ghost use Rattle.std.specs.Prelude.{◌≡◌, ◌≤◌, length};
-ghost use Rattle.writepath_top.specs.Scripts.{commands_of, script_len, HasShortWords};
+ghost use Rattle.client_script.specs.Scripts.{commands_of, script_len, HasShortWords};
+ghost use Rattle.log_writer.specs.Words.{disk_of};
+ghost use Rattle.writepath_top.specs.Crashes.{IsLeftSince};
 ghost use Rattle.writepath_top.specs.Running.{IsEnd, outcome_of};
 
 use crate::client::run_client;
-use crate::log::OpenError;
 use crate::outcome::{Outcome, Reply};
-use crate::script::Script;
 use crate::write_path::WritePath;
+use client_script::Script;
+use log_writer::OpenError;
 use std::alloc::Global;
 use wp_edge::Disk;
 use wp_model::NoMemory;
@@ -51,7 +53,7 @@ pub fn execute<D: Disk>(alloc: Global, disk: D, script: &Script) -> Executed<D>
     requires one { length script.now.clients.items ≡ 1 }
     requires small { script_len script.now ≤ 16385 }
     requires words { HasShortWords script.now }
-    ensures end { IsEnd (commands_of script.now) (D.told disk) (D.told result.disk) (D.faults disk) (D.faults result.disk) result.end }
+    ensures end { IsEnd (commands_of script.now) (D.told disk) (D.told result.disk) (D.faults disk) (D.faults result.disk) (IsLeftSince D.moment D.from D.since disk result.disk) result.end }
     ensures later { D.faults disk ≤ D.faults result.disk }
 {
     let mut path = match WritePath::open(alloc, disk) {
@@ -76,8 +78,8 @@ pub fn execute<D: Disk>(alloc: Global, disk: D, script: &Script) -> Executed<D>
 }
 
 /// Nothing was run.
-fn given_up<D>(path: WritePath<D>) -> Executed<D>
-    ensures disk { result.disk ≡ path.log.disk }
+fn given_up<D: Disk>(path: WritePath<D>) -> Executed<D>
+    ensures disk { result.disk ≡ disk_of path.log }
     ensures end { result.end ≡ End.NoMemory }
 {
     Executed {
@@ -87,8 +89,8 @@ fn given_up<D>(path: WritePath<D>) -> Executed<D>
 }
 
 /// The outcome of a run, and its disk.
-fn finished<D>(path: WritePath<D>, transcripts: Vec<Vec<Reply>>) -> Executed<D>
-    ensures disk { result.disk ≡ path.log.disk }
+fn finished<D: Disk>(path: WritePath<D>, transcripts: Vec<Vec<Reply>>) -> Executed<D>
+    ensures disk { result.disk ≡ disk_of path.log }
     ensures end { result.end ≡ End.Ran (outcome_of path transcripts) }
 {
     let WritePath {
@@ -97,8 +99,8 @@ fn finished<D>(path: WritePath<D>, transcripts: Vec<Vec<Reply>>) -> Executed<D>
         last,
         history,
     } = path;
-    let log_len = log.len;
-    let fault = log.fault;
+    let log_len = log.len();
+    let fault = log.fault();
     Executed {
         disk: log.into_disk(),
         end: End::Ran(Outcome {

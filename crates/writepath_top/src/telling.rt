@@ -6,12 +6,12 @@ ghost use Rattle.writepath_top.specs.Telling.{TellsReadError, TellsEnd, TellsOut
 
 use crate::outcome::Outcome;
 use crate::reading::ReadError;
-use crate::recovery::{RecoverError, Recovered};
 use crate::running::End;
 use crate::text::{
     disk_fault, log_not_empty, outcome_text, recovered_text, script_fault, source_fault,
 };
 use std::alloc::Global;
+use wal_recover::{RecoverError, Recovered};
 use wp_coding::Bytes;
 use wp_edge::{Sink, write_all};
 use wp_model::NoMemory;

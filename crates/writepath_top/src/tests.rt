@@ -1,6 +1,7 @@
 //! The call as a whole, over devices in memory.
 
-use crate::{Ended, TEXT_LIMIT, run};
+use crate::{Ended, run};
+use client_script::TEXT_LIMIT;
 use std::alloc::Global;
 use std::process::Abort;
 use std::test::Fail;

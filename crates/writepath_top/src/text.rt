@@ -64,6 +64,7 @@ fn fault_word(kind: ScriptFault) -> &'static [u8]
         ScriptFault::Client => b"client",
         ScriptFault::Clients => b"clients",
         ScriptFault::NoClient => b"none",
+        ScriptFault::NoSchedule => b"schedule",
     }
 }
 

@@ -7,17 +7,18 @@ ghost use Rattle.writepath_top.specs.CommandLine.{asked_of};
 ghost use Rattle.writepath_top.specs.declared.command_line.Asked.TheVariants.{Run, Recover};
 ghost use Rattle.writepath_top.specs.Recovers.{TellsDisk, Recovers, RecoversFront, RecoveryRefused};
 ghost use Rattle.writepath_top.specs.Texts.{SaysTo, IsReached, usage, script_fault, source_fault, not_empty};
+ghost use Rattle.writepath_top.specs.Crashes.{IsLeftSince};
 ghost use Rattle.writepath_top.specs.Running.{setting_of};
 ghost use Rattle.writepath_top.specs.Telling.{code};
 ghost use Rattle.writepath_top.specs.Outcomes.{Tells, RanWhole, RanToFault, DiskRefused, RanToSinkFault, RanOutOfMemory};
 
 use crate::command_line::{Asked, read_words};
 use crate::reading::read_script;
-use crate::recovery::recover;
 use crate::running::{Executed, execute};
 use crate::telling::{Status, refuse, tell_end, tell_read_error, tell_recovery};
 use crate::text::usage;
 use std::alloc::Global;
+use wal_recover::recover;
 use wp_edge::{Clock, Disk, Sink, Source};
 
 /// How a call ended, and the disk that it was handed.
@@ -90,17 +91,17 @@ pub fn run<S: Source, D: Disk + Send, K: Sink, C: Clock + Send + Drop>(
     // batches stand once, in order, each under its own run of sequences; and up to the printed length the log is the text of the logged ones.
     ensures ran { asked_of words.now ≡ Some Run → Tells (S.left source.old) (K.taken sink.old) (K.taken sink.new) (D.told disk) (D.told result.disk)
         (λ text before after opened ended. result.status ≡ 0 → (script : Script) × (script_of first_grammar text ≡ Ok script)
-        × RanWhole (setting_of script (D.faults disk) (D.faults result.disk)) before after opened ended) }
+        × RanWhole (setting_of script (D.faults disk) (D.faults result.disk) (IsLeftSince D.moment D.from D.since disk result.disk)) before after opened ended) }
     ensures ran_to_fault { asked_of words.now ≡ Some Run → Tells (S.left source.old) (K.taken sink.old) (K.taken sink.new) (D.told disk) (D.told result.disk)
         (λ text before after opened ended. result.status ≡ 3 → (script : Script) × (script_of first_grammar text ≡ Ok script)
         × (DiskRefused before after opened ended (D.faults disk) (D.faults result.disk) (K.faults sink.old) (K.faults sink.new)
-        ⊎ RanToFault (setting_of script (D.faults disk) (D.faults result.disk)) before after opened ended)) }
+        ⊎ RanToFault (setting_of script (D.faults disk) (D.faults result.disk) (IsLeftSince D.moment D.from D.since disk result.disk)) before after opened ended)) }
     ensures ran_to_sink_fault { asked_of words.now ≡ Some Run → Tells (S.left source.old) (K.taken sink.old) (K.taken sink.new) (D.told disk) (D.told result.disk)
         (λ text before after opened ended. result.status ≡ 5 → (script : Script) × (script_of first_grammar text ≡ Ok script)
-        × RanToSinkFault (setting_of script (D.faults disk) (D.faults result.disk)) before after opened ended) }
+        × RanToSinkFault (setting_of script (D.faults disk) (D.faults result.disk) (IsLeftSince D.moment D.from D.since disk result.disk)) before after opened ended) }
     ensures out_of_memory { asked_of words.now ≡ Some Run → Tells (S.left source.old) (K.taken sink.old) (K.taken sink.new) (D.told disk) (D.told result.disk)
         (λ text before after opened ended. result.status ≡ 6 → (script : Script) → script_of first_grammar text ≡ Ok script
-        → RanOutOfMemory (setting_of script (D.faults disk) (D.faults result.disk)) before after opened ended) }
+        → RanOutOfMemory (setting_of script (D.faults disk) (D.faults result.disk) (IsLeftSince D.moment D.from D.since disk result.disk)) before after opened ended) }
 
     // Where the script was run, or would have been, the source was read to its end.
     ensures read_to_end { asked_of words.now ≡ Some Run → (result.status ≡ 0) ⊎ (result.status ≡ 3) ⊎ (result.status ≡ 5) ⊎ (result.status ≡ 7)

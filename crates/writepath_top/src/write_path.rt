@@ -4,15 +4,15 @@ ghost use Rattle.std.specs.Prelude.{◌≡◌, ◌+◌, ◌^◌, ◌<◌, ◌≤
 ghost use Rattle.wp_model.specs.Batch.{size_of_batch, count_of, value};
 ghost use Rattle.wp_model.specs.Map.{after_records, value_at};
 ghost use Rattle.wp_model.specs.Progress.{early_refusal};
-ghost use Rattle.writepath_top.specs.Scripts.{plain};
+ghost use Rattle.client_script.specs.Scripts.{plain};
 ghost use Rattle.writepath_top.specs.Published.{pairs_of, room_of};
 
-use crate::log::{Log, OpenError};
 use crate::outcome::Entry;
 use crate::pending::Pending;
 use crate::published::{Pair, Published};
+use log_writer::{Fault, LogWriter, OpenError};
 use std::alloc::Global;
-use std::mem;
+use std::{mem, slice};
 use wp_coding::Bytes;
 use wp_edge::Disk;
 use wp_model::{Flag, NoMemory, Refusal};
@@ -32,8 +32,8 @@ pub struct Run {
 }
 
 /// A log, the map of all batches that it has, and the history that both stand for.
-pub struct WritePath<D> {
-    pub log: Log<D>,
+pub struct WritePath<D: Disk> {
+    pub log: LogWriter<D>,
     pub published: Published,
     /// The sequence given last, which is published.
     pub last: u64,
@@ -42,10 +42,14 @@ pub struct WritePath<D> {
     ghost within: { last < 2 ^ 56 },
 }
 
-impl<D> WritePath<D> {
+impl<D: Disk> WritePath<D> {
+    ghost use Rattle.log_writer.specs.Opening.{HasOpened, IsOpenError};
+    ghost use Rattle.log_writer.specs.Words.{disk_of};
+    ghost use Rattle.writepath_top.specs.Commits.{IsFresh, Accepts, Refuses, Writes, IsLateRefusal, next_entry};
+
     /// The log's disk. What stood beside it is given up.
     pub fn into_disk(self) -> D
-        ensures { result ≡ self.log.disk }
+        ensures { result ≡ disk_of self.log }
     {
         let WritePath {
             log,
@@ -55,18 +59,13 @@ impl<D> WritePath<D> {
         } = self;
         log.into_disk()
     }
-}
-
-impl<D: Disk> WritePath<D> {
-    ghost use Rattle.writepath_top.specs.Logs.{HasOpened, IsOpenError};
-    ghost use Rattle.writepath_top.specs.Commits.{IsFresh, Accepts, Refuses, Writes, IsLateRefusal, next_entry};
 
     /// Opens the log of an empty disk. Nothing was written yet.
     pub fn open(alloc: Global, disk: D) -> Result<WritePath<D>, (D, OpenError)>
-        ensures ok { IfOk result (λ path. HasOpened D.told D.faults disk path.log.disk × IsFresh path) }
-        ensures err { IfErr result (λ e. IsOpenError D.told D.faults disk e.0 e.1) }
+        ensures ok { IfOk result (λ path. HasOpened disk path.log × IsFresh path) }
+        ensures err { IfErr result (λ e. IsOpenError ⟦<D as Disk>⟧ disk e.0 e.1) }
     {
-        match Log::open(alloc, disk) {
+        match LogWriter::open(alloc, disk) {
             Ok(log) => Ok(WritePath {
                 log,
                 published: Published::new(alloc),
@@ -79,12 +78,11 @@ impl<D: Disk> WritePath<D> {
 
     /// Writes the client's batch, which then is new and empty. A refused one stays as it was.
     pub fn commit(&mut self, alloc: Global, pending: &mut Pending) -> Result<Run, Refusal>
-        requires fits { self.old.log.len + 7 + size_of_batch pending.old.batch.records ≤ 32768 }
-        ensures ok { IfOk result (λ run. Accepts D.told self.old self.new pending.old.batch.records run) }
+        ensures ok { IfOk result (λ run. Accepts self.old self.new pending.old.batch.records run) }
         ensures renewed { OnOk result (pending.new.batch.records ≡ []) }
-        ensures err { IfErr result (λ why. Refuses D.told D.faults self.old self.new pending.old.batch.records why) }
+        ensures err { IfErr result (λ why. Refuses self.old self.new pending.old.batch.records why) }
         ensures kept { OnErr result (pending.new.batch.records ≡ pending.old.batch.records) }
-        ensures counts { D.faults self.old.log.disk ≤ D.faults self.new.log.disk }
+        ensures counts { D.faults (disk_of self.old.log) ≤ D.faults (disk_of self.new.log) }
     {
         if let Some(why) = refusal_at_once(&pending.batch) {
             return Err(why);
@@ -123,18 +121,20 @@ impl<D: Disk> WritePath<D> {
         Batch::new(alloc)
     }
 
-    /// Gives a batch the next run, and writes it to the log.
+    /// Gives a batch the next run, and writes it to the log as a group of its own. It isn't synced.
     fn write(&mut self, batch: &mut Batch) -> Result<Run, Refusal>
-        requires fits { self.old.log.len + 7 + size_of_batch batch.old.records ≤ 32768 }
         requires counted { 1 ≤ count_of batch.old.records }
-        ensures ok { IfOk result (λ run. Writes D.told self.old self.new batch.old.records run) }
+        requires small { size_of_batch batch.old.records ≤ BATCH_BYTES }
+        ensures ok { IfOk result (λ run. Writes self.old self.new batch.old.records run) }
         ensures numbered { IfOk result (λ run. batch.new ≡ record { sequence = run.first; records = batch.old.records }) }
-        ensures err { IfErr result (λ why. IsLateRefusal D.told D.faults self.old self.new batch.old.records why) }
+        ensures err { IfErr result (λ why. IsLateRefusal self.old self.new batch.old.records why) }
         ensures same { batch.new.records ≡ batch.old.records }
-        ensures rest { self.new ≡ record self.old { log = self.new.log } }
-        ensures counts { D.faults self.old.log.disk ≤ D.faults self.new.log.disk }
+        ensures published { self.new.published ≡ self.old.published }
+        ensures last { self.new.last ≡ self.old.last }
+        ensures history { self.new.history ≡ self.old.history }
+        ensures counts { D.faults (disk_of self.old.log) ≤ D.faults (disk_of self.new.log) }
     {
-        if let Some(count) = self.log.fault {
+        if let Some(count) = self.log.fault() {
             return Err(Refusal::LogFault { count });
         }
         let count = u64::from(batch.count());
@@ -146,9 +146,9 @@ impl<D: Disk> WritePath<D> {
             last: self.last + count,
         };
         batch.set_sequence(run.first);
-        match self.log.append(batch.bytes()) {
+        match self.log.add_group(run.first, slice::from_ref(batch), false) {
             Ok(()) => Ok(run),
-            Err(count) => Err(Refusal::LogFault { count }),
+            Err(Fault { count }) => Err(Refusal::LogFault { count }),
         }
     }
 

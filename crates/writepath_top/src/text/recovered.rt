@@ -4,12 +4,12 @@ ghost use Rattle.std.specs.Prelude.{◌≡◌, ◌++◌, [], ◌∷◌, OnOk, If
 ghost use Rattle.wp_model.specs.Recovery as recovery;
 ghost use Rattle.wp_model.specs.Text as model;
 ghost use Rattle.wp_model.specs.Text.{line, hex_word, state_text, damage_words, end_words};
-ghost use Rattle.writepath_top.specs.Recovering.{ShowsRecovered};
+ghost use Rattle.wal_recover.specs.Recovering.{ShowsRecovered};
 ghost use Rattle.writepath_top.specs.ShownText.{group_line, groups_lines, end_line};
 
-use crate::recovery::{GroupNote, Recovered};
 use crate::text::lines::{put_hex, put_line, put_number, put_numbers};
 use std::alloc::Global;
+use wal_recover::{GroupNote, Recovered};
 use wp_coding::{Bytes, PairMap};
 use wp_model::{Damage, EndReason, NoMemory};
 
@@ -21,7 +21,7 @@ pub fn recovered_text(alloc: Global, recovered: &Recovered) -> Result<Bytes, NoM
     let mut text = Bytes::new(alloc);
     put_groups(&mut text, &recovered.groups)?;
     put_state_in_digits(alloc, &mut text, recovered.last, &recovered.map)?;
-    put_end(&mut text, recovered.at, recovered.why)?;
+    put_end(&mut text, recovered.end.at, recovered.end.why)?;
     Ok(text)
 }
 

@@ -1,11 +1,11 @@
 use crate::outcome::{Entry, Outcome, Reply};
 use crate::published::{Pair, Published};
-use crate::recovery::{GroupNote, Recovered};
 use crate::text::{
     disk_fault, log_not_empty, outcome_text, recovered_text, script_fault, source_fault, usage,
 };
 use std::alloc::Global;
 use std::test::Fail;
+use wal_recover::{End, GroupNote, Recovered};
 use wp_coding::{Bytes, PairMap};
 use wp_model::{Damage, EndReason, Flag, NoMemory, Refusal, ScriptFault};
 use write_batch::Batch;
@@ -124,8 +124,10 @@ fn two_groups(alloc: Global) -> Result<Recovered, NoMemory> {
         map,
         last: 3,
         kept: 51,
-        at: 51,
-        why: EndReason::Clean,
+        end: End {
+            at: 51,
+            why: EndReason::Clean,
+        },
     })
 }
 
@@ -135,8 +137,7 @@ fn no_group(alloc: Global, at: u64, why: EndReason) -> Recovered {
         map: PairMap::new(alloc),
         last: 0,
         kept: 0,
-        at,
-        why,
+        end: End { at, why },
     }
 }
 

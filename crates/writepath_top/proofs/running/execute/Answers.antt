@@ -1,5 +1,7 @@
 use Rattle.std.proofs.Common.{◌≡◌, ◌∷◌, [], map, refl, ap, sym, ◌∙◌, arith}
-use Rattle.writepath_top.specs.Scripts.{command_of, commands_of}
+use Rattle.client_script.specs.Scripts.{command_of, commands_of}
+use Rattle.log_writer.specs.Words.{disk_of}
+use Rattle.writepath_top.specs.Crashes.{IsLeftSince}
 use Rattle.writepath_top.proofs.Legal.{one_client, has_run}
 use Rattle.writepath_top.proofs.running.execute.Goals as goal
 
@@ -10,11 +12,11 @@ returns-in-Ok-run_client-clause-end g c =
     let one : commands_of script ≡ map command_of c.deref.result.now ∷ [] =
     one_client script.clients.items c.index.result.now c.requires.one c.index.ensures ∙ ap (λ cs. map command_of cs ∷ []) (sym c.deref.ensures.value) in
     let said : c.push_reserved.new.self.items ≡ c.in-Ok-run_client.replies ∷ [] = rw c.in-Ok-with_capacity.ensures.items at c.push_reserved.ensures.items in
-    rw (c.finished.ensures.end, c.finished.ensures.disk) (has_run g.D.Disk.told g.D.Disk.faults c.in-Ok.path c.run_client.new.path c.deref.result.now c.in-Ok-run_client.replies.items c.in-Ok-run_client.ensures.ran
-    (commands_of script) (g.D.Disk.told c.args.disk) (g.D.Disk.faults c.args.disk) c.push_reserved.new.self c.in-Ok-run_client.replies one opened.same opened.found_empty opened.later said refl)
+    rw (c.finished.ensures.end, c.finished.ensures.disk) (has_run c.in-Ok.path c.run_client.new.path c.deref.result.now c.in-Ok-run_client.replies.items c.in-Ok-run_client.ensures.ran
+    (commands_of script) (g.D.Disk.told c.args.disk) (g.D.Disk.faults c.args.disk) (IsLeftSince g.D.Disk.moment g.D.Disk.from g.D.Disk.since c.args.disk (disk_of c.run_client.new.path.log)) c.push_reserved.new.self c.in-Ok-run_client.replies one opened.looked_at.same opened.empty opened.looked_at.later said refl)
 
 pub returns-in-Ok-run_client-clause-later : goal.returns-in-Ok-run_client-clause-later
 returns-in-Ok-run_client-clause-later g c =
-    let opened = c.in-Ok.ensures.ok.0.later in
+    let opened = c.in-Ok.ensures.ok.0.looked_at.later in
     let ran = c.in-Ok-run_client.ensures.ran.later in
     rw c.finished.ensures.disk (omega (arith, opened, ran))

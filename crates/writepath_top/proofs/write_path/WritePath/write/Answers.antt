@@ -1,11 +1,6 @@
-use Rattle.std.proofs.Common.{refl, arith}
+use Rattle.std.proofs.Common.{arith}
+use Rattle.writepath_top.proofs.Sizes.{size_is}
 use Rattle.writepath_top.proofs.write_path.WritePath.write.Goals as goal
 
-pub returns-in-Ok-clause-ok : goal.returns-in-Ok-clause-ok
-returns-in-Ok-clause-ok g c = record {
-  alive = c.in_default.is;
-  first = refl;
-  last = omega (arith, c.from-count.ensures, c.count.ensures);
-  fits = omega (arith, c.if-self-count-gt-MAX_SEQUENCE.false);
-  logged = (let same = rw c.set_sequence.ensures at c.bytes.ensures in rw same at c.in-Ok.ensures.ok);
-}
+pub add_group-requires-clause-lens : goal.add_group-requires-clause-lens
+add_group-requires-clause-lens g c = rw (c.from_ref.ensures.value, c.set_sequence.ensures) (omega (arith, size_is 0 c.args.batch.now.records, c.requires.small))

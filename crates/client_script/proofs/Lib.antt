@@ -1,0 +1,4 @@
+pub mod ScheduleReading
+pub mod ScriptNumbers
+pub mod ScriptParts
+pub mod ScriptReading

@@ -1,0 +1,59 @@
+-- The parts of a text round a separator.
+use Rattle.std.proofs.Common.{◌≡◌, ℕ, ◌-◌, ◌+◌, ◌<◌, ◌≤◌, Bool, true, false, cond, eqb, List, ◌∷◌, [], length, take, drop, Some, None, Option, Err, is_some, option_copied, Bor, refl, arith}
+use Rattle.std.specs.List.{list_all, slice_split, onto_first, position, position_or_len}
+use Rattle.wp_model.specs.declared.script.ScriptFault.TheVariants.{Form}
+use Rattle.wp_model.specs.Script as model
+use Rattle.client_script.specs.ScriptLines.{behind_word}
+use Rattle.client_script.specs.ScriptWords.{alone, parts_of}
+use Rattle.std.proofs.lemmas.Bool.{ltb-true, ltb-false}
+use Rattle.std.proofs.lemmas.List.{take_rest}
+use Rattle.std.proofs.lemmas.List.Sums.{fails_before_first}
+use Rattle.std.proofs.lemmas.List.Splits.{slice_split_first, slice_split_none}
+
+-- what a choice that gave a place chose by
+some_from_cond : (b : Bool) (m n : ℕ) → Some m ≡ cond b (Some n) None → (b ≡ true) × (m ≡ n)
+some_from_cond true m n h = (refl, cc)
+some_from_cond false m n h = cc
+
+-- what a choice that gave no place chose by
+none_from_cond : (b : Bool) (n : ℕ) → None ≡ cond b (Some n) None → b ≡ false
+none_from_cond true n h = cc
+none_from_cond false n h = refl
+
+-- a text that is cut at the first separator
+pub slice_split-found : (p : ℕ → Bool) (text : List ℕ) (at : ℕ) → Some at ≡ position p text → slice_split p text ≡ take at text ∷ slice_split p (take (length text - (at + 1)) (drop (at + 1) text))
+slice_split-found p text at found =
+    let parts = some_from_cond _ _ _ found in
+    let inside : position_or_len p text < length text = ltb-true _ _ parts.0 in
+    let first = slice_split_first p text 0 inside in
+    rw (take_rest text (at + 1), parts.1) first
+
+-- a text without a separator is one part
+pub slice_split-not_found : (p : ℕ → Bool) (text : List ℕ) → None ≡ position p text → slice_split p text ≡ text ∷ []
+slice_split-not_found p text found =
+    let past : length text ≤ position_or_len p text = ltb-false _ _ (none_from_cond _ _ found) in
+    slice_split_none p text (λ k d h. fails_before_first p text k d (omega arith))
+
+-- a part is left with a byte put onto the first
+onto_first-cons : (b : ℕ) (parts : List (List ℕ)) → (part : List ℕ) × (rest : List (List ℕ)) × (onto_first b parts ≡ part ∷ rest)
+onto_first-cons b [] = (b ∷ [], [], refl)
+onto_first-cons b (part ∷ parts) = (b ∷ part, parts, refl)
+
+-- a text has one part at least
+pub slice_split-cons : (p : ℕ → Bool) (text : List ℕ) → (part : List ℕ) × (parts : List (List ℕ)) × (slice_split p text ≡ part ∷ parts)
+slice_split-cons p [] = ([], [], refl)
+slice_split-cons p (b ∷ bs) = elim (p b) as (λ v. (part : List ℕ) × (parts : List (List ℕ)) × (cond v ([] ∷ slice_split p bs) (onto_first b (slice_split p bs)) ≡ part ∷ parts)) [ true ↦ ([], slice_split p bs, refl) | false ↦ onto_first-cons b (slice_split p bs) ]
+
+-- a word with more behind it is not alone
+pub alone-more : (rest : List ℕ) (word : List ℕ) (behind : Option (Bor (List ℕ))) → is_some behind ≡ true → slice_split (λ b. eqb b 32) rest ≡ word ∷ parts_of 32 (option_copied behind) → None ≡ alone (slice_split (λ b. eqb b 32) rest)
+alone-more rest word None some parts = cc
+alone-more rest word (Some text) some parts =
+    let more = slice_split-cons (λ b. eqb b 32) text.now in
+    rw (parts, more.2) refl
+
+-- nothing may stand behind a word that stands alone
+pub behind_word-no_word : (line : model.Line) (rest : Option (Bor (List ℕ))) → is_some rest ≡ true → behind_word (model.no_word line) (parts_of 32 (option_copied rest)) ≡ Err Form
+behind_word-no_word line None some = cc
+behind_word-no_word line (Some text) some =
+    let more = slice_split-cons (λ b. eqb b 32) text.now in
+    rw more.2 (elim (list_all model.is_word (more.0 ∷ more.1)) as (λ v. cond {A = model.Read model.Line} v (Err Form) (Err Form) ≡ Err Form) [ true ↦ refl | false ↦ refl ])

@@ -1,0 +1,4 @@
+pub mod Schedules
+pub mod ScriptLines
+pub mod ScriptWords
+pub mod Scripts

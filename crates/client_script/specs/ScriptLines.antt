@@ -1,0 +1,51 @@
+-- What a line of a script says, as the parser holds it.
+use Rattle.std.specs.Prelude.{◌≡◌, ℕ, List, Result, Ok, Err, if◌then◌else◌}
+use Rattle.std.specs.List.{list_all}
+use Rattle.wp_model.specs.declared.script.ScriptFault.TheVariants.{Form}
+use Rattle.wp_model.specs.Script as model
+use Rattle.wp_model.specs.Script.{section, command, line_of, with_line, ◌>>=◌}
+use Rattle.client_script.specs.declared.script.ScriptError.{ScriptError}
+use Rattle.client_script.specs.declared.script.ScriptError.TheVariants as script_error
+use Rattle.client_script.specs.declared.lines.Line.{Line}
+use Rattle.client_script.specs.declared.lines.Line.TheVariants as line
+use Rattle.client_script.specs.declared.lines.LineError.{LineError}
+use Rattle.client_script.specs.declared.lines.LineError.TheVariants.{Fault, NoMemory}
+use Rattle.client_script.specs.Scripts.{command_of, line_len, AreShort}
+
+-- what a line says, in the definition's words
+abbrev pub line_said : Line → model.Line
+line_said (line.Section n) = section n
+line_said (line.Command c) = command (command_of c)
+
+-- how long a command's line is, with its line feed
+abbrev pub said_len : Line → ℕ
+said_len (line.Section n) = 0
+said_len (line.Command c) = line_len c
+
+-- the words of a command are short
+abbrev pub SaysShortWords : Line → Type 0
+SaysShortWords (line.Section n) = Unit {0}
+SaysShortWords (line.Command c) = AreShort c
+
+-- What is read is what the definition gives, and so is a fault. Want of memory says nothing of the text.
+abbrev pub Reads : {A B : Type 0} → (A → B) → model.Read B → Result A LineError → Type 0
+Reads view given (Ok x) = given ≡ Ok (view x)
+Reads view given (Err (Fault kind)) = given ≡ Err kind
+Reads view given (Err NoMemory) = Unit {0}
+
+-- what is read behind the first word of a form
+abbrev pub behind_word : (List (List ℕ) → model.Read model.Line) → List (List ℕ) → model.Read model.Line
+behind_word rest ws = if list_all model.is_word ws then rest ws else Err Form
+
+-- a script of so many clients at most, and one more line, which isn't passed over
+abbrev pub said_added : ℕ → model.Script → List ℕ → model.Read model.Script
+said_added most script l = line_of model.first_forms l >>= with_line most script
+
+-- the same of any line
+abbrev pub line_added : ℕ → model.Script → List ℕ → model.Read model.Script
+line_added most script l = if model.is_passed_over l then Ok script else said_added most script l
+
+-- the error in a script that is one in its line of this number
+abbrev pub error_at : ℕ → LineError → ScriptError
+error_at n (Fault kind) = script_error.Fault n kind
+error_at n NoMemory = script_error.NoMemory

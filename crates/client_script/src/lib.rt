@@ -1,0 +1,16 @@
+//! The script that a call is given: lines of words, and the commands that they say.
+#![tactic(auto)]
+
+mod lines;
+mod numbers;
+mod parser;
+mod schedule;
+mod script;
+mod words;
+
+pub use parser::{TEXT_LIMIT, parse};
+pub use schedule::{Schedule, parse_schedule};
+pub use script::{Command, Script, ScriptError};
+
+#[cfg(test)]
+mod tests;

@@ -1,0 +1,154 @@
+//! All lines of a script.
+
+ghost use Rattle.std.specs.Prelude.{◌≡◌, ◌+◌, ◌-◌, ◌^◌, ◌<◌, ◌≤◌, Ok, length, IfOk, IfErr, OnOk};
+ghost use Rattle.wp_model.specs.Script as model;
+ghost use Rattle.wp_model.specs.Script.{script_of, first_grammar, lines_read};
+ghost use Rattle.client_script.specs.Scripts.{commands_of, command_of, IsFaultOf, script_len, line_len, HasShortWords, AreShort};
+ghost use Rattle.client_script.specs.ScriptLines.{Reads, said_added, line_added};
+
+use crate::lines::{Line, LineError, is_passed_over, read_line};
+use crate::script::{Command, Script, ScriptError};
+use crate::words::split_once;
+use std::alloc::Global;
+use wp_model::ScriptFault;
+
+/// How many bytes a script may have.
+pub const TEXT_LIMIT: usize = 16384;
+
+/// How many clients a script may have.
+const CLIENT_LIMIT: u64 = 1;
+
+/// Parses a script: lines that end with a line feed, which the last may lack. Empty lines and
+/// lines that begin with `#` are passed over whole. The others are words of 1 to 1024 printing
+/// characters, with one space between them:
+///
+/// - `client N` begins the section of a client;
+/// - `put K V` adds a value to its batch;
+/// - `commit` writes the batch;
+/// - `get K` reads a key.
+///
+/// The first line with a fault decides, and within a line the first kind in the order byte, word,
+/// form, client, clients. The text as a whole may be too long, before all else, or have no client,
+/// after all else.
+pub fn parse(alloc: Global, text: &[u8]) -> Result<Script, ScriptError>
+    ensures script { IfOk result (λ s. script_of first_grammar text.now ≡ Ok (commands_of s)) }
+    ensures fault { IfErr result (IsFaultOf (script_of first_grammar text.now)) }
+
+    // What is read takes no more room than its text.
+    ensures small { IfOk result (λ s. script_len s ≤ length text.now + 1) }
+    ensures words { IfOk result HasShortWords }
+{
+    if text.len() > TEXT_LIMIT {
+        return Err(ScriptError::Fault {
+            line: 0,
+            kind: ScriptFault::Long,
+        });
+    }
+    let script = read_lines(alloc, text)?;
+    if script.clients.is_empty() {
+        return Err(ScriptError::Fault {
+            line: 0,
+            kind: ScriptFault::NoClient,
+        });
+    }
+    Ok(script)
+}
+
+/// Reads all lines of a text, whatever its length.
+fn read_lines(alloc: Global, text: &[u8]) -> Result<Script, ScriptError>
+    ensures script { IfOk result (λ s. lines_read first_grammar text.now ≡ Ok (commands_of s)) }
+    ensures fault { IfErr result (IsFaultOf (lines_read first_grammar text.now)) }
+    ensures small { IfOk result (λ s. script_len s ≤ length text.now + 1) }
+    ensures words { IfOk result HasShortWords }
+{
+    let mut script = Script {
+        clients: Vec::new(alloc),
+    };
+    let mut number: u64 = 0;
+    let mut rest = Some(text);
+    while let Some(lines) = rest {
+        let (line, behind) = split_once(lines, b'\n');
+        number += 1;
+        if let Err(error) = add_line(alloc, &mut script, line) {
+            return Err(error.at_line(number));
+        }
+        rest = behind;
+    }
+    Ok(script)
+}
+
+/// Reads one more line. After an error the script is not used.
+fn add_line(alloc: Global, script: &mut Script, line: &[u8]) -> Result<(), LineError>
+    ensures script { Reads (λ _. commands_of script.new)
+        (line_added CLIENT_LIMIT (commands_of script.old) line.now) result }
+    ensures len { OnOk result
+        (script_len script.new ≤ script_len script.old + length line.now + 1) }
+    ensures short { HasShortWords script.old → OnOk result (HasShortWords script.new) }
+{
+    if is_passed_over(line) {
+        return Ok(());
+    }
+    add_said(alloc, script, CLIENT_LIMIT, line)
+}
+
+/// Reads one more line, which is not passed over, of a script with so many clients at most. After
+/// an error the script is not used.
+pub fn add_said(
+    alloc: Global,
+    script: &mut Script,
+    client_limit: u64,
+    line: &[u8],
+) -> Result<(), LineError>
+    requires { client_limit < 2 ^ 64 - 1 }
+    ensures script { Reads (λ _. commands_of script.new)
+        (said_added client_limit (commands_of script.old) line.now) result }
+    ensures few { length script.old.clients.items ≤ client_limit → OnOk result (length script.new.clients.items ≤ client_limit) }
+    ensures len { OnOk result
+        (script_len script.new ≤ script_len script.old + length line.now + 1) }
+    ensures short { HasShortWords script.old → OnOk result (HasShortWords script.new) }
+{
+    match read_line(alloc, line)? {
+        Line::Section(number) => add_section(alloc, script, client_limit, number),
+        Line::Command(command) => add_command(script, command),
+    }
+}
+
+/// Begins the section of a client behind the others.
+fn add_section(
+    alloc: Global,
+    script: &mut Script,
+    client_limit: u64,
+    number: u64,
+) -> Result<(), LineError>
+    requires { client_limit < 2 ^ 64 - 1 }
+    ensures script { Reads (λ _. commands_of script.new)
+        (model.with_section client_limit (commands_of script.old) number) result }
+    ensures few { length script.old.clients.items ≤ client_limit → OnOk result (length script.new.clients.items ≤ client_limit) }
+    ensures len { OnOk result (script_len script.new ≡ script_len script.old) }
+    ensures short { HasShortWords script.old → OnOk result (HasShortWords script.new) }
+{
+    if number != script.clients.len() as u64 + 1 {
+        return Err(LineError::Fault(ScriptFault::Client));
+    }
+    if number == client_limit + 1 {
+        return Err(LineError::Fault(ScriptFault::Clients));
+    }
+    script.clients.push(Vec::new(alloc))?;
+    Ok(())
+}
+
+/// Adds a command to those of the last client.
+fn add_command(script: &mut Script, command: Command) -> Result<(), LineError>
+    ensures script { Reads (λ _. commands_of script.new)
+        (model.with_command (commands_of script.old) (command_of command)) result }
+    ensures few { OnOk result (length script.new.clients.items ≡ length script.old.clients.items) }
+    ensures len { OnOk result (script_len script.new ≡ script_len script.old + line_len command) }
+    ensures short { HasShortWords script.old → AreShort command
+        → OnOk result (HasShortWords script.new) }
+{
+    let Some(commands) = script.clients.last_mut() else {
+        return Err(LineError::Fault(ScriptFault::Client));
+    };
+    commands.push(command)?;
+    Ok(())
+}

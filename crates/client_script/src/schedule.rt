@@ -1,0 +1,224 @@
+//! A script with a schedule behind it: the events of the write path's core, one a line.
+
+ghost use Rattle.std.specs.Prelude.{◌≡◌, ◌+◌, ◌≤◌, ◌==◌, [], Ok, Err, length, if◌then◌else◌, IfOk, IfErr, OnOk, option_copied};
+ghost use Rattle.core_model.specs.Schedule as model;
+ghost use Rattle.wp_model.specs.Script.{words_of};
+ghost use Rattle.wp_model.specs.declared.script.ScriptFault.TheVariants.{Form};
+ghost use Rattle.client_script.specs.Scripts.{commands_of, script_len, HasShortWords};
+ghost use Rattle.client_script.specs.ScriptLines.{Reads};
+ghost use Rattle.client_script.specs.ScriptWords.{parts_of};
+ghost use Rattle.client_script.specs.Schedules.{draft_of, schedule_of, event_named, line_added, event_added, IsScheduleFaultOf};
+
+use crate::lines::{LineError, are_plain, is_passed_over};
+use crate::numbers::number_of;
+use crate::parser::{TEXT_LIMIT, add_said};
+use crate::script::{Script, ScriptError};
+use crate::words::split_once;
+use core_model::Event;
+use std::alloc::Global;
+use wp_model::ScriptFault;
+
+/// How many clients a script with a schedule may have.
+const CLIENT_LIMIT: u64 = 16;
+
+/// A script, and the events of its schedule in order.
+#[derive(Debug, Drop)]
+pub struct Schedule {
+    pub script: Script,
+    pub events: Vec<Event>,
+}
+
+/// What was read so far: the script, and the events once the line `schedule` has come.
+#[derive(Drop)]
+struct Draft {
+    script: Script,
+    events: Option<Vec<Event>>,
+}
+
+/// Parses a script of 1 to 16 clients and the schedule behind it. The script's lines are those of
+/// [`parse`](crate::parse). The line `schedule` stands behind them, and behind it a line for each
+/// event: its word and the number of a client of the script, as `link 1`. The words are `link`,
+/// `elect`, `build`, `log`, `fault`, `launch`, `insert`, `finish`, `publish`, `exit`, `complete`
+/// and `read`. Empty lines and comments are passed over there too.
+///
+/// Without the line `schedule` the fault is `schedule`, after all others.
+pub fn parse_schedule(alloc: Global, text: &[u8]) -> Result<Schedule, ScriptError>
+    ensures schedule { IfOk result (λ s. model.schedule_of model.clients_grammar model.first_event_words text.now
+        ≡ Ok (schedule_of s)) }
+    ensures fault { IfErr result (IsScheduleFaultOf
+        (model.schedule_of model.clients_grammar model.first_event_words text.now)) }
+
+    // It has a client at least, and what is read takes no more room than its text.
+    ensures clients { IfOk result (λ s. (1 ≤ length s.script.clients.items) × (length s.script.clients.items ≤ CLIENT_LIMIT)) }
+    ensures small { IfOk result (λ s. script_len s.script ≤ length text.now + 1) }
+    ensures words { IfOk result (λ s. HasShortWords s.script) }
+{
+    if text.len() > TEXT_LIMIT {
+        return Err(ScriptError::Fault {
+            line: 0,
+            kind: ScriptFault::Long,
+        });
+    }
+    let Draft { script, events } = read_lines(alloc, text)?;
+    if script.clients.is_empty() {
+        return Err(ScriptError::Fault {
+            line: 0,
+            kind: ScriptFault::NoClient,
+        });
+    }
+    match events {
+        Some(events) => Ok(Schedule { script, events }),
+        None => Err(ScriptError::Fault {
+            line: 0,
+            kind: ScriptFault::NoSchedule,
+        }),
+    }
+}
+
+/// Reads all lines of a text, whatever its length.
+fn read_lines(alloc: Global, text: &[u8]) -> Result<Draft, ScriptError>
+    ensures draft { IfOk result (λ d. model.lines_read model.clients_grammar model.first_event_words text.now
+        ≡ Ok (draft_of d)) }
+    ensures fault { IfErr result (IsScheduleFaultOf
+        (model.lines_read model.clients_grammar model.first_event_words text.now)) }
+    ensures few { IfOk result (λ d. length d.script.clients.items ≤ CLIENT_LIMIT) }
+    ensures small { IfOk result (λ d. script_len d.script ≤ length text.now + 1) }
+    ensures words { IfOk result (λ d. HasShortWords d.script) }
+{
+    let mut draft = Draft {
+        script: Script {
+            clients: Vec::new(alloc),
+        },
+        events: None,
+    };
+    let mut number: u64 = 0;
+    let mut rest = Some(text);
+    while let Some(lines) = rest {
+        let (line, behind) = split_once(lines, b'\n');
+        number += 1;
+        if let Err(error) = add_line(alloc, &mut draft, line) {
+            return Err(error.at_line(number));
+        }
+        rest = behind;
+    }
+    Ok(draft)
+}
+
+/// Reads one more line. After an error the draft is not used.
+fn add_line(alloc: Global, draft: &mut Draft, line: &[u8]) -> Result<(), LineError>
+    requires few { length draft.old.script.clients.items ≤ CLIENT_LIMIT }
+    ensures draft { Reads (λ _. draft_of draft.new) (line_added (draft_of draft.old) line.now) result }
+    ensures few { OnOk result (length draft.new.script.clients.items ≤ CLIENT_LIMIT) }
+    ensures len { OnOk result
+        (script_len draft.new.script ≤ script_len draft.old.script + length line.now + 1) }
+    ensures short { HasShortWords draft.old.script → OnOk result (HasShortWords draft.new.script) }
+{
+    if is_passed_over(line) {
+        return Ok(());
+    }
+    match &mut draft.events {
+        Some(events) => add_event(events, draft.script.clients.len(), line),
+        None if begins_schedule(line) => {
+            draft.events = Some(no_events(alloc, line)?);
+            Ok(())
+        }
+        None => add_said(alloc, &mut draft.script, CLIENT_LIMIT, line),
+    }
+}
+
+/// Whether a line's first word is `schedule`.
+fn begins_schedule(line: &[u8]) -> bool
+    ensures { result ≡ model.begins_schedule line.now }
+{
+    are_plain(line) && split_once(line, b' ').0 == b"schedule".as_slice()
+}
+
+/// The events at the begin of a schedule, behind the line of whose words the first is `schedule`.
+fn no_events(alloc: Global, line: &[u8]) -> Result<Vec<Event>, LineError>
+    ensures events { IfOk result (λ events. (events.items ≡ []) × (length (words_of line.now) ≡ 1)) }
+    ensures fault { Reads (λ _. tt {0}) (if length (words_of line.now) == 1 then Ok (tt {0}) else Err Form) result }
+{
+    if split_once(line, b' ').1.is_some() {
+        return Err(LineError::FORM);
+    }
+    Ok(Vec::new(alloc))
+}
+
+/// Reads one more event of a script with so many clients.
+fn add_event(events: &mut Vec<Event>, clients: usize, line: &[u8]) -> Result<(), LineError>
+    requires { clients ≤ CLIENT_LIMIT }
+    ensures { Reads (λ _. events.new.items) (event_added clients events.old.items line.now) result }
+{
+    let event = read_event(clients, line)?;
+    events.push(event)?;
+    Ok(())
+}
+
+/// Reads a line of a schedule for a script with so many clients.
+fn read_event(clients: usize, line: &[u8]) -> Result<Event, LineError>
+    requires { clients ≤ CLIENT_LIMIT }
+    ensures { Reads (λ event. event) (model.event_of clients model.first_event_words line.now) result }
+{
+    if !are_plain(line) {
+        return Err(LineError::Fault(ScriptFault::Byte));
+    }
+    let (word, rest) = split_once(line, b' ');
+    let client = client_alone(clients, rest);
+    let Some(event) = event_named(word, client.unwrap_or(0)) else {
+        return Err(LineError::Fault(ScriptFault::Word));
+    };
+    if client.is_none() {
+        return Err(LineError::FORM);
+    }
+    Ok(event)
+}
+
+/// The one word that is left of a line, as the number of a client of so many.
+fn client_alone(clients: usize, rest: Option<&[u8]>) -> Option<u32>
+    requires { clients ≤ CLIENT_LIMIT }
+    ensures { result ≡ model.client_alone clients (parts_of 32 (option_copied rest.entry)) }
+{
+    let (word, behind) = split_once(rest?, b' ');
+    if behind.is_some() {
+        return None;
+    }
+    let number = number_of(word)?;
+    if number == 0 || number > clients as u64 {
+        return None;
+    }
+    Some(number as u32)
+}
+
+/// The event that a word says of a client, if it is an event's.
+fn event_named(word: &[u8], client: u32) -> Option<Event>
+    ensures { result ≡ event_named model.first_event_words word.now client }
+{
+    let event = if word == b"link".as_slice() {
+        Event::Link(client)
+    } else if word == b"elect".as_slice() {
+        Event::Elect(client)
+    } else if word == b"build".as_slice() {
+        Event::Build(client)
+    } else if word == b"log".as_slice() {
+        Event::Log(client)
+    } else if word == b"fault".as_slice() {
+        Event::Fault(client)
+    } else if word == b"launch".as_slice() {
+        Event::Launch(client)
+    } else if word == b"insert".as_slice() {
+        Event::Insert(client)
+    } else if word == b"finish".as_slice() {
+        Event::Finish(client)
+    } else if word == b"publish".as_slice() {
+        Event::Publish(client)
+    } else if word == b"exit".as_slice() {
+        Event::Exit(client)
+    } else if word == b"complete".as_slice() {
+        Event::Complete(client)
+    } else if word == b"read".as_slice() {
+        Event::Read(client)
+    } else {
+        return None;
+    };
+    Some(event)
+}

@@ -1,0 +1,143 @@
+//! Scripts and their faults.
+
+use crate::{ScriptError, TEXT_LIMIT, parse, parse_schedule};
+use core_model::Event;
+use std::alloc::{AllocError, Global};
+use std::test::Fail;
+use wp_model::ScriptFault;
+
+fn fault(line: u64, kind: ScriptFault) -> Option<ScriptError> {
+    Some(ScriptError::Fault { line, kind })
+}
+
+/// A script with a read of a key of this length.
+fn read_of_long_key(alloc: Global, len: usize) -> Result<Vec<u8>, AllocError> {
+    let mut text = Vec::from_slice(alloc, b"client 1\nget ")?;
+    for _ in 0..len {
+        text.push(b'k')?;
+    }
+    Ok(text)
+}
+
+#[test]
+fn tells_the_first_fault(rt: HostRuntime) {
+    for (text, want) in [
+        ("client 1\nput a 1\ncommit\nget a\n", None),
+        ("client 1\nput a 1\ncommit\nget a", None),
+        ("# any \t byte\n\nclient 1\n", None),
+        ("", fault(0, ScriptFault::NoClient)),
+        ("\n# client 1\n", fault(0, ScriptFault::NoClient)),
+        ("put a 1\n", fault(1, ScriptFault::Client)),
+        ("client 1\npot a 1\n", fault(2, ScriptFault::Word)),
+        ("client 1\n get a\n", fault(2, ScriptFault::Word)),
+        ("client 1\nput a\n", fault(2, ScriptFault::Form)),
+        ("client 1\nput  a 1\n", fault(2, ScriptFault::Form)),
+        ("client 1\nput a 1 \n", fault(2, ScriptFault::Form)),
+        ("client 1\ncommit sync\n", fault(2, ScriptFault::Form)),
+        ("client 01\n", fault(1, ScriptFault::Form)),
+        ("client +1\n", fault(1, ScriptFault::Form)),
+        (
+            "client 18446744073709551615\n",
+            fault(1, ScriptFault::Client),
+        ),
+        ("client 18446744073709551616\n", fault(1, ScriptFault::Form)),
+        ("client 2\n", fault(1, ScriptFault::Client)),
+        ("client 1\nclient 2\n", fault(2, ScriptFault::Clients)),
+        ("client 1\nclient 3\n", fault(2, ScriptFault::Client)),
+        ("client 1\nget\ta\n", fault(2, ScriptFault::Byte)),
+        ("client 1\npot\nget\ta\n", fault(2, ScriptFault::Word)),
+    ] {
+        let error = parse(rt.alloc(), text.as_bytes()).err();
+        assert_eq!(rt; error, want, "in {text:?}");
+    }
+}
+
+#[test]
+fn limits_are_heeded(rt: HostRuntime) -> Result<(), Fail> {
+    for (len, want) in [
+        (1024, None),
+        (1025, fault(2, ScriptFault::Form)),
+        (TEXT_LIMIT - 13, fault(2, ScriptFault::Form)),
+        (TEXT_LIMIT - 12, fault(0, ScriptFault::Long)),
+    ] {
+        let text = read_of_long_key(rt.alloc(), len)?;
+        let error = parse(rt.alloc(), &text).err();
+        assert_eq!(rt; error, want, "at {len}");
+    }
+    Ok(())
+}
+
+#[test]
+fn reads_a_schedule(rt: HostRuntime) -> Result<(), Fail> {
+    let text =
+        "client 1\nput a 1\ncommit\nclient 2\nschedule\n# the first event\nlink 2\n\nelect 1\n";
+    let Ok(schedule) = parse_schedule(rt.alloc(), text.as_bytes()) else {
+        return Err(Fail::new("no schedule was read"));
+    };
+    assert_eq!(rt;
+        schedule.events.as_slice(),
+        [Event::Link(2), Event::Elect(1)].as_slice()
+    );
+    assert_eq!(rt; schedule.script.clients.len(), 2);
+    Ok(())
+}
+
+#[test]
+fn tells_the_first_fault_of_a_schedule(rt: HostRuntime) {
+    for (text, want) in [
+        ("client 1\nschedule\n", None),
+        ("client 1\nschedule", None),
+        ("client 1\nput a 1\n", fault(0, ScriptFault::NoSchedule)),
+        ("", fault(0, ScriptFault::NoClient)),
+        ("schedule\n", fault(0, ScriptFault::NoClient)),
+        ("schedule\nlink 1\n", fault(2, ScriptFault::Form)),
+        ("client 1\nschedule 1\n", fault(2, ScriptFault::Form)),
+        ("client 1\nschedule \n", fault(2, ScriptFault::Form)),
+        ("client 1\nstop\nschedule\n", fault(2, ScriptFault::Word)),
+        ("client 1\nschedule\nlink 2\n", fault(3, ScriptFault::Form)),
+        ("client 1\nschedule\nlink 0\n", fault(3, ScriptFault::Form)),
+        ("client 1\nschedule\nlink 01\n", fault(3, ScriptFault::Form)),
+        ("client 1\nschedule\nlink\n", fault(3, ScriptFault::Form)),
+        (
+            "client 1\nschedule\nlink 1 1\n",
+            fault(3, ScriptFault::Form),
+        ),
+        (
+            "client 1\nschedule\nschedule\n",
+            fault(3, ScriptFault::Word),
+        ),
+        ("client 1\nschedule\nget a\n", fault(3, ScriptFault::Word)),
+        (
+            "client 1\nschedule\nrefuse 1\n",
+            fault(3, ScriptFault::Word),
+        ),
+        ("client 1\nschedule\nlink\t1\n", fault(3, ScriptFault::Byte)),
+        (
+            "client 1\nclient 3\nschedule\n",
+            fault(2, ScriptFault::Client),
+        ),
+    ] {
+        let error = parse_schedule(rt.alloc(), text.as_bytes()).err();
+        assert_eq!(rt; error, want, "in {text:?}");
+    }
+}
+
+/// The sections of so many clients, and the line `schedule`.
+fn many_clients(alloc: Global, clients: u64) -> Result<Vec<u8>, AllocError> {
+    let mut text = Vec::new(alloc);
+    for client in 1..=clients {
+        text.extend_from_slice(format!(in alloc; "client {client}\n")?.as_bytes())?;
+    }
+    text.extend_from_slice(b"schedule\n")?;
+    Ok(text)
+}
+
+#[test]
+fn sixteen_clients_are_taken(rt: HostRuntime) -> Result<(), Fail> {
+    for (clients, want) in [(16, None), (17, fault(17, ScriptFault::Clients))] {
+        let text = many_clients(rt.alloc(), clients)?;
+        let error = parse_schedule(rt.alloc(), &text).err();
+        assert_eq!(rt; error, want);
+    }
+    Ok(())
+}

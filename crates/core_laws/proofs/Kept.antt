@@ -1,0 +1,54 @@
+-- Each event keeps the core's law, and so does every list of events.
+use Rattle.std.proofs.Common.{◌≡◌, List, [], ◌∷◌, Option, Some, None, fold, refl}
+use Rattle.core_model.specs.declared.event.Event.{Event}
+use Rattle.core_model.specs.declared.event.Event.TheVariants as e
+use Rattle.wp_model.specs.declared.write.Refusal.TheVariants as no
+use Rattle.wp_model.specs.Calls.{Command}
+use Rattle.core_model.specs.Core.{Options, State, opened}
+use Rattle.core_model.specs.Step.{step, Replayed, replayed, replay}
+use Rattle.core_model.specs.CoreLaw.{IsCore, Keeps}
+use Rattle.core_laws.proofs.KeptByBuild.{kept_by_build}
+use Rattle.core_laws.proofs.KeptByComplete.{kept_by_complete}
+use Rattle.core_laws.proofs.KeptByElect.{kept_by_elect}
+use Rattle.core_laws.proofs.KeptByExit.{kept_by_exit}
+use Rattle.core_laws.proofs.KeptByFinish.{kept_by_finish}
+use Rattle.core_laws.proofs.KeptByHandover.{kept_by_boundary, kept_by_second, kept_by_next}
+use Rattle.core_laws.proofs.KeptByInsert.{kept_by_insert}
+use Rattle.core_laws.proofs.KeptByLaunch.{kept_by_launch}
+use Rattle.core_laws.proofs.KeptByLeaving.{kept_by_fault, kept_by_refuse}
+use Rattle.core_laws.proofs.KeptByLink.{kept_by_link}
+use Rattle.core_laws.proofs.KeptByLog.{kept_by_log}
+use Rattle.core_laws.proofs.KeptByPublish.{kept_by_publish}
+use Rattle.core_laws.proofs.KeptByRead.{kept_by_read}
+use Rattle.core_laws.proofs.Opening.{opening}
+
+pub kept : (o : Options) (s t : State) (event : Event) → IsCore o s → step o s event ≡ Some t → IsCore o t × Keeps s t
+kept o s t (e.Link c) core is = kept_by_link o s t c core is
+kept o s t (e.Elect c) core is = kept_by_elect o s t c core is
+kept o s t (e.Build c) core is = kept_by_build o s t c core is
+kept o s t (e.Log c) core is = kept_by_log o s t c core is
+kept o s t (e.Fault c) core is = kept_by_fault o s t c core is
+kept o s t (e.Refuse c stops delays wait) core is = kept_by_refuse o s t c (no.Incomplete stops delays wait) core is
+kept o s t (e.Boundary c) core is = kept_by_boundary o s t c core is
+kept o s t (e.Second c) core is = kept_by_second o s t c core is
+kept o s t (e.Next c) core is = kept_by_next o s t c core is
+kept o s t (e.Launch c) core is = kept_by_launch o s t c core is
+kept o s t (e.Insert m) core is = kept_by_insert o s t m core is
+kept o s t (e.Finish m) core is = kept_by_finish o s t m core is
+kept o s t (e.Publish m) core is = kept_by_publish o s t m core is
+kept o s t (e.Exit c) core is = kept_by_exit o s t c core is
+kept o s t (e.Complete m) core is = kept_by_complete o s t m core is
+kept o s t (e.Read c) core is = kept_by_read o s t c core is
+
+-- What holds at a state and is kept by each event that comes holds after every list of events.
+pub by_events : (P : State → Type 0) (o : Options) → ((s t : State) (event : Event) → P s → step o s event ≡ Some t → P t) → (events : List Event) (r : Replayed) → P r.state
+    → P (fold (λ r event. replayed r (step o r.state event)) r events).state
+by_events P o keeps [] r holds = holds
+by_events P o keeps (event ∷ events) r holds = by_events P o keeps events (replayed r (step o r.state event)) (by_step (step o r.state event) refl)
+  where
+    by_step : (after : Option State) → step o r.state event ≡ after → P (replayed r after).state
+    by_step None is = holds
+    by_step (Some t) is = keeps r.state t event holds is
+
+pub every_list : (o : Options) (plans : List (List Command)) (events : List Event) → IsCore o (replay o (opened o plans) events).state
+every_list o plans events = by_events (IsCore o) o (λ s t event core is. (kept o s t event core is).0) events (record { state = opened o plans; taken = 0; skipped = 0 }) (opening o plans)

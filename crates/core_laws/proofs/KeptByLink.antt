@@ -1,0 +1,120 @@
+-- Linking a batch keeps the core's law.
+use Rattle.std.proofs.Common.{◌≡◌, ℕ, ◌+◌, ◌<◌, ◌≤◌, Bool, true, false, cond, ◌==◌, List, [], ◌∷◌, ◌++◌, map, Option, Some, None, is_some, IsSome, if◌then◌else◌, refl, ap, sym, ◌∙◌, subst, arith, append_assoc}
+use Rattle.std.specs.List.{AllByRecursion}
+use Rattle.std.proofs.lemmas.Bool.{ne_eqb, eqb-false, cond-true, cond-false}
+use Rattle.std.proofs.lemmas.List.{map-append}
+use Rattle.wp_model.specs.declared.write.WriteOptions.{WriteOptions}
+use Rattle.wp_model.specs.declared.write.Refusal.{Refusal}
+use Rattle.wp_model.specs.declared.write.Refusal.TheVariants as no
+use Rattle.wp_model.specs.Batch.{Record, count_of}
+use Rattle.wp_model.specs.Progress.{early_refusal}
+use Rattle.wp_model.specs.Calls.{Command, commit, refused}
+use Rattle.core_model.specs.Core.{Options, Writer, Client, LogPhase, free, led, built, in_log, marked, handed, State, client_at, with_client, next_call, told, refusal_of}
+use Rattle.core_model.specs.Step.{link, link_call, linked}
+use Rattle.core_model.specs.CoreLaw.{IsCore, Keeps, LedIsFirst, IsSubsequence, joined, hand, in_order, waiting}
+use Rattle.core_laws.proofs.Clients.{ahead_idle, replaced, still_there, once_after, places}
+use Rattle.core_laws.proofs.KeptByRead.{kept_idle}
+use Rattle.core_laws.proofs.Lists.{all_weaker, all_append}
+use Rattle.core_laws.proofs.Tables.{all_fewer, times, times_cons, times_here, there_append, waiting_parts, subsequence_self}
+
+-- a batch that isn't refused has something to write
+something : (batch_bytes : ℕ) (records : List Record) (how : WriteOptions) → early_refusal batch_bytes false records how ≡ None → 0 < count_of records
+something batch_bytes records how none = by (count_of records == 0) refl none
+  where
+    by : (b : Bool) → (count_of records == 0) ≡ b → early_refusal batch_bytes false records how ≡ None → 0 < count_of records
+    by true is e = absurd (let f : early_refusal batch_bytes false records how ≡ Some no.Empty = cond-true (count_of records == 0) (Some no.Empty) _ is in cc)
+    by false is e = let f = eqb-false (count_of records) 0 is in omega (arith, f)
+
+-- who leads the log stays first
+still_first : (log : LogPhase) (queue : List Writer) (w : Writer) → LedIsFirst log queue → LedIsFirst log (queue ++ w ∷ [])
+still_first (led c) [] w first = absurd (cc)
+still_first (led c) (v ∷ queue) w first = first
+still_first free queue w first = tt
+still_first (built ws) queue w first = tt
+still_first (in_log ws) queue w first = tt
+still_first (marked ws) queue w first = tt
+still_first (handed c) queue w first = tt
+
+-- a client that was idle waits behind the others
+module _ (o : Options) (s : State) (c : ℕ) (old client : Client) (how : WriteOptions) (is : client_at s c ≡ Some old) (idle : old.idle ≡ true) (some : 0 < count_of client.added) (core : IsCore o s) where
+  abbrev writer : Writer
+  writer = record { client = c; options = how; records = client.added; answer = None }
+
+  abbrev waits : Client
+  waits = record client { idle = false }
+
+  abbrev after : State
+  after = record (with_client s c waits) { queue = s.queue ++ writer ∷ [] }
+
+  one_more : (n : ℕ) → times n (waiting after) ≡ times n (waiting s) + times n (c ∷ [])
+  one_more n =
+      let a = waiting_parts n after in
+      let b = waiting_parts n s in
+      let d = there_append n s.queue (writer ∷ []) in
+      omega arith
+
+  none_before : times c (waiting s) ≡ 0
+  none_before = core.once c old is ∙ ap (λ b. if b then 0 else 1) idle
+
+  one_now : times c (waiting after) ≡ 1
+  one_now = let a = one_more c in let b = none_before in let d = times_here c [] in omega arith
+
+  others : (n : ℕ) (other : Client) → (c ≡ n → ⊥) → client_at s n ≡ Some other → times n (waiting after) ≡ (if other.idle then 0 else 1)
+  others n other apart at = same ∙ core.once n other at
+    where
+      same : times n (waiting after) ≡ times n (waiting s)
+      same =
+          let a = one_more n in
+          let b = times_cons n c [] in
+          let d : cond {A = ℕ} (c == n) 1 0 ≡ 0 = cond-false {A = ℕ} (c == n) 1 0 (ne_eqb c n apart) in
+          omega arith
+
+  within : AllByRecursion (λ n. IsSome (client_at after n)) (waiting after)
+  within = all_fewer (λ n. IsSome (client_at after n)) (c ∷ waiting s) (waiting after) fewer
+      (ap is_some (replaced s c old waits is), all_weaker _ _ (still_there s c old waits is) (waiting s) core.clients)
+    where
+      fewer : (n : ℕ) → times n (waiting after) ≤ times n (c ∷ waiting s)
+      fewer n = let a = one_more n in let b = times_cons n c (waiting s) in let d = times_cons n c [] in omega arith
+
+  linking : IsCore o after
+  linking =
+      places o s (with_client s c waits).clients (s.queue ++ writer ∷ []) s.gone
+      (once_after s after c old waits is refl one_now others)
+      within
+      (still_first s.log s.queue writer core.led_is_first)
+      (subst (λ ws. AllByRecursion (λ (w : Writer). 0 < count_of w.records) ws) (append_assoc (hand s.log) s.queue (writer ∷ []))
+      (all_append _ (hand s.log ++ s.queue) (writer ∷ []) core.counted (some, tt)))
+      core
+
+  order : in_order after ≡ in_order s ++ c ∷ []
+  order = ap (map (λ (w : Writer). w.client)) (sym (append_assoc (joined s.second ++ hand s.log) s.queue (writer ∷ []))) ∙ map-append (λ (w : Writer). w.client) ((joined s.second ++ hand s.log) ++ s.queue) (writer ∷ [])
+
+  keeps_linking : Keeps s after
+  keeps_linking = record {
+    newcomer = c ∷ [];
+    at_most_one = omega arith;
+    order = subst (λ ns. IsSubsequence ns (in_order s ++ c ∷ [])) (sym order) (subsequence_self (in_order s ++ c ∷ []));
+    dead = λ was. (refl, was);
+  }
+
+pub kept_by_link : (o : Options) (s t : State) (c : ℕ) → IsCore o s → link o s c (client_at s c) ≡ Some t → IsCore o t × Keeps s t
+kept_by_link o s t c core e = by_client (client_at s c) refl e
+  where
+    by_refusal : (old client : Client) → client_at s c ≡ Some old → old.idle ≡ true → client.idle ≡ true → (how : WriteOptions) (why : Option Refusal) → refusal_of o how client.added ≡ why → linked o s c client how why ≡ t → IsCore o t × Keeps s t
+    by_refusal old client is was now how (Some why) refusal e = subst (λ (x : State). IsCore o x × Keeps s x) e (kept_idle o s c old (told client (commit how) (refused why)) is was refl core)
+    by_refusal old client is was now how None refusal e =
+        let some = something o.batch_bytes client.added how refusal in
+        subst (λ (x : State). IsCore o x × Keeps s x) e (linking o s c old client how is was some core, keeps_linking o s c old client how is was some core)
+
+    by_call : (old client : Client) → client_at s c ≡ Some old → old.idle ≡ true → client.idle ≡ true → (call : Option Command) → link_call o s c client call ≡ Some t → IsCore o t × Keeps s t
+    by_call old client is was now (Some (commit how)) e = by_refusal old client is was now how (refusal_of o how client.added) refl (cc)
+    by_call old client is was now (Some other) e = absurd (cc)
+    by_call old client is was now None e = absurd (cc)
+
+    by_idle : (client : Client) → client_at s c ≡ Some client → (b : Bool) → client.idle ≡ b → (if b then link_call o s c (next_call client).client (next_call client).call else None) ≡ Some t → IsCore o t × Keeps s t
+    by_idle client is true idle e = by_call client (next_call client).client is idle (ahead_idle client.calls client.added client.left client ∙ idle) (next_call client).call e
+    by_idle client is false idle e = absurd (cc)
+
+    by_client : (client : Option Client) → client_at s c ≡ client → link o s c client ≡ Some t → IsCore o t × Keeps s t
+    by_client None is e = absurd (cc)
+    by_client (Some client) is e = by_idle client is client.idle refl e

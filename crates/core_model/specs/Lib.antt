@@ -1,0 +1,6 @@
+pub mod Core
+pub mod CoreLaw
+pub mod ReplayText
+pub mod Replies
+pub mod Schedule
+pub mod Step

@@ -1,0 +1,151 @@
+-- What the clients of the core were told so far: the replies of a plain map at points of the one history of batches.
+use Rattle.std.specs.Prelude.{◌≡◌, ◌⊎◌, ℕ, zero, suc, ◌+◌, ◌<◌, ◌≤◌, Bool, true, false, List, [], ◌∷◌, ◌++◌, length, map, fold, max, Option, Some, None, IsSome, slice_get, MatchOption, ⊤}
+use mathlib.Core.List.{IsPrefix}
+use Rattle.std.specs.List.{AllByRecursion, list_any}
+use Rattle.wp_model.specs.declared.write.WriteOptions.{WriteOptions}
+use Rattle.wp_model.specs.declared.write.Refusal.{Refusal}
+use Rattle.wp_model.specs.declared.write.Refusal.TheVariants as no
+use Rattle.wp_model.specs.Batch.{Record, count_of}
+use Rattle.wp_model.specs.Map.{Pairs, value_at, rows_within}
+use Rattle.wp_model.specs.History.{Entry, IsHistory, IsUpTo, IsBoundary, map_of, max_sequence}
+use Rattle.wp_model.specs.Progress.{early_refusal, next_entry, batch_after}
+use Rattle.wp_model.specs.Runs.{commands_of}
+use Rattle.wp_model.specs.Outcomes.{own}
+use Rattle.wp_model.specs.Calls.{Command, add, clear, commit, get, many, scan, stop, unstop, slow, unslow, Reply, quiet, accepted, refused, found, found_each, rows, Call}
+use Rattle.core_model.specs.Core.{Options, Client, State, client_at}
+
+-- The greatest sequence that a client was shown as published, by its reads and by its accepted commits
+abbrev pub shown_by : ℕ → Reply → ℕ
+shown_by least (accepted first last records) = max least last
+shown_by least (found at v) = max least at
+shown_by least (found_each at vs) = max least at
+shown_by least (rows at pairs) = max least at
+shown_by least other = least
+
+abbrev pub shown : List Call → ℕ
+shown calls = fold (λ least c. shown_by least c.reply) 0 calls
+
+-- A client was told that the log is dead
+abbrev pub is_log_fault : Reply → Bool
+is_log_fault (refused (no.LogFault count)) = true
+is_log_fault other = false
+
+abbrev pub knows_dead : List Call → Bool
+knows_dead calls = list_any (λ (c : Call). is_log_fault c.reply) calls
+
+-- The entries of a client's accepted commits, in order
+abbrev pub entries_by : ℕ → List Entry → Command → Reply → List Entry
+entries_by client mine (commit how) (accepted first last records) = mine ++ next_entry client mine how first records ∷ []
+entries_by client mine command reply = mine
+
+abbrev pub entries_told : ℕ → List Call → List Entry
+entries_told client calls = fold (λ mine c. entries_by client mine c.command c.reply) [] calls
+
+-- Each command: which reply may follow the calls before it
+
+-- a read at a boundary of the history that isn't below what the client was shown, answered by the map there
+pub record ReadsAt (o : Options) (s : State) (before : List Call) (at : ℕ) (answers : Pairs → Type 0) : Type 0 where
+  pub front : List Entry
+  pub is_front : IsUpTo o.start s.entries at front
+  pub not_below : shown before ≤ at
+  pub answer : answers (map_of front)
+
+abbrev pub Gets : Options → State → List Call → List ℕ → Reply → Type 0
+Gets o s before key (found at v) = ReadsAt o s before at (λ m. v ≡ value_at m key)
+Gets o s before key other = ⊥
+
+abbrev pub GetsMany : Options → State → List Call → List (List ℕ) → Reply → Type 0
+GetsMany o s before keys (found_each at vs) = ReadsAt o s before at (λ m. vs ≡ map (value_at m) keys)
+GetsMany o s before keys other = ⊥
+
+abbrev pub Scans : Options → State → List Call → List ℕ → List ℕ → Reply → Type 0
+Scans o s before lo hi (rows at pairs) = ReadsAt o s before at (λ m. pairs ≡ rows_within lo hi m)
+Scans o s before lo hi other = ⊥
+
+-- why a commit that passed the early checks may be refused: the log's fault, no room for its run behind a boundary, or a stall that it wasn't to wait for
+abbrev pub MayRefuse : Options → State → List Call → WriteOptions → Refusal → Type 0
+MayRefuse o s before how (no.LogFault count) = (count ≡ 1) × (s.dead ≡ true)
+MayRefuse o s before how (no.SequenceFull last) =
+    (knows_dead before ≡ false) × (shown before ≤ last) × IsBoundary o.start s.entries last × (max_sequence < last + count_of (batch_after before))
+MayRefuse o s before how (no.Incomplete stops delays wait) = how.no_slowdown ≡ true
+MayRefuse o s before how no.Empty = ⊥
+MayRefuse o s before how (no.TooLarge size) = ⊥
+MayRefuse o s before how no.SyncWithoutLog = ⊥
+MayRefuse o s before how no.SelfStop = ⊥
+MayRefuse o s before how no.NoMemory = ⊥
+
+-- an accepted batch is what was added since the last, under a run of as many sequences as it counts, and after a fault that its client knows of there is none
+pub record IsAccepted (before : List Call) (first last : ℕ) (records : List Record) : Type 0 where
+  pub batch : records ≡ batch_after before
+  pub run : last + 1 ≡ first + count_of records
+  pub alive : knows_dead before ≡ false
+
+-- a commit that passed the early checks
+abbrev pub IsHandled : Options → State → List Call → WriteOptions → Reply → Type 0
+IsHandled o s before how (accepted first last records) = IsAccepted before first last records
+IsHandled o s before how (refused why) = MayRefuse o s before how why
+IsHandled o s before how other = ⊥
+
+abbrev pub Commits : Options → State → List Call → WriteOptions → Reply → Type 0
+Commits o s before how reply = MatchOption (early_refusal o.batch_bytes false (batch_after before) how) (IsHandled o s before how reply) (λ why. reply ≡ refused why)
+
+abbrev pub MayReply : Options → State → List Call → Command → Reply → Type 0
+MayReply o s before (add r) reply = reply ≡ quiet
+MayReply o s before clear reply = reply ≡ quiet
+MayReply o s before (commit how) reply = Commits o s before how reply
+MayReply o s before (get key) reply = Gets o s before key reply
+MayReply o s before (many keys) reply = GetsMany o s before keys reply
+MayReply o s before (scan lo hi) reply = Scans o s before lo hi reply
+MayReply o s before stop reply = ⊥
+MayReply o s before unstop reply = ⊥
+MayReply o s before (slow rate) reply = ⊥
+MayReply o s before unslow reply = ⊥
+
+-- each call has a reply that may follow the calls before it
+abbrev pub AreRight : Options → State → List Call → Type 0
+AreRight o s calls = (before : List Call) (c : Call) (after : List Call) → calls ≡ before ++ c ∷ after → MayReply o s before c.command c.reply
+
+-- the next line is a commit that has its entry, of the batch as it stands, and no answer yet
+pub record IsOnItsWay (s : State) (c : ℕ) (client : Client) (rest : List Command) : Type 0 where
+  pub waits : client.idle ≡ false
+  pub how : WriteOptions
+  pub behind : List Command
+  pub next : rest ≡ commit how ∷ behind
+  pub first : ℕ
+  pub entries : own c s.entries ≡ entries_told c client.calls ++ next_entry c (entries_told c client.calls) how first (batch_after client.calls) ∷ []
+
+-- A client's calls are its lines so far, each rightly answered, and nothing was shown to it that isn't published. Its entries in the history are its
+-- accepted commits in order, perhaps with one more on its way.
+pub record IsAnswered (o : Options) (s : State) (c : ℕ) (lines : List Command) (client : Client) : Type 0 where
+  pub rest : List Command
+  pub asked : lines ≡ commands_of client.calls ++ rest
+  pub right : AreRight o s client.calls
+  pub shown_is : shown client.calls ≤ s.last
+  pub entries : (own c s.entries ≡ entries_told c client.calls) ⊎ IsOnItsWay s c client rest
+
+-- clients are numbered from 1
+abbrev pub lines_at : List (List Command) → ℕ → Option (List Command)
+lines_at plans zero = None
+lines_at plans (suc c) = slice_get plans c
+
+-- one history of whole batches, of these clients alone, and each client's calls in it
+pub record AreRepliesOf (o : Options) (plans : List (List Command)) (s : State) : Type 0 where
+  pub is_history : IsHistory o.start s.entries
+  pub of_clients : AllByRecursion (λ (x : Entry). IsSome (client_at s x.client)) s.entries
+  pub count : length s.clients ≡ length plans
+  pub each : (c : ℕ) (lines : List Command) (client : Client) → lines_at plans c ≡ Some lines → client_at s c ≡ Some client → IsAnswered o s c lines client
+
+-- if it is the reply of a read, it was read at this sequence or a later one
+abbrev pub IsFrom : ℕ → Reply → Type 0
+IsFrom last (found at v) = last ≤ at
+IsFrom last (found_each at vs) = last ≤ at
+IsFrom last (rows at pairs) = last ≤ at
+IsFrom last other = ⊤
+
+-- A state and a later one: the history goes on, the published sequence doesn't fall, no reply is taken back, and no client's later read is behind what was
+-- published before.
+pub record IsLater (old new : State) : Type 0 where
+  pub history : IsPrefix old.entries new.entries
+  pub last : old.last ≤ new.last
+  pub calls : (c : ℕ) (client : Client) → client_at old c ≡ Some client
+      → (later : Client) × (client_at new c ≡ Some later) × (told : List Call) × (client.calls ++ told ≡ later.calls) × AllByRecursion (λ (c : Call). IsFrom old.last c.reply) told

@@ -1,0 +1,27 @@
+-- The types of fragments.
+use Rattle.std.proofs.Common.{◌≡◌, ℕ, zero, suc, ◌≤◌, Some, None, refl, arith}
+use Rattle.std.proofs.lemmas.Bool.{ne_eqb}
+use Rattle.wp_model.specs.Log.{Kind, full, first, middle, last, kind_code}
+use Rattle.wp_model.specs.Reading.{kind_of_code}
+
+-- the number is a kind's code
+pub record IsCode (code : ℕ) : Type 0 where
+  pub kind : Kind
+  pub read : kind_of_code None code ≡ Some kind
+  pub code_is : code ≡ kind_code None kind
+
+pub some_kind : (code : ℕ) → 1 ≤ code → code ≤ 4 → IsCode code
+some_kind zero low high = absurd (omega arith)
+some_kind (suc zero) low high = record { kind = full; read = refl; code_is = refl }
+some_kind (suc (suc zero)) low high = record { kind = first; read = refl; code_is = refl }
+some_kind (suc (suc (suc zero))) low high = record { kind = middle; read = refl; code_is = refl }
+some_kind (suc (suc (suc (suc zero)))) low high = record { kind = last; read = refl; code_is = refl }
+some_kind (suc (suc (suc (suc (suc n))))) low high = absurd (omega arith)
+
+pub no_kind : (code : ℕ) → ((1 ≤ code) × (code ≤ 4) → ⊥) → kind_of_code None code ≡ None
+no_kind code other =
+    let e1 = ne_eqb code 1 (λ e. other (omega arith, omega arith)) in
+    let e2 = ne_eqb code 2 (λ e. other (omega arith, omega arith)) in
+    let e3 = ne_eqb code 3 (λ e. other (omega arith, omega arith)) in
+    let e4 = ne_eqb code 4 (λ e. other (omega arith, omega arith)) in
+    rw (e1, e2, e3, e4) refl

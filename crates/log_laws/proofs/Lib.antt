@@ -1,0 +1,10 @@
+pub mod Seen
+pub mod Next
+pub mod Placed
+pub mod Agree
+pub mod Crash
+pub mod Written
+pub mod Recovers
+pub mod Synced
+pub mod ReadSynced
+pub mod Varints

@@ -1,0 +1,226 @@
+-- A record with one fragment more.
+use Rattle.std.proofs.Common.{◌≡◌, ℕ, ◌+◌, List, [], ◌∷◌, ◌++◌, length, drop, slice_range, Option, Some, None, refl, sym, ◌∙◌, ap, subst, append_assoc}
+use Rattle.std.proofs.Math.Seq.{drop-append_seam}
+use Rattle.std.proofs.lemmas.List.{drop-drop, append-nil}
+use Rattle.std.specs.List.{AllByRecursion}
+use Rattle.wp_model.specs.declared.log.Damage.{Damage}
+use Rattle.wp_model.specs.declared.log.EndReason.TheVariants as ends
+use Rattle.wp_model.specs.Log.{Kind, full, first, middle, last, Fragment, placed, next_place, GoesToLast, AreOneRecord, kinds_of, record_of}
+use Rattle.wp_model.specs.Reading.{Seen, Next, fragment, nothing, damage, next_seen, Stand, end_of, AreBegun, Comes, ReadingEnds, clean, broken, bad_order, unfinished}
+use Rattle.log_reader.specs.declared.reader.Turn.TheVariants as turn
+use Rattle.log_reader.specs.Blocks.{IsNext}
+use Rattle.log_reader.specs.Records.{IsRecord, Reads}
+use Rattle.log_reader.specs.Steps.{BeginsAt, Stood, turn_of, end_of_reading}
+use Rattle.log_reader.proofs.Placed.{end_none, end_append, placed_append, fit_joined}
+
+-- the kinds of a record's first fragments
+first_kind : (k : Kind) (ks : List Kind) → AreBegun (k ∷ ks) → (k ≡ first) × AllByRecursion (λ j. j ≡ middle) ks
+first_kind full ks are = absurd are
+first_kind first ks are = (refl, are)
+first_kind middle ks are = absurd are
+first_kind last ks are = absurd are
+
+begun_by : (k : Kind) (ks : List Kind) → k ≡ first → AllByRecursion (λ j. j ≡ middle) ks → AreBegun (k ∷ ks)
+begun_by k ks e all = subst (λ j. AreBegun (j ∷ ks)) (sym e) all
+
+one_by : (k : Kind) (ks : List Kind) → k ≡ first → GoesToLast ks → AreOneRecord (k ∷ ks)
+one_by k ks e goes = subst (λ j. AreOneRecord (j ∷ ks)) (sym e) goes
+
+goes_by : (k : Kind) (ks : List Kind) → k ≡ middle → GoesToLast ks → GoesToLast (k ∷ ks)
+goes_by k ks e goes = subst (λ j. GoesToLast (j ∷ ks)) (sym e) goes
+
+-- one middle more, and a last one
+middles_more : (fs : List Fragment) (f : Fragment) → f.kind ≡ middle → AllByRecursion (λ j. j ≡ middle) (kinds_of fs) → AllByRecursion (λ j. j ≡ middle) (kinds_of (fs ++ f ∷ []))
+middles_more [] f e all = (e, tt)
+middles_more (g ∷ fs) f e all = (all.0, middles_more fs f e all.1)
+
+to_last : (fs : List Fragment) (f : Fragment) → f.kind ≡ last → AllByRecursion (λ j. j ≡ middle) (kinds_of fs) → GoesToLast (kinds_of (fs ++ f ∷ []))
+to_last [] f e all = subst (λ j. GoesToLast (j ∷ [])) (sym e) refl
+to_last (g ∷ fs) f e all = goes_by g.kind (kinds_of (fs ++ f ∷ [])) all.0 (to_last fs f e all.1)
+
+-- no whole one and no first one
+no_middle : (fs : List Fragment) (f : Fragment) → AllByRecursion (λ j. j ≡ middle) (kinds_of (fs ++ f ∷ [])) → f.kind ≡ middle
+no_middle [] f all = all.0
+no_middle (g ∷ fs) f all = no_middle fs f all.1
+
+ends_last : (k : Kind) → GoesToLast (k ∷ []) → k ≡ last
+ends_last full goes = absurd goes
+ends_last first goes = absurd goes
+ends_last middle goes = absurd goes
+ends_last last goes = refl
+
+goes_from : (k : Kind) (ks : List Kind) → k ≡ middle → GoesToLast (k ∷ ks) → GoesToLast ks
+goes_from k ks e goes = subst (λ j. GoesToLast (j ∷ ks)) e goes
+
+no_last : (fs : List Fragment) (f : Fragment) → AllByRecursion (λ j. j ≡ middle) (kinds_of fs) → GoesToLast (kinds_of (fs ++ f ∷ [])) → f.kind ≡ last
+no_last [] f all goes = ends_last f.kind goes
+no_last (g ∷ fs) f all goes = no_last fs f all.1 (goes_from g.kind (kinds_of (fs ++ f ∷ [])) all.0 goes)
+
+one_from : (k : Kind) (ks : List Kind) → k ≡ first → AreOneRecord (k ∷ ks) → GoesToLast ks
+one_from k ks e one = subst (λ j. AreOneRecord (j ∷ ks)) e one
+
+-- what a turn says of the kinds
+pub more_begun : (fs : List Fragment) (f : Fragment) (begun : Option ℕ) (place at start : ℕ) → AreBegun (kinds_of fs) → BeginsAt begun place fs → (fs ≡ [] → at ≡ next_place None place) → turn_of f.kind begun at ≡ turn.More start
+    → AreBegun (kinds_of (fs ++ f ∷ [])) × BeginsAt (Some start) place (fs ++ f ∷ [])
+more_begun [] f None place at start are begins here e = by_kind f.kind e
+  where
+    by_kind : (k : Kind) → turn_of k None at ≡ turn.More start → AreBegun (k ∷ []) × (start ≡ next_place None place)
+    by_kind full h = absurd (cc)
+    by_kind first h = let same : at ≡ start = cc in (tt, sym same ∙ here refl)
+    by_kind middle h = absurd (cc)
+    by_kind last h = absurd (cc)
+more_begun [] f (Some s) place at start are begins here e = absurd begins
+more_begun (g ∷ fs) f None place at start are begins here e = absurd begins
+more_begun (g ∷ fs) f (Some s) place at start are begins here e =
+    let kinds = first_kind g.kind (kinds_of fs) are in
+    let is = by_kind f.kind e in
+    (begun_by g.kind (kinds_of (fs ++ f ∷ [])) kinds.0 (middles_more fs f is.0 kinds.1), sym is.1 ∙ begins)
+  where
+    by_kind : (k : Kind) → turn_of k (Some s) at ≡ turn.More start → (k ≡ middle) × (s ≡ start)
+    by_kind full h = absurd (cc)
+    by_kind first h = absurd (cc)
+    by_kind middle h = (refl, cc)
+    by_kind last h = absurd (cc)
+
+pub last_one : (fs : List Fragment) (f : Fragment) (begun : Option ℕ) (place at start : ℕ) → AreBegun (kinds_of fs) → BeginsAt begun place fs → (fs ≡ [] → at ≡ next_place None place) → turn_of f.kind begun at ≡ turn.Last start
+    → AreOneRecord (kinds_of (fs ++ f ∷ [])) × (start ≡ next_place None place)
+last_one [] f None place at start are begins here e = by_kind f.kind e
+  where
+    by_kind : (k : Kind) → turn_of k None at ≡ turn.Last start → AreOneRecord (k ∷ []) × (start ≡ next_place None place)
+    by_kind full h = let same : at ≡ start = cc in (refl, sym same ∙ here refl)
+    by_kind first h = absurd (cc)
+    by_kind middle h = absurd (cc)
+    by_kind last h = absurd (cc)
+last_one [] f (Some s) place at start are begins here e = absurd begins
+last_one (g ∷ fs) f None place at start are begins here e = absurd begins
+last_one (g ∷ fs) f (Some s) place at start are begins here e =
+    let kinds = first_kind g.kind (kinds_of fs) are in
+    let is = by_kind f.kind e in
+    (one_by g.kind (kinds_of (fs ++ f ∷ [])) kinds.0 (to_last fs f is.0 kinds.1), sym is.1 ∙ begins)
+  where
+    by_kind : (k : Kind) → turn_of k (Some s) at ≡ turn.Last start → (k ≡ last) × (s ≡ start)
+    by_kind full h = absurd (cc)
+    by_kind first h = absurd (cc)
+    by_kind middle h = absurd (cc)
+    by_kind last h = (refl, cc)
+
+pub misplaced : (fs : List Fragment) (f : Fragment) (begun : Option ℕ) (place at : ℕ) → AreBegun (kinds_of fs) → BeginsAt begun place fs → turn_of f.kind begun at ≡ turn.Misplaced
+    → (AreBegun (kinds_of (fs ++ f ∷ [])) → ⊥) × (AreOneRecord (kinds_of (fs ++ f ∷ [])) → ⊥)
+misplaced [] f None place at are begins e = by_kind f.kind e
+  where
+    by_kind : (k : Kind) → turn_of k None at ≡ turn.Misplaced → (AreBegun (k ∷ []) → ⊥) × (AreOneRecord (k ∷ []) → ⊥)
+    by_kind full h = absurd (cc)
+    by_kind first h = absurd (cc)
+    by_kind middle h = ((λ b. b), λ o. o)
+    by_kind last h = ((λ b. b), λ o. o)
+misplaced [] f (Some s) place at are begins e = absurd begins
+misplaced (g ∷ fs) f None place at are begins e = absurd begins
+misplaced (g ∷ fs) f (Some s) place at are begins e =
+    let kinds = first_kind g.kind (kinds_of fs) are in (
+      (λ b. not_middle f.kind e (no_middle fs f (first_kind g.kind (kinds_of (fs ++ f ∷ [])) b).1)),
+      λ o. not_last f.kind e (no_last fs f kinds.1 (one_from g.kind (kinds_of (fs ++ f ∷ [])) kinds.0 o)),
+    )
+  where
+    not_middle : (k : Kind) → turn_of k (Some s) at ≡ turn.Misplaced → k ≡ middle → ⊥
+    not_middle full h is = cc
+    not_middle first h is = cc
+    not_middle middle h is = cc
+    not_middle last h is = cc
+
+    not_last : (k : Kind) → turn_of k (Some s) at ≡ turn.Misplaced → k ≡ last → ⊥
+    not_last full h is = cc
+    not_last first h is = cc
+    not_last middle h is = cc
+    not_last last h is = cc
+
+-- what stands behind fragments
+behind_stand : (file : List ℕ) (place : ℕ) (fs : List Fragment) (s : Stand None file place fs) → s.rest ≡ drop (end_of None place fs) file
+behind_stand file place fs s =
+    sym (drop-append_seam (placed None place fs) s.rest) ∙ (ap (drop (length (placed None place fs))) (sym s.there) ∙ drop-drop (length (placed None place fs)) place file)
+
+stand_more : (file : List ℕ) (place : ℕ) (fs gs : List Fragment) → Stand None file place fs → Stand None file (end_of None place fs) gs → Stand None file place (fs ++ gs)
+stand_more file place fs gs s t = record {
+  rest = t.rest;
+  there = s.there
+      ∙ (ap (λ (l : List ℕ). placed None place fs ++ l) (behind_stand file place fs s ∙ t.there)
+      ∙ (sym (append_assoc (placed None place fs) (placed None (end_of None place fs) gs) t.rest) ∙ ap (λ (l : List ℕ). l ++ t.rest) (sym (placed_append place fs gs))));
+  fit = fit_joined place fs gs s.fit t.fit;
+}
+
+record_more : (fs : List Fragment) (f : Fragment) → record_of (fs ++ f ∷ []) ≡ record_of fs ++ f.part
+record_more [] f = append-nil f.part
+record_more (g ∷ fs) f = ap (λ (l : List ℕ). g.part ++ l) (record_more fs f) ∙ sym (append_assoc g.part (record_of fs) f.part)
+
+-- the fragment that comes next
+abbrev pub the_fragment : (file : List ℕ) (offset start : ℕ) (block : List ℕ) (at code from to : ℕ) → IsNext file offset start block at code from to → Fragment
+the_fragment file offset start block at code from to n = record { kind = n.kind; part = slice_range block from to }
+
+-- with it, the fragments stand there
+pub record Added (file : List ℕ) (place : ℕ) (fs : List Fragment) (f : Fragment) (old new : List ℕ) (end : ℕ) : Type 0 where
+  pub stand : Stand None file place (fs ++ f ∷ [])
+  pub bytes_are : new ≡ record_of (fs ++ f ∷ [])
+  pub there : end ≡ end_of None place (fs ++ f ∷ [])
+
+pub added : (file : List ℕ) (place offset start : ℕ) (block : List ℕ) (at code from to : ℕ) (begun : Option ℕ) (old new : List ℕ) (s : Stood file place begun old offset) (n : IsNext file offset start block at code from to)
+    → new ≡ old ++ slice_range block from to → Added file place s.fragments (the_fragment file offset start block at code from to n) old new (start + to)
+added file place offset start block at code from to begun old new s n e =
+    let fs = s.fragments in
+    let f = the_fragment file offset start block at code from to n in
+    record {
+      stand = stand_more file place fs (f ∷ []) s.stand (subst (λ p. Stand None file p (f ∷ [])) s.there n.stands);
+      bytes_are = e ∙ (ap (λ (l : List ℕ). l ++ f.part) s.bytes_are ∙ sym (record_more fs f));
+      there = sym n.end ∙ (ap (λ (p : ℕ). end_of None p (f ∷ [])) s.there ∙ sym (end_append place fs (f ∷ [])));
+    }
+
+-- at the first fragment the record begins
+pub begins_here : (file : List ℕ) (place offset start : ℕ) (block : List ℕ) (at code from to : ℕ) (begun : Option ℕ) (old : List ℕ) (s : Stood file place begun old offset) → IsNext file offset start block at code from to
+    → s.fragments ≡ [] → start + at ≡ next_place None place
+begins_here file place offset start block at code from to begun old s n none =
+    n.place ∙ ap (next_place None) (s.there ∙ (ap (end_of None place) none ∙ end_none place))
+
+-- what the reader sees behind the fragments
+sees_behind : (file : List ℕ) (place offset : ℕ) (begun : Option ℕ) (old : List ℕ) (s : Stood file place begun old offset) (next : Next) → next_seen None file offset ≡ next → Comes None file place s.fragments next
+sees_behind file place offset begun old s next e = record {
+  begun = s.are_begun;
+  stand = s.stand;
+  is_next = sym (ap (next_seen None file) (sym s.there) ∙ e);
+}
+
+pub ends_in_order : (file : List ℕ) (place offset start : ℕ) (block : List ℕ) (at code from to : ℕ) (begun : Option ℕ) (old : List ℕ) (s : Stood file place begun old offset) (n : IsNext file offset start block at code from to)
+    → turn_of n.kind begun (start + at) ≡ turn.Misplaced → ReadingEnds None file place (start + at) ends.BadOrder
+ends_in_order file place offset start block at code from to begun old s n e =
+    let f = the_fragment file offset start block at code from to n in
+    let wrong = misplaced s.fragments f begun place (start + at) s.are_begun s.begins e in
+    bad_order s.fragments (sees_behind file place offset begun old s (record { at = start + at; seen = fragment f }) n.seen) wrong.0 wrong.1
+
+pub ends_in_damage : (file : List ℕ) (place offset at : ℕ) (d : Damage) (begun : Option ℕ) (old : List ℕ) → Stood file place begun old offset → next_seen None file offset ≡ record { at = at; seen = damage d } → ReadingEnds None file place at (ends.Broken d)
+ends_in_damage file place offset at d begun old s e = broken s.fragments (sees_behind file place offset begun old s (record { at = at; seen = damage d }) e)
+
+pub ends_with_file : (file : List ℕ) (place offset file_len : ℕ) (begun : Option ℕ) (old new : List ℕ) → Stood file place begun old offset → (next_seen None file offset).seen ≡ nothing → length file ≡ file_len
+    → Reads file place new (end_of_reading begun file_len)
+ends_with_file file place offset file_len begun old new s none len = by_begun begun s.fragments s.begins
+    (sees_behind file place offset begun old s (record { at = (next_seen None file offset).at; seen = nothing }) (ap (λ (x : Seen). record { at = (next_seen None file offset).at; seen = x }) none))
+  where
+    by_begun : (b : Option ℕ) (fs : List Fragment) → BeginsAt b place fs → Comes None file place fs (record { at = (next_seen None file offset).at; seen = nothing }) → Reads file place new (end_of_reading b file_len)
+    by_begun None [] begins comes = subst (λ n. ReadingEnds None file place n ends.Clean) len (clean comes)
+    by_begun None (f ∷ fs) begins comes = absurd begins
+    by_begun (Some start) [] begins comes = absurd begins
+    by_begun (Some start) (f ∷ fs) begins comes = subst (λ n. ReadingEnds None file place n ends.Unfinished) (sym begins) (unfinished f fs comes)
+
+-- a record goes on
+pub goes_further : (file : List ℕ) (place offset start : ℕ) (block : List ℕ) (at code from to begin : ℕ) (begun : Option ℕ) (old new : List ℕ) → Stood file place begun old offset → (n : IsNext file offset start block at code from to)
+    → turn_of n.kind begun (start + at) ≡ turn.More begin → new ≡ old ++ slice_range block from to → Stood file place (Some begin) new (start + to)
+goes_further file place offset start block at code from to begin begun old new s n e taken =
+    let f = the_fragment file offset start block at code from to n in
+    let more = added file place offset start block at code from to begun old new s n taken in
+    let kinds = more_begun s.fragments f begun place (start + at) begin s.are_begun s.begins (begins_here file place offset start block at code from to begun old s n) e in
+    record { fragments = s.fragments ++ f ∷ []; are_begun = kinds.0; stand = more.stand; begins = kinds.1; bytes_are = more.bytes_are; there = more.there }
+
+-- a record ends
+pub ends_record : (file : List ℕ) (place offset start : ℕ) (block : List ℕ) (at code from to begin : ℕ) (begun : Option ℕ) (old new : List ℕ) → Stood file place begun old offset → (n : IsNext file offset start block at code from to)
+    → turn_of n.kind begun (start + at) ≡ turn.Last begin → new ≡ old ++ slice_range block from to → IsRecord file place begin (start + to) new
+ends_record file place offset start block at code from to begin begun old new s n e taken =
+    let f = the_fragment file offset start block at code from to n in
+    let more = added file place offset start block at code from to begun old new s n taken in
+    let kinds = last_one s.fragments f begun place (start + at) begin s.are_begun s.begins (begins_here file place offset start block at code from to begun old s n) e in
+    record { fragments = s.fragments ++ f ∷ []; one = kinds.0; stand = more.stand; starts = kinds.1; ends = more.there; bytes_are = more.bytes_are; in_file = n.in_file }

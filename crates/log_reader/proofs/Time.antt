@@ -1,0 +1,20 @@
+-- The time that calls take which change nothing.
+use Rattle.std.proofs.Common.{◌≡◌, inl, inr, ⊎_elim, ℕ, List, Option, IfSome, sym, subst, arith}
+use Rattle.wp_edge.specs.Disk.{Disk, IsImage, TimePasses}
+
+-- one stretch of time behind another
+pub more_time : {D : Type 0} (told : D → Option Disk) (moment from : D → ℕ) (since : D → ℕ → List ℕ → Type 0) (old mid new : D) → told new ≡ told mid
+    → TimePasses told moment from since old mid → TimePasses told moment from since mid new → TimePasses told moment from since old new
+more_time told moment from since old mid new same first second =
+    let later_first = first.later in
+    let later_second = second.later in
+    let forgets_first = first.forgets in
+    let forgets_second = second.forgets in
+    record {
+      later = omega (arith, later_first, later_second);
+      forgets = omega (arith, forgets_first, forgets_second);
+      nothing_else = λ t image known before has. ⊎_elim
+          (λ h. ⊎_elim (λ a. inl a) (λ b. inr (subst (λ (d : Option Disk). IfSome d (λ e. IsImage e image)) (sym same) b)) (first.nothing_else t image (omega (arith, known, forgets_second)) before h))
+          (λ b. inr b) (second.nothing_else t image known (omega (arith, before, later_first)) has);
+      keeps = λ t image known before has. second.keeps t image known (omega (arith, before, later_first)) (first.keeps t image (omega (arith, known, forgets_second)) before has);
+    }

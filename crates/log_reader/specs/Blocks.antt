@@ -1,0 +1,49 @@
+-- A reader of a log in one of its blocks.
+use Rattle.std.specs.Prelude.{◌≡◌, ℕ, ◌+◌, ◌%◌, ◌<◌, ◌≤◌, List, [], ◌∷◌, length, take, drop, slice_range, None}
+use Rattle.wp_model.specs.Log.{Kind, kind_code, next_place}
+use Rattle.wp_model.specs.Reading as reading
+use Rattle.wp_model.specs.Reading.{next_seen, end_of, Stand}
+use Rattle.log_block.specs.declared.fragments.Seen.{Seen}
+use Rattle.log_block.specs.declared.fragments.Seen.TheVariants as seen
+
+-- the block of the file that begins there stands in front, as far as the file has it
+abbrev pub ReadsBlock : List ℕ → ℕ → List ℕ → ℕ → Type 0
+ReadsBlock file start block len = take len block ≡ take 32768 (drop start file)
+
+-- the block that begins at this offset of the file, as far as the file has it
+pub record IsBlock (file : List ℕ) (start : ℕ) (block : List ℕ) : Type 0 where
+  pub aligned : start % 32768 ≡ 0
+  pub in_file : start ≤ length file
+  pub bytes : block ≡ take 32768 (drop start file)
+
+-- from the one offset the reader sees the same next as from the other
+abbrev pub Reaches : List ℕ → ℕ → ℕ → Type 0
+Reaches file offset place = next_seen None file offset ≡ next_seen None file place
+
+-- the fragment with this code that a reader sees next from an offset stands in the block
+pub record IsNext (file : List ℕ) (offset start : ℕ) (block : List ℕ) (at code from to : ℕ) : Type 0 where
+  pub kind : Kind
+  pub code_is : code ≡ kind_code None kind
+  pub seen : next_seen None file offset ≡ record { at = start + at; seen = reading.fragment (record { kind = kind; part = slice_range block from to }) }
+  pub place : start + at ≡ next_place None offset
+  pub stands : Stand None file offset (record { kind = kind; part = slice_range block from to } ∷ [])
+  pub end : end_of None offset (record { kind = kind; part = slice_range block from to } ∷ []) ≡ start + to
+  pub in_file : start + to ≤ length file
+
+-- what a reader sees next from an offset, in the block
+abbrev pub SeenNext : List ℕ → ℕ → ℕ → List ℕ → ℕ → Seen → Type 0
+SeenNext file offset start block at (seen.Fragment code from to) = IsNext file offset start block at code from to
+SeenNext file offset start block at seen.End = (reading.Next.seen (next_seen None file offset) ≡ reading.nothing) × (length file ≡ start + length block)
+SeenNext file offset start block at (seen.Damage d) = next_seen None file offset ≡ record { at = start + at; seen = reading.damage d }
+
+-- the same, but at the end of a whole block the reader goes on
+abbrev pub SeenThere : List ℕ → ℕ → ℕ → List ℕ → ℕ → Seen → Type 0
+SeenThere file offset start block at (seen.Fragment code from to) = SeenNext file offset start block at (seen.Fragment code from to)
+SeenThere file offset start block at seen.End = (length block ≡ 32768 → Reaches file offset (start + 32768)) × (length block < 32768 → SeenNext file offset start block at seen.End)
+SeenThere file offset start block at (seen.Damage d) = SeenNext file offset start block at (seen.Damage d)
+
+-- a fragment's part lies in the block, of which the file has so many bytes, behind the place where its header begins
+abbrev pub PartIn : ℕ → ℕ → Seen → Type 0
+PartIn len at (seen.Fragment code from to) = (at < from) × (from ≤ to) × (to ≤ len)
+PartIn len at seen.End = Unit {0}
+PartIn len at (seen.Damage d) = Unit {0}

@@ -1,0 +1,5 @@
+pub mod Blocks
+pub mod Windows
+pub mod Records
+pub mod Steps
+pub mod Reader

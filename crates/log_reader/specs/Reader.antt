@@ -1,0 +1,36 @@
+-- A reader of a log's records, as callers see it.
+use Rattle.std.specs.Prelude.{◌≡◌, ℕ, ◌^◌, ◌<◌, List, Option, None}
+use Rattle.log_reader.specs.declared.reader.Next.{Next}
+use Rattle.log_reader.specs.declared.reader.Next.TheVariants as next
+use Rattle.log_reader.specs.declared.window.Window.{Window}
+use Rattle.log_reader.specs.Windows.{IsSound, IsOn, offset_of}
+
+-- the place up to which records were read, the last of them, the answer with which the reading stopped, and where the reader stands
+pub record Reader : Type 0 where
+  pub place : ℕ
+  pub in_hand : List ℕ
+  pub stopped : Option Next
+  pub window : Window
+
+-- what it holds of the log is this file's
+abbrev pub Follows : List ℕ → Reader → Type 0
+Follows file r = IsOn file r.window
+
+-- it stands behind the records that were read, until it stops
+pub record IsReader (r : Reader) : Type 0 where
+  pub sound : IsSound r.window
+  pub behind : r.stopped ≡ None → offset_of r.window ≡ r.place
+
+-- where it stands after an answer
+abbrev pub PlaceAfter : Reader → Reader → Next → Type 0
+PlaceAfter old new (next.Record start end) = new.place ≡ end
+PlaceAfter old new (next.End at why) = new.place ≡ old.place
+PlaceAfter old new (next.Fault count) = new.place ≡ old.place
+PlaceAfter old new next.NoMemory = new.place ≡ old.place
+
+-- a record ends behind the place, and no file is so long that the places come to an end
+abbrev pub GoesForward : ℕ → Next → Type 0
+GoesForward place (next.Record start end) = (place < end) × (end < 2 ^ 63)
+GoesForward place (next.End at why) = Unit {0}
+GoesForward place (next.Fault count) = Unit {0}
+GoesForward place next.NoMemory = Unit {0}

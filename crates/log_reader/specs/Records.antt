@@ -1,0 +1,38 @@
+-- What a reader answers, against what the log says.
+use Rattle.std.specs.Prelude.{◌≡◌, ℕ, ◌≤◌, List, length, Option, Some, None}
+use Rattle.wp_edge.specs.Faults.{Rose}
+use Rattle.wp_model.specs.Log.{Fragment, AreOneRecord, kinds_of, record_of, next_place}
+use Rattle.wp_model.specs.Reading.{Stand, end_of, ReadingEnds}
+use Rattle.log_reader.specs.declared.reader.Next.{Next}
+use Rattle.log_reader.specs.declared.reader.Next.TheVariants as next
+
+-- These bytes are a record that stands in the file behind the place, from the one offset to the other.
+pub record IsRecord (file : List ℕ) (place start end : ℕ) (bytes : List ℕ) : Type 0 where
+  pub fragments : List Fragment
+  pub one : AreOneRecord (kinds_of fragments)
+  pub stand : Stand None file place fragments
+  pub starts : start ≡ next_place None place
+  pub ends : end ≡ end_of None place fragments
+  pub bytes_are : bytes ≡ record_of fragments
+  pub in_file : end ≤ length file
+
+-- what reading on from the place comes to, with the record in hand
+abbrev pub Reads : List ℕ → ℕ → List ℕ → Next → Type 0
+Reads file place in_hand (next.Record start end) = IsRecord file place start end in_hand
+Reads file place in_hand (next.End at why) = ReadingEnds None file place at why
+Reads file place in_hand (next.Fault count) = Unit {0}
+Reads file place in_hand next.NoMemory = Unit {0}
+
+-- a fault is the disk's: its count rose to this one or further
+abbrev pub HasFault : ℕ → ℕ → Next → Type 0
+HasFault before now (next.Record start end) = Unit {0}
+HasFault before now (next.End at why) = Unit {0}
+HasFault before now (next.Fault count) = Rose before count × (count ≤ now)
+HasFault before now next.NoMemory = Unit {0}
+
+-- anything but a record stops the reading
+abbrev pub stopped_by : Next → Option Next
+stopped_by (next.Record start end) = None
+stopped_by (next.End at why) = Some (next.End at why)
+stopped_by (next.Fault count) = Some (next.Fault count)
+stopped_by next.NoMemory = Some next.NoMemory

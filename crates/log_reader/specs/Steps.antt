@@ -1,0 +1,64 @@
+-- One fragment more of a record.
+use Rattle.std.specs.Prelude.{◌≡◌, ℕ, ◌<◌, List, [], ◌∷◌, Option, Some, None}
+use Rattle.wp_model.specs.declared.log.EndReason.TheVariants as ends
+use Rattle.wp_model.specs.Log.{Kind, full, first, middle, last, Fragment, kinds_of, record_of, next_place}
+use Rattle.wp_model.specs.Reading.{Stand, end_of, AreBegun}
+use Rattle.log_reader.specs.declared.reader.Next.{Next}
+use Rattle.log_reader.specs.declared.reader.Next.TheVariants as next
+use Rattle.log_reader.specs.declared.reader.Step.{Step}
+use Rattle.log_reader.specs.declared.reader.Step.TheVariants as step
+use Rattle.log_reader.specs.declared.reader.Turn.{Turn}
+use Rattle.log_reader.specs.declared.reader.Turn.TheVariants as turn
+use Rattle.log_reader.specs.Records.{Reads, HasFault}
+
+-- where the record begins whose first fragments these are, if there are any
+abbrev pub BeginsAt : Option ℕ → ℕ → List Fragment → Type 0
+BeginsAt None place [] = Unit {0}
+BeginsAt None place (f ∷ fs) = ⊥
+BeginsAt (Some start) place [] = ⊥
+BeginsAt (Some start) place (f ∷ fs) = start ≡ next_place None place
+
+-- the first fragments of a record were read from a place on, and the reader stands behind them
+pub record Stood (file : List ℕ) (place : ℕ) (begun : Option ℕ) (in_hand : List ℕ) (offset : ℕ) : Type 0 where
+  pub fragments : List Fragment
+  pub are_begun : AreBegun (kinds_of fragments)
+  pub stand : Stand None file place fragments
+  pub begins : BeginsAt begun place fragments
+  pub bytes_are : in_hand ≡ record_of fragments
+  pub there : offset ≡ end_of None place fragments
+
+-- what one fragment more comes to
+abbrev pub StepIs : List ℕ → ℕ → List ℕ → ℕ → Step → Type 0
+StepIs file place in_hand offset (step.More start) = Stood file place (Some start) in_hand offset
+StepIs file place in_hand offset (step.Done answer) = Reads file place in_hand answer
+
+-- from the one offset the reader went on to the other, where a record ends, if it has read one
+abbrev pub EndsAt : ℕ → ℕ → Next → Type 0
+EndsAt old new (next.Record start end) = (old < new) × (end ≡ new)
+EndsAt old new (next.End at why) = Unit {0}
+EndsAt old new (next.Fault count) = Unit {0}
+EndsAt old new next.NoMemory = Unit {0}
+
+abbrev pub Moves : ℕ → ℕ → Step → Type 0
+Moves old new (step.More start) = old < new
+Moves old new (step.Done answer) = EndsAt old new answer
+
+abbrev pub HasFaultStep : ℕ → ℕ → Step → Type 0
+HasFaultStep before now (step.More start) = Unit {0}
+HasFaultStep before now (step.Done answer) = HasFault before now answer
+
+-- what a fragment of this kind comes to at an offset, where the record begins at another, if it has begun
+abbrev pub turn_of : Kind → Option ℕ → ℕ → Turn
+turn_of full None at = turn.Last at
+turn_of first None at = turn.More at
+turn_of middle None at = turn.Misplaced
+turn_of last None at = turn.Misplaced
+turn_of full (Some start) at = turn.Misplaced
+turn_of first (Some start) at = turn.Misplaced
+turn_of middle (Some start) at = turn.More start
+turn_of last (Some start) at = turn.Last start
+
+-- what the end of the file means
+abbrev pub end_of_reading : Option ℕ → ℕ → Next
+end_of_reading None file_len = next.End file_len ends.Clean
+end_of_reading (Some start) file_len = next.End start ends.Unfinished

@@ -1,0 +1,35 @@
+-- The block in which a reader stands.
+use Rattle.std.specs.Prelude.{◌≡◌, ℕ, ◌+◌, ◌%◌, ◌^◌, ◌<◌, ◌≤◌, List, length, take, vec_len, true, false}
+use Rattle.log_block.specs.declared.fragments.Seen.{Seen}
+use Rattle.log_reader.specs.declared.window.Window.{Window}
+use Rattle.log_reader.specs.Blocks.{IsBlock, SeenNext, PartIn}
+
+-- where in the log the reader stands
+abbrev pub offset_of : Window → ℕ
+offset_of w = w.start + w.at
+
+-- the bytes of the block
+abbrev pub bytes_of : Window → List ℕ
+bytes_of w = take w.len w.room.items
+
+-- the reader stands in the block, which is no longer than a block may be
+pub record IsSound (w : Window) : Type 0 where
+  pub room : vec_len w.room ≡ 32768
+  pub in_room : w.len ≤ 32768
+  pub inside : w.at ≤ w.len
+  pub aligned : w.start % 32768 ≡ 0
+  pub unread : w.is_read ≡ false → w.len ≡ 0
+  pub small : w.start + w.len < 2 ^ 63
+
+-- the block begins in the file, and its bytes are the file's, once they are read
+pub record IsOn (file : List ℕ) (w : Window) : Type 0 where
+  pub in_file : w.start ≤ length file
+  pub block : w.is_read ≡ true → IsBlock file w.start (bytes_of w)
+
+-- what the reader sees next from an offset, where it stands
+abbrev pub SeesNext : List ℕ → ℕ → Window → Seen → Type 0
+SeesNext file offset w s = SeenNext file offset w.start (bytes_of w) w.at s
+
+-- a fragment's part lies in the block, behind the place where the reader stands
+abbrev pub PartLies : Window → Seen → Type 0
+PartLies w s = PartIn w.len w.at s

@@ -1,0 +1,269 @@
+//! The records of a log, one after another.
+
+ghost use Rattle.std.specs.Prelude.{◌≡◌, ◌+◌, ◌^◌, ◌<◌, ◌≤◌, ℕ, List, [], ◌++◌, slice_range, None, IfOk, IfSome, OnOk};
+ghost use Rattle.wp_edge.specs.Disk.{TimePasses};
+ghost use Rattle.wp_model.specs.Log.{Kind, kind_code};
+ghost use Rattle.log_reader.specs.Blocks.{IsNext};
+ghost use Rattle.log_reader.specs.Windows.{IsSound, IsOn, offset_of, bytes_of};
+ghost use Rattle.log_reader.specs.Records.{Reads, HasFault, stopped_by};
+ghost use Rattle.log_reader.specs.Steps as steps;
+ghost use Rattle.log_reader.specs.Steps.{Stood, StepIs, EndsAt, Moves, HasFaultStep, end_of_reading};
+ghost use Rattle.log_reader.specs.Reader.{Follows, PlaceAfter, GoesForward};
+
+use crate::window::Window;
+use log_block::{FIRST, FULL, LAST, MIDDLE, Seen};
+use std::alloc::Global;
+use std::marker::Model;
+use wp_edge::Disk;
+use wp_model::{EndReason, NoMemory};
+
+/// What reading on comes to.
+#[derive(Clone, Copy, Debug, PartialEq, Eq)]
+pub enum Next {
+    /// A record, which is in hand: the offset of its first fragment, and the one behind its last.
+    Record { start: u64, end: u64 },
+    /// Nothing more is read: at which offset that shows, and why.
+    End { at: u64, why: EndReason },
+    /// The disk failed, for the how many-th time.
+    Fault { count: u64 },
+    /// There was no memory for the record.
+    NoMemory,
+}
+
+/// Reads the records of a log, from the first on. Contracts see up to which place it has read records, the record in hand,
+/// whether it has stopped and with which answer, and where it stands.
+///
+/// The disk is passed to each call and isn't kept: of a disk that is borrowed by a value which owns memory, no contract
+/// could say what it is afterwards.
+#[derive(Debug, Drop)]
+pub struct LogReader {
+    window: Window,
+    in_hand: Vec<u8>,
+    place: u64,
+    stopped: Option<Next>,
+}
+
+impl Model for LogReader {
+    ghost use Rattle.log_reader.specs.Reader.{Reader, IsReader};
+
+    ghost Value = { Reader };
+
+    ghost view = { λ r. record { place = r.place; in_hand = r.in_hand.items; stopped = r.stopped; window = r.window } };
+
+    ghost invariant = { λ r. IsReader (record { place = r.place; in_hand = r.in_hand.items; stopped = r.stopped; window = r.window }) };
+}
+
+impl LogReader {
+    /// At the start of a log, of which nothing is read yet. It makes the room for a block.
+    pub fn open(alloc: Global) -> Result<LogReader, NoMemory>
+        ensures start { IfOk result (λ r. r.place ≡ 0) }
+        ensures going { IfOk result (λ r. r.stopped ≡ None) }
+        ensures follows { IfOk result (λ r. (file : List ℕ) → Follows file r) }
+    {
+        Ok(LogReader {
+            window: Window::new(alloc)?,
+            in_hand: Vec::new(alloc),
+            place: 0,
+            stopped: None,
+        })
+    }
+
+    /// Reads the next record of the log that the disk holds, which is the same at each call. After any answer but `Record` the
+    /// same answer comes again, and the disk isn't touched.
+    pub fn next<D: Disk>(&mut self, disk: &mut D) -> Next
+        ensures reads { IfSome (D.told disk.old) (λ d. Follows d.content self.old → self.old.stopped ≡ None
+            → Reads d.content self.old.place self.new.in_hand result) }
+        ensures place { self.old.stopped ≡ None → PlaceAfter self.old self.new result }
+        ensures forward { self.old.stopped ≡ None → GoesForward self.old.place result }
+        ensures follows { IfSome (D.told disk.old) (λ d. Follows d.content self.old → Follows d.content self.new) }
+        ensures fault { self.old.stopped ≡ None → HasFault (D.faults disk.old) (D.faults disk.new) result }
+        ensures stopped { self.old.stopped ≡ None → self.new.stopped ≡ stopped_by result }
+        ensures again { IfSome self.old.stopped (λ answer. (result ≡ answer) × (self.new ≡ self.old)) }
+        ensures untouched { IfSome self.old.stopped (λ _. disk.new ≡ disk.old) }
+        ensures later { D.faults disk.old ≤ D.faults disk.new }
+        ensures same { D.told disk.new ≡ D.told disk.old }
+        ensures adds_none { D.added disk.new ≡ D.added disk.old }
+        ensures time { TimePasses D.told D.moment D.from D.since disk.old disk.new }
+    {
+        if let Some(answer) = self.stopped {
+            return answer;
+        }
+        let answer = read_record(&mut self.window, &mut self.in_hand, disk);
+        match answer {
+            Next::Record { end, .. } => self.place = end,
+            _ => self.stopped = Some(answer),
+        }
+        answer
+    }
+
+    /// The record in hand: the one that the last call of `next` read, where it answered `Record`.
+    pub fn record(&self) -> &[u8]
+        ensures { result.now ≡ self.now.in_hand }
+    {
+        &self.in_hand
+    }
+}
+
+/// What one fragment more comes to.
+enum Step {
+    /// The record goes on. It begins at this offset.
+    More(u64),
+    Done(Next),
+}
+
+/// What becomes of a record with a fragment.
+enum Turn {
+    /// It ends there. It begins at this offset.
+    Last(u64),
+    /// It goes on. It begins at this offset.
+    More(u64),
+    /// No fragment of this type may stand there.
+    Misplaced,
+}
+
+/// Reads the record that begins where the window stands.
+fn read_record<D: Disk>(window: &mut Window, in_hand: &mut Vec<u8>, disk: &mut D) -> Next
+    requires { IsSound window.old }
+    ensures sound { IsSound window.new }
+    ensures reads { IfSome (D.told disk.old) (λ d. IsOn d.content window.old
+        → Reads d.content (offset_of window.old) in_hand.new.items result) }
+    ensures on { IfSome (D.told disk.old) (λ d. IsOn d.content window.old → IsOn d.content window.new) }
+    ensures end { EndsAt (offset_of window.old) (offset_of window.new) result }
+    ensures fault { HasFault (D.faults disk.old) (D.faults disk.new) result }
+    ensures later { D.faults disk.old ≤ D.faults disk.new }
+    ensures same { D.told disk.new ≡ D.told disk.old }
+    ensures adds_none { D.added disk.new ≡ D.added disk.old }
+    ensures time { TimePasses D.told D.moment D.from D.since disk.old disk.new }
+{
+    in_hand.clear();
+    let mut begun = None;
+    loop {
+        match read_part(window, in_hand, begun, disk) {
+            Step::More(start) => begun = Some(start),
+            Step::Done(answer) => return answer,
+        }
+    }
+}
+
+/// Reads one fragment more of a record. `begun` says where the record begins, if fragments of it were read.
+fn read_part<D: Disk>(
+    window: &mut Window,
+    in_hand: &mut Vec<u8>,
+    begun: Option<u64>,
+    disk: &mut D,
+) -> Step
+    requires { IsSound window.old }
+    ensures sound { IsSound window.new }
+    ensures step { IfSome (D.told disk.old) (λ d. (place : ℕ) → IsOn d.content window.old
+        → Stood d.content place begun in_hand.old.items (offset_of window.old)
+        → StepIs d.content place in_hand.new.items (offset_of window.new) result) }
+    ensures on { IfSome (D.told disk.old) (λ d. IsOn d.content window.old → IsOn d.content window.new) }
+    ensures moves { Moves (offset_of window.old) (offset_of window.new) result }
+    ensures fault { HasFaultStep (D.faults disk.old) (D.faults disk.new) result }
+    ensures later { D.faults disk.old ≤ D.faults disk.new }
+    ensures same { D.told disk.new ≡ D.told disk.old }
+    ensures adds_none { D.added disk.new ≡ D.added disk.old }
+    ensures time { TimePasses D.told D.moment D.from D.since disk.old disk.new }
+{
+    match window.look(disk) {
+        Ok(Seen::Fragment { kind, start, end }) => take_part(
+            window, in_hand, begun, kind, start, end,
+        ),
+        Ok(Seen::End) => Step::Done(end_of_file(begun, window.end())),
+        Ok(Seen::Damage(damage)) => Step::Done(Next::End {
+            at: window.offset(),
+            why: EndReason::Broken(damage),
+        }),
+        Err(count) => Step::Done(Next::Fault { count }),
+    }
+}
+
+/// What it means that the file ends at this offset.
+fn end_of_file(begun: Option<u64>, file_len: u64) -> Next
+    ensures { result ≡ end_of_reading begun file_len }
+{
+    match begun {
+        None => Next::End {
+            at: file_len,
+            why: EndReason::Clean,
+        },
+        Some(at) => Next::End {
+            at,
+            why: EndReason::Unfinished,
+        },
+    }
+}
+
+/// Takes the part from `start` to `end` of the block, of a fragment of this type, to the record.
+fn take_part(
+    window: &mut Window,
+    in_hand: &mut Vec<u8>,
+    begun: Option<u64>,
+    kind: u8,
+    start: usize,
+    end: usize,
+) -> Step
+    requires sound { IsSound window.old }
+    requires behind { window.old.at < start }
+    requires ordered { start ≤ end }
+    requires in_block { end ≤ window.old.len }
+    ensures sound { IsSound window.new }
+    ensures step { (file : List ℕ) (place offset : ℕ) → IsOn file window.old → Stood file place begun in_hand.old.items offset
+        → IsNext file offset window.old.start (bytes_of window.old) window.old.at kind start end
+        → StepIs file place in_hand.new.items (offset_of window.new) result }
+    ensures on { (file : List ℕ) → IsOn file window.old → IsOn file window.new }
+    ensures moves { Moves (offset_of window.old) (offset_of window.new) result }
+    ensures no_fault { (before now : ℕ) → HasFaultStep before now result }
+{
+    let at = window.offset();
+    match turn_of(kind, begun, at) {
+        Turn::Misplaced => Step::Done(Next::End {
+            at,
+            why: EndReason::BadOrder,
+        }),
+        Turn::More(first) => match add_part(window, in_hand, start, end) {
+            Ok(()) => Step::More(first),
+            Err(_) => Step::Done(Next::NoMemory),
+        },
+        Turn::Last(first) => match add_part(window, in_hand, start, end) {
+            Ok(()) => Step::Done(Next::Record {
+                start: first,
+                end: window.offset(),
+            }),
+            Err(_) => Step::Done(Next::NoMemory),
+        },
+    }
+}
+
+/// What a fragment of this type at the offset `at` comes to, where the record begins at `begun`, if it has begun.
+fn turn_of(kind: u8, begun: Option<u64>, at: u64) -> Turn
+    ensures { (k : Kind) → kind ≡ kind_code None k → result ≡ steps.turn_of k begun at }
+{
+    match (kind, begun) {
+        (FULL, None) => Turn::Last(at),
+        (FIRST, None) => Turn::More(at),
+        (MIDDLE, Some(first)) => Turn::More(first),
+        (LAST, Some(first)) => Turn::Last(first),
+        _ => Turn::Misplaced,
+    }
+}
+
+/// Adds the part from `start` to `end` of the block to the record. The window goes on behind it.
+fn add_part(
+    window: &mut Window,
+    in_hand: &mut Vec<u8>,
+    start: usize,
+    end: usize,
+) -> Result<(), NoMemory>
+    requires sound { IsSound window.old }
+    requires ordered { start ≤ end }
+    requires in_block { end ≤ window.old.len }
+    ensures sound { IsSound window.new }
+    ensures added { OnOk result (in_hand.new.items ≡ in_hand.old.items ++ slice_range (bytes_of window.old) start end) }
+    ensures there { OnOk result (offset_of window.new ≡ window.old.start + end) }
+    ensures on { (file : List ℕ) → IsOn file window.old → IsOn file window.new }
+{
+    in_hand.extend_from_slice(window.part(start, end))?;
+    window.go_to(end);
+    Ok(())
+}

@@ -1,0 +1,148 @@
+//! The block of a log in which a reader stands.
+
+ghost use Rattle.std.specs.Prelude.{◌≡◌, ◌+◌, ◌^◌, ◌<◌, ◌≤◌, ℕ, List, length, slice_range, IfOk, IfErr, IfSome, OnOk, true};
+ghost use Rattle.wp_edge.specs.Disk.{TimePasses};
+ghost use Rattle.wp_edge.specs.Faults.{Rose};
+ghost use Rattle.log_reader.specs.Windows.{IsSound, IsOn, offset_of, SeesNext, PartLies, bytes_of};
+
+use crate::read_block::read_block;
+use crate::see::see;
+use log_block::{BLOCK_LEN, Seen};
+use std::alloc::Global;
+use wp_edge::Disk;
+use wp_model::NoMemory;
+
+/// The block in which a reader stands, and where in it.
+#[derive(Debug, Drop)]
+pub struct Window {
+    /// Room for a block. Its first bytes are the block's, once it is read.
+    pub room: Vec<u8>,
+    /// How many bytes the file has of the block.
+    pub len: usize,
+    /// Whether the block is read.
+    pub is_read: bool,
+    /// The offset of the block.
+    pub start: u64,
+    /// Where in the block the next fragment is looked for.
+    pub at: usize,
+}
+
+impl Window {
+    /// The first block of a log, not read yet.
+    pub fn new(alloc: Global) -> Result<Window, NoMemory>
+        ensures sound { IfOk result IsSound }
+        ensures begins { IfOk result (λ w. offset_of w ≡ 0) }
+        ensures on { IfOk result (λ w. (file : List ℕ) → IsOn file w) }
+    {
+        Ok(Window {
+            room: vec![in alloc; 0u8; BLOCK_LEN]?,
+            len: 0,
+            is_read: false,
+            start: 0,
+            at: 0,
+        })
+    }
+
+    /// What the reader sees next. It stands there then. A fault of the disk is answered by its count.
+    pub fn look<D: Disk>(&mut self, disk: &mut D) -> Result<Seen, u64>
+        requires { IsSound self.old }
+        ensures sound { IsSound self.new }
+        ensures seen { IfSome (D.told disk.old) (λ d. IsOn d.content self.old
+            → IfOk result (SeesNext d.content (offset_of self.old) self.new)) }
+        ensures on { IfSome (D.told disk.old) (λ d. IsOn d.content self.old → IsOn d.content self.new) }
+        ensures part { IfOk result (PartLies self.new) }
+        ensures forward { offset_of self.old ≤ offset_of self.new }
+        ensures fault { IfErr result (λ count. Rose (D.faults disk.old) count × (count ≤ D.faults disk.new)) }
+        ensures later { D.faults disk.old ≤ D.faults disk.new }
+        ensures same { D.told disk.new ≡ D.told disk.old }
+        ensures adds_none { D.added disk.new ≡ D.added disk.old }
+        ensures time { TimePasses D.told D.moment D.from D.since disk.old disk.new }
+    {
+        loop {
+            self.fill(disk)?;
+            match see(&self.room[..self.len], self.at) {
+                Seen::End => {
+                    if self.len < BLOCK_LEN {
+                        return Ok(Seen::End);
+                    }
+                    self.go_on();
+                }
+                seen => return Ok(seen),
+            }
+        }
+    }
+
+    /// Reads the block, if it isn't yet.
+    fn fill<D: Disk>(&mut self, disk: &mut D) -> Result<(), u64>
+        requires { IsSound self.old }
+        ensures sound { IsSound self.new }
+        ensures read { OnOk result (self.new.is_read ≡ true) }
+        ensures on { IfSome (D.told disk.old) (λ d. IsOn d.content self.old → IsOn d.content self.new) }
+        ensures start { self.new.start ≡ self.old.start }
+        ensures at { self.new.at ≡ self.old.at }
+        ensures fault { IfErr result (λ count. Rose (D.faults disk.old) count × (count ≤ D.faults disk.new)) }
+        ensures later { D.faults disk.old ≤ D.faults disk.new }
+        ensures same { D.told disk.new ≡ D.told disk.old }
+        ensures adds_none { D.added disk.new ≡ D.added disk.old }
+        ensures time { TimePasses D.told D.moment D.from D.since disk.old disk.new }
+    {
+        if !self.is_read {
+            self.len = read_block(disk, self.start, &mut self.room)?;
+            self.is_read = true;
+        }
+        Ok(())
+    }
+
+    /// To the start of the next block.
+    fn go_on(&mut self)
+        requires sound { IsSound self.old }
+        requires read { self.old.is_read ≡ true }
+        requires full { self.old.len ≡ BLOCK_LEN }
+        ensures sound { IsSound self.new }
+        ensures on { (file : List ℕ) → IsOn file self.old → IsOn file self.new }
+        ensures begins { offset_of self.new ≡ self.old.start + BLOCK_LEN }
+        ensures start { self.new.start ≡ self.old.start + BLOCK_LEN }
+    {
+        self.start += BLOCK_LEN as u64;
+        self.at = 0;
+        self.len = 0;
+        self.is_read = false;
+    }
+
+    /// Where in the log the reader stands.
+    pub fn offset(&self) -> u64
+        requires { IsSound self.now }
+        ensures { result ≡ offset_of self.now }
+    {
+        self.start + self.at as u64
+    }
+
+    /// Where in the log the block ends.
+    pub fn end(&self) -> u64
+        requires { IsSound self.now }
+        ensures { result ≡ self.now.start + length (bytes_of self.now) }
+    {
+        self.start + self.len as u64
+    }
+
+    /// The bytes of the block from `start` to `end`.
+    pub fn part(&self, start: usize, end: usize) -> &[u8]
+        requires sound { IsSound self.now }
+        requires ordered { start ≤ end }
+        requires in_block { end ≤ self.now.len }
+        ensures { result.now ≡ slice_range (bytes_of self.now) start end }
+    {
+        &self.room[start..end]
+    }
+
+    /// To this place of the block.
+    pub fn go_to(&mut self, at: usize)
+        requires sound { IsSound self.old }
+        requires in_block { at ≤ self.old.len }
+        ensures sound { IsSound self.new }
+        ensures on { (file : List ℕ) → IsOn file self.old → IsOn file self.new }
+        ensures there { offset_of self.new ≡ self.old.start + at }
+    {
+        self.at = at;
+    }
+}

@@ -1,0 +1,33 @@
+use Rattle.std.proofs.Common.{ℕ, List, ◌+◌, ap, subst, arith, length-append}
+use Rattle.log_block.specs.declared.pieces.Piece.{Piece}
+use Rattle.log_writer.proofs.Pieces.{IsSoFar, put_of, may_be_put, put_len, puts_next, goes_on, breaks_off}
+use Rattle.log_writer.proofs.puts.put_record.Goals as goal
+
+pub returns-in_err-put_piece-clause-put : goal.returns-in_err-put_piece-clause-put
+returns-in_err-put_piece-clause-put g c =
+    let now = subst (λ (ps : List Piece). IsSoFar g.D.Disk c.args.rest.now c.args.offset c.args.disk.now c.loop-piece.disk c.loop-piece.rest ps c.loop-piece.end) c.in-Some.ensures.steps c.loop-piece.invariant.so_far in
+    breaks_off g.D.Disk c.args.rest.now c.args.offset c.args.disk.now c.loop-piece.disk c.loop-piece.rest c.in-Some.piece c.next.new.self c.loop-piece.end now
+    c.put_piece.new.disk c.in_err-put_piece.field-0.0 c.from_residual.result (g.met.D.Disk.is_disk c.args.disk.now) c.from_residual.ensures.0 c.in_err-put_piece.ensures.put
+
+pub piece_len-end-requires-clause-zeros : goal.piece_len-end-requires-clause-zeros
+piece_len-end-requires-clause-zeros g c =
+    let now = subst (λ (ps : List Piece). IsSoFar g.D.Disk c.args.rest.now c.args.offset c.args.disk.now c.loop-piece.disk c.loop-piece.rest ps c.loop-piece.end) c.in-Some.ensures.steps c.loop-piece.invariant.so_far in
+    (may_be_put g.D.Disk c.args.rest.now c.args.offset c.args.disk.now c.loop-piece.disk c.loop-piece.rest c.in-Some.piece c.next.new.self c.loop-piece.end now).zeros
+
+pub overflow_add-end : goal.overflow_add-end
+overflow_add-end g c =
+    let now = subst (λ (ps : List Piece). IsSoFar g.D.Disk c.args.rest.now c.args.offset c.args.disk.now c.loop-piece.disk c.loop-piece.rest ps c.loop-piece.end) c.in-Some.ensures.steps c.loop-piece.invariant.so_far in
+    let put = puts_next g.D.Disk c.args.rest.now c.args.offset c.args.disk.now c.loop-piece.disk c.loop-piece.rest c.in-Some.piece c.next.new.self c.loop-piece.end now
+    c.put_piece.new.disk c.in_ok-put_piece.field-0 (g.met.D.Disk.is_disk c.args.disk.now) c.in_ok-put_piece.ensures.put in
+    let len = put_len g.D.Disk c.args.rest.now c.args.offset c.args.disk.now c.loop-piece.disk c.loop-piece.rest c.in-Some.piece c.next.new.self c.loop-piece.end now in
+    omega (arith, put.counted, len, c.piece_len-end.ensures, now.end_is, length-append now.done (put_of c.loop-piece.rest c.in-Some.piece), c.requires.counted, g.met.D.Disk.added_small c.put_piece.new.disk)
+
+pub loop-piece-preserved : goal.loop-piece-preserved
+loop-piece-preserved g c =
+    let now = subst (λ (ps : List Piece). IsSoFar g.D.Disk c.args.rest.now c.args.offset c.args.disk.now c.loop-piece.disk c.loop-piece.rest ps c.loop-piece.end) c.in-Some.ensures.steps c.loop-piece.invariant.so_far in
+    record {
+      room = c.put_piece.ensures.room;
+      so_far = goes_on g.D.Disk c.args.rest.now c.args.offset c.args.disk.now c.loop-piece.disk c.loop-piece.rest c.in-Some.piece c.next.new.self c.loop-piece.end now
+          c.put_piece.new.disk c.put_piece.new.rest (c.loop-piece.end + c.piece_len-end.result) c.in_ok-put_piece.field-0 (g.met.D.Disk.is_disk c.args.disk.now) c.in_ok-put_piece.ensures.put c.in_ok-put_piece.ensures.rest
+          (ap (λ (n : ℕ). c.loop-piece.end + n) c.piece_len-end.ensures);
+    }

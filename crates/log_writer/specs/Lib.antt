@@ -1,0 +1,7 @@
+pub mod Crashes
+pub mod Puts
+pub mod Words
+pub mod Opening
+pub mod Groups
+pub mod Adding
+pub mod Written

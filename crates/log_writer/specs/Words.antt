@@ -1,0 +1,15 @@
+-- What a log writer shows.
+use Rattle.std.specs.Prelude.{ℕ, Option}
+use Rattle.wp_edge.specs.declared.disk.Disk.{Ghosts}
+use Rattle.log_writer.specs.declared.writer.LogWriter.{LogWriter}
+
+abbrev pub disk_of : {D : Type 0} {ghosts : Ghosts D} → LogWriter D ghosts → D
+disk_of w = w.disk
+
+-- the bytes of the groups that were written whole
+abbrev pub len_of : {D : Type 0} {ghosts : Ghosts D} → LogWriter D ghosts → ℕ
+len_of w = w.len
+
+-- the count of the fault that ended the log, if one did
+abbrev pub fault_of : {D : Type 0} {ghosts : Ghosts D} → LogWriter D ghosts → Option ℕ
+fault_of w = w.fault

@@ -1,0 +1,67 @@
+-- What a log has become by calls of `add_group`.
+use Rattle.std.specs.Prelude.{◌≡◌, ℕ, ◌≤◌, true, List, [], ◌∷◌, ◌++◌, length, take, drop, Option, Some, None, IfSome}
+use Rattle.std.specs.List.{AllByRecursion}
+use Rattle.wp_edge.specs.Disk.{Disk}
+use Rattle.wp_edge.specs.declared.disk.Disk.{Ghosts}
+use Rattle.wp_model.specs.Counts.{Rose}
+use Rattle.wp_model.specs.Log.{text}
+use Rattle.log_writer.specs.declared.writer.LogWriter.{LogWriter}
+use Rattle.log_writer.specs.Words.{disk_of, len_of, fault_of}
+use Rattle.log_writer.specs.Opening.{HasOpened}
+use Rattle.log_writer.specs.Adding.{GroupCall, record_of_call, Adds}
+
+-- these calls, one after another, took the log from what it was to what it is
+pub data Wrote {D : Type 0} {ghosts : Ghosts D} (old : LogWriter D ghosts) : List GroupCall → LogWriter D ghosts → Type 0 where
+  no_call : Wrote old [] old
+  one_more : {calls : List GroupCall} {now new : LogWriter D ghosts} (c : GroupCall) → Wrote old calls now → Adds c now new → Wrote old (calls ++ c ∷ []) new
+
+-- the log was opened on this disk, and these calls wrote it
+pub record IsWritten {D : Type 0} {ghosts : Ghosts D} (disk : D) (calls : List GroupCall) (log : LogWriter D ghosts) : Type 0 where
+  pub opened : LogWriter D ghosts
+  pub has_opened : HasOpened disk opened
+  pub wrote : Wrote opened calls log
+
+-- one or the other, as a call worked or failed
+abbrev pub if_worked : {A : Type 0} → Option ℕ → A → A → A
+if_worked None worked failed = worked
+if_worked (Some count) worked failed = failed
+
+-- the first fault that a call was answered
+abbrev pub first_fault : List GroupCall → Option ℕ
+first_fault [] = None
+first_fault (c ∷ calls) = if_worked c.failed (first_fault calls) c.failed
+
+-- the records of the calls before it, which are in the log whole
+abbrev pub written_by : List GroupCall → List (List ℕ)
+written_by [] = []
+written_by (c ∷ calls) = if_worked c.failed (record_of_call c ∷ written_by calls) []
+
+-- and with the record of the call that had it, which may be there in part
+abbrev pub begun_by : List GroupCall → List (List ℕ)
+begun_by [] = []
+begun_by (c ∷ calls) = record_of_call c ∷ if_worked c.failed (begun_by calls) []
+
+-- of these calls each that worked and was to sync is among the first n
+abbrev pub HaveSynced : List GroupCall → ℕ → Type 0
+HaveSynced calls n = AllByRecursion (λ (c : GroupCall). c.failed ≡ None → c.sync ≡ true → ⊥) (drop n calls)
+
+-- The disk's content is the text of all that was written, and perhaps a front of what was begun. The first records, so
+-- many, are safe, and those that were to be synced are among them.
+pub record HoldsCalls (d : Disk) (calls : List GroupCall) (safe : ℕ) : Type 0 where
+  pub many : ℕ
+  pub content : d.content ≡ take many (text None (begun_by calls))
+  pub whole : length (text None (written_by calls)) ≤ many
+  pub some : safe ≤ length (written_by calls)
+  pub synced : length (text None (take safe (written_by calls))) ≤ d.synced
+  pub have_synced : HaveSynced calls safe
+
+-- the log has the first fault of these calls, and what they wrote
+pub record Stands {D : Type 0} {ghosts : Ghosts D} (calls : List GroupCall) (log : LogWriter D ghosts) : Type 0 where
+  pub fault : fault_of log ≡ first_fault calls
+  pub len : len_of log ≡ length (text None (written_by calls))
+  pub told : IfSome (ghosts.told (disk_of log)) (λ d. (safe : ℕ) × HoldsCalls d calls safe)
+
+-- the fault came in one of the calls: the disk's count rose to it since then
+pub record HasCauseSince {D : Type 0} {ghosts : Ghosts D} (disk : D) (log : LogWriter D ghosts) : Type 0 where
+  pub later : ghosts.faults disk ≤ ghosts.faults (disk_of log)
+  pub rose : IfSome (fault_of log) (λ count. Rose (ghosts.faults disk) count × (count ≤ ghosts.faults (disk_of log)))

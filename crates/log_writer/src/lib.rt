@@ -1,0 +1,32 @@
+//! The writer of a log of groups, as `log::Writer` of LevelDB's db/log_writer.cc has it.
+//!
+//! A group is batches that are written together. In the log it is one record, which is a batch too:
+//!
+//!     +--------------+-----------+--- ... ---+--- ... ---+
+//!     | sequence (8) | count (4) | member 1  | member 2  |  ..
+//!     +--------------+-----------+--- ... ---+--- ... ---+
+//!
+//! The sequence is that of the group's first addition that counts, and the count is the sum of the members' counts. Of each
+//! member there stands what follows its own header. The record is cut into fragments (see the crate `log_block`), and each
+//! is put together in a buffer of one block and handed to the disk by one append.
+//!
+//! For example `put a 1` and `put b 2`, as one group from sequence 1 on, are a record of 22 bytes, which is
+//! `010000000000000002000000`, `0101610131` and `0101620132`, and 29 bytes of log.
+//!
+//! A crash may come at any moment. What it leaves of the log is a prefix of the records, each of them whole, with all that
+//! a sync had made safe, unless a torn fragment's checksum matches by chance. That is proved of each call, and of all
+//! calls since the log was opened.
+#![tactic(auto)]
+
+mod errors;
+mod group_bytes;
+mod laws;
+mod puts;
+mod writer;
+
+pub use errors::{Fault, OpenError};
+pub use laws::{crashes_between_calls, written_by_calls};
+pub use writer::LogWriter;
+
+#[cfg(test)]
+mod tests;

@@ -1,0 +1,132 @@
+//! The log of groups.
+
+ghost use Rattle.std.specs.Prelude.{◌≡◌, ◌≤◌, length, vec_capacity, IfSome, None};
+ghost use Rattle.std.proofs.Props.{props};
+
+use crate::puts::put_group;
+use crate::{Fault, OpenError};
+use log_block::BLOCK_LEN;
+use std::alloc::Global;
+use wp_edge::Disk;
+use write_batch::Batch;
+
+/// A log on a disk, to which groups of batches are written. Once a write has failed it takes no more.
+pub struct LogWriter<D: Disk> {
+    disk: D,
+    /// Where a fragment is put together: it has room for a block.
+    block: Vec<u8>,
+    /// The bytes of the groups that were written whole.
+    len: u64,
+    /// The count of the fault, where a write failed.
+    fault: Option<u64>,
+    ghost room: { 32768 ≤ vec_capacity block },
+    ghost within: { len ≤ D.added disk },
+    ghost told_len: { fault ≡ None → IfSome (D.told disk) (λ d. length d.content ≡ len) } by { Prim.hlevel props },
+}
+
+impl<D: Disk> LogWriter<D> {
+    ghost use Rattle.std.specs.Prelude.{ℕ, ◌+◌, ◌-◌, ◌^◌, ◌<◌, List, [], ◌∷◌, ◌++◌, IsTrue, IfOk, IfErr, OnOk};
+    ghost use Rattle.wp_edge.specs.Disk.{IsImage, LeavesOnly};
+    ghost use Rattle.wp_model.specs.History.{max_sequence};
+    ghost use Rattle.wp_model.specs.Log.{text};
+    ghost use Rattle.log_writer.specs.Words.{disk_of, len_of, fault_of};
+    ghost use Rattle.log_writer.specs.Groups.{counts_of, body_lens_of, record_of_group};
+    ghost use Rattle.log_writer.specs.Crashes.{HoldsRecords, KeepsPrefix};
+    ghost use Rattle.log_writer.specs.Adding.{Adds, call_of};
+    ghost use Rattle.log_writer.specs.Opening.{HasOpened, IsOpenError};
+
+    /// Opens the log of an empty disk, with one look at its length.
+    pub fn open(alloc: Global, mut disk: D) -> Result<LogWriter<D>, (D, OpenError)>
+        ensures ok { IfOk result (HasOpened disk) }
+        ensures err { IfErr result (λ e. IsOpenError ⟦<D as Disk>⟧ disk e.0 e.1) }
+    {
+        let len = match disk.len() {
+            Ok(len) => len,
+            Err(_) => {
+                let count = disk.faults();
+                return Err((disk, OpenError::Fault { count }));
+            }
+        };
+        if len > 0 {
+            return Err((disk, OpenError::NotEmpty { len }));
+        }
+        match Vec::with_capacity(alloc, BLOCK_LEN) {
+            Ok(block) => Ok(LogWriter {
+                disk,
+                block,
+                len: 0,
+                fault: None,
+            }),
+            Err(_) => Err((disk, OpenError::NoMemory)),
+        }
+    }
+
+    /// Writes a group of batches as one record, behind what the log has: a header of twelve bytes, which are the sequence
+    /// `first` and the sum of the members' counts, and then the members' bytes behind their headers. There is one append for
+    /// each block that the record touches, and one sync if that is asked. It takes no memory.
+    ///
+    /// A fault of the disk ends the log: each later call is answered with the count that is kept then, and leaves the disk
+    /// alone, since nobody knows what stands behind the log's end.
+    pub fn add_group(&mut self, first: u64, members: &[Batch], sync: bool) -> Result<(), Fault>
+        requires some { 0 < length members.now }
+        requires counts { counts_of members.now < 2 ^ 32 }
+        requires run { first + counts_of members.now - 1 ≤ max_sequence }
+        requires lens { body_lens_of members.now < 2 ^ 63 }
+        ensures adds { Adds (call_of first members.now sync result) self.old self.new }
+        // A crash at any moment of the call leaves a prefix of the records before and of this one, with all that was safe.
+        ensures crash { IfSome (D.told (disk_of self.old)) (λ d. (records : List (List ℕ)) (safe : ℕ) → HoldsRecords d records safe
+            → LeavesOnly D.moment D.from D.since (disk_of self.old) (disk_of self.new) (KeepsPrefix (records ++ record_of_group first members.now ∷ []) safe)) }
+        // Once a call that syncs has returned, a crash leaves all of them.
+        ensures durable { OnOk result (IsTrue sync → IfSome (D.told (disk_of self.old)) (λ d. (records : List (List ℕ)) → d.content ≡ text None records
+            → IfSome (D.told (disk_of self.new)) (λ e. (image : List ℕ) → IsImage e image → KeepsPrefix (records ++ record_of_group first members.now ∷ []) (length records + 1) image))) }
+    {
+        if let Some(count) = self.fault {
+            return Err(Fault { count });
+        }
+        match put_group(
+            &mut self.disk,
+            &mut self.block,
+            self.len,
+            first,
+            members,
+            sync,
+        ) {
+            Ok(end) => {
+                self.len = end;
+                Ok(())
+            }
+            Err(_) => {
+                let count = self.disk.faults();
+                self.fault = Some(count);
+                Err(Fault { count })
+            }
+        }
+    }
+
+    /// The bytes of the groups that were written whole.
+    pub fn len(&self) -> u64
+        ensures { result ≡ len_of self.now }
+    {
+        self.len
+    }
+
+    /// The count of the fault that ended the log, if one did.
+    pub fn fault(&self) -> Option<u64>
+        ensures { result ≡ fault_of self.now }
+    {
+        self.fault
+    }
+
+    /// The disk as it is.
+    pub fn into_disk(self) -> D
+        ensures { result ≡ disk_of self }
+    {
+        let LogWriter {
+            disk,
+            block: _,
+            len: _,
+            fault: _,
+        } = self;
+        disk
+    }
+}

@@ -1,0 +1,11 @@
+pub mod Order
+pub mod VersionOrder
+pub mod Inserting
+pub mod Finding
+pub mod Maps
+pub mod Folding
+pub mod Ranging
+pub mod Chains
+pub mod SamePairs
+pub mod RangeRows
+pub mod Members

@@ -1,0 +1,32 @@
+-- The order of versions.
+use Rattle.std.proofs.Common.{◌≡◌, ◌≢◌, ◌⊎◌, ◌<◌, sym, refl, inl, inr}
+use Rattle.std.specs.declared.cmp.Ordering.{Ordering}
+use Rattle.std.specs.declared.cmp.Ordering.TheVariants.{Less, Equal, Greater}
+use Rattle.std.specs.Ordering.{ordering_then, nat_cmp}
+use Rattle.std.specs.Cmp.{IsTotalOrder, on_total, then_total, back_total, nat_cmp_total}
+use Rattle.std.specs.Cmp.Lexicographic.{nat_list_cmp_total}
+use Rattle.std.proofs.lemmas.Cmp.{ranked}
+use Rattle.wp_model.specs.Map.{byte_order}
+use Rattle.mem_table.specs.Versions.{Version, version_order}
+
+pub version_total : IsTotalOrder version_order
+version_total = then_total (on_total (λ (v : Version). v.key) nat_list_cmp_total) (on_total (λ (v : Version). v.sequence) (back_total nat_cmp_total))
+
+pub byte_total : IsTotalOrder byte_order
+byte_total = nat_list_cmp_total
+
+either : (c d : Ordering) → ordering_then c d ≡ Less → (c ≡ Less) ⊎ ((c ≡ Equal) × (d ≡ Less))
+either Less d p = inl refl
+either Equal d p = inr (refl, p)
+either Greater d p = absurd (cc)
+
+-- a version before another has a smaller key, or the same one and a newer sequence
+pub before_cases : (v w : Version) → version_order v w ≡ Less → (byte_order v.key w.key ≡ Less) ⊎ ((byte_order v.key w.key ≡ Equal) × (w.sequence < v.sequence))
+before_cases v w p =
+    elim (either (byte_order v.key w.key) (nat_cmp w.sequence v.sequence) p) [
+      | inl less ↦ inl less
+      | inr same ↦ inr (same.0, ranked w.sequence v.sequence Less (sym same.1))
+    ]
+
+pub key_le : (v w : Version) → version_order v w ≡ Less → byte_order v.key w.key ≢ Greater
+key_le v w p q = elim (before_cases v w p) [ inl less ↦ absurd (cc) | inr same ↦ let e = same.0 in absurd (cc) ]

@@ -1,0 +1,19 @@
+//! The memtable's multi-version tree: each version of a key stays, and a read sees those up to a sequence
+//! (RocksDB wiki, "MemTable" and "Snapshot").
+#![tactic(auto)]
+
+mod insertion;
+mod lookup;
+mod node;
+mod nodes;
+mod parts;
+mod range;
+mod rotations;
+mod tree;
+
+pub use node::{Node, Nodes};
+pub use parts::{Part, Parts};
+pub use tree::Tree;
+
+#[cfg(test)]
+mod tests;

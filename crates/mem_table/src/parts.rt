@@ -1,0 +1,77 @@
+//! The members of a write group with their nodes.
+
+ghost use Rattle.std.specs.Prelude.{◌≡◌, ◌≤◌, ◌∷◌, ◌==◌, [], IfOk, MatchOption};
+ghost use Rattle.std.specs.List.{position_from};
+ghost use Rattle.mem_table.specs.Parts.{with_part};
+
+use crate::Nodes;
+use std::alloc::Global;
+use std::marker::Model;
+use wp_model::NoMemory;
+
+/// A member of a group, by its number, and its nodes.
+#[derive(Drop)]
+pub struct Part {
+    pub member: u32,
+    pub nodes: Nodes,
+}
+
+/// The members of a group with their nodes, each member once, in the order in which they came. Contracts
+/// see how many clients there are, and the parts.
+#[derive(Drop)]
+pub struct Parts {
+    clients: u32,
+    parts: Vec<Part>,
+}
+
+impl Model for Parts {
+    ghost use Rattle.mem_table.specs.Parts.{Members, HasRoom};
+
+    ghost Value = { Members };
+
+    ghost view = { λ p. record { clients = p.clients; parts = p.parts.items } };
+
+    ghost invariant = { λ p. HasRoom p.clients p.parts };
+}
+
+impl Parts {
+    /// No parts, and room for one of each of the clients, which have the numbers from 1 on.
+    pub fn new(alloc: Global, clients: u32) -> Result<Parts, NoMemory>
+        ensures { IfOk result (λ parts. parts ≡ record { clients = clients; parts = [] }) }
+    {
+        Ok(Parts {
+            clients,
+            parts: Vec::with_capacity(alloc, clients as usize)?,
+        })
+    }
+
+    /// Puts a member's nodes behind those that it has, or its part behind the others. This takes no memory.
+    pub fn add(&mut self, member: u32, nodes: Nodes)
+        requires low { 1 ≤ member }
+        requires high { member ≤ self.old.clients }
+        ensures { self.new ≡ record self.old { parts = with_part self.old.parts member nodes } }
+    {
+        match self.place_of(member) {
+            Some(at) => self.parts[at].nodes.append(nodes),
+            None => self.parts.push(Part { member, nodes }).unwrap(),
+        }
+    }
+
+    /// Takes the first part out.
+    pub fn pop(&mut self) -> Option<Part>
+        ensures parts { MatchOption result ((self.old.parts ≡ []) × (self.new.parts ≡ [])) (λ part. self.old.parts ≡ part ∷ self.new.parts) }
+        ensures clients { self.new.clients ≡ self.old.clients }
+    {
+        if self.parts.is_empty() {
+            return None;
+        }
+        Some(self.parts.remove(0))
+    }
+
+    // Where a member's part is, if it has one.
+    fn place_of(&self, member: u32) -> Option<usize>
+        ensures { result ≡ position_from (λ part. part.member == member) 0 self.now.parts }
+    {
+        self.parts.iter().position(|part| part.member == member)
+    }
+}

@@ -1,0 +1,81 @@
+//! The multi-version tree.
+
+ghost use Rattle.std.specs.Prelude.{◌≡◌, List, IfOk};
+ghost use Rattle.std.specs.Option.{option_copied};
+ghost use Rattle.wp_model.specs.Map.{value_at, rows_within};
+ghost use Rattle.mem_table.specs.Versions.{Version, IsNew, IsHistory, insert_version, map_of, AreOrdered};
+ghost use Rattle.mem_table.specs.Shapes.{leaf, versions_in, IsBalanced};
+ghost use Rattle.mem_table.specs.Nodes.{version_of};
+
+use crate::node::{Node, Subtree};
+use crate::range::Range;
+use std::alloc::Global;
+use std::marker::Model;
+use wp_coding::{PairList, Rows};
+use wp_model::NoMemory;
+
+/// Versions of keys, by key and then the newer first, in a balanced tree. Contracts see its shape.
+#[derive(Drop)]
+pub struct Tree {
+    pub(crate) root: Subtree,
+}
+
+impl Model for Tree {
+    ghost use Rattle.mem_table.specs.Shapes.{Shape, versions_in};
+    ghost use Rattle.mem_table.specs.ShapeCode.{shape_code};
+    ghost use Rattle.mem_table.specs.Versions.{AreOrdered};
+
+    ghost Value = { Shape };
+
+    ghost coded = { shape_code };
+
+    ghost view = { λ t. t.root };
+
+    ghost invariant = { λ t. AreOrdered (versions_in t.root) };
+}
+
+impl Tree {
+    /// No versions.
+    pub fn new() -> Tree
+        ensures { result ≡ leaf }
+    {
+        Tree {
+            root: Subtree::new(),
+        }
+    }
+
+    /// Inserts a version, whose key has none of the same sequence. This takes no memory.
+    pub fn insert(&mut self, node: Box<Node>)
+        requires { IsNew (version_of node.value) (versions_in self.old) }
+        ensures versions { versions_in self.new ≡ insert_version (versions_in self.old) (version_of node.value) }
+        ensures ordered { AreOrdered (versions_in self.new) }
+        ensures balanced { IsBalanced self.new }
+    {
+        self.root.insert(node);
+    }
+
+    /// The value of a key at a sequence, if it has one there: what the key's newest version up to the
+    /// sequence says.
+    pub fn lookup(&self, key: &[u8], at: u64) -> Option<&[u8]>
+        ensures { (history : List Version) → IsHistory at (versions_in self.now) history → option_copied result ≡ value_at (map_of history) key.now }
+    {
+        match self.root.newest(key, at) {
+            Some(Some(value)) => Some(value.as_slice()),
+            Some(None) => None,
+            None => None,
+        }
+    }
+
+    /// The keys from `lo` on and below `hi` that have a value at a sequence, with it, in the byte order of
+    /// the keys.
+    pub fn range(&self, alloc: Global, lo: &[u8], hi: &[u8], at: u64) -> Result<Rows, NoMemory>
+        ensures at { IfOk result (λ rows. rows.at ≡ at) }
+        ensures rows { IfOk result (λ rows. (history : List Version) → IsHistory at (versions_in self.now) history
+            → rows.rows ≡ rows_within lo.now hi.now (map_of history)) }
+    {
+        let mut rows = PairList::new(alloc);
+        self.root
+            .gather(alloc, Range { lo, hi, at }, None, &mut rows)?;
+        Ok(Rows { at, rows })
+    }
+}

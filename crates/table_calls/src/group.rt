@@ -1,0 +1,25 @@
+//! The parts of a group that is to be launched.
+ghost use Rattle.std.specs.Prelude.{◌≡◌, [], ◌∷◌, length, MatchOption};
+ghost use Rattle.table_rule.specs.Histories.{versions_in};
+
+use table_rule::Versioned;
+
+/// The members of a group with their nodes, each member once.
+pub trait GroupParts<N: Versioned> {
+    ghost use Rattle.std.specs.Prelude.{List};
+    ghost use Rattle.table_rule.specs.declared.content.Part.{Part};
+
+    ghost parts: { Self → List Part };
+
+    /// How many members there are.
+    fn len(&self) -> usize
+        ensures { result ≡ length (Self.parts self.now) };
+
+    /// How many versions the members have together.
+    fn version_count(&self) -> u64
+        ensures { result ≡ length (versions_in (Self.parts self.now)) };
+
+    /// Takes the first member out, with its nodes.
+    fn pop(&mut self) -> Option<(u64, N)>
+        ensures { MatchOption result ((Self.parts self.old ≡ []) × (Self.parts self.new ≡ [])) (λ taken. Self.parts self.old ≡ (record { member = taken.0; versions = N.versions taken.1 }) ∷ Self.parts self.new) };
+}

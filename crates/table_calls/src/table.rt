@@ -1,0 +1,168 @@
+//! The calls.
+ghost use Rattle.std.specs.Prelude.{◌≡◌, ℕ, ◌<◌, ◌≤◌, ◌^◌, List, [], ◌∷◌, ◌++◌, None, Some, map, IfOk};
+ghost use Rattle.wp_model.specs.Map.{rows_within};
+ghost use Rattle.wp_coding.specs.Answers.{found_value};
+ghost use Rattle.table_rule.specs.declared.content.Part.{Part};
+ghost use Rattle.table_rule.specs.declared.view.Stage.TheVariants.{Idle, Holding, Stored, Publishing};
+ghost use Rattle.table_rule.specs.Histories.{In, last_of, map_after, value_in};
+ghost use Rattle.table_rule.specs.Rule.{end_of};
+ghost use Rattle.table_rule.specs.Steps.{IsNext, work};
+ghost use Rattle.table_calls.specs.Account.{Account, Learns, Launches, Steps, Counts, IsReady, IsClosing};
+
+use crate::finished::Finished;
+use crate::seats::Seats;
+use std::alloc::Global;
+use std::sync::Wait;
+use wp_coding::{Bytes, Read, Reads, Rows};
+use wp_model::NoMemory;
+
+/// A table of versions, which groups are published to. `P` is a list of a group's members with their nodes.
+///
+/// Each client has one seat. A group is launched by the client that has the turn. Each member takes its part, inserts it and finishes. Who finishes last publishes the group. The client that launched it waits for that, and has the turn again.
+pub trait Table<P> {
+    /// A client's seat.
+    type Seat;
+
+    /// The right to launch a group. A table has one.
+    type Turn;
+
+    /// A member's part of a group, taken out of the table.
+    type Part;
+
+    ghost use Rattle.std.specs.Prelude.{ℕ, List};
+    ghost use Rattle.table_rule.specs.declared.content.Part.{Part};
+    ghost use Rattle.table_rule.specs.declared.content.Version.{Version};
+    ghost use Rattle.table_rule.specs.declared.view.Opening.{Opening};
+    ghost use Rattle.table_calls.specs.Account.{Account};
+
+    /// What it was opened for.
+    ghost home: { Self → Opening };
+
+    /// The parts of a list.
+    ghost group: { P → List Part };
+
+    /// What a client's seat knows and has to do.
+    ghost account: { Self.Seat → Account };
+
+    /// All that is published. Who has the turn knows that no group is launched.
+    ghost history: { Self.Turn → List (List Part) };
+
+    /// The versions of a part, and the last sequence of its group.
+    ghost versions: { Self.Part → List Version };
+
+    ghost group_last: { Self.Part → ℕ };
+
+    /// The seat, and the turn, are of this table.
+    ghost ours: { Self → Self.Seat → Type 0 };
+
+    ghost our_turn: { Self → Self.Turn → Type 0 };
+
+    /// The published sequence.
+    fn last(&self, seat: &mut Self::Seat) -> u64
+        requires { ours self.now seat.old }
+        ensures ours { ours self.now seat.new }
+        ensures seen { Learns (home self.now).start (account seat.old) (account seat.new) }
+        ensures value { result ≡ last_of (home self.now).start (account seat.new).seen };
+
+    /// The number of its lock words.
+    fn locks(&self) -> u64
+        ensures { result ≡ (home self.now).shards };
+
+    /// The value of a key, with the published sequence that it is of. Want of memory leaves the table as it was.
+    fn read<R: Wait>(
+        &self,
+        alloc: Global,
+        rt: &R,
+        seat: &mut Self::Seat,
+        key: &[u8],
+    ) -> Result<Read, NoMemory>
+        requires { ours self.now seat.old }
+        ensures ours { ours self.now seat.new }
+        ensures seen { Learns (home self.now).start (account seat.old) (account seat.new) }
+        ensures at { IfOk result (λ read. read.at ≡ last_of (home self.now).start (account seat.new).seen) }
+        ensures value { IfOk result (λ read. found_value read.value ≡ value_in key.now (account seat.new).seen) };
+
+    /// The values of keys, all of one published sequence.
+    fn read_many<R: Wait>(
+        &self,
+        alloc: Global,
+        rt: &R,
+        seat: &mut Self::Seat,
+        keys: &[Bytes],
+    ) -> Result<Reads, NoMemory>
+        requires { ours self.now seat.old }
+        ensures ours { ours self.now seat.new }
+        ensures seen { Learns (home self.now).start (account seat.old) (account seat.new) }
+        ensures at { IfOk result (λ reads. reads.at ≡ last_of (home self.now).start (account seat.new).seen) }
+        ensures values { IfOk result (λ reads. reads.values ≡ map (λ key. value_in key (account seat.new).seen) keys.now) };
+
+    /// The keys from `lo` on and below `hi` with their values, all of one published sequence, in byte order.
+    fn scan<R: Wait>(
+        &self,
+        alloc: Global,
+        rt: &R,
+        seat: &mut Self::Seat,
+        lo: &[u8],
+        hi: &[u8],
+    ) -> Result<Rows, NoMemory>
+        requires { ours self.now seat.old }
+        ensures ours { ours self.now seat.new }
+        ensures seen { Learns (home self.now).start (account seat.old) (account seat.new) }
+        ensures at { IfOk result (λ rows. rows.at ≡ last_of (home self.now).start (account seat.new).seen) }
+        ensures rows { IfOk result (λ rows. rows.rows ≡ rows_within lo.now hi.now (map_after (account seat.new).seen)) };
+
+    /// Launches a group and hands each member its nodes. So far a group has one member, the client that launches it. The seat keeps the turn until `await_published`.
+    fn launch(&self, seat: &mut Self::Seat, turn: Self::Turn, parts: &mut P)
+        requires ours { ours self.now seat.old × our_turn self.now turn }
+        requires free { (account seat.old).launched ≡ None }
+        requires next { IsNext (home self.now) (history turn) (group parts.old) }
+        requires fits { end_of (last_of (home self.now).start (history turn)) (group parts.old) < 2 ^ 64 }
+        requires alone { (part : Part) × (group parts.old ≡ part ∷ []) × (part.member ≡ (account seat.old).number) }
+        ensures ours { ours self.now seat.new }
+        ensures launched { Launches (account seat.old) (history turn) (group parts.old) (account seat.new) }
+        ensures emptied { group parts.new ≡ [] };
+
+    /// Waits until the client's part is handed out, and takes it.
+    fn take<R: Wait>(&self, rt: &R, seat: &mut Self::Seat) -> Self::Part
+        requires ours { ours self.now seat.old }
+        requires idle { (account seat.old).stage ≡ Idle }
+        ensures ours { ours self.now seat.new }
+        ensures taken { Steps (account seat.old) (Holding (work (group_last result) [] (versions result))) (account seat.new) };
+
+    /// Puts the part's nodes into their trees, each under its lock.
+    fn insert<R: Wait>(&self, rt: &R, seat: &mut Self::Seat, part: Self::Part)
+        requires ours { ours self.now seat.old }
+        requires taken { (account seat.old).stage ≡ Holding (work (group_last part) [] (versions part)) }
+        ensures ours { ours self.now seat.new }
+        ensures stored { Steps (account seat.old) (Stored (group_last part)) (account seat.new) };
+
+    /// The client's part is finished.
+    fn finish(&self, seat: &mut Self::Seat) -> Finished
+        requires ours { ours self.now seat.old }
+        requires stored { (last : ℕ) × ((account seat.old).stage ≡ Stored last) }
+        ensures ours { ours self.now seat.new }
+        ensures counted { (last : ℕ) → (account seat.old).stage ≡ Stored last → Counts (account seat.old) last result (account seat.new) };
+
+    /// Publishes the group, of which this client finished last.
+    fn publish(&self, seat: &mut Self::Seat)
+        requires ours { ours self.now seat.old }
+        requires last_one { (last : ℕ) × ((account seat.old).stage ≡ Publishing last) }
+        ensures ours { ours self.now seat.new }
+        ensures published { Steps (account seat.old) Idle (account seat.new) };
+
+    /// Waits until the group that this client launched is published, and takes the turn back. `last` is the group's last sequence.
+    fn await_published<R: Wait>(&self, rt: &R, seat: &mut Self::Seat, last: u64) -> Self::Turn
+        requires ours { ours self.now seat.old }
+        requires idle { (account seat.old).stage ≡ Idle }
+        requires launched { (before : List (List Part)) × (g : List Part) × ((account seat.old).launched ≡ Some (before, g)) × (last ≡ end_of (last_of (home self.now).start before) g) }
+        ensures ours { ours self.now seat.new × our_turn self.now result }
+        ensures published { (before : List (List Part)) (g : List Part) → (account seat.old).launched ≡ Some (before, g) → history result ≡ before ++ g ∷ [] }
+        ensures seen { Learns (home self.now).start (record (account seat.old) { launched = None }) (account seat.new) }
+        ensures reached { last ≤ last_of (home self.now).start (account seat.new).seen };
+
+    /// Gives the table up, with all seats.
+    fn close(self, seats: Seats<Self::Seat, Self::Turn>)
+        requires turn { our_turn self seats.turn }
+        requires clients { (seat : Self.Seat) → In seat seats.clients.items → ours self seat × IsReady (account seat) }
+        ensures { IsClosing (home self).start (history seats.turn) (map account seats.clients.items) };
+}

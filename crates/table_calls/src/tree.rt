@@ -1,0 +1,49 @@
+//! What a table is made of: nodes of versions, and the trees that they are put in.
+ghost use Rattle.std.specs.Prelude.{◌≡◌, ◌≢◌, List, [], ◌∷◌, IfOk, MatchOption};
+ghost use Rattle.std.specs.Option.{option_copied};
+ghost use Rattle.wp_model.specs.Map.{value_at, rows_within};
+ghost use Rattle.table_rule.specs.declared.content.Version.{Version};
+ghost use Rattle.table_rule.specs.Histories.{In, IsOrderUpTo, map_of};
+ghost use Rattle.table_rule.specs.Steps.{Adds};
+
+use std::alloc::Global;
+use table_rule::Versioned;
+use wp_coding::Rows;
+use wp_model::NoMemory;
+
+/// A node that is one version.
+pub trait VersionNode {
+    ghost use Rattle.table_rule.specs.declared.content.Version.{Version};
+
+    ghost version: { Self → Version };
+}
+
+/// A member's nodes, in the order of their sequences.
+pub trait VersionNodes: Versioned {
+    type Node: VersionNode;
+
+    /// Takes the first node out.
+    fn pop(&mut self) -> Option<Self::Node>
+        ensures { MatchOption result ((Self.versions self.old ≡ []) × (Self.versions self.new ≡ [])) (λ node. Self.versions self.old ≡ Self.Node.version node ∷ Self.versions self.new) };
+}
+
+/// An ordered tree of versions.
+pub trait VersionTree<B: VersionNode>: Versioned {
+    /// A tree of no versions. This takes no memory.
+    fn new() -> Self
+        ensures { Self.versions result ≡ [] };
+
+    /// Puts a node in whose sequence no other of the tree has. This takes no memory.
+    fn insert(&mut self, node: B)
+        requires { (v : Version) → In v (Self.versions self.old) → v.sequence ≢ (B.version node).sequence }
+        ensures { Adds (Self.versions self.old) (B.version node) (Self.versions self.new) };
+
+    /// The key's value as of a sequence: what the map has that the versions make up to it.
+    fn lookup(&self, key: &[u8], at: u64) -> Option<&[u8]>
+        ensures { (order : List Version) → IsOrderUpTo at (Self.versions self.now) order → option_copied result ≡ value_at (map_of order) key.now };
+
+    /// The keys from `lo` on and below `hi` with their values as of a sequence, in byte order.
+    fn range(&self, alloc: Global, lo: &[u8], hi: &[u8], at: u64) -> Result<Rows, NoMemory>
+        ensures at { IfOk result (λ rows. rows.at ≡ at) }
+        ensures rows { IfOk result (λ rows. (order : List Version) → IsOrderUpTo at (Self.versions self.now) order → rows.rows ≡ rows_within lo.now hi.now (map_of order)) };
+}

@@ -1,0 +1,57 @@
+-- What a locked tree answers is the map of what its seat has seen.
+use Rattle.std.proofs.Common.{◌≡◌, ℕ, suc, eqb, cond, Bool, true, false, List, [], ◌∷◌, filter, refl, sym, ap, ◌∙◌, inl, inr, ⊎_elim, arith, eq-eqb, eqb-true}
+use Rattle.std.proofs.Math.Nat.{mod-one}
+use Rattle.wp_model.specs.Checksum.{crc32c}
+use Rattle.table_rule.specs.declared.content.Version.{Version}
+use Rattle.table_rule.specs.declared.content.Part.{Part}
+use Rattle.table_rule.specs.Histories.{In, versions_of, Runs, last_of, shard_of, of_shard, AreRising, IsOrderUpTo}
+use Rattle.table_rule.specs.Steps.{Shows}
+use Rattle.table_rule.proofs.Histories.{in_run}
+
+module _ {A : Type 0} (p : A → Bool) where
+  -- the test's answer at the head decides
+  kept_at : (x : A) (xs : List A) (F : List A → Type 0) → (p x ≡ true → F (x ∷ filter p xs)) → (p x ≡ false → F (filter p xs)) → F (filter p (x ∷ xs))
+  kept_at x xs F passes fails = go (p x) refl
+    where
+      go : (b : Bool) → p x ≡ b → F (cond b (x ∷ filter p xs) (filter p xs))
+      go true e = passes e
+      go false e = fails e
+
+  in_kept : (a : A) (xs : List A) → In a (filter p xs) → In a xs × (p a ≡ true)
+  in_kept a [] h = absurd h
+  in_kept a (x ∷ xs) it = kept_at x xs (λ l. In a l → In a (x ∷ xs) × (p a ≡ true))
+      (λ passes h. ⊎_elim (λ (e : x ≡ a). (inl e, ap p (sym e) ∙ passes)) (λ (t : In a (filter p xs)). let k = in_kept a xs t in (inr k.0, k.1)) h)
+      (λ fails h. let k = in_kept a xs h in (inr k.0, k.1)) it
+
+  kept_in : (a : A) (xs : List A) → In a xs → p a ≡ true → In a (filter p xs)
+  kept_in a [] h passes = absurd h
+  kept_in a (x ∷ xs) h passes = kept_at x xs (λ l. In a l)
+      (λ _. ⊎_elim (λ (e : x ≡ a). inl e) (λ (t : In a xs). inr (kept_in a xs t passes)) h)
+      (λ fails. ⊎_elim (λ (e : x ≡ a). absurd (cc (sym fails ∙ ap p e ∙ passes))) (λ (t : In a xs). kept_in a xs t passes) h)
+
+  all_kept : (xs : List A) → ((x : A) → p x ≡ true) → filter p xs ≡ xs
+  all_kept [] passes = refl
+  all_kept (x ∷ xs) passes = kept_at x xs (λ l. l ≡ x ∷ xs) (λ _. ap (λ l. x ∷ l) (all_kept xs passes)) (λ fails. absurd (cc (sym fails ∙ passes x)))
+
+rising_kept : (p : Version → Bool) (vs : List Version) → AreRising vs → AreRising (filter p vs)
+rising_kept p [] r = tt
+rising_kept p (v ∷ vs) r = kept_at p v vs AreRising (λ _. (λ w h. r.0 w (in_kept p w vs h).0, rising_kept p vs r.1)) (λ _. rising_kept p vs r.1)
+
+rising_run : (last : ℕ) (vs : List Version) → Runs last vs → AreRising vs
+rising_run last [] r = tt
+rising_run last (v ∷ vs) r = ((λ w h. let k = (in_run (suc last) vs w r.1 h).0 in let e = r.0 in omega arith), rising_run (suc last) vs r.1)
+
+-- What was seen of the shard is an order of the tree's versions up to its end, whatever stands past it.
+pub seen_order : (shards j start : ℕ) (seen : List (List Part)) (vs : List Version) → Runs start (versions_of seen) → Shows shards j start seen vs → IsOrderUpTo (last_of start seen) vs (of_shard shards j (versions_of seen))
+seen_order shards j start seen vs runs shows =
+    let p : Version → Bool = λ v. eqb (shard_of shards v) j in record {
+      same = λ v. (
+        (λ h. let k = in_kept p v (versions_of seen) h in (shows.1 v k.0 (eqb-true (shard_of shards v) j k.1), (in_run start (versions_of seen) v runs k.0).1)),
+        (λ h. kept_in p v (versions_of seen) (shows.2 v h.0 h.1) (eq-eqb (shard_of shards v) j (shows.0 v h.0))),
+      );
+      rising = rising_kept p (versions_of seen) (rising_run start (versions_of seen) runs);
+    }
+
+-- of one shard that is all
+pub one_shard : (vs : List Version) → of_shard 1 0 vs ≡ vs
+one_shard vs = all_kept (λ v. eqb (shard_of 1 v) 0) vs (λ v. eq-eqb (shard_of 1 v) 0 (mod-one (crc32c v.key)))

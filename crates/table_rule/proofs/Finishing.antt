@@ -1,0 +1,434 @@
+-- Who counts down, who publishes, and who launches.
+use Rattle.std.proofs.Common.{◌≡◌, ◌≢◌, ℕ, zero, suc, ◌+◌, ◌-◌, ◌^◌, ◌%◌, ◌<◌, ◌⊎◌, List, [], ◌∷◌, ◌++◌, length, get_or, set, refl, sym, ap, ◌∙◌, subst, inl, inr, ⊎_elim, arith, append-nil, length-set, get_or-set_other, get_or-set_same}
+use mathlib.Core.Logic.{dite}
+use mathlib.Core.Option.{none, some}
+use native.Mathlib.Decide.{ℕ_discrete}
+use lib.ListN.{get_elem?}
+use Rattle.atomic_table.specs.Table.{step, keeps, Allows}
+use Rattle.table_rule.specs.declared.content.Version.{Version}
+use Rattle.table_rule.specs.declared.content.Part.{Part}
+use Rattle.table_rule.specs.declared.view.Opening.{Opening}
+use Rattle.table_rule.specs.declared.view.SeatState.{SeatState}
+use Rattle.table_rule.specs.declared.view.Lock.TheVariants.{Free}
+use Rattle.table_rule.specs.declared.view.Stage.{Stage}
+use Rattle.table_rule.specs.declared.view.Stage.TheVariants.{Idle, Holding, Stored, Publishing, Resting, Handing, Filling}
+use Rattle.table_rule.specs.Histories.{In, versions_in, versions_of, Runs, last_of, Begins, Apart, Members}
+use Rattle.table_rule.specs.Rule.{Place, out, coming, inserted, finished, ShardState, Mode, still, running, ended, stored_in, InPart, NotTaken, unfinished, AllParts, AllFinished, AllComing, end_of, IsLaunched, InMode, KnowsLock, Knows, seat_state, InPlace}
+use Rattle.table_rule.specs.Steps.{SeatNow, IsAt}
+use Rattle.table_rule.proofs.Puts.{put, put_at, put_here}
+use Rattle.table_rule.proofs.Histories.{in_left, in_right, in_split, begins_same, begins_more, versions_snoc, last_snoc}
+use Rattle.table_rule.proofs.Parts.{IsOpen, part_at}
+use Rattle.table_rule.proofs.Moves.{TableState, Homes, shard_stays, place_stays, moved, Goes, unmoved}
+use Rattle.table_rule.specs.Steps.{launched, counted, ending, publishes, awaited}
+use Rattle.table_rule.proofs.Locks.{one, own, IsWithMember, loaded, Rule, knows_member}
+use Rattle.table_rule.proofs.Parts.{all_done, open_mode, one_less, none_open, in_group, placed, placed_out, placed_is, placed_coming, coming_parts, coming_open, parts_put, fit_put, finished_at, finished_parts, stored_group}
+use Rattle.table_rule.proofs.Histories.{some_snoc, runs_append, member_or}
+use Rattle.table_rule.proofs.Handing.{keys_stay}
+
+running_one : (g h : List Part) → running g ≡ running h → g ≡ h
+running_one g h e = cc
+
+ended_one : (c d : ℕ) (g h : List Part) → ended c g ≡ ended d h → (c ≡ d) × (g ≡ h)
+ended_one c d g h e = (cc, cc)
+
+less : (x : ℕ) → 0 < x → x < 18446744073709551616 → (x + (2 ^ 64 - 1)) % 2 ^ 64 ≡ x - 1
+less x lo hi = omega arith
+
+abbrev IsGone : Place → Type 0
+IsGone p = (p ≡ out) ⊎ ((l : ℕ) × (vs : List Version) × (p ≡ finished l vs))
+
+gone_open : (p : Place) → IsGone p → IsOpen p → ⊥
+gone_open p gone is = ⊎_elim (λ (t : p ≡ out). absurd (subst IsOpen t is)) (λ (t : (l : ℕ) × (vs : List Version) × (p ≡ finished l vs)). absurd (subst IsOpen t.2 is)) gone
+
+module _ {T N : Type 0} (held_by : T → List Version) (nodes_of : N → List Version) (z : Opening) where
+  -- the last part is finished: what others know
+  knows_ended : (published : List (List Part)) (mode : Mode) (place : ℕ → Place) (lock : ℕ → ShardState) (g : List Part) (c k : ℕ) → mode ≡ running g → ((i : ℕ) → IsGone (place i)) → (seen : List (List Part)) (st : Stage)
+      → Knows z.shards z.start published mode place lock k seen st → Knows z.shards z.start published (ended c g) place lock k seen st
+  knows_ended published mode place lock g c k is gone seen Idle ok = ok
+  knows_ended published mode place lock g c k is gone seen (Holding w) ok = ok
+  knows_ended published mode place lock g c k is gone seen (Stored l) ok = ok
+  knows_ended published mode place lock g c k is gone seen (Publishing l) ok = let bad : running g ≡ ended k ok.0 = sym is ∙ ok.1 in absurd (cc)
+  knows_ended published mode place lock g c k is gone seen Resting ok = let bad : running g ≡ still = sym is ∙ ok.1 in absurd (cc)
+  knows_ended published mode place lock g c k is gone seen (Handing h []) ok = (
+    ok.0,
+    ⊎_elim
+        (λ (t : (mode ≡ running h) × (published ≡ seen)). inr (inl (c, ap (ended c) (running_one g h (sym is ∙ t.0)), t.1)))
+        (λ (t : ((m : ℕ) × (mode ≡ ended m h) × (published ≡ seen)) ⊎ ((mode ≡ still) × (published ≡ seen ++ h ∷ []))). ⊎_elim
+        (λ (u : (m : ℕ) × (mode ≡ ended m h) × (published ≡ seen)). let bad : running g ≡ ended u.0 h = sym is ∙ u.1 in absurd (cc))
+        (λ (u : (mode ≡ still) × (published ≡ seen ++ h ∷ [])). let bad : running g ≡ still = sym is ∙ u.0 in absurd (cc)) t)
+        ok.1,
+  )
+  knows_ended published mode place lock g c k is gone seen (Handing h (p ∷ ps)) ok = absurd (gone_open (place p.member) (gone p.member) (subst IsOpen (sym ok.3.0) tt))
+  knows_ended published mode place lock g c k is gone seen (Filling h p ps) ok = absurd (gone_open (place p.member) (gone p.member) (subst IsOpen (sym ok.3) tt))
+
+  module _ (s : TableState held_by nodes_of) (r : Rule held_by nodes_of z s) (c l : ℕ) (vs : List Version) (now : r.place c ≡ inserted l vs) (g : List Part) (is : r.mode ≡ running g) (x y : ℕ) where
+    fin : Place
+    fin = finished l vs
+
+    abbrev after : ℕ → Place
+    after = put r.place c (finished l vs)
+
+    -- the group is still running, or c may publish it
+    counts_to : (id : ℕ) (h h' : SeatState) (mode : Mode) → get_elem? s.views id ≡ some (h ∷ []) → h.client ≡ c → h'.client ≡ h.client → h'.opening ≡ h.opening → h'.lock ≡ Free → h'.seen ≡ h.seen → InMode z.clients y after (last_of z.start r.published) mode
+        → Knows z.shards z.start r.published mode after r.lock h.client h'.seen h'.stage
+        → ((k : ℕ) → k ≢ c → (seen : List (List Part)) (st : Stage) → Knows z.shards z.start r.published r.mode after r.lock k seen st → Knows z.shards z.start r.published mode after r.lock k seen st)
+        → Rule held_by nodes_of z (record { words = set s.words (z.shards + 1) y; homes = s.homes; views = set s.views id (h' ∷ []) })
+    counts_to id h h' mode at' c_is same_c same_s free same_seen mode_is knows others =
+        let fit = (r.seats id (h ∷ []) at').0 in
+        let k : ℕ = z.shards + 1 in
+        let ws : List ℕ = set s.words k y in
+        let wide : length s.words ≡ z.shards + 2 + z.clients = r.wide in
+        let w : (i : ℕ) → i ≢ k → get_or ws i 0 ≡ get_or s.words i 0 = λ i ne. get_or-set_other s.words k i y 0 (λ e. ne (omega arith)) in
+        moved held_by nodes_of z s r id ws s.homes h h' r.published mode after r.lock record {
+          sits = at';
+          same_client = same_c;
+          same_opening = same_s;
+          wide = length-set s.words k y;
+          many = refl;
+          last_is = w z.shards (λ e. omega arith) ∙ r.last_is;
+          runs = r.runs;
+          some_each = r.some_each;
+          shards_are = λ i lt ok. shard_stays held_by nodes_of s.words ws s.homes s.homes z.shards i (w i (λ e. omega arith)) refl (r.lock i) ok;
+          rows = λ i lo _ ok.
+              let same = place_stays held_by nodes_of s.words ws s.homes s.homes z.shards i (w (z.shards + 1 + i) (λ e. omega arith)) refl (r.place i) ok in
+              put_at r.place c (finished l vs) (λ i p. InPlace held_by nodes_of z.shards ws s.homes i (r.place i) → InPlace held_by nodes_of z.shards ws s.homes i p) i (λ e o. subst (λ (p : Place). InPlace held_by nodes_of z.shards ws s.homes i p) (ap r.place e ∙ now) o) (λ _ o. o) same;
+          mode_is = subst (λ (i : ℕ). InMode z.clients i after (last_of z.start r.published) mode) (sym (get_or-set_same s.words k y 0 (omega arith))) mode_is;
+          sound = λ j v lt h. let o = r.sound j v lt h in (
+            o.0,
+            ⊎_elim (λ (a : In v (versions_of r.published)). inl a)
+                (λ (b : (i : ℕ) × In v (stored_in (r.place i))). inr (b.0, put_at r.place c (finished l vs) (λ i p. In v (stored_in (r.place i)) → In v (stored_in p)) b.0 (λ e o. subst (λ (p : Place). In v (stored_in p)) (ap r.place e ∙ now) o) (λ _ o. o) b.1)) o.1,
+          );
+          complete = r.complete;
+          stored = λ i v h. r.stored i v (put_at r.place c (finished l vs) (λ i p. In v (stored_in p) → In v (stored_in (r.place i))) i (λ e o. subst (λ (p : Place). In v (stored_in p)) (sym (ap r.place e ∙ now)) o) (λ _ o. o) h);
+          seen = subst (λ (y : List (List Part)). Begins y r.published) (sym same_seen) fit.3;
+          grows = begins_same r.published;
+          knows_lock = subst (KnowsLock z.shards z.start r.published mode after r.lock h.client) (sym free) tt;
+          knows = knows;
+          others_lock = λ j _ x. keys_stay held_by nodes_of z r.published r.published r.mode mode r.place after r.lock j x;
+          others = λ j ne seen st ok. others j (λ e. ne (e ∙ sym c_is)) seen st (knows_member held_by nodes_of z r.published r.mode r.place r.lock r.lock c (finished l vs) j (λ e. ne (e ∙ sym c_is)) (λ l' us' bad. absurd (subst IsWithMember (sym now ∙ bad) tt)) (λ l' us' bad. absurd (subst IsWithMember (sym now ∙ bad) tt)) seen st ok);
+        }
+
+  last_in : Stage → ℕ
+  last_in Idle = 0
+  last_in (Holding w) = w.last
+  last_in (Stored l) = l
+  last_in (Publishing l) = l
+  last_in Resting = 0
+  last_in (Handing g ps) = 0
+  last_in (Filling g p ps) = 0
+
+  pub others_end : (l x : ℕ) → x ≢ 1 → ending l x ≡ Idle
+  others_end l zero ne = refl
+  others_end l (suc zero) ne = absurd (ne refl)
+  others_end l (suc (suc x)) ne = refl
+
+  -- the fetch-sub of RUNNING
+  pub counts : (slots id : ℕ) (me : SeatNow T N) (c k : ℕ) (seen : List (List Part)) (l : ℕ) → k ≡ z.shards + 1 → IsAt c z seen Free (Stored l) me → Allows (Rule held_by nodes_of z) slots id me k (λ n. (n + (2 ^ 64 - 1)) % 2 ^ 64) (counted (step slots k 1 0 none) me)
+  unfolding last_in
+  counts slots id me c k seen l is mid s r long at fits =
+      let h : SeatState = seat_state c z seen Free (Stored l) in
+      let at' : get_elem? s.views id ≡ some (h ∷ []) = at ∙ ap some mid in
+      let fit = (r.seats id (h ∷ []) at').0 in
+      let vs : List Version = fit.5.0 in
+      let now : r.place c ≡ inserted l vs = fit.5.1 in
+      let x : ℕ = get_or s.words k 0 in
+      let last : ℕ = last_of z.start r.published in
+      let x_is : x ≡ get_or s.words (z.shards + 1) 0 = ap (λ (i : ℕ). get_or s.words i 0) is in
+      let gm = open_mode z.clients (get_or s.words (z.shards + 1) 0) r.place last c r.mode r.mode_is (subst IsOpen (sym now) tt) in
+      let g : List Part = gm.0 in
+      let ok = subst (InMode z.clients (get_or s.words (z.shards + 1) 0) r.place last) gm.1 r.mode_is in
+      let p = in_it s r c l vs now last g ok.3 in
+      let part : InPart (end_of last g) p.0.versions (inserted l vs) = subst (InPart (end_of last g) p.0.versions) (ap r.place p.2 ∙ now) (part_at r.place (end_of last g) g p.0 ok.2 p.1) in
+      let place = put r.place c (finished l vs) in
+      let y : ℕ = (x + (2 ^ 64 - 1)) % 2 ^ 64 in
+      let fewer : suc (unfinished place g) ≡ unfinished r.place g = one_less r.place c l vs z.clients g p.0 p.1 p.2 (subst IsOpen (sym now) tt) ok.3.2 in
+      let x_open : x ≡ unfinished r.place g = x_is ∙ ok.0 in
+      let low : 0 < x = subst (λ (i : ℕ). 0 < i) (sym x_is) ok.1 in
+      let y_less : y ≡ x - 1 = less x low fits in
+      let y_is : y ≡ unfinished place g = omega arith in
+      let parts : AllParts place (end_of last g) g = parts_put r.place c (finished l vs) (end_of last g) g (λ us o. subst (InPart (end_of last g) us) now o) ok.2 in
+      let fit' : IsLaunched z.clients y place last g = fit_put r.place c (finished l vs) z.clients (get_or s.words (z.shards + 1) 0) y last g (λ e. subst IsOpen (sym now ∙ e) tt) ok.3 in
+      let h' : SeatState = seat_state c z seen Free (ending l x) in
+      let rule : Rule held_by nodes_of z (record { words = set s.words (z.shards + 1) y; homes = s.homes; views = set s.views id (h' ∷ []) }) = dite (ℕ_discrete x 1)
+      (λ (e : x ≡ 1).
+      let none_left : unfinished place g ≡ 0 = omega arith in
+      let all = none_open place (end_of last g) g none_left parts in
+      counts_to s r c l vs now g gm.1 x y id h h' (ended c g) at' refl refl refl refl refl (y_is ∙ none_left, all, fit')
+      (subst (λ (i : ℕ). Knows z.shards z.start r.published (ended c g) place r.lock c seen (ending l i)) (sym e) (g, refl, subst NotTaken (sym (put_here r.place c (finished l vs))) tt, sym part.0))
+      (λ j ne. knows_ended r.published r.mode place r.lock g c j gm.1 (all_gone z.clients y place last g all fit')))
+      (λ (ne : x ≢ 1). counts_to s r c l vs now g gm.1 x y id h h' r.mode at' refl refl refl refl refl (subst (InMode z.clients y place last) (sym gm.1) (y_is, (omega arith), parts, fit'))
+      (subst (Knows z.shards z.start r.published r.mode place r.lock c seen) (sym (others_end l x ne)) (subst NotTaken (sym (put_here r.place c (finished l vs))) tt))
+      (λ j ne seen st ok. ok)) in (
+        h' ∷ [],
+        keeps,
+        tt,
+        subst (λ (i : ℕ). Rule held_by nodes_of z (record { words = set s.words i y; homes = s.homes; views = set s.views id (h' ∷ []) })) (sym is) rule,
+        λ c' z' seen' l' mid'. let e = sym mid ∙ mid' in let l_is : l ≡ l' = ap (λ w. last_in (own w).stage) e in
+            ((λ i. seat_state (own (e i)).client (own (e i)).opening (own (e i)).seen (own (e i)).lock (ending (l_is i) x) ∷ []), refl),
+      )
+    where
+      in_it : (s : TableState held_by nodes_of) (r : Rule held_by nodes_of z s) (c l : ℕ) (vs : List Version) → r.place c ≡ inserted l vs → (last : ℕ) (g : List Part) → IsLaunched z.clients (get_or s.words (z.shards + 1) 0) r.place last g → (p : Part) × In p g × (p.member ≡ c)
+      in_it s r c l vs now last g fit = ⊎_elim (λ (t : (p : Part) × In p g × (p.member ≡ c)). t) (λ (t : Apart c g). absurd (subst IsOpen (sym now ∙ fit.3 c t) tt)) (member_or c g)
+
+      all_gone : (n word : ℕ) (place : ℕ → Place) (last : ℕ) (g : List Part) → AllFinished place (end_of last g) g → IsLaunched n word place last g → (i : ℕ) → IsGone (place i)
+      all_gone n word place last g all fit i = all_done n word place last g all fit i
+
+  -- all that a published group leaves: each place is out
+  row_out : (words : List ℕ) (homes : Homes held_by nodes_of) (i : ℕ) (p : Place) → IsGone p → InPlace held_by nodes_of z.shards words homes i p → InPlace held_by nodes_of z.shards words homes i out
+  row_out words homes i p gone ok = ⊎_elim
+      (λ (t : p ≡ out). subst (InPlace held_by nodes_of z.shards words homes i) t ok)
+      (λ (t : (l : ℕ) × (vs : List Version) × (p ≡ finished l vs)). let o = subst (InPlace held_by nodes_of z.shards words homes i) t.2 ok in (o.0, o.1))
+      gone
+
+  knows_published : (published : List (List Part)) (mode : Mode) (place : ℕ → Place) (lock : ℕ → ShardState) (g : List Part) (c k : ℕ) → k ≢ c → mode ≡ ended c g → ((i : ℕ) → IsGone (place i)) → (seen : List (List Part)) (st : Stage)
+      → Knows z.shards z.start published mode place lock k seen st → Knows z.shards z.start (published ++ g ∷ []) still (λ _. out) lock k seen st
+  knows_published published mode place lock g c k ne is gone seen Idle ok = tt
+  knows_published published mode place lock g c k ne is gone seen (Holding w) ok = absurd (gone_open (place k) (gone k) (subst IsOpen (sym ok) tt))
+  knows_published published mode place lock g c k ne is gone seen (Stored l) ok = absurd (gone_open (place k) (gone k) (subst IsOpen (sym ok.1) tt))
+  knows_published published mode place lock g c k ne is gone seen (Publishing l) ok = absurd (ne (sym (ended_one c k g ok.0 (sym is ∙ ok.1)).0))
+  knows_published published mode place lock g c k ne is gone seen Resting ok = let bad : ended c g ≡ still = sym is ∙ ok.1 in absurd (cc)
+  knows_published published mode place lock g c k ne is gone seen (Handing h []) ok = (
+    ok.0,
+    ⊎_elim
+        (λ (t : (mode ≡ running h) × (published ≡ seen)). let bad : ended c g ≡ running h = sym is ∙ t.0 in absurd (cc))
+        (λ (t : ((m : ℕ) × (mode ≡ ended m h) × (published ≡ seen)) ⊎ ((mode ≡ still) × (published ≡ seen ++ h ∷ []))). ⊎_elim
+        (λ (u : (m : ℕ) × (mode ≡ ended m h) × (published ≡ seen)). let e = (ended_one c u.0 g h (sym is ∙ u.1)).1 in inr (inr (refl, λ i. u.2 i ++ e i ∷ [])))
+        (λ (u : (mode ≡ still) × (published ≡ seen ++ h ∷ [])). let bad : ended c g ≡ still = sym is ∙ u.0 in absurd (cc)) t)
+        ok.1,
+  )
+  knows_published published mode place lock g c k ne is gone seen (Handing h (p ∷ ps)) ok = absurd (gone_open (place p.member) (gone p.member) (subst IsOpen (sym ok.3.0) tt))
+  knows_published published mode place lock g c k ne is gone seen (Filling h p ps) ok = absurd (gone_open (place p.member) (gone p.member) (subst IsOpen (sym ok.3) tt))
+
+  -- the store of LAST
+  pub publishes_all : (slots id : ℕ) (me : SeatNow T N) (c k : ℕ) (seen : List (List Part)) (l : ℕ) → k ≡ z.shards → IsAt c z seen Free (Publishing l) me → Allows (Rule held_by nodes_of z) slots id me k (λ _. l) (λ _. publishes (step slots k l 0 none) me l)
+  publishes_all slots id me c k seen l is mid s r long at fits =
+      let h : SeatState = seat_state c z seen Free (Publishing l) in
+      let at' : get_elem? s.views id ≡ some (h ∷ []) = at ∙ ap some mid in
+      let fit = (r.seats id (h ∷ []) at').0 in
+      let g : List Part = fit.5.0 in
+      let mode_was : r.mode ≡ ended c g = fit.5.1 in
+      let last : ℕ = last_of z.start r.published in
+      let ok = subst (InMode z.clients (get_or s.words (z.shards + 1) 0) r.place last) mode_was r.mode_is in
+      let all : (i : ℕ) → IsGone (r.place i) = all_done z.clients (get_or s.words (z.shards + 1) 0) r.place last g ok.1 ok.2 in
+      let now : List (List Part) = r.published ++ g ∷ [] in
+      let h' : SeatState = seat_state c z seen Free Idle in
+      let ws : List ℕ = set s.words z.shards l in
+      let w : (i : ℕ) → i ≢ z.shards → get_or ws i 0 ≡ get_or s.words i 0 = λ i ne. get_or-set_other s.words z.shards i l 0 (λ e. ne (omega arith)) in
+      let wide : length s.words ≡ z.shards + 2 + z.clients = r.wide in
+      let parts = versions_snoc r.published g in
+      let rule : Rule held_by nodes_of z (record { words = ws; homes = s.homes; views = set s.views id (h' ∷ []) }) = moved held_by nodes_of z s r id ws s.homes h h' now still (λ _. out) r.lock record {
+        sits = at';
+        same_client = refl;
+        same_opening = refl;
+        wide = length-set s.words z.shards l;
+        many = refl;
+        last_is = get_or-set_same s.words z.shards l 0 (omega arith) ∙ (sym fit.5.3 ∙ sym (last_snoc z.start r.published g));
+        runs = subst (Runs z.start) (sym parts) (runs_append z.start (versions_of r.published) (versions_in g) r.runs ok.2.0);
+        some_each = some_snoc r.published g r.some_each ok.2.1;
+        shards_are = λ i lt o. shard_stays held_by nodes_of s.words ws s.homes s.homes z.shards i (w i (λ e. omega arith)) refl (r.lock i) o;
+        rows = λ i lo _ o. row_out ws s.homes i (r.place i) (all i) (place_stays held_by nodes_of s.words ws s.homes s.homes z.shards i (w (z.shards + 1 + i) (λ e. omega arith)) refl (r.place i) o);
+        mode_is = (w (z.shards + 1) (λ e. omega arith) ∙ ok.0, λ _. refl);
+        sound = λ j v lt h. let o = r.sound j v lt h in (
+          o.0,
+          inl (subst (In v) (sym parts) (⊎_elim
+              (λ (a : In v (versions_of r.published)). in_left v (versions_of r.published) (versions_in g) a)
+              (λ (b : (i : ℕ) × In v (stored_in (r.place i))). in_right v (versions_of r.published) (versions_in g) (stored_group z.clients (get_or s.words (z.shards + 1) 0) r.place last g (finished_parts r.place (end_of last g) g ok.1) ok.2 b.0 v b.1))
+              o.1)),
+        );
+        complete = λ v h. ⊎_elim
+            (λ (a : In v (versions_of r.published)). r.complete v a)
+            (λ (b : In v (versions_in g)). let p = in_group g v b in r.stored p.0.member v (subst (λ (x : Place). In v (stored_in x)) (sym (finished_at r.place (end_of last g) g p.0 ok.1 p.1)) p.2))
+            (in_split v (versions_of r.published) (versions_in g) (subst (In v) parts h));
+        stored = λ i v h. absurd h;
+        seen = begins_more seen r.published (g ∷ []) fit.3;
+        grows = (g ∷ [], refl);
+        knows_lock = tt;
+        knows = tt;
+        others_lock = λ j _ x. keys_stay held_by nodes_of z r.published now r.mode still r.place (λ _. out) r.lock j x;
+        others = λ j ne. knows_published r.published r.mode r.place r.lock g c j ne mode_was all;
+      } in (
+        h' ∷ [],
+        keeps,
+        tt,
+        subst (λ (i : ℕ). Rule held_by nodes_of z (record { words = set s.words i l; homes = s.homes; views = set s.views id (h' ∷ []) })) (sym is) rule,
+        λ c' z' seen' l' mid'. (ap (one (λ w. seat_state w.client w.opening w.seen w.lock Idle)) (sym mid ∙ mid'), refl),
+      )
+
+  -- nothing is launched: what the clients know while the turn launches
+  knows_launched : (published : List (List Part)) (place place' : ℕ → Place) (lock : ℕ → ShardState) (g : List Part) (mode : Mode) (k : ℕ) → k ≢ 0 → mode ≡ still → ((i : ℕ) → place i ≡ out) → ((i : ℕ) → NotTaken (place' i)) → (seen : List (List Part)) (st : Stage)
+      → Knows z.shards z.start published mode place lock k seen st → Knows z.shards z.start published (running g) place' lock k seen st
+  knows_launched published place place' lock g mode k ne is nobody free seen Idle ok = free k
+  knows_launched published place place' lock g mode k ne is nobody free seen (Holding w) ok = absurd (subst IsOpen (sym ok ∙ nobody k) tt)
+  knows_launched published place place' lock g mode k ne is nobody free seen (Stored l) ok = absurd (subst IsOpen (sym ok.1 ∙ nobody k) tt)
+  knows_launched published place place' lock g mode k ne is nobody free seen (Publishing l) ok = let bad : still ≡ ended k ok.0 = sym is ∙ ok.1 in absurd (cc)
+  knows_launched published place place' lock g mode k ne is nobody free seen Resting ok = absurd (ne ok.0)
+  knows_launched published place place' lock g mode k ne is nobody free seen (Handing h []) ok = absurd (ne ok.0)
+  knows_launched published place place' lock g mode k ne is nobody free seen (Handing h (p ∷ ps)) ok = absurd (ne ok.0)
+  knows_launched published place place' lock g mode k ne is nobody free seen (Filling h p ps) ok = absurd (ne ok.0)
+
+  -- the turn's store of RUNNING
+  pub launches : (slots id : ℕ) (me : SeatNow T N) (k x : ℕ) (seen : List (List Part)) (g : List Part) → k ≡ z.shards + 1 → x ≡ length g → IsAt 0 z seen Free Resting me
+      → Runs (last_of z.start seen) (versions_in g) → 0 < length (versions_in g) → Members z.clients g → Allows (Rule held_by nodes_of z) slots id me k (λ _. x) (λ _. launched g (step slots k x 0 none) me x)
+  launches slots id me k x seen g is count mid run nonempty members s r long at fits =
+      let h : SeatState = seat_state 0 z seen Free Resting in
+      let at' : get_elem? s.views id ≡ some (h ∷ []) = at ∙ ap some mid in
+      let fit = (r.seats id (h ∷ []) at').0 in
+      let last : ℕ = last_of z.start r.published in
+      let end : ℕ = end_of last g in
+      let ok = subst (InMode z.clients (get_or s.words (z.shards + 1) 0) r.place last) fit.5.1 r.mode_is in
+      let place : ℕ → Place = placed end g in
+      let come : AllComing place end g = placed_coming z.clients end g members in
+      let h' : SeatState = seat_state 0 z seen Free (Handing g g) in
+      let ws : List ℕ = set s.words (z.shards + 1) x in
+      let w : (i : ℕ) → i ≢ z.shards + 1 → get_or ws i 0 ≡ get_or s.words i 0 = λ i ne. get_or-set_other s.words (z.shards + 1) i x 0 (λ e. ne (omega arith)) in
+      let wide : length s.words ≡ z.shards + 2 + z.clients = r.wide in
+      let run' : Runs last (versions_in g) = subst (λ (l : List (List Part)). Runs (last_of z.start l) (versions_in g)) (sym fit.5.2) run in
+      let nothing : (i : ℕ) (v : Version) → In v (stored_in (r.place i)) → ⊥ = λ i v h. subst (λ (p : Place). In v (stored_in p)) (ok.1 i) h in
+      let rule : Rule held_by nodes_of z (record { words = ws; homes = s.homes; views = set s.views id (h' ∷ []) }) = moved held_by nodes_of z s r id ws s.homes h h' r.published (running g) place r.lock record {
+        sits = at';
+        same_client = refl;
+        same_opening = refl;
+        wide = length-set s.words (z.shards + 1) x;
+        many = refl;
+        last_is = w z.shards (λ e. omega arith) ∙ r.last_is;
+        runs = r.runs;
+        some_each = r.some_each;
+        shards_are = λ i lt o. shard_stays held_by nodes_of s.words ws s.homes s.homes z.shards i (w i (λ e. omega arith)) refl (r.lock i) o;
+        rows = λ i lo _ o. row_in ws s.homes i end (place i) (placed_is end g i) (subst (InPlace held_by nodes_of z.shards ws s.homes i) (ok.1 i) (place_stays held_by nodes_of s.words ws s.homes s.homes z.shards i (w (z.shards + 1 + i) (λ e. omega arith)) refl (r.place i) o));
+        mode_is = (get_or-set_same s.words (z.shards + 1) x 0 (omega arith) ∙ (count ∙ sym (coming_open place end g come)), subst (λ (i : ℕ). 0 < i) (sym (get_or-set_same s.words (z.shards + 1) x 0 (omega arith) ∙ count)) (some_part g nonempty), coming_parts place end g come, (run', nonempty, members, placed_out end g));
+        sound = λ j v lt h. let o = r.sound j v lt h in (o.0, ⊎_elim (λ (a : In v (versions_of r.published)). inl a) (λ (b : (i : ℕ) × In v (stored_in (r.place i))). absurd (nothing b.0 v b.1)) o.1);
+        complete = r.complete;
+        stored = λ i v h. absurd (none_in end (place i) (placed_is end g i) v h);
+        seen = fit.3;
+        grows = begins_same r.published;
+        knows_lock = tt;
+        knows = starts g g come refl fit.5.2;
+        others_lock = λ j _ x. keys_stay held_by nodes_of z r.published r.published r.mode (running g) r.place place r.lock j x;
+        others = λ j ne. knows_launched r.published r.place place r.lock g r.mode j ne fit.5.1 ok.1 (λ i. free_in end (place i) (placed_is end g i));
+      } in (
+        h' ∷ [],
+        keeps,
+        tt,
+        subst (λ (i : ℕ). Rule held_by nodes_of z (record { words = set s.words i x; homes = s.homes; views = set s.views id (h' ∷ []) })) (sym is) rule,
+        λ z' seen' mid'. (ap (one (λ w. seat_state w.client w.opening w.seen w.lock (Handing g g))) (sym mid ∙ mid'), refl),
+      )
+    where
+      some_part : (g : List Part) → 0 < length (versions_in g) → 0 < length g
+      some_part [] lo = absurd (omega arith)
+      some_part (p ∷ ps) lo = omega arith
+
+      starts : (h ps : List Part) → AllComing (placed (end_of (last_of z.start r.published) g) g) (end_of (last_of z.start r.published) h) ps → h ≡ g → r.published ≡ seen → Knows z.shards z.start r.published (running g) (placed (end_of (last_of z.start r.published) g) g) r.lock 0 seen (Handing h ps)
+      starts h [] come e same = (refl, inl (ap running (sym e), same))
+      starts h (p ∷ ps) come e same = (refl, ap running (sym e), same, come)
+
+      row_in : (words : List ℕ) (homes : Homes held_by nodes_of) (i end : ℕ) (p : Place) → (p ≡ out) ⊎ ((vs : List Version) × (p ≡ coming end vs)) → InPlace held_by nodes_of z.shards words homes i out → InPlace held_by nodes_of z.shards words homes i p
+      row_in words homes i end p way ok = ⊎_elim
+          (λ (t : p ≡ out). subst (InPlace held_by nodes_of z.shards words homes i) (sym t) ok)
+          (λ (t : (vs : List Version) × (p ≡ coming end vs)). subst (InPlace held_by nodes_of z.shards words homes i) (sym t.1) (ok.0, ok.1))
+          way
+
+      none_in : (end : ℕ) (p : Place) → (p ≡ out) ⊎ ((vs : List Version) × (p ≡ coming end vs)) → (v : Version) → In v (stored_in p) → ⊥
+      none_in end p way v h = ⊎_elim
+          (λ (t : p ≡ out). absurd (subst (λ (x : Place). In v (stored_in x)) t h))
+          (λ (t : (vs : List Version) × (p ≡ coming end vs)). absurd (subst (λ (x : Place). In v (stored_in x)) t.1 h))
+          way
+
+      free_in : (end : ℕ) (p : Place) → (p ≡ out) ⊎ ((vs : List Version) × (p ≡ coming end vs)) → NotTaken p
+      free_in end p way = ⊎_elim
+          (λ (t : p ≡ out). subst NotTaken (sym t) tt)
+          (λ (t : (vs : List Version) × (p ≡ coming end vs)). subst NotTaken (sym t.1) tt)
+          way
+
+  -- the turn's load of LAST
+  module _ (slots id : ℕ) (me : SeatNow T N) (k : ℕ) (seen : List (List Part)) (g : List Part) (is : k ≡ z.shards) (mid : IsAt 0 z seen Free (Handing g []) me)
+      (s : TableState held_by nodes_of) (r : Rule held_by nodes_of z s) (at : get_elem? s.views id ≡ some me.0) where
+    abbrev found : ℕ
+    found = get_or s.words k 0
+
+    found_is : found ≡ last_of z.start r.published
+    found_is = ap (λ (i : ℕ). get_or s.words i 0) is ∙ r.last_is
+
+    same_goal : (z' : Opening) (seen' : List (List Part)) (g' : List Part) → IsAt 0 z' seen' Free (Handing g' []) me → end_of (last_of z.start seen) g ≡ end_of (last_of z'.start seen') g'
+    same_goal z' seen' g' mid' =
+        let e = sym mid ∙ mid' in
+        (λ i. end_of (last_of ((own (e i)).opening).start ((own (e i)).seen)) (group_in (own (e i)).stage))
+      where
+        group_in : Stage → List Part
+        group_in Idle = []
+        group_in (Holding w) = []
+        group_in (Stored l) = []
+        group_in (Publishing l) = []
+        group_in Resting = []
+        group_in (Handing g ps) = g
+        group_in (Filling g p ps) = g
+
+    waits : r.published ≡ seen → 0 < length (versions_in g) → Goes held_by nodes_of z s k id me (awaited (step slots k 0 0 none) me) found
+    waits same nonempty =
+        let low : found ≡ last_of z.start seen = found_is ∙ ap (last_of z.start) same in
+        let ne : found ≢ end_of (last_of z.start seen) g = λ e. omega arith in (
+          me.0,
+          keeps,
+          tt,
+          unmoved held_by nodes_of z s k id me.0 at r,
+          λ z' seen' g' mid'. ((λ hit. absurd (ne (hit ∙ sym (same_goal z' seen' g' mid')))), λ _. refl),
+        )
+
+    rests_on : SeatState → SeatState
+    rests_on x = seat_state x.client x.opening (x.seen ++ group x.stage ∷ []) x.lock Resting
+      where
+        group : Stage → List Part
+        group Idle = []
+        group (Holding w) = []
+        group (Stored l) = []
+        group (Publishing l) = []
+        group Resting = []
+        group (Handing g ps) = g
+        group (Filling g p ps) = g
+
+    rests : r.mode ≡ still → r.published ≡ seen ++ g ∷ [] → Goes held_by nodes_of z s k id me (awaited (step slots k 0 0 none) me) found
+    unfolding rests_on
+    rests mode_was same =
+        let h : SeatState = seat_state 0 z seen Free (Handing g []) in
+        let at' : get_elem? s.views id ≡ some (h ∷ []) = at ∙ ap some mid in
+        let h' : SeatState = seat_state 0 z (seen ++ g ∷ []) Free Resting in
+        let done : found ≡ end_of (last_of z.start seen) g = found_is ∙ (ap (last_of z.start) same ∙ last_snoc z.start seen g) in (
+          h' ∷ [],
+          keeps,
+          tt,
+          loaded held_by nodes_of z s k s.homes (set s.views id (h' ∷ [])) (moved held_by nodes_of z s r id s.words s.homes h h' r.published r.mode r.place r.lock record {
+            sits = at';
+            same_client = refl;
+            same_opening = refl;
+            wide = refl;
+            many = refl;
+            last_is = r.last_is;
+            runs = r.runs;
+            some_each = r.some_each;
+            shards_are = λ j _ ok. ok;
+            rows = λ i _ _ ok. ok;
+            mode_is = r.mode_is;
+            sound = r.sound;
+            complete = r.complete;
+            stored = r.stored;
+            seen = ([], same ∙ sym (append-nil (seen ++ g ∷ [])));
+            grows = begins_same r.published;
+            knows_lock = tt;
+            knows = (refl, mode_was, same);
+            others_lock = λ _ _ _ ok. ok;
+            others = λ _ _ _ _ ok. ok;
+          }),
+          λ z' seen' g' mid'. ((λ _. (ap (one rests_on) (sym mid ∙ mid'), refl)), λ ne. absurd (ne (done ∙ same_goal z' seen' g' mid'))),
+        )
+
+    awaits_all : Goes held_by nodes_of z s k id me (awaited (step slots k 0 0 none) me) found
+    awaits_all =
+        let fit = (r.seats id (seat_state 0 z seen Free (Handing g []) ∷ []) (at ∙ ap some mid)).0 in
+        ⊎_elim
+        (λ (t : (r.mode ≡ running g) × (r.published ≡ seen)). waits t.1 (subst (InMode z.clients (get_or s.words (z.shards + 1) 0) r.place (last_of z.start r.published)) t.0 r.mode_is).3.1)
+        (λ (t : ((m : ℕ) × (r.mode ≡ ended m g) × (r.published ≡ seen)) ⊎ ((r.mode ≡ still) × (r.published ≡ seen ++ g ∷ []))). ⊎_elim
+        (λ (u : (m : ℕ) × (r.mode ≡ ended m g) × (r.published ≡ seen)). waits u.2 (subst (InMode z.clients (get_or s.words (z.shards + 1) 0) r.place (last_of z.start r.published)) u.1 r.mode_is).2.1)
+        (λ (u : (r.mode ≡ still) × (r.published ≡ seen ++ g ∷ [])). rests u.0 u.1) t)
+        fit.5.1
+
+  pub awaits : (slots id : ℕ) (me : SeatNow T N) (k : ℕ) (seen : List (List Part)) (g : List Part) → k ≡ z.shards → IsAt 0 z seen Free (Handing g []) me → Allows (Rule held_by nodes_of z) slots id me k (λ y. y) (awaited (step slots k 0 0 none) me)
+  awaits slots id me k seen g is mid s r long at fits = awaits_all slots id me k seen g is mid s r at

@@ -1,0 +1,12 @@
+pub mod Puts
+pub mod Histories
+pub mod Moves
+pub mod Parts
+pub mod Fresh
+pub mod Locks
+pub mod Handing
+pub mod Finishing
+pub mod Beginnings
+pub mod Answers
+pub mod Seats
+pub mod Images

@@ -1,0 +1,103 @@
+-- Versions, groups and histories as plain lists. A published group is a write group whose batches have been put into the memtable (RocksDB wiki, "MemTable").
+use Rattle.std.specs.Prelude.{◌≡◌, ◌≢◌, ◌⊎◌, ◌↔◌, ℕ, suc, ◌+◌, ◌%◌, ◌<◌, ◌≤◌, Option, Some, None, List, [], ◌∷◌, ◌++◌, ◌==◌, length, map, filter}
+use Rattle.wp_model.specs.Batch.{Record}
+use Rattle.wp_model.specs.Batch as model
+use Rattle.wp_model.specs.Checksum.{crc32c}
+use Rattle.wp_model.specs.Map.{Pairs, after_records, value_at}
+use Rattle.table_rule.specs.declared.content.Version.{Version}
+use Rattle.table_rule.specs.declared.content.Part.{Part}
+
+-- a is one of them
+abbrev pub In : {A : Type 0} → A → List A → Type 0
+In a [] = ⊥
+In a (x ∷ xs) = (x ≡ a) ⊎ In a xs
+
+-- ys begins with xs
+abbrev pub Begins : {A : Type 0} → List A → List A → Type 0
+Begins {A = A} xs ys = (more : List A) × (ys ≡ xs ++ more)
+
+-- the versions of a group, and of groups
+abbrev pub versions_in : List Part → List Version
+versions_in [] = []
+versions_in (p ∷ ps) = p.versions ++ versions_in ps
+
+abbrev pub versions_of : List (List Part) → List Version
+versions_of [] = []
+versions_of (g ∷ gs) = versions_in g ++ versions_of gs
+
+-- their sequences are one run without a hole, behind `last`
+abbrev pub Runs : ℕ → List Version → Type 0
+Runs last [] = Unit {0}
+Runs last (v ∷ vs) = (v.sequence ≡ suc last) × Runs (suc last) vs
+
+-- the last sequence of a history above `start`
+abbrev pub last_of : ℕ → List (List Part) → ℕ
+last_of start gs = start + length (versions_of gs)
+
+-- no part is this member's
+abbrev pub Apart : ℕ → List Part → Type 0
+Apart m [] = Unit {0}
+Apart m (p ∷ ps) = (p.member ≢ m) × Apart m ps
+
+-- the members are numbers from 1 to n, each once
+abbrev pub Members : ℕ → List Part → Type 0
+Members n [] = Unit {0}
+Members n (p ∷ ps) = (0 < p.member) × (p.member ≤ n) × Apart p.member ps × Members n ps
+
+-- no group is empty
+abbrev pub AreSome : List (List Part) → Type 0
+AreSome [] = Unit {0}
+AreSome (g ∷ gs) = (0 < length (versions_in g)) × AreSome gs
+
+-- the groups that were published above `start`, the oldest first
+abbrev pub IsHistory : ℕ → List (List Part) → Type 0
+IsHistory start gs = Runs start (versions_of gs) × AreSome gs
+
+-- the shard of a key, and of a version
+abbrev pub shard_of_key : ℕ → List ℕ → ℕ
+shard_of_key shards key = crc32c key % shards
+
+abbrev pub shard_of : ℕ → Version → ℕ
+shard_of shards v = shard_of_key shards v.key
+
+-- the versions of one shard
+abbrev pub of_shard : ℕ → ℕ → List Version → List Version
+of_shard shards j vs = filter (λ v. shard_of shards v == j) vs
+
+-- what a version does to the map
+abbrev pub written : List ℕ → Option (List ℕ) → Record
+written key (Some v) = model.value key v
+written key None = model.deletion key
+
+abbrev pub record_of : Version → Record
+record_of v = written v.key v.value
+
+abbrev pub map_of : List Version → Pairs
+map_of vs = after_records [] (map record_of vs)
+
+-- the map after a history, and the value of a key there
+abbrev pub map_after : List (List Part) → Pairs
+map_after gs = map_of (versions_of gs)
+
+abbrev pub value_in : List ℕ → List (List Part) → Option (List ℕ)
+value_in key gs = value_at (map_after gs) key
+
+-- no sequence is below one before it
+abbrev pub AreRising : List Version → Type 0
+AreRising [] = Unit {0}
+AreRising (v ∷ vs) = ((w : Version) → In w vs → v.sequence ≤ w.sequence) × AreRising vs
+
+-- The order is one in which those of the versions may have come whose sequences are at most `at`.
+pub record IsOrderUpTo (at : ℕ) (vs order : List Version) : Type 0 where
+  pub same : (v : Version) → In v order ↔ (In v vs × (v.sequence ≤ at))
+  pub rising : AreRising order
+
+-- The published history is cut from what was handled, each of which made some versions, or none where it was refused.
+module _ {H : Type 0} (made : H → List Version) where
+  abbrev pub made_by : List H → List Version
+  made_by [] = []
+  made_by (h ∷ hs) = made h ++ made_by hs
+
+  abbrev pub Images : List H → List (List Part) → Type 0
+  Images hs [] = made_by hs ≡ []
+  Images hs (g ∷ gs) = (front : List H) × (rest : List H) × (hs ≡ front ++ rest) × (made_by front ≡ versions_in g) × Images rest gs

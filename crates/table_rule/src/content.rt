@@ -1,0 +1,27 @@
+//! What the slots of a table hold, and what is published.
+
+use std::collections::LinkedList;
+
+/// What lies in a slot. `T` is a tree of versions, and `N` are a member's nodes.
+#[derive(Drop)]
+pub enum Content<T, N> {
+    /// Nothing.
+    Blank,
+    /// A shard's tree.
+    Tree(T),
+    /// A member's nodes, and the last sequence of their group.
+    Nodes(N, u64),
+}
+
+/// What a key says from a sequence on: a value, or none where it is deleted. Contracts speak of versions, and no value of this type is made.
+pub struct Version {
+    pub key: LinkedList<u8>,
+    pub value: Option<LinkedList<u8>>,
+    pub sequence: u64,
+}
+
+/// A member's part of a group, in the order of its sequences. A group is a list of parts. No value of this type is made.
+pub struct Part {
+    pub member: u64,
+    pub versions: LinkedList<Version>,
+}

@@ -1,0 +1,56 @@
+//! The rule of the published table over atomic words: which words and slots it has, what each seat knows, and what each atomic step does. The table under one lock is the case of one shard.
+//!
+//! # Words
+//!
+//! `k` is the number of shards, and clients are numbered from 1.
+//!
+//! | Word | Name | What it holds |
+//! |---|---|---|
+//! | `j`, below `k` | lock `j` | 1 while a seat has shard `j`'s tree, else 0 |
+//! | `k` | LAST | the published sequence |
+//! | `k + 1` | RUNNING | how many parts of the launched group aren't finished |
+//! | `k + 1 + i` | RUN `i` | 1 from when client `i`'s part is handed out until its nodes are in their trees |
+//!
+//! # Slots
+//!
+//! | Slot | What it holds |
+//! |---|---|
+//! | `j`, below `k` | shard `j`'s tree |
+//! | `k` | nothing: it is spared, so that a client's slot is `k` and its number |
+//! | `k + i` | client `i`'s part of the launched group, from when it is handed out until it is taken |
+//!
+//! # Steps
+//!
+//! The turn is a seat of its own, of which a table has one. Who keeps it may launch a group. A reader's seat is a client's.
+//!
+//! | Step | Who makes it | What it does | Event of the write path |
+//! |---|---|---|---|
+//! | load of LAST ([`Learn`]) | a client | sees the published history | read |
+//! | compare-exchange of a lock from 0 to 1 ([`LockShard`]) | a client | takes the tree out of its slot | |
+//! | store of 0 to a lock ([`UnlockShard`]) | who locked it | gives the tree back as it was | |
+//! | store of 0 to a lock ([`AddVersion`]) | a member | gives the tree back with one version of its part more | insert, where it is the part's last |
+//! | store of RUNNING ([`Launch`]) | the turn | begins a group, with the number of its parts | launch |
+//! | load of RUN `i` ([`Empty`]) | the turn | takes the empty slot of a member | |
+//! | store of 1 to RUN `i` ([`Give`]) | the turn | gives that slot back with the member's nodes | |
+//! | load of RUN `i` ([`Take`]) | member `i` | takes its nodes out of its slot, where it finds 1 | |
+//! | store of 0 to RUN `i` ([`Settle`]) | member `i` | gives the empty slot back, all its nodes being in their trees | |
+//! | fetch-sub of RUNNING ([`Count`]) | a member | its part is finished; who finds 1 may publish | finish |
+//! | store of LAST ([`Publish`]) | the member that took RUNNING to 0 | publishes the group | publish |
+//! | load of LAST ([`Await`]) | the turn | the group is published, where it finds the group's last sequence | |
+//! | load of LAST ([`Close`]) | the turn's seat, joined with the clients' | the one history of the table is known | |
+//!
+//! A compare-exchange that fails is a load that tells nothing. A seat is made and joined at opening and closing alone.
+#![tactic(auto)]
+
+mod content;
+mod rule;
+mod steps;
+mod view;
+
+pub use content::{Content, Part, Version};
+pub use rule::{Both, First, TableLaw, Versioned};
+pub use steps::{
+    AddVersion, Await, Close, Count, Empty, Give, GroupPlan, Launch, Learn, LockShard, Publish,
+    Settle, Take, UnlockShard,
+};
+pub use view::{Lock, Opening, SeatState, Stage, View, Work};

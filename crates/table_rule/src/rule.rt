@@ -1,0 +1,43 @@
+//! The rule, and how seats are cut and joined.
+ghost use Rattle.std.specs.Prelude.{[], ◌++◌};
+ghost use Rattle.table_rule.specs.Rule.{IsConsistent, newcomers};
+ghost use Rattle.table_rule.specs.Seats.{all_but_first, first_only};
+
+use crate::content::Content;
+use crate::view::{Opening, View};
+use atomic_table::{Join, Split, TableRule};
+
+/// What holds versions, as a tree or a member's nodes do.
+pub trait Versioned {
+    ghost use Rattle.std.specs.Prelude.{List};
+    ghost use Rattle.table_rule.specs.declared.content.Version.{Version};
+
+    ghost versions: { Self → List Version };
+}
+
+/// What holds between any two steps.
+pub struct TableLaw;
+
+impl<T: Versioned, N: Versioned> TableRule<Content<T, N>, View, Opening> for TableLaw {
+    ghost holds = { λ z. IsConsistent T.versions N.versions z };
+
+    ghost first = { λ z. newcomers z 1 z.clients };
+}
+
+/// Cuts the first state of a seat off.
+pub struct First;
+
+impl Split<View> for First {
+    ghost left = { λ v. all_but_first v };
+
+    ghost right = { λ v. first_only v };
+}
+
+/// Takes another seat's states in.
+pub struct Both;
+
+impl Join<View> for Both {
+    ghost both = { λ v w. v ++ w };
+
+    ghost spent = { [] };
+}

@@ -1,0 +1,15 @@
+use Rattle.std.proofs.Common.{ℕ, ◌∙◌, ap, subst}
+use Rattle.table_steps.specs.Ends.{AreSeatsOf}
+use Rattle.table_rule.specs.declared.view.Opening.{Opening}
+use Rattle.table_steps.proofs.Openings.{opens_first}
+use Rattle.table_steps.proofs.shared.SharedTable.open.Goals as goal
+
+pub new-requires : goal.new-requires
+new-requires g c =
+    let z : Opening = record { clients = c.args.clients; shards = c.args.shards; start = c.args.last } in
+    opens_first g.T.Versioned.versions g.N.Versioned.versions z c.deref.result.now c.add_blanks.new.slots.items c.in_ok-slots.slots.items (c.deref.ensures.value ∙ c.in_ok-words.ensures) c.in_ok-add_blanks.ensures c.requires c.in_ok-slots.ensures.length c.in_ok-slots.ensures.empty
+
+pub returns-clause-clients : goal.returns-clause-clients
+returns-clause-clients g c =
+    let z : Opening = c.in-Ok.table.shared.key in
+    subst (λ (n : ℕ). AreSeatsOf c.in-Ok.table.shared.table_id z n c.in_ok-seats.seats.clients.items) (ap (λ (y : Opening). y.clients) c.in-Ok.ensures.ok.5) c.in_ok-seats.ensures.clients

@@ -1,0 +1,46 @@
+-- The table at opening and at closing.
+use Rattle.std.specs.Prelude.{◌<◌, ◌≤◌, ◌≡◌, ℕ, List, [], map, None}
+use Rattle.std.specs.List.{range_with_len}
+use Rattle.atomic_table.specs.Seated.{TableId}
+use Rattle.table_rule.specs.declared.content.Content.{Content}
+use Rattle.table_rule.specs.declared.content.Content.TheVariants.{Tree}
+use Rattle.table_rule.specs.declared.content.Version.{Version}
+use Rattle.table_rule.specs.declared.content.Part.{Part}
+use Rattle.table_rule.specs.declared.view.Opening.{Opening}
+use Rattle.table_rule.specs.declared.view.SeatState.{SeatState}
+use Rattle.table_rule.specs.declared.view.Lock.TheVariants.{Free}
+use Rattle.table_rule.specs.declared.view.Stage.TheVariants.{Idle, Resting}
+use Rattle.table_rule.specs.Histories.{In, Begins, last_of}
+use Rattle.table_rule.specs.Rule.{seat_state}
+use Rattle.table_rule.specs.Steps.{IsAt}
+use Rattle.table_steps.specs.declared.shared.Client.{Client}
+use Rattle.table_steps.specs.declared.launching.Turn.{Turn}
+use Rattle.table_steps.specs.declared.seat.TableSeat.{TableSeat}
+
+module _ {T N : Type 0} where
+  abbrev pub IsEmptyTree : (T → List Version) → Content T N → Type 0
+  IsEmptyTree versions_of slot = (tree : T) × (slot ≡ Tree tree) × (versions_of tree ≡ [])
+
+  -- the turn of this table, with no group launched, and all that is published
+  abbrev pub IsTurnOf : TableId → Opening → List (List Part) → Turn T N → Type 0
+  IsTurnOf id z history turn = (turn.seat.table_id ≡ id) × (turn.seat.me.1 ≡ []) × IsAt 0 z history Free Resting turn.seat.me × (turn.last ≡ last_of z.start history)
+
+  -- a client's seat of this table, with nothing to do, and what it has seen
+  abbrev pub IsSeatOf : TableId → Opening → List (List Part) → Client T N → Type 0
+  IsSeatOf id z seen client = (client.seat.table_id ≡ id) × (client.seat.me.1 ≡ []) × IsAt client.number z seen Free Idle client.seat.me
+
+  -- the seats of clients from 1 on
+  abbrev pub AreSeatsOf : TableId → Opening → ℕ → List (TableSeat T N) → Type 0
+  AreSeatsOf id z count seats = (map (λ (s : TableSeat T N). s.client.number) seats ≡ range_with_len 1 count) × ((seat : TableSeat T N) → In seat seats → IsSeatOf id z [] seat.client × (seat.turn ≡ None) × (0 < seat.client.number) × (seat.client.number ≤ count))
+
+  -- all are seats of this table, with nothing to do
+  abbrev pub AreIdle : TableId → Opening → List (TableSeat T N) → Type 0
+  AreIdle id z seats = (seat : TableSeat T N) → In seat seats → (seen : List (List Part)) × IsSeatOf id z seen seat.client
+
+  -- what each has seen is a beginning of the history
+  abbrev pub HaveSeen : Opening → List (List Part) → List (TableSeat T N) → Type 0
+  HaveSeen z history seats = (seat : TableSeat T N) (seen : List (List Part)) → In seat seats → IsAt seat.client.number z seen Free Idle seat.client.seat.me → Begins seen history
+
+  -- these seats' states are among those joined
+  abbrev pub AreJoined : Opening → List (TableSeat T N) → List SeatState → Type 0
+  AreJoined z seats v = (seat : TableSeat T N) (seen : List (List Part)) → In seat seats → IsAt seat.client.number z seen Free Idle seat.client.seat.me → In (seat_state seat.client.number z seen Free Idle) v

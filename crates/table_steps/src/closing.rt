@@ -1,0 +1,39 @@
+//! The end of a table.
+ghost use Rattle.std.specs.Prelude.{◌≡◌, List};
+ghost use Rattle.table_rule.specs.declared.content.Part.{Part};
+ghost use Rattle.table_rule.specs.Histories.{IsHistory};
+ghost use Rattle.table_steps.specs.Ends.{IsTurnOf, AreIdle, HaveSeen};
+
+use crate::launching::Turn;
+use crate::seat::TableSeat;
+use crate::shared::SharedTable;
+use table_calls::{Seats, VersionNodes, VersionTree};
+use table_rule::{Both, Close};
+
+impl<T: VersionTree<N::Node> + Drop, N: VersionNodes + Drop> SharedTable<T, N> {
+    // Joins all seats. What the turn knows is then what is published, and each client has seen a beginning of it.
+    fn gather(&self, mut turn: Turn<T, N>, mut clients: Vec<TableSeat<T, N>>)
+        requires turn { (history : List (List Part)) × IsTurnOf self.now.table.shared.table_id self.now.table.shared.key history turn }
+        requires idle { AreIdle self.now.table.shared.table_id self.now.table.shared.key clients.items }
+        ensures { (history : List (List Part)) → IsTurnOf self.now.table.shared.table_id self.now.table.shared.key history turn → IsHistory self.now.table.shared.key.start history × HaveSeen self.now.table.shared.key history clients.items }
+    {
+        while let Some(seat) = clients.pop() {
+            self.table
+                .shared
+                .join_seat::<Both>(&mut turn.seat, seat.client.seat);
+        }
+        clients.destroy_empty();
+        self.table
+            .shared
+            .load::<Close>(&mut turn.seat, self.opening.shards as usize);
+    }
+
+    /// Gives the table up, with all seats. What was published is one history, and each client has seen a beginning of it.
+    pub fn close(self, seats: Seats<TableSeat<T, N>, Turn<T, N>>)
+        requires turn { (history : List (List Part)) × IsTurnOf self.table.shared.table_id self.table.shared.key history seats.turn }
+        requires idle { AreIdle self.table.shared.table_id self.table.shared.key seats.clients.items }
+        ensures { (history : List (List Part)) → IsTurnOf self.table.shared.table_id self.table.shared.key history seats.turn → IsHistory self.table.shared.key.start history × HaveSeen self.table.shared.key history seats.clients.items }
+    {
+        self.gather(seats.turn, seats.clients);
+    }
+}

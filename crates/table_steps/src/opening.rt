@@ -1,0 +1,113 @@
+//! How a table is made, and a seat for the turn and for each client.
+ghost use Rattle.std.specs.Prelude.{◌≡◌, ◌<◌, ◌≤◌, ◌+◌, ◌^◌, [], ◌++◌, ◌∷◌, map, length, replicate, IfOk, OnOk};
+ghost use Rattle.std.specs.List.{range_with_len};
+ghost use Rattle.table_rule.specs.declared.content.Content.{Content};
+ghost use Rattle.table_rule.specs.declared.content.Content.TheVariants.{Blank};
+ghost use Rattle.table_rule.specs.Histories.{In};
+ghost use Rattle.table_rule.specs.Rule.{newcomers};
+ghost use Rattle.table_steps.specs.Ends.{IsEmptyTree, IsTurnOf, IsSeatOf, AreSeatsOf};
+
+use crate::launching::Turn;
+use crate::seat::TableSeat;
+use crate::shared::{Client, SharedTable};
+use atomic_table::{Seat, Table};
+use std::alloc::Global;
+use table_calls::{Seats, VersionNode, VersionNodes, VersionTree};
+use table_rule::{Content, First, Opening, TableLaw, Versioned, View};
+use wp_model::NoMemory;
+
+/// The words where no lock is taken and no group is launched.
+fn first_words(alloc: Global, opening: &Opening) -> Result<Vec<u64>, NoMemory>
+    requires { (opening.now.shards < 2 ^ 32) × (opening.now.clients < 2 ^ 32) }
+    ensures { IfOk result (λ words. words.items ≡ replicate opening.now.shards 0 ++ opening.now.start ∷ replicate (opening.now.clients + 1) 0) }
+{
+    let mut words = vec![in alloc; 0u64; opening.shards as usize]?;
+    words.push(opening.start)?;
+    let unlaunched = vec![in alloc; 0u64; opening.clients as usize + 1]?;
+    words.extend_from_slice(&unlaunched)?;
+    Ok(words)
+}
+
+/// Empty trees.
+fn empty_trees<B: VersionNode, T: VersionTree<B> + Drop, N: Drop>(
+    alloc: Global,
+    count: u64,
+) -> Result<Vec<Content<T, N>>, NoMemory>
+    ensures length { IfOk result (λ slots. length slots.items ≡ count) }
+    ensures empty { IfOk result (λ slots. (slot : Content T N) → In slot slots.items → IsEmptyTree T.versions slot) }
+{
+    let mut slots = Vec::new(alloc);
+    for made in 0..count {
+        slots.push(Content::Tree(T::new()))?;
+    }
+    Ok(slots)
+}
+
+/// Puts empty slots behind others.
+fn add_blanks<T: Drop, N: Drop>(slots: &mut Vec<Content<T, N>>, count: u64) -> Result<(), NoMemory>
+    ensures { OnOk result (slots.new.items ≡ slots.old.items ++ replicate count Blank) }
+{
+    for added in 0..count {
+        slots.push(Content::Blank)?;
+    }
+    Ok(())
+}
+
+impl<T: VersionTree<N::Node> + Drop, N: VersionNodes + Drop> SharedTable<T, N> {
+    // Cuts the first seat into the clients' and the turn's.
+    fn seat_all(
+        &self,
+        alloc: Global,
+        mut seat: Seat<Content<T, N>, View>,
+    ) -> Result<Seats<TableSeat<T, N>, Turn<T, N>>, NoMemory>
+        requires { (seat.table_id ≡ self.now.table.shared.table_id) × (seat.me ≡ (newcomers self.now.table.shared.key 1 self.now.table.shared.key.clients, [])) }
+        ensures turn { IfOk result (λ seats. IsTurnOf self.now.table.shared.table_id self.now.table.shared.key [] seats.turn) }
+        ensures clients { IfOk result (λ seats. AreSeatsOf self.now.table.shared.table_id self.now.table.shared.key self.now.table.shared.key.clients seats.clients.items) }
+    {
+        let mut clients = Vec::new(alloc);
+        for seated in 0..self.opening.clients {
+            let own = self.table.shared.split_seat::<First>(&mut seat);
+            clients.push(TableSeat {
+                client: Client {
+                    number: seated + 1,
+                    seat: own,
+                },
+                turn: None,
+                last: self.opening.start,
+            })?;
+        }
+        let last = self.opening.start;
+        Ok(Seats {
+            turn: Turn { seat, last },
+            clients,
+        })
+    }
+
+    /// Makes a table of empty trees, with the published sequence `last`, and its seats.
+    pub fn open(
+        alloc: Global,
+        clients: u32,
+        shards: u32,
+        last: u64,
+    ) -> Result<(SharedTable<T, N>, Seats<TableSeat<T, N>, Turn<T, N>>), NoMemory>
+        requires { 0 < shards }
+        ensures table { IfOk result (λ opened. opened.0.table.shared.key ≡ record { clients = clients; shards = shards; start = last }) }
+        ensures turn { IfOk result (λ opened. IsTurnOf opened.0.table.shared.table_id opened.0.table.shared.key [] opened.1.turn) }
+        ensures clients { IfOk result (λ opened. AreSeatsOf opened.0.table.shared.table_id opened.0.table.shared.key clients opened.1.clients.items) }
+    {
+        let opening = Opening {
+            clients: clients as u64,
+            shards: shards as u64,
+            start: last,
+        };
+        let words = first_words(alloc, &opening)?;
+        let mut slots = empty_trees::<N::Node, T, N>(alloc, opening.shards)?;
+        add_blanks(&mut slots, opening.clients + 1)?;
+        let Ok((table, seat)) = Table::new(alloc, &words, slots, &opening) else {
+            return Err(NoMemory);
+        };
+        let shared = SharedTable { table, opening };
+        let seats = shared.seat_all(alloc, seat)?;
+        Ok((shared, seats))
+    }
+}

@@ -1,0 +1,13 @@
+//! A client's seat as callers have it.
+
+use crate::launching::Turn;
+use crate::shared::Client;
+
+/// A client's seat, with the turn from when the client launches a group until the group is published.
+#[derive(Drop)]
+pub struct TableSeat<T, N> {
+    pub client: Client<T, N>,
+    pub turn: Option<Turn<T, N>>,
+    /// The last sequence of the group whose part the client has inserted last.
+    pub last: u64,
+}

@@ -1,0 +1,7 @@
+pub mod Standing
+pub mod NotRead
+pub mod MoreKept
+pub mod Ending
+pub mod Keeping
+pub mod Recovers
+pub mod Telling

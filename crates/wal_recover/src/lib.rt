@@ -1,0 +1,17 @@
+//! Point-in-time recovery of a log (RocksDB wiki, "WAL Recovery Modes", kPointInTimeRecovery): the records in front of the
+//! first place that doesn't read, or of the first record that is no batch or whose run of sequences doesn't rise.
+//!
+//! Any bytes recover something. What follows damage is not looked at: a log is a history, and what stands behind a gap would
+//! be another one.
+#![tactic(auto)]
+
+mod kept;
+mod recovery;
+
+pub use kept::GroupNote;
+pub use recovery::{End, RecoverError, Recovered, recover};
+
+#[cfg(test)]
+mod damage_tests;
+#[cfg(test)]
+mod tests;
