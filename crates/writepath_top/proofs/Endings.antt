@@ -198,7 +198,7 @@ says_source left sold snew failed fails kf kfs n given is (read.Script line kind
     ⊎_elim (λ said. absurd (let a = said.0 in omega (arith, a, four))) (λ none. absurd (let a = none.0 in omega (arith, a, four))) (refused_as sold snew kf kfs _ _ given n is tells)
 says_source left sold snew failed fails kf kfs n given is read.NoMemory error tells four = absurd (let a : n ≡ 6 = is ∙ ap code tells.0 in omega (arith, a, four))
 
-silent : (sold snew : Option (List ℕ)) (kf kfs n : ℕ) (given : Status) → n ≡ code given → (why : ReadError) → TellsReadError sold snew kf kfs why given → n ≡ 6 → snew ≡ sold
+pub silent : (sold snew : Option (List ℕ)) (kf kfs n : ℕ) (given : Status) → n ≡ code given → (why : ReadError) → TellsReadError sold snew kf kfs why given → n ≡ 6 → snew ≡ sold
 silent sold snew kf kfs n given is (read.Fault count) tells six =
     ⊎_elim (λ said. absurd (let a = said.0 in omega (arith, a, six))) (λ none. none.1) (refused_as sold snew kf kfs _ _ given n is tells)
 silent sold snew kf kfs n given is (read.Script line kind) tells six =

@@ -19,3 +19,10 @@ mod Endings
 mod OneClient
 mod WholeTexts
 mod Recoveries
+mod ReplayedClients
+mod ReplayedHistory
+mod Replayings
+mod ReplayTexts
+mod ReplayEndings
+mod WholeSchedules
+mod SmallPlans

@@ -28,7 +28,7 @@ replies_shown (r ∷ rs) [] all = absurd all
 replies_shown (r ∷ rs) (c ∷ cs) all = rw (reply_shown r c all.0) (ap (λ t. reply_text c.reply ++ t) (replies_shown rs cs all.1))
 
 -- of clients from a number on
-clients_shown : (n : ℕ) (xs : List (Vec Reply Global)) (ys : List (List calls.Call)) → AllZip (λ v. ShowsReplies v.items) xs ys → flat_map client_lines (enumerate_from n xs) ≡ flat_map client_text (enumerate_from n ys)
+pub clients_shown : (n : ℕ) (xs : List (Vec Reply Global)) (ys : List (List calls.Call)) → AllZip (λ v. ShowsReplies v.items) xs ys → flat_map client_lines (enumerate_from n xs) ≡ flat_map client_text (enumerate_from n ys)
 clients_shown n [] [] all = refl
 clients_shown n [] (y ∷ ys) all = absurd all
 clients_shown n (x ∷ xs) [] all = absurd all
@@ -52,7 +52,7 @@ length_shown [] (e ∷ es) all = absurd all
 length_shown (s ∷ ss) [] all = absurd all
 length_shown (s ∷ ss) (e ∷ es) all = ap suc (length_shown ss es all.1)
 
-history_shown : (ss : List Entry) (es : List history.Entry) → AllZip ShowsEntry ss es → history_lines ss ≡ history_text es
+pub history_shown : (ss : List Entry) (es : List history.Entry) → AllZip ShowsEntry ss es → history_lines ss ≡ history_text es
 history_shown ss es all = rw (length_shown ss es all, entries_shown ss es all) refl
 
 -- of the whole outcome

@@ -2,10 +2,10 @@
 use Rattle.std.specs.Prelude.{ℕ, List, [], ◌∷◌, Option, Some, None, String, string_bytes, map, codes, bytes_eq, if◌then◌else◌}
 use Rattle.std.specs.declared.alloc.Global.{Global}
 use Rattle.writepath_top.specs.declared.command_line.Asked.{Asked}
-use Rattle.writepath_top.specs.declared.command_line.Asked.TheVariants.{Run, Recover}
+use Rattle.writepath_top.specs.declared.command_line.Asked.TheVariants.{Run, Recover, Replay}
 
 abbrev pub command_of : List ℕ → Option Asked
-command_of w = if bytes_eq w (codes "run") then Some Run else if bytes_eq w (codes "recover") then Some Recover else None
+command_of w = if bytes_eq w (codes "run") then Some Run else if bytes_eq w (codes "recover") then Some Recover else if bytes_eq w (codes "replay") then Some Replay else None
 
 abbrev pub asked_by : List (List ℕ) → Option Asked
 asked_by [] = None

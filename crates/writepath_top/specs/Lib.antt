@@ -12,6 +12,8 @@ pub mod CommandLine
 pub mod Reading
 pub mod Ends
 pub mod Running
+pub mod Replaying
+pub mod Replays
 pub mod Telling
 pub mod Outcomes
 pub mod Recovers

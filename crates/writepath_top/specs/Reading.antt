@@ -5,6 +5,9 @@ use Rattle.writepath_top.specs.declared.reading.ReadError.{ReadError}
 use Rattle.writepath_top.specs.declared.reading.ReadError.TheVariants.{Fault, Script, NoMemory}
 use Rattle.wp_model.specs.Script as model
 use Rattle.client_script.specs.declared.script.Script as script
+use Rattle.client_script.specs.declared.schedule.Schedule.{Schedule}
+use Rattle.client_script.specs.Schedules.{schedule_of}
+use Rattle.core_model.specs.Schedule as schedules
 use Rattle.client_script.specs.Scripts.{commands_of, script_len, HasShortWords}
 use Rattle.writepath_top.specs.Texts.{IsReached}
 
@@ -33,3 +36,16 @@ abbrev pub IsScriptError : Option (List ℕ) → ℕ → ℕ → ReadError → T
 IsScriptError old before now (Fault count) = IsReached before count now
 IsScriptError old before now (Script line kind) = IfSome old (λ text. model.script_of model.first_grammar text ≡ Err (record { line = line; kind = kind }))
 IsScriptError old before now NoMemory = Unit {0}
+
+-- the source had just this script, of one to sixteen clients, and its schedule
+pub record HasSchedule (old new : Option (List ℕ)) (s : Schedule) : Type 0 where
+  pub said : IfSome old (λ text. schedules.schedule_of schedules.clients_grammar schedules.first_event_words text ≡ Ok (schedule_of s))
+  pub ended : IsAtEnd new
+  pub clients : (1 ≤ length s.script.clients.items) × (length s.script.clients.items ≤ 16)
+  pub small : script_len s.script ≤ 16385
+  pub words : HasShortWords s.script
+
+abbrev pub IsScheduleError : Option (List ℕ) → ℕ → ℕ → ReadError → Type 0
+IsScheduleError old before now (Fault count) = IsReached before count now
+IsScheduleError old before now (Script line kind) = IfSome old (λ text. schedules.schedule_of schedules.clients_grammar schedules.first_event_words text ≡ Err (record { line = line; kind = kind }))
+IsScheduleError old before now NoMemory = Unit {0}

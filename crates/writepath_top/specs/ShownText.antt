@@ -12,6 +12,8 @@ use Rattle.writepath_top.specs.declared.outcome.Entry.{Entry}
 use Rattle.writepath_top.specs.declared.outcome.Outcome.{Outcome}
 use Rattle.wal_recover.specs.declared.kept.GroupNote.{GroupNote}
 use Rattle.wal_recover.specs.declared.recovery.Recovered.{Recovered}
+use Rattle.write_core.specs.declared.step.Counts.{Counts}
+use Rattle.writepath_top.specs.declared.replaying.Replayed.{Replayed}
 use Rattle.writepath_top.specs.Published.{pairs_of}
 
 -- a reply as shown; its text doesn't tell the records
@@ -53,3 +55,11 @@ end_line at why = line (codes "end" ∷ decimal at ∷ end_words why)
 
 abbrev pub shown_recovered_text : Recovered → List ℕ
 shown_recovered_text v = groups_lines v.groups.items ++ state_text hex_word v.last v.map ++ end_line v.end.at v.end.why
+
+-- how many events came, and how many were passed over
+abbrev pub counts_line : Counts → List ℕ
+counts_line counts = line (codes "events" ∷ decimal counts.taken ∷ codes "skipped" ∷ decimal counts.skipped ∷ [])
+
+abbrev pub shown_replayed_text : Replayed → List ℕ
+shown_replayed_text v = counts_line v.counts ++ clients_lines v.transcripts.items ++ history_lines v.history.items
+    ++ state_text (λ w. w) v.last v.map ++ line (codes "groups" ∷ decimal v.groups ∷ [])

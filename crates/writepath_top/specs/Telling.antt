@@ -4,6 +4,11 @@ use Rattle.std.specs.Io.KnownBytes.{Appends}
 use Rattle.wp_model.specs.Counts.{Rose}
 use Rattle.wp_model.specs.Calls as calls
 use Rattle.wp_model.specs.Text as model
+use Rattle.wp_model.specs.declared.memory.NoMemory.{NoMemory}
+use Rattle.core_model.specs.Step as core
+use Rattle.core_model.specs.ReplayText.{replay_text}
+use Rattle.writepath_top.specs.declared.replaying.Replayed.{Replayed}
+use Rattle.writepath_top.specs.Replays.{ShowsReplayed}
 use Rattle.writepath_top.specs.declared.outcome.Outcome.{Outcome}
 use Rattle.writepath_top.specs.declared.reading.ReadError.{ReadError}
 use Rattle.writepath_top.specs.declared.reading.ReadError.TheVariants as read
@@ -70,6 +75,22 @@ TellsRecoverError old new failed fails none.NoMemory given = (given ≡ status.M
 abbrev pub TellsRecovery : Option (List ℕ) → Option (List ℕ) → ℕ → ℕ → Result Recovered RecoverError → Status → Type 0
 TellsRecovery old new failed fails (Ok shown) given = ShownEndsSo old new failed fails shown given
 TellsRecovery old new failed fails (Err why) given = TellsRecoverError old new failed fails why given
+
+-- the text of whatever a schedule came to that the values show
+abbrev pub IsReplayText : Replayed → List ℕ → Type 0
+IsReplayText shown text = (r : core.Replayed) → ShowsReplayed shown r → text ≡ replay_text r
+
+-- The status of a schedule's text. At 5 the sink failed, and a front of it was taken; at 6 there was no memory for it.
+abbrev pub ReplayEndsSo : Option (List ℕ) → Option (List ℕ) → ℕ → ℕ → Replayed → Status → Type 0
+ReplayEndsSo old new failed fails shown status.Done = (text : List ℕ) × IsReplayText shown text × Appends old new text
+ReplayEndsSo old new failed fails shown status.Sink = Rose failed fails × (text : List ℕ) × IsReplayText shown text × (n : ℕ) × Appends old new (take n text)
+ReplayEndsSo old new failed fails shown status.Memory = new ≡ old
+ReplayEndsSo old new failed fails shown other = ⊥
+
+-- there was no memory for the schedule itself, or so
+abbrev pub TellsReplay : Option (List ℕ) → Option (List ℕ) → ℕ → ℕ → Result Replayed NoMemory → Status → Type 0
+TellsReplay old new failed fails (Ok shown) given = ReplayEndsSo old new failed fails shown given
+TellsReplay old new failed fails (Err why) given = (given ≡ status.Memory) × (new ≡ old)
 
 -- its number
 abbrev pub code : Status → ℕ

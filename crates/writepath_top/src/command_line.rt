@@ -10,6 +10,8 @@ pub enum Asked {
     Run,
     /// To say what the log recovers.
     Recover,
+    /// To run a schedule on the core.
+    Replay,
 }
 
 /// What the words ask for, where they are lawful.
@@ -29,6 +31,8 @@ fn command_asked(word: &str) -> Option<Asked>
         Some(Asked::Run)
     } else if word == "recover" {
         Some(Asked::Recover)
+    } else if word == "replay" {
+        Some(Asked::Replay)
     } else {
         None
     }

@@ -7,6 +7,7 @@ mod outcome;
 mod pending;
 mod published;
 mod reading;
+mod replaying;
 mod running;
 mod telling;
 #[cfg(test)]

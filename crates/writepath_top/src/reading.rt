@@ -1,9 +1,9 @@
 //! The script from its source.
 
 ghost use Rattle.std.specs.Prelude.{◌≡◌, ◌+◌, ◌-◌, ◌≤◌, ◌<◌, ℕ, [], length, vec_len, Some, None, IfOk, IfErr, IfSome};
-ghost use Rattle.writepath_top.specs.Reading.{HasRead, IsReadError, HasScript, IsScriptError};
+ghost use Rattle.writepath_top.specs.Reading.{HasRead, IsReadError, HasScript, IsScriptError, HasSchedule, IsScheduleError};
 
-use client_script::{Script, ScriptError, TEXT_LIMIT, parse};
+use client_script::{Schedule, Script, ScriptError, TEXT_LIMIT, parse, parse_schedule};
 use std::alloc::Global;
 use wp_edge::Source;
 use wp_model::ScriptFault;
@@ -56,6 +56,20 @@ pub fn read_script<S: Source>(alloc: Global, source: &mut S) -> Result<Script, R
     match parse(alloc, &text) {
         Ok(script) => Ok(script),
         Err(ScriptError::Fault { line, kind }) => Err(ReadError::Script { line, kind }),
+        Err(ScriptError::NoMemory) => Err(ReadError::NoMemory),
+    }
+}
+
+/// Reads a script and its schedule.
+pub fn read_schedule<S: Source>(alloc: Global, source: &mut S) -> Result<Schedule, ReadError>
+    ensures schedule { IfOk result (HasSchedule (S.left source.old) (S.left source.new)) }
+    ensures error { IfErr result (IsScheduleError (S.left source.old) (S.faults source.old) (S.faults source.new)) }
+    ensures later { S.faults source.old ≤ S.faults source.new }
+{
+    let text = read_text(alloc, source)?;
+    match parse_schedule(alloc, &text) {
+        Ok(schedule) => Ok(schedule),
+        Err(ScriptError::Fault { line: at, kind }) => Err(ReadError::Script { line: at, kind }),
         Err(ScriptError::NoMemory) => Err(ReadError::NoMemory),
     }
 }

@@ -2,13 +2,15 @@
 
 ghost use Rattle.std.specs.Prelude.{◌≡◌, ◌≤◌, IfOk, OnErr};
 ghost use Rattle.writepath_top.specs.Texts.{SaysTo};
-ghost use Rattle.writepath_top.specs.Telling.{TellsReadError, TellsEnd, TellsOutcome, TellsRecovery, TellsRecoverError, ShownEndsSo, ran_status};
+ghost use Rattle.writepath_top.specs.Telling.{TellsReadError, TellsEnd, TellsOutcome, TellsRecovery, TellsRecoverError, ShownEndsSo, TellsReplay, ReplayEndsSo, ran_status};
 
 use crate::outcome::Outcome;
 use crate::reading::ReadError;
+use crate::replaying::Replayed;
 use crate::running::End;
 use crate::text::{
-    disk_fault, log_not_empty, outcome_text, recovered_text, script_fault, source_fault,
+    disk_fault, log_not_empty, outcome_text, recovered_text, replayed_text, script_fault,
+    source_fault,
 };
 use std::alloc::Global;
 use wal_recover::{RecoverError, Recovered};
@@ -137,4 +139,30 @@ fn tell_recovered<K: Sink>(alloc: Global, sink: &mut K, recovered: &Recovered) -
         Err(_) => Status::Sink,
         Ok(()) => Status::Done,
     }
+}
+
+/// Prints what a schedule came to, whole.
+pub fn tell_replay<K: Sink>(
+    alloc: Global,
+    sink: &mut K,
+    replayed: &Result<Replayed, NoMemory>,
+) -> Status
+    ensures { TellsReplay (K.taken sink.old) (K.taken sink.new) (K.faults sink.old) (K.faults sink.new) replayed.now result }
+{
+    match replayed {
+        Ok(replayed) => tell_replayed(alloc, sink, replayed),
+        Err(NoMemory) => Status::Memory,
+    }
+}
+
+fn tell_replayed<K: Sink>(alloc: Global, sink: &mut K, replayed: &Replayed) -> Status
+    ensures { ReplayEndsSo (K.taken sink.old) (K.taken sink.new) (K.faults sink.old) (K.faults sink.new) replayed.now result }
+{
+    let Ok(text) = replayed_text(alloc, replayed) else {
+        return Status::Memory;
+    };
+    let Ok(()) = write_all(sink, text.as_slice()) else {
+        return Status::Sink;
+    };
+    Status::Done
 }

@@ -2,7 +2,7 @@
 
 use crate::{Ended, run};
 use client_script::TEXT_LIMIT;
-use std::alloc::Global;
+use std::alloc::{AllocError, Global};
 use std::process::Abort;
 use std::test::Fail;
 use wp_edge::{MemDisk, MemSink, MemSource, SteppedClock};
@@ -250,5 +250,85 @@ fn writes_one_record(rt: HostRuntime) -> Result<(), Fail> {
     assert_eq!(rt; status, 0);
     assert_eq!(rt; sink.taken(), OUTCOME);
     assert_eq!(rt; disk.content(), RECORD);
+    Ok(())
+}
+
+/// Two clients: one writes, the other writes and reads.
+const TWO_CLIENTS: &[u8] = b"client 1\nput a 1\ncommit\nclient 2\nput b 2\ncommit\nget a\n";
+
+/// A text of two clients and this schedule.
+fn schedule_of(alloc: Global, events: &[u8]) -> Result<Vec<u8>, AllocError> {
+    let mut text = Vec::from_slice(alloc, TWO_CLIENTS)?;
+    text.extend_from_slice(events)?;
+    Ok(text)
+}
+
+#[test]
+fn schedules_are_replayed(rt: HostRuntime) -> Result<(), Fail> {
+    let history: &[u8] =
+        b"history 2\n1 1 1 1 log 0100000000000000010000000101610131\n2 2 2 1 log 0200000000000000010000000101620132\nstate 2 2\na 1\nb 2\n";
+    for (events, counts, groups) in [
+        // Each leads a group of its own. The first read can't come: a commit stands before it.
+        (
+            b"schedule\nread 2\nlink 1\nelect 1\nbuild 1\nlink 2\nlog 1\nlaunch 1\ninsert 1\nfinish 1\npublish 1\nexit 1\ncomplete 1\nelect 2\nbuild 2\nlog 2\nlaunch 2\ninsert 2\nfinish 2\npublish 2\nexit 2\ncomplete 2\nread 2\n".as_slice(),
+            b"events 21 skipped 1\n".as_slice(),
+            b"groups 2\n".as_slice(),
+        ),
+        // One group of two.
+        (
+            b"schedule\nlink 1\nlink 2\nelect 1\nbuild 1\nlog 1\nlaunch 1\ninsert 1\ninsert 2\nfinish 1\nfinish 2\npublish 2\nexit 1\ncomplete 1\ncomplete 2\nread 2\n".as_slice(),
+            b"events 15 skipped 0\n".as_slice(),
+            b"groups 1\n".as_slice(),
+        ),
+    ] {
+        let text = schedule_of(rt.alloc(), events)?;
+        let (status, sink, disk) = ended(
+            &rt,
+            rt.alloc(),
+            Given {
+                command: "replay",
+                text: &text,
+                ..PLAIN
+            },
+        )?;
+        let mut want = Vec::from_slice(rt.alloc(), counts)?;
+        want.extend_from_slice(b"client 1\nok 1 1\nclient 2\nok 2 2\nval 2 1\n")?;
+        want.extend_from_slice(history)?;
+        want.extend_from_slice(groups)?;
+        assert_eq!(rt; status, 0);
+        assert_eq!(rt; sink.taken(), want.as_slice());
+        assert_eq!(rt; disk.content(), b"".as_slice());
+    }
+    Ok(())
+}
+
+/// A batch of three and one of one, in one group.
+const BATCHES: &[u8] =
+    b"client 1\nput a 1\nput b 2\nput c 3\ncommit\nclient 2\nput d 4\ncommit\nschedule\nlink 1\nlink 2\nelect 1\nbuild 1\nlog 1\nlaunch 1\ninsert 1\ninsert 2\nfinish 1\nfinish 2\npublish 2\nexit 1\ncomplete 1\ncomplete 2\n";
+
+#[test]
+fn schedules_of_batches(rt: HostRuntime) -> Result<(), Fail> {
+    let rows: [(&[u8], u8, &[u8]); 2] = [
+        (
+            BATCHES,
+            0,
+            b"events 14 skipped 0\nclient 1\nok 1 3\nclient 2\nok 4 4\nhistory 2\n1 3 1 1 log 010000000000000003000000010161013101016201320101630133\n4 4 2 1 log 0400000000000000010000000101640134\nstate 4 4\na 1\nb 2\nc 3\nd 4\ngroups 1\n",
+        ),
+        (TWO_CLIENTS, 2, b"script 0 schedule\n"),
+    ];
+    for (text, want, printed) in rows {
+        let (status, sink, disk) = ended(
+            &rt,
+            rt.alloc(),
+            Given {
+                command: "replay",
+                text,
+                ..PLAIN
+            },
+        )?;
+        assert_eq!(rt; status, want);
+        assert_eq!(rt; sink.taken(), printed);
+        assert_eq!(rt; disk.content(), b"".as_slice());
+    }
     Ok(())
 }

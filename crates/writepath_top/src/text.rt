@@ -10,6 +10,7 @@ ghost use Rattle.writepath_top.specs.Texts as texts;
 mod lines;
 mod parts;
 mod recovered;
+mod replayed;
 #[cfg(test)]
 mod tests;
 
@@ -17,6 +18,7 @@ use crate::outcome::Outcome;
 use crate::text::lines::{put_line, put_numbers};
 use crate::text::parts::{put_clients, put_history, put_log, put_state};
 pub use recovered::recovered_text;
+pub use replayed::replayed_text;
 use std::alloc::Global;
 use wp_coding::Bytes;
 use wp_model::{NoMemory, ScriptFault};

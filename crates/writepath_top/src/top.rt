@@ -4,18 +4,21 @@ ghost use Rattle.std.specs.Prelude.{◌≡◌, ◌≢◌, ◌⊎◌, ◌<◌, �
 ghost use Rattle.wp_model.specs.Counts.{Rose};
 ghost use Rattle.wp_model.specs.Script.{Script, Fault, script_of, first_grammar};
 ghost use Rattle.writepath_top.specs.CommandLine.{asked_of};
-ghost use Rattle.writepath_top.specs.declared.command_line.Asked.TheVariants.{Run, Recover};
+ghost use Rattle.core_model.specs.Schedule.{Schedule, schedule_of, clients_grammar, first_event_words};
+ghost use Rattle.writepath_top.specs.declared.command_line.Asked.TheVariants.{Run, Recover, Replay};
 ghost use Rattle.writepath_top.specs.Recovers.{TellsDisk, Recovers, RecoversFront, RecoveryRefused};
 ghost use Rattle.writepath_top.specs.Texts.{SaysTo, IsReached, usage, script_fault, source_fault, not_empty};
 ghost use Rattle.writepath_top.specs.Crashes.{IsLeftSince};
+ghost use Rattle.writepath_top.specs.Replays.{TellsText, Replays, ReplaysFront};
 ghost use Rattle.writepath_top.specs.Running.{setting_of};
 ghost use Rattle.writepath_top.specs.Telling.{code};
 ghost use Rattle.writepath_top.specs.Outcomes.{Tells, RanWhole, RanToFault, DiskRefused, RanToSinkFault, RanOutOfMemory};
 
 use crate::command_line::{Asked, read_words};
-use crate::reading::read_script;
+use crate::reading::{read_schedule, read_script};
+use crate::replaying::replay_schedule;
 use crate::running::{Executed, execute};
-use crate::telling::{Status, refuse, tell_end, tell_read_error, tell_recovery};
+use crate::telling::{Status, refuse, tell_end, tell_read_error, tell_recovery, tell_replay};
 use crate::text::usage;
 use std::alloc::Global;
 use wal_recover::recover;
@@ -42,7 +45,9 @@ pub struct Ended<D> {
 /// Does what the words ask for, over the log on a disk, and prints what came of it to a sink.
 ///
 /// The words are the program's name and a command. `run` reads the script of one client from the source to its end, runs it, and prints the outcome;
-/// the log must be empty. `recover` prints what the log recovers, and changes nothing. The disk comes back on every path.
+/// the log must be empty. `recover` prints what the log recovers, and changes nothing. `replay` reads a script of 1 to 16 clients and a schedule of events
+/// behind it, runs the schedule on the write path's core, and prints what the clients were told, the history and the published state; it doesn't look at
+/// the disk. The disk comes back on every path.
 pub fn run<S: Source, D: Disk + Send, K: Sink, C: Clock + Send + Drop>(
     alloc: Global,
     words: &[String],
@@ -55,15 +60,24 @@ pub fn run<S: Source, D: Disk + Send, K: Sink, C: Clock + Send + Drop>(
     ensures recovery_status { asked_of words.now ≡ Some Recover
         → (result.status ≡ 0) ⊎ (result.status ≡ 3) ⊎ (result.status ≡ 5) ⊎ (result.status ≡ 6) }
 
+    ensures replay_status { asked_of words.now ≡ Some Replay
+        → (result.status ≡ 0) ⊎ (result.status ≡ 2) ⊎ (result.status ≡ 4) ⊎ (result.status ≡ 5) ⊎ (result.status ≡ 6) }
+
     // 1: the words aren't lawful.
     ensures words { result.status ≡ 1 → IsNone (asked_of words.now) }
     ensures other_words { IsNone (asked_of words.now) → result.status ≡ 1 }
 
     // 2: the text isn't a script; its first fault is told.
-    ensures script { result.status ≡ 2 → IfSome (S.left source.old) (λ text. (f : Fault) × (script_of first_grammar text ≡ Err f)
+    ensures script { asked_of words.now ≡ Some Run → result.status ≡ 2 → IfSome (S.left source.old) (λ text. (f : Fault) × (script_of first_grammar text ≡ Err f)
         × SaysTo (K.taken sink.old) (K.taken sink.new) (script_fault f) (K.faults sink.old) (K.faults sink.new)) }
     ensures other_script { asked_of words.now ≡ Some Run → result.status ≢ 6 → (Rose (S.faults source.old) (S.faults source.new) → ⊥)
         → IfSome (S.left source.old) (λ text. (f : Fault) → script_of first_grammar text ≡ Err f → result.status ≡ 2) }
+
+    ensures schedule { asked_of words.now ≡ Some Replay → result.status ≡ 2 → IfSome (S.left source.old) (λ text. (f : Fault)
+        × (schedule_of clients_grammar first_event_words text ≡ Err f)
+        × SaysTo (K.taken sink.old) (K.taken sink.new) (script_fault f) (K.faults sink.old) (K.faults sink.new)) }
+    ensures other_schedule { asked_of words.now ≡ Some Replay → result.status ≢ 6 → (Rose (S.faults source.old) (S.faults source.new) → ⊥)
+        → IfSome (S.left source.old) (λ text. (f : Fault) → schedule_of clients_grammar first_event_words text ≡ Err f → result.status ≡ 2) }
 
     // 3 to 5: a device failed in this call.
     ensures disk { result.status ≡ 3 → Rose (D.faults disk) (D.faults result.disk) }
@@ -74,9 +88,9 @@ pub fn run<S: Source, D: Disk + Send, K: Sink, C: Clock + Send + Drop>(
     ensures not_empty { result.status ≡ 7 → IfSome (D.told disk) (λ d. 0 < length d.content) }
     ensures empty { asked_of words.now ≡ Some Run → IfSome (D.told disk) (λ d. 0 < length d.content → (result.status ≢ 0) × (result.status ≢ 5)) }
 
-    // A refusal touches no device whose turn comes later, and leaves the disk as it was. So does recovery.
+    // A refusal touches no device whose turn comes later, and leaves the disk as it was. So does recovery. A schedule never comes to the disk.
     ensures source_untouched { (result.status ≡ 1) ⊎ (asked_of words.now ≡ Some Recover) → source.new ≡ source.old }
-    ensures disk_untouched { (result.status ≡ 1) ⊎ (result.status ≡ 2) ⊎ (result.status ≡ 4) → result.disk ≡ disk }
+    ensures disk_untouched { (result.status ≡ 1) ⊎ (result.status ≡ 2) ⊎ (result.status ≡ 4) ⊎ (asked_of words.now ≡ Some Replay) → result.disk ≡ disk }
     ensures disk_as_before { (result.status ≡ 7) ⊎ (asked_of words.now ≡ Some Recover) → D.told result.disk ≡ D.told disk }
 
     // The texts of the refusals, of which a sink that fails takes a front.
@@ -107,6 +121,16 @@ pub fn run<S: Source, D: Disk + Send, K: Sink, C: Clock + Send + Drop>(
     ensures read_to_end { asked_of words.now ≡ Some Run → (result.status ≡ 0) ⊎ (result.status ≡ 3) ⊎ (result.status ≡ 5) ⊎ (result.status ≡ 7)
         → IfSome (S.left source.new) (λ left. left ≡ []) }
 
+    ensures replay_read_to_end { asked_of words.now ≡ Some Replay → (result.status ≡ 0) ⊎ (result.status ≡ 5)
+        → IfSome (S.left source.new) (λ left. left ≡ []) }
+
+    // What a schedule comes to on the core is printed: each client's replies, the one history, the map at the published sequence.
+    ensures replayed { asked_of words.now ≡ Some Replay → TellsText (S.left source.old) (K.taken sink.old) (K.taken sink.new) (λ text before after.
+        result.status ≡ 0 → Replays before after text) }
+    ensures replayed_front { asked_of words.now ≡ Some Replay → TellsText (S.left source.old) (K.taken sink.old) (K.taken sink.new) (λ text before after.
+        result.status ≡ 5 → ReplaysFront before after text) }
+    ensures replay_silent { asked_of words.now ≡ Some Replay → result.status ≡ 6 → K.taken sink.new ≡ K.taken sink.old }
+
     // What the log recovers is printed, whatever its bytes are.
     ensures recovered { asked_of words.now ≡ Some Recover → TellsDisk (K.taken sink.old) (K.taken sink.new) (D.told disk) (λ before after d.
         result.status ≡ 0 → Recovers before after d.content) }
@@ -117,12 +141,15 @@ pub fn run<S: Source, D: Disk + Send, K: Sink, C: Clock + Send + Drop>(
     ensures recovery_silent { asked_of words.now ≡ Some Recover → TellsDisk (K.taken sink.old) (K.taken sink.new) (D.told disk) (λ before after d.
         result.status ≡ 6 → after ≡ before) }
 
-    // Where no device fails both end well, want of memory aside: a script over an empty log, and recovery.
+    // Where no device fails each ends well, want of memory aside: a script over an empty log, recovery, and a schedule.
     ensures runs { asked_of words.now ≡ Some Run → (Rose (S.faults source.old) (S.faults source.new) → ⊥) → (Rose (K.faults sink.old) (K.faults sink.new) → ⊥)
         → (Rose (D.faults disk) (D.faults result.disk) → ⊥) → IfSome (S.left source.old) (λ text. IfSome (D.told disk) (λ d.
         (script : Script) → script_of first_grammar text ≡ Ok script → length d.content ≡ 0 → (result.status ≡ 0) ⊎ (result.status ≡ 6))) }
     ensures recovers { asked_of words.now ≡ Some Recover → (Rose (K.faults sink.old) (K.faults sink.new) → ⊥) → (Rose (D.faults disk) (D.faults result.disk) → ⊥)
         → (result.status ≡ 0) ⊎ (result.status ≡ 6) }
+    ensures replays { asked_of words.now ≡ Some Replay → (Rose (S.faults source.old) (S.faults source.new) → ⊥) → (Rose (K.faults sink.old) (K.faults sink.new) → ⊥)
+        → IfSome (S.left source.old) (λ text. (schedule : Schedule) → schedule_of clients_grammar first_event_words text ≡ Ok schedule
+        → (result.status ≡ 0) ⊎ (result.status ≡ 6)) }
 {
     match read_words(words) {
         Some(Asked::Run) => match read_script(alloc, source) {
@@ -131,6 +158,13 @@ pub fn run<S: Source, D: Disk + Send, K: Sink, C: Clock + Send + Drop>(
                 end_with(tell_end(alloc, sink, &end), disk)
             }
             Err(why) => end_with(tell_read_error(alloc, sink, why), disk),
+        },
+        Some(Asked::Replay) => match read_schedule(alloc, source) {
+            Ok(schedule) => {
+                let replayed = replay_schedule(alloc, &schedule);
+                end_with(tell_replay(alloc, sink, &replayed), disk)
+            }
+            Err(error) => end_with(tell_read_error(alloc, sink, error), disk),
         },
         Some(Asked::Recover) => {
             let mut disk = disk;

@@ -1,0 +1,73 @@
+-- Which lines are reads, and what they are answered.
+use Rattle.std.proofs.Common.{◌≡◌, ℕ, zero, suc, ◌+◌, ◌-◌, ◌<◌, ◌≤◌, Bool, true, false, List, [], ◌∷◌, length, drop, slice_get, slice_set, Option, Some, None, refl, sym, ap, ◌∙◌, subst, arith}
+use Rattle.std.proofs.lemmas.List.{length-drop, length-map}
+use Rattle.std.specs.Prelude.{option_map}
+use Rattle.std.specs.Option.{option_map_or}
+use Rattle.wp_model.specs.Calls.{Command, Reply}
+use Rattle.core_model.specs.Core as core
+use Rattle.core_model.specs.Step as event
+use Rattle.write_core.specs.declared.plan.PlanLine.{PlanLine}
+use Rattle.write_core.specs.declared.plan.PlanLine.TheVariants.{Put, Delete, SingleDelete, Note, Clear, Commit, Get, Many, Scan}
+use Rattle.write_core.specs.declared.writer.CoreReply.TheVariants.{ReadAt}
+use Rattle.write_core.specs.Shown.{command_of, commands_of}
+use Rattle.write_core.specs.declared.plan.ClientPlan.{ClientPlan}
+use Rattle.write_core.specs.declared.state.Seat.{Seat}
+use Rattle.write_core.specs.declared.batch.Ahead.{Ahead}
+use Rattle.write_core.proofs.ClientLemmas.{lines_fewer}
+use Rattle.write_core.specs.Mirrors.{IsReply, is_answer, IsClient, lines_left}
+use Rattle.write_core.specs.Ahead.{is_read_line, IsAhead}
+
+pub not_read : (s : core.State) (c : ℕ) (client : core.Client) (o : Option PlanLine) → option_map_or is_read_line o false ≡ false → event.read_call s c client (option_map command_of o) ≡ None
+not_read s c client None e = refl
+not_read s c client (Some (Put key v)) e = refl
+not_read s c client (Some (Delete key)) e = refl
+not_read s c client (Some (SingleDelete key)) e = refl
+not_read s c client (Some (Note text)) e = refl
+not_read s c client (Some Clear) e = refl
+not_read s c client (Some (Commit options)) e = refl
+not_read s c client (Some (Get key)) e = cc
+not_read s c client (Some (Many keys)) e = cc
+not_read s c client (Some (Scan lo hi)) e = cc
+
+-- a read and its answer
+pub record IsRead (s : core.State) (o : Option PlanLine) : Type 0 where
+  pub command : Command
+  pub reply : Reply
+  pub line : option_map command_of o ≡ Some command
+  pub answered : core.read_reply s command ≡ Some reply
+  pub loud : is_answer reply ≡ Some reply
+  pub at : IsReply (ReadAt s.last) reply
+
+pub read_is : (s : core.State) (o : Option PlanLine) → option_map_or is_read_line o false ≡ true → IsRead s o
+read_is s None e = cc
+read_is s (Some (Put key v)) e = cc
+read_is s (Some (Delete key)) e = cc
+read_is s (Some (SingleDelete key)) e = cc
+read_is s (Some (Note text)) e = cc
+read_is s (Some Clear) e = cc
+read_is s (Some (Commit options)) e = cc
+read_is s (Some (Get key)) e = record { command = command_of (Get key); reply = _; line = refl; answered = refl; loud = refl; at = refl }
+read_is s (Some (Many keys)) e = record { command = command_of (Many keys); reply = _; line = refl; answered = refl; loud = refl; at = refl }
+read_is s (Some (Scan lo hi)) e = record { command = command_of (Scan lo hi); reply = _; line = refl; answered = refl; loud = refl; at = refl }
+
+pub line_within : (lines : List PlanLine) (i : ℕ) (command : Command) → option_map command_of (slice_get lines i) ≡ Some command → i < length lines
+line_within [] i command e = cc
+line_within (x ∷ lines) zero command e = omega arith
+line_within (x ∷ lines) (suc i) command e = let h = line_within lines i command e in omega (arith, h)
+
+-- behind its call a client has fewer lines left
+pub fewer_left : (plan : ClientPlan) (seat : Seat) (client : core.Client) (a : Ahead) (v : core.Ahead) → IsClient plan seat client → IsAhead plan.lines.items seat.next a client.calls client v → a.call < length plan.lines.items
+    → length v.client.left + 1 ≤ length client.left
+fewer_left plan seat client a v is ahead there =
+    let all : length (commands_of plan) ≡ length plan.lines.items = length-map plan.lines.items command_of in
+    let old : length client.left ≡ length (commands_of plan) - seat.next = ap length is.left ∙ length-drop seat.next (commands_of plan) in
+    let new : length v.client.left ≡ length (commands_of plan) - a.next = ap length ahead.left ∙ length-drop a.next (commands_of plan) in
+    omega (arith, all, old, new, ahead.goes_on there, ahead.onward)
+
+pub lines_after : (clients : List core.Client) (i j : ℕ) (old new : core.Client) → j ≡ i → i < length clients → slice_get clients i ≡ Some old → length new.left + 1 ≤ length old.left → lines_left (slice_set clients j new) ≤ lines_left clients
+lines_after clients i j old new e h there fewer =
+    let P : ℕ → Type 0 = λ k. lines_left (slice_set clients k new) ≤ lines_left clients in
+    subst P (sym e) (lines_fewer clients i old new h there (omega arith))
+
+pub more_room : (a left less cap : ℕ) → a + left ≤ cap → less ≤ left → a + less ≤ cap
+more_room a left less cap h k = omega arith

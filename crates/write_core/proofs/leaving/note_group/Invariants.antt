@@ -1,0 +1,13 @@
+use Rattle.std.proofs.Common.{◌≡◌, ◌++◌, List, length, map, take, vec_len}
+use Rattle.std.specs.List.{AllByRecursion}
+use Rattle.core_model.specs.Core as core
+use Rattle.write_core.specs.declared.plan.ClientPlan.{ClientPlan}
+use Rattle.write_core.specs.Shown.{shown_writer}
+use Rattle.write_core.specs.Mirrors.{AreDone, IsClientOf}
+use Rattle.write_core.proofs.leaving.note_group.Given as goal
+
+-- those so far have left
+abbrev pub invariant-loop-writer : goal.invariant-loop-writer
+invariant-loop-writer l = (vec_len l.done ≡ vec_len l.initial.done)
+    × ((plans : List ClientPlan) (gone : List core.Writer) → AreDone plans l.initial.done.items gone → AllByRecursion (IsClientOf (length l.initial.done.items)) l.group
+    → AreDone plans l.done.items (gone ++ map (shown_writer plans) (take l.writer-index l.group)))

@@ -1,0 +1,76 @@
+use Rattle.std.proofs.Common.{◌≡◌, ℕ, ◌≤◌, true, false, not, ◌&&◌, List, [], ◌∷◌, ◌++◌, length, Option, Some, None, refl, sym, ap, ◌∙◌, arith}
+use Rattle.std.specs.List.{list_any, list_all}
+use Rattle.core_model.specs.Core as core
+use Rattle.core_model.specs.Step as event
+use Rattle.write_core.specs.Leads.{has_run, finished_last}
+use Rattle.write_core.specs.Phases.{is_launched, is_inserted, is_finished}
+use Rattle.write_core.specs.Mirrors.{mark_of, IsLaunched}
+use Rattle.write_core.proofs.Events.{cannot_come, first_fails, second_fails, both_hold, first_false, second_false, both_true}
+use Rattle.write_core.proofs.MarkLemmas.{launched_insert, launched_finish, inserted_is_client}
+use Rattle.write_core.proofs.TableEvents.{launched_parts, launched_table, not_launched, members_are, runner_is, runner_is_client, all_finished_is, group_last_is, in_table}
+use Rattle.write_core.proofs.state.State.finish.Goals as goal
+
+pub returns-then-not-is_launched : goal.returns-then-not-is_launched
+returns-then-not-is_launched c = λ o s m.
+    let r = c.args.self.now in
+    cannot_come _ o s r ((not_launched o s c.args.client r.table r.marks.items r.last_finished (sym c.is_launched.ensures ∙ c.if-not-is_launched.true) m.table).1) m
+
+pub returns-then-not-is_inserted : goal.returns-then-not-is_inserted
+returns-then-not-is_inserted c = λ o s m.
+    let r = c.args.self.now in
+    let d : ℕ = c.args.client in
+    let launched : is_launched r.table ≡ true = sym c.is_launched.ensures ∙ c.if-not-is_launched.false in
+    let parts : (ins : List ℕ) × (fin : List ℕ) × (s.table ≡ core.launched ins fin) × IsLaunched r.marks.items r.last_finished ins fin = launched_parts r.table r.marks.items r.last_finished s.table launched m.table in
+    let ins : List ℕ = parts.0 in
+    let fin : List ℕ = parts.1 in
+    let comes : event.finish s d s.table ≡ event.when (core.among d ins && not (core.among d fin)) (record s { table = core.launched ins (fin ++ d ∷ []) }) = ap (event.finish s d) parts.2 in
+    let in_is : core.among d ins ≡ is_inserted c.mark_of-mark.result = parts.3.inserted d ∙ ap (λ ms. is_inserted (mark_of ms d)) (sym c.deref.ensures.value) ∙ ap is_inserted (sym c.mark_of-mark.ensures) in
+    first_fails _ _ _ o _ s r comes (in_is ∙ sym c.is_inserted.ensures ∙ c.if-not-is_inserted.true) m
+
+pub returns-then-is_finished : goal.returns-then-is_finished
+returns-then-is_finished c = λ o s m.
+    let r = c.args.self.now in
+    let d : ℕ = c.args.client in
+    let launched : is_launched r.table ≡ true = sym c.is_launched.ensures ∙ c.if-not-is_launched.false in
+    let parts : (ins : List ℕ) × (fin : List ℕ) × (s.table ≡ core.launched ins fin) × IsLaunched r.marks.items r.last_finished ins fin = launched_parts r.table r.marks.items r.last_finished s.table launched m.table in
+    let ins : List ℕ = parts.0 in
+    let fin : List ℕ = parts.1 in
+    let comes : event.finish s d s.table ≡ event.when (core.among d ins && not (core.among d fin)) (record s { table = core.launched ins (fin ++ d ∷ []) }) = ap (event.finish s d) parts.2 in
+    let in_is : core.among d ins ≡ is_inserted c.mark_of-mark.result = parts.3.inserted d ∙ ap (λ ms. is_inserted (mark_of ms d)) (sym c.deref.ensures.value) ∙ ap is_inserted (sym c.mark_of-mark.ensures) in
+    let fin_is : core.among d fin ≡ true = parts.3.finished d ∙ ap (λ ms. is_finished (mark_of ms d)) (sym c.deref.ensures.value) ∙ ap is_finished (sym c.mark_of-mark.ensures) ∙ sym c.is_finished.ensures ∙ c.if-is_finished.true in
+    second_fails _ _ _ o _ s r comes (ap not fin_is) m
+
+pub returns : goal.returns
+returns c = λ o s m.
+    let r = c.args.self.now in
+    let d : ℕ = c.args.client in
+    let launched : is_launched r.table ≡ true = sym c.is_launched.ensures ∙ c.if-not-is_launched.false in
+    let parts : (ins : List ℕ) × (fin : List ℕ) × (s.table ≡ core.launched ins fin) × IsLaunched r.marks.items r.last_finished ins fin = launched_parts r.table r.marks.items r.last_finished s.table launched m.table in
+    let ins : List ℕ = parts.0 in
+    let fin : List ℕ = parts.1 in
+    let comes : event.finish s d s.table ≡ event.when (core.among d ins && not (core.among d fin)) (record s { table = core.launched ins (fin ++ d ∷ []) }) = ap (event.finish s d) parts.2 in
+    let in_is : core.among d ins ≡ is_inserted c.mark_of-mark.result = parts.3.inserted d ∙ ap (λ ms. is_inserted (mark_of ms d)) (sym c.deref.ensures.value) ∙ ap is_inserted (sym c.mark_of-mark.ensures) in
+    let here : is_inserted (mark_of r.marks.items d) ≡ true = ap (λ ms. is_inserted (mark_of ms d)) (sym c.deref.ensures.value) ∙ ap is_inserted (sym c.mark_of-mark.ensures) ∙ sym c.is_inserted.ensures ∙ c.if-not-is_inserted.false in
+    let fin_is : core.among d fin ≡ false = parts.3.finished d ∙ ap (λ ms. is_finished (mark_of ms d)) (sym c.deref.ensures.value) ∙ ap is_finished (sym c.mark_of-mark.ensures) ∙ sym c.is_finished.ensures ∙ c.if-is_finished.false in
+    let client : (1 ≤ d) × (d ≤ length r.marks.items) = inserted_is_client r.marks.items d here in
+    both_hold _ _ _ o _ s _ comes (parts.3.inserted d ∙ here) (ap not fin_is) (record {
+      options = m.options;
+      clients = m.clients;
+      line = record { second_sum = m.line.second_sum; second_groups = m.line.second_groups; hand = m.line.hand; no_hand = m.line.no_hand; queue = m.line.queue };
+      writers = m.writers;
+      table = launched_table r.table _ (Some d) ins (fin ++ d ∷ []) launched (launched_finish r.marks.items _ r.last_finished ins fin d parts.3 here (c.set_mark.ensures.set client.0 client.1));
+      gone = m.gone;
+      entries = m.entries;
+      groups = m.groups;
+      assigned = m.assigned;
+      dead = m.dead;
+      last = m.last;
+      room = record {
+        waiting = m.room.waiting;
+        items = m.room.items;
+        second = m.room.second;
+        entries = m.room.entries;
+        groups = m.room.groups;
+        group_room = m.room.group_room;
+      };
+    })

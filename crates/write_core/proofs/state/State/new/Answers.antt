@@ -1,0 +1,55 @@
+use Rattle.std.proofs.Common.{◌≡◌, List, [], length, drop, map, sum_by, refl, sym, ap, ◌∙◌, subst, arith}
+use Rattle.std.specs.List.{AllByRecursion, AllZip}
+use Rattle.write_core.specs.Fresh.{IsFresh}
+use Rattle.wp_model.specs.Batch.{count_of}
+use Rattle.core_model.specs.Core as core
+use Rattle.write_core.specs.declared.plan.ClientPlan.{ClientPlan}
+use Rattle.write_core.specs.declared.writer.Writer.{Writer}
+use Rattle.write_core.specs.Shown.{plans_of, records_of, shown_writer, shown_entry, cut, total}
+use Rattle.write_core.specs.Mirrors.{IsClientOf, lines_left}
+use Rattle.write_core.proofs.OpeningLemmas.{fresh_clients, all_left, nobody_done}
+use Rattle.write_core.proofs.state.State.new.Goals as goal
+
+pub returns : goal.returns
+returns c =
+    let plans : List ClientPlan = c.args.plans.items in
+    let waiting : c.in_ok-waiting.waiting.items ≡ [] = c.in_ok-waiting.ensures.items in
+    let items : c.in_ok-items.items.items ≡ [] = c.in_ok-items.ensures.items in
+    let second : c.in_ok-second.second.items ≡ [] = c.in_ok-second.ensures.items in
+    let entries : c.in_ok-entries.entries.items ≡ [] = c.in_ok-entries.ensures.items in
+    let groups : c.in_ok-groups.groups.items ≡ [] = c.in_ok-groups.ensures.items in
+    let Known : List Writer → Type 0 = λ ws. AllByRecursion (IsClientOf (length plans)) ws in
+    let left : lines_left (map core.idle_client (plans_of plans)) ≡ sum_by (λ (p : ClientPlan). length p.lines.items) plans = all_left plans in
+    let lines : sum_by (λ (p : ClientPlan). length p.lines.items) c.deref.result.now ≡ sum_by (λ (p : ClientPlan). length p.lines.items) plans = ap (sum_by (λ (p : ClientPlan). length p.lines.items)) c.deref.ensures.value in
+    let room : c.in_ok-room.room ≡ lines_left (map core.idle_client (plans_of plans)) = c.in_ok-room.ensures ∙ lines ∙ sym left in
+    record {
+      options = refl;
+      clients = fresh_clients plans c.in_ok-seats.seats.items c.requires.small (let P : List ClientPlan → Type 0 = λ xs. AllZip IsFresh xs c.in_ok-seats.seats.items in subst P c.deref-2.ensures.value c.in_ok-seats.ensures.fresh);
+      line = record {
+        second_sum = sym (ap total second);
+        second_groups = sym (ap (λ ns. cut ns (map (shown_writer plans) c.in_ok-waiting.waiting.items)) second);
+        hand = refl;
+        no_hand = λ e. refl;
+        queue = sym (ap (λ ws. drop 0 (map (shown_writer plans) ws)) waiting);
+      };
+      writers = record {
+        items_are = items ∙ sym (ap (map (λ w. core.item_of (shown_writer plans w))) waiting);
+        counts_are = ap (map (λ (w : Writer). w.count)) waiting ∙ sym (ap (map (λ (w : Writer). count_of (records_of plans w.client w.batch))) waiting);
+        known = subst Known (sym waiting) tt;
+      };
+      table = refl;
+      gone = nobody_done plans c.in_ok-done.done.items c.len-2.result c.in_ok-done.ensures.items;
+      entries = sym (ap (map (shown_entry plans)) entries);
+      groups = sym groups;
+      assigned = refl;
+      dead = refl;
+      last = refl;
+      room = record {
+        waiting = omega (arith, c.in_ok-waiting.ensures.len, c.in_ok-waiting.ensures.exact, room);
+        items = omega (arith, c.in_ok-waiting.ensures.len, c.in_ok-items.ensures.exact, room);
+        second = omega (arith, c.in_ok-waiting.ensures.len, c.in_ok-second.ensures.len, c.in_ok-second.ensures.exact, room);
+        entries = omega (arith, c.in_ok-waiting.ensures.len, c.in_ok-entries.ensures.len, c.in_ok-entries.ensures.exact, room);
+        groups = omega (arith, c.in_ok-groups.ensures.len);
+        group_room = omega (arith, c.in_ok-entries.ensures.exact, c.in_ok-groups.ensures.exact);
+      };
+    }

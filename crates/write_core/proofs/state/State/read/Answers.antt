@@ -1,0 +1,123 @@
+use Rattle.std.proofs.Common.{◌≡◌, ◌⊎◌, ℕ, suc, ◌+◌, ◌-◌, ◌<◌, ◌≤◌, true, false, Option, Some, None, List, length, drop, vec_len, slice_get, slice_set, refl, sym, ap, ◌∙◌, subst, arith}
+use Rattle.std.specs.Prelude.{◌==◌, option_map, if◌then◌else◌}
+use Rattle.std.specs.Option.{option_map_or}
+use Rattle.std.proofs.lemmas.Option.{slice_get_read, slice_get_within}
+use Rattle.std.proofs.lemmas.List.{length-drop, length-map}
+use Rattle.core_model.specs.Core as core
+use Rattle.core_model.specs.Step as event
+use Rattle.write_core.specs.declared.writer.CoreReply.TheVariants.{ReadAt}
+use Rattle.write_core.specs.declared.plan.ClientPlan.{ClientPlan}
+use Rattle.write_core.specs.declared.state.Seat.{Seat}
+use Rattle.write_core.specs.Shown.{commands_of, command_of}
+use Rattle.write_core.specs.Mirrors.{IsClient, AreClients, IsReply, lines_left}
+use Rattle.write_core.specs.Ahead.{IsAhead, is_read_line}
+use Rattle.write_core.proofs.Events.{cannot_come, has_come}
+use Rattle.write_core.proofs.ClientLemmas.{clients_set, get_some, client_of, lines_fewer}
+use Rattle.write_core.proofs.ReadEvents.{not_read, read_is, IsRead, line_within, fewer_left, lines_after, more_room}
+use Rattle.write_core.proofs.state.State.read.Goals as goal
+
+pub returns-then-not-is_read : goal.returns-then-not-is_read
+returns-then-not-is_read c = λ o s m.
+    let r = c.args.self.now in
+    let d : ℕ = c.args.client in
+    let plans = r.plans.items in
+    let place : ℕ = c.in-Some.place in
+    let a = c.in-Some-next_call.ahead in
+    let number : d ≡ place + 1 = omega (arith, c.in-Some.ensures) in
+    let few : place < length plans = omega (arith, c.in-Some.ensures, r.plans.ok.0) in
+    let known : place < length s.clients = omega (arith, few, m.clients.plan_each) in
+    let at = get_some s.clients place known in
+    let client : core.Client = at.0 in
+    let there : core.client_at s d ≡ Some client = client_of s d place client number at.1 in
+    let plan = c.index.result.now in
+    let seat = c.index-2.result.now in
+    let plan_there : slice_get plans place ≡ Some plan = slice_get_read plans (vec_len r.plans) place plan r.plans.ok.0 (omega (arith, c.in-Some.ensures)) c.index.ensures in
+    let seat_there : slice_get r.seats.items place ≡ Some seat = slice_get_read r.seats.items (vec_len r.seats) place seat r.seats.ok.0 (omega (arith, c.in-Some.ensures, r.one_seat_each)) c.index-2.ensures in
+    let is : IsClient plan seat client = m.clients.each place plan seat client plan_there seat_there at.1 in
+    let next = c.in-Some-next_call.ensures client is in
+    let plan3 = c.index-3.result.now in
+    let plan3_there : slice_get plans place ≡ Some plan3 = slice_get_read plans (vec_len r.plans) place plan3 r.plans.ok.0 (omega (arith, c.in-Some.ensures)) c.index-3.ensures in
+    let same_plan : plan3 ≡ plan = cc (plan_there, plan3_there) in
+    let test : option_map_or is_read_line (slice_get plan.lines.items a.call) false ≡ c.is_read.result = ap (λ (p : ClientPlan). option_map_or is_read_line (slice_get p.lines.items a.call) false) (sym same_plan) ∙ sym c.is_read.ensures in
+    let begins : event.read s d (core.client_at s d) ≡ event.read_call s d ((core.next_call client).client) (option_map command_of (slice_get plan.lines.items a.call)) =
+    ap (event.read s d) there ∙ ap (λ b. if b then event.read_call s d ((core.next_call client).client) ((core.next_call client).call) else None) next.0
+    ∙ ap (event.read_call s d ((core.next_call client).client)) next.1.call in
+    cannot_come _ o s _ (begins ∙ not_read s d ((core.next_call client).client) (slice_get plan.lines.items a.call) (test ∙ c.if-not-is_read.true)) (record {
+      options = m.options;
+      clients = m.clients;
+      line = m.line;
+      writers = m.writers;
+      table = m.table;
+      gone = m.gone;
+      entries = m.entries;
+      groups = m.groups;
+      assigned = m.assigned;
+      dead = m.dead;
+      last = m.last;
+      room = record { waiting = m.room.waiting; items = m.room.items; second = m.room.second; entries = m.room.entries; groups = m.room.groups; group_room = m.room.group_room };
+    })
+
+pub returns : goal.returns
+returns c = λ o s m.
+    let r = c.args.self.now in
+    let d : ℕ = c.args.client in
+    let plans = r.plans.items in
+    let place : ℕ = c.in-Some.place in
+    let a = c.in-Some-next_call.ahead in
+    let number : d ≡ place + 1 = omega (arith, c.in-Some.ensures) in
+    let few : place < length plans = omega (arith, c.in-Some.ensures, r.plans.ok.0) in
+    let known : place < length s.clients = omega (arith, few, m.clients.plan_each) in
+    let at = get_some s.clients place known in
+    let client : core.Client = at.0 in
+    let there : core.client_at s d ≡ Some client = client_of s d place client number at.1 in
+    let plan = c.index.result.now in
+    let seat = c.index-2.result.now in
+    let plan_there : slice_get plans place ≡ Some plan = slice_get_read plans (vec_len r.plans) place plan r.plans.ok.0 (omega (arith, c.in-Some.ensures)) c.index.ensures in
+    let seat_there : slice_get r.seats.items place ≡ Some seat = slice_get_read r.seats.items (vec_len r.seats) place seat r.seats.ok.0 (omega (arith, c.in-Some.ensures, r.one_seat_each)) c.index-2.ensures in
+    let is : IsClient plan seat client = m.clients.each place plan seat client plan_there seat_there at.1 in
+    let next = c.in-Some-next_call.ensures client is in
+    let plan3 = c.index-3.result.now in
+    let plan3_there : slice_get plans place ≡ Some plan3 = slice_get_read plans (vec_len r.plans) place plan3 r.plans.ok.0 (omega (arith, c.in-Some.ensures)) c.index-3.ensures in
+    let same_plan : plan3 ≡ plan = cc (plan_there, plan3_there) in
+    let test : option_map_or is_read_line (slice_get plan.lines.items a.call) false ≡ c.is_read.result = ap (λ (p : ClientPlan). option_map_or is_read_line (slice_get p.lines.items a.call) false) (sym same_plan) ∙ sym c.is_read.ensures in
+    let begins : event.read s d (core.client_at s d) ≡ event.read_call s d ((core.next_call client).client) (option_map command_of (slice_get plan.lines.items a.call)) =
+    ap (event.read s d) there ∙ ap (λ b. if b then event.read_call s d ((core.next_call client).client) ((core.next_call client).call) else None) next.0
+    ∙ ap (event.read_call s d ((core.next_call client).client)) next.1.call in
+    let read : IsRead s (slice_get plan.lines.items a.call) = read_is s (slice_get plan.lines.items a.call) (test ∙ c.if-not-is_read.false) in
+    let new : core.Client = core.told ((core.next_call client).client) read.command read.reply in
+    let t : core.State = core.with_client s d new in
+    let comes : event.read s d (core.client_at s d) ≡ Some t =
+    begins ∙ ap (event.read_call s d ((core.next_call client).client)) read.line ∙ ap (event.read_with s d ((core.next_call client).client) read.command) read.answered in
+    let back : d - 1 ≡ place = omega (arith, number) in
+    let reply_at : (n : ℕ) → s.last ≡ n → IsReply (ReadAt n) read.reply = λ n e. (let P : ℕ → Type 0 = λ k. IsReply (ReadAt k) read.reply in subst P e read.at) in
+    let line_there : a.call < length plan.lines.items = line_within plan.lines.items a.call read.command read.line in
+    let seat_again : slice_get r.seats.items place ≡ Some c.index_mut.result.now = slice_get_read r.seats.items (vec_len r.seats) place c.index_mut.result.now r.seats.ok.0 (omega (arith, c.in-Some.ensures, r.one_seat_each)) c.index_mut.ensures.value in
+    let same_seat : seat ≡ c.index_mut.result.now = cc (seat_there, seat_again) in
+    let Q : Seat → Type 0 = λ x. IsClient plan x client in
+    let R : Seat → Type 0 = λ x. IsAhead plan.lines.items x.next a client.calls client (core.next_call client) in
+    let after : IsClient plan c.answer.new.seat new = c.answer.ensures plan client read.command read.reply (subst Q same_seat is) next.0 (subst R same_seat next.1) line_there (reply_at r.last m.last) read.loud in
+    let all : AreClients plans (slice_set r.seats.items place c.answer.new.seat) (slice_set s.clients place new) = clients_set plans r.seats.items s.clients place plan c.answer.new.seat new m.clients known plan_there after in
+    let P : ℕ → Type 0 = λ k. AreClients plans (slice_set r.seats.items place c.answer.new.seat) (slice_set s.clients k new) in
+    let fewer : length ((core.next_call client).client.left) + 1 ≤ length client.left = fewer_left plan seat client a (core.next_call client) is next.1 line_there in
+    let left : lines_left (slice_set s.clients (d - 1) new) ≤ lines_left s.clients = lines_after s.clients place (d - 1) client new back known at.1 fewer in
+    has_come _ o t s _ comes (record {
+      options = m.options;
+      clients = subst P (sym back) all;
+      line = record { second_sum = m.line.second_sum; second_groups = m.line.second_groups; hand = m.line.hand; no_hand = m.line.no_hand; queue = m.line.queue };
+      writers = m.writers;
+      table = m.table;
+      gone = m.gone;
+      entries = m.entries;
+      groups = m.groups;
+      assigned = m.assigned;
+      dead = m.dead;
+      last = m.last;
+      room = record {
+        waiting = more_room _ _ _ _ m.room.waiting left;
+        items = more_room _ _ _ _ m.room.items left;
+        second = more_room _ _ _ _ m.room.second left;
+        entries = more_room _ _ _ _ m.room.entries left;
+        groups = m.room.groups;
+        group_room = m.room.group_room;
+      };
+    })

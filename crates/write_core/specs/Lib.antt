@@ -1,0 +1,11 @@
+pub mod Ahead
+pub mod Counted
+pub mod Fresh
+pub mod Leads
+pub mod Maps
+pub mod Mirrors
+pub mod Phases
+pub mod Replay
+pub mod Runs
+pub mod Shown
+pub mod Small

@@ -1,0 +1,56 @@
+//! What the state shows.
+
+ghost use Rattle.std.specs.Prelude.{◌≡◌, [], map, MatchOption};
+ghost use Rattle.std.specs.List.{AllByRecursion};
+
+use crate::plan::ClientPlan;
+use crate::state::State;
+use crate::writer::{CoreEntry, CoreReply};
+
+impl State {
+    ghost use Rattle.core_model.specs.Core as core;
+    ghost use Rattle.core_model.specs.CoreLaw.{IsCore};
+    ghost use Rattle.write_core.specs.Fresh.{IsWithinPlans, plans_in};
+    ghost use Rattle.write_core.specs.Mirrors.{Mirrors, AreReplies, answers_of};
+    ghost use Rattle.write_core.specs.Shown.{shown_entry};
+
+    /// The clients' plans, the first that of client 1.
+    pub fn plans(&self) -> &[ClientPlan]
+        ensures { result.now ≡ plans_in self.now }
+    {
+        &self.plans
+    }
+
+    /// What a client was told so far, in order; nothing for a number that no client has.
+    pub fn replies(&self, client: u32) -> &[CoreReply]
+        ensures { (o : core.Options) (s : core.State) → Mirrors o self.now s → MatchOption (core.client_at s client) (result.now ≡ []) (λ c. AreReplies result.now (answers_of c.calls)) }
+    {
+        let Some(place) = self.place_of(client) else {
+            return &[];
+        };
+        &self.seats[place].replies
+    }
+
+    /// The batches that were given runs, in the order of their runs. Each is of a client that there is, and of at least one
+    /// record that counts.
+    pub fn entries(&self) -> &[CoreEntry]
+        ensures shown { (o : core.Options) (s : core.State) → Mirrors o self.now s → map (shown_entry (plans_in self.now)) result.now ≡ s.entries }
+        ensures within { (o : core.Options) (s : core.State) → IsCore o s → Mirrors o self.now s → AllByRecursion (IsWithinPlans (plans_in self.now)) result.now }
+    {
+        &self.entries
+    }
+
+    /// How many entries each logged group has, in order.
+    pub fn logged(&self) -> &[u64]
+        ensures { (o : core.Options) (s : core.State) → Mirrors o self.now s → result.now ≡ s.groups }
+    {
+        &self.groups
+    }
+
+    /// The sequence published last.
+    pub fn last(&self) -> u64
+        ensures { (o : core.Options) (s : core.State) → Mirrors o self.now s → result ≡ s.last }
+    {
+        self.last
+    }
+}

@@ -1,0 +1,11 @@
+use Rattle.std.proofs.Common.{sym, subst}
+use Rattle.writepath_top.specs.Reading.{HasRead}
+use Rattle.writepath_top.proofs.WholeSchedules.{has_schedule}
+use Rattle.writepath_top.proofs.reading.read_schedule.Goals as goal
+
+pub returns-in-Ok-clause-schedule : goal.returns-in-Ok-clause-schedule
+returns-in-Ok-clause-schedule g c =
+    let old = g.S.Source.left c.args.source.now in
+    let new = g.S.Source.left c.read_text.new.source in
+    let has = subst (λ t. HasRead old new t) (sym c.deref.ensures.value) c.in_ok-text.ensures.text in
+    has_schedule old new c.deref.result.now c.in-Ok.schedule has c.in-Ok.ensures.schedule c.in-Ok.ensures.clients c.in-Ok.ensures.small c.in-Ok.ensures.words
