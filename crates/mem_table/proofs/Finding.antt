@@ -7,7 +7,8 @@ use Rattle.std.specs.Ordering.{is_eq}
 use Rattle.std.specs.declared.cmp.Ordering.{Ordering}
 use Rattle.std.specs.declared.cmp.Ordering.TheVariants.{Less, Equal, Greater}
 use Rattle.wp_model.specs.Map.{byte_order}
-use Rattle.mem_table.specs.Versions.{Version, version_order, AreOrdered}
+use Rattle.table_rule.specs.declared.content.Version.{Version}
+use Rattle.mem_table.specs.Versions.{version_order, AreOrdered}
 use Rattle.mem_table.specs.Shapes.{Shape, fork, versions_in}
 use Rattle.mem_table.specs.Newest.{is_seen, newest}
 use Rattle.mem_table.proofs.Order.{all_mapped, sorted_front, sorted_back, sorted_past, before_middle, less_le, le_less, flip_less, flip_greater}

@@ -8,7 +8,9 @@ use Rattle.std.specs.BTreeMap.{is_at}
 use Rattle.std.specs.declared.cmp.Ordering.{Ordering}
 use Rattle.std.specs.declared.cmp.Ordering.TheVariants.{Less, Equal, Greater}
 use Rattle.wp_model.specs.Map.{Pairs, byte_order, after_record, after_records, value_at}
-use Rattle.mem_table.specs.Versions.{Version, version_order, AreOrdered, In, AreRising, IsHistory, record_of, map_of}
+use Rattle.table_rule.specs.declared.content.Version.{Version}
+use Rattle.table_rule.specs.Histories.{In, AreRising, IsOrderUpTo, record_of, map_of}
+use Rattle.mem_table.specs.Versions.{version_order, AreOrdered}
 use Rattle.mem_table.specs.Shapes.{Shape, versions_in}
 use Rattle.mem_table.specs.Newest.{is_seen, newest}
 use Rattle.mem_table.proofs.Order.{sorted_past}
@@ -17,7 +19,7 @@ use Rattle.mem_table.proofs.Maps.{AreAscending, ascending_after, value_after}
 
 pub all_at : (P : Version → Type 0) (l : List Version) (v : Version) → AllByRecursion P l → In v l → P v
 all_at P [] v a i = absurd i
-all_at P (w ∷ l) v a (inl e) = subst P (sym e) a.0
+all_at P (w ∷ l) v a (inl e) = subst P e a.0
 all_at P (w ∷ l) v a (inr i) = all_at P l v a.1 i
 
 -- what the last version of a key says, or else d
@@ -55,10 +57,10 @@ module _ (key : List ℕ) where
   latest_is : (w : Version) (l : List Version) (d : Option (List ℕ)) → of_key key w ≡ true → IsTop w l → AreRising l → In w l → latest key d l ≡ w.value
   latest_is w [] d y top rising i = absurd i
   latest_is w (v ∷ l) d y top rising (inl e) =
-      let v_key : of_key key v ≡ true = subst (λ u. of_key key u ≡ true) e y in
-      let same : v.value ≡ w.value = sym (ap (λ (u : Version). u.value) e) in
+      let v_key : of_key key v ≡ true = subst (λ u. of_key key u ≡ true) (sym e) y in
+      let same : v.value ≡ w.value = ap (λ (u : Version). u.value) e in
       ap (λ b. latest key (cond b v.value d) l) v_key ∙ ap (λ x. latest key x l) same
-      ∙ latest_stays l w.value (λ u i at. let t = top u (inr i) at in let up = all_at (λ x. v.sequence ≤ x.sequence) l u rising.0 i in let s = ap (λ (x : Version). x.sequence) e in t.1 (omega arith))
+      ∙ latest_stays l w.value (λ u i at. let t = top u (inr i) at in let up = rising.0 u i in let s = ap (λ (x : Version). x.sequence) e in t.1 (omega arith))
   latest_is w (v ∷ l) d y top rising (inr i) = latest_is w l _ y (λ u j at. top u (inr j) at) rising.1 i
 
   module _ (at : ℕ) where
@@ -99,7 +101,7 @@ module _ (key : List ℕ) where
             seen = y;
             says = ap (λ b. cond b (Some v.value) (newest key at l)) y;
             top = λ u i su. elim i [
-              | inl e ↦ (let s = ap (λ (x : Version). x.sequence) e in omega arith, λ _. ap (λ (x : Version). x.value) e)
+              | inl e ↦ (let s = ap (λ (x : Version). x.sequence) e in omega arith, λ _. sym (ap (λ (x : Version). x.value) e))
               | inr j ↦ let less = newer v u y su (all_at (λ x. version_order v x ≡ Less) l u (sorted_past version_order v l s).0 j) in (omega arith, λ same. absurd (omega arith))
             ];
           },
@@ -111,7 +113,7 @@ module _ (key : List ℕ) where
             seen = found.seen;
             says = ap (λ b. cond b (Some v.value) (newest key at l)) y ∙ found.says;
             top = λ u i su. elim i [
-              | inl e ↦ absurd (false≢true (sym y ∙ subst (λ x. is_seen key at x ≡ true) e su))
+              | inl e ↦ absurd (false≢true (sym y ∙ subst (λ x. is_seen key at x ≡ true) (sym e) su))
               | inr j ↦ found.top u j su
             ];
           },
@@ -119,7 +121,7 @@ module _ (key : List ℕ) where
         go false y (inr none) = inr (record {
           says = ap (λ b. cond b (Some v.value) (newest key at l)) y ∙ none.says;
           none = λ u i. elim i [
-            | inl e ↦ subst (λ x. is_seen key at x ≡ false) (sym e) y
+            | inl e ↦ subst (λ x. is_seen key at x ≡ false) e y
             | inr j ↦ none.none u j
           ];
         })
@@ -129,7 +131,7 @@ abbrev pub said : Option (Option (List ℕ)) → Option (List ℕ)
 said None = None
 said (Some o) = o
 
-pub value_is_newest : (key : List ℕ) (at : ℕ) (versions history : List Version) → AreOrdered versions → IsHistory at versions history → value_at (map_of history) key ≡ said (newest key at versions)
+pub value_is_newest : (key : List ℕ) (at : ℕ) (versions history : List Version) → AreOrdered versions → IsOrderUpTo at versions history → value_at (map_of history) key ≡ said (newest key at versions)
 unfolding IsStrictlySortedBy
 value_is_newest key at versions history s h =
     value_latest key history [] tt ∙ elim (find key at versions s) [
@@ -151,7 +153,7 @@ value_is_newest key at versions history s h =
         go false y = refl
 
 -- the same of a tree, by its shape
-pub tree_value : (key : List ℕ) (at : ℕ) (s t : Shape) (history : List Version) → t ≡ s → AreOrdered (versions_in t) → IsHistory at (versions_in s) history
+pub tree_value : (key : List ℕ) (at : ℕ) (s t : Shape) (history : List Version) → t ≡ s → AreOrdered (versions_in t) → IsOrderUpTo at (versions_in s) history
     → (o : Option (Option (List ℕ))) → o ≡ newest key at (versions_in t) → said o ≡ value_at (map_of history) key
 tree_value key at s t history is ordered h o found =
-    ap said found ∙ sym (value_is_newest key at (versions_in t) history ordered (subst (λ x. IsHistory at (versions_in x) history) (sym is) h))
+    ap said found ∙ sym (value_is_newest key at (versions_in t) history ordered (subst (λ x. IsOrderUpTo at (versions_in x) history) (sym is) h))

@@ -10,7 +10,8 @@ use Rattle.std.specs.declared.cmp.Ordering.TheVariants.{Less, Equal, Greater}
 use Rattle.std.specs.Ordering.{nat_cmp, ordering_then}
 use Rattle.std.proofs.lemmas.Cmp.{ranked}
 use Rattle.wp_model.specs.Map.{byte_order}
-use Rattle.mem_table.specs.Versions.{Version, version_order, AreOrdered, IsNew, AreBelow, insert_version}
+use Rattle.table_rule.specs.declared.content.Version.{Version}
+use Rattle.mem_table.specs.Versions.{version_order, AreOrdered, IsNew, AreBelow, insert_version}
 use Rattle.mem_table.specs.Shapes.{Shape, fork, height, versions_in, IsBalanced}
 use Rattle.mem_table.proofs.Order.{third, all_mapped, all_inserted, all_front, all_back, sorted_front, sorted_back, sorted_past, insert_left, insert_right, flip_greater, sorted_inserted}
 use Rattle.mem_table.proofs.VersionOrder.{version_total}
@@ -71,7 +72,7 @@ fork_longer s left right w is =
     let e = ap (λ t. length (versions_in t)) is in
     omega (arith, length-append (versions_in left) (w ∷ versions_in right))
 
-both_equal : (c d : Ordering) → ordering_then c d ≡ Equal → d ≡ Equal
+pub both_equal : (c d : Ordering) → ordering_then c d ≡ Equal → d ≡ Equal
 both_equal Less d e = absurd (cc)
 both_equal Equal d e = e
 both_equal Greater d e = absurd (cc)

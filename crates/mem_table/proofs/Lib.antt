@@ -9,3 +9,5 @@ pub mod Chains
 pub mod SamePairs
 pub mod RangeRows
 pub mod Members
+pub mod Orders
+pub mod Adding

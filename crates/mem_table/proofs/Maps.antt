@@ -12,7 +12,8 @@ use Rattle.std.specs.Ordering.{match_ordering, is_eq}
 use Rattle.std.specs.declared.cmp.Ordering.{Ordering}
 use Rattle.std.specs.declared.cmp.Ordering.TheVariants.{Less, Equal, Greater}
 use Rattle.wp_model.specs.Map.{Pairs, byte_order, after_record, value_at}
-use Rattle.mem_table.specs.Versions.{Version, record_of, written}
+use Rattle.table_rule.specs.declared.content.Version.{Version}
+use Rattle.table_rule.specs.Histories.{record_of, written}
 use Rattle.mem_table.proofs.Order.{sorted_inserted, flip_greater}
 use Rattle.mem_table.proofs.VersionOrder.{byte_total}
 

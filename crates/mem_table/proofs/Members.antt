@@ -5,7 +5,7 @@ use Rattle.std.proofs.lemmas.Bool.Decides.{nat_tests}
 use Rattle.std.proofs.lemmas.Map.Steps.{length-le_from_distinct_below}
 use Rattle.std.specs.declared.alloc.Global.{Global}
 use Rattle.std.specs.List.{AllByRecursion, IsDistinct, position_from, list_any}
-use Rattle.mem_table.specs.Versions.{Version}
+use Rattle.table_rule.specs.declared.content.Version.{Version}
 use Rattle.mem_table.specs.Parts.{with_part, members_of, HasRoom}
 use Rattle.mem_table.specs.declared.parts.Part.{Part}
 

@@ -10,7 +10,9 @@ use Rattle.std.specs.Ordering.{is_eq, is_lt}
 use Rattle.std.specs.declared.cmp.Ordering.{Ordering}
 use Rattle.std.specs.declared.cmp.Ordering.TheVariants.{Less, Equal, Greater}
 use Rattle.wp_model.specs.Map.{Pairs, byte_order, after_record, after_records, value_at, rows_within}
-use Rattle.mem_table.specs.Versions.{Version, version_order, AreOrdered, IsHistory, record_of, map_of}
+use Rattle.table_rule.specs.declared.content.Version.{Version}
+use Rattle.table_rule.specs.Histories.{IsOrderUpTo, record_of, map_of}
+use Rattle.mem_table.specs.Versions.{version_order, AreOrdered}
 use Rattle.mem_table.specs.Newest.{is_seen, newest}
 use Rattle.mem_table.specs.Rows.{is_between, between, is_last, tells, row_of, rows_from}
 use Rattle.mem_table.proofs.Order.{all_mapped, sorted_past, less_le, flip_less}
@@ -169,7 +171,7 @@ said_within : (b : Bool) (o : Option (Option (List ℕ))) → said (cond b o Non
 said_within true o = refl
 said_within false o = refl
 
-pub range_rows : (lo hi : List ℕ) (at : ℕ) (versions history : List Version) → AreOrdered versions → IsHistory at versions history
+pub range_rows : (lo hi : List ℕ) (at : ℕ) (versions history : List Version) → AreOrdered versions → IsOrderUpTo at versions history
     → rows_from at None (between lo hi versions) ≡ rows_within lo hi (map_of history)
 unfolding IsStrictlySortedBy
 range_rows lo hi at versions history s h =

@@ -8,7 +8,8 @@ use Rattle.std.specs.Ordering.{is_lt}
 use Rattle.std.specs.declared.cmp.Ordering.{Ordering}
 use Rattle.std.specs.declared.cmp.Ordering.TheVariants.{Less, Equal, Greater}
 use Rattle.wp_model.specs.Map.{Pairs, byte_order}
-use Rattle.mem_table.specs.Versions.{Version, version_order, AreOrdered}
+use Rattle.table_rule.specs.declared.content.Version.{Version}
+use Rattle.mem_table.specs.Versions.{version_order, AreOrdered}
 use Rattle.mem_table.specs.Shapes.{Shape, fork, versions_in}
 use Rattle.mem_table.specs.Rows.{is_between, between, row_at, seen_at, rows_from, seen_from}
 use Rattle.mem_table.proofs.Order.{all_mapped, sorted_back, sorted_past, before_middle, le_less}

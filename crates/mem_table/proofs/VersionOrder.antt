@@ -7,7 +7,8 @@ use Rattle.std.specs.Cmp.{IsTotalOrder, on_total, then_total, back_total, nat_cm
 use Rattle.std.specs.Cmp.Lexicographic.{nat_list_cmp_total}
 use Rattle.std.proofs.lemmas.Cmp.{ranked}
 use Rattle.wp_model.specs.Map.{byte_order}
-use Rattle.mem_table.specs.Versions.{Version, version_order}
+use Rattle.table_rule.specs.declared.content.Version.{Version}
+use Rattle.mem_table.specs.Versions.{version_order}
 
 pub version_total : IsTotalOrder version_order
 version_total = then_total (on_total (λ (v : Version). v.key) nat_list_cmp_total) (on_total (λ (v : Version). v.sequence) (back_total nat_cmp_total))

@@ -1,7 +1,7 @@
 -- What the nodes of the tree are seen as.
 use Rattle.std.specs.Prelude.{◌≡◌, ℕ, ◌+◌, List, [], ◌∷◌, Option, Some, None, Box}
 use Rattle.std.specs.declared.alloc.Global.{Global}
-use Rattle.mem_table.specs.Versions.{Version}
+use Rattle.table_rule.specs.declared.content.Version.{Version}
 use Rattle.mem_table.specs.Shapes.{Shape, leaf, fork, height, IsBalanced}
 use Rattle.mem_table.specs.declared.node.Balance.{Balance}
 use Rattle.mem_table.specs.declared.node.Balance.TheVariants.{Left, Even, Right}

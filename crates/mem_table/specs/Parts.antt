@@ -2,7 +2,8 @@
 use Rattle.std.specs.Prelude.{ℕ, ◌≤◌, List, [], ◌∷◌, ◌++◌, map, Vec, vec_capacity, nat_eq, ◌==◌, if◌then◌else◌}
 use Rattle.std.specs.declared.alloc.Global.{Global}
 use Rattle.std.specs.List.{AllByRecursion, IsDistinct}
-use Rattle.mem_table.specs.Versions.{Version}
+use Rattle.table_rule.specs.declared.content.Version.{Version}
+use Rattle.table_rule.specs.declared.content.Part.{Part as GroupPart}
 use Rattle.mem_table.specs.declared.parts.Part.{Part}
 
 -- how many clients there are, and the parts of those that are members
@@ -18,6 +19,10 @@ with_part (part ∷ parts) member versions =
 
 abbrev pub members_of : List Part → List ℕ
 members_of parts = map (λ (part : Part). part.member) parts
+
+-- the parts as a table sees them
+abbrev pub group_of : List Part → List GroupPart
+group_of parts = map (λ (part : Part). record { member = part.member; versions = part.nodes }) parts
 
 -- Each member is there once, by a number from 1 to that of the clients, for all of which there is room.
 pub record HasRoom (clients : ℕ) (parts : Vec Part Global) : Type 0 where

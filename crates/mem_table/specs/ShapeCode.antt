@@ -3,7 +3,7 @@ use Rattle.std.specs.Prelude.{◌≡◌, ℕ, List, [], ◌∷◌, ◌++◌, Opt
 use Rattle.std.specs.Coded.{Coded, code_by, coded×, coded_ℕ, coded_list, coded_option}
 use Rattle.std.proofs.Common.{ap, sym, ◌∙◌, append_assoc}
 use Rattle.std.proofs.lemmas.List.{append-nil}
-use Rattle.mem_table.specs.Versions.{Version}
+use Rattle.table_rule.specs.declared.content.Version.{Version}
 use Rattle.mem_table.specs.Shapes.{Shape, leaf, fork}
 
 -- what a version says of its key

@@ -1,6 +1,6 @@
 -- Binary trees of versions.
 use Rattle.std.specs.Prelude.{ℕ, ◌+◌, ◌≤◌, max, List, [], ◌∷◌, ◌++◌}
-use Rattle.mem_table.specs.Versions.{Version}
+use Rattle.table_rule.specs.declared.content.Version.{Version}
 
 pub data Shape : Type 0 where
   leaf : Shape

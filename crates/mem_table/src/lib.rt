@@ -2,6 +2,7 @@
 //! (RocksDB wiki, "MemTable" and "Snapshot").
 #![tactic(auto)]
 
+mod calls;
 mod insertion;
 mod lookup;
 mod node;
@@ -13,7 +14,7 @@ mod tree;
 
 pub use node::{Node, Nodes};
 pub use parts::{Part, Parts};
-pub use tree::Tree;
+pub use tree::{Tree, orders_of_versions};
 
 #[cfg(test)]
 mod tests;

@@ -71,7 +71,7 @@ pub struct Nodes {
 
 impl Model for Nodes {
     ghost use Rattle.std.specs.Prelude.{List, length};
-    ghost use Rattle.mem_table.specs.Versions.{Version};
+    ghost use Rattle.table_rule.specs.declared.content.Version.{Version};
     ghost use Rattle.mem_table.specs.ShapeCode.{versions_code};
 
     ghost Value = { List Version };

@@ -1,6 +1,6 @@
 //! The nodes of a batch.
 
-ghost use Rattle.std.specs.Prelude.{◌≡◌, ◌∷◌, ◌++◌, ◌+◌, ◌≤◌, ◌^◌, [], length, reverse, IfOk, MatchOption};
+ghost use Rattle.std.specs.Prelude.{◌≡◌, ◌∷◌, ◌++◌, ◌+◌, ◌<◌, ◌≤◌, ◌^◌, [], length, reverse, IfOk, MatchOption};
 ghost use Rattle.std.specs.Option.{option_copied, option_map, option_to_list};
 ghost use Rattle.write_batch.specs.View.{record_of};
 ghost use Rattle.mem_table.specs.Nodes.{version_of};
@@ -49,6 +49,20 @@ impl Nodes {
         let mut node = self.first.take()?;
         *self = mem::replace(&mut node.next, Nodes::new());
         Some(node)
+    }
+
+    /// How many there are.
+    pub fn len(&self) -> u64
+        requires { length self.now < 2 ^ 64 }
+        ensures { result ≡ length self.now }
+    {
+        let mut count = 0;
+        let mut rest = self;
+        while let Some(node) = &rest.first {
+            count += 1;
+            rest = &node.next;
+        }
+        count
     }
 
     /// Puts others behind them. This takes no memory.

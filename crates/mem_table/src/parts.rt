@@ -1,8 +1,9 @@
 //! The members of a write group with their nodes.
 
-ghost use Rattle.std.specs.Prelude.{◌≡◌, ◌≤◌, ◌∷◌, ◌==◌, [], IfOk, MatchOption};
+ghost use Rattle.std.specs.Prelude.{◌≡◌, ◌≤◌, ◌<◌, ◌^◌, ◌∷◌, ◌==◌, [], length, IfOk, MatchOption};
 ghost use Rattle.std.specs.List.{position_from};
-ghost use Rattle.mem_table.specs.Parts.{with_part};
+ghost use Rattle.table_rule.specs.Histories.{versions_in};
+ghost use Rattle.mem_table.specs.Parts.{with_part, group_of};
 
 use crate::Nodes;
 use std::alloc::Global;
@@ -66,6 +67,25 @@ impl Parts {
             return None;
         }
         Some(self.parts.remove(0))
+    }
+
+    /// How many parts there are.
+    pub fn len(&self) -> usize
+        ensures { result ≡ length self.now.parts }
+    {
+        self.parts.len()
+    }
+
+    /// How many versions the parts have together.
+    pub fn version_count(&self) -> u64
+        requires { length (versions_in (group_of self.now.parts)) < 2 ^ 64 }
+        ensures { result ≡ length (versions_in (group_of self.now.parts)) }
+    {
+        let mut count = 0;
+        for part in &self.parts {
+            count += part.nodes.len();
+        }
+        count
     }
 
     // Where a member's part is, if it has one.

@@ -1,9 +1,11 @@
 //! The multi-version tree.
 
-ghost use Rattle.std.specs.Prelude.{◌≡◌, List, IfOk};
+ghost use Rattle.std.specs.Prelude.{◌≡◌, ℕ, List, IfOk};
 ghost use Rattle.std.specs.Option.{option_copied};
 ghost use Rattle.wp_model.specs.Map.{value_at, rows_within};
-ghost use Rattle.mem_table.specs.Versions.{Version, IsNew, IsHistory, insert_version, map_of, AreOrdered};
+ghost use Rattle.table_rule.specs.declared.content.Version.{Version};
+ghost use Rattle.table_rule.specs.Histories.{IsOrderUpTo, map_of};
+ghost use Rattle.mem_table.specs.Versions.{IsNew, insert_version, AreOrdered};
 ghost use Rattle.mem_table.specs.Shapes.{leaf, versions_in, IsBalanced};
 ghost use Rattle.mem_table.specs.Nodes.{version_of};
 
@@ -57,7 +59,7 @@ impl Tree {
     /// The value of a key at a sequence, if it has one there: what the key's newest version up to the
     /// sequence says.
     pub fn lookup(&self, key: &[u8], at: u64) -> Option<&[u8]>
-        ensures { (history : List Version) → IsHistory at (versions_in self.now) history → option_copied result ≡ value_at (map_of history) key.now }
+        ensures { (history : List Version) → IsOrderUpTo at (versions_in self.now) history → option_copied result ≡ value_at (map_of history) key.now }
     {
         match self.root.newest(key, at) {
             Some(Some(value)) => Some(value.as_slice()),
@@ -70,7 +72,7 @@ impl Tree {
     /// the keys.
     pub fn range(&self, alloc: Global, lo: &[u8], hi: &[u8], at: u64) -> Result<Rows, NoMemory>
         ensures at { IfOk result (λ rows. rows.at ≡ at) }
-        ensures rows { IfOk result (λ rows. (history : List Version) → IsHistory at (versions_in self.now) history
+        ensures rows { IfOk result (λ rows. (history : List Version) → IsOrderUpTo at (versions_in self.now) history
             → rows.rows ≡ rows_within lo.now hi.now (map_of history)) }
     {
         let mut rows = PairList::new(alloc);
@@ -79,3 +81,8 @@ impl Tree {
         Ok(Rows { at, rows })
     }
 }
+
+/// The versions of any tree up to a sequence have an order in which they may have come, so that `lookup` and `range` say what they answer for each tree.
+pub fn orders_of_versions()
+    ensures { (versions : List Version) (at : ℕ) → (order : List Version) × IsOrderUpTo at versions order }
+{}

@@ -7,3 +7,6 @@ mod opening;
 mod shard;
 
 pub use one_table::OneTable;
+
+#[cfg(test)]
+mod tests;

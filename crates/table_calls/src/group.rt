@@ -1,5 +1,5 @@
 //! The parts of a group that is to be launched.
-ghost use Rattle.std.specs.Prelude.{◌≡◌, [], ◌∷◌, length, MatchOption};
+ghost use Rattle.std.specs.Prelude.{◌≡◌, ◌<◌, ◌^◌, [], ◌∷◌, length, MatchOption};
 ghost use Rattle.table_rule.specs.Histories.{versions_in};
 
 use table_rule::Versioned;
@@ -17,6 +17,7 @@ pub trait GroupParts<N: Versioned> {
 
     /// How many versions the members have together.
     fn version_count(&self) -> u64
+        requires { length (versions_in (Self.parts self.now)) < 2 ^ 64 }
         ensures { result ≡ length (versions_in (Self.parts self.now)) };
 
     /// Takes the first member out, with its nodes.

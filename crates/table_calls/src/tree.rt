@@ -18,6 +18,10 @@ pub trait VersionNode {
     ghost version: { Self → Version };
 }
 
+impl<V: VersionNode> VersionNode for Box<V> {
+    ghost version = { λ n. V.version n.value };
+}
+
 /// A member's nodes, in the order of their sequences.
 pub trait VersionNodes: Versioned {
     type Node: VersionNode;

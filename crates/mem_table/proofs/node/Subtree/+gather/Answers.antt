@@ -3,7 +3,7 @@ use Rattle.std.proofs.Common.{◌≡◌, ◌++◌, List, ℕ, true, false, Optio
 use Rattle.std.specs.Option.{option_copied}
 use Rattle.std.specs.Ordering.{is_lt}
 use Rattle.wp_model.specs.Map.{Pairs, byte_order}
-use Rattle.mem_table.specs.Versions.{Version}
+use Rattle.table_rule.specs.declared.content.Version.{Version}
 use Rattle.mem_table.specs.Shapes.{fork, versions_in}
 use Rattle.mem_table.specs.Nodes.{version_of}
 use Rattle.mem_table.specs.Rows.{between, row_at, seen_at, rows_from, seen_from}

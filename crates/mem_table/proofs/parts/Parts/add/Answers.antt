@@ -1,7 +1,7 @@
 -- The member's part is found and changed, or there is room for one more.
 use Rattle.std.proofs.Common.{◌≡◌, ◌≤◌, List, ℕ, eqb, set, Option, Some, None, sym, ap, ◌∙◌, arith, rules}
 use Rattle.std.specs.List.{position_from}
-use Rattle.mem_table.specs.Versions.{Version}
+use Rattle.table_rule.specs.declared.content.Version.{Version}
 use Rattle.mem_table.specs.Parts.{with_part, Members}
 use Rattle.mem_table.specs.declared.parts.Part.{Part}
 use Rattle.mem_table.proofs.Members.{found_at, absent_from, room_left, room_kept}
