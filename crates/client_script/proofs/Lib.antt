@@ -2,3 +2,4 @@ pub mod ScheduleReading
 pub mod ScriptNumbers
 pub mod ScriptParts
 pub mod ScriptReading
+pub mod ScriptSizes

@@ -1,12 +1,15 @@
 -- The parts of a text round a separator.
-use Rattle.std.proofs.Common.{◌≡◌, ℕ, ◌-◌, ◌+◌, ◌<◌, ◌≤◌, Bool, true, false, cond, eqb, List, ◌∷◌, [], length, take, drop, Some, None, Option, Err, is_some, option_copied, Bor, refl, arith}
+use Rattle.std.proofs.Common.{◌≡◌, ℕ, ◌-◌, ◌+◌, ◌<◌, ◌≤◌, Bool, true, false, cond, eqb, List, ◌∷◌, [], length, take, drop, Some, None, Option, Err, is_some, option_copied, codes, Bor, refl, ◌∙◌, arith}
 use Rattle.std.specs.List.{list_all, slice_split, onto_first, position, position_or_len}
+use Rattle.std.specs.Str.{bytes_eq}
 use Rattle.wp_model.specs.declared.script.ScriptFault.TheVariants.{Form}
+use Rattle.wp_model.specs.Calls.{commit}
 use Rattle.wp_model.specs.Script as model
 use Rattle.client_script.specs.ScriptLines.{behind_word}
 use Rattle.client_script.specs.ScriptWords.{alone, parts_of}
 use Rattle.std.proofs.lemmas.Bool.{ltb-true, ltb-false}
 use Rattle.std.proofs.lemmas.List.{take_rest}
+use Rattle.std.proofs.lemmas.Slice.Eq.{bytes_eq-Decides}
 use Rattle.std.proofs.lemmas.List.Sums.{fails_before_first}
 use Rattle.std.proofs.lemmas.List.Splits.{slice_split_first, slice_split_none}
 
@@ -52,8 +55,43 @@ alone-more rest word (Some text) some parts =
     rw (parts, more.2) refl
 
 -- nothing may stand behind a word that stands alone
-pub behind_word-no_word : (line : model.Line) (rest : Option (Bor (List ℕ))) → is_some rest ≡ true → behind_word (model.no_word line) (parts_of 32 (option_copied rest)) ≡ Err Form
-behind_word-no_word line None some = cc
-behind_word-no_word line (Some text) some =
+no_word-more : (line : model.Line) (rest : Option (Bor (List ℕ))) → is_some rest ≡ true → model.no_word line (parts_of 32 (option_copied rest)) ≡ Err Form
+no_word-more line None some = cc
+no_word-more line (Some text) some =
     let more = slice_split-cons (λ b. eqb b 32) text.now in
-    rw more.2 (elim (list_all model.is_word (more.0 ∷ more.1)) as (λ v. cond {A = model.Read model.Line} v (Err Form) (Err Form) ≡ Err Form) [ true ↦ refl | false ↦ refl ])
+    rw more.2 refl
+
+-- so it doesn't matter there whether what stands behind are words
+no_word-words : (line : model.Line) (words : Bool) (ws : List (List ℕ)) → words ≡ list_all model.is_word ws → cond words (model.no_word line ws) (Err Form) ≡ model.no_word line ws
+no_word-words line words [] is = rw is refl
+no_word-words line true (w ∷ ws) is = refl
+no_word-words line false (w ∷ ws) is = refl
+
+pub behind_word-no_word : (line : model.Line) (rest : Option (Bor (List ℕ))) → is_some rest ≡ true → behind_word (model.no_word line) (parts_of 32 (option_copied rest)) ≡ Err Form
+behind_word-no_word line rest some = no_word-words line _ (parts_of 32 (option_copied rest)) refl ∙ no_word-more line rest some
+
+-- a flag is a word
+flag_taken : (flag : List ℕ) (ws : List (List ℕ)) → model.is_word flag ≡ true → list_all model.is_word ws ≡ list_all model.is_word (model.behind_first (model.is_first flag ws) ws)
+flag_taken flag [] word = refl
+flag_taken flag (w ∷ ws) word = by_first (bytes_eq w flag) (bytes_eq-Decides w flag).0
+  where
+    by_first : (first : Bool) → (first ≡ true → w ≡ flag) → list_all model.is_word (w ∷ ws) ≡ list_all model.is_word (model.behind_first first (w ∷ ws))
+    by_first true is = rw (is refl, word) refl
+    by_first false is = refl
+
+-- what a commit with these flags is read as, by what is left behind them
+abbrev pub left_of_commit : Bool → Bool → List (List ℕ) → model.Read model.Line
+left_of_commit sync no_log rest = model.no_word (model.command (commit (record { sync = sync; no_log = no_log; no_slowdown = false }))) rest
+
+flags_are_words : (ws : List (List ℕ)) → behind_word model.commit_flags ws ≡ model.commit_flags ws
+flags_are_words ws =
+    let behind_sync = model.behind_first (model.is_first (codes "sync") ws) ws in
+    no_word-words _ _ (model.behind_first (model.is_first (codes "nolog") behind_sync) behind_sync) (flag_taken (codes "sync") ws refl ∙ flag_taken (codes "nolog") behind_sync refl)
+
+pub flags_read : (ws middle rest : List (List ℕ)) (sync no_log : Bool) → sync ≡ model.is_first (codes "sync") ws → middle ≡ model.behind_first sync ws → no_log ≡ model.is_first (codes "nolog") middle → rest ≡ model.behind_first no_log middle
+    → behind_word model.commit_flags ws ≡ left_of_commit sync no_log rest
+flags_read ws middle rest sync no_log is_sync is_middle is_no_log is_rest = flags_are_words ws ∙ rw (is_rest, is_no_log, is_middle, is_sync) refl
+
+-- something is left behind the flags
+pub flags_read-more : (ws : List (List ℕ)) (rest : Option (Bor (List ℕ))) (sync no_log : Bool) → behind_word model.commit_flags ws ≡ left_of_commit sync no_log (parts_of 32 (option_copied rest)) → is_some rest ≡ true → behind_word model.commit_flags ws ≡ Err Form
+flags_read-more ws rest sync no_log is some = is ∙ no_word-more _ rest some

@@ -17,7 +17,7 @@ abbrev pub line_said : Line → model.Line
 line_said (line.Section n) = section n
 line_said (line.Command c) = command (command_of c)
 
--- how long a command's line is, with its line feed
+-- how long the line is if it adds a record, with its line feed
 abbrev pub said_len : Line → ℕ
 said_len (line.Section n) = 0
 said_len (line.Command c) = line_len c
@@ -39,7 +39,7 @@ behind_word rest ws = if list_all model.is_word ws then rest ws else Err Form
 
 -- a script of so many clients at most, and one more line, which isn't passed over
 abbrev pub said_added : ℕ → model.Script → List ℕ → model.Read model.Script
-said_added most script l = line_of model.first_forms l >>= with_line most script
+said_added most script l = line_of model.forms l >>= with_line most script
 
 -- the same of any line
 abbrev pub line_added : ℕ → model.Script → List ℕ → model.Read model.Script

@@ -1,11 +1,11 @@
 //! One line of a script.
 
 ghost use Rattle.std.specs.Prelude.{◌≡◌, ◌+◌, ◌≤◌, length, IfOk, option_copied};
-ghost use Rattle.wp_model.specs.Batch.{value};
+ghost use Rattle.wp_model.specs.Batch.{value, deletion, single_deletion, log_data};
 ghost use Rattle.wp_model.specs.Calls as calls;
 ghost use Rattle.wp_model.specs.Script as model;
-ghost use Rattle.client_script.specs.Scripts.{plain};
-ghost use Rattle.client_script.specs.ScriptWords.{parts_of, len_behind};
+ghost use Rattle.client_script.specs.Scripts.{IsShort};
+ghost use Rattle.client_script.specs.ScriptWords.{parts_of, len_behind, alone};
 ghost use Rattle.client_script.specs.ScriptLines.{line_said, said_len, SaysShortWords, Reads, behind_word, error_at};
 
 use crate::numbers::number_of;
@@ -13,7 +13,7 @@ use crate::script::{Command, ScriptError};
 use crate::words::{one_word, split_once, two_words};
 use std::alloc::{AllocFailed, Global};
 use wp_coding::Bytes;
-use wp_model::{NoMemory, ScriptFault};
+use wp_model::{NoMemory, ScriptFault, WriteOptions};
 
 /// What a line says, unless it is passed over.
 #[derive(Drop)]
@@ -75,7 +75,7 @@ pub fn is_passed_over(line: &[u8]) -> bool
 
 /// Reads a line that is not passed over.
 pub fn read_line(alloc: Global, line: &[u8]) -> Result<Line, LineError>
-    ensures line { Reads line_said (model.line_of model.first_forms line.now) result }
+    ensures line { Reads line_said (model.line_of model.forms line.now) result }
     ensures len { IfOk result (λ l. said_len l ≤ length line.now + 1) }
     ensures short { IfOk result SaysShortWords }
 {
@@ -88,6 +88,18 @@ pub fn read_line(alloc: Global, line: &[u8]) -> Result<Line, LineError>
     }
     if word == b"put".as_slice() {
         return read_put(alloc, rest);
+    }
+    if word == b"del".as_slice() {
+        return read_delete(alloc, rest);
+    }
+    if word == b"sdel".as_slice() {
+        return read_single_delete(alloc, rest);
+    }
+    if word == b"note".as_slice() {
+        return read_note(alloc, rest);
+    }
+    if word == b"clear".as_slice() {
+        return read_clear(rest);
     }
     if word == b"commit".as_slice() {
         return read_commit(rest);
@@ -131,18 +143,73 @@ fn read_put(alloc: Global, rest: Option<&[u8]>) -> Result<Line, LineError>
     Ok(Line::Command(Command::Put { key, value }))
 }
 
-/// Reads what stands behind `commit`.
-fn read_commit(rest: Option<&[u8]>) -> Result<Line, LineError>
+/// Reads what stands behind `del`.
+fn read_delete(alloc: Global, rest: Option<&[u8]>) -> Result<Line, LineError>
     ensures line { let words = parts_of 32 (option_copied rest.entry) in
-        let commit = model.no_word (model.command (calls.commit plain)) in
-        Reads line_said (behind_word commit words) result }
-    ensures len { IfOk result (λ l. said_len l ≡ 7) }
+        let delete = model.one_word (λ k. model.command (calls.add (deletion k))) in
+        Reads line_said (behind_word delete words) result }
+    ensures len { IfOk result (λ l. said_len l ≡ len_behind (option_copied rest.entry) + 4) }
+    ensures short { IfOk result SaysShortWords }
+{
+    let key = read_word(alloc, rest)?;
+    Ok(Line::Command(Command::Delete { key }))
+}
+
+/// Reads what stands behind `sdel`.
+fn read_single_delete(alloc: Global, rest: Option<&[u8]>) -> Result<Line, LineError>
+    ensures line { let words = parts_of 32 (option_copied rest.entry) in
+        let single_delete = model.one_word (λ k. model.command (calls.add (single_deletion k))) in
+        Reads line_said (behind_word single_delete words) result }
+    ensures len { IfOk result (λ l. said_len l ≡ len_behind (option_copied rest.entry) + 5) }
+    ensures short { IfOk result SaysShortWords }
+{
+    let key = read_word(alloc, rest)?;
+    Ok(Line::Command(Command::SingleDelete { key }))
+}
+
+/// Reads what stands behind `note`.
+fn read_note(alloc: Global, rest: Option<&[u8]>) -> Result<Line, LineError>
+    ensures line { let words = parts_of 32 (option_copied rest.entry) in
+        let note = model.one_word (λ t. model.command (calls.add (log_data t))) in
+        Reads line_said (behind_word note words) result }
+    ensures len { IfOk result (λ l. said_len l ≡ len_behind (option_copied rest.entry) + 5) }
+    ensures short { IfOk result SaysShortWords }
+{
+    let text = read_word(alloc, rest)?;
+    Ok(Line::Command(Command::Note { text }))
+}
+
+/// Reads what stands behind `clear`.
+fn read_clear(rest: Option<&[u8]>) -> Result<Line, LineError>
+    ensures line { let words = parts_of 32 (option_copied rest.entry) in
+        Reads line_said (behind_word (model.no_word (model.command calls.clear)) words) result }
+    ensures len { IfOk result (λ l. said_len l ≡ 0) }
     ensures short { IfOk result SaysShortWords }
 {
     if rest.is_some() {
         return Err(LineError::FORM);
     }
-    Ok(Line::Command(Command::Commit))
+    Ok(Line::Command(Command::Clear))
+}
+
+/// Reads what stands behind `commit`.
+fn read_commit(rest: Option<&[u8]>) -> Result<Line, LineError>
+    ensures line { let words = parts_of 32 (option_copied rest.entry) in
+        Reads line_said (behind_word model.commit_flags words) result }
+    ensures len { IfOk result (λ l. said_len l ≡ 0) }
+    ensures short { IfOk result SaysShortWords }
+{
+    let (sync, rest) = take_flag(rest, b"sync");
+    let (no_log, rest) = take_flag(rest, b"nolog");
+    if rest.is_some() {
+        return Err(LineError::FORM);
+    }
+    let options = WriteOptions {
+        sync,
+        no_log,
+        no_slowdown: false,
+    };
+    Ok(Line::Command(Command::Commit { options }))
 }
 
 /// Reads what stands behind `get`.
@@ -150,10 +217,37 @@ fn read_get(alloc: Global, rest: Option<&[u8]>) -> Result<Line, LineError>
     ensures line { let words = parts_of 32 (option_copied rest.entry) in
         let get = model.one_word (λ k. model.command (calls.get k)) in
         Reads line_said (behind_word get words) result }
-    ensures len { IfOk result (λ l. said_len l ≡ len_behind (option_copied rest.entry) + 4) }
+    ensures len { IfOk result (λ l. said_len l ≡ 0) }
     ensures short { IfOk result SaysShortWords }
 {
-    let key = one_word(rest).ok_or(LineError::FORM)?;
-    let key = Bytes::copy(alloc, key)?;
+    let key = read_word(alloc, rest)?;
     Ok(Line::Command(Command::Get { key }))
+}
+
+/// Whether a flag stands first in what is left of a line, and what is left without it.
+fn take_flag<'a>(rest: Option<&'a [u8]>, flag: &[u8]) -> (bool, Option<&'a [u8]>)
+    ensures flag { result.0 ≡ model.is_first flag.now (parts_of 32 (option_copied rest.entry)) }
+    ensures behind { parts_of 32 (option_copied result.1)
+        ≡ model.behind_first result.0 (parts_of 32 (option_copied rest.entry)) }
+{
+    let Some(text) = rest else {
+        return (false, None);
+    };
+    let (word, behind) = split_once(text, b' ');
+    if word == flag {
+        (true, behind)
+    } else {
+        (false, rest)
+    }
+}
+
+/// Reads the one word that stands behind a command's.
+fn read_word(alloc: Global, rest: Option<&[u8]>) -> Result<Bytes, LineError>
+    ensures word { Reads (λ w. w) (model.or_form (alone (parts_of 32 (option_copied rest.entry)))) result }
+    ensures len { IfOk result (λ w. length w + 1 ≡ len_behind (option_copied rest.entry)) }
+    ensures short { IfOk result IsShort }
+{
+    let word = one_word(rest).ok_or(LineError::FORM)?;
+    let word = Bytes::copy(alloc, word)?;
+    Ok(word)
 }

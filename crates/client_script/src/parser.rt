@@ -2,8 +2,8 @@
 
 ghost use Rattle.std.specs.Prelude.{◌≡◌, ◌+◌, ◌-◌, ◌^◌, ◌<◌, ◌≤◌, Ok, length, IfOk, IfErr, OnOk};
 ghost use Rattle.wp_model.specs.Script as model;
-ghost use Rattle.wp_model.specs.Script.{script_of, first_grammar, lines_read};
-ghost use Rattle.client_script.specs.Scripts.{commands_of, command_of, IsFaultOf, script_len, line_len, HasShortWords, AreShort};
+ghost use Rattle.wp_model.specs.Script.{script_of, run_grammar, lines_read};
+ghost use Rattle.client_script.specs.Scripts.{commands_of, command_of, IsFaultOf, FitsBatches, script_len, line_len, HasShortWords, AreShort};
 ghost use Rattle.client_script.specs.ScriptLines.{Reads, said_added, line_added};
 
 use crate::lines::{Line, LineError, is_passed_over, read_line};
@@ -13,7 +13,7 @@ use std::alloc::Global;
 use wp_model::ScriptFault;
 
 /// How many bytes a script may have.
-pub const TEXT_LIMIT: usize = 16384;
+pub const TEXT_LIMIT: usize = 16_777_216;
 
 /// How many clients a script may have.
 const CLIENT_LIMIT: u64 = 1;
@@ -23,19 +23,21 @@ const CLIENT_LIMIT: u64 = 1;
 /// characters, with one space between them:
 ///
 /// - `client N` begins the section of a client;
-/// - `put K V` adds a value to its batch;
-/// - `commit` writes the batch;
+/// - `put K V`, `del K`, `sdel K` and `note T` add a value, a deletion, a single deletion and log
+///   data to its batch;
+/// - `clear` empties the batch;
+/// - `commit` writes the batch, and behind it may stand `sync`, `nolog`, or both in this order;
 /// - `get K` reads a key.
 ///
 /// The first line with a fault decides, and within a line the first kind in the order byte, word,
 /// form, client, clients. The text as a whole may be too long, before all else, or have no client,
 /// after all else.
 pub fn parse(alloc: Global, text: &[u8]) -> Result<Script, ScriptError>
-    ensures script { IfOk result (λ s. script_of first_grammar text.now ≡ Ok (commands_of s)) }
-    ensures fault { IfErr result (IsFaultOf (script_of first_grammar text.now)) }
+    ensures script { IfOk result (λ s. script_of run_grammar text.now ≡ Ok (commands_of s)) }
+    ensures fault { IfErr result (IsFaultOf (script_of run_grammar text.now)) }
 
-    // What is read takes no more room than its text.
-    ensures small { IfOk result (λ s. script_len s ≤ length text.now + 1) }
+    // All that a client adds fits one batch, whatever becomes of its commits.
+    ensures fits { IfOk result FitsBatches }
     ensures words { IfOk result HasShortWords }
 {
     if text.len() > TEXT_LIMIT {
@@ -56,8 +58,8 @@ pub fn parse(alloc: Global, text: &[u8]) -> Result<Script, ScriptError>
 
 /// Reads all lines of a text, whatever its length.
 fn read_lines(alloc: Global, text: &[u8]) -> Result<Script, ScriptError>
-    ensures script { IfOk result (λ s. lines_read first_grammar text.now ≡ Ok (commands_of s)) }
-    ensures fault { IfErr result (IsFaultOf (lines_read first_grammar text.now)) }
+    ensures script { IfOk result (λ s. lines_read run_grammar text.now ≡ Ok (commands_of s)) }
+    ensures fault { IfErr result (IsFaultOf (lines_read run_grammar text.now)) }
     ensures small { IfOk result (λ s. script_len s ≤ length text.now + 1) }
     ensures words { IfOk result HasShortWords }
 {

@@ -4,7 +4,7 @@ ghost use Rattle.std.specs.Prelude.{◌≡◌, ◌+◌, ◌≤◌, ◌==◌, [],
 ghost use Rattle.core_model.specs.Schedule as model;
 ghost use Rattle.wp_model.specs.Script.{words_of};
 ghost use Rattle.wp_model.specs.declared.script.ScriptFault.TheVariants.{Form};
-ghost use Rattle.client_script.specs.Scripts.{commands_of, script_len, HasShortWords};
+ghost use Rattle.client_script.specs.Scripts.{commands_of, FitsBatches, script_len, HasShortWords};
 ghost use Rattle.client_script.specs.ScriptLines.{Reads};
 ghost use Rattle.client_script.specs.ScriptWords.{parts_of};
 ghost use Rattle.client_script.specs.Schedules.{draft_of, schedule_of, event_named, line_added, event_added, IsScheduleFaultOf};
@@ -48,9 +48,10 @@ pub fn parse_schedule(alloc: Global, text: &[u8]) -> Result<Schedule, ScriptErro
     ensures fault { IfErr result (IsScheduleFaultOf
         (model.schedule_of model.clients_grammar model.first_event_words text.now)) }
 
-    // It has a client at least, and what is read takes no more room than its text.
+    // It has a client at least, and all that each adds fits one batch, whatever becomes of its
+    // commits.
     ensures clients { IfOk result (λ s. (1 ≤ length s.script.clients.items) × (length s.script.clients.items ≤ CLIENT_LIMIT)) }
-    ensures small { IfOk result (λ s. script_len s.script ≤ length text.now + 1) }
+    ensures fits { IfOk result (λ s. FitsBatches s.script) }
     ensures words { IfOk result (λ s. HasShortWords s.script) }
 {
     if text.len() > TEXT_LIMIT {

@@ -1,10 +1,10 @@
 //! Scripts and their faults.
 
-use crate::{ScriptError, TEXT_LIMIT, parse, parse_schedule};
+use crate::{Command, ScriptError, TEXT_LIMIT, parse, parse_schedule};
 use core_model::Event;
 use std::alloc::{AllocError, Global};
 use std::test::Fail;
-use wp_model::ScriptFault;
+use wp_model::{ScriptFault, WriteOptions};
 
 fn fault(line: u64, kind: ScriptFault) -> Option<ScriptError> {
     Some(ScriptError::Fault { line, kind })
@@ -13,9 +13,7 @@ fn fault(line: u64, kind: ScriptFault) -> Option<ScriptError> {
 /// A script with a read of a key of this length.
 fn read_of_long_key(alloc: Global, len: usize) -> Result<Vec<u8>, AllocError> {
     let mut text = Vec::from_slice(alloc, b"client 1\nget ")?;
-    for _ in 0..len {
-        text.push(b'k')?;
-    }
+    text.extend_from_slice(&vec![in alloc; b'k'; len]?)?;
     Ok(text)
 }
 
@@ -33,7 +31,22 @@ fn tells_the_first_fault(rt: HostRuntime) {
         ("client 1\nput a\n", fault(2, ScriptFault::Form)),
         ("client 1\nput  a 1\n", fault(2, ScriptFault::Form)),
         ("client 1\nput a 1 \n", fault(2, ScriptFault::Form)),
-        ("client 1\ncommit sync\n", fault(2, ScriptFault::Form)),
+        ("client 1\ndel a\nsdel a\nnote a\nclear\n", None),
+        (
+            "client 1\ncommit sync\ncommit nolog\ncommit sync nolog",
+            None,
+        ),
+        ("client 1\ncommit nolog sync\n", fault(2, ScriptFault::Form)),
+        ("client 1\ncommit sync sync\n", fault(2, ScriptFault::Form)),
+        ("client 1\ncommit noslow\n", fault(2, ScriptFault::Form)),
+        ("client 1\ncommit \n", fault(2, ScriptFault::Form)),
+        ("client 1\ndel\n", fault(2, ScriptFault::Form)),
+        ("client 1\ndel a b\n", fault(2, ScriptFault::Form)),
+        ("client 1\nsdel a b\n", fault(2, ScriptFault::Form)),
+        ("client 1\nnote\n", fault(2, ScriptFault::Form)),
+        ("client 1\nclear x\n", fault(2, ScriptFault::Form)),
+        ("clear\n", fault(1, ScriptFault::Client)),
+        ("client 1\nschedule\n", fault(2, ScriptFault::Word)),
         ("client 01\n", fault(1, ScriptFault::Form)),
         ("client +1\n", fault(1, ScriptFault::Form)),
         (
@@ -53,11 +66,38 @@ fn tells_the_first_fault(rt: HostRuntime) {
 }
 
 #[test]
+fn reads_each_command(rt: HostRuntime) -> Result<(), Fail> {
+    let text = "client 1\nput a 1\ndel a\nsdel a\nnote a\nclear\ncommit nolog\nget a\n";
+    let Ok(script) = parse(rt.alloc(), text.as_bytes()) else {
+        return Err(Fail::new("no script was read"));
+    };
+    let told = matches!(
+        script.clients[0].as_slice(),
+        [
+            Command::Put { .. },
+            Command::Delete { .. },
+            Command::SingleDelete { .. },
+            Command::Note { .. },
+            Command::Clear,
+            Command::Commit {
+                options: WriteOptions {
+                    sync: false,
+                    no_log: true,
+                    no_slowdown: false,
+                }
+            },
+            Command::Get { .. },
+        ]
+    );
+    assert!(rt; told);
+    Ok(())
+}
+
+#[test]
 fn limits_are_heeded(rt: HostRuntime) -> Result<(), Fail> {
     for (len, want) in [
         (1024, None),
         (1025, fault(2, ScriptFault::Form)),
-        (TEXT_LIMIT - 13, fault(2, ScriptFault::Form)),
         (TEXT_LIMIT - 12, fault(0, ScriptFault::Long)),
     ] {
         let text = read_of_long_key(rt.alloc(), len)?;

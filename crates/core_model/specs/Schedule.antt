@@ -2,7 +2,7 @@
 use Rattle.std.specs.Prelude.{ℕ, Bool, false, ◌&&◌, List, [], ◌∷◌, ◌++◌, length, fold, Option, Some, None, Result, Ok, Err, codes, bytes_eq, nat_lt, nat_le, ◌==◌, if◌then◌else◌, option_and_then, find}
 use Rattle.std.specs.List.{enumerate_from}
 use Rattle.wp_model.specs.declared.script.ScriptFault.TheVariants.{Long, Byte, Word, Form, NoClient, NoSchedule}
-use Rattle.wp_model.specs.Script.{Script, Read, ◌>>=◌, Grammar, first_forms, Fault, at_line, lines_of, words_of, are_plain, is_passed_over, number_of, line_of, with_line}
+use Rattle.wp_model.specs.Script.{Script, Read, ◌>>=◌, Grammar, forms, Fault, at_line, lines_of, words_of, are_plain, is_passed_over, number_of, line_of, with_line}
 use Rattle.core_model.specs.declared.event.Event.{Event}
 use Rattle.core_model.specs.declared.event.Event.TheVariants as e
 
@@ -97,4 +97,4 @@ schedule_of g words text = if nat_lt g.text_limit (length text) then Err (record
 
 -- a script of several clients, whose lines are those of one client's
 abbrev pub clients_grammar : Grammar
-clients_grammar = record { text_limit = 16384; client_limit = 16; forms = first_forms }
+clients_grammar = record { text_limit = 16777216; client_limit = 16; forms = forms }

@@ -3,8 +3,8 @@ use Rattle.std.specs.Prelude.{ℕ, ◌+◌, ◌-◌, ◌*◌, ◌^◌, Bool, tru
 use Rattle.std.specs.List.{list_all, slice_split, enumerate_from}
 use Rattle.wp_model.specs.declared.script.ScriptFault.{ScriptFault}
 use Rattle.wp_model.specs.declared.script.ScriptFault.TheVariants.{Long, Byte, Word, Form, Client, Clients, NoClient, NoSchedule}
-use Rattle.wp_model.specs.Batch.{value}
-use Rattle.wp_model.specs.Calls.{Command, add, commit, get}
+use Rattle.wp_model.specs.Batch.{value, deletion, single_deletion, log_data}
+use Rattle.wp_model.specs.Calls.{Command, add, clear, commit, get}
 
 -- Lines and words
 
@@ -77,17 +77,36 @@ two_words line [] = Err Form
 two_words line (w ∷ []) = Err Form
 two_words line (w ∷ v ∷ u ∷ ws) = Err Form
 
+-- the flags `sync` and `nolog`, each or not, in this order
+abbrev pub is_first : List ℕ → List (List ℕ) → Bool
+is_first w [] = false
+is_first w (v ∷ vs) = bytes_eq v w
+
+abbrev pub behind_first : Bool → List (List ℕ) → List (List ℕ)
+behind_first true (v ∷ vs) = vs
+behind_first there vs = vs
+
+abbrev pub commit_flags : List (List ℕ) → Read Line
+commit_flags ws =
+    let sync = is_first (codes "sync") ws in let behind_sync = behind_first sync ws in
+    let no_log = is_first (codes "nolog") behind_sync in let rest = behind_first no_log behind_sync in
+    no_word (command (commit (record { sync = sync; no_log = no_log; no_slowdown = false }))) rest
+
 -- what stands behind a first word
 pub record CommandForm : Type 0 where
   pub word : List ℕ
   pub rest : List (List ℕ) → Read Line
 
--- one batch after another of values, and reads of one key
-abbrev pub first_forms : List CommandForm
-first_forms =
+-- batches of every kind of record, commits with flags, and reads of one key
+abbrev pub forms : List CommandForm
+forms =
     record { word = codes "client"; rest = one_number section }
     ∷ record { word = codes "put"; rest = two_words (λ k v. command (add (value k v))) }
-    ∷ record { word = codes "commit"; rest = no_word (command (commit (record { sync = false; no_log = false; no_slowdown = false }))) }
+    ∷ record { word = codes "del"; rest = one_word (λ k. command (add (deletion k))) }
+    ∷ record { word = codes "sdel"; rest = one_word (λ k. command (add (single_deletion k))) }
+    ∷ record { word = codes "note"; rest = one_word (λ t. command (add (log_data t))) }
+    ∷ record { word = codes "clear"; rest = no_word (command clear) }
+    ∷ record { word = codes "commit"; rest = commit_flags }
     ∷ record { word = codes "get"; rest = one_word (λ k. command (get k)) }
     ∷ []
 
@@ -131,9 +150,9 @@ pub record Grammar : Type 0 where
   pub client_limit : ℕ
   pub forms : List CommandForm
 
--- that of one client without flags, whose log stays within one block
-abbrev pub first_grammar : Grammar
-first_grammar = record { text_limit = 16384; client_limit = 1; forms = first_forms }
+-- that of one client
+abbrev pub run_grammar : Grammar
+run_grammar = record { text_limit = 16777216; client_limit = 1; forms = forms }
 
 abbrev pub with_line : ℕ → Script → Line → Read Script
 with_line most script (section n) = with_section most script n

@@ -5,7 +5,7 @@ use Rattle.std.specs.List.{enumerate_from}
 use Rattle.std.specs.declared.alloc.Global.{Global}
 use Rattle.std.proofs.lemmas.List.{take_more, take_all, flat_map_more}
 use Rattle.std.proofs.lemmas.List.FromFn.{length-enumerate_from, get_or-enumerate_from}
-use Rattle.writepath_top.specs.declared.outcome.Reply.{Reply}
+use Rattle.one_client.specs.declared.outcome.Reply.{Reply}
 use Rattle.writepath_top.specs.ShownText.{client_lines, clients_lines}
 
 -- one client more

@@ -7,20 +7,22 @@ use Rattle.wp_edge.specs.Disk.{Disk}
 use Rattle.wp_model.specs.Calls as calls
 use Rattle.wp_model.specs.Text.{outcome_text}
 use Rattle.wp_model.specs.Runs.{NoneWithoutMemory}
-use Rattle.wp_model.specs.Script.{Script, script_of, first_grammar}
-use Rattle.writepath_top.specs.declared.outcome.Reply.{Reply}
-use Rattle.writepath_top.specs.declared.outcome.Reply.TheVariants as reply
-use Rattle.writepath_top.specs.declared.outcome.Outcome.{Outcome}
-use Rattle.writepath_top.specs.declared.running.End.{End}
-use Rattle.writepath_top.specs.declared.running.End.TheVariants as end
+use Rattle.wp_model.specs.Script.{Script, script_of, run_grammar}
+use Rattle.one_client.specs.declared.outcome.Reply.{Reply}
+use Rattle.one_client.specs.declared.outcome.Reply.TheVariants as reply
+use Rattle.one_client.specs.declared.outcome.Outcome.{Outcome}
+use Rattle.one_client.specs.declared.options.RunOptions.{RunOptions}
+use Rattle.one_client.specs.declared.running.End.{End}
+use Rattle.one_client.specs.declared.running.End.TheVariants as end
 use Rattle.writepath_top.specs.declared.telling.Status.{Status}
 use Rattle.writepath_top.specs.declared.telling.Status.TheVariants as status
-use Rattle.writepath_top.specs.Shows.{ShowsReply, ShowsReplies, lacks_memory}
+use Rattle.one_client.specs.Shows.{ShowsReply, ShowsReplies, lacks_memory}
 use Rattle.writepath_top.specs.declared.reading.ReadError.{ReadError}
 use Rattle.writepath_top.specs.declared.reading.ReadError.TheVariants as read
 use Rattle.writepath_top.specs.Reading.{IsScriptError}
-use Rattle.writepath_top.specs.Texts.{SaysTo, not_empty, source_fault, IsReached, Untouched}
-use Rattle.writepath_top.specs.Running.{setting_of, HasRun, IsEnd}
+use Rattle.writepath_top.specs.Texts.{SaysTo, not_empty, source_fault, Untouched}
+use Rattle.one_client.specs.Counts.{IsReached}
+use Rattle.one_client.specs.Running.{setting_of, HasRun, IsEnd}
 use Rattle.writepath_top.specs.Telling.{Refuses, EndsSo, TellsEnd, TellsReadError, code}
 use Rattle.writepath_top.specs.Outcomes.{Tells, IsOutcome, RanWhole, RanToFault, DiskRefused, RanToSinkFault, RanOutOfMemory}
 
@@ -61,16 +63,16 @@ pub refused_as : (sold snew : Option (List ℕ)) (kf kfs : ℕ) (text : List ℕ
 refused_as sold snew kf kfs text wanted given n is (inl said) = inl (is ∙ ap code said.0, said.1)
 refused_as sold snew kf kfs text wanted given n is (inr none) = inr (is ∙ ap code none.0, none.1)
 
-module _ (script : Script) (failed fails : ℕ) (left : List ℕ → Type 0) (kf kfs n : ℕ) (given : Status) (is : n ≡ code given) where
+module _ (options : RunOptions) (script : Script) (failed fails : ℕ) (left : List ℕ → Type 0) (kf kfs n : ℕ) (given : Status) (is : n ≡ code given) where
   untouched : (opened ended : Disk) → Some ended ≡ Some opened → Untouched opened ended
   untouched opened ended same = let e : ended ≡ opened = cc same in record { content = ap (λ d. d.content) e; synced = ap (λ d. d.synced) e; reach = ap (λ d. d.reach) e }
 
-  is_outcome : (opened ended : Disk) (shown : Outcome) (ran : HasRun (setting_of script failed fails left) (Some opened) (Some ended) shown) → IsOutcome (setting_of script failed fails left) opened ended ran.outcome
+  is_outcome : (opened ended : Disk) (shown : Outcome) (ran : HasRun (setting_of options script failed fails left) (Some opened) (Some ended) shown) → IsOutcome (setting_of options script failed fails left) opened ended ran.outcome
   is_outcome opened ended shown ran = record { legal = ran.legal; log = ran.log.log; crash = ran.log.crash }
 
   -- status 0
-  ran_whole : (before after : List ℕ) (opened ended : Disk) (e : End) → IsEnd script (Some opened) (Some ended) failed fails left e → TellsEnd (Some before) (Some after) kf kfs e given
-      → n ≡ 0 → RanWhole (setting_of script failed fails left) before after opened ended
+  ran_whole : (before after : List ℕ) (opened ended : Disk) (e : End) → IsEnd options script (Some opened) (Some ended) failed fails left e → TellsEnd (Some before) (Some after) kf kfs e given
+      → n ≡ 0 → RanWhole (setting_of options script failed fails left) before after opened ended
   ran_whole before after opened ended (end.DiskFault count) ends tells zero =
       ⊎_elim (λ said. absurd (let a = said.0 in omega (arith, a, zero))) (λ none. absurd (let a = none.0 in omega (arith, a, zero))) (refused_as (Some before) (Some after) kf kfs _ _ given n is tells)
   ran_whole before after opened ended (end.NotEmpty len) ends tells zero =
@@ -78,7 +80,7 @@ module _ (script : Script) (failed fails : ℕ) (left : List ℕ → Type 0) (kf
   ran_whole before after opened ended end.NoMemory ends tells zero = absurd (let a : n ≡ 6 = is ∙ ap code tells.0 in omega (arith, a, zero))
   ran_whole before after opened ended (end.Ran shown) ran tells zero = by_status given is (tells ran.outcome ran.shows)
     where
-      by_status : (s : Status) → n ≡ code s → EndsSo (Some before) (Some after) kf kfs shown (outcome_text ran.outcome) s → RanWhole (setting_of script failed fails left) before after opened ended
+      by_status : (s : Status) → n ≡ code s → EndsSo (Some before) (Some after) kf kfs shown (outcome_text ran.outcome) s → RanWhole (setting_of options script failed fails left) before after opened ended
       by_status status.Done e so = record {
         outcome = ran.outcome;
         is_outcome = is_outcome opened ended shown ran;
@@ -90,8 +92,8 @@ module _ (script : Script) (failed fails : ℕ) (left : List ℕ → Type 0) (kf
       by_status s e so = absurd (omega (arith, e, zero))
 
   -- status 3
-  ran_to_fault : (before after : List ℕ) (opened ended : Disk) (e : End) → IsEnd script (Some opened) (Some ended) failed fails left e → TellsEnd (Some before) (Some after) kf kfs e given
-      → n ≡ 3 → DiskRefused before after opened ended failed fails kf kfs ⊎ RanToFault (setting_of script failed fails left) before after opened ended
+  ran_to_fault : (before after : List ℕ) (opened ended : Disk) (e : End) → IsEnd options script (Some opened) (Some ended) failed fails left e → TellsEnd (Some before) (Some after) kf kfs e given
+      → n ≡ 3 → DiskRefused before after opened ended failed fails kf kfs ⊎ RanToFault (setting_of options script failed fails left) before after opened ended
   ran_to_fault before after opened ended (end.DiskFault count) ends tells three =
       ⊎_elim (λ said. inl (record { count = count; reached = ends.1; untouched = untouched opened ended ends.0; said = said.1 }))
       (λ none. absurd (let a = none.0 in omega (arith, a, three))) (refused_as (Some before) (Some after) kf kfs _ _ given n is tells)
@@ -100,7 +102,7 @@ module _ (script : Script) (failed fails : ℕ) (left : List ℕ → Type 0) (kf
   ran_to_fault before after opened ended end.NoMemory ends tells three = absurd (let a : n ≡ 6 = is ∙ ap code tells.0 in omega (arith, a, three))
   ran_to_fault before after opened ended (end.Ran shown) ran tells three = inr (by_status given is (tells ran.outcome ran.shows))
     where
-      by_status : (s : Status) → n ≡ code s → EndsSo (Some before) (Some after) kf kfs shown (outcome_text ran.outcome) s → RanToFault (setting_of script failed fails left) before after opened ended
+      by_status : (s : Status) → n ≡ code s → EndsSo (Some before) (Some after) kf kfs shown (outcome_text ran.outcome) s → RanToFault (setting_of options script failed fails left) before after opened ended
       by_status status.Disk e so = record {
         outcome = ran.outcome;
         is_outcome = is_outcome opened ended shown ran;
@@ -110,8 +112,8 @@ module _ (script : Script) (failed fails : ℕ) (left : List ℕ → Type 0) (kf
       by_status s e so = absurd (omega (arith, e, three))
 
   -- status 5
-  ran_to_sink_fault : (before after : List ℕ) (opened ended : Disk) (e : End) → IsEnd script (Some opened) (Some ended) failed fails left e → TellsEnd (Some before) (Some after) kf kfs e given
-      → n ≡ 5 → RanToSinkFault (setting_of script failed fails left) before after opened ended
+  ran_to_sink_fault : (before after : List ℕ) (opened ended : Disk) (e : End) → IsEnd options script (Some opened) (Some ended) failed fails left e → TellsEnd (Some before) (Some after) kf kfs e given
+      → n ≡ 5 → RanToSinkFault (setting_of options script failed fails left) before after opened ended
   ran_to_sink_fault before after opened ended (end.DiskFault count) ends tells five =
       ⊎_elim (λ said. absurd (let a = said.0 in omega (arith, a, five))) (λ none. absurd (let a = none.0 in omega (arith, a, five))) (refused_as (Some before) (Some after) kf kfs _ _ given n is tells)
   ran_to_sink_fault before after opened ended (end.NotEmpty len) ends tells five =
@@ -119,7 +121,7 @@ module _ (script : Script) (failed fails : ℕ) (left : List ℕ → Type 0) (kf
   ran_to_sink_fault before after opened ended end.NoMemory ends tells five = absurd (let a : n ≡ 6 = is ∙ ap code tells.0 in omega (arith, a, five))
   ran_to_sink_fault before after opened ended (end.Ran shown) ran tells five = by_status given is (tells ran.outcome ran.shows)
     where
-      by_status : (s : Status) → n ≡ code s → EndsSo (Some before) (Some after) kf kfs shown (outcome_text ran.outcome) s → RanToSinkFault (setting_of script failed fails left) before after opened ended
+      by_status : (s : Status) → n ≡ code s → EndsSo (Some before) (Some after) kf kfs shown (outcome_text ran.outcome) s → RanToSinkFault (setting_of options script failed fails left) before after opened ended
       by_status status.Sink e so = record {
         outcome = ran.outcome;
         is_outcome = is_outcome opened ended shown ran;
@@ -129,8 +131,8 @@ module _ (script : Script) (failed fails : ℕ) (left : List ℕ → Type 0) (kf
       by_status s e so = absurd (omega (arith, e, five))
 
   -- status 6
-  ran_out : (before after : List ℕ) (opened ended : Disk) (e : End) → IsEnd script (Some opened) (Some ended) failed fails left e → TellsEnd (Some before) (Some after) kf kfs e given
-      → n ≡ 6 → RanOutOfMemory (setting_of script failed fails left) before after opened ended
+  ran_out : (before after : List ℕ) (opened ended : Disk) (e : End) → IsEnd options script (Some opened) (Some ended) failed fails left e → TellsEnd (Some before) (Some after) kf kfs e given
+      → n ≡ 6 → RanOutOfMemory (setting_of options script failed fails left) before after opened ended
   ran_out before after opened ended (end.DiskFault count) ends tells six =
       ⊎_elim (λ said. absurd (let a = said.0 in omega (arith, a, six))) (λ none. inl (cc none.1, untouched opened ended ends.0)) (refused_as (Some before) (Some after) kf kfs _ _ given n is tells)
   ran_out before after opened ended (end.NotEmpty len) ends tells six =
@@ -138,13 +140,13 @@ module _ (script : Script) (failed fails : ℕ) (left : List ℕ → Type 0) (kf
   ran_out before after opened ended end.NoMemory ends tells six = inl (cc tells.1, untouched opened ended ends)
   ran_out before after opened ended (end.Ran shown) ran tells six = by_status given is (tells ran.outcome ran.shows)
     where
-      by_status : (s : Status) → n ≡ code s → EndsSo (Some before) (Some after) kf kfs shown (outcome_text ran.outcome) s → RanOutOfMemory (setting_of script failed fails left) before after opened ended
+      by_status : (s : Status) → n ≡ code s → EndsSo (Some before) (Some after) kf kfs shown (outcome_text ran.outcome) s → RanOutOfMemory (setting_of options script failed fails left) before after opened ended
       by_status status.Memory e (inl none) = inr (inl (record { outcome = ran.outcome; is_outcome = is_outcome opened ended shown ran; nothing = cc none; taken = λ alive. ran.taken (sym ran.shows.fault ∙ alive) }))
       by_status status.Memory e (inr so) = inr (inr (record { outcome = ran.outcome; is_outcome = is_outcome opened ended shown ran; printed = so.0; no_fault = ran.shows.fault ∙ so.1; taken = ran.taken so.1 }))
       by_status s e so = absurd (omega (arith, e, six))
 
   -- status 7
-  pub says_not_empty : (sold snew : Option (List ℕ)) (old new : Option Disk) (e : End) → IsEnd script old new failed fails left e → TellsEnd sold snew kf kfs e given
+  pub says_not_empty : (sold snew : Option (List ℕ)) (old new : Option Disk) (e : End) → IsEnd options script old new failed fails left e → TellsEnd sold snew kf kfs e given
       → n ≡ 7 → IfSome old (λ d. SaysTo sold snew (not_empty (length d.content)) kf kfs)
   says_not_empty sold snew old new (end.DiskFault count) ends tells seven =
       ⊎_elim (λ said. absurd (let a = said.0 in omega (arith, a, seven))) (λ none. absurd (let a = none.0 in omega (arith, a, seven))) (refused_as sold snew kf kfs _ _ given n is tells)
@@ -166,26 +168,26 @@ module _ (script : Script) (failed fails : ℕ) (left : List ℕ → Type 0) (kf
 
   -- The same where the devices tell
 
-  pub tells_whole : (source sold snew : Option (List ℕ)) (old new : Option Disk) (e : End) → IfSome source (λ text. script_of first_grammar text ≡ Ok script) → IsEnd script old new failed fails left e → TellsEnd sold snew kf kfs e given
-      → Tells source sold snew old new (λ text before after opened ended. n ≡ 0 → (sc : Script) × (script_of first_grammar text ≡ Ok sc) × RanWhole (setting_of sc failed fails left) before after opened ended)
+  pub tells_whole : (source sold snew : Option (List ℕ)) (old new : Option Disk) (e : End) → IfSome source (λ text. script_of run_grammar text ≡ Ok script) → IsEnd options script old new failed fails left e → TellsEnd sold snew kf kfs e given
+      → Tells source sold snew old new (λ text before after opened ended. n ≡ 0 → (sc : Script) × (script_of run_grammar text ≡ Ok sc) × RanWhole (setting_of options sc failed fails left) before after opened ended)
   tells_whole (Some text) (Some before) (Some after) (Some opened) (Some ended) e said ends tells = λ zero. (script, said, ran_whole before after opened ended e ends tells zero)
   tells_whole source sold snew old new e said ends tells = tt
 
-  pub tells_to_fault : (source sold snew : Option (List ℕ)) (old new : Option Disk) (e : End) → IfSome source (λ text. script_of first_grammar text ≡ Ok script) → IsEnd script old new failed fails left e → TellsEnd sold snew kf kfs e given
-      → Tells source sold snew old new (λ text before after opened ended. n ≡ 3 → (sc : Script) × (script_of first_grammar text ≡ Ok sc)
-      × (DiskRefused before after opened ended failed fails kf kfs ⊎ RanToFault (setting_of sc failed fails left) before after opened ended))
+  pub tells_to_fault : (source sold snew : Option (List ℕ)) (old new : Option Disk) (e : End) → IfSome source (λ text. script_of run_grammar text ≡ Ok script) → IsEnd options script old new failed fails left e → TellsEnd sold snew kf kfs e given
+      → Tells source sold snew old new (λ text before after opened ended. n ≡ 3 → (sc : Script) × (script_of run_grammar text ≡ Ok sc)
+      × (DiskRefused before after opened ended failed fails kf kfs ⊎ RanToFault (setting_of options sc failed fails left) before after opened ended))
   tells_to_fault (Some text) (Some before) (Some after) (Some opened) (Some ended) e said ends tells = λ three. (script, said, ran_to_fault before after opened ended e ends tells three)
   tells_to_fault source sold snew old new e said ends tells = tt
 
-  pub tells_to_sink_fault : (source sold snew : Option (List ℕ)) (old new : Option Disk) (e : End) → IfSome source (λ text. script_of first_grammar text ≡ Ok script) → IsEnd script old new failed fails left e → TellsEnd sold snew kf kfs e given
-      → Tells source sold snew old new (λ text before after opened ended. n ≡ 5 → (sc : Script) × (script_of first_grammar text ≡ Ok sc) × RanToSinkFault (setting_of sc failed fails left) before after opened ended)
+  pub tells_to_sink_fault : (source sold snew : Option (List ℕ)) (old new : Option Disk) (e : End) → IfSome source (λ text. script_of run_grammar text ≡ Ok script) → IsEnd options script old new failed fails left e → TellsEnd sold snew kf kfs e given
+      → Tells source sold snew old new (λ text before after opened ended. n ≡ 5 → (sc : Script) × (script_of run_grammar text ≡ Ok sc) × RanToSinkFault (setting_of options sc failed fails left) before after opened ended)
   tells_to_sink_fault (Some text) (Some before) (Some after) (Some opened) (Some ended) e said ends tells = λ five. (script, said, ran_to_sink_fault before after opened ended e ends tells five)
   tells_to_sink_fault source sold snew old new e said ends tells = tt
 
-  pub tells_out : (source sold snew : Option (List ℕ)) (old new : Option Disk) (e : End) → IfSome source (λ text. script_of first_grammar text ≡ Ok script) → IsEnd script old new failed fails left e → TellsEnd sold snew kf kfs e given
-      → Tells source sold snew old new (λ text before after opened ended. n ≡ 6 → (sc : Script) → script_of first_grammar text ≡ Ok sc → RanOutOfMemory (setting_of sc failed fails left) before after opened ended)
+  pub tells_out : (source sold snew : Option (List ℕ)) (old new : Option Disk) (e : End) → IfSome source (λ text. script_of run_grammar text ≡ Ok script) → IsEnd options script old new failed fails left e → TellsEnd sold snew kf kfs e given
+      → Tells source sold snew old new (λ text before after opened ended. n ≡ 6 → (sc : Script) → script_of run_grammar text ≡ Ok sc → RanOutOfMemory (setting_of options sc failed fails left) before after opened ended)
   tells_out (Some text) (Some before) (Some after) (Some opened) (Some ended) e said ends tells =
-      λ six sc other. (let same : script ≡ sc = cc (said, other) in subst (λ s. RanOutOfMemory (setting_of s failed fails left) before after opened ended) same (ran_out before after opened ended e ends tells six))
+      λ six sc other. (let same : script ≡ sc = cc (said, other) in subst (λ s. RanOutOfMemory (setting_of options s failed fails left) before after opened ended) same (ran_out before after opened ended e ends tells six))
   tells_out source sold snew old new e said ends tells = tt
 
 -- No script was read
@@ -205,8 +207,9 @@ silent sold snew kf kfs n given is (read.Script line kind) tells six =
     ⊎_elim (λ said. absurd (let a = said.0 in omega (arith, a, six))) (λ none. none.1) (refused_as sold snew kf kfs _ _ given n is tells)
 silent sold snew kf kfs n given is read.NoMemory tells six = tells.1
 
-pub none_read : (source sold snew : Option (List ℕ)) (disk : Option Disk) (failed fails : ℕ) (left : List ℕ → Type 0) (kf kfs n : ℕ) (given : Status) → n ≡ code given → (why : ReadError) → TellsReadError sold snew kf kfs why given
-    → Tells source sold snew disk disk (λ text before after opened ended. n ≡ 6 → (sc : Script) → script_of first_grammar text ≡ Ok sc → RanOutOfMemory (setting_of sc failed fails left) before after opened ended)
-none_read (Some text) (Some before) (Some after) (Some d) failed fails left kf kfs n given is why tells =
-    λ six sc said. inl (cc (silent (Some before) (Some after) kf kfs n given is why tells six), record { content = refl; synced = refl; reach = refl })
-none_read source sold snew disk failed fails left kf kfs n given is why tells = tt
+-- nothing was run, and nothing is printed for want of memory
+pub none_run : (options : RunOptions) (source sold snew : Option (List ℕ)) (disk : Option Disk) (failed fails : ℕ) (left : List ℕ → Type 0) (n : ℕ) → (n ≡ 6 → snew ≡ sold)
+    → Tells source sold snew disk disk (λ text before after opened ended. n ≡ 6 → (sc : Script) → script_of run_grammar text ≡ Ok sc → RanOutOfMemory (setting_of options sc failed fails left) before after opened ended)
+none_run options (Some text) (Some before) (Some after) (Some d) failed fails left n nothing =
+    λ six sc said. inl (cc (nothing six), record { content = refl; synced = refl; reach = refl })
+none_run options source sold snew disk failed fails left n nothing = tt

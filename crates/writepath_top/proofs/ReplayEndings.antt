@@ -1,36 +1,38 @@
 -- What stands printed of a schedule, and why there is none.
-use Rattle.std.proofs.Common.{◌≡◌, ◌⊎◌, ⊎_elim, ℕ, List, Option, Some, None, Result, Ok, Err, IfSome, ap, ◌∙◌, arith}
+use Rattle.std.proofs.Common.{◌≡◌, ⊎_elim, ℕ, List, Option, Some, Result, Ok, Err, IfSome, ap, ◌∙◌, arith}
 use Rattle.std.specs.Prelude.{IfOk, take, ◌++◌}
 use Rattle.wp_model.specs.declared.memory.NoMemory.{NoMemory}
 use Rattle.core_model.specs.Schedule.{Schedule, schedule_of, clients_grammar, first_event_words}
 use Rattle.writepath_top.specs.declared.reading.ReadError.{ReadError}
 use Rattle.writepath_top.specs.declared.reading.ReadError.TheVariants as read
 use Rattle.writepath_top.specs.declared.replaying.Replayed.{Replayed}
+use Rattle.writepath_top.specs.declared.replaying.ReplayOptions.{ReplayOptions}
 use Rattle.writepath_top.specs.declared.telling.Status.{Status}
 use Rattle.writepath_top.specs.declared.telling.Status.TheVariants as status
 use Rattle.writepath_top.specs.Reading.{IsScheduleError}
 use Rattle.writepath_top.specs.Replays.{ShowsReplayed, replayed_of, TellsText, Replays, ReplaysFront}
 use Rattle.writepath_top.specs.Telling.{code, TellsReadError, TellsReplay}
-use Rattle.writepath_top.specs.Texts.{SaysTo, source_fault, IsReached}
+use Rattle.writepath_top.specs.Texts.{SaysTo, source_fault}
+use Rattle.one_client.specs.Counts.{IsReached}
 use Rattle.writepath_top.proofs.Endings.{refused_as}
 
-pub replays_whole : (s : Schedule) (found : Result Replayed NoMemory) (kf kfs n : ℕ) (given : Status) (left sold snew : Option (List ℕ)) → n ≡ code given
-    → IfSome left (λ text. schedule_of clients_grammar first_event_words text ≡ Ok s) → IfOk found (λ shown. ShowsReplayed shown (replayed_of s)) → TellsReplay sold snew kf kfs found given
-    → TellsText left sold snew (λ text before after. n ≡ 0 → Replays before after text)
-replays_whole s (Ok shown) kf kfs n status.Done (Some text) (Some before) (Some after) is said shows tells =
-    λ zero. record { schedule = s; said = said; printed = tells.2 ∙ ap (λ t. before ++ t) (tells.1 (replayed_of s) shows) }
-replays_whole s (Ok shown) kf kfs n given (Some text) (Some before) (Some after) is said shows tells = λ zero. absurd (omega (arith, is, zero))
-replays_whole s (Err why) kf kfs n given (Some text) (Some before) (Some after) is said shows tells = λ zero. absurd (let a : n ≡ 6 = is ∙ ap code tells.0 in omega (arith, a, zero))
-replays_whole s found kf kfs n given left sold snew is said shows tells = tt
+pub replays_whole : (options : ReplayOptions) (s : Schedule) (found : Result Replayed NoMemory) (kf kfs n : ℕ) (given : Status) (left sold snew : Option (List ℕ)) → n ≡ code given
+    → IfSome left (λ text. schedule_of clients_grammar first_event_words text ≡ Ok s) → IfOk found (λ shown. ShowsReplayed shown (replayed_of options s)) → TellsReplay sold snew kf kfs found given
+    → TellsText left sold snew (λ text before after. n ≡ 0 → Replays options before after text)
+replays_whole options s (Ok shown) kf kfs n status.Done (Some text) (Some before) (Some after) is said shows tells =
+    λ zero. record { schedule = s; said = said; printed = tells.2 ∙ ap (λ t. before ++ t) (tells.1 (replayed_of options s) shows) }
+replays_whole options s (Ok shown) kf kfs n given (Some text) (Some before) (Some after) is said shows tells = λ zero. absurd (omega (arith, is, zero))
+replays_whole options s (Err why) kf kfs n given (Some text) (Some before) (Some after) is said shows tells = λ zero. absurd (let a : n ≡ 6 = is ∙ ap code tells.0 in omega (arith, a, zero))
+replays_whole options s found kf kfs n given left sold snew is said shows tells = tt
 
-pub replays_front : (s : Schedule) (found : Result Replayed NoMemory) (kf kfs n : ℕ) (given : Status) (left sold snew : Option (List ℕ)) → n ≡ code given
-    → IfSome left (λ text. schedule_of clients_grammar first_event_words text ≡ Ok s) → IfOk found (λ shown. ShowsReplayed shown (replayed_of s)) → TellsReplay sold snew kf kfs found given
-    → TellsText left sold snew (λ text before after. n ≡ 5 → ReplaysFront before after text)
-replays_front s (Ok shown) kf kfs n status.Sink (Some text) (Some before) (Some after) is said shows tells =
-    λ five. record { schedule = s; said = said; printed = (tells.3, tells.4 ∙ ap (λ t. before ++ take tells.3 t) (tells.2 (replayed_of s) shows)) }
-replays_front s (Ok shown) kf kfs n given (Some text) (Some before) (Some after) is said shows tells = λ five. absurd (omega (arith, is, five))
-replays_front s (Err why) kf kfs n given (Some text) (Some before) (Some after) is said shows tells = λ five. absurd (let a : n ≡ 6 = is ∙ ap code tells.0 in omega (arith, a, five))
-replays_front s found kf kfs n given left sold snew is said shows tells = tt
+pub replays_front : (options : ReplayOptions) (s : Schedule) (found : Result Replayed NoMemory) (kf kfs n : ℕ) (given : Status) (left sold snew : Option (List ℕ)) → n ≡ code given
+    → IfSome left (λ text. schedule_of clients_grammar first_event_words text ≡ Ok s) → IfOk found (λ shown. ShowsReplayed shown (replayed_of options s)) → TellsReplay sold snew kf kfs found given
+    → TellsText left sold snew (λ text before after. n ≡ 5 → ReplaysFront options before after text)
+replays_front options s (Ok shown) kf kfs n status.Sink (Some text) (Some before) (Some after) is said shows tells =
+    λ five. record { schedule = s; said = said; printed = (tells.3, tells.4 ∙ ap (λ t. before ++ take tells.3 t) (tells.2 (replayed_of options s) shows)) }
+replays_front options s (Ok shown) kf kfs n given (Some text) (Some before) (Some after) is said shows tells = λ five. absurd (omega (arith, is, five))
+replays_front options s (Err why) kf kfs n given (Some text) (Some before) (Some after) is said shows tells = λ five. absurd (let a : n ≡ 6 = is ∙ ap code tells.0 in omega (arith, a, five))
+replays_front options s found kf kfs n given left sold snew is said shows tells = tt
 
 pub replay_silent : (found : Result Replayed NoMemory) (kf kfs n : ℕ) (given : Status) (sold snew : Option (List ℕ)) → n ≡ code given → TellsReplay sold snew kf kfs found given → n ≡ 6 → snew ≡ sold
 replay_silent (Ok shown) kf kfs n status.Memory sold snew is tells six = tells

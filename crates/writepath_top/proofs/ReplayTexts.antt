@@ -1,17 +1,14 @@
 -- What a replay's values show has the text of what the schedule came to.
-use Rattle.std.proofs.Common.{◌≡◌, ℕ, suc, ◌+◌, List, [], ◌∷◌, ◌++◌, length, map, Vec, refl, ap, sym, ◌∙◌}
+use Rattle.std.proofs.Common.{◌≡◌, ℕ, ◌+◌, List, [], ◌∷◌, ◌++◌, map, refl, ap, ◌∙◌}
 use Rattle.std.specs.Prelude.{flat_map, decimal, codes}
-use Rattle.std.specs.List.{AllZip, enumerate_from}
-use Rattle.std.specs.declared.alloc.Global.{Global}
+use Rattle.std.specs.List.{enumerate_from}
 use Rattle.wp_model.specs.Calls as calls
-use Rattle.wp_model.specs.Text.{line, reply_text, client_text, clients_text, history_text, state_text}
-use Rattle.core_model.specs.Core.{Client, published_map}
+use Rattle.wp_model.specs.Text.{line, reply_text, client_text, clients_text}
+use Rattle.core_model.specs.Core.{Client}
 use Rattle.core_model.specs.Step.{Replayed}
 use Rattle.core_model.specs.ReplayText.{replay_text}
-use Rattle.writepath_top.specs.declared.outcome.Reply.{Reply}
 use Rattle.writepath_top.specs.declared.replaying.Replayed as values
-use Rattle.writepath_top.specs.Shows.{ShowsReply}
-use Rattle.writepath_top.specs.ShownText.{clients_lines, counts_line, history_lines, shown_replayed_text}
+use Rattle.writepath_top.specs.ShownText.{clients_lines, shown_replayed_text}
 use Rattle.writepath_top.specs.Replays.{ShowsReplayed, with_lines}
 use Rattle.writepath_top.proofs.Shown.{clients_shown, history_shown}
 

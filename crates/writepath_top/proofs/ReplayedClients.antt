@@ -18,14 +18,14 @@ use Rattle.core_model.specs.Core.{Options, Client, State}
 use Rattle.core_model.specs.Replies.{AreRight, AreRepliesOf, IsAnswered, IsHandled, MayReply, Gets}
 use Rattle.core_laws.proofs.Histories.{history_rises, history_front}
 use Rattle.client_script.specs.declared.script.Command.{Command}
-use Rattle.client_script.specs.declared.script.Command.TheVariants.{Put, Commit, Get}
+use Rattle.client_script.specs.declared.script.Command.TheVariants.{Put, Delete, SingleDelete, Note, Clear, Commit, Get}
 use Rattle.client_script.specs.Scripts as scripts
 use Rattle.write_core.specs.declared.writer.CoreReply.{CoreReply}
 use Rattle.write_core.specs.declared.writer.CoreReply.TheVariants.{Accepted, Refused, ReadAt}
 use Rattle.write_core.specs.Maps.{map_up_to}
 use Rattle.write_core.specs.Mirrors.{AreReplies, answers_of}
-use Rattle.writepath_top.specs.declared.outcome.Reply.{Reply}
-use Rattle.writepath_top.specs.Shows.{ShowsReply}
+use Rattle.one_client.specs.declared.outcome.Reply.{Reply}
+use Rattle.one_client.specs.Shows.{ShowsReply}
 use Rattle.writepath_top.specs.Replays.{with_lines}
 use Rattle.writepath_top.specs.Replaying.{reply_by, first_reply, replies_by, next_reply, IsTranscript, AreTranscripts}
 
@@ -51,20 +51,24 @@ map_at start entries front at history up =
 -- what a command is answered with
 abbrev IsTold : List Entry → Command → calls.Reply → Type 0
 IsTold entries (Put key v) calls.quiet = ⊤
-IsTold entries Commit (calls.accepted a b records) = ⊤
-IsTold entries Commit (calls.refused why) = ⊤
+IsTold entries (Delete key) calls.quiet = ⊤
+IsTold entries (SingleDelete key) calls.quiet = ⊤
+IsTold entries (Note text) calls.quiet = ⊤
+IsTold entries Clear calls.quiet = ⊤
+IsTold entries (Commit how) (calls.accepted a b records) = ⊤
+IsTold entries (Commit how) (calls.refused why) = ⊤
 IsTold entries (Get key) (calls.found at v) = v ≡ value_at (map_up_to at entries) key
 IsTold entries x r = ⊥
 
-handled : (o : Options) (s : State) (before : List calls.Call) (how : WriteOptions) (r : calls.Reply) → IsHandled o s before how r → IsTold s.entries Commit r
+handled : (o : Options) (s : State) (before : List calls.Call) (how : WriteOptions) (r : calls.Reply) → IsHandled o s before how r → IsTold s.entries (Commit how) r
 handled o s before how (calls.accepted a b records) is = tt
 handled o s before how (calls.refused why) is = tt
 handled o s before how other is = absurd is
 
 committed : (o : Options) (s : State) (before : List calls.Call) (how : WriteOptions) (r : calls.Reply) (early : Option Refusal)
-    → MatchOption early (IsHandled o s before how r) (λ why. r ≡ calls.refused why) → IsTold s.entries Commit r
+    → MatchOption early (IsHandled o s before how r) (λ why. r ≡ calls.refused why) → IsTold s.entries (Commit how) r
 committed o s before how r None is = handled o s before how r is
-committed o s before how r (Some why) is = subst (IsTold s.entries Commit) (sym is) tt
+committed o s before how r (Some why) is = subst (IsTold s.entries (Commit how)) (sym is) tt
 
 got : (o : Options) (s : State) (before : List calls.Call) (key : List ℕ) (r : calls.Reply) → IsHistory o.start s.entries → Gets o s before key r → IsTold s.entries (Get key) r
 got o s before key (calls.found at v) history is = is.answer ∙ ap (λ m. value_at m key) (map_at o.start s.entries is.front at history is.is_front)
@@ -72,13 +76,21 @@ got o s before key other history is = absurd is
 
 told_of : (o : Options) (s : State) (before : List calls.Call) (x : Command) (r : calls.Reply) → IsHistory o.start s.entries → MayReply o s before (scripts.command_of x) r → IsTold s.entries x r
 told_of o s before (Put key v) r history may = subst (IsTold s.entries (Put key v)) (sym may) tt
-told_of o s before Commit r history may = committed o s before scripts.plain r (early_refusal o.batch_bytes false (batch_after before) scripts.plain) may
+told_of o s before (Delete key) r history may = subst (IsTold s.entries (Delete key)) (sym may) tt
+told_of o s before (SingleDelete key) r history may = subst (IsTold s.entries (SingleDelete key)) (sym may) tt
+told_of o s before (Note text) r history may = subst (IsTold s.entries (Note text)) (sym may) tt
+told_of o s before Clear r history may = subst (IsTold s.entries Clear) (sym may) tt
+told_of o s before (Commit how) r history may = committed o s before how r (early_refusal o.batch_bytes false (batch_after before) how) may
 told_of o s before (Get key) r history may = got o s before key r history may
 
 none_told : (entries : List Entry) (xs : List Command) → replies_by entries xs [] ≡ []
 none_told entries [] = refl
 none_told entries (Put key v ∷ xs) = none_told entries xs
-none_told entries (Commit ∷ xs) = none_told entries xs
+none_told entries (Delete key ∷ xs) = none_told entries xs
+none_told entries (SingleDelete key ∷ xs) = none_told entries xs
+none_told entries (Note text ∷ xs) = none_told entries xs
+none_told entries (Clear ∷ xs) = none_told entries xs
+none_told entries (Commit how ∷ xs) = none_told entries xs
 none_told entries (Get key ∷ xs) = none_told entries xs
 
 -- a call more, where the others are shown
@@ -87,12 +99,16 @@ one_shown : (entries : List Entry) (x : Command) (xs : List Command) (command : 
     → ((left : List CoreReply) → AreReplies left (answers_of cs) → AllZip ShowsReply (replies_by entries xs left) (with_lines cs))
     → AllZip ShowsReply (replies_by entries (x ∷ xs) told) (with_lines (record { command = command; reply = r } ∷ cs))
 one_shown entries (Put key v) xs command calls.quiet cs told is are rest = rest told are
-one_shown entries Commit xs command (calls.accepted a b records) cs (Accepted first last ∷ ts) is are rest = let e : (first ≡ a) × (last ≡ b) = are.0 in ((records, cc (e.0, e.1)), rest ts are.1)
-one_shown entries Commit xs command (calls.accepted a b records) cs (t ∷ ts) is are rest = absurd are.0
-one_shown entries Commit xs command (calls.accepted a b records) cs [] is are rest = absurd are
-one_shown entries Commit xs command (calls.refused why) cs (Refused w ∷ ts) is are rest = let e : w ≡ why = are.0 in (ap calls.refused (sym e), rest ts are.1)
-one_shown entries Commit xs command (calls.refused why) cs (t ∷ ts) is are rest = absurd are.0
-one_shown entries Commit xs command (calls.refused why) cs [] is are rest = absurd are
+one_shown entries (Delete key) xs command calls.quiet cs told is are rest = rest told are
+one_shown entries (SingleDelete key) xs command calls.quiet cs told is are rest = rest told are
+one_shown entries (Note text) xs command calls.quiet cs told is are rest = rest told are
+one_shown entries Clear xs command calls.quiet cs told is are rest = rest told are
+one_shown entries (Commit how) xs command (calls.accepted a b records) cs (Accepted first last ∷ ts) is are rest = let e : (first ≡ a) × (last ≡ b) = are.0 in ((records, cc (e.0, e.1)), rest ts are.1)
+one_shown entries (Commit how) xs command (calls.accepted a b records) cs (t ∷ ts) is are rest = absurd are.0
+one_shown entries (Commit how) xs command (calls.accepted a b records) cs [] is are rest = absurd are
+one_shown entries (Commit how) xs command (calls.refused why) cs (Refused w ∷ ts) is are rest = let e : w ≡ why = are.0 in (ap calls.refused (sym e), rest ts are.1)
+one_shown entries (Commit how) xs command (calls.refused why) cs (t ∷ ts) is are rest = absurd are.0
+one_shown entries (Commit how) xs command (calls.refused why) cs [] is are rest = absurd are
 one_shown entries (Get key) xs command (calls.found at v) cs (ReadAt n ∷ ts) is are rest =
     (subst (λ m. calls.found at v ≡ calls.found m (value_at (map_up_to m entries) key)) (sym are.0) (ap (calls.found at) is), rest ts are.1)
 one_shown entries (Get key) xs command (calls.found at v) cs (t ∷ ts) is are rest = absurd are.0

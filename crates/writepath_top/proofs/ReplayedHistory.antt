@@ -3,6 +3,7 @@ use Rattle.std.proofs.Common.{◌≡◌, ℕ, ◌+◌, ◌<◌, List, [], ◌∷
 use Rattle.std.specs.Prelude.{filter_map}
 use Rattle.std.specs.List.{AllZip}
 use Rattle.std.specs.Option.{option_map_or}
+use Rattle.std.proofs.lemmas.List.{take_more}
 use Rattle.std.proofs.lemmas.List.Elements.{filter_map-append}
 use Rattle.wp_model.specs.Batch.{Record}
 use Rattle.wp_model.specs.History as history
@@ -12,9 +13,8 @@ use Rattle.write_core.specs.declared.plan.PlanLine.TheVariants.{Put, Delete, Sin
 use Rattle.write_core.specs.declared.plan.ClientPlan.{ClientPlan}
 use Rattle.write_core.specs.declared.writer.CoreEntry.{CoreEntry}
 use Rattle.write_core.specs.Shown.{added_by_line, shown_entry}
-use Rattle.writepath_top.specs.Shows.{ShowsEntry}
+use Rattle.one_client.specs.Shows.{ShowsEntry}
 use Rattle.writepath_top.specs.Replaying.{entry_by}
-use Rattle.writepath_top.proofs.Loops.{item_more}
 
 entries_shown : (plans : List ClientPlan) (es : List CoreEntry) → AllZip ShowsEntry (map (entry_by plans) es) (map (shown_entry plans) es)
 entries_shown plans [] = tt
@@ -40,5 +40,5 @@ pub line_more : (lines : List PlanLine) (i : ℕ) (x : PlanLine) (old new : Cont
     → new ≡ option_map_or (added old) (added_by_line x) old → new.records ≡ filter_map added_by_line (take (i + 1) lines)
 line_more lines i x old new here is so_far e =
     let more : filter_map added_by_line (take (i + 1) lines) ≡ filter_map added_by_line (take i lines) ++ filter_map added_by_line (x ∷ []) =
-    ap (filter_map added_by_line) (item_more lines i x here is) ∙ filter_map-append added_by_line (take i lines) (x ∷ []) in
+    ap (filter_map added_by_line) (take_more lines i x here ∙ ap (λ y. take i lines ++ y ∷ []) (sym is)) ∙ filter_map-append added_by_line (take i lines) (x ∷ []) in
     ap (λ (b : Contents). b.records) e ∙ line_added old x ∙ ap (λ (rs : List Record). rs ++ filter_map added_by_line (x ∷ [])) so_far ∙ sym more

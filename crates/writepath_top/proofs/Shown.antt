@@ -6,11 +6,11 @@ use Rattle.std.specs.declared.alloc.Global.{Global}
 use Rattle.wp_model.specs.History as history
 use Rattle.wp_model.specs.Calls as calls
 use Rattle.wp_model.specs.Text.{line, reply_text, client_text, entry_text, history_text, outcome_text}
-use Rattle.writepath_top.specs.declared.outcome.Reply.{Reply}
-use Rattle.writepath_top.specs.declared.outcome.Reply.TheVariants.{Quiet, Accepted, Refused, Found, NoMemory}
-use Rattle.writepath_top.specs.declared.outcome.Entry.{Entry}
-use Rattle.writepath_top.specs.declared.outcome.Outcome.{Outcome}
-use Rattle.writepath_top.specs.Shows.{ShowsReply, ShowsReplies, ShowsEntry, ShowsOutcome}
+use Rattle.one_client.specs.declared.outcome.Reply.{Reply}
+use Rattle.one_client.specs.declared.outcome.Reply.TheVariants.{Quiet, Accepted, Refused, Found, NoMemory}
+use Rattle.one_client.specs.declared.outcome.Entry.{Entry}
+use Rattle.one_client.specs.declared.outcome.Outcome.{Outcome}
+use Rattle.one_client.specs.Shows.{ShowsReply, ShowsReplies, ShowsEntry, ShowsOutcome}
 use Rattle.writepath_top.specs.ShownText.{reply_line, client_lines, entry_line, history_lines, shown_text}
 
 reply_shown : (r : Reply) (c : calls.Call) → ShowsReply r c → reply_line r ≡ reply_text c.reply

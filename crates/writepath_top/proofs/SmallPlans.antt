@@ -1,44 +1,50 @@
--- The batches of a script of 16,384 bytes are small enough for the core, even if none is accepted.
-use Rattle.std.proofs.Common.{◌≡◌, ℕ, ◌+◌, ◌*◌, ◌≤◌, List, [], ◌∷◌, ◌++◌, length, map, sum_by, Vec, sym, subst, arith}
-use Rattle.std.specs.declared.alloc.Global.{Global}
+-- The batches of a script all of whose additions fit one are small enough for the core, even if no commit is accepted.
+use Rattle.std.proofs.Common.{◌≡◌, ◌+◌, ◌≤◌, List, [], ◌∷◌, ◌++◌, length, ap, sym, ◌∙◌, subst, arith, append-nil, length-append}
 use Rattle.std.specs.List.{AllByRecursion}
-use Rattle.std.proofs.lemmas.List.Sums.{sum_by-append}
-use Rattle.wp_model.specs.Batch.{Record, value, size_of_batch, record_bytes}
-use Rattle.client_script.specs.declared.script.Command.{Command}
-use Rattle.client_script.specs.declared.script.Command.TheVariants.{Put, Commit, Get}
-use Rattle.client_script.specs.Scripts.{command_of, line_len, lines_len}
+use Rattle.std.proofs.lemmas.Grind.{flat_map-append}
+use Rattle.wp_model.specs.Batch.{Record, count_of, header, body, record_bytes, size_of_batch}
+use Rattle.wp_model.specs.Calls.{Command, add, clear, commit, get, many, scan, stop, unstop, slow, unslow}
+use Rattle.client_script.specs.declared.script.Script.{Script}
+use Rattle.client_script.specs.Scripts as scripts
+use Rattle.client_script.specs.Scripts.{additions_of, FitsBatches}
 use Rattle.write_core.specs.declared.plan.ClientPlan.{ClientPlan}
 use Rattle.write_core.specs.Shown.{commands_of, plans_of}
 use Rattle.write_core.specs.Small.{AreSmall, IsSmallPlan}
-use Rattle.writepath_top.proofs.Sizes.{size_more, value_len, varint_five}
 
-lines_behind : (c : Command) (cs : List Command) → lines_len (c ∷ cs) ≡ line_len c + lines_len cs
-lines_behind c cs = omega (arith, sum_by-append line_len (c ∷ []) cs)
+size_is : (records : List Record) → size_of_batch records ≡ 12 + length (body records)
+size_is records = length-append (header 0 (count_of records)) (body records)
 
-value_small : (key v : List ℕ) → length (record_bytes (value key v)) ≤ 2 * line_len (Put key v)
-value_small key v = omega (arith, value_len key v, varint_five (length key), varint_five (length v))
+body_more : (records : List Record) (r : Record) → length (body (records ++ r ∷ [])) ≡ length (body records) + length (record_bytes r)
+body_more records r =
+    ap length (flat_map-append record_bytes records (r ∷ []) ∙ ap (λ bytes. body records ++ bytes) (append-nil (record_bytes r))) ∙ length-append (body records) (record_bytes r)
 
--- a batch of at most twice the bytes of the lines so far, and the lines that are left
-pub small_commands : (cs : List Command) (added : List Record) (lines : ℕ) → size_of_batch added ≤ 12 + 2 * lines → lines + lines_len cs ≤ 16385 → AreSmall added (map command_of cs)
-small_commands [] added lines small few = tt
-small_commands (Put key v ∷ cs) added lines small few =
-    let behind = lines_behind (Put key v) cs in
-    let more = size_more added (value key v) in
-    let line = value_small key v in
-    small_commands cs (added ++ value key v ∷ []) (lines + line_len (Put key v)) (omega (arith, small, more, line)) (omega (arith, few, behind))
-small_commands (Commit ∷ cs) added lines small few =
-    let behind = lines_behind Commit cs in
-    (omega (arith, small, few), small_commands cs added lines small (omega (arith, few, behind)))
-small_commands (Get key ∷ cs) added lines small few =
-    let behind = lines_behind (Get key) cs in
-    small_commands cs added lines small (omega (arith, few, behind))
+-- a batch, and the additions that are left
+small_commands : (cs : List Command) (added : List Record) → size_of_batch added + length (body (additions_of cs)) ≤ 16777216 → AreSmall added cs
+small_commands [] added fits = tt
+small_commands (add r ∷ cs) added fits =
+    let both = length-append (record_bytes r) (body (additions_of cs)) in
+    small_commands cs (added ++ r ∷ []) (omega (arith, fits, both, size_is added, size_is (added ++ r ∷ []), body_more added r))
+small_commands (clear ∷ cs) added fits = small_commands cs [] (omega (arith, fits, size_is added, size_is []))
+small_commands (commit how ∷ cs) added fits = (omega (arith, fits), small_commands cs added fits)
+small_commands (get key ∷ cs) added fits = small_commands cs added fits
+small_commands (many keys ∷ cs) added fits = small_commands cs added fits
+small_commands (scan lo hi ∷ cs) added fits = small_commands cs added fits
+small_commands (stop ∷ cs) added fits = small_commands cs added fits
+small_commands (unstop ∷ cs) added fits = small_commands cs added fits
+small_commands (slow rate ∷ cs) added fits = small_commands cs added fits
+small_commands (unslow ∷ cs) added fits = small_commands cs added fits
 
--- the same of all clients of a script
-pub small_plans : (plans : List ClientPlan) (clients : List (Vec Command Global)) → plans_of plans ≡ map (λ cs. map command_of cs.items) clients → sum_by (λ cs. lines_len cs.items) clients ≤ 16385 → AllByRecursion IsSmallPlan plans
-small_plans [] clients same few = tt
-small_plans (p ∷ plans) [] same few = absurd (cc same)
-small_plans (p ∷ plans) (c ∷ clients) same few =
-    let here : commands_of p ≡ map command_of c.items = cc same in
-    let there : plans_of plans ≡ map (λ cs. map command_of cs.items) clients = cc same in
-    let both = sum_by-append (λ (cs : Vec Command Global). lines_len cs.items) (c ∷ []) clients in
-    (subst (AreSmall []) (sym here) (small_commands c.items [] 0 (omega arith) (omega (arith, few, both))), small_plans plans clients there (omega (arith, few, both)))
+-- all that these commands add fits one batch
+abbrev Fit : List Command → Type 0
+Fit cs = size_of_batch (additions_of cs) ≤ 16777216
+
+one_small : (cs : List Command) → Fit cs → AreSmall [] cs
+one_small cs fits = small_commands cs [] (omega (arith, fits, size_is (additions_of cs), size_is []))
+
+all_small : (plans : List ClientPlan) → AllByRecursion Fit (plans_of plans) → AllByRecursion IsSmallPlan plans
+all_small [] fit = tt
+all_small (p ∷ plans) fit = (one_small (commands_of p) fit.0, all_small plans fit.1)
+
+-- the plans of a script's clients
+pub small_plans : (plans : List ClientPlan) (script : Script) → plans_of plans ≡ scripts.commands_of script → FitsBatches script → AllByRecursion IsSmallPlan plans
+small_plans plans script same fit = all_small plans (subst (AllByRecursion Fit) (sym same) fit)

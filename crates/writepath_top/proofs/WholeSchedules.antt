@@ -1,23 +1,23 @@
 -- A text that is a script with a schedule was read to its end.
-use Rattle.std.proofs.Common.{◌≡◌, ℕ, ◌≤◌, ◌+◌, Bool, true, false, cond, nat_lt, List, [], ◌++◌, length, Option, Some, None, Ok, Err, IfSome, refl, ap, ◌∙◌, arith, append-nil}
+use Rattle.std.proofs.Common.{◌≡◌, ℕ, ◌≤◌, Bool, true, false, cond, nat_lt, List, [], ◌++◌, length, Option, Some, None, Ok, Err, IfSome, refl, ap, ◌∙◌, arith, append-nil}
 use Rattle.std.proofs.lemmas.Bool.{ltb-false}
 use Rattle.wp_model.specs.declared.script.ScriptFault.TheVariants.{Long}
 use Rattle.core_model.specs.Schedule as model
 use Rattle.core_model.specs.Schedule.{schedule_of, clients_grammar, first_event_words, lines_read, finished}
 use Rattle.client_script.specs.declared.schedule.Schedule.{Schedule}
 use Rattle.client_script.specs.Schedules as parsed
-use Rattle.client_script.specs.Scripts.{script_len, HasShortWords}
+use Rattle.client_script.specs.Scripts.{FitsBatches, HasShortWords}
 use Rattle.writepath_top.specs.Reading.{HasRead, HasSchedule}
 
 -- a longer text has a fault
-said_len : (text : List ℕ) (s : model.Schedule) → schedule_of clients_grammar first_event_words text ≡ Ok s → length text ≤ 16384
-said_len text s e = by_test (nat_lt 16384 (length text)) refl e
+said_len : (text : List ℕ) (s : model.Schedule) → schedule_of clients_grammar first_event_words text ≡ Ok s → length text ≤ 16777216
+said_len text s e = by_test (nat_lt 16777216 (length text)) refl e
   where
-    by_test : (b : Bool) → nat_lt 16384 (length text) ≡ b → cond b (Err (record { line = 0; kind = Long })) (finished (lines_read clients_grammar first_event_words text)) ≡ Ok s → length text ≤ 16384
+    by_test : (b : Bool) → nat_lt 16777216 (length text) ≡ b → cond b (Err (record { line = 0; kind = Long })) (finished (lines_read clients_grammar first_event_words text)) ≡ Ok s → length text ≤ 16777216
     by_test true is e = absurd (cc e)
-    by_test false is e = let a = ltb-false 16384 (length text) is in omega (arith, a)
+    by_test false is e = let a = ltb-false 16777216 (length text) is in omega (arith, a)
 
-whole : (old new : Option (List ℕ)) (text : List ℕ) (s : model.Schedule) → HasRead old new text → length text ≤ 16384 → schedule_of clients_grammar first_event_words text ≡ Ok s
+whole : (old new : Option (List ℕ)) (text : List ℕ) (s : model.Schedule) → HasRead old new text → length text ≤ 16777216 → schedule_of clients_grammar first_event_words text ≡ Ok s
     → IfSome old (λ t. schedule_of clients_grammar first_event_words t ≡ Ok s)
 whole None new text s has short e = tt
 whole (Some xs) None text s has short e = absurd has.consumed
@@ -27,13 +27,13 @@ whole (Some xs) (Some ys) text s has short e =
     ap (schedule_of clients_grammar first_event_words) same ∙ e
 
 pub has_schedule : (old new : Option (List ℕ)) (text : List ℕ) (s : Schedule) → HasRead old new text → schedule_of clients_grammar first_event_words text ≡ Ok (parsed.schedule_of s)
-    → (1 ≤ length s.script.clients.items) × (length s.script.clients.items ≤ 16) → script_len s.script ≤ length text + 1 → HasShortWords s.script → HasSchedule old new s
-has_schedule old new text s has e clients small words =
+    → (1 ≤ length s.script.clients.items) × (length s.script.clients.items ≤ 16) → FitsBatches s.script → HasShortWords s.script → HasSchedule old new s
+has_schedule old new text s has e clients fits words =
     let short = said_len text (parsed.schedule_of s) e in
     record {
       said = whole old new text (parsed.schedule_of s) has short e;
       ended = has.whole short;
       clients = clients;
-      small = omega (arith, small, short);
+      fits = fits;
       words = words;
     }

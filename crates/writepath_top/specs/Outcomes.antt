@@ -5,10 +5,11 @@ use Rattle.wp_edge.specs.Disk.{Disk, IsImage}
 use Rattle.wp_model.specs.Calls as calls
 use Rattle.wp_model.specs.Text.{outcome_text}
 use Rattle.wp_model.specs.Runs.{NoneWithoutMemory}
-use Rattle.writepath_top.specs.Running.{Setting, IsLegalOf, LeavesLog}
-use Rattle.writepath_top.specs.Crashes.{IsCrashSafe}
-use Rattle.writepath_top.specs.Refusals.{OnlyEmptyIsRefused}
-use Rattle.writepath_top.specs.Texts.{Prints, PrintsFront, Says, disk_fault, IsReached, Untouched}
+use Rattle.one_client.specs.Running.{Setting, IsLegalOf, LeavesLog}
+use Rattle.one_client.specs.Crashes.{IsCrashSafe}
+use Rattle.one_client.specs.Refusals.{AreRefusedForThemselves}
+use Rattle.writepath_top.specs.Texts.{Prints, PrintsFront, Says, disk_fault, Untouched}
+use Rattle.one_client.specs.Counts.{IsReached}
 
 -- What the devices tell of a call, where they do: the source's bytes, the sink's before and after it, the disk before and after it.
 abbrev pub Tells : Option (List ℕ) → Option (List ℕ) → Option (List ℕ) → Option Disk → Option Disk → (List ℕ → List ℕ → List ℕ → Disk → Disk → Type 0) → Type 0
@@ -22,13 +23,13 @@ pub record IsOutcome (setting : Setting) (opened ended : Disk) (o : calls.Outcom
   pub log : LeavesLog o opened ended
   pub crash : IsCrashSafe legal.handled o log.groups ended.content setting.left (IsImage ended)
 
--- status 0: it was printed, no write of the log failed, only empty batches were refused, and no client ran out of memory
+-- status 0: it was printed, no write of the log failed, commits were refused for themselves alone, and no client ran out of memory
 pub record RanWhole (setting : Setting) (before after : List ℕ) (opened ended : Disk) : Type 0 where
   pub outcome : calls.Outcome
   pub is_outcome : IsOutcome setting opened ended outcome
   pub printed : Prints before after (outcome_text outcome)
   pub no_fault : outcome.fault ≡ None
-  pub taken : AllByRecursion OnlyEmptyIsRefused outcome.transcripts
+  pub taken : AllByRecursion AreRefusedForThemselves outcome.transcripts
   pub whole : AllByRecursion NoneWithoutMemory outcome.transcripts
 
 -- status 3, where the log was opened: it was printed, and a write of the log failed
@@ -50,14 +51,14 @@ pub record RanToSinkFault (setting : Setting) (before after : List ℕ) (opened 
   pub outcome : calls.Outcome
   pub is_outcome : IsOutcome setting opened ended outcome
   pub printed : PrintsFront before after (outcome_text outcome)
-  pub taken : outcome.fault ≡ None → AllByRecursion OnlyEmptyIsRefused outcome.transcripts
+  pub taken : outcome.fault ≡ None → AllByRecursion AreRefusedForThemselves outcome.transcripts
 
 -- status 6: nothing was taken, and there is an outcome all the same if the log was opened
 pub record RanSilent (setting : Setting) (before after : List ℕ) (opened ended : Disk) : Type 0 where
   pub outcome : calls.Outcome
   pub is_outcome : IsOutcome setting opened ended outcome
   pub nothing : after ≡ before
-  pub taken : outcome.fault ≡ None → AllByRecursion OnlyEmptyIsRefused outcome.transcripts
+  pub taken : outcome.fault ≡ None → AllByRecursion AreRefusedForThemselves outcome.transcripts
 
 -- or clients alone ran out of memory
 pub record RanShort (setting : Setting) (before after : List ℕ) (opened ended : Disk) : Type 0 where
@@ -65,7 +66,7 @@ pub record RanShort (setting : Setting) (before after : List ℕ) (opened ended 
   pub is_outcome : IsOutcome setting opened ended outcome
   pub printed : Prints before after (outcome_text outcome)
   pub no_fault : outcome.fault ≡ None
-  pub taken : AllByRecursion OnlyEmptyIsRefused outcome.transcripts
+  pub taken : AllByRecursion AreRefusedForThemselves outcome.transcripts
 
 abbrev pub RanOutOfMemory : Setting → List ℕ → List ℕ → Disk → Disk → Type 0
 RanOutOfMemory setting before after opened ended =

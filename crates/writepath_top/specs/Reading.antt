@@ -8,14 +8,14 @@ use Rattle.client_script.specs.declared.script.Script as script
 use Rattle.client_script.specs.declared.schedule.Schedule.{Schedule}
 use Rattle.client_script.specs.Schedules.{schedule_of}
 use Rattle.core_model.specs.Schedule as schedules
-use Rattle.client_script.specs.Scripts.{commands_of, script_len, HasShortWords}
-use Rattle.writepath_top.specs.Texts.{IsReached}
+use Rattle.client_script.specs.Scripts.{commands_of, FitsBatches, HasShortWords}
+use Rattle.one_client.specs.Counts.{IsReached}
 
--- it was read to its end, or to one byte past the limit of 16,384
+-- it was read to its end, or to one byte past the limit of 16,777,216
 pub record HasRead (old new : Option (List ℕ)) (text : List ℕ) : Type 0 where
   pub consumed : Consumes old new text
-  pub whole : length text ≤ 16384 → IsAtEnd new
-  pub at_most : length text ≤ 16385
+  pub whole : length text ≤ 16777216 → IsAtEnd new
+  pub at_most : length text ≤ 16777217
 
 -- a fault of the source, or no memory
 abbrev pub IsReadError : ℕ → ℕ → ReadError → Type 0
@@ -25,16 +25,16 @@ IsReadError before now NoMemory = Unit {0}
 
 -- the source had just this script, of one client
 pub record HasScript (old new : Option (List ℕ)) (s : script.Script) : Type 0 where
-  pub said : IfSome old (λ text. model.script_of model.first_grammar text ≡ Ok (commands_of s))
+  pub said : IfSome old (λ text. model.script_of model.run_grammar text ≡ Ok (commands_of s))
   pub ended : IsAtEnd new
   pub one : length s.clients.items ≡ 1
-  pub small : script_len s ≤ 16385
+  pub fits : FitsBatches s
   pub words : HasShortWords s
 
 -- no script: a fault of the source, another text, or no memory
 abbrev pub IsScriptError : Option (List ℕ) → ℕ → ℕ → ReadError → Type 0
 IsScriptError old before now (Fault count) = IsReached before count now
-IsScriptError old before now (Script line kind) = IfSome old (λ text. model.script_of model.first_grammar text ≡ Err (record { line = line; kind = kind }))
+IsScriptError old before now (Script line kind) = IfSome old (λ text. model.script_of model.run_grammar text ≡ Err (record { line = line; kind = kind }))
 IsScriptError old before now NoMemory = Unit {0}
 
 -- the source had just this script, of one to sixteen clients, and its schedule
@@ -42,7 +42,7 @@ pub record HasSchedule (old new : Option (List ℕ)) (s : Schedule) : Type 0 whe
   pub said : IfSome old (λ text. schedules.schedule_of schedules.clients_grammar schedules.first_event_words text ≡ Ok (schedule_of s))
   pub ended : IsAtEnd new
   pub clients : (1 ≤ length s.script.clients.items) × (length s.script.clients.items ≤ 16)
-  pub small : script_len s.script ≤ 16385
+  pub fits : FitsBatches s.script
   pub words : HasShortWords s.script
 
 abbrev pub IsScheduleError : Option (List ℕ) → ℕ → ℕ → ReadError → Type 0

@@ -5,7 +5,7 @@ use Rattle.wp_model.specs.Map.{value_at}
 use Rattle.wp_model.specs.History as history
 use Rattle.core_model.specs.Core.{State, client_at}
 use Rattle.client_script.specs.declared.script.Command.{Command}
-use Rattle.client_script.specs.declared.script.Command.TheVariants.{Put, Commit, Get}
+use Rattle.client_script.specs.declared.script.Command.TheVariants.{Commit, Get}
 use Rattle.write_core.specs.declared.plan.ClientPlan.{ClientPlan}
 use Rattle.write_core.specs.declared.writer.CoreEntry.{CoreEntry}
 use Rattle.write_core.specs.declared.writer.CoreReply.{CoreReply}
@@ -13,17 +13,16 @@ use Rattle.write_core.specs.declared.writer.CoreReply.TheVariants.{Accepted, Ref
 use Rattle.write_core.specs.Maps.{map_up_to}
 use Rattle.write_core.specs.Mirrors.{AreReplies, answers_of}
 use Rattle.write_core.specs.Shown.{records_of}
-use Rattle.writepath_top.specs.declared.outcome.Reply.{Reply}
-use Rattle.writepath_top.specs.declared.outcome.Reply.TheVariants as reply
-use Rattle.writepath_top.specs.declared.outcome.Entry.{Entry}
+use Rattle.one_client.specs.declared.outcome.Reply.{Reply}
+use Rattle.one_client.specs.declared.outcome.Reply.TheVariants as reply
+use Rattle.one_client.specs.declared.outcome.Entry.{Entry}
 
 -- Replies
 
 -- a read is answered by the map at its sequence
 abbrev pub read_by : List history.Entry → ℕ → Command → Reply
 read_by entries at (Get key) = reply.Found at (value_at (map_up_to at entries) key)
-read_by entries at (Put key v) = reply.Quiet
-read_by entries at Commit = reply.Quiet
+read_by entries at other = reply.Quiet
 
 abbrev pub reply_by : List history.Entry → Command → CoreReply → Reply
 reply_by entries command (Accepted first last) = reply.Accepted first last
@@ -34,11 +33,11 @@ abbrev pub first_reply : List history.Entry → Command → List CoreReply → L
 first_reply entries command [] = []
 first_reply entries command (r ∷ rs) = reply_by entries command r ∷ []
 
--- the reply to the next command, if that has one by now: the first of those that are left
+-- the reply to the next command, if that has one by now: commits and reads alone have one, the first of those that are left
 abbrev pub next_reply : List history.Entry → List CoreReply → Command → List Reply
-next_reply entries told (Put key v) = []
-next_reply entries told Commit = first_reply entries Commit told
+next_reply entries told (Commit options) = first_reply entries (Commit options) told
 next_reply entries told (Get key) = first_reply entries (Get key) told
+next_reply entries told other = []
 
 -- commits and reads have these replies, in order
 abbrev pub replies_by : List history.Entry → List Command → List CoreReply → List Reply

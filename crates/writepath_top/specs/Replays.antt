@@ -6,17 +6,18 @@ use Rattle.core_model.specs.Core.{Options, Client, opened, published_map}
 use Rattle.core_model.specs.Step as core
 use Rattle.core_model.specs.Schedule.{Schedule, schedule_of, clients_grammar, first_event_words}
 use Rattle.core_model.specs.ReplayText.{replay_text}
+use Rattle.writepath_top.specs.declared.replaying.ReplayOptions.{ReplayOptions}
 use Rattle.writepath_top.specs.declared.replaying.Replayed.{Replayed}
-use Rattle.writepath_top.specs.Shows.{ShowsReply, ShowsEntry}
+use Rattle.one_client.specs.Shows.{ShowsReply, ShowsEntry}
 use Rattle.writepath_top.specs.Texts.{Prints, PrintsFront}
 
--- the core without options
-abbrev pub core_options : Options
-core_options = record { pipelined = false; group_bytes = 1048576; batch_bytes = 16777216; start = 0 }
+-- the core of a single stage with these options
+abbrev pub core_options : ReplayOptions → Options
+core_options o = record { pipelined = false; group_bytes = o.group_bytes; batch_bytes = o.batch_bytes; start = o.last }
 
 -- the schedule, run on it from its opening
-abbrev pub replayed_of : Schedule → core.Replayed
-replayed_of s = core.replay core_options (opened core_options s.script) s.events
+abbrev pub replayed_of : ReplayOptions → Schedule → core.Replayed
+replayed_of o s = core.replay (core_options o) (opened (core_options o) s.script) s.events
 
 -- a call that has a reply line: a commit or a read
 abbrev pub is_quiet : calls.Reply → Bool
@@ -37,16 +38,16 @@ pub record ShowsReplayed (shown : Replayed) (r : core.Replayed) : Type 0 where
   pub groups : length r.state.groups ≡ shown.groups
 
 -- status 0: the text of what the schedule came to was printed
-pub record Replays (before after text : List ℕ) : Type 0 where
+pub record Replays (options : ReplayOptions) (before after text : List ℕ) : Type 0 where
   pub schedule : Schedule
   pub said : schedule_of clients_grammar first_event_words text ≡ Ok schedule
-  pub printed : Prints before after (replay_text (replayed_of schedule))
+  pub printed : Prints before after (replay_text (replayed_of options schedule))
 
 -- status 5: a front of it was taken
-pub record ReplaysFront (before after text : List ℕ) : Type 0 where
+pub record ReplaysFront (options : ReplayOptions) (before after text : List ℕ) : Type 0 where
   pub schedule : Schedule
   pub said : schedule_of clients_grammar first_event_words text ≡ Ok schedule
-  pub printed : PrintsFront before after (replay_text (replayed_of schedule))
+  pub printed : PrintsFront before after (replay_text (replayed_of options schedule))
 
 -- the source's bytes, and the sink's before and after a call, where they are told
 abbrev pub TellsText : Option (List ℕ) → Option (List ℕ) → Option (List ℕ) → (List ℕ → List ℕ → List ℕ → Type 0) → Type 0

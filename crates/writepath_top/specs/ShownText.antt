@@ -6,15 +6,15 @@ use Rattle.wp_model.specs.Batch.{batch}
 use Rattle.wp_model.specs.Calls as calls
 use Rattle.wp_model.specs.declared.log.EndReason.{EndReason}
 use Rattle.wp_model.specs.Text.{line, hex, reply_text, flag_word, state_text, log_text, hex_word, end_words}
-use Rattle.writepath_top.specs.declared.outcome.Reply.{Reply}
-use Rattle.writepath_top.specs.declared.outcome.Reply.TheVariants.{Quiet, Accepted, Refused, Found, NoMemory}
-use Rattle.writepath_top.specs.declared.outcome.Entry.{Entry}
-use Rattle.writepath_top.specs.declared.outcome.Outcome.{Outcome}
+use Rattle.one_client.specs.declared.outcome.Reply.{Reply}
+use Rattle.one_client.specs.declared.outcome.Reply.TheVariants.{Quiet, Accepted, Refused, Found, NoMemory}
+use Rattle.one_client.specs.declared.outcome.Entry.{Entry}
+use Rattle.one_client.specs.declared.outcome.Outcome.{Outcome}
 use Rattle.wal_recover.specs.declared.kept.GroupNote.{GroupNote}
 use Rattle.wal_recover.specs.declared.recovery.Recovered.{Recovered}
 use Rattle.write_core.specs.declared.step.Counts.{Counts}
 use Rattle.writepath_top.specs.declared.replaying.Replayed.{Replayed}
-use Rattle.writepath_top.specs.Published.{pairs_of}
+use Rattle.one_client.specs.Published.{pairs_of}
 
 -- a reply as shown; its text doesn't tell the records
 abbrev pub shown_reply : Reply → calls.Reply

@@ -9,11 +9,11 @@ use Rattle.core_model.specs.Step as core
 use Rattle.core_model.specs.ReplayText.{replay_text}
 use Rattle.writepath_top.specs.declared.replaying.Replayed.{Replayed}
 use Rattle.writepath_top.specs.Replays.{ShowsReplayed}
-use Rattle.writepath_top.specs.declared.outcome.Outcome.{Outcome}
+use Rattle.one_client.specs.declared.outcome.Outcome.{Outcome}
 use Rattle.writepath_top.specs.declared.reading.ReadError.{ReadError}
 use Rattle.writepath_top.specs.declared.reading.ReadError.TheVariants as read
-use Rattle.writepath_top.specs.declared.running.End.{End}
-use Rattle.writepath_top.specs.declared.running.End.TheVariants as end
+use Rattle.one_client.specs.declared.running.End.{End}
+use Rattle.one_client.specs.declared.running.End.TheVariants as end
 use Rattle.writepath_top.specs.declared.telling.Status.{Status}
 use Rattle.writepath_top.specs.declared.telling.Status.TheVariants as status
 use Rattle.wal_recover.specs.declared.recovery.Recovered.{Recovered}
@@ -21,8 +21,8 @@ use Rattle.wal_recover.specs.declared.recovery.RecoverError.{RecoverError}
 use Rattle.wal_recover.specs.declared.recovery.RecoverError.TheVariants as none
 use Rattle.wp_model.specs.Recovery as recovery
 use Rattle.wal_recover.specs.Recovering.{ShowsRecovered}
-use Rattle.writepath_top.specs.Shows.{ShowsOutcome}
-use Rattle.writepath_top.specs.Running.{ran_short}
+use Rattle.one_client.specs.Shows.{ShowsOutcome}
+use Rattle.one_client.specs.Running.{ran_short}
 use Rattle.writepath_top.specs.Texts.{SaysTo, script_fault, source_fault, disk_fault, not_empty}
 
 -- the refusal's text was printed, or there was no memory for it and nothing was

@@ -9,7 +9,7 @@ use wp_edge::Source;
 use wp_model::ScriptFault;
 
 /// How many bytes are asked for in a call.
-const PIECE: usize = 4096;
+const PIECE: usize = 16_384;
 
 /// Why no script was read.
 #[derive(Clone, Copy, Debug, PartialEq, Eq)]

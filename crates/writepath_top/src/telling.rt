@@ -4,14 +4,13 @@ ghost use Rattle.std.specs.Prelude.{◌≡◌, ◌≤◌, IfOk, OnErr};
 ghost use Rattle.writepath_top.specs.Texts.{SaysTo};
 ghost use Rattle.writepath_top.specs.Telling.{TellsReadError, TellsEnd, TellsOutcome, TellsRecovery, TellsRecoverError, ShownEndsSo, TellsReplay, ReplayEndsSo, ran_status};
 
-use crate::outcome::Outcome;
 use crate::reading::ReadError;
 use crate::replaying::Replayed;
-use crate::running::End;
 use crate::text::{
     disk_fault, log_not_empty, outcome_text, recovered_text, replayed_text, script_fault,
     source_fault,
 };
+use one_client::{End, Outcome};
 use std::alloc::Global;
 use wal_recover::{RecoverError, Recovered};
 use wp_coding::Bytes;

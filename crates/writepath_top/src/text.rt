@@ -3,7 +3,7 @@
 ghost use Rattle.std.specs.Prelude.{◌≡◌, IfOk};
 ghost use Rattle.wp_model.specs.Calls as calls;
 ghost use Rattle.wp_model.specs.Text.{outcome_text};
-ghost use Rattle.writepath_top.specs.Shows.{ShowsOutcome};
+ghost use Rattle.one_client.specs.Shows.{ShowsOutcome};
 ghost use Rattle.wp_model.specs.Script as model;
 ghost use Rattle.writepath_top.specs.Texts as texts;
 
@@ -14,9 +14,9 @@ mod replayed;
 #[cfg(test)]
 mod tests;
 
-use crate::outcome::Outcome;
 use crate::text::lines::{put_line, put_numbers};
 use crate::text::parts::{put_clients, put_history, put_log, put_state};
+use one_client::Outcome;
 pub use recovered::recovered_text;
 pub use replayed::replayed_text;
 use std::alloc::Global;

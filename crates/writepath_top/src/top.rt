@@ -1,25 +1,25 @@
 //! The call that the program makes.
 
-ghost use Rattle.std.specs.Prelude.{◌≡◌, ◌≢◌, ◌⊎◌, ◌<◌, ℕ, [], ◌∷◌, length, Some, None, Ok, Err, IsNone, IfSome};
+ghost use Rattle.std.specs.Prelude.{◌≡◌, ◌≢◌, ◌⊎◌, ◌<◌, ℕ, [], ◌∷◌, length, Some, None, Ok, Err, IfSome};
 ghost use Rattle.wp_model.specs.Counts.{Rose};
-ghost use Rattle.wp_model.specs.Script.{Script, Fault, script_of, first_grammar};
-ghost use Rattle.writepath_top.specs.CommandLine.{asked_of};
+ghost use Rattle.wp_model.specs.Script.{Script, Fault, script_of, run_grammar};
+ghost use Rattle.writepath_top.specs.Asking.{AskNothing, AskToRun, AskToRecover, AskToReplay};
 ghost use Rattle.core_model.specs.Schedule.{Schedule, schedule_of, clients_grammar, first_event_words};
-ghost use Rattle.writepath_top.specs.declared.command_line.Asked.TheVariants.{Run, Recover, Replay};
 ghost use Rattle.writepath_top.specs.Recovers.{TellsDisk, Recovers, RecoversFront, RecoveryRefused};
-ghost use Rattle.writepath_top.specs.Texts.{SaysTo, IsReached, usage, script_fault, source_fault, not_empty};
-ghost use Rattle.writepath_top.specs.Crashes.{IsLeftSince};
+ghost use Rattle.writepath_top.specs.Texts.{SaysTo, usage, script_fault, source_fault, not_empty};
+ghost use Rattle.one_client.specs.Counts.{IsReached};
+ghost use Rattle.one_client.specs.Crashes.{IsLeftSince};
 ghost use Rattle.writepath_top.specs.Replays.{TellsText, Replays, ReplaysFront};
-ghost use Rattle.writepath_top.specs.Running.{setting_of};
+ghost use Rattle.one_client.specs.Running.{setting_of};
 ghost use Rattle.writepath_top.specs.Telling.{code};
 ghost use Rattle.writepath_top.specs.Outcomes.{Tells, RanWhole, RanToFault, DiskRefused, RanToSinkFault, RanOutOfMemory};
 
-use crate::command_line::{Asked, read_words};
 use crate::reading::{read_schedule, read_script};
-use crate::replaying::replay_schedule;
-use crate::running::{Executed, execute};
+use crate::replaying::{ReplayOptions, replay_schedule};
 use crate::telling::{Status, refuse, tell_end, tell_read_error, tell_recovery, tell_replay};
 use crate::text::usage;
+use command_line::{Asked, WordsError, read_words};
+use one_client::{Executed, RunOptions, execute};
 use std::alloc::Global;
 use wal_recover::recover;
 use wp_edge::{Clock, Disk, Sink, Source};
@@ -31,8 +31,8 @@ pub struct Ended<D> {
     /// | Status | Comes where | Text |
     /// |---|---|---|
     /// | 0 | none of the others; the script was read to its end | the outcome |
-    /// | 1 | the words aren't lawful | `usage` |
-    /// | 2 | the text isn't a script | `script LINE KIND` |
+    /// | 1 | the words aren't lawful, `--help` and `--version` among them | `usage` |
+    /// | 2 | the text isn't a script, or has no schedule under `replay` | `script LINE KIND` |
     /// | 3 | the disk failed | `disk fault COUNT`, or the outcome where the log was opened |
     /// | 4 | the source failed | `source fault COUNT` |
     /// | 5 | the sink failed | a front of the outcome |
@@ -44,10 +44,19 @@ pub struct Ended<D> {
 
 /// Does what the words ask for, over the log on a disk, and prints what came of it to a sink.
 ///
-/// The words are the program's name and a command. `run` reads the script of one client from the source to its end, runs it, and prints the outcome;
-/// the log must be empty. `recover` prints what the log recovers, and changes nothing. `replay` reads a script of 1 to 16 clients and a schedule of events
-/// behind it, runs the schedule on the write path's core, and prints what the clients were told, the history and the published state; it doesn't look at
-/// the disk. The disk comes back on every path.
+/// The words are the program's name, a command, and the command's options. `run` reads the script of one client from the source to its end, runs it, and
+/// prints the outcome; the log must be empty. A commit is refused for itself where its batch is empty or larger than `--batch-bytes`, where it is to be
+/// synced without the log, and where no sequences are left for it; else only a fault of the log refuses it. `recover` prints what the log recovers, and
+/// changes nothing. `replay` reads a script of 1 to 16 clients and a schedule of events behind it, runs the schedule on the write path's core, and prints
+/// what the clients were told, the history and the published state; it doesn't look at the disk. The disk comes back on every path.
+///
+/// | Option | Commands | Range | Without it | Meaning |
+/// |---|---|---|---|---|
+/// | `--batch-bytes` | `run`, `replay` | 12 to 16777216 | 16777216 | the most bytes of a batch |
+/// | `--group-bytes` | `replay` | 1 to 16777216 | 1048576 | the most bytes of a write group |
+/// | `--last` | `run`, `replay` | 0 to 2^56 - 1 | 0 | the sequence before the first batch |
+///
+/// A text has at most 16777216 bytes.
 pub fn run<S: Source, D: Disk + Send, K: Sink, C: Clock + Send + Drop>(
     alloc: Global,
     words: &[String],
@@ -57,26 +66,27 @@ pub fn run<S: Source, D: Disk + Send, K: Sink, C: Clock + Send + Drop>(
     _clock: C,
 ) -> Ended<D>
     ensures status { result.status < 8 }
-    ensures recovery_status { asked_of words.now ≡ Some Recover
+    ensures recovery_status { AskToRecover words.now
         → (result.status ≡ 0) ⊎ (result.status ≡ 3) ⊎ (result.status ≡ 5) ⊎ (result.status ≡ 6) }
 
-    ensures replay_status { asked_of words.now ≡ Some Replay
+    ensures replay_status { (options : ReplayOptions) → AskToReplay words.now options
         → (result.status ≡ 0) ⊎ (result.status ≡ 2) ⊎ (result.status ≡ 4) ⊎ (result.status ≡ 5) ⊎ (result.status ≡ 6) }
 
-    // 1: the words aren't lawful.
-    ensures words { result.status ≡ 1 → IsNone (asked_of words.now) }
-    ensures other_words { IsNone (asked_of words.now) → result.status ≡ 1 }
+    // 1: the words aren't lawful. For want of memory that isn't found out.
+    ensures words { result.status ≡ 1 → AskNothing words.now }
+    ensures other_words { AskNothing words.now → (result.status ≡ 1) ⊎ (result.status ≡ 6) }
+    ensures words_silent { AskNothing words.now → result.status ≡ 6 → K.taken sink.new ≡ K.taken sink.old }
 
     // 2: the text isn't a script; its first fault is told.
-    ensures script { asked_of words.now ≡ Some Run → result.status ≡ 2 → IfSome (S.left source.old) (λ text. (f : Fault) × (script_of first_grammar text ≡ Err f)
+    ensures script { (options : RunOptions) → AskToRun words.now options → result.status ≡ 2 → IfSome (S.left source.old) (λ text. (f : Fault) × (script_of run_grammar text ≡ Err f)
         × SaysTo (K.taken sink.old) (K.taken sink.new) (script_fault f) (K.faults sink.old) (K.faults sink.new)) }
-    ensures other_script { asked_of words.now ≡ Some Run → result.status ≢ 6 → (Rose (S.faults source.old) (S.faults source.new) → ⊥)
-        → IfSome (S.left source.old) (λ text. (f : Fault) → script_of first_grammar text ≡ Err f → result.status ≡ 2) }
+    ensures other_script { (options : RunOptions) → AskToRun words.now options → result.status ≢ 6 → (Rose (S.faults source.old) (S.faults source.new) → ⊥)
+        → IfSome (S.left source.old) (λ text. (f : Fault) → script_of run_grammar text ≡ Err f → result.status ≡ 2) }
 
-    ensures schedule { asked_of words.now ≡ Some Replay → result.status ≡ 2 → IfSome (S.left source.old) (λ text. (f : Fault)
+    ensures schedule { (options : ReplayOptions) → AskToReplay words.now options → result.status ≡ 2 → IfSome (S.left source.old) (λ text. (f : Fault)
         × (schedule_of clients_grammar first_event_words text ≡ Err f)
         × SaysTo (K.taken sink.old) (K.taken sink.new) (script_fault f) (K.faults sink.old) (K.faults sink.new)) }
-    ensures other_schedule { asked_of words.now ≡ Some Replay → result.status ≢ 6 → (Rose (S.faults source.old) (S.faults source.new) → ⊥)
+    ensures other_schedule { (options : ReplayOptions) → AskToReplay words.now options → result.status ≢ 6 → (Rose (S.faults source.old) (S.faults source.new) → ⊥)
         → IfSome (S.left source.old) (λ text. (f : Fault) → schedule_of clients_grammar first_event_words text ≡ Err f → result.status ≡ 2) }
 
     // 3 to 5: a device failed in this call.
@@ -86,12 +96,14 @@ pub fn run<S: Source, D: Disk + Send, K: Sink, C: Clock + Send + Drop>(
 
     // 7: the log isn't empty. Then no other status follows the script, a fault of the disk and want of memory aside.
     ensures not_empty { result.status ≡ 7 → IfSome (D.told disk) (λ d. 0 < length d.content) }
-    ensures empty { asked_of words.now ≡ Some Run → IfSome (D.told disk) (λ d. 0 < length d.content → (result.status ≢ 0) × (result.status ≢ 5)) }
+    ensures empty { (options : RunOptions) → AskToRun words.now options → IfSome (D.told disk) (λ d. 0 < length d.content → (result.status ≢ 0) × (result.status ≢ 5)) }
 
-    // A refusal touches no device whose turn comes later, and leaves the disk as it was. So does recovery. A schedule never comes to the disk.
-    ensures source_untouched { (result.status ≡ 1) ⊎ (asked_of words.now ≡ Some Recover) → source.new ≡ source.old }
-    ensures disk_untouched { (result.status ≡ 1) ⊎ (result.status ≡ 2) ⊎ (result.status ≡ 4) ⊎ (asked_of words.now ≡ Some Replay) → result.disk ≡ disk }
-    ensures disk_as_before { (result.status ≡ 7) ⊎ (asked_of words.now ≡ Some Recover) → D.told result.disk ≡ D.told disk }
+    // A refusal touches no device whose turn comes later, and leaves the disk as it was. So does recovery. Unlawful words and a schedule never come to
+    // the disk.
+    ensures source_untouched { AskNothing words.now ⊎ AskToRecover words.now → source.new ≡ source.old }
+    ensures disk_untouched { AskNothing words.now ⊎ (result.status ≡ 2) ⊎ (result.status ≡ 4) → result.disk ≡ disk }
+    ensures disk_unasked { (options : ReplayOptions) → AskToReplay words.now options → result.disk ≡ disk }
+    ensures disk_as_before { (result.status ≡ 7) ⊎ AskToRecover words.now → D.told result.disk ≡ D.told disk }
 
     // The texts of the refusals, of which a sink that fails takes a front.
     ensures says_usage { result.status ≡ 1 →
@@ -102,79 +114,93 @@ pub fn run<S: Source, D: Disk + Send, K: Sink, C: Clock + Send + Drop>(
         SaysTo (K.taken sink.old) (K.taken sink.new) (not_empty (length d.content)) (K.faults sink.old) (K.faults sink.new)) }
 
     // Every reply that is printed is that of a plain map at its point of one printed history of whole batches, in which the client's acknowledged
-    // batches stand once, in order, each under its own run of sequences; and up to the printed length the log is the text of the logged ones.
-    ensures ran { asked_of words.now ≡ Some Run → Tells (S.left source.old) (K.taken sink.old) (K.taken sink.new) (D.told disk) (D.told result.disk)
-        (λ text before after opened ended. result.status ≡ 0 → (script : Script) × (script_of first_grammar text ≡ Ok script)
-        × RanWhole (setting_of script (D.faults disk) (D.faults result.disk) (IsLeftSince D.moment D.from D.since disk result.disk)) before after opened ended) }
-    ensures ran_to_fault { asked_of words.now ≡ Some Run → Tells (S.left source.old) (K.taken sink.old) (K.taken sink.new) (D.told disk) (D.told result.disk)
-        (λ text before after opened ended. result.status ≡ 3 → (script : Script) × (script_of first_grammar text ≡ Ok script)
+    // batches stand once, in order, each under its own run of sequences behind `--last`; and up to the printed length the log is the text of the logged
+    // ones. Where the log has no fault, commits are refused for themselves alone.
+    ensures ran { (options : RunOptions) → AskToRun words.now options → Tells (S.left source.old) (K.taken sink.old) (K.taken sink.new) (D.told disk) (D.told result.disk)
+        (λ text before after opened ended. result.status ≡ 0 → (script : Script) × (script_of run_grammar text ≡ Ok script)
+        × RanWhole (setting_of options script (D.faults disk) (D.faults result.disk) (IsLeftSince D.moment D.from D.since disk result.disk)) before after opened ended) }
+    ensures ran_to_fault { (options : RunOptions) → AskToRun words.now options → Tells (S.left source.old) (K.taken sink.old) (K.taken sink.new) (D.told disk) (D.told result.disk)
+        (λ text before after opened ended. result.status ≡ 3 → (script : Script) × (script_of run_grammar text ≡ Ok script)
         × (DiskRefused before after opened ended (D.faults disk) (D.faults result.disk) (K.faults sink.old) (K.faults sink.new)
-        ⊎ RanToFault (setting_of script (D.faults disk) (D.faults result.disk) (IsLeftSince D.moment D.from D.since disk result.disk)) before after opened ended)) }
-    ensures ran_to_sink_fault { asked_of words.now ≡ Some Run → Tells (S.left source.old) (K.taken sink.old) (K.taken sink.new) (D.told disk) (D.told result.disk)
-        (λ text before after opened ended. result.status ≡ 5 → (script : Script) × (script_of first_grammar text ≡ Ok script)
-        × RanToSinkFault (setting_of script (D.faults disk) (D.faults result.disk) (IsLeftSince D.moment D.from D.since disk result.disk)) before after opened ended) }
-    ensures out_of_memory { asked_of words.now ≡ Some Run → Tells (S.left source.old) (K.taken sink.old) (K.taken sink.new) (D.told disk) (D.told result.disk)
-        (λ text before after opened ended. result.status ≡ 6 → (script : Script) → script_of first_grammar text ≡ Ok script
-        → RanOutOfMemory (setting_of script (D.faults disk) (D.faults result.disk) (IsLeftSince D.moment D.from D.since disk result.disk)) before after opened ended) }
+        ⊎ RanToFault (setting_of options script (D.faults disk) (D.faults result.disk) (IsLeftSince D.moment D.from D.since disk result.disk)) before after opened ended)) }
+    ensures ran_to_sink_fault { (options : RunOptions) → AskToRun words.now options → Tells (S.left source.old) (K.taken sink.old) (K.taken sink.new) (D.told disk) (D.told result.disk)
+        (λ text before after opened ended. result.status ≡ 5 → (script : Script) × (script_of run_grammar text ≡ Ok script)
+        × RanToSinkFault (setting_of options script (D.faults disk) (D.faults result.disk) (IsLeftSince D.moment D.from D.since disk result.disk)) before after opened ended) }
+    ensures out_of_memory { (options : RunOptions) → AskToRun words.now options → Tells (S.left source.old) (K.taken sink.old) (K.taken sink.new) (D.told disk) (D.told result.disk)
+        (λ text before after opened ended. result.status ≡ 6 → (script : Script) → script_of run_grammar text ≡ Ok script
+        → RanOutOfMemory (setting_of options script (D.faults disk) (D.faults result.disk) (IsLeftSince D.moment D.from D.since disk result.disk)) before after opened ended) }
 
     // Where the script was run, or would have been, the source was read to its end.
-    ensures read_to_end { asked_of words.now ≡ Some Run → (result.status ≡ 0) ⊎ (result.status ≡ 3) ⊎ (result.status ≡ 5) ⊎ (result.status ≡ 7)
+    ensures read_to_end { (options : RunOptions) → AskToRun words.now options → (result.status ≡ 0) ⊎ (result.status ≡ 3) ⊎ (result.status ≡ 5) ⊎ (result.status ≡ 7)
         → IfSome (S.left source.new) (λ left. left ≡ []) }
 
-    ensures replay_read_to_end { asked_of words.now ≡ Some Replay → (result.status ≡ 0) ⊎ (result.status ≡ 5)
+    ensures replay_read_to_end { (options : ReplayOptions) → AskToReplay words.now options → (result.status ≡ 0) ⊎ (result.status ≡ 5)
         → IfSome (S.left source.new) (λ left. left ≡ []) }
 
     // What a schedule comes to on the core is printed: each client's replies, the one history, the map at the published sequence.
-    ensures replayed { asked_of words.now ≡ Some Replay → TellsText (S.left source.old) (K.taken sink.old) (K.taken sink.new) (λ text before after.
-        result.status ≡ 0 → Replays before after text) }
-    ensures replayed_front { asked_of words.now ≡ Some Replay → TellsText (S.left source.old) (K.taken sink.old) (K.taken sink.new) (λ text before after.
-        result.status ≡ 5 → ReplaysFront before after text) }
-    ensures replay_silent { asked_of words.now ≡ Some Replay → result.status ≡ 6 → K.taken sink.new ≡ K.taken sink.old }
+    ensures replayed { (options : ReplayOptions) → AskToReplay words.now options → TellsText (S.left source.old) (K.taken sink.old) (K.taken sink.new) (λ text before after.
+        result.status ≡ 0 → Replays options before after text) }
+    ensures replayed_front { (options : ReplayOptions) → AskToReplay words.now options → TellsText (S.left source.old) (K.taken sink.old) (K.taken sink.new) (λ text before after.
+        result.status ≡ 5 → ReplaysFront options before after text) }
+    ensures replay_silent { (options : ReplayOptions) → AskToReplay words.now options → result.status ≡ 6 → K.taken sink.new ≡ K.taken sink.old }
 
     // What the log recovers is printed, whatever its bytes are.
-    ensures recovered { asked_of words.now ≡ Some Recover → TellsDisk (K.taken sink.old) (K.taken sink.new) (D.told disk) (λ before after d.
+    ensures recovered { AskToRecover words.now → TellsDisk (K.taken sink.old) (K.taken sink.new) (D.told disk) (λ before after d.
         result.status ≡ 0 → Recovers before after d.content) }
-    ensures recovered_front { asked_of words.now ≡ Some Recover → TellsDisk (K.taken sink.old) (K.taken sink.new) (D.told disk) (λ before after d.
+    ensures recovered_front { AskToRecover words.now → TellsDisk (K.taken sink.old) (K.taken sink.new) (D.told disk) (λ before after d.
         result.status ≡ 5 → RecoversFront before after d.content) }
-    ensures recovery_refused { asked_of words.now ≡ Some Recover → TellsDisk (K.taken sink.old) (K.taken sink.new) (D.told disk) (λ before after d.
+    ensures recovery_refused { AskToRecover words.now → TellsDisk (K.taken sink.old) (K.taken sink.new) (D.told disk) (λ before after d.
         result.status ≡ 3 → RecoveryRefused before after (D.faults disk) (D.faults result.disk) (K.faults sink.old) (K.faults sink.new)) }
-    ensures recovery_silent { asked_of words.now ≡ Some Recover → TellsDisk (K.taken sink.old) (K.taken sink.new) (D.told disk) (λ before after d.
+    ensures recovery_silent { AskToRecover words.now → TellsDisk (K.taken sink.old) (K.taken sink.new) (D.told disk) (λ before after d.
         result.status ≡ 6 → after ≡ before) }
 
     // Where no device fails each ends well, want of memory aside: a script over an empty log, recovery, and a schedule.
-    ensures runs { asked_of words.now ≡ Some Run → (Rose (S.faults source.old) (S.faults source.new) → ⊥) → (Rose (K.faults sink.old) (K.faults sink.new) → ⊥)
+    ensures runs { (options : RunOptions) → AskToRun words.now options → (Rose (S.faults source.old) (S.faults source.new) → ⊥) → (Rose (K.faults sink.old) (K.faults sink.new) → ⊥)
         → (Rose (D.faults disk) (D.faults result.disk) → ⊥) → IfSome (S.left source.old) (λ text. IfSome (D.told disk) (λ d.
-        (script : Script) → script_of first_grammar text ≡ Ok script → length d.content ≡ 0 → (result.status ≡ 0) ⊎ (result.status ≡ 6))) }
-    ensures recovers { asked_of words.now ≡ Some Recover → (Rose (K.faults sink.old) (K.faults sink.new) → ⊥) → (Rose (D.faults disk) (D.faults result.disk) → ⊥)
+        (script : Script) → script_of run_grammar text ≡ Ok script → length d.content ≡ 0 → (result.status ≡ 0) ⊎ (result.status ≡ 6))) }
+    ensures recovers { AskToRecover words.now → (Rose (K.faults sink.old) (K.faults sink.new) → ⊥) → (Rose (D.faults disk) (D.faults result.disk) → ⊥)
         → (result.status ≡ 0) ⊎ (result.status ≡ 6) }
-    ensures replays { asked_of words.now ≡ Some Replay → (Rose (S.faults source.old) (S.faults source.new) → ⊥) → (Rose (K.faults sink.old) (K.faults sink.new) → ⊥)
+    ensures replays { (options : ReplayOptions) → AskToReplay words.now options → (Rose (S.faults source.old) (S.faults source.new) → ⊥) → (Rose (K.faults sink.old) (K.faults sink.new) → ⊥)
         → IfSome (S.left source.old) (λ text. (schedule : Schedule) → schedule_of clients_grammar first_event_words text ≡ Ok schedule
         → (result.status ≡ 0) ⊎ (result.status ≡ 6)) }
 {
-    match read_words(words) {
-        Some(Asked::Run) => match read_script(alloc, source) {
+    match read_words(alloc, words) {
+        Ok(Asked::Run { batch_bytes, last }) => match read_script(alloc, source) {
             Ok(script) => {
-                let Executed { disk, end } = execute(alloc, disk, &script);
+                let options = RunOptions { last, batch_bytes };
+                let Executed { disk, end } = execute(alloc, disk, &script, options);
                 end_with(tell_end(alloc, sink, &end), disk)
             }
             Err(why) => end_with(tell_read_error(alloc, sink, why), disk),
         },
-        Some(Asked::Replay) => match read_schedule(alloc, source) {
+        Ok(
+            Asked::Replay {
+                group_bytes,
+                batch_bytes,
+                last,
+            },
+        ) => match read_schedule(alloc, source) {
             Ok(schedule) => {
-                let replayed = replay_schedule(alloc, &schedule);
+                let options = ReplayOptions {
+                    group_bytes,
+                    batch_bytes,
+                    last,
+                };
+                let replayed = replay_schedule(alloc, &schedule, options);
                 end_with(tell_replay(alloc, sink, &replayed), disk)
             }
             Err(error) => end_with(tell_read_error(alloc, sink, error), disk),
         },
-        Some(Asked::Recover) => {
+        Ok(Asked::Recover) => {
             let mut disk = disk;
             let found = recover(alloc, &mut disk);
             end_with(tell_recovery(alloc, sink, &found), disk)
         }
-        None => {
+        Err(WordsError::Usage) => {
             refuse(sink, usage());
             end_with(Status::Usage, disk)
         }
+        Err(WordsError::NoMemory) => end_with(Status::Memory, disk),
     }
 }
 

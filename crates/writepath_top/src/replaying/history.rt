@@ -8,7 +8,7 @@ ghost use Rattle.write_core.specs.Fresh.{IsWithinPlans, plans_in};
 ghost use Rattle.write_core.specs.Shown.{added_by_line};
 ghost use Rattle.writepath_top.specs.Replaying.{entry_by};
 
-use crate::outcome::Entry;
+use one_client::Entry;
 use std::alloc::Global;
 use wp_model::NoMemory;
 use write_batch::{AddError, Batch};

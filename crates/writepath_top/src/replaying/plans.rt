@@ -7,15 +7,8 @@ ghost use Rattle.write_core.specs.Shown as core;
 use client_script::{Command, Script};
 use std::alloc::Global;
 use wp_coding::Bytes;
-use wp_model::{NoMemory, WriteOptions};
+use wp_model::NoMemory;
 use write_core::{ClientPlan, PlanLine};
-
-/// How a batch without flags is committed.
-const PLAIN: WriteOptions = WriteOptions {
-    sync: false,
-    no_log: false,
-    no_slowdown: false,
-};
 
 /// The plan of each client of a script.
 pub fn plans_of(alloc: Global, script: &Script) -> Result<Vec<ClientPlan>, NoMemory>
@@ -47,7 +40,17 @@ fn line_of(alloc: Global, command: &Command) -> Result<PlanLine, NoMemory>
             key: Bytes::copy(alloc, key.as_slice())?,
             value: Bytes::copy(alloc, value.as_slice())?,
         },
-        Command::Commit => PlanLine::Commit { options: PLAIN },
+        Command::Delete { key } => PlanLine::Delete {
+            key: Bytes::copy(alloc, key.as_slice())?,
+        },
+        Command::SingleDelete { key } => PlanLine::SingleDelete {
+            key: Bytes::copy(alloc, key.as_slice())?,
+        },
+        Command::Note { text } => PlanLine::Note {
+            text: Bytes::copy(alloc, text.as_slice())?,
+        },
+        Command::Clear => PlanLine::Clear,
+        Command::Commit { options } => PlanLine::Commit { options: *options },
         Command::Get { key } => PlanLine::Get {
             key: Bytes::copy(alloc, key.as_slice())?,
         },

@@ -6,8 +6,8 @@ ghost use Rattle.wp_coding.specs.Answers.{found_value};
 ghost use Rattle.write_core.specs.Mirrors.{Mirrors};
 ghost use Rattle.writepath_top.specs.Replaying.{read_by, reply_by, first_reply, next_reply, replies_by, AreTranscripts};
 
-use crate::outcome::Reply;
 use client_script::{Command, Script};
+use one_client::Reply;
 use std::alloc::Global;
 use wp_coding::{Bytes, Found};
 use wp_model::NoMemory;
@@ -60,8 +60,14 @@ fn add_reply(
         → OnOk result (replies.new.items ≡ replies.old.items ++ next_reply s.entries (drop (length replies.old.items) told.now) command.now) }
 {
     match command {
-        Command::Put { .. } => Ok(()),
-        Command::Commit | Command::Get { .. } => add_next(alloc, replies, command, told, core),
+        Command::Put { .. }
+        | Command::Delete { .. }
+        | Command::SingleDelete { .. }
+        | Command::Note { .. }
+        | Command::Clear => Ok(()),
+        Command::Commit { .. } | Command::Get { .. } => {
+            add_next(alloc, replies, command, told, core)
+        }
     }
 }
 

@@ -2,12 +2,11 @@
 
 ghost use Rattle.std.specs.Prelude.{◌≡◌, ◌++◌, [], ◌∷◌, codes, decimal, OnOk};
 ghost use Rattle.wp_model.specs.Text.{line, refusal_words, flag_word, state_text, log_text};
-ghost use Rattle.writepath_top.specs.Published.{pair_of, pairs_of};
+ghost use Rattle.one_client.specs.Published.{pair_of, pairs_of};
 ghost use Rattle.writepath_top.specs.ShownText.{reply_line, client_lines, clients_lines, entry_line, history_lines};
 
-use crate::outcome::{Entry, Reply};
-use crate::published::{Pair, Published};
 use crate::text::lines::{put_hex, put_line, put_number, put_numbers};
+use one_client::{Entry, Pair, Published, Reply};
 use std::alloc::Global;
 use wp_coding::Bytes;
 use wp_model::{Flag, NoMemory, Refusal};

@@ -1,8 +1,7 @@
-use crate::outcome::{Entry, Outcome, Reply};
-use crate::published::{Pair, Published};
 use crate::text::{
     disk_fault, log_not_empty, outcome_text, recovered_text, script_fault, source_fault, usage,
 };
+use one_client::{Entry, Outcome, Pair, Published, Reply};
 use std::alloc::Global;
 use std::test::Fail;
 use wal_recover::{End, GroupNote, Recovered};

@@ -1,5 +1,12 @@
-use Rattle.client_script.proofs.ScriptParts.{behind_word-no_word}
+use Rattle.std.proofs.Common.{option_copied}
+use Rattle.client_script.specs.ScriptWords.{parts_of}
+use Rattle.client_script.proofs.ScriptParts.{flags_read, flags_read-more}
 use Rattle.client_script.proofs.lines.read_commit.Goals as goal
 
 pub returns-then-is_some-clause-line : goal.returns-then-is_some-clause-line
-returns-then-is_some-clause-line c = behind_word-no_word _ c.args.rest (cc)
+returns-then-is_some-clause-line c =
+    let sync = c.take_flag-sync in
+    let no_log = c.take_flag-no_log in
+    let words = parts_of 32 (option_copied c.args.rest) in
+    let read = flags_read words (parts_of 32 (option_copied sync.result.1)) (parts_of 32 (option_copied no_log.result.1)) sync.result.0 no_log.result.0 sync.ensures.flag sync.ensures.behind no_log.ensures.flag no_log.ensures.behind in
+    flags_read-more words no_log.result.1 sync.result.0 no_log.result.0 read (cc)

@@ -1,13 +1,13 @@
 use Rattle.std.proofs.Common.{arith, sym, Ok, [], ◌==◌, option_copied}
 use Rattle.std.specs.List.{slice_split}
-use Rattle.wp_model.specs.Script.{first_grammar}
+use Rattle.wp_model.specs.Script.{run_grammar}
 use Rattle.client_script.specs.ScriptWords.{parts_of}
 use Rattle.client_script.proofs.ScriptReading.{fold_after_line-without_empty_end, first_fault}
 use Rattle.client_script.proofs.parser.read_lines.Goals as goal
 
 pub loop-rest-init : goal.loop-rest-init
 loop-rest-init c = record {
-  goes_on = rw c.new.ensures.items (sym (fold_after_line-without_empty_end first_grammar (Ok []) 1 (slice_split (λ b. b == 10) c.args.text.now)));
+  goes_on = rw c.new.ensures.items (sym (fold_after_line-without_empty_end run_grammar (Ok []) 1 (slice_split (λ b. b == 10) c.args.text.now)));
   counted = omega arith;
   small = rw c.new.ensures.items (omega arith);
   short = rw c.new.ensures.items tt;

@@ -29,3 +29,23 @@ returns-clause-too_many_clients c = refl
 pub returns-clause-tab : goal.returns-clause-tab
 unfolding digits
 returns-clause-tab c = refl
+
+pub returns-clause-unknown_flag : goal.returns-clause-unknown_flag
+unfolding digits
+returns-clause-unknown_flag c = refl
+
+pub returns-clause-flags_turned : goal.returns-clause-flags_turned
+unfolding digits
+returns-clause-flags_turned c = refl
+
+pub returns-clause-flag_twice : goal.returns-clause-flag_twice
+unfolding digits
+returns-clause-flag_twice c = refl
+
+pub returns-clause-word_behind_clear : goal.returns-clause-word_behind_clear
+unfolding digits
+returns-clause-word_behind_clear c = refl
+
+pub returns-clause-two_keys : goal.returns-clause-two_keys
+unfolding digits
+returns-clause-two_keys c = refl

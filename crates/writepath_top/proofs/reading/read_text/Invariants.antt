@@ -6,9 +6,9 @@ use Rattle.writepath_top.proofs.reading.read_text.Given as goal
 abbrev pub invariant-loop-piece : goal.invariant-loop-piece
 invariant-loop-piece g l = record {
   consumed : Consumes (g.S.Source.left l.fn.source) (g.S.Source.left l.source) l.text.items;
-  at_most : length l.text.items ≤ 16385;
+  at_most : length l.text.items ≤ 16777217;
   later : g.S.Source.faults l.fn.source ≤ g.S.Source.faults l.source;
 }
 
 abbrev pub decreases-loop-piece : goal.decreases-loop-piece
-decreases-loop-piece g l = 16385 - length l.text.items
+decreases-loop-piece g l = 16777217 - length l.text.items

@@ -1,5 +1,4 @@
 use Rattle.std.proofs.Common.{◌≡◌, ◌+◌, ◌<◌, length, get_or}
-use Rattle.core_model.specs.Core.{client_at}
 use Rattle.writepath_top.specs.Replaying.{IsTranscript}
 use Rattle.writepath_top.proofs.ReplayedClients.{transcript_more}
 use Rattle.writepath_top.proofs.replaying.replies.transcripts_of.Goals as goal

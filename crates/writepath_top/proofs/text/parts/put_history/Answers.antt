@@ -1,7 +1,7 @@
 use Rattle.std.proofs.Common.{◌<◌, ◌++◌, length, take, ap, ◌∙◌}
 use Rattle.std.proofs.lemmas.List.{flat_map_more}
 use Rattle.writepath_top.specs.ShownText.{entry_line}
-use Rattle.writepath_top.proofs.Loops.{item_more}
+use Rattle.one_client.proofs.Loops.{item_more}
 use Rattle.writepath_top.proofs.text.parts.put_history.Goals as goal
 
 -- the next line stands behind those before

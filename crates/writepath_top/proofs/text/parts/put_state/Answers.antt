@@ -4,7 +4,7 @@ use Rattle.std.specs.Prelude.{codes, decimal, flat_map, length}
 use Rattle.std.proofs.lemmas.List.{append_assoc, take_all}
 use Rattle.std.proofs.lemmas.List.Folds.{flat_map-map}
 use Rattle.wp_model.specs.Text.{line}
-use Rattle.writepath_top.specs.Published.{pair_of, pairs_of}
+use Rattle.one_client.specs.Published.{pair_of, pairs_of}
 use Rattle.writepath_top.proofs.text.parts.put_state.Goals as goal
 
 pub returns : goal.returns

@@ -1,0 +1,275 @@
+-- The options of a command: what clap finds is what lawful words give.
+use Rattle.std.proofs.Common.{◌≡◌, ◌∙◌, ◌&&◌, ◌-◌, ◌^◌, inl, inr, ℕ, Bool, true, false, List, [], ◌∷◌, ◌++◌, Option, Some, None, cond, fold, refl, sym, ap, subst, codes}
+use Rattle.std.proofs.lemmas.Slice.Eq.{bytes_eq-Decides}
+use Rattle.std.specs.Prelude.{◌⊎◌, bytes_eq, is_none, is_some, option_and_then, option_map, unwrap_or}
+use Rattle.clap.specs.Words.{Row, Rule, Shape, Text}
+use Rattle.clap.specs.Faults.{settle_fault, walk_fault}
+use Rattle.clap.specs.Simple.{filled}
+use Rattle.clap.specs.Walk.{Walk, has_row, more_values, settled_rows, walked, with_values}
+use Rattle.clap.specs.declared.builder.value_parser.Reading.TheVariants.{AsWritten}
+use Rattle.clap.specs.declared.parser.matches.ValueSource.{ValueSource}
+use Rattle.clap.specs.declared.parser.matches.ValueSource.TheVariants.{CommandLine, DefaultValue}
+use Rattle.command_line.specs.Definition.{batch_bytes, group_bytes, last}
+use Rattle.command_line.specs.Lawful.{Options, with_option, with_options, within}
+use Rattle.command_line.specs.Meaning.{number_in, whole_number}
+use Rattle.command_line.proofs.LeafWalks.{IsNumberOption, Pending, between, held, option_fault, use_passes, use_settles, walked_option}
+use Rattle.command_line.proofs.NumberTexts.{IsNumberText, number_text}
+use Rattle.command_line.proofs.Rows.{at_row-absent, has_row-new, has_row-other, number_in-new, number_in-other, number_row}
+
+-- the rows have the numbers that the words gave so far, and no others
+pub record HoldsNumbers (o : Options) (rows : List Row) : Type 0 where
+  pub group_row : has_row (codes "group-bytes") rows ≡ is_some o.group_bytes
+  pub batch_row : has_row (codes "batch-bytes") rows ≡ is_some o.batch_bytes
+  pub last_row : has_row (codes "last") rows ≡ is_some o.last
+  pub group : number_in (codes "group-bytes") rows ≡ o.group_bytes
+  pub batch : number_in (codes "batch-bytes") rows ≡ o.batch_bytes
+  pub first : number_in (codes "last") rows ≡ o.last
+
+holds_last : (o : Options) (rows : List Row) (source : ValueSource) (value : Text) (n : ℕ) → HoldsNumbers o rows → has_row (codes "last") rows ≡ false → whole_number value ≡ Some n
+    → HoldsNumbers (record o { last = Some n }) (rows ++ number_row (codes "last") source value ∷ [])
+holds_last o rows source value n h unused is =
+    let r = number_row (codes "last") source value in
+    record {
+      group_row = has_row-other (codes "group-bytes") rows r refl ∙ h.group_row;
+      batch_row = has_row-other (codes "batch-bytes") rows r refl ∙ h.batch_row;
+      last_row = has_row-new (codes "last") rows source value refl;
+      group = number_in-other (codes "group-bytes") rows r refl ∙ h.group;
+      batch = number_in-other (codes "batch-bytes") rows r refl ∙ h.batch;
+      first = number_in-new (codes "last") rows source value refl unused ∙ is;
+    }
+
+holds_batch : (o : Options) (rows : List Row) (source : ValueSource) (value : Text) (n : ℕ) → HoldsNumbers o rows → has_row (codes "batch-bytes") rows ≡ false → whole_number value ≡ Some n
+    → HoldsNumbers (record o { batch_bytes = Some n }) (rows ++ number_row (codes "batch-bytes") source value ∷ [])
+holds_batch o rows source value n h unused is =
+    let r = number_row (codes "batch-bytes") source value in
+    record {
+      group_row = has_row-other (codes "group-bytes") rows r refl ∙ h.group_row;
+      batch_row = has_row-new (codes "batch-bytes") rows source value refl;
+      last_row = has_row-other (codes "last") rows r refl ∙ h.last_row;
+      group = number_in-other (codes "group-bytes") rows r refl ∙ h.group;
+      batch = number_in-new (codes "batch-bytes") rows source value refl unused ∙ is;
+      first = number_in-other (codes "last") rows r refl ∙ h.first;
+    }
+
+holds_group : (o : Options) (rows : List Row) (source : ValueSource) (value : Text) (n : ℕ) → HoldsNumbers o rows → has_row (codes "group-bytes") rows ≡ false → whole_number value ≡ Some n
+    → HoldsNumbers (record o { group_bytes = Some n }) (rows ++ number_row (codes "group-bytes") source value ∷ [])
+holds_group o rows source value n h unused is =
+    let r = number_row (codes "group-bytes") source value in
+    record {
+      group_row = has_row-new (codes "group-bytes") rows source value refl;
+      batch_row = has_row-other (codes "batch-bytes") rows r refl ∙ h.batch_row;
+      last_row = has_row-other (codes "last") rows r refl ∙ h.last_row;
+      group = number_in-new (codes "group-bytes") rows source value refl unused ∙ is;
+      batch = number_in-other (codes "batch-bytes") rows r refl ∙ h.batch;
+      first = number_in-other (codes "last") rows r refl ∙ h.first;
+    }
+
+-- ---- what a pair of lawful words is
+
+pub record GivesLast (o : Options) (name value : Text) (after : Options) : Type 0 where
+  pub n : ℕ
+  pub name_is : name ≡ codes "--last"
+  pub is_new : o.last ≡ None
+  pub number : IsNumberText value 0 72057594037927935 n
+  pub after_is : after ≡ record o { last = Some n }
+
+pub record GivesBatch (o : Options) (name value : Text) (after : Options) : Type 0 where
+  pub n : ℕ
+  pub name_is : name ≡ codes "--batch-bytes"
+  pub is_new : o.batch_bytes ≡ None
+  pub number : IsNumberText value 12 16777216 n
+  pub after_is : after ≡ record o { batch_bytes = Some n }
+
+pub record GivesGroup (is_replay : Bool) (o : Options) (name value : Text) (after : Options) : Type 0 where
+  pub n : ℕ
+  pub of_replay : is_replay ≡ true
+  pub name_is : name ≡ codes "--group-bytes"
+  pub is_new : o.group_bytes ≡ None
+  pub number : IsNumberText value 1 16777216 n
+  pub after_is : after ≡ record o { group_bytes = Some n }
+
+two : (a b : Bool) → (a && b) ≡ true → (a ≡ true) × (b ≡ true)
+two true b e = (refl, e)
+two false b e = cc
+
+none_is : (o : Option ℕ) → is_none o ≡ true → o ≡ None
+none_is None e = refl
+none_is (Some x) e = cc
+
+mapped : {X Y : Type 0} (f : X → Y) (o : Option X) (y : Y) → option_map f o ≡ Some y → (x : X) × (o ≡ Some x) × (y ≡ f x)
+mapped f None y e = cc
+mapped f (Some x) y e = let is : f x ≡ y = cc in (x, refl, sym is)
+
+chosen : {X : Type 0} (a b c : Bool) (x y z : Option X) (after : X) → cond a x (cond b y (cond c z None)) ≡ Some after
+    → ((a ≡ true) × (x ≡ Some after)) ⊎ (((b ≡ true) × (y ≡ Some after)) ⊎ ((c ≡ true) × (z ≡ Some after)))
+chosen true b c x y z after e = inl (refl, e)
+chosen false true c x y z after e = inr (inl (refl, e))
+chosen false false true x y z after e = inr (inr (refl, e))
+chosen false false false x y z after e = cc
+
+option_given : (is_replay : Bool) (o : Options) (name value : Text) (after : Options) → with_option is_replay o name value ≡ Some after
+    → GivesLast o name value after ⊎ (GivesBatch o name value after ⊎ GivesGroup is_replay o name value after)
+option_given is_replay o name value after e = elim (chosen
+    (bytes_eq name (codes "--last") && is_none o.last)
+    (bytes_eq name (codes "--batch-bytes") && is_none o.batch_bytes)
+    (is_replay && (bytes_eq name (codes "--group-bytes") && is_none o.group_bytes))
+    (option_map (λ (n : ℕ). record o { last = Some n }) (within 0 (2 ^ 56 - 1) value))
+    (option_map (λ (n : ℕ). record o { batch_bytes = Some n }) (within 12 16777216 value))
+    (option_map (λ (n : ℕ). record o { group_bytes = Some n }) (within 1 16777216 value))
+    after e) [
+      | inl h ↦
+          let parts = two _ _ h.0 in
+          let given = mapped (λ (n : ℕ). record o { last = Some n }) (within 0 (2 ^ 56 - 1) value) after h.1 in
+          inl (record { n = given.0; name_is = (bytes_eq-Decides _ _).0 parts.0; is_new = none_is _ parts.1; number = number_text value 0 (2 ^ 56 - 1) given.0 given.1; after_is = given.2 })
+      | inr (inl h) ↦
+          let parts = two _ _ h.0 in
+          let given = mapped (λ (n : ℕ). record o { batch_bytes = Some n }) (within 12 16777216 value) after h.1 in
+          inr (inl (record { n = given.0; name_is = (bytes_eq-Decides _ _).0 parts.0; is_new = none_is _ parts.1; number = number_text value 12 16777216 given.0 given.1; after_is = given.2 }))
+      | inr (inr h) ↦
+          let both = two _ _ h.0 in
+          let parts = two _ _ both.1 in
+          let given = mapped (λ (n : ℕ). record o { group_bytes = Some n }) (within 1 16777216 value) after h.1 in
+          inr (inr (record { n = given.0; of_replay = both.0; name_is = (bytes_eq-Decides _ _).0 parts.0; is_new = none_is _ parts.1; number = number_text value 1 16777216 given.0 given.1; after_is = given.2 }))
+    ]
+
+-- ---- all the options
+
+-- the command has these options
+pub record HasOptions (is_replay : Bool) (s : Shape) : Type 0 where
+  pub group : is_replay ≡ true → IsNumberOption s (codes "--group-bytes") (filled group_bytes) 1 16777216
+  pub batch : IsNumberOption s (codes "--batch-bytes") (filled batch_bytes) 12 16777216
+  pub first : IsNumberOption s (codes "--last") (filled last) 0 72057594037927935
+
+abbrev pub end_of : Shape → List Row → Pending → List Text → Walk
+end_of s rows pending words = fold (walked s.rules []) (between rows pending) words
+
+-- the walk passes, and ends with these numbers
+pub record EndsWith (s : Shape) (rows : List Row) (pending : Pending) (words : List Text) (o : Options) : Type 0 where
+  pub walk : walk_fault s [] (between rows pending) words ≡ []
+  pub settles : settle_fault s.rules false (end_of s rows pending words).held ≡ []
+  pub numbers : HoldsNumbers o (settled_rows s.rules (end_of s rows pending words).held.pending (end_of s rows pending words).held.rows)
+
+-- one option more before the others
+one_more : (s : Shape) (word : Text) (a : Rule) (least most : ℕ) → IsNumberOption s word a least most
+    → (value : Text) (n : ℕ) → IsNumberText value least most n → (rows : List Row) (pending : Pending) (words : List Text) (o : Options)
+    → settle_fault s.rules false (held rows pending) ≡ []
+    → EndsWith s (settled_rows s.rules pending rows) (Some (a.id, value ∷ [])) words o
+    → EndsWith s rows pending (word ∷ value ∷ words) o
+one_more s word a least most option_is value n number rows pending words o settles rest =
+    let step = walked_option s word a least most option_is value n number rows pending in
+    let on = λ (w : Walk). fold (walked s.rules []) w words in
+    record {
+      walk = option_fault s word a least most option_is value n number rows pending words settles ∙ rest.walk;
+      settles = subst (λ (w : Walk). settle_fault s.rules false (on w).held ≡ []) (sym step) rest.settles;
+      numbers = subst (λ (w : Walk). HoldsNumbers o (settled_rows s.rules (on w).held.pending (on w).held.rows)) (sym step) rest.numbers;
+    }
+
+-- the rest of the words pass from each state that holds the numbers so far
+abbrev RestEnds : Shape → List Text → Options → Options → Type 0
+RestEnds s words p after = (rows : List Row) (pending : Pending) → settle_fault s.rules false (held rows pending) ≡ [] → HoldsNumbers p (settled_rows s.rules pending rows)
+    → EndsWith s rows pending words after
+
+used_once : (s : Shape) (word : Text) (a : Rule) (least most : ℕ) → IsNumberOption s word a least most
+    → (value : Text) (n : ℕ) → IsNumberText value least most n → (rows : List Row) (pending : Pending) (words : List Text) (p after : Options)
+    → settle_fault s.rules false (held rows pending) ≡ [] → has_row a.id (settled_rows s.rules pending rows) ≡ false
+    → HoldsNumbers p (settled_rows s.rules pending rows ++ number_row a.id CommandLine value ∷ [])
+    → RestEnds s words p after → EndsWith s rows pending (word ∷ value ∷ words) after
+used_once s word a least most option_is value n number rows pending words p after settles unused holds rest =
+    let now = settled_rows s.rules pending rows in
+    one_more s word a least most option_is value n number rows pending words after settles
+    (rest now (Some (a.id, value ∷ [])) (use_passes s word a least most option_is value n number now unused)
+    (subst (HoldsNumbers p) (sym (use_settles s word a least most option_is value now unused)) holds))
+
+option_then : (is_replay : Bool) (s : Shape) → HasOptions is_replay s → (o : Options) (name value : Text) (words : List Text) (rows : List Row) (pending : Pending) (p after : Options)
+    → settle_fault s.rules false (held rows pending) ≡ [] → HoldsNumbers o (settled_rows s.rules pending rows) → RestEnds s words p after
+    → GivesLast o name value p ⊎ (GivesBatch o name value p ⊎ GivesGroup is_replay o name value p)
+    → EndsWith s rows pending (name ∷ value ∷ words) after
+option_then is_replay s has o name value words rows pending p after settles holds rest (inl g) =
+    let now = settled_rows s.rules pending rows in
+    let unused : has_row (codes "last") now ≡ false = holds.last_row ∙ ap is_some g.is_new in
+    let more = holds_last o now CommandLine value g.n holds unused g.number.whole in
+    subst (λ (w : Text). EndsWith s rows pending (w ∷ value ∷ words) after) (sym g.name_is)
+    (used_once s (codes "--last") (filled last) 0 72057594037927935 has.first value g.n g.number rows pending words p after settles unused
+    (subst (λ (q : Options). HoldsNumbers q (now ++ number_row (codes "last") CommandLine value ∷ [])) (sym g.after_is) more) rest)
+option_then is_replay s has o name value words rows pending p after settles holds rest (inr (inl g)) =
+    let now = settled_rows s.rules pending rows in
+    let unused : has_row (codes "batch-bytes") now ≡ false = holds.batch_row ∙ ap is_some g.is_new in
+    let more = holds_batch o now CommandLine value g.n holds unused g.number.whole in
+    subst (λ (w : Text). EndsWith s rows pending (w ∷ value ∷ words) after) (sym g.name_is)
+    (used_once s (codes "--batch-bytes") (filled batch_bytes) 12 16777216 has.batch value g.n g.number rows pending words p after settles unused
+    (subst (λ (q : Options). HoldsNumbers q (now ++ number_row (codes "batch-bytes") CommandLine value ∷ [])) (sym g.after_is) more) rest)
+option_then is_replay s has o name value words rows pending p after settles holds rest (inr (inr g)) =
+    let now = settled_rows s.rules pending rows in
+    let unused : has_row (codes "group-bytes") now ≡ false = holds.group_row ∙ ap is_some g.is_new in
+    let more = holds_group o now CommandLine value g.n holds unused g.number.whole in
+    subst (λ (w : Text). EndsWith s rows pending (w ∷ value ∷ words) after) (sym g.name_is)
+    (used_once s (codes "--group-bytes") (filled group_bytes) 1 16777216 (has.group g.of_replay) value g.n g.number rows pending words p after settles unused
+    (subst (λ (q : Options). HoldsNumbers q (now ++ number_row (codes "group-bytes") CommandLine value ∷ [])) (sym g.after_is) more) rest)
+
+pair_then : (is_replay : Bool) (s : Shape) → HasOptions is_replay s → (o : Options) (name value : Text) (words : List Text) (rows : List Row) (pending : Pending) (given : Option Options) (after : Options)
+    → settle_fault s.rules false (held rows pending) ≡ [] → HoldsNumbers o (settled_rows s.rules pending rows)
+    → with_option is_replay o name value ≡ given → option_and_then (with_options is_replay words) given ≡ Some after
+    → ((p : Options) → with_options is_replay words p ≡ Some after → RestEnds s words p after)
+    → EndsWith s rows pending (name ∷ value ∷ words) after
+pair_then is_replay s has o name value words rows pending None after settles holds e is rest = cc
+pair_then is_replay s has o name value words rows pending (Some p) after settles holds e is rest =
+    option_then is_replay s has o name value words rows pending p after settles holds (rest p is) (option_given is_replay o name value p e)
+
+-- lawful options pass, and the rows have their numbers
+pub options_end : (is_replay : Bool) (s : Shape) → HasOptions is_replay s → (words : List Text) (o after : Options) → with_options is_replay words o ≡ Some after
+    → (rows : List Row) (pending : Pending) → settle_fault s.rules false (held rows pending) ≡ [] → HoldsNumbers o (settled_rows s.rules pending rows)
+    → EndsWith s rows pending words after
+unfolding walk_fault
+options_end is_replay s has [] o after is rows pending settles holds =
+    let same : o ≡ after = cc in
+    record { walk = refl; settles = settles; numbers = subst (λ (p : Options). HoldsNumbers p (settled_rows s.rules pending rows)) same holds }
+options_end is_replay s has (name ∷ []) o after is rows pending settles holds = cc
+options_end is_replay s has (name ∷ value ∷ words) o after is rows pending settles holds =
+    pair_then is_replay s has o name value words rows pending (with_option is_replay o name value) after settles holds refl is
+    (λ p next. options_end is_replay s has words p after next)
+
+-- ---- the defaults
+
+-- an option that was not used gets its default
+abbrev pub defaulted : Text → Text → List Row → List Row
+defaulted id value rows = cond (has_row id rows) rows (with_values id AsWritten DefaultValue (value ∷ []) rows)
+
+unused_default : (id value : Text) (rows : List Row) → has_row id rows ≡ false → defaulted id value rows ≡ rows ++ number_row id DefaultValue value ∷ []
+unused_default id value rows unused = rw unused (at_row-absent id (more_values DefaultValue (value ∷ [])) (number_row id DefaultValue value ∷ []) rows unused)
+
+used_default : (id value : Text) (rows : List Row) → has_row id rows ≡ true → defaulted id value rows ≡ rows
+used_default id value rows used = rw used refl
+
+-- the options with their defaults
+pub default_last : (o : Options) (rows : List Row) → HoldsNumbers o rows → HoldsNumbers (record o { last = Some (unwrap_or o.last 0) }) (defaulted (codes "last") (codes "0") rows)
+default_last o rows h = go o.last refl
+  where
+    go : (n : Option ℕ) → o.last ≡ n → HoldsNumbers (record o { last = Some (unwrap_or n 0) }) (defaulted (codes "last") (codes "0") rows)
+    go None e =
+        let unused = h.last_row ∙ ap is_some e in
+        subst (HoldsNumbers (record o { last = Some 0 })) (sym (unused_default (codes "last") (codes "0") rows unused)) (holds_last o rows DefaultValue (codes "0") 0 h unused refl)
+    go (Some n) e =
+        let same : o ≡ record o { last = Some n } = ap (λ (m : Option ℕ). record o { last = m }) e in
+        subst (HoldsNumbers (record o { last = Some n })) (sym (used_default (codes "last") (codes "0") rows (h.last_row ∙ ap is_some e))) (subst (λ (p : Options). HoldsNumbers p rows) same h)
+
+pub default_batch : (o : Options) (rows : List Row) → HoldsNumbers o rows → HoldsNumbers (record o { batch_bytes = Some (unwrap_or o.batch_bytes 16777216) }) (defaulted (codes "batch-bytes") (codes "16777216") rows)
+default_batch o rows h = go o.batch_bytes refl
+  where
+    go : (n : Option ℕ) → o.batch_bytes ≡ n → HoldsNumbers (record o { batch_bytes = Some (unwrap_or n 16777216) }) (defaulted (codes "batch-bytes") (codes "16777216") rows)
+    go None e =
+        let unused = h.batch_row ∙ ap is_some e in
+        subst (HoldsNumbers (record o { batch_bytes = Some 16777216 })) (sym (unused_default (codes "batch-bytes") (codes "16777216") rows unused)) (holds_batch o rows DefaultValue (codes "16777216") 16777216 h unused refl)
+    go (Some n) e =
+        let same : o ≡ record o { batch_bytes = Some n } = ap (λ (m : Option ℕ). record o { batch_bytes = m }) e in
+        subst (HoldsNumbers (record o { batch_bytes = Some n })) (sym (used_default (codes "batch-bytes") (codes "16777216") rows (h.batch_row ∙ ap is_some e))) (subst (λ (p : Options). HoldsNumbers p rows) same h)
+
+pub default_group : (o : Options) (rows : List Row) → HoldsNumbers o rows → HoldsNumbers (record o { group_bytes = Some (unwrap_or o.group_bytes 1048576) }) (defaulted (codes "group-bytes") (codes "1048576") rows)
+default_group o rows h = go o.group_bytes refl
+  where
+    go : (n : Option ℕ) → o.group_bytes ≡ n → HoldsNumbers (record o { group_bytes = Some (unwrap_or n 1048576) }) (defaulted (codes "group-bytes") (codes "1048576") rows)
+    go None e =
+        let unused = h.group_row ∙ ap is_some e in
+        subst (HoldsNumbers (record o { group_bytes = Some 1048576 })) (sym (unused_default (codes "group-bytes") (codes "1048576") rows unused)) (holds_group o rows DefaultValue (codes "1048576") 1048576 h unused refl)
+    go (Some n) e =
+        let same : o ≡ record o { group_bytes = Some n } = ap (λ (m : Option ℕ). record o { group_bytes = m }) e in
+        subst (HoldsNumbers (record o { group_bytes = Some n })) (sym (used_default (codes "group-bytes") (codes "1048576") rows (h.group_row ∙ ap is_some e))) (subst (λ (p : Options). HoldsNumbers p rows) same h)

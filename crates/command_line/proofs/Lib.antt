@@ -1,0 +1,9 @@
+mod Numbers
+mod NumberTexts
+mod Reading
+mod Rows
+mod LeafWalks
+mod LeafOptions
+mod Commands
+mod RowValues
+mod Ranges

@@ -1,0 +1,8 @@
+use Rattle.std.proofs.Common.{refl}
+use Rattle.clap.proofs.OnLiterals.{clap_on_literals}
+use Rattle.command_line.specs.Meaning.{asked_in}
+use Rattle.command_line.proofs.laws.words_that_ask.Goals as goal
+
+pub returns : goal.returns
+unfolding asked_in clap_on_literals
+returns c = record { run = refl; recover = refl; replay = refl; with_equals_sign = refl; with_leading_zero = refl }

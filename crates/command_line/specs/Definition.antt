@@ -1,0 +1,38 @@
+-- The command of `clap` that reads the words of a call, as what clap's parse reads of a command.
+use Rattle.std.specs.Prelude.{ℕ, [], ◌∷◌, Some, true, codes}
+use Rattle.clap.specs.Words.{App, Rule, Text, new_app, new_rule, with_rule, with_subcommand}
+use Rattle.clap.specs.declared.builder.value_parser.ValueParser.TheVariants.{Unsigned}
+
+-- an option `--name` that takes a whole number from `least` to `most`, and is `default` unless it is given
+abbrev pub number_option : Text → ℕ → ℕ → Text → Rule
+number_option name least most default = record (new_rule name) { long = Some name; parser = Some (Unsigned least most); defaults = default ∷ [] }
+
+-- the most bytes of a batch
+abbrev pub batch_bytes : Rule
+batch_bytes = number_option (codes "batch-bytes") 12 16777216 (codes "16777216")
+
+-- the most bytes of a write group
+abbrev pub group_bytes : Rule
+group_bytes = number_option (codes "group-bytes") 1 16777216 (codes "1048576")
+
+-- the sequence number before that of the first batch
+abbrev pub last : Rule
+last = number_option (codes "last") 0 72057594037927935 (codes "0")
+
+-- the commands, with their options
+
+abbrev pub run : App
+run = with_rule (with_rule (new_app (codes "run")) batch_bytes) last
+
+abbrev pub recover : App
+recover = new_app (codes "recover")
+
+abbrev pub replay : App
+replay = with_rule (with_rule (with_rule (new_app (codes "replay")) group_bytes) batch_bytes) last
+
+-- the program, which wants a command, and has no help
+abbrev pub program : App
+program = record (new_app (codes "writepath")) { top = record (new_app (codes "writepath")).top { subcommand_required = true; disable_help_flag = true; disable_help_subcommand = true } }
+
+abbrev pub writepath : App
+writepath = with_subcommand (with_subcommand (with_subcommand program run.top) recover.top) replay.top

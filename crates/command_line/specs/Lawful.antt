@@ -1,0 +1,64 @@
+-- The lawful words of a call, in plain words: the program's name, a command, and its options in any order, each at most once and with its value in a word of its own.
+use Rattle.std.specs.Prelude.{ℕ, ◌-◌, ◌^◌, ◌&&◌, Bool, true, false, List, [], ◌∷◌, Option, Some, None, String, string_bytes, map, codes, bytes_eq, nat_le, if◌then◌else◌, unwrap_or, is_none, option_and_then, option_map}
+use Rattle.std.specs.declared.alloc.Global.{Global}
+use Rattle.wp_model.specs.Script.{number_of}
+use Rattle.command_line.specs.declared.asked.Asked.{Asked}
+use Rattle.command_line.specs.declared.asked.Asked.TheVariants.{Run, Recover, Replay}
+
+-- the numbers that the options give
+pub record Options : Type 0 where
+  pub group_bytes : Option ℕ
+  pub batch_bytes : Option ℕ
+  pub last : Option ℕ
+
+-- a number in its shortest decimal digits, and within its range
+abbrev pub within : ℕ → ℕ → List ℕ → Option ℕ
+within least most word = option_and_then (λ n. if nat_le least n && nat_le n most then Some n else None) (number_of word)
+
+-- an option and its value, where it has not come before; only `replay` has `--group-bytes`
+abbrev pub with_option : Bool → Options → List ℕ → List ℕ → Option Options
+with_option is_replay o name value =
+    if bytes_eq name (codes "--last") && is_none o.last then option_map (λ n. record o { last = Some n }) (within 0 (2 ^ 56 - 1) value)
+    else if bytes_eq name (codes "--batch-bytes") && is_none o.batch_bytes then option_map (λ n. record o { batch_bytes = Some n }) (within 12 16777216 value)
+    else if is_replay && (bytes_eq name (codes "--group-bytes") && is_none o.group_bytes) then option_map (λ n. record o { group_bytes = Some n }) (within 1 16777216 value)
+    else None
+
+-- the words are options with their values, and nothing else
+abbrev pub with_options : Bool → List (List ℕ) → Options → Option Options
+with_options is_replay [] o = Some o
+with_options is_replay (name ∷ []) o = None
+with_options is_replay (name ∷ value ∷ words) o = option_and_then (with_options is_replay words) (with_option is_replay o name value)
+
+-- the options behind a command
+abbrev pub options_of : Bool → List (List ℕ) → Option Options
+options_of is_replay words = with_options is_replay words (record { group_bytes = None; batch_bytes = None; last = None })
+
+-- an option that is not given has its default
+abbrev pub run_with : Options → Asked
+run_with o = Run (unwrap_or o.batch_bytes 16777216) (unwrap_or o.last 0)
+
+abbrev pub replay_with : Options → Asked
+replay_with o = Replay (unwrap_or o.group_bytes 1048576) (unwrap_or o.batch_bytes 16777216) (unwrap_or o.last 0)
+
+-- `recover` has no options
+abbrev pub recover_with : List (List ℕ) → Option Asked
+recover_with [] = Some Recover
+recover_with (word ∷ words) = None
+
+-- what a command asks for with the words behind it
+abbrev pub command_asked : List ℕ → List (List ℕ) → Option Asked
+command_asked command words =
+    if bytes_eq command (codes "run") then option_map run_with (options_of false words)
+    else if bytes_eq command (codes "recover") then recover_with words
+    else if bytes_eq command (codes "replay") then option_map replay_with (options_of true words)
+    else None
+
+-- the program's name comes first, whatever it is
+abbrev pub lawful_in : List (List ℕ) → Option Asked
+lawful_in [] = None
+lawful_in (name ∷ []) = None
+lawful_in (name ∷ command ∷ words) = command_asked command words
+
+-- what lawful words ask for
+abbrev pub lawful_of : List (String Global) → Option Asked
+lawful_of words = lawful_in (map (λ w. string_bytes w) words)

@@ -1,0 +1,4 @@
+pub mod Definition
+pub mod Meaning
+pub mod Lawful
+pub mod Limits

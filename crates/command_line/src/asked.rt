@@ -1,0 +1,115 @@
+//! What the words of a call ask for.
+
+ghost use Rattle.std.specs.Prelude.{◌≡◌, IfOk, Some, None, Err};
+ghost use Rattle.clap.specs.Words.{found_of, kind_of, rows_of};
+ghost use Rattle.command_line.specs.declared.asked.WordsError.TheVariants.{NoMemory};
+ghost use Rattle.command_line.specs.Limits.{KeepsLimits};
+ghost use Rattle.command_line.specs.Meaning as meaning;
+ghost use Rattle.command_line.specs.Meaning.{asked_of, refusal_of};
+
+use crate::definition;
+use clap::ArgMatches;
+use clap::error::ErrorKind;
+use std::alloc::{AllocError, Global};
+use thiserror::Error;
+
+/// What the words ask for.
+#[derive(Clone, Copy, Debug, PartialEq, Eq)]
+pub enum Asked {
+    /// To run a script.
+    Run {
+        /// The most bytes of a batch.
+        batch_bytes: u64,
+        /// The sequence number before that of the first batch.
+        last: u64,
+    },
+    /// To say what the log recovers.
+    Recover,
+    /// To run a schedule on the core.
+    Replay {
+        /// The most bytes of a write group.
+        group_bytes: u64,
+        /// The most bytes of a batch.
+        batch_bytes: u64,
+        /// The sequence number before that of the first batch.
+        last: u64,
+    },
+}
+
+/// Why the words ask for nothing.
+#[derive(Clone, Copy, Debug, PartialEq, Eq, Error)]
+pub enum WordsError {
+    /// They aren't words that the program takes.
+    #[error("usage")]
+    Usage,
+    /// There was no memory to read them.
+    #[error("no memory")]
+    NoMemory,
+}
+
+impl From<AllocError> for WordsError {
+    ghost from_gives = { λ _ e. e ≡ NoMemory };
+
+    fn from(_: AllocError) -> WordsError {
+        WordsError::NoMemory
+    }
+}
+
+impl From<clap::Error> for WordsError {
+    ghost from_gives = { λ error e. e ≡ refusal_of (kind_of error) };
+
+    fn from(error: clap::Error) -> WordsError {
+        match error.kind() {
+            ErrorKind::OutOfMemory => WordsError::NoMemory,
+            _ => WordsError::Usage,
+        }
+    }
+}
+
+/// What the words ask for. The first is the program's name, and the command follows it.
+pub fn read_words(alloc: Global, words: &[String]) -> Result<Asked, WordsError>
+    ensures ok { IfOk result (λ asked. asked_of words.now ≡ Some asked) }
+    ensures usage { result ≡ Err WordsError.Usage → asked_of words.now ≡ None }
+    ensures limits { IfOk result KeepsLimits }
+{
+    let matches = definition::writepath(alloc)?.try_get_matches_from(words)?;
+    let (command, options) = matches.subcommand().ok_or(WordsError::Usage)?;
+    asked_by(command, options).ok_or(WordsError::Usage)
+}
+
+fn asked_by(command: &str, options: &ArgMatches) -> Option<Asked>
+    ensures { result ≡ meaning.asked_by command.now (rows_of (found_of options.now)) }
+{
+    match command {
+        "run" => run_by(options),
+        "recover" => Some(Asked::Recover),
+        "replay" => replay_by(options),
+        _ => None,
+    }
+}
+
+fn run_by(options: &ArgMatches) -> Option<Asked>
+    ensures { result ≡ meaning.run_by (rows_of (found_of options.now)) }
+{
+    Some(Asked::Run {
+        batch_bytes: number_in("batch-bytes", options)?,
+        last: number_in("last", options)?,
+    })
+}
+
+fn replay_by(options: &ArgMatches) -> Option<Asked>
+    ensures { result ≡ meaning.replay_by (rows_of (found_of options.now)) }
+{
+    Some(Asked::Replay {
+        group_bytes: number_in("group-bytes", options)?,
+        batch_bytes: number_in("batch-bytes", options)?,
+        last: number_in("last", options)?,
+    })
+}
+
+/// The number that the matches have for an option.
+fn number_in(id: &str, options: &ArgMatches) -> Option<u64>
+    ensures { result ≡ meaning.number_in id.now (rows_of (found_of options.now)) }
+{
+    options.get_one::<u64>(id)
+}

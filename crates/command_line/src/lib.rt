@@ -1,0 +1,12 @@
+//! The words of a call, read with `clap`: the program's name, and a command with its options.
+#![tactic(auto)]
+
+mod asked;
+mod definition;
+mod laws;
+
+pub use asked::{Asked, WordsError, read_words};
+pub use laws::{lawful_words, words_that_ask, words_that_do_not_ask};
+
+#[cfg(test)]
+mod tests;

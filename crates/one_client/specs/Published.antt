@@ -1,0 +1,15 @@
+-- The pairs that a published state holds.
+use Rattle.std.specs.Prelude.{ℕ, ◌-◌, List, map, vec_len, vec_capacity}
+use Rattle.wp_model.specs.Map.{Pairs}
+use Rattle.one_client.specs.declared.published.Pair.{Pair}
+use Rattle.one_client.specs.declared.published.Published.{Published}
+
+abbrev pub pair_of : Pair → List ℕ × List ℕ
+pair_of p = (p.key, p.value)
+
+abbrev pub pairs_of : Published → Pairs
+pairs_of state = map pair_of state.pairs.items
+
+-- for how many more keys there is room
+abbrev pub room_of : Published → ℕ
+room_of state = vec_capacity state.pairs - vec_len state.pairs
