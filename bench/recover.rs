@@ -1,0 +1,204 @@
+//! What the script `recover` beside this file measures with.
+//!
+//!     recover make LOG MIB              writes a log of about so many MiB
+//!     recover measure LOG PROGRAM N     times `PROGRAM LOG recover` and a plain pass of CRC-32C over the log, each N times
+
+use std::env;
+use std::error::Error;
+use std::fs;
+use std::path::Path;
+use std::process::{Command, Stdio};
+use std::time::{Duration, Instant};
+
+const BLOCK_LEN: usize = 32_768;
+const HEADER_LEN: usize = 7;
+
+/// The kinds of fragments.
+const FULL: u8 = 1;
+const FIRST: u8 = 2;
+const MIDDLE: u8 = 3;
+const LAST: u8 = 4;
+
+/// The tag of a value and that of a deletion.
+const VALUE: u8 = 1;
+const DELETION: u8 = 0;
+
+/// How many keys the log has.
+const KEYS: u64 = 50_000;
+
+type Failure = Box<dyn Error>;
+
+fn main() -> Result<(), Failure> {
+    let words: Vec<String> = env::args().skip(1).collect();
+    let words: Vec<&str> = words.iter().map(String::as_str).collect();
+    match words[..] {
+        ["make", log, mib] => make(Path::new(log), mib.parse::<usize>()? << 20),
+        ["measure", log, program, rounds] => measure(log, program, rounds.parse()?),
+        _ => Err("usage: recover make LOG MIB | recover measure LOG PROGRAM N".into()),
+    }
+}
+
+/// CRC-32C, one byte a step by a table of 256 entries.
+struct Checksum {
+    table: [u32; 256],
+}
+
+impl Checksum {
+    fn new() -> Checksum {
+        let mut table = [0; 256];
+        for (byte, entry) in table.iter_mut().enumerate() {
+            *entry = (0..8).fold(byte as u32, |crc, _| {
+                if crc & 1 == 1 { (crc >> 1) ^ 0x82f6_3b78 } else { crc >> 1 }
+            });
+        }
+        Checksum { table }
+    }
+
+    fn of(&self, bytes: &[u8]) -> u32 {
+        !bytes.iter().fold(!0, |crc: u32, byte| {
+            (crc >> 8) ^ self.table[usize::from(crc as u8 ^ byte)]
+        })
+    }
+
+    fn masked(&self, bytes: &[u8]) -> u32 {
+        self.of(bytes).rotate_right(15).wrapping_add(0xa282_ead8)
+    }
+}
+
+/// A linear congruential generator.
+struct Random {
+    state: u64,
+}
+
+impl Random {
+    fn below(&mut self, limit: u64) -> u64 {
+        self.state = self
+            .state
+            .wrapping_mul(6_364_136_223_846_793_005)
+            .wrapping_add(1_442_695_040_888_963_407);
+        (self.state >> 33) % limit
+    }
+}
+
+/// Writes batches with rising sequences until the log has so many bytes.
+fn make(path: &Path, len: usize) -> Result<(), Failure> {
+    let checksum = Checksum::new();
+    let mut random = Random { state: 1 };
+    let mut log = Vec::with_capacity(len + (1 << 20));
+    let mut sequence = 1;
+    while log.len() < len {
+        let batch = batch(&mut random, &mut sequence);
+        put_record(&checksum, &mut log, &batch);
+    }
+    fs::write(path, &log)?;
+    Ok(())
+}
+
+/// A batch of 1 to 20 records, of which about one in ten deletes its key. Most values have 16 to 400 bytes, and one in a
+/// thousand has 100,000, so that its record stands in several blocks.
+fn batch(random: &mut Random, sequence: &mut u64) -> Vec<u8> {
+    let count = 1 + random.below(20);
+    let mut bytes = Vec::new();
+    bytes.extend_from_slice(&sequence.to_le_bytes());
+    bytes.extend_from_slice(&(count as u32).to_le_bytes());
+    for _ in 0..count {
+        let key = format!("key:{:08}", random.below(KEYS));
+        if random.below(10) == 0 {
+            bytes.push(DELETION);
+            put_string(&mut bytes, key.as_bytes());
+        } else {
+            let len = match random.below(1000) {
+                0 => 100_000,
+                _ => 16 + random.below(385) as usize,
+            };
+            let value: Vec<u8> = (0..len).map(|_| random.below(256) as u8).collect();
+            bytes.push(VALUE);
+            put_string(&mut bytes, key.as_bytes());
+            put_string(&mut bytes, &value);
+        }
+    }
+    *sequence += count;
+    bytes
+}
+
+/// A string behind its length, a varint.
+fn put_string(bytes: &mut Vec<u8>, string: &[u8]) {
+    let mut len = string.len();
+    while len >= 0x80 {
+        bytes.push(len as u8 | 0x80);
+        len >>= 7;
+    }
+    bytes.push(len as u8);
+    bytes.extend_from_slice(string);
+}
+
+/// A record behind the log, in fragments of which none crosses the end of a block.
+fn put_record(checksum: &Checksum, log: &mut Vec<u8>, record: &[u8]) {
+    let (mut rest, mut is_first) = (record, true);
+    loop {
+        let left = BLOCK_LEN - log.len() % BLOCK_LEN;
+        if left < HEADER_LEN {
+            log.resize(log.len() + left, 0);
+            continue;
+        }
+        let (part, behind) = rest.split_at(rest.len().min(left - HEADER_LEN));
+        let kind = match (is_first, behind.is_empty()) {
+            (true, true) => FULL,
+            (true, false) => FIRST,
+            (false, false) => MIDDLE,
+            (false, true) => LAST,
+        };
+        put_fragment(checksum, log, kind, part);
+        if behind.is_empty() {
+            return;
+        }
+        (rest, is_first) = (behind, false);
+    }
+}
+
+fn put_fragment(checksum: &Checksum, log: &mut Vec<u8>, kind: u8, part: &[u8]) {
+    let mut checked = vec![kind];
+    checked.extend_from_slice(part);
+    log.extend_from_slice(&checksum.masked(&checked).to_le_bytes());
+    log.extend_from_slice(&(part.len() as u16).to_le_bytes());
+    log.extend_from_slice(&checked);
+}
+
+/// Times both, and prints the best times as rates and how often the one goes into the other.
+fn measure(log: &str, program: &str, rounds: usize) -> Result<(), Failure> {
+    let bytes = fs::read(log)?;
+    let last = recovered(log, program)?;
+    if last != format!("end {} clean", bytes.len()) {
+        return Err(format!("recover ended with `{last}`").into());
+    }
+    let checksum = Checksum::new();
+    let (mut recovery, mut plain) = (Duration::MAX, Duration::MAX);
+    let mut sum = 0;
+    for _ in 0..rounds {
+        let start = Instant::now();
+        let ended = Command::new(program)
+            .args([log, "recover"])
+            .stdout(Stdio::null())
+            .status()?;
+        recovery = recovery.min(start.elapsed());
+        if !ended.success() {
+            return Err(format!("recover ended with {ended}").into());
+        }
+        let start = Instant::now();
+        sum = checksum.of(std::hint::black_box(&bytes));
+        plain = plain.min(start.elapsed());
+    }
+    let rate = |time: Duration| bytes.len() as f64 / 1e6 / time.as_secs_f64();
+    println!("log      {} bytes, CRC-32C {sum:08x}", bytes.len());
+    println!("recover  {:8.1} MB/s", rate(recovery));
+    println!("CRC-32C  {:8.1} MB/s (a byte a step, by a table of 256 entries)", rate(plain));
+    println!("ratio    {:8.2}", recovery.as_secs_f64() / plain.as_secs_f64());
+    Ok(())
+}
+
+/// The last line that `recover` prints of the log.
+fn recovered(log: &str, program: &str) -> Result<String, Failure> {
+    let output = Command::new(program).args([log, "recover"]).output()?;
+    let text = String::from_utf8(output.stdout)?;
+    Ok(text.lines().last().unwrap_or_default().to_string())
+}

@@ -1,0 +1,88 @@
+//! Times Rust's BTreeMap as `tree_program` beside this file times the memtable's tree: the same versions in the same order,
+//! and the same lookups.
+//!
+//! The argument is how many thousand. What is printed is the microseconds of both, and how many lookups found a value.
+
+use std::cmp::Reverse;
+use std::collections::BTreeMap;
+use std::env;
+use std::error::Error;
+use std::hint::black_box;
+use std::time::{Duration, Instant};
+
+/// How many versions a batch makes.
+const BATCH: u64 = 1000;
+
+/// By key, and of one key the newer first.
+type Version = (Vec<u8>, Reverse<u64>);
+
+type Versions = BTreeMap<Version, Option<Vec<u8>>>;
+
+fn main() -> Result<(), Box<dyn Error>> {
+    let batches = env::args().nth(1).ok_or("how many thousand?")?.parse::<u64>()?;
+    let versions = batches * BATCH;
+    let keys = versions / 4 + 1;
+    let mut random = Random { state: 1 };
+    let mut tree = Versions::new();
+    let mut inserting = Duration::ZERO;
+    for at in 0..batches {
+        let batch = batch(&mut random, keys, at * BATCH);
+        let start = Instant::now();
+        for (version, value) in batch {
+            tree.insert(version, value);
+        }
+        inserting += start.elapsed();
+    }
+    let start = Instant::now();
+    let found = look_up_all(&tree, &mut random, keys, versions);
+    let looking = start.elapsed();
+    println!("{} {} {found}", inserting.as_micros(), looking.as_micros());
+    Ok(())
+}
+
+/// A linear congruential generator.
+struct Random {
+    state: u64,
+}
+
+impl Random {
+    fn below(&mut self, limit: u64) -> u64 {
+        self.state = self
+            .state
+            .wrapping_mul(6_364_136_223_846_793_005)
+            .wrapping_add(1_442_695_040_888_963_407);
+        (self.state >> 33) % limit
+    }
+}
+
+/// Values for random keys, with the sequences from one on.
+fn batch(random: &mut Random, keys: u64, first: u64) -> Vec<(Version, Option<Vec<u8>>)> {
+    (0..BATCH)
+        .map(|at| {
+            let key = random.below(keys).to_be_bytes().to_vec();
+            ((key, Reverse(first + at)), Some(at.to_be_bytes().to_vec()))
+        })
+        .collect()
+}
+
+/// Looks up random keys at random sequences, and says how many have a value there.
+fn look_up_all(tree: &Versions, random: &mut Random, keys: u64, versions: u64) -> u64 {
+    let mut found = 0;
+    let mut wanted = (vec![0; 8], Reverse(0));
+    for _ in 0..versions {
+        let key = random.below(keys);
+        let at = random.below(versions);
+        wanted.0.copy_from_slice(&key.to_be_bytes());
+        wanted.1 = Reverse(at);
+        if black_box(look_up(tree, &wanted)).is_some() {
+            found += 1;
+        }
+    }
+    found
+}
+
+/// The value of a key at a sequence: what its newest version up to the sequence says.
+fn look_up<'a>(tree: &'a Versions, wanted: &Version) -> Option<&'a [u8]> {
+    let ((key, _), value) = tree.range(wanted..).next()?;
+    if *key == wanted.0 { value.as_deref() } else { None }
+}
