@@ -7,10 +7,11 @@ use Rattle.std.proofs.lemmas.List.{append-nil}
 use Rattle.std.proofs.lemmas.List.Sums.{sum_by-cons}
 use Rattle.wp_model.specs.Varint.{varint, varint_within}
 use Rattle.wp_model.specs.Batch.{Record, value, deletion, single_deletion, log_data, count_of, varstring, record_bytes, header, body, size_of_batch}
-use Rattle.client_script.specs.declared.script.Command.{Command}
-use Rattle.client_script.specs.declared.script.Command.TheVariants.{Put, Delete, SingleDelete, Note, Clear, Commit, Get}
+use Rattle.client_calls.specs.declared.command.Command.{Command}
+use Rattle.client_calls.specs.declared.command.Command.TheVariants.{Put, Delete, SingleDelete, Note, Clear, Commit, Get, Many, Scan, Stop, Unstop, Slow, Unslow}
 use Rattle.client_script.specs.declared.script.Script.{Script}
-use Rattle.client_script.specs.Scripts.{command_of, additions_of, FitsBatches, line_len, lines_len, script_len, IsShort, AreShort, HasShortWords}
+use Rattle.client_calls.specs.Commands.{command_of}
+use Rattle.client_script.specs.Scripts.{additions_of, FitsBatches, line_len, lines_len, script_len, IsShort, IsScriptCommand, HasScriptCommands}
 
 -- a length of two bytes at most is spelled in two
 one_byte : (k n : ℕ) → n < 128 → length (varint_within (suc k) n) ≡ 1
@@ -51,7 +52,7 @@ with_record r c cs rs line words rest = record {
 without_record : (c : Command) (cs : List Command) (rs : List Record) → IsWithin rs (lines_len cs) → IsWithin rs (lines_len (c ∷ cs))
 without_record c cs rs rest = record { lines = omega (arith, rest.lines, sum_by-cons line_len c cs); words = rest.words }
 
-within : (cs : List Command) → AllByRecursion AreShort cs → IsWithin (additions_of (map command_of cs)) (lines_len cs)
+within : (cs : List Command) → AllByRecursion IsScriptCommand cs → IsWithin (additions_of (map command_of cs)) (lines_len cs)
 within [] short = record { lines = omega arith; words = omega arith }
 within (Put key v ∷ cs) short =
     let k = word_len key short.0.0 in
@@ -69,15 +70,21 @@ within (Note text ∷ cs) short =
 within (Clear ∷ cs) short = without_record Clear cs _ (within cs short.1)
 within (Commit options ∷ cs) short = without_record (Commit options) cs _ (within cs short.1)
 within (Get key ∷ cs) short = without_record (Get key) cs _ (within cs short.1)
+within (Many keys ∷ cs) short = absurd short.0
+within (Scan lo hi ∷ cs) short = absurd short.0
+within (Stop ∷ cs) short = absurd short.0
+within (Unstop ∷ cs) short = absurd short.0
+within (Slow rate ∷ cs) short = absurd short.0
+within (Unslow ∷ cs) short = absurd short.0
 
 -- Many records are shorter than their lines by as much as a header has; few are short.
-client_fits : (cs : List Command) → AllByRecursion AreShort cs → lines_len cs ≤ 16777217 → size_of_batch (additions_of (map command_of cs)) ≤ 16777216
+client_fits : (cs : List Command) → AllByRecursion IsScriptCommand cs → lines_len cs ≤ 16777217 → size_of_batch (additions_of (map command_of cs)) ≤ 16777216
 client_fits cs short lines =
     let rs = additions_of (map command_of cs) in
     let small = within cs short in
     omega (arith, small.lines, small.words, lines, length-append (header 0 (count_of rs)) (body rs))
 
-clients_fit : (clients : List (Vec Command Global)) → AllByRecursion (λ cs. AllByRecursion AreShort cs.items) clients → sum_by (λ cs. lines_len cs.items) clients ≤ 16777217
+clients_fit : (clients : List (Vec Command Global)) → AllByRecursion (λ cs. AllByRecursion IsScriptCommand cs.items) clients → sum_by (λ cs. lines_len cs.items) clients ≤ 16777217
     → AllByRecursion (λ cs. size_of_batch (additions_of cs) ≤ 16777216) (map (λ cs. map command_of cs.items) clients)
 clients_fit [] short lines = tt
 clients_fit (cs ∷ rest) short lines =
@@ -85,5 +92,5 @@ clients_fit (cs ∷ rest) short lines =
     (client_fits cs.items short.0 (omega (arith, lines, sum)), clients_fit rest short.1 (omega (arith, lines, sum)))
 
 -- what is read of a text of 16 MiB
-pub fits_batches : (script : Script) → HasShortWords script → script_len script ≤ 16777217 → FitsBatches script
+pub fits_batches : (script : Script) → HasScriptCommands script → script_len script ≤ 16777217 → FitsBatches script
 fits_batches script short lines = clients_fit script.clients.items short lines

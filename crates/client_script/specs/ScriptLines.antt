@@ -10,7 +10,8 @@ use Rattle.client_script.specs.declared.lines.Line.{Line}
 use Rattle.client_script.specs.declared.lines.Line.TheVariants as line
 use Rattle.client_script.specs.declared.lines.LineError.{LineError}
 use Rattle.client_script.specs.declared.lines.LineError.TheVariants.{Fault, NoMemory}
-use Rattle.client_script.specs.Scripts.{command_of, line_len, AreShort}
+use Rattle.client_calls.specs.Commands.{command_of}
+use Rattle.client_script.specs.Scripts.{line_len, IsScriptCommand}
 
 -- what a line says, in the definition's words
 abbrev pub line_said : Line → model.Line
@@ -22,10 +23,10 @@ abbrev pub said_len : Line → ℕ
 said_len (line.Section n) = 0
 said_len (line.Command c) = line_len c
 
--- the words of a command are short
-abbrev pub SaysShortWords : Line → Type 0
-SaysShortWords (line.Section n) = Unit {0}
-SaysShortWords (line.Command c) = AreShort c
+-- a command is one that a line may say
+abbrev pub MayBeSaid : Line → Type 0
+MayBeSaid (line.Section n) = Unit {0}
+MayBeSaid (line.Command c) = IsScriptCommand c
 
 -- What is read is what the definition gives, and so is a fault. Want of memory says nothing of the text.
 abbrev pub Reads : {A B : Type 0} → (A → B) → model.Read B → Result A LineError → Type 0
@@ -33,7 +34,7 @@ Reads view given (Ok x) = given ≡ Ok (view x)
 Reads view given (Err (Fault kind)) = given ≡ Err kind
 Reads view given (Err NoMemory) = Unit {0}
 
--- what is read behind the first word of a form
+-- what is read after the first word of a form
 abbrev pub behind_word : (List (List ℕ) → model.Read model.Line) → List (List ℕ) → model.Read model.Line
 behind_word rest ws = if list_all model.is_word ws then rest ws else Err Form
 

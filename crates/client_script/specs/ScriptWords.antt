@@ -3,7 +3,7 @@ use Rattle.std.specs.Prelude.{ℕ, ◌+◌, ◌&&◌, ◌==◌, List, [], ◌∷
 use Rattle.std.specs.List.{slice_split}
 use Rattle.wp_model.specs.Script.{is_word}
 
--- the parts of what stands behind a separator, where there is one
+-- the parts of what stands after a separator, where there is one
 abbrev pub parts_of : ℕ → Option (List ℕ) → List (List ℕ)
 parts_of separator None = []
 parts_of separator (Some text) = slice_split (λ b. b == separator) text

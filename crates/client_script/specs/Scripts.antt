@@ -1,23 +1,15 @@
 -- The commands that a parsed script holds.
 use Rattle.std.specs.Prelude.{◌≡◌, ℕ, ◌+◌, ◌≤◌, List, [], ◌∷◌, length, map, sum_by, Result, Err}
 use Rattle.std.specs.List.{AllByRecursion}
-use Rattle.wp_model.specs.Batch.{Record, value, deletion, single_deletion, log_data, size_of_batch}
+use Rattle.wp_model.specs.Batch.{Record, size_of_batch}
 use Rattle.wp_model.specs.Calls as calls
 use Rattle.wp_model.specs.Script as model
-use Rattle.client_script.specs.declared.script.Command.{Command}
-use Rattle.client_script.specs.declared.script.Command.TheVariants.{Put, Delete, SingleDelete, Note, Clear, Commit, Get}
+use Rattle.client_calls.specs.declared.command.Command.{Command}
+use Rattle.client_calls.specs.declared.command.Command.TheVariants.{Put, Delete, SingleDelete, Note, Clear, Commit, Get, Many, Scan, Stop, Unstop, Slow, Unslow}
+use Rattle.client_calls.specs.Commands.{command_of}
 use Rattle.client_script.specs.declared.script.Script.{Script}
 use Rattle.client_script.specs.declared.script.ScriptError.{ScriptError}
 use Rattle.client_script.specs.declared.script.ScriptError.TheVariants.{Fault, NoMemory}
-
-abbrev pub command_of : Command → calls.Command
-command_of (Put key v) = calls.add (value key v)
-command_of (Delete key) = calls.add (deletion key)
-command_of (SingleDelete key) = calls.add (single_deletion key)
-command_of (Note text) = calls.add (log_data text)
-command_of Clear = calls.clear
-command_of (Commit options) = calls.commit options
-command_of (Get key) = calls.get key
 
 abbrev pub commands_of : Script → List (List calls.Command)
 commands_of script = map (λ cs. map command_of cs.items) script.clients.items
@@ -41,19 +33,32 @@ line_len (Note text) = length text + 6
 line_len Clear = 0
 line_len (Commit options) = 0
 line_len (Get key) = 0
+line_len (Many keys) = 0
+line_len (Scan lo hi) = 0
+line_len Stop = 0
+line_len Unstop = 0
+line_len (Slow rate) = 0
+line_len Unslow = 0
 
 -- a word of a script has at least one byte, and no more than these
 abbrev pub IsShort : List ℕ → Type 0
 IsShort word = (1 ≤ length word) × (length word ≤ 1024)
 
-abbrev pub AreShort : Command → Type 0
-AreShort (Put key v) = IsShort key × IsShort v
-AreShort (Delete key) = IsShort key
-AreShort (SingleDelete key) = IsShort key
-AreShort (Note text) = IsShort text
-AreShort Clear = Unit {0}
-AreShort (Commit options) = Unit {0}
-AreShort (Get key) = IsShort key
+-- what a line of a script may say: one of these commands, its words short
+abbrev pub IsScriptCommand : Command → Type 0
+IsScriptCommand (Put key v) = IsShort key × IsShort v
+IsScriptCommand (Delete key) = IsShort key
+IsScriptCommand (SingleDelete key) = IsShort key
+IsScriptCommand (Note text) = IsShort text
+IsScriptCommand Clear = Unit {0}
+IsScriptCommand (Commit options) = Unit {0}
+IsScriptCommand (Get key) = IsShort key
+IsScriptCommand (Many keys) = ⊥
+IsScriptCommand (Scan lo hi) = ⊥
+IsScriptCommand Stop = ⊥
+IsScriptCommand Unstop = ⊥
+IsScriptCommand (Slow rate) = ⊥
+IsScriptCommand Unslow = ⊥
 
 -- how long the lines of a client are that add records
 abbrev pub lines_len : List Command → ℕ
@@ -63,9 +68,9 @@ lines_len cs = sum_by line_len cs
 abbrev pub script_len : Script → ℕ
 script_len script = sum_by (λ cs. lines_len cs.items) script.clients.items
 
--- each word of a script is short
-abbrev pub HasShortWords : Script → Type 0
-HasShortWords script = AllByRecursion (λ cs. AllByRecursion AreShort cs.items) script.clients.items
+-- each command is one that a line may say
+abbrev pub HasScriptCommands : Script → Type 0
+HasScriptCommands script = AllByRecursion (λ cs. AllByRecursion IsScriptCommand cs.items) script.clients.items
 
 -- A fault and its line are those that are given. Want of memory says nothing of the text.
 abbrev pub IsFaultOf : Result model.Script model.Fault → ScriptError → Type 0

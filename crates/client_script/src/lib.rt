@@ -1,4 +1,5 @@
-//! The script that a call is given: lines of words, and the commands that they say.
+//! The script that a call is given: lines of words, and the commands that they say. `parser` has the grammar of a
+//! script, and `schedule` that of a script with a schedule.
 #![tactic(auto)]
 
 mod lines;
@@ -10,7 +11,7 @@ mod words;
 
 pub use parser::{TEXT_LIMIT, parse};
 pub use schedule::{Schedule, parse_schedule};
-pub use script::{Command, Script, ScriptError};
+pub use script::{Script, ScriptError};
 
 #[cfg(test)]
 mod tests;

@@ -6,11 +6,12 @@ ghost use Rattle.wp_model.specs.Calls as calls;
 ghost use Rattle.wp_model.specs.Script as model;
 ghost use Rattle.client_script.specs.Scripts.{IsShort};
 ghost use Rattle.client_script.specs.ScriptWords.{parts_of, len_behind, alone};
-ghost use Rattle.client_script.specs.ScriptLines.{line_said, said_len, SaysShortWords, Reads, behind_word, error_at};
+ghost use Rattle.client_script.specs.ScriptLines.{line_said, said_len, MayBeSaid, Reads, behind_word, error_at};
 
 use crate::numbers::number_of;
-use crate::script::{Command, ScriptError};
+use crate::script::ScriptError;
 use crate::words::{one_word, split_once, two_words};
+use client_calls::Command;
 use std::alloc::{AllocFailed, Global};
 use wp_coding::Bytes;
 use wp_model::{NoMemory, ScriptFault, WriteOptions};
@@ -77,7 +78,7 @@ pub fn is_passed_over(line: &[u8]) -> bool
 pub fn read_line(alloc: Global, line: &[u8]) -> Result<Line, LineError>
     ensures line { Reads line_said (model.line_of model.forms line.now) result }
     ensures len { IfOk result (λ l. said_len l ≤ length line.now + 1) }
-    ensures short { IfOk result SaysShortWords }
+    ensures command { IfOk result MayBeSaid }
 {
     if !are_plain(line) {
         return Err(LineError::Fault(ScriptFault::Byte));
@@ -117,25 +118,25 @@ pub fn are_plain(line: &[u8]) -> bool
     line.iter().all(|byte| (b' '..=b'~').contains(byte))
 }
 
-/// Reads what stands behind `client`.
+/// Reads what stands after `client`.
 fn read_section(rest: Option<&[u8]>) -> Result<Line, LineError>
     ensures line { let words = parts_of 32 (option_copied rest.entry) in
         Reads line_said (behind_word (model.one_number model.section) words) result }
     ensures len { IfOk result (λ l. said_len l ≡ 0) }
-    ensures short { IfOk result SaysShortWords }
+    ensures command { IfOk result MayBeSaid }
 {
     let word = one_word(rest).ok_or(LineError::FORM)?;
     let number = number_of(word).ok_or(LineError::FORM)?;
     Ok(Line::Section(number))
 }
 
-/// Reads what stands behind `put`.
+/// Reads what stands after `put`.
 fn read_put(alloc: Global, rest: Option<&[u8]>) -> Result<Line, LineError>
     ensures line { let words = parts_of 32 (option_copied rest.entry) in
         let put = model.two_words (λ k v. model.command (calls.add (value k v))) in
         Reads line_said (behind_word put words) result }
     ensures len { IfOk result (λ l. said_len l ≡ len_behind (option_copied rest.entry) + 4) }
-    ensures short { IfOk result SaysShortWords }
+    ensures command { IfOk result MayBeSaid }
 {
     let (key, value) = two_words(rest).ok_or(LineError::FORM)?;
     let key = Bytes::copy(alloc, key)?;
@@ -143,48 +144,48 @@ fn read_put(alloc: Global, rest: Option<&[u8]>) -> Result<Line, LineError>
     Ok(Line::Command(Command::Put { key, value }))
 }
 
-/// Reads what stands behind `del`.
+/// Reads what stands after `del`.
 fn read_delete(alloc: Global, rest: Option<&[u8]>) -> Result<Line, LineError>
     ensures line { let words = parts_of 32 (option_copied rest.entry) in
         let delete = model.one_word (λ k. model.command (calls.add (deletion k))) in
         Reads line_said (behind_word delete words) result }
     ensures len { IfOk result (λ l. said_len l ≡ len_behind (option_copied rest.entry) + 4) }
-    ensures short { IfOk result SaysShortWords }
+    ensures command { IfOk result MayBeSaid }
 {
     let key = read_word(alloc, rest)?;
     Ok(Line::Command(Command::Delete { key }))
 }
 
-/// Reads what stands behind `sdel`.
+/// Reads what stands after `sdel`.
 fn read_single_delete(alloc: Global, rest: Option<&[u8]>) -> Result<Line, LineError>
     ensures line { let words = parts_of 32 (option_copied rest.entry) in
         let single_delete = model.one_word (λ k. model.command (calls.add (single_deletion k))) in
         Reads line_said (behind_word single_delete words) result }
     ensures len { IfOk result (λ l. said_len l ≡ len_behind (option_copied rest.entry) + 5) }
-    ensures short { IfOk result SaysShortWords }
+    ensures command { IfOk result MayBeSaid }
 {
     let key = read_word(alloc, rest)?;
     Ok(Line::Command(Command::SingleDelete { key }))
 }
 
-/// Reads what stands behind `note`.
+/// Reads what stands after `note`.
 fn read_note(alloc: Global, rest: Option<&[u8]>) -> Result<Line, LineError>
     ensures line { let words = parts_of 32 (option_copied rest.entry) in
         let note = model.one_word (λ t. model.command (calls.add (log_data t))) in
         Reads line_said (behind_word note words) result }
     ensures len { IfOk result (λ l. said_len l ≡ len_behind (option_copied rest.entry) + 5) }
-    ensures short { IfOk result SaysShortWords }
+    ensures command { IfOk result MayBeSaid }
 {
     let text = read_word(alloc, rest)?;
     Ok(Line::Command(Command::Note { text }))
 }
 
-/// Reads what stands behind `clear`.
+/// Reads what stands after `clear`.
 fn read_clear(rest: Option<&[u8]>) -> Result<Line, LineError>
     ensures line { let words = parts_of 32 (option_copied rest.entry) in
         Reads line_said (behind_word (model.no_word (model.command calls.clear)) words) result }
     ensures len { IfOk result (λ l. said_len l ≡ 0) }
-    ensures short { IfOk result SaysShortWords }
+    ensures command { IfOk result MayBeSaid }
 {
     if rest.is_some() {
         return Err(LineError::FORM);
@@ -192,12 +193,12 @@ fn read_clear(rest: Option<&[u8]>) -> Result<Line, LineError>
     Ok(Line::Command(Command::Clear))
 }
 
-/// Reads what stands behind `commit`.
+/// Reads what stands after `commit`.
 fn read_commit(rest: Option<&[u8]>) -> Result<Line, LineError>
     ensures line { let words = parts_of 32 (option_copied rest.entry) in
         Reads line_said (behind_word model.commit_flags words) result }
     ensures len { IfOk result (λ l. said_len l ≡ 0) }
-    ensures short { IfOk result SaysShortWords }
+    ensures command { IfOk result MayBeSaid }
 {
     let (sync, rest) = take_flag(rest, b"sync");
     let (no_log, rest) = take_flag(rest, b"nolog");
@@ -212,13 +213,13 @@ fn read_commit(rest: Option<&[u8]>) -> Result<Line, LineError>
     Ok(Line::Command(Command::Commit { options }))
 }
 
-/// Reads what stands behind `get`.
+/// Reads what stands after `get`.
 fn read_get(alloc: Global, rest: Option<&[u8]>) -> Result<Line, LineError>
     ensures line { let words = parts_of 32 (option_copied rest.entry) in
         let get = model.one_word (λ k. model.command (calls.get k)) in
         Reads line_said (behind_word get words) result }
     ensures len { IfOk result (λ l. said_len l ≡ 0) }
-    ensures short { IfOk result SaysShortWords }
+    ensures command { IfOk result MayBeSaid }
 {
     let key = read_word(alloc, rest)?;
     Ok(Line::Command(Command::Get { key }))
@@ -241,7 +242,7 @@ fn take_flag<'a>(rest: Option<&'a [u8]>, flag: &[u8]) -> (bool, Option<&'a [u8]>
     }
 }
 
-/// Reads the one word that stands behind a command's.
+/// Reads the one word that stands after a command's.
 fn read_word(alloc: Global, rest: Option<&[u8]>) -> Result<Bytes, LineError>
     ensures word { Reads (λ w. w) (model.or_form (alone (parts_of 32 (option_copied rest.entry)))) result }
     ensures len { IfOk result (λ w. length w + 1 ≡ len_behind (option_copied rest.entry)) }

@@ -1,14 +1,27 @@
 //! All lines of a script.
+//!
+//! A script is lines that end with a line feed, which the last may lack. Empty lines and lines that
+//! begin with `#` are passed over whole. The others are words of 1 to 1024 printing characters, with
+//! one space between them:
+//!
+//! - `client N` begins the section of a client;
+//! - `put K V`, `del K`, `sdel K` and `note T` add a value, a deletion, a single deletion and log
+//!   data to its batch;
+//! - `clear` empties the batch;
+//! - `commit` writes the batch, and after it may stand `sync`, `nolog`, or both in this order;
+//! - `get K` reads a key.
 
 ghost use Rattle.std.specs.Prelude.{◌≡◌, ◌+◌, ◌-◌, ◌^◌, ◌<◌, ◌≤◌, Ok, length, IfOk, IfErr, OnOk};
 ghost use Rattle.wp_model.specs.Script as model;
 ghost use Rattle.wp_model.specs.Script.{script_of, run_grammar, lines_read};
-ghost use Rattle.client_script.specs.Scripts.{commands_of, command_of, IsFaultOf, FitsBatches, script_len, line_len, HasShortWords, AreShort};
+ghost use Rattle.client_calls.specs.Commands.{command_of};
+ghost use Rattle.client_script.specs.Scripts.{commands_of, IsFaultOf, FitsBatches, script_len, line_len, HasScriptCommands, IsScriptCommand};
 ghost use Rattle.client_script.specs.ScriptLines.{Reads, said_added, line_added};
 
 use crate::lines::{Line, LineError, is_passed_over, read_line};
-use crate::script::{Command, Script, ScriptError};
+use crate::script::{Script, ScriptError};
 use crate::words::split_once;
+use client_calls::Command;
 use std::alloc::Global;
 use wp_model::ScriptFault;
 
@@ -18,27 +31,18 @@ pub const TEXT_LIMIT: usize = 16_777_216;
 /// How many clients a script may have.
 const CLIENT_LIMIT: u64 = 1;
 
-/// Parses a script: lines that end with a line feed, which the last may lack. Empty lines and
-/// lines that begin with `#` are passed over whole. The others are words of 1 to 1024 printing
-/// characters, with one space between them:
-///
-/// - `client N` begins the section of a client;
-/// - `put K V`, `del K`, `sdel K` and `note T` add a value, a deletion, a single deletion and log
-///   data to its batch;
-/// - `clear` empties the batch;
-/// - `commit` writes the batch, and behind it may stand `sync`, `nolog`, or both in this order;
-/// - `get K` reads a key.
-///
-/// The first line with a fault decides, and within a line the first kind in the order byte, word,
-/// form, client, clients. The text as a whole may be too long, before all else, or have no client,
-/// after all else.
+/// Parses a script. The first fault in its lines decides, and within a line the first kind in the
+/// order byte, word, form, client, clients. The text as a whole may be too long, before all else,
+/// or have no client, after all else.
 pub fn parse(alloc: Global, text: &[u8]) -> Result<Script, ScriptError>
     ensures script { IfOk result (λ s. script_of run_grammar text.now ≡ Ok (commands_of s)) }
     ensures fault { IfErr result (IsFaultOf (script_of run_grammar text.now)) }
 
     // All that a client adds fits one batch, whatever becomes of its commits.
     ensures fits { IfOk result FitsBatches }
-    ensures words { IfOk result HasShortWords }
+
+    // No command is of another form than these, and its words are short.
+    ensures commands { IfOk result HasScriptCommands }
 {
     if text.len() > TEXT_LIMIT {
         return Err(ScriptError::Fault {
@@ -61,7 +65,7 @@ fn read_lines(alloc: Global, text: &[u8]) -> Result<Script, ScriptError>
     ensures script { IfOk result (λ s. lines_read run_grammar text.now ≡ Ok (commands_of s)) }
     ensures fault { IfErr result (IsFaultOf (lines_read run_grammar text.now)) }
     ensures small { IfOk result (λ s. script_len s ≤ length text.now + 1) }
-    ensures words { IfOk result HasShortWords }
+    ensures commands { IfOk result HasScriptCommands }
 {
     let mut script = Script {
         clients: Vec::new(alloc),
@@ -85,7 +89,7 @@ fn add_line(alloc: Global, script: &mut Script, line: &[u8]) -> Result<(), LineE
         (line_added CLIENT_LIMIT (commands_of script.old) line.now) result }
     ensures len { OnOk result
         (script_len script.new ≤ script_len script.old + length line.now + 1) }
-    ensures short { HasShortWords script.old → OnOk result (HasShortWords script.new) }
+    ensures commands { HasScriptCommands script.old → OnOk result (HasScriptCommands script.new) }
 {
     if is_passed_over(line) {
         return Ok(());
@@ -107,7 +111,7 @@ pub fn add_said(
     ensures few { length script.old.clients.items ≤ client_limit → OnOk result (length script.new.clients.items ≤ client_limit) }
     ensures len { OnOk result
         (script_len script.new ≤ script_len script.old + length line.now + 1) }
-    ensures short { HasShortWords script.old → OnOk result (HasShortWords script.new) }
+    ensures commands { HasScriptCommands script.old → OnOk result (HasScriptCommands script.new) }
 {
     match read_line(alloc, line)? {
         Line::Section(number) => add_section(alloc, script, client_limit, number),
@@ -115,7 +119,7 @@ pub fn add_said(
     }
 }
 
-/// Begins the section of a client behind the others.
+/// Begins the section of a client after the others.
 fn add_section(
     alloc: Global,
     script: &mut Script,
@@ -127,7 +131,7 @@ fn add_section(
         (model.with_section client_limit (commands_of script.old) number) result }
     ensures few { length script.old.clients.items ≤ client_limit → OnOk result (length script.new.clients.items ≤ client_limit) }
     ensures len { OnOk result (script_len script.new ≡ script_len script.old) }
-    ensures short { HasShortWords script.old → OnOk result (HasShortWords script.new) }
+    ensures commands { HasScriptCommands script.old → OnOk result (HasScriptCommands script.new) }
 {
     if number != script.clients.len() as u64 + 1 {
         return Err(LineError::Fault(ScriptFault::Client));
@@ -145,8 +149,8 @@ fn add_command(script: &mut Script, command: Command) -> Result<(), LineError>
         (model.with_command (commands_of script.old) (command_of command)) result }
     ensures few { OnOk result (length script.new.clients.items ≡ length script.old.clients.items) }
     ensures len { OnOk result (script_len script.new ≡ script_len script.old + line_len command) }
-    ensures short { HasShortWords script.old → AreShort command
-        → OnOk result (HasShortWords script.new) }
+    ensures commands { HasScriptCommands script.old → IsScriptCommand command
+        → OnOk result (HasScriptCommands script.new) }
 {
     let Some(commands) = script.clients.last_mut() else {
         return Err(LineError::Fault(ScriptFault::Client));

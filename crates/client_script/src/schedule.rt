@@ -1,10 +1,15 @@
-//! A script with a schedule behind it: the events of the write path's core, one a line.
+//! A script with a schedule after it: the events of the write path's core, one a line.
+//!
+//! The script's lines are those of `parser`. After them stands the line `schedule`, and after that a
+//! line for each event: its word and the number of a client of the script, as `link 1`. The words are
+//! `link`, `elect`, `build`, `log`, `fault`, `launch`, `insert`, `finish`, `publish`, `exit`,
+//! `complete` and `read`. Empty lines and comments are passed over there too.
 
 ghost use Rattle.std.specs.Prelude.{◌≡◌, ◌+◌, ◌≤◌, ◌==◌, [], Ok, Err, length, if◌then◌else◌, IfOk, IfErr, OnOk, option_copied};
 ghost use Rattle.core_model.specs.Schedule as model;
 ghost use Rattle.wp_model.specs.Script.{words_of};
 ghost use Rattle.wp_model.specs.declared.script.ScriptFault.TheVariants.{Form};
-ghost use Rattle.client_script.specs.Scripts.{commands_of, FitsBatches, script_len, HasShortWords};
+ghost use Rattle.client_script.specs.Scripts.{commands_of, FitsBatches, script_len, HasScriptCommands};
 ghost use Rattle.client_script.specs.ScriptLines.{Reads};
 ghost use Rattle.client_script.specs.ScriptWords.{parts_of};
 ghost use Rattle.client_script.specs.Schedules.{draft_of, schedule_of, event_named, line_added, event_added, IsScheduleFaultOf};
@@ -35,24 +40,19 @@ struct Draft {
     events: Option<Vec<Event>>,
 }
 
-/// Parses a script of 1 to 16 clients and the schedule behind it. The script's lines are those of
-/// [`parse`](crate::parse). The line `schedule` stands behind them, and behind it a line for each
-/// event: its word and the number of a client of the script, as `link 1`. The words are `link`,
-/// `elect`, `build`, `log`, `fault`, `launch`, `insert`, `finish`, `publish`, `exit`, `complete`
-/// and `read`. Empty lines and comments are passed over there too.
-///
-/// Without the line `schedule` the fault is `schedule`, after all others.
+/// Parses a script of 1 to 16 clients and its schedule. Faults come as in [`parse`](crate::parse);
+/// without the line `schedule` the fault is `schedule`, after all others.
 pub fn parse_schedule(alloc: Global, text: &[u8]) -> Result<Schedule, ScriptError>
     ensures schedule { IfOk result (λ s. model.schedule_of model.clients_grammar model.first_event_words text.now
         ≡ Ok (schedule_of s)) }
     ensures fault { IfErr result (IsScheduleFaultOf
         (model.schedule_of model.clients_grammar model.first_event_words text.now)) }
 
-    // It has a client at least, and all that each adds fits one batch, whatever becomes of its
-    // commits.
+    // It has a client at least, all that each adds fits one batch, whatever becomes of its commits,
+    // and no command is of another form than a script's.
     ensures clients { IfOk result (λ s. (1 ≤ length s.script.clients.items) × (length s.script.clients.items ≤ CLIENT_LIMIT)) }
     ensures fits { IfOk result (λ s. FitsBatches s.script) }
-    ensures words { IfOk result (λ s. HasShortWords s.script) }
+    ensures commands { IfOk result (λ s. HasScriptCommands s.script) }
 {
     if text.len() > TEXT_LIMIT {
         return Err(ScriptError::Fault {
@@ -84,7 +84,7 @@ fn read_lines(alloc: Global, text: &[u8]) -> Result<Draft, ScriptError>
         (model.lines_read model.clients_grammar model.first_event_words text.now)) }
     ensures few { IfOk result (λ d. length d.script.clients.items ≤ CLIENT_LIMIT) }
     ensures small { IfOk result (λ d. script_len d.script ≤ length text.now + 1) }
-    ensures words { IfOk result (λ d. HasShortWords d.script) }
+    ensures commands { IfOk result (λ d. HasScriptCommands d.script) }
 {
     let mut draft = Draft {
         script: Script {
@@ -112,7 +112,7 @@ fn add_line(alloc: Global, draft: &mut Draft, line: &[u8]) -> Result<(), LineErr
     ensures few { OnOk result (length draft.new.script.clients.items ≤ CLIENT_LIMIT) }
     ensures len { OnOk result
         (script_len draft.new.script ≤ script_len draft.old.script + length line.now + 1) }
-    ensures short { HasShortWords draft.old.script → OnOk result (HasShortWords draft.new.script) }
+    ensures commands { HasScriptCommands draft.old.script → OnOk result (HasScriptCommands draft.new.script) }
 {
     if is_passed_over(line) {
         return Ok(());
@@ -134,7 +134,7 @@ fn begins_schedule(line: &[u8]) -> bool
     are_plain(line) && split_once(line, b' ').0 == b"schedule".as_slice()
 }
 
-/// The events at the begin of a schedule, behind the line of whose words the first is `schedule`.
+/// The events at the begin of a schedule, after the line of whose words the first is `schedule`.
 fn no_events(alloc: Global, line: &[u8]) -> Result<Vec<Event>, LineError>
     ensures events { IfOk result (λ events. (events.items ≡ []) × (length (words_of line.now) ≡ 1)) }
     ensures fault { Reads (λ _. tt {0}) (if length (words_of line.now) == 1 then Ok (tt {0}) else Err Form) result }

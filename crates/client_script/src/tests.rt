@@ -1,6 +1,7 @@
 //! Scripts and their faults.
 
-use crate::{Command, ScriptError, TEXT_LIMIT, parse, parse_schedule};
+use crate::{ScriptError, TEXT_LIMIT, parse, parse_schedule};
+use client_calls::Command;
 use core_model::Event;
 use std::alloc::{AllocError, Global};
 use std::test::Fail;

@@ -9,7 +9,7 @@ ghost use Rattle.client_script.specs.ScriptWords.{parts_of, len_behind, alone, p
 /// How many bytes a word may have.
 const WORD_LIMIT: usize = 1024;
 
-/// What stands before the first `separator`, and what stands behind it, where there is one.
+/// What stands before the first `separator`, and what stands after it, where there is one.
 pub fn split_once(text: &[u8], separator: u8) -> (&[u8], Option<&[u8]>)
     ensures parts { slice_split (λ b. b == separator) text.now
         ≡ result.0.now ∷ parts_of separator (option_copied result.1) }
@@ -43,7 +43,7 @@ pub fn one_word(rest: Option<&[u8]>) -> Option<&[u8]>
 
 /// The two words that are left of a line, if that is all.
 pub fn two_words(rest: Option<&[u8]>) -> Option<(&[u8], &[u8])>
-    ensures words { option_map (λ p. (p.0.now, p.1.now)) result
+    ensures commands { option_map (λ p. (p.0.now, p.1.now)) result
         ≡ pair_alone (parts_of 32 (option_copied rest.entry)) }
     ensures len { IfSome result
         (λ p. length p.0.now + length p.1.now + 2 ≡ len_behind (option_copied rest.entry)) }

@@ -5,7 +5,7 @@ use Rattle.std.proofs.lemmas.Bool.{eqb-true, cond-false}
 use Rattle.std.proofs.lemmas.List.{length-map}
 use Rattle.core_model.specs.declared.event.Event.{Event}
 use Rattle.core_model.specs.declared.event.Event.TheVariants as e
-use Rattle.wp_model.specs.Outcomes.{own}
+use Rattle.wp_model.specs.Outcomes.{entries_of_client}
 use Rattle.wp_model.specs.Runs.{commands_of}
 use Rattle.wp_model.specs.Progress.{next_entry, batch_after}
 use Rattle.wp_model.specs.Calls.{Command, commit, Reply, quiet, accepted, refused, found, found_each, rows, done, held, not_held, no_memory, Call}
@@ -45,8 +45,8 @@ opened_client o plans i client is = so_far
     so_far = let at = opened_at plans i is in subst (IsToldSoFar o plans (opened o plans) (suc i)) at.2 (record {
       added = refl;
       right = none_right o (opened o plans);
-      shown_is = omega arith;
-      dead = λ knows. absurd (cc);
+      seen_published = omega arith;
+      log_failed = λ knows. absurd (cc);
       asked = λ idle lines there. (let e : lines ≡ at.0 = cc (at.1, there) in e);
       entries = λ idle. refl;
     })
@@ -103,18 +103,18 @@ member_of P c (w ∷ ws) some all = by (w.client == c) refl (member_of P c ws)
 
 -- its entries, by the answer that it waits with
 by_answer : (o : Options) (s : State) (c : ℕ) (client : Client) (w : Writer) → client.idle ≡ false → w.client ≡ c → w.records ≡ batch_after client.calls → (answer : Option Reply) → IsAnswer o s client w answer
-    → (own c s.entries ≡ entries_told c client.calls) ⊎ IsOnItsWay s c client (commit w.options ∷ client.left)
-by_answer o s c client w waits same batch None is = inl (subst (λ c. own c s.entries ≡ entries_told c client.calls) same is)
+    → (entries_of_client c s.entries ≡ entries_told c client.calls) ⊎ IsOnItsWay s c client (commit w.options ∷ client.left)
+by_answer o s c client w waits same batch None is = inl (subst (λ c. entries_of_client c s.entries ≡ entries_told c client.calls) same is)
 by_answer o s c client w waits same batch (Some (accepted first last records)) is = inr (record {
   waits = waits;
   how = w.options;
-  behind = client.left;
+  after = client.left;
   next = refl;
   first = first;
-  entries = subst (λ records. own c s.entries ≡ entries_told c client.calls ++ next_entry c (entries_told c client.calls) w.options first records ∷ []) batch
-      (subst (λ c. own c s.entries ≡ entries_told c client.calls ++ next_entry c (entries_told c client.calls) w.options first w.records ∷ []) same is.2);
+  entries = subst (λ records. entries_of_client c s.entries ≡ entries_told c client.calls ++ next_entry c (entries_told c client.calls) w.options first records ∷ []) batch
+      (subst (λ c. entries_of_client c s.entries ≡ entries_told c client.calls ++ next_entry c (entries_told c client.calls) w.options first w.records ∷ []) same is.2);
 })
-by_answer o s c client w waits same batch (Some (refused why)) is = inl (subst (λ c. own c s.entries ≡ entries_told c client.calls) same is.1)
+by_answer o s c client w waits same batch (Some (refused why)) is = inl (subst (λ c. entries_of_client c s.entries ≡ entries_told c client.calls) same is.1)
 by_answer o s c client w waits same batch (Some quiet) is = absurd is
 by_answer o s c client w waits same batch (Some (found at v)) is = absurd is
 by_answer o s c client w waits same batch (Some (found_each at vs)) is = absurd is
@@ -129,7 +129,7 @@ waiting_answered : (o : Options) (plans : List (List Command)) (s : State) (c : 
     → IsAnswered o s c lines client
 waiting_answered o plans s c lines client at is waits told =
     let a = waiting_parts c s in let b : times c (waiting s) ≡ 1 = told.core.once c client is ∙ rw waits refl in
-    let d = there_append c ((joined s.second ++ hand s.log) ++ s.queue) s.gone in let e = there_append c (joined s.second ++ hand s.log) s.queue in let f = there_append c (joined s.second) (hand s.log) in
+    let d = there_append c ((joined s.second ++ hand s.log) ++ s.queue) s.leaving in let e = there_append c (joined s.second ++ hand s.log) s.queue in let f = there_append c (joined s.second) (hand s.log) in
     let member = member_of (Waits o plans s) c (writers s) (omega arith) told.waits in let w = member.0 in let wait = member.2 in
     let same : wait.client ≡ client = (let there : client_at s c ≡ Some wait.client = subst (λ c. client_at s c ≡ Some wait.client) member.1 wait.there in cc) in
     let rest : List Command = commit w.options ∷ client.left in
@@ -137,7 +137,7 @@ waiting_answered o plans s c lines client at is waits told =
       rest = rest;
       asked = subst (λ (x : Client). lines ≡ commands_of x.calls ++ commit w.options ∷ x.left) same (wait.asked lines (subst (λ c. lines_at plans c ≡ Some lines) (sym member.1) at));
       right = (told.each c client is).right;
-      shown_is = (told.each c client is).shown_is;
+      seen_published = (told.each c client is).seen_published;
       entries = by_answer o s c client w waits member.1 (wait.batch ∙ ap (λ (x : Client). batch_after x.calls) same) w.answer (subst (λ (x : Client). IsAnswer o s x w w.answer) same wait.answer);
     }
 
@@ -145,7 +145,7 @@ answered_client : (o : Options) (plans : List (List Command)) (s : State) (c : �
 answered_client o plans s c lines client at is told = by client.idle refl
   where
     by : (b : Bool) → client.idle ≡ b → IsAnswered o s c lines client
-    by true idle = let so_far = told.each c client is in record { rest = client.left; asked = so_far.asked idle lines at; right = so_far.right; shown_is = so_far.shown_is; entries = inl (so_far.entries idle) }
+    by true idle = let so_far = told.each c client is in record { rest = client.left; asked = so_far.asked idle lines at; right = so_far.right; seen_published = so_far.seen_published; entries = inl (so_far.entries idle) }
     by false waits = waiting_answered o plans s c lines client at is waits told
 
 pub replies : (o : Options) (plans : List (List Command)) (events : List Event) → AreRepliesOf o plans (replay o (opened o plans) events).state

@@ -67,26 +67,26 @@ once_after s t c old new is same here others n client at = by (cases_eq c n)
 
 -- the state with other clients, another queue, and others that have left
 abbrev pub with_places : State → List Client → List Writer → List Writer → State
-with_places s clients queue gone = record s { clients = clients; queue = queue; gone = gone }
+with_places s clients queue leaving = record s { clients = clients; queue = queue; leaving = leaving }
 
-same_ahead : (o : Options) (s : State) (clients : List Client) (queue gone : List Writer) (table : TablePhase) → unpublished o s table ≡ unpublished o (with_places s clients queue gone) table
-same_ahead o s clients queue gone still = refl
-same_ahead o s clients queue gone (launched ins fin) = refl
-same_ahead o s clients queue gone published = refl
+same_ahead : (o : Options) (s : State) (clients : List Client) (queue leaving : List Writer) (table : TablePhase) → unpublished o s table ≡ unpublished o (with_places s clients queue leaving) table
+same_ahead o s clients queue leaving still = refl
+same_ahead o s clients queue leaving (launched ins fin) = refl
+same_ahead o s clients queue leaving published = refl
 
-same_table : (o : Options) (s : State) (clients : List Client) (queue gone : List Writer) (table : TablePhase) → IsTable o s table → IsTable o (with_places s clients queue gone) table
-same_table o s clients queue gone still is = is
-same_table o s clients queue gone (launched ins fin) is = is
-same_table o s clients queue gone published is = is
+same_table : (o : Options) (s : State) (clients : List Client) (queue leaving : List Writer) (table : TablePhase) → IsTable o s table → IsTable o (with_places s clients queue leaving) table
+same_table o s clients queue leaving still is = is
+same_table o s clients queue leaving (launched ins fin) is = is
+same_table o s clients queue leaving published is = is
 
 -- the law needs no more than who waits where
-pub places : (o : Options) (s : State) (clients : List Client) (queue gone : List Writer)
-    → ((c : ℕ) (client : Client) → client_at (with_places s clients queue gone) c ≡ Some client → times c (waiting (with_places s clients queue gone)) ≡ (if client.idle then 0 else 1))
-    → AllByRecursion (λ c. IsSome (client_at (with_places s clients queue gone) c)) (waiting (with_places s clients queue gone))
+pub places : (o : Options) (s : State) (clients : List Client) (queue leaving : List Writer)
+    → ((c : ℕ) (client : Client) → client_at (with_places s clients queue leaving) c ≡ Some client → times c (waiting (with_places s clients queue leaving)) ≡ (if client.idle then 0 else 1))
+    → AllByRecursion (λ c. IsSome (client_at (with_places s clients queue leaving) c)) (waiting (with_places s clients queue leaving))
     → LedIsFirst s.log queue
     → AllByRecursion (λ (w : Writer). 0 < count_of w.records) (hand s.log ++ queue)
-    → IsCore o s → IsCore o (with_places s clients queue gone)
-places o s clients queue gone once there led counted core = record {
+    → IsCore o s → IsCore o (with_places s clients queue leaving)
+places o s clients queue leaving once there led counted core = record {
   once = once;
   clients = there;
   led_is_first = led;
@@ -98,10 +98,10 @@ places o s clients queue gone once there led counted core = record {
   assigned = core.assigned;
   front = core.front;
   is_boundary = core.is_boundary;
-  ahead = subst (λ ws. AllZip IsEntryOf (filter has_run ws) core.is_boundary.rest) (same_ahead o s clients queue gone s.table) core.ahead;
+  ahead = subst (λ ws. AllZip IsEntryOf (filter has_run ws) core.is_boundary.rest) (same_ahead o s clients queue leaving s.table) core.ahead;
   in_table = core.in_table;
   from_entries = core.from_entries;
-  is_table = same_table o s clients queue gone s.table core.is_table;
+  is_table = same_table o s clients queue leaving s.table core.is_table;
   has_inserted = core.has_inserted;
   parts = core.parts;
   cut = core.cut;

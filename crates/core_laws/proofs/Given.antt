@@ -4,7 +4,7 @@ use Rattle.std.specs.List.{AllByRecursion, AllZip}
 use Rattle.std.proofs.lemmas.Bool.{ne_eqb, eq-eqb, cond-true}
 use Rattle.wp_model.specs.Batch.{count_of}
 use Rattle.wp_model.specs.History.{Entry, max_sequence, last_sequence, last_of, IsBoundary}
-use Rattle.wp_model.specs.Outcomes.{own}
+use Rattle.wp_model.specs.Outcomes.{entries_of_client}
 use Rattle.core_model.specs.Core.{Writer, State, with_runs, entry_of, entries_of}
 use Rattle.core_laws.proofs.Runs.{taken, passed_over, by_members}
 use Rattle.core_laws.proofs.Tables.{times_cons, there}
@@ -35,25 +35,25 @@ others (w ∷ ws) once = (
   others ws (λ c. let e = times_cons c w.client (map (λ (w : Writer). w.client) ws) in let once_c = once c in omega arith),
 )
 
-own_cons : (c : ℕ) (x : Entry) (xs : List Entry) → x.client ≡ c → own c (x ∷ xs) ≡ x ∷ own c xs
+own_cons : (c : ℕ) (x : Entry) (xs : List Entry) → x.client ≡ c → entries_of_client c (x ∷ xs) ≡ x ∷ entries_of_client c xs
 own_cons c x xs e = rw (eq-eqb x.client c e) refl
 
-own_skip : (c : ℕ) (x : Entry) (xs : List Entry) → (c ≡ x.client → ⊥) → own c (x ∷ xs) ≡ own c xs
+own_skip : (c : ℕ) (x : Entry) (xs : List Entry) → (c ≡ x.client → ⊥) → entries_of_client c (x ∷ xs) ≡ entries_of_client c xs
 own_skip c x xs other = rw (ne_eqb x.client c (λ e. other (sym e))) refl
 
 -- whoever isn't in the group gets no entry by it
-pub own_absent : (s : State) (c last : ℕ) (ws : List Writer) → IsAbsent c ws → own c (entries_of s (with_runs last ws)) ≡ []
-own_absent s c = by_members (λ last ws vs. IsAbsent c ws → own c (entries_of s vs) ≡ []) (λ last a. refl)
+pub own_absent : (s : State) (c last : ℕ) (ws : List Writer) → IsAbsent c ws → entries_of_client c (entries_of s (with_runs last ws)) ≡ []
+own_absent s c = by_members (λ last ws vs. IsAbsent c ws → entries_of_client c (entries_of s vs) ≡ []) (λ last a. refl)
     (λ last w ws vs fits more a. own_skip c (entry_of s w (last + 1)) (entries_of s vs) a.0 ∙ more a.1)
     (λ last w ws vs full more a. more a.1)
 
--- the member's run begins behind a boundary, and its entry is its client's only one; or no run fits there, and it has none
+-- the member's run begins after a boundary, and its entry is its client's only one; or no run fits there, and it has none
 pub record IsGiven (s : State) (start : ℕ) (xs : List Entry) (w v : Writer) : Type 0 where
   pub last : ℕ
   pub boundary : IsBoundary start xs last
-  pub as_given : ((v ≡ taken last w) × (own w.client xs ≡ entry_of s w (last + 1) ∷ [])) ⊎ ((v ≡ passed_over last w) × (max_sequence < last + count_of w.records) × (own w.client xs ≡ []))
+  pub as_given : ((v ≡ taken last w) × (entries_of_client w.client xs ≡ entry_of s w (last + 1) ∷ [])) ⊎ ((v ≡ passed_over last w) × (max_sequence < last + count_of w.records) × (entries_of_client w.client xs ≡ []))
 
--- behind another member's entry it is the same
+-- after another member's entry it is the same
 given_behind : (s : State) (start : ℕ) (xs : List Entry) (first : Entry) (next : ℕ) (w v : Writer) → next ≡ last_of first → (first.client ≡ w.client → ⊥) → IsGiven s next xs w v → IsGiven s start (first ∷ xs) w v
 given_behind s start xs first next w v ends other given = record {
   last = given.last;
@@ -65,14 +65,14 @@ given_behind s start xs first next w v ends other given = record {
       ends = given.boundary.1.ends ∙ ap (λ n. last_sequence n given.boundary.0) ends;
     },
   );
-  as_given = elim given.as_given as (λ _. ((v ≡ taken given.last w) × (own w.client (first ∷ xs) ≡ entry_of s w (given.last + 1) ∷ [])) ⊎ ((v ≡ passed_over given.last w) × (max_sequence < given.last + count_of w.records) × (own w.client (first ∷ xs) ≡ []))) [
+  as_given = elim given.as_given as (λ _. ((v ≡ taken given.last w) × (entries_of_client w.client (first ∷ xs) ≡ entry_of s w (given.last + 1) ∷ [])) ⊎ ((v ≡ passed_over given.last w) × (max_sequence < given.last + count_of w.records) × (entries_of_client w.client (first ∷ xs) ≡ []))) [
     | inl g ↦ inl (g.0, own_skip w.client first xs (λ e. other (sym e)) ∙ g.1)
     | inr g ↦ inr (g.0, g.1, own_skip w.client first xs (λ e. other (sym e)) ∙ g.2)
   ];
 }
 
 pub all_given : (s : State) (last : ℕ) (ws : List Writer) → AreOthers ws → AllZip (IsGiven s last (entries_of s (with_runs last ws))) ws (with_runs last ws)
-all_given s last ws = (by_members (λ last ws vs. (AreOthers ws → AllZip (IsGiven s last (entries_of s vs)) ws vs) × ((c : ℕ) → IsAbsent c ws → own c (entries_of s vs) ≡ []))
+all_given s last ws = (by_members (λ last ws vs. (AreOthers ws → AllZip (IsGiven s last (entries_of s vs)) ws vs) × ((c : ℕ) → IsAbsent c ws → entries_of_client c (entries_of s vs) ≡ []))
     (λ last. ((λ a. tt), (λ c a. refl)))
     (λ last w ws vs fits more.
     let x : Entry = entry_of s w (last + 1) in (

@@ -15,7 +15,7 @@ same_bools true false e = absurd (cc)
 same_bools false true e = absurd (cc)
 same_bools false false e = refl
 
--- the longest front of places that pass holds what passing says
+-- the longest prefix of places that pass holds what passing says
 all_taken : (p : ℕ → Bool) (P : Writer → Type 0) (ws : List Writer) (a n : ℕ) → ((i : ℕ) (v : Writer) → slice_get ws i ≡ Some v → p (a + i) ≡ true → P v)
     → AllByRecursion P (take (length (take_while p (range_with_len a n))) ws)
 all_taken p P ws a zero says = tt

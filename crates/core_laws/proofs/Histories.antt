@@ -32,7 +32,7 @@ pub runs_follow : (start : ℕ) (xs : List Entry) → IsHistory start xs → Run
 runs_follow start [] a = tt
 runs_follow start (x ∷ xs) a = a.1
 
--- a run begins behind what was given before, and ends no sooner than it begins
+-- a run begins after what was given before, and ends no sooner than it begins
 pub run_after : (last : ℕ) (x : Entry) → Follows last x → (last < x.first) × (x.first ≤ last_of x)
 run_after last x f = (let a = f.first in omega arith, let a = f.first in let b = f.some in omega arith)
 

@@ -6,7 +6,7 @@ use Rattle.wp_model.specs.declared.write.Refusal.TheVariants as no
 use Rattle.wp_model.specs.Calls.{Command}
 use Rattle.core_model.specs.Core.{Options, State, opened}
 use Rattle.core_model.specs.Step.{step, Replayed, replayed, replay}
-use Rattle.core_model.specs.CoreLaw.{IsCore, Keeps}
+use Rattle.core_model.specs.CoreLaw.{IsCore, IsSubsequence, KeepsOrder, Keeps, in_order}
 use Rattle.core_laws.proofs.KeptByBuild.{kept_by_build}
 use Rattle.core_laws.proofs.KeptByComplete.{kept_by_complete}
 use Rattle.core_laws.proofs.KeptByElect.{kept_by_elect}
@@ -21,24 +21,29 @@ use Rattle.core_laws.proofs.KeptByLog.{kept_by_log}
 use Rattle.core_laws.proofs.KeptByPublish.{kept_by_publish}
 use Rattle.core_laws.proofs.KeptByRead.{kept_by_read}
 use Rattle.core_laws.proofs.Opening.{opening}
+use Rattle.core_laws.proofs.Tables.{AddsNobody}
 
-pub kept : (o : Options) (s t : State) (event : Event) → IsCore o s → step o s event ≡ Some t → IsCore o t × Keeps s t
+-- where an event adds nobody to the line, each keeps its place before the others
+nobody_added : (o : Options) (s t : State) (event : Event) → (IsSubsequence (in_order t) (in_order s) → KeepsOrder event s t) → IsCore o t × AddsNobody s t → IsCore o t × Keeps event s t
+nobody_added o s t event order kept = (kept.0, record { order = order kept.1.order; log_failed = kept.1.log_failed })
+
+pub kept : (o : Options) (s t : State) (event : Event) → IsCore o s → step o s event ≡ Some t → IsCore o t × Keeps event s t
 kept o s t (e.Link c) core is = kept_by_link o s t c core is
-kept o s t (e.Elect c) core is = kept_by_elect o s t c core is
-kept o s t (e.Build c) core is = kept_by_build o s t c core is
-kept o s t (e.Log c) core is = kept_by_log o s t c core is
-kept o s t (e.Fault c) core is = kept_by_fault o s t c core is
-kept o s t (e.Refuse c stops delays wait) core is = kept_by_refuse o s t c (no.Incomplete stops delays wait) core is
-kept o s t (e.Boundary c) core is = kept_by_boundary o s t c core is
-kept o s t (e.Second c) core is = kept_by_second o s t c core is
-kept o s t (e.Next c) core is = kept_by_next o s t c core is
-kept o s t (e.Launch c) core is = kept_by_launch o s t c core is
-kept o s t (e.Insert m) core is = kept_by_insert o s t m core is
-kept o s t (e.Finish m) core is = kept_by_finish o s t m core is
-kept o s t (e.Publish m) core is = kept_by_publish o s t m core is
-kept o s t (e.Exit c) core is = kept_by_exit o s t c core is
-kept o s t (e.Complete m) core is = kept_by_complete o s t m core is
-kept o s t (e.Read c) core is = kept_by_read o s t c core is
+kept o s t (e.Elect c) core is = nobody_added o s t (e.Elect c) (λ order. order) (kept_by_elect o s t c core is)
+kept o s t (e.Build c) core is = nobody_added o s t (e.Build c) (λ order. order) (kept_by_build o s t c core is)
+kept o s t (e.Log c) core is = nobody_added o s t (e.Log c) (λ order. order) (kept_by_log o s t c core is)
+kept o s t (e.Fault c) core is = nobody_added o s t (e.Fault c) (λ order. order) (kept_by_fault o s t c core is)
+kept o s t (e.Refuse c stops delays wait) core is = nobody_added o s t (e.Refuse c stops delays wait) (λ order. order) (kept_by_refuse o s t c (no.Incomplete stops delays wait) core is)
+kept o s t (e.Boundary c) core is = nobody_added o s t (e.Boundary c) (λ order. order) (kept_by_boundary o s t c core is)
+kept o s t (e.Second c) core is = nobody_added o s t (e.Second c) (λ order. order) (kept_by_second o s t c core is)
+kept o s t (e.Next c) core is = nobody_added o s t (e.Next c) (λ order. order) (kept_by_next o s t c core is)
+kept o s t (e.Launch c) core is = nobody_added o s t (e.Launch c) (λ order. order) (kept_by_launch o s t c core is)
+kept o s t (e.Insert m) core is = nobody_added o s t (e.Insert m) (λ order. order) (kept_by_insert o s t m core is)
+kept o s t (e.Finish m) core is = nobody_added o s t (e.Finish m) (λ order. order) (kept_by_finish o s t m core is)
+kept o s t (e.Publish m) core is = nobody_added o s t (e.Publish m) (λ order. order) (kept_by_publish o s t m core is)
+kept o s t (e.Exit c) core is = nobody_added o s t (e.Exit c) (λ order. order) (kept_by_exit o s t c core is)
+kept o s t (e.Complete m) core is = nobody_added o s t (e.Complete m) (λ order. order) (kept_by_complete o s t m core is)
+kept o s t (e.Read c) core is = nobody_added o s t (e.Read c) (λ order. order) (kept_by_read o s t c core is)
 
 -- What holds at a state and is kept by each event that comes holds after every list of events.
 pub by_events : (P : State → Type 0) (o : Options) → ((s t : State) (event : Event) → P s → step o s event ≡ Some t → P t) → (events : List Event) (r : Replayed) → P r.state

@@ -4,10 +4,10 @@ use Rattle.std.proofs.lemmas.Bool.{ne_eqb, eqb-true, cond-true, cond-false}
 use Rattle.wp_model.specs.Calls.{Reply}
 use Rattle.core_model.specs.Core.{Options, Writer, Client, State, client_at, with_client}
 use Rattle.core_model.specs.Step.{complete, complete_with, completed}
-use Rattle.core_model.specs.CoreLaw.{IsCore, Keeps, in_order, waiting}
+use Rattle.core_model.specs.CoreLaw.{IsCore, in_order, waiting}
 use Rattle.core_laws.proofs.Clients.{still_there, once_after, places}
 use Rattle.core_laws.proofs.Lists.{all_weaker}
-use Rattle.core_laws.proofs.Tables.{all_fewer, keeps, subsequence_self, times, times_cons, there, there_filtered, waiting_parts, waits_once}
+use Rattle.core_laws.proofs.Tables.{AddsNobody, all_fewer, keeps, subsequence_self, times, times_cons, there, there_filtered, waiting_parts, waits_once}
 
 -- those that have left, without this client
 abbrev pub without : ℕ → List Writer → List Writer
@@ -49,47 +49,47 @@ others_without m n (w ∷ ws) apart = by (w.client == m) refl (others_without m 
         let b = times_cons n w.client (map (λ (x : Writer). x.client) (without m ws)) in
         omega arith
 
-module _ (o : Options) (s : State) (m : ℕ) (old new : Client) (w : Writer) (is : client_at s m ≡ Some old) (idle : new.idle ≡ true) (left : find (λ (x : Writer). x.client == m) s.gone ≡ Some w) (core : IsCore o s) where
+module _ (o : Options) (s : State) (m : ℕ) (old new : Client) (w : Writer) (is : client_at s m ≡ Some old) (idle : new.idle ≡ true) (left : find (λ (x : Writer). x.client == m) s.leaving ≡ Some w) (core : IsCore o s) where
   abbrev after : State
-  after = record (with_client s m new) { gone = without m s.gone }
+  after = record (with_client s m new) { leaving = without m s.leaving }
 
   none_now : times m (waiting after) ≡ 0
   none_now =
       let a = waiting_parts m after in
       let b = waiting_parts m s in
       let d = waits_once o s m core in
-      let e = found_there m s.gone w left in
-      let f = none_without m s.gone in
+      let e = found_there m s.leaving w left in
+      let f = none_without m s.leaving in
       omega arith
 
   others : (n : ℕ) (other : Client) → (m ≡ n → ⊥) → client_at s n ≡ Some other → times n (waiting after) ≡ (if other.idle then 0 else 1)
   others n other apart at = same ∙ core.once n other at
     where
       same : times n (waiting after) ≡ times n (waiting s)
-      same = let a = waiting_parts n after in let b = waiting_parts n s in let d = others_without m n s.gone apart in omega arith
+      same = let a = waiting_parts n after in let b = waiting_parts n s in let d = others_without m n s.leaving apart in omega arith
 
   fewer : (n : ℕ) → times n (waiting after) ≤ times n (waiting s)
-  fewer n = let a = waiting_parts n after in let b = waiting_parts n s in let d = there_filtered n (λ (x : Writer). not (x.client == m)) s.gone in omega arith
+  fewer n = let a = waiting_parts n after in let b = waiting_parts n s in let d = there_filtered n (λ (x : Writer). not (x.client == m)) s.leaving in omega arith
 
-  completing : IsCore o after × Keeps s after
+  completing : IsCore o after × AddsNobody s after
   completing = (
-    places o s (with_client s m new).clients s.queue (without m s.gone)
+    places o s (with_client s m new).clients s.queue (without m s.leaving)
         (once_after s after m old new is refl (none_now ∙ sym (ap (λ b. if b then 0 else 1) idle)) others)
         (all_fewer _ (waiting s) (waiting after) fewer (all_weaker _ _ (still_there s m old new is) (waiting s) core.clients))
         core.led_is_first core.counted core,
     keeps s after (subsequence_self (in_order s)) refl refl,
   )
 
-pub kept_by_complete : (o : Options) (s t : State) (m : ℕ) → IsCore o s → complete s m (find (λ (w : Writer). w.client == m) s.gone) ≡ Some t → IsCore o t × Keeps s t
-kept_by_complete o s t m core e = by_writer (find (λ (w : Writer). w.client == m) s.gone) refl e
+pub kept_by_complete : (o : Options) (s t : State) (m : ℕ) → IsCore o s → complete s m (find (λ (w : Writer). w.client == m) s.leaving) ≡ Some t → IsCore o t × AddsNobody s t
+kept_by_complete o s t m core e = by_writer (find (λ (w : Writer). w.client == m) s.leaving) refl e
   where
-    by_client : (w : Writer) → find (λ (x : Writer). x.client == m) s.gone ≡ Some w → (client : Option Client) → client_at s m ≡ client → (reply : Option Reply) → complete_with s m client w reply ≡ Some t → IsCore o t × Keeps s t
+    by_client : (w : Writer) → find (λ (x : Writer). x.client == m) s.leaving ≡ Some w → (client : Option Client) → client_at s m ≡ client → (reply : Option Reply) → complete_with s m client w reply ≡ Some t → IsCore o t × AddsNobody s t
     by_client w left (Some client) is (Some reply) e =
-        let done : record (with_client s m (completed client w reply)) { gone = without m s.gone } ≡ t = cc in
-        subst (λ (x : State). IsCore o x × Keeps s x) done (completing o s m client (completed client w reply) w is refl left core)
+        let done : record (with_client s m (completed client w reply)) { leaving = without m s.leaving } ≡ t = cc in
+        subst (λ (x : State). IsCore o x × AddsNobody s x) done (completing o s m client (completed client w reply) w is refl left core)
     by_client w left (Some client) is None e = absurd (cc)
     by_client w left None is reply e = absurd (cc)
 
-    by_writer : (w : Option Writer) → find (λ (x : Writer). x.client == m) s.gone ≡ w → complete s m w ≡ Some t → IsCore o t × Keeps s t
+    by_writer : (w : Option Writer) → find (λ (x : Writer). x.client == m) s.leaving ≡ w → complete s m w ≡ Some t → IsCore o t × AddsNobody s t
     by_writer None left e = absurd (cc)
     by_writer (Some w) left e = by_client w left (client_at s m) refl w.answer e

@@ -5,9 +5,9 @@ use Rattle.std.proofs.lemmas.List.{map-append}
 use Rattle.wp_model.specs.History.{Entry}
 use Rattle.core_model.specs.Core.{Options, Writer, Client, LogPhase, free, led, built, in_log, marked, handed, TablePhase, still, launched, published, State, client_at, leads, has_run, table_group}
 use Rattle.core_model.specs.Step.{exit, leave, without_table_group}
-use Rattle.core_model.specs.CoreLaw.{IsCore, Keeps, HasInserted, IsEntryOf, IsSubsequence, joined, hand, waiting, in_order}
+use Rattle.core_model.specs.CoreLaw.{IsCore, HasInserted, IsEntryOf, IsSubsequence, joined, hand, waiting, in_order}
 use Rattle.core_laws.proofs.Lists.{all_back}
-use Rattle.core_laws.proofs.Tables.{when_some, all_fewer, subsequence_self, subsequence_after, keeps, with_table, times, there_append, waiting_parts, some_led}
+use Rattle.core_laws.proofs.Tables.{AddsNobody, when_some, all_fewer, subsequence_self, subsequence_after, keeps, with_table, times, there_append, waiting_parts, some_led}
 
 -- the state once the group has left
 abbrev exited : Options → State → State
@@ -32,14 +32,14 @@ module _ (o : Options) (s : State) (ws : List Writer) (wss : List (List Writer))
   before = with_groups s (ws ∷ wss) log published
 
   abbrev after : State
-  after = record (with_groups s wss log still) { gone = s.gone ++ ws }
+  after = record (with_groups s wss log still) { leaving = s.leaving ++ ws }
 
   as_often : (c : ℕ) → times c (waiting after) ≡ times c (waiting before)
   as_often c =
       let a = waiting_parts c after in
       let b = waiting_parts c before in
       let d = there_append c ws (joined wss) in
-      let e = there_append c s.gone ws in
+      let e = there_append c s.leaving ws in
       omega arith
 
   from_second : IsCore (record o { pipelined = true }) after
@@ -67,7 +67,7 @@ module _ (o : Options) (s : State) (ws : List Writer) (wss : List (List Writer))
     runs = core.runs;
   }
 
-  order_of_second : Keeps before after
+  order_of_second : AddsNobody before after
   order_of_second = keeps before after (
       let regroup : ((ws ++ joined wss) ++ hand log) ++ s.queue ≡ ws ++ ((joined wss ++ hand log) ++ s.queue) =
       ap (λ xs. xs ++ s.queue) (append_assoc ws (joined wss) (hand log)) ∙ append_assoc ws (joined wss ++ hand log) s.queue in
@@ -81,13 +81,13 @@ module _ (o : Options) (s : State) (second : List (List Writer)) (ws : List Writ
   with_log = with_groups s second (in_log ws) published
 
   abbrev with_free : State
-  with_free = record (with_groups s second free still) { gone = s.gone ++ ws }
+  with_free = record (with_groups s second free still) { leaving = s.leaving ++ ws }
 
   as_often_single : (c : ℕ) → times c (waiting with_free) ≡ times c (waiting with_log)
   as_often_single c =
       let a = waiting_parts c with_free in
       let b = waiting_parts c with_log in
-      let e = there_append c s.gone ws in
+      let e = there_append c s.leaving ws in
       omega arith
 
   from_log : IsCore (record o { pipelined = false }) with_free
@@ -115,14 +115,14 @@ module _ (o : Options) (s : State) (second : List (List Writer)) (ws : List Writ
     runs = core.runs;
   }
 
-  order_of_log : Keeps with_log with_free
+  order_of_log : AddsNobody with_log with_free
   order_of_log = keeps with_log with_free (left_out (joined second) ws s.queue) refl refl
 
 exiting : (o : Options) (s : State) (pipelined : Bool) (second : List (List Writer)) (log : LogPhase)
     → 0 < length (table_group (record o { pipelined = pipelined }) (with_groups s second log published))
     → IsCore (record o { pipelined = pipelined }) (with_groups s second log published)
     → IsCore (record o { pipelined = pipelined }) (exited (record o { pipelined = pipelined }) (with_groups s second log published))
-    × Keeps (with_groups s second log published) (exited (record o { pipelined = pipelined }) (with_groups s second log published))
+    × AddsNobody (with_groups s second log published) (exited (record o { pipelined = pipelined }) (with_groups s second log published))
 exiting o s true [] log some core = absurd (omega arith)
 exiting o s true (ws ∷ wss) log some core = (from_second o s ws wss log core, order_of_second o s ws wss log core)
 exiting o s false second (in_log ws) some core = (from_log o s second ws core, order_of_log o s second ws core)
@@ -133,15 +133,15 @@ exiting o s false second (marked ws) some core = absurd (omega arith)
 exiting o s false second (handed c) some core = absurd (omega arith)
 
 -- the event at a state whose table is published
-at_published : (o : Options) (s t : State) (c : ℕ) → IsCore o (with_table s published) → exit o (with_table s published) c published ≡ Some t → IsCore o t × Keeps (with_table s published) t
+at_published : (o : Options) (s t : State) (c : ℕ) → IsCore o (with_table s published) → exit o (with_table s published) c published ≡ Some t → IsCore o t × AddsNobody (with_table s published) t
 at_published o s t c core e =
     let h = when_some (leads c (table_group o s)) (exited o (with_table s published)) t e in
-    subst (λ (x : State). IsCore o x × Keeps (with_table s published) x) h.1 (exiting o s o.pipelined s.second s.log (some_led c (table_group o s) h.0) core)
+    subst (λ (x : State). IsCore o x × AddsNobody (with_table s published) x) h.1 (exiting o s o.pipelined s.second s.log (some_led c (table_group o s) h.0) core)
 
-pub kept_by_exit : (o : Options) (s t : State) (c : ℕ) → IsCore o s → exit o s c s.table ≡ Some t → IsCore o t × Keeps s t
+pub kept_by_exit : (o : Options) (s t : State) (c : ℕ) → IsCore o s → exit o s c s.table ≡ Some t → IsCore o t × AddsNobody s t
 kept_by_exit o s t c core e = by_phase s.table refl e
   where
-    by_phase : (phase : TablePhase) → s.table ≡ phase → exit o s c phase ≡ Some t → IsCore o t × Keeps s t
-    by_phase published is e = subst (λ (x : State). IsCore o x → exit o x c published ≡ Some t → IsCore o t × Keeps x t) (sym (ap (with_table s) is)) (at_published o s t c) core e
+    by_phase : (phase : TablePhase) → s.table ≡ phase → exit o s c phase ≡ Some t → IsCore o t × AddsNobody s t
+    by_phase published is e = subst (λ (x : State). IsCore o x → exit o x c published ≡ Some t → IsCore o t × AddsNobody x t) (sym (ap (with_table s) is)) (at_published o s t c) core e
     by_phase still is e = absurd (cc)
     by_phase (launched ins fin) is e = absurd (cc)

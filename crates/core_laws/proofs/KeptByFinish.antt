@@ -3,9 +3,9 @@ use Rattle.std.proofs.Common.{◌≡◌, ℕ, true, not, ◌&&◌, List, [], ◌
 use Rattle.std.proofs.lemmas.Bool.{and_parts}
 use Rattle.core_model.specs.Core.{Options, TablePhase, still, launched, published, State, among}
 use Rattle.core_model.specs.Step.{finish}
-use Rattle.core_model.specs.CoreLaw.{IsCore, Keeps}
+use Rattle.core_model.specs.CoreLaw.{IsCore}
 use Rattle.core_laws.proofs.Lists.{all_append}
-use Rattle.core_laws.proofs.Tables.{when_some, with_table, keeps_with_table}
+use Rattle.core_laws.proofs.Tables.{AddsNobody, when_some, with_table, keeps_with_table}
 
 -- the law at a state with a launched group
 finishing : (o : Options) (s : State) (m : ℕ) (ins fin : List ℕ) → among m ins ≡ true → IsCore o (with_table s (launched ins fin)) → IsCore o (with_table s (launched ins (fin ++ m ∷ [])))
@@ -33,13 +33,13 @@ finishing o s m ins fin is core = record {
   runs = core.runs;
 }
 
-pub kept_by_finish : (o : Options) (s t : State) (m : ℕ) → IsCore o s → finish s m s.table ≡ Some t → IsCore o t × Keeps s t
+pub kept_by_finish : (o : Options) (s t : State) (m : ℕ) → IsCore o s → finish s m s.table ≡ Some t → IsCore o t × AddsNobody s t
 kept_by_finish o s t m core e = by_phase s.table refl e
   where
-    by_phase : (phase : TablePhase) → s.table ≡ phase → finish s m phase ≡ Some t → IsCore o t × Keeps s t
+    by_phase : (phase : TablePhase) → s.table ≡ phase → finish s m phase ≡ Some t → IsCore o t × AddsNobody s t
     by_phase (launched ins fin) is e =
         let h = when_some (among m ins && not (among m fin)) (with_table s (launched ins (fin ++ m ∷ []))) t e in
-        subst (λ (x : State). IsCore o x × Keeps s x) h.1
+        subst (λ (x : State). IsCore o x × AddsNobody s x) h.1
         (finishing o s m ins fin (and_parts _ _ h.0).0 (subst (IsCore o) (ap (with_table s) is) core), keeps_with_table s s.table (launched ins (fin ++ m ∷ [])) s.inserted s.last)
     by_phase still is e = absurd (cc)
     by_phase published is e = absurd (cc)

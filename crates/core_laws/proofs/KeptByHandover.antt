@@ -5,34 +5,34 @@ use Rattle.std.proofs.lemmas.List.{append-nil}
 use Rattle.std.proofs.lemmas.List.Concat.{flat_map-append}
 use Rattle.core_model.specs.Core.{Options, Writer, LogPhase, free, led, built, in_log, marked, handed, TablePhase, still, launched, published, State, leads, has_run, table_group, first_group}
 use Rattle.core_model.specs.Step.{boundary, to_second, next}
-use Rattle.core_model.specs.CoreLaw.{IsCore, Keeps, IsTable, hand, hand_with_runs, in_order, joined, unpublished, HasInserted}
+use Rattle.core_model.specs.CoreLaw.{IsCore, IsTable, hand, hand_with_runs, in_order, joined, unpublished, HasInserted}
 use Rattle.core_laws.proofs.KeptByElect.{rephased}
 use Rattle.core_laws.proofs.Lists.{all_back, all_of, and_parts}
 use Rattle.core_laws.proofs.Relined.{lined, relined, same_line, same_table, kept_order}
-use Rattle.core_laws.proofs.Tables.{when_some}
+use Rattle.core_laws.proofs.Tables.{AddsNobody, when_some}
 
 -- with two stages the log's group isn't that in the table
-same_first : (o : Options) (s : State) (log : LogPhase) → o.pipelined ≡ true → table_group o s ≡ table_group o (lined s s.second log s.queue s.gone s.dead)
+same_first : (o : Options) (s : State) (log : LogPhase) → o.pipelined ≡ true → table_group o s ≡ table_group o (lined s s.second log s.queue s.leaving s.log_failed)
 same_first o s log two = rw two
 
-pub kept_by_boundary : (o : Options) (s t : State) (c : ℕ) → IsCore o s → boundary o s c s.log ≡ Some t → IsCore o t × Keeps s t
+pub kept_by_boundary : (o : Options) (s t : State) (c : ℕ) → IsCore o s → boundary o s c s.log ≡ Some t → IsCore o t × AddsNobody s t
 kept_by_boundary o s t c core e = by_phase s.log refl e
   where
-    by_phase : (phase : LogPhase) → s.log ≡ phase → boundary o s c phase ≡ Some t → IsCore o t × Keeps s t
+    by_phase : (phase : LogPhase) → s.log ≡ phase → boundary o s c phase ≡ Some t → IsCore o t × AddsNobody s t
     by_phase (in_log ws) is e = let h = when_some (o.pipelined && leads c ws) (record s { log = marked ws }) t e in let two = (and_parts o.pipelined (leads c ws) h.0).0 in
-        subst (λ t. IsCore o t × Keeps s t) h.1 (rephased o s (marked ws) (ap hand is) (ap hand_with_runs is) (same_first o s (marked ws) two) tt (λ one. absurd (cc)) core)
+        subst (λ t. IsCore o t × AddsNobody s t) h.1 (rephased o s (marked ws) (ap hand is) (ap hand_with_runs is) (same_first o s (marked ws) two) tt (λ one. absurd (cc)) core)
     by_phase free is e = absurd (cc)
     by_phase (led d) is e = absurd (cc)
     by_phase (built ws) is e = absurd (cc)
     by_phase (marked ws) is e = absurd (cc)
     by_phase (handed d) is e = absurd (cc)
 
-pub kept_by_next : (o : Options) (s t : State) (c : ℕ) → IsCore o s → next s c s.log ≡ Some t → IsCore o t × Keeps s t
+pub kept_by_next : (o : Options) (s t : State) (c : ℕ) → IsCore o s → next s c s.log ≡ Some t → IsCore o t × AddsNobody s t
 kept_by_next o s t c core e = by_phase s.log refl e
   where
-    by_phase : (phase : LogPhase) → s.log ≡ phase → next s c phase ≡ Some t → IsCore o t × Keeps s t
+    by_phase : (phase : LogPhase) → s.log ≡ phase → next s c phase ≡ Some t → IsCore o t × AddsNobody s t
     by_phase (handed d) is e = let h = when_some (c == d) (record s { log = free }) t e in
-        subst (λ t. IsCore o t × Keeps s t) h.1 (rephased o s free (ap hand is) (ap hand_with_runs is) (rw is) tt (λ e. tt) core)
+        subst (λ t. IsCore o t × AddsNobody s t) h.1 (rephased o s free (ap hand is) (ap hand_with_runs is) (rw is) tt (λ e. tt) core)
     by_phase free is e = absurd (cc)
     by_phase (led d) is e = absurd (cc)
     by_phase (built ws) is e = absurd (cc)
@@ -41,7 +41,7 @@ kept_by_next o s t c core e = by_phase s.log refl e
 
 -- the state whose marked group went to the second queue
 abbrev second_of : State → ℕ → List Writer → State
-second_of s c ws = lined s (s.second ++ ws ∷ []) (handed c) s.queue s.gone s.dead
+second_of s c ws = lined s (s.second ++ ws ∷ []) (handed c) s.queue s.leaving s.log_failed
 
 joined_more : (wss : List (List Writer)) (ws : List Writer) → joined (wss ++ ws ∷ []) ≡ joined wss ++ ws
 joined_more wss ws = flat_map-append (λ (ws : List Writer). ws) wss (ws ∷ []) ∙ rw append-nil
@@ -77,10 +77,10 @@ ahead_kept o s c ws two log published is = by_second s.second refl (rw two at is
     by_second [] e some = absurd (omega arith)
     by_second (v ∷ vs) e some = rw (e, two, log) (rw (joined_more vs ws) (sym (append-nil (joined vs ++ ws))))
 
-seconded : (o : Options) (s : State) (c : ℕ) (ws : List Writer) → s.log ≡ marked ws → o.pipelined ≡ true → IsCore o s → IsCore o (second_of s c ws) × Keeps s (second_of s c ws)
+seconded : (o : Options) (s : State) (c : ℕ) (ws : List Writer) → s.log ≡ marked ws → o.pipelined ≡ true → IsCore o s → IsCore o (second_of s c ws) × AddsNobody s (second_of s c ws)
 seconded o s c ws log two core = let e = same_order s c ws log in (
-  relined o s (s.second ++ ws ∷ []) (handed c) s.queue s.gone s.dead (record {
-    members = same_line _ _ (ap (λ line. line ++ map (λ (w : Writer). w.client) s.gone) e);
+  relined o s (s.second ++ ws ∷ []) (handed c) s.queue s.leaving s.log_failed (record {
+    members = same_line _ _ (ap (λ line. line ++ map (λ (w : Writer). w.client) s.leaving) e);
     led = tt;
     single = λ one. absurd (cc);
     unmarked = λ one. tt;
@@ -90,18 +90,18 @@ seconded o s c ws log two core = let e = same_order s c ws log in (
     is_table = table_kept o s c ws two s.table core.is_table;
     has_inserted = inserted_kept o s c ws two s.table core.is_table core.has_inserted;
   }) core,
-  kept_order s (second_of s c ws) e (λ dead. (refl, dead)),
+  kept_order s (second_of s c ws) e (λ log_failed. (refl, log_failed)),
 )
 
-pub kept_by_second : (o : Options) (s t : State) (c : ℕ) → IsCore o s → to_second s c s.log ≡ Some t → IsCore o t × Keeps s t
+pub kept_by_second : (o : Options) (s t : State) (c : ℕ) → IsCore o s → to_second s c s.log ≡ Some t → IsCore o t × AddsNobody s t
 kept_by_second o s t c core e = by_phase s.log refl e
   where
-    by_stage : (ws : List Writer) (b : Bool) → o.pipelined ≡ b → s.log ≡ marked ws → IsCore o (second_of s c ws) × Keeps s (second_of s c ws)
+    by_stage : (ws : List Writer) (b : Bool) → o.pipelined ≡ b → s.log ≡ marked ws → IsCore o (second_of s c ws) × AddsNobody s (second_of s c ws)
     by_stage ws true two is = seconded o s c ws is two core
     by_stage ws false one is = absurd (rw is at (core.unmarked one))
 
-    by_phase : (phase : LogPhase) → s.log ≡ phase → to_second s c phase ≡ Some t → IsCore o t × Keeps s t
-    by_phase (marked ws) is e = let h = when_some (leads c ws) (second_of s c ws) t e in subst (λ t. IsCore o t × Keeps s t) h.1 (by_stage ws o.pipelined refl is)
+    by_phase : (phase : LogPhase) → s.log ≡ phase → to_second s c phase ≡ Some t → IsCore o t × AddsNobody s t
+    by_phase (marked ws) is e = let h = when_some (leads c ws) (second_of s c ws) t e in subst (λ t. IsCore o t × AddsNobody s t) h.1 (by_stage ws o.pipelined refl is)
     by_phase free is e = absurd (cc)
     by_phase (led d) is e = absurd (cc)
     by_phase (built ws) is e = absurd (cc)

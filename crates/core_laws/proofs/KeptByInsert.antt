@@ -5,10 +5,10 @@ use Rattle.std.proofs.lemmas.List.Elements.{Contains-append_left, Contains-appen
 use Rattle.wp_model.specs.History.{Entry, IsHistory, last_sequence}
 use Rattle.core_model.specs.Core.{Options, Writer, TablePhase, still, launched, published, State, table_group, among, runners}
 use Rattle.core_model.specs.Step.{insert, entry_ahead}
-use Rattle.core_model.specs.CoreLaw.{IsCore, Keeps, HasInserted, IsInsertedAhead, IsEntryOf}
+use Rattle.core_model.specs.CoreLaw.{IsCore, HasInserted, IsInsertedAhead, IsEntryOf}
 use Rattle.core_laws.proofs.Histories.{history_above, history_right}
 use Rattle.core_laws.proofs.Lists.{all_weaker, all_append, all_contained, zip_right, all_weaker_at, all_filtered, contains_filtered}
-use Rattle.core_laws.proofs.Tables.{when_some, among_push, among_last, among_cases, with_table, keeps_with_table, cut_ahead, members}
+use Rattle.core_laws.proofs.Tables.{AddsNobody, when_some, among_push, among_last, among_cases, with_table, keeps_with_table, cut_ahead, members}
 
 -- a member's entry is past the published sequence
 entry_of_member : (o : Options) (s : State) (ins fin : List ℕ) (w : Writer) → IsCore o (with_table s (launched ins fin)) → Contains (members o s) w → (x : Entry) × IsEntryOf w x × Contains s.entries x × (s.last < x.first)
@@ -77,14 +77,14 @@ module _ (o : Options) (s : State) (m : ℕ) (ins fin : List ℕ) (is : among m 
     runs = core.runs;
   }
 
-pub kept_by_insert : (o : Options) (s t : State) (m : ℕ) → IsCore o s → insert o s m s.table ≡ Some t → IsCore o t × Keeps s t
+pub kept_by_insert : (o : Options) (s t : State) (m : ℕ) → IsCore o s → insert o s m s.table ≡ Some t → IsCore o t × AddsNobody s t
 kept_by_insert o s t m core e = by_phase s.table refl e
   where
-    by_phase : (phase : TablePhase) → s.table ≡ phase → insert o s m phase ≡ Some t → IsCore o t × Keeps s t
+    by_phase : (phase : TablePhase) → s.table ≡ phase → insert o s m phase ≡ Some t → IsCore o t × AddsNobody s t
     by_phase (launched ins fin) is e =
         let after = record (with_table s (launched (ins ++ m ∷ []) fin)) { inserted = s.inserted ++ entry_ahead s m } in
         let h = when_some (among m (runners (table_group o s)) && not (among m ins)) after t e in
-        subst (λ (x : State). IsCore o x × Keeps s x) h.1
+        subst (λ (x : State). IsCore o x × AddsNobody s x) h.1
         (inserting o s m ins fin (and_parts _ _ h.0).0 (subst (IsCore o) (ap (with_table s) is) core), keeps_with_table s s.table (launched (ins ++ m ∷ []) fin) (s.inserted ++ entry_ahead s m) s.last)
     by_phase still is e = absurd (cc)
     by_phase published is e = absurd (cc)

@@ -4,9 +4,9 @@ use Rattle.std.specs.List.{AllByRecursion}
 use Rattle.wp_model.specs.History.{Entry}
 use Rattle.core_model.specs.Core.{Options, Writer, TablePhase, still, launched, published, State, leads, has_run, table_group}
 use Rattle.core_model.specs.Step.{launch}
-use Rattle.core_model.specs.CoreLaw.{IsCore, Keeps, HasInserted, IsInsertedAhead}
+use Rattle.core_model.specs.CoreLaw.{IsCore, HasInserted, IsInsertedAhead}
 use Rattle.core_laws.proofs.Lists.{all_weaker}
-use Rattle.core_laws.proofs.Tables.{when_some, some_led, with_table, keeps_with_table}
+use Rattle.core_laws.proofs.Tables.{AddsNobody, when_some, some_led, with_table, keeps_with_table}
 
 -- nobody has inserted yet
 none_inserted : (inserted : List Entry) (ws : List Writer) → AllByRecursion (HasInserted inserted (launched [] [])) ws
@@ -43,13 +43,13 @@ launching o s c first core = record {
     ahead_of x (inl is) = inl is
     ahead_of x (inr never) = absurd never
 
-pub kept_by_launch : (o : Options) (s t : State) (c : ℕ) → IsCore o s → launch o s c s.table ≡ Some t → IsCore o t × Keeps s t
+pub kept_by_launch : (o : Options) (s t : State) (c : ℕ) → IsCore o s → launch o s c s.table ≡ Some t → IsCore o t × AddsNobody s t
 kept_by_launch o s t c core e = by_phase s.table refl e
   where
-    by_phase : (phase : TablePhase) → s.table ≡ phase → launch o s c phase ≡ Some t → IsCore o t × Keeps s t
+    by_phase : (phase : TablePhase) → s.table ≡ phase → launch o s c phase ≡ Some t → IsCore o t × AddsNobody s t
     by_phase still is e =
         let h = when_some (leads c (table_group o s)) (with_table s (launched [] [])) t e in
-        subst (λ (x : State). IsCore o x × Keeps s x) h.1
+        subst (λ (x : State). IsCore o x × AddsNobody s x) h.1
         (launching o s c h.0 (subst (IsCore o) (ap (with_table s) is) core), keeps_with_table s s.table (launched [] []) s.inserted s.last)
     by_phase (launched ins fin) is e = absurd (cc)
     by_phase published is e = absurd (cc)

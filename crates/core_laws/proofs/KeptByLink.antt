@@ -1,5 +1,5 @@
 -- Linking a batch keeps the core's law.
-use Rattle.std.proofs.Common.{◌≡◌, ℕ, ◌+◌, ◌<◌, ◌≤◌, Bool, true, false, cond, ◌==◌, List, [], ◌∷◌, ◌++◌, map, Option, Some, None, is_some, IsSome, if◌then◌else◌, refl, ap, sym, ◌∙◌, subst, arith, append_assoc}
+use Rattle.std.proofs.Common.{◌≡◌, ℕ, ◌+◌, ◌<◌, ◌≤◌, Bool, true, false, cond, inl, inr, ◌==◌, List, [], ◌∷◌, ◌++◌, map, Option, Some, None, is_some, IsSome, if◌then◌else◌, refl, ap, sym, ◌∙◌, subst, arith, append_assoc}
 use Rattle.std.specs.List.{AllByRecursion}
 use Rattle.std.proofs.lemmas.Bool.{ne_eqb, eqb-false, cond-true, cond-false}
 use Rattle.std.proofs.lemmas.List.{map-append}
@@ -9,13 +9,14 @@ use Rattle.wp_model.specs.declared.write.Refusal.TheVariants as no
 use Rattle.wp_model.specs.Batch.{Record, count_of}
 use Rattle.wp_model.specs.Progress.{early_refusal}
 use Rattle.wp_model.specs.Calls.{Command, commit, refused}
-use Rattle.core_model.specs.Core.{Options, Writer, Client, LogPhase, free, led, built, in_log, marked, handed, State, client_at, with_client, next_call, told, refusal_of}
-use Rattle.core_model.specs.Step.{link, link_call, linked}
-use Rattle.core_model.specs.CoreLaw.{IsCore, Keeps, LedIsFirst, IsSubsequence, joined, hand, in_order, waiting}
+use Rattle.core_model.specs.declared.event.Event.TheVariants.{Link}
+use Rattle.core_model.specs.Core.{Options, Writer, Client, LogPhase, free, led, built, in_log, marked, handed, State, client_at, with_client, next_call, told, refusal_of, among}
+use Rattle.core_model.specs.Step.{link, link_call, link_with}
+use Rattle.core_model.specs.CoreLaw.{IsCore, Keeps, LedIsFirst, joined, hand, in_order, waiting}
 use Rattle.core_laws.proofs.Clients.{ahead_idle, replaced, still_there, once_after, places}
 use Rattle.core_laws.proofs.KeptByRead.{kept_idle}
 use Rattle.core_laws.proofs.Lists.{all_weaker, all_append}
-use Rattle.core_laws.proofs.Tables.{all_fewer, times, times_cons, times_here, there_append, waiting_parts, subsequence_self}
+use Rattle.core_laws.proofs.Tables.{all_fewer, times, times_cons, times_here, there_append, times_among, waiting_parts}
 
 -- a batch that isn't refused has something to write
 something : (batch_bytes : ℕ) (records : List Record) (how : WriteOptions) → early_refusal batch_bytes false records how ≡ None → 0 < count_of records
@@ -35,7 +36,15 @@ still_first (in_log ws) queue w first = tt
 still_first (marked ws) queue w first = tt
 still_first (handed c) queue w first = tt
 
--- a client that was idle waits behind the others
+-- who is nowhere isn't among them
+not_among : (c : ℕ) (cs : List ℕ) → times c cs ≡ 0 → among c cs ≡ false
+not_among c cs none = by (among c cs) refl
+  where
+    by : (b : Bool) → among c cs ≡ b → among c cs ≡ false
+    by true is = absurd (let some = times_among c cs is in omega arith)
+    by false is = is
+
+-- a client that was idle waits after the others
 module _ (o : Options) (s : State) (c : ℕ) (old client : Client) (how : WriteOptions) (is : client_at s c ≡ Some old) (idle : old.idle ≡ true) (some : 0 < count_of client.added) (core : IsCore o s) where
   abbrev writer : Writer
   writer = record { client = c; options = how; records = client.added; answer = None }
@@ -78,7 +87,7 @@ module _ (o : Options) (s : State) (c : ℕ) (old client : Client) (how : WriteO
 
   linking : IsCore o after
   linking =
-      places o s (with_client s c waits).clients (s.queue ++ writer ∷ []) s.gone
+      places o s (with_client s c waits).clients (s.queue ++ writer ∷ []) s.leaving
       (once_after s after c old waits is refl one_now others)
       within
       (still_first s.log s.queue writer core.led_is_first)
@@ -89,32 +98,28 @@ module _ (o : Options) (s : State) (c : ℕ) (old client : Client) (how : WriteO
   order : in_order after ≡ in_order s ++ c ∷ []
   order = ap (map (λ (w : Writer). w.client)) (sym (append_assoc (joined s.second ++ hand s.log) s.queue (writer ∷ []))) ∙ map-append (λ (w : Writer). w.client) ((joined s.second ++ hand s.log) ++ s.queue) (writer ∷ [])
 
-  keeps_linking : Keeps s after
-  keeps_linking = record {
-    newcomer = c ∷ [];
-    at_most_one = omega arith;
-    order = subst (λ ns. IsSubsequence ns (in_order s ++ c ∷ [])) (sym order) (subsequence_self (in_order s ++ c ∷ []));
-    dead = λ was. (refl, was);
-  }
+  keeps_linking : Keeps (Link c) s after
+  keeps_linking = record { order = inr (order, not_among c (waiting s) none_before); log_failed = λ was. (refl, was) }
 
-pub kept_by_link : (o : Options) (s t : State) (c : ℕ) → IsCore o s → link o s c (client_at s c) ≡ Some t → IsCore o t × Keeps s t
+pub kept_by_link : (o : Options) (s t : State) (c : ℕ) → IsCore o s → link o s c (client_at s c) ≡ Some t → IsCore o t × Keeps (Link c) s t
 kept_by_link o s t c core e = by_client (client_at s c) refl e
   where
-    by_refusal : (old client : Client) → client_at s c ≡ Some old → old.idle ≡ true → client.idle ≡ true → (how : WriteOptions) (why : Option Refusal) → refusal_of o how client.added ≡ why → linked o s c client how why ≡ t → IsCore o t × Keeps s t
-    by_refusal old client is was now how (Some why) refusal e = subst (λ (x : State). IsCore o x × Keeps s x) e (kept_idle o s c old (told client (commit how) (refused why)) is was refl core)
+    by_refusal : (old client : Client) → client_at s c ≡ Some old → old.idle ≡ true → client.idle ≡ true → (how : WriteOptions) (why : Option Refusal) → refusal_of o how client.added ≡ why → link_with o s c client how why ≡ t → IsCore o t × Keeps (Link c) s t
+    by_refusal old client is was now how (Some why) refusal e = subst (λ (x : State). IsCore o x × Keeps (Link c) s x) e
+        ((kept_idle o s c old (told client (commit how) (refused why)) is was refl core).0, record { order = inl refl; log_failed = λ failed. (refl, failed) })
     by_refusal old client is was now how None refusal e =
         let some = something o.batch_bytes client.added how refusal in
-        subst (λ (x : State). IsCore o x × Keeps s x) e (linking o s c old client how is was some core, keeps_linking o s c old client how is was some core)
+        subst (λ (x : State). IsCore o x × Keeps (Link c) s x) e (linking o s c old client how is was some core, keeps_linking o s c old client how is was some core)
 
-    by_call : (old client : Client) → client_at s c ≡ Some old → old.idle ≡ true → client.idle ≡ true → (call : Option Command) → link_call o s c client call ≡ Some t → IsCore o t × Keeps s t
+    by_call : (old client : Client) → client_at s c ≡ Some old → old.idle ≡ true → client.idle ≡ true → (call : Option Command) → link_call o s c client call ≡ Some t → IsCore o t × Keeps (Link c) s t
     by_call old client is was now (Some (commit how)) e = by_refusal old client is was now how (refusal_of o how client.added) refl (cc)
     by_call old client is was now (Some other) e = absurd (cc)
     by_call old client is was now None e = absurd (cc)
 
-    by_idle : (client : Client) → client_at s c ≡ Some client → (b : Bool) → client.idle ≡ b → (if b then link_call o s c (next_call client).client (next_call client).call else None) ≡ Some t → IsCore o t × Keeps s t
+    by_idle : (client : Client) → client_at s c ≡ Some client → (b : Bool) → client.idle ≡ b → (if b then link_call o s c (next_call client).client (next_call client).call else None) ≡ Some t → IsCore o t × Keeps (Link c) s t
     by_idle client is true idle e = by_call client (next_call client).client is idle (ahead_idle client.calls client.added client.left client ∙ idle) (next_call client).call e
     by_idle client is false idle e = absurd (cc)
 
-    by_client : (client : Option Client) → client_at s c ≡ client → link o s c client ≡ Some t → IsCore o t × Keeps s t
+    by_client : (client : Option Client) → client_at s c ≡ client → link o s c client ≡ Some t → IsCore o t × Keeps (Link c) s t
     by_client None is e = absurd (cc)
     by_client (Some client) is e = by_idle client is client.idle refl e

@@ -7,13 +7,13 @@ use Rattle.std.proofs.lemmas.List.Elements.{filter-append, Contains-append_left}
 use Rattle.wp_model.specs.History.{Entry, IsHistory, RunsFollow, last_sequence, logged, is_logged}
 use Rattle.core_model.specs.Core.{Options, Writer, LogPhase, free, led, built, in_log, marked, handed, TablePhase, still, launched, published, State, leads, has_run, table_group, with_runs, entries_of}
 use Rattle.core_model.specs.Step.{log_group, logged_group, with_group, is_unlogged}
-use Rattle.core_model.specs.CoreLaw.{IsCore, Keeps, IsTable, IsEntryOf, IsInsertedAhead, in_order, waiting, joined, unpublished, HasInserted, SameLogFlag}
+use Rattle.core_model.specs.CoreLaw.{IsCore, IsTable, IsEntryOf, IsInsertedAhead, in_order, waiting, joined, unpublished, HasInserted, SameLogFlag}
 use Rattle.core_laws.proofs.Histories.{history_more, last_sequence_append, last_is, runs_follow}
 use Rattle.core_laws.proofs.KeptByLeaving.{client_of, order_parts, left_core}
 use Rattle.core_laws.proofs.Lists.{all_append, all_front, all_back, all_of, all_weaker, zip_append, and_parts}
 use Rattle.core_laws.proofs.Relined.{same_line, same_table, kept_order}
 use Rattle.core_laws.proofs.Runs.{Counts, same_clients, still_counted, same_log_flag, runs_history, runs_entries, runs_some, all_as_first, logged_of}
-use Rattle.core_laws.proofs.Tables.{when_some}
+use Rattle.core_laws.proofs.Tables.{AddsNobody, when_some}
 
 -- the group joins the unpublished ones
 ahead_more : (o : Options) (s : State) (us vs : List Writer) (xs : List Entry) → s.log ≡ built us → (table : TablePhase) → IsTable o s table → unpublished o (with_group s vs xs) table ≡ unpublished o s table ++ vs
@@ -68,12 +68,12 @@ parts_all P false xs parts p a = all_append P parts (xs ∷ []) a (p, tt)
 same_order : (s : State) (us vs : List Writer) (xs : List Entry) → s.log ≡ built us → map client_of us ≡ map client_of vs → in_order s ≡ in_order (with_group s vs xs)
 same_order s us vs xs log e = order_parts s ∙ (rw (log, e) refl ∙ sym (order_parts (with_group s vs xs)))
 
-grouped : (o : Options) (s : State) (us : List Writer) → s.log ≡ built us → list_any has_run (with_runs s.assigned us) ≡ true → s.dead ≡ false → IsCore o s
-    → IsCore o (with_group s (with_runs s.assigned us) (entries_of s (with_runs s.assigned us))) × Keeps s (with_group s (with_runs s.assigned us) (entries_of s (with_runs s.assigned us)))
+grouped : (o : Options) (s : State) (us : List Writer) → s.log ≡ built us → list_any has_run (with_runs s.assigned us) ≡ true → s.log_failed ≡ false → IsCore o s
+    → IsCore o (with_group s (with_runs s.assigned us) (entries_of s (with_runs s.assigned us))) × AddsNobody s (with_group s (with_runs s.assigned us) (entries_of s (with_runs s.assigned us)))
 grouped o s us log some alive core =
     let vs = with_runs s.assigned us in let xs = entries_of s vs in let t : State = with_group s vs xs in
     let order : in_order s ≡ in_order t = same_order s us vs xs log (same_clients s.assigned us) in
-    let line = same_line (waiting s) (waiting t) (ap (λ line. line ++ map client_of s.gone) order) in
+    let line = same_line (waiting s) (waiting t) (ap (λ line. line ++ map client_of s.leaving) order) in
     let counted : AllByRecursion Counts (us ++ s.queue) = rw log at core.counted in
     let flag : SameLogFlag vs = same_log_flag s.assigned us (rw log at core.one_log_flag) in
     let new : IsHistory s.assigned xs = runs_history s s.assigned us (all_front Counts us s.queue counted) in
@@ -103,24 +103,24 @@ grouped o s us log some alive core =
         none_empty = parts_all (λ p. 0 < length p) (is_unlogged vs) xs core.parts length_is core.none_empty;
         runs = parts_all RunsFollow (is_unlogged vs) xs core.parts (runs_follow s.assigned xs new) core.runs;
       },
-      kept_order s t order (λ dead. absurd (cc)),
+      kept_order s t order (λ log_failed. absurd (cc)),
     )
 
-pub kept_by_log : (o : Options) (s t : State) (c : ℕ) → IsCore o s → log_group s c s.log ≡ Some t → IsCore o t × Keeps s t
+pub kept_by_log : (o : Options) (s t : State) (c : ℕ) → IsCore o s → log_group s c s.log ≡ Some t → IsCore o t × AddsNobody s t
 kept_by_log o s t c core e = by_phase s.log refl e
   where
-    by_runs : (ws : List Writer) (b : Bool) → s.log ≡ built ws → s.dead ≡ false → list_any has_run (with_runs s.assigned ws) ≡ b
-        → IsCore o (logged_group s (with_runs s.assigned ws)) × Keeps s (logged_group s (with_runs s.assigned ws))
+    by_runs : (ws : List Writer) (b : Bool) → s.log ≡ built ws → s.log_failed ≡ false → list_any has_run (with_runs s.assigned ws) ≡ b
+        → IsCore o (logged_group s (with_runs s.assigned ws)) × AddsNobody s (logged_group s (with_runs s.assigned ws))
     by_runs ws true is alive some = rw some (grouped o s ws is some alive core)
-    by_runs ws false is alive none = rw none (left_core o s ws (with_runs s.assigned ws) s.dead is (same_clients s.assigned ws) (λ was. was) core)
+    by_runs ws false is alive none = rw none (left_core o s ws (with_runs s.assigned ws) s.log_failed is (same_clients s.assigned ws) (λ was. was) core)
 
-    not_dead : (b : Bool) → not b ≡ true → b ≡ false
-    not_dead false e = refl
-    not_dead true e = absurd (cc)
+    not_failed : (b : Bool) → not b ≡ true → b ≡ false
+    not_failed false e = refl
+    not_failed true e = absurd (cc)
 
-    by_phase : (phase : LogPhase) → s.log ≡ phase → log_group s c phase ≡ Some t → IsCore o t × Keeps s t
-    by_phase (built ws) is e = let h = when_some (leads c ws && not s.dead) (logged_group s (with_runs s.assigned ws)) t e in
-        subst (λ t. IsCore o t × Keeps s t) h.1 (by_runs ws (list_any has_run (with_runs s.assigned ws)) is (not_dead s.dead (and_parts (leads c ws) (not s.dead) h.0).1) refl)
+    by_phase : (phase : LogPhase) → s.log ≡ phase → log_group s c phase ≡ Some t → IsCore o t × AddsNobody s t
+    by_phase (built ws) is e = let h = when_some (leads c ws && not s.log_failed) (logged_group s (with_runs s.assigned ws)) t e in
+        subst (λ t. IsCore o t × AddsNobody s t) h.1 (by_runs ws (list_any has_run (with_runs s.assigned ws)) is (not_failed s.log_failed (and_parts (leads c ws) (not s.log_failed) h.0).1) refl)
     by_phase free is e = absurd (cc)
     by_phase (led d) is e = absurd (cc)
     by_phase (in_log ws) is e = absurd (cc)

@@ -7,10 +7,10 @@ use Rattle.wp_model.specs.Calls.{Reply, accepted}
 use Rattle.wp_model.specs.History.{Entry, IsHistory, last_sequence, last_of}
 use Rattle.core_model.specs.Core.{Options, Writer, TablePhase, still, launched, published, State, has_run, table_group, among, runners}
 use Rattle.core_model.specs.Step.{publish, is_last, group_last}
-use Rattle.core_model.specs.CoreLaw.{IsCore, Keeps, HasInserted, IsInsertedAhead, IsEntryOf, joined, hand_with_runs, unpublished}
+use Rattle.core_model.specs.CoreLaw.{IsCore, HasInserted, IsInsertedAhead, IsEntryOf, joined, hand_with_runs, unpublished}
 use Rattle.core_laws.proofs.Histories.{last_sequence_append, same_entry}
 use Rattle.core_laws.proofs.Lists.{all_weaker, all_append, all_contained, all_at, contains_cases, zip_left, all_weaker_at}
-use Rattle.core_laws.proofs.Tables.{when_some, among_from_all, among_from_times, cut_ahead, times_among, times_here, times_cons, in_hand_once, with_table, keeps_with_table, groups_split, members, there, there_append, there_filtered, waiting_parts, waits_once}
+use Rattle.core_laws.proofs.Tables.{AddsNobody, when_some, among_from_all, among_from_times, cut_ahead, times_among, times_here, times_cons, in_hand_once, with_table, keeps_with_table, groups_split, members, there, there_append, there_filtered, waiting_parts, waits_once}
 
 -- a group ends where the last of its runs does
 pub group_ends : (last : ℕ) (ws : List Writer) (xs : List Entry) → AllZip IsEntryOf (filter has_run ws) xs → group_last last ws ≡ last_sequence last xs
@@ -53,7 +53,7 @@ member_there (v ∷ ws) w is = by (contains_cases v ws w is) (member_there ws w)
     by (inl here) later = subst (λ (u : Writer). 1 ≤ there u.client (v ∷ ws)) here (let e = times_here v.client (map (λ (u : Writer). u.client) ws) in omega arith)
     by (inr behind) later = let e = times_cons w.client v.client (map (λ (u : Writer). u.client) ws) in let f = later behind in omega arith
 
--- who has an entry behind the group isn't in the group
+-- who has an entry after the group isn't in the group
 no_member : (o : Options) (s : State) (x : Entry) (ws back : List Writer) (entries : List Entry) → IsCore o s
     → joined s.second ++ hand_with_runs s.log ≡ ws ++ back → 1 ≤ there x.client ws → AllZip IsEntryOf (filter has_run back) entries → Contains entries x → ⊥
 no_member o s x ws back entries core split some zip is =
@@ -148,14 +148,14 @@ module _ (o : Options) (s : State) (ins fin : List ℕ) (done : list_all (λ c. 
     runs = core.runs;
   }
 
-pub kept_by_publish : (o : Options) (s t : State) (m : ℕ) → IsCore o s → publish o s m s.table ≡ Some t → IsCore o t × Keeps s t
+pub kept_by_publish : (o : Options) (s t : State) (m : ℕ) → IsCore o s → publish o s m s.table ≡ Some t → IsCore o t × AddsNobody s t
 kept_by_publish o s t m core e = by_phase s.table refl e
   where
-    by_phase : (phase : TablePhase) → s.table ≡ phase → publish o s m phase ≡ Some t → IsCore o t × Keeps s t
+    by_phase : (phase : TablePhase) → s.table ≡ phase → publish o s m phase ≡ Some t → IsCore o t × AddsNobody s t
     by_phase (launched ins fin) is e =
         let after = record (with_table s published) { last = group_last s.last (table_group o s) } in
         let h = when_some (is_last m fin && list_all (λ c. among c fin) (runners (table_group o s))) after t e in
-        subst (λ (x : State). IsCore o x × Keeps s x) h.1
+        subst (λ (x : State). IsCore o x × AddsNobody s x) h.1
         (publishing o s ins fin (and_parts _ _ h.0).1 (subst (IsCore o) (ap (with_table s) is) core), keeps_with_table s s.table published s.inserted (group_last s.last (table_group o s)))
     by_phase still is e = absurd (cc)
     by_phase published is e = absurd (cc)

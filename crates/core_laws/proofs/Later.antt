@@ -1,4 +1,4 @@
--- What was told stays told, and later reads aren't behind what was published before.
+-- What was told stays told, and later reads aren't older than what was published before.
 use Rattle.std.proofs.Common.{◌≡◌, ℕ, ◌≤◌, ◌==◌, ◌&&◌, not, Bool, true, false, if◌then◌else◌, ◌⊎◌, inl, inr, List, [], ◌∷◌, ◌++◌, fold, filter, take, drop, find, Option, Some, None, refl, ap, sym, ◌∙◌, subst, append_assoc, append-nil, arith}
 use mathlib.Core.List.{IsPrefix}
 use Rattle.std.specs.List.{AllByRecursion, list_any, list_all}
@@ -11,7 +11,7 @@ use Rattle.wp_model.specs.declared.write.WriteOptions.{WriteOptions}
 use Rattle.wp_model.specs.Batch.{Record}
 use Rattle.wp_model.specs.Calls.{Command, add, clear, commit, get, many, scan, stop, unstop, slow, unslow, Reply, quiet, accepted, refused, found, found_each, rows, done, held, not_held, no_memory, Call}
 use Rattle.core_model.specs.Core.{Options, Writer, Client, LogPhase, free, led, built, in_log, marked, handed, TablePhase, still, launched, published, State, opened, client_at, with_client, next_call, ahead, told, refusal_of, read_reply, leads, has_run, with_runs, entries_of, table_group, runners, among, all_answered}
-use Rattle.core_model.specs.Step.{step, replay, replayed, Replayed, link, link_call, linked, elect, build, group_size, log_group, logged_group, fault, refuse, is_no_slowdown, boundary, to_second, next, launch, insert, entry_ahead, finish, publish, is_last, group_last, exit, leave, without_table_group, complete, complete_with, completed, read, read_call, read_with, when}
+use Rattle.core_model.specs.Step.{step, replay, replayed, Replayed, link, link_call, link_with, elect, build, group_size, log_group, logged_group, fault, refuse, is_no_slowdown, boundary, to_second, next, launch, insert, entry_ahead, finish, publish, is_last, group_last, exit, leave, without_table_group, complete, complete_with, completed, read, read_call, read_with, when}
 use Rattle.core_model.specs.CoreLaw.{IsCore, hand, joined}
 use Rattle.core_model.specs.Replies.{IsFrom, IsLater}
 use Rattle.core_laws.proofs.Lists.{all_append, all_weaker, all_back}
@@ -85,7 +85,7 @@ later_logged s ws true is = rw is (later_lines s _ refl (entries_of s ws, refl) 
 later_logged s ws false is = rw is (later_lines s _ refl (same_history s) (omega arith))
 
 by_log : (s t : State) (c : ℕ) (phase : LogPhase) → log_group s c phase ≡ Some t → IsLater s t
-by_log s t c (built ws) e = later_when s (logged_group s (with_runs s.assigned ws)) t (leads c ws && not s.dead) e (later_logged s (with_runs s.assigned ws) (list_any has_run (with_runs s.assigned ws)) refl)
+by_log s t c (built ws) e = later_when s (logged_group s (with_runs s.assigned ws)) t (leads c ws && not s.log_failed) e (later_logged s (with_runs s.assigned ws) (list_any has_run (with_runs s.assigned ws)) refl)
 by_log s t c free e = absurd (cc)
 by_log s t c (led d) e = absurd (cc)
 by_log s t c (in_log ws) e = absurd (cc)
@@ -93,7 +93,7 @@ by_log s t c (marked ws) e = absurd (cc)
 by_log s t c (handed d) e = absurd (cc)
 
 by_fault : (s t : State) (c : ℕ) (phase : LogPhase) → fault s c phase ≡ Some t → IsLater s t
-by_fault s t c (built ws) e = let u : State = record (leave s (all_answered (refused (no.LogFault 1)) ws)) { log = free; dead = true } in
+by_fault s t c (built ws) e = let u : State = record (leave s (all_answered (refused (no.LogFault 1)) ws)) { log = free; log_failed = true } in
     later_when s u t (leads c ws) e (later_lines s u refl (same_history s) (omega arith))
 by_fault s t c free e = absurd (cc)
 by_fault s t c (led d) e = absurd (cc)
@@ -208,10 +208,10 @@ later_client s t c old new is clients entries last since = record {
 by_link : (o : Options) (s t : State) (c : ℕ) → link o s c (client_at s c) ≡ Some t → IsLater s t
 by_link o s t c e = by_client (client_at s c) refl e
   where
-    by_refusal : (old : Client) → client_at s c ≡ Some old → (how : WriteOptions) (why : Option Refusal) → linked o s c (next_call old).client how why ≡ t → IsLater s t
-    by_refusal old is how (Some why) e = subst (IsLater s) e (later_client s (linked o s c (next_call old).client how (Some why)) c old (told (next_call old).client (commit how) (refused why)) is refl refl refl
+    by_refusal : (old : Client) → client_at s c ≡ Some old → (how : WriteOptions) (why : Option Refusal) → link_with o s c (next_call old).client how why ≡ t → IsLater s t
+    by_refusal old is how (Some why) e = subst (IsLater s) e (later_client s (link_with o s c (next_call old).client how (Some why)) c old (told (next_call old).client (commit how) (refused why)) is refl refl refl
         (told_one_more s.last old.calls (next_call old).client.calls (record { command = commit how; reply = refused why }) tt (next_told s.last old)))
-    by_refusal old is how None e = subst (IsLater s) e (later_client s (linked o s c (next_call old).client how None) c old (record (next_call old).client { idle = false }) is refl refl refl (next_told s.last old))
+    by_refusal old is how None e = subst (IsLater s) e (later_client s (link_with o s c (next_call old).client how None) c old (record (next_call old).client { idle = false }) is refl refl refl (next_told s.last old))
 
     by_call : (old : Client) → client_at s c ≡ Some old → (call : Option Command) → link_call o s c (next_call old).client call ≡ Some t → IsLater s t
     by_call old is (Some (commit how)) e = by_refusal old is how (refusal_of o how (next_call old).client.added) (cc)
@@ -284,20 +284,20 @@ answer_from o s client w (Some held) reply e is = absurd is
 answer_from o s client w (Some not_held) reply e is = absurd is
 answer_from o s client w (Some no_memory) reply e is = absurd is
 
-by_complete : (o : Options) (plans : List (List Command)) (s t : State) (m : ℕ) → Told o plans s → complete s m (find (λ (w : Writer). w.client == m) s.gone) ≡ Some t → IsLater s t
-by_complete o plans s t m so_far e = by_writer (find (λ (w : Writer). w.client == m) s.gone) refl e
+by_complete : (o : Options) (plans : List (List Command)) (s t : State) (m : ℕ) → Told o plans s → complete s m (find (λ (w : Writer). w.client == m) s.leaving) ≡ Some t → IsLater s t
+by_complete o plans s t m so_far e = by_writer (find (λ (w : Writer). w.client == m) s.leaving) refl e
   where
-    by_client : (w : Writer) → find (λ (x : Writer). x.client == m) s.gone ≡ Some w → (client : Option Client) → client_at s m ≡ client → (reply : Option Reply) → w.answer ≡ reply → complete_with s m client w reply ≡ Some t → IsLater s t
+    by_client : (w : Writer) → find (λ (x : Writer). x.client == m) s.leaving ≡ Some w → (client : Option Client) → client_at s m ≡ client → (reply : Option Reply) → w.answer ≡ reply → complete_with s m client w reply ≡ Some t → IsLater s t
     by_client w left (Some client) is (Some reply) answer e =
-        let waits = (found_is m s.gone w left).1 (Waits o plans s) (all_back (Waits o plans s) ((joined s.second ++ hand s.log) ++ s.queue) s.gone so_far.waits) in
+        let waits = (found_is m s.leaving w left).1 (Waits o plans s) (all_back (Waits o plans s) ((joined s.second ++ hand s.log) ++ s.queue) s.leaving so_far.waits) in
         let from = answer_from o s waits.client w w.answer reply answer waits.answer in
-        let u : State = record (with_client s m (completed client w reply)) { gone = filter (λ (x : Writer). not (x.client == m)) s.gone } in let after : u ≡ t = cc in
+        let u : State = record (with_client s m (completed client w reply)) { leaving = filter (λ (x : Writer). not (x.client == m)) s.leaving } in let after : u ≡ t = cc in
         subst (IsLater s) after (later_client s u m client (completed client w reply) is refl refl refl
         (told_one_more s.last client.calls client.calls (record { command = commit w.options; reply = reply }) from ([], append-nil client.calls, tt)))
     by_client w left (Some client) is None answer e = absurd (cc)
     by_client w left None is reply answer e = absurd (cc)
 
-    by_writer : (w : Option Writer) → find (λ (x : Writer). x.client == m) s.gone ≡ w → complete s m w ≡ Some t → IsLater s t
+    by_writer : (w : Option Writer) → find (λ (x : Writer). x.client == m) s.leaving ≡ w → complete s m w ≡ Some t → IsLater s t
     by_writer None left e = absurd (cc)
     by_writer (Some w) left e = by_client w left (client_at s m) refl w.answer refl e
 

@@ -1,5 +1,6 @@
 pub mod Answered
 pub mod Clients
+pub mod EachHalf
 pub mod Given
 pub mod Groups
 pub mod Histories

@@ -9,10 +9,10 @@ use Rattle.wp_model.specs.declared.write.WriteOptions.{WriteOptions}
 use Rattle.wp_model.specs.Batch.{Record, count_of, size_of_batch}
 use Rattle.wp_model.specs.Progress.{added_by, batch_after, early_refusal}
 use Rattle.wp_model.specs.Runs.{commands_of}
-use Rattle.wp_model.specs.Outcomes.{own}
+use Rattle.wp_model.specs.Outcomes.{entries_of_client}
 use Rattle.wp_model.specs.Calls.{Command, add, clear, commit, get, many, scan, stop, unstop, slow, unslow, Reply, quiet, refused, Call}
 use Rattle.core_model.specs.Core.{Options, Client, State, Ahead, ahead}
-use Rattle.core_model.specs.Replies.{is_log_fault, knows_dead, shown, shown_by, entries_told, entries_by, MayReply, IsHandled, AreRight}
+use Rattle.core_model.specs.Replies.{is_log_fault, knows_log_failed, seen_up_to, seen_with, entries_told, entries_by, MayReply, IsHandled, AreRight}
 
 fold_push : {A B : Type 0} (f : B → A → B) (b : B) (xs : List A) (x : A) → fold f b (xs ++ x ∷ []) ≡ f (fold f b xs) x
 fold_push f b [] x = refl
@@ -44,20 +44,20 @@ right_push o s calls call right may before c after e = by (split_push calls call
 pub record IsReady (o : Options) (s : State) (c : ℕ) (calls : List Call) (added : List Record) : Type 0 where
   pub batch : added ≡ batch_after calls
   pub right : AreRight o s calls
-  pub shown_is : shown calls ≤ s.last
-  pub dead : knows_dead calls ≡ true → s.dead ≡ true
-  pub entries : own c s.entries ≡ entries_told c calls
+  pub seen_published : seen_up_to calls ≤ s.last
+  pub log_failed : knows_log_failed calls ≡ true → s.log_failed ≡ true
+  pub entries : entries_of_client c s.entries ≡ entries_told c calls
 
 pub ready_push : (o : Options) (s : State) (c : ℕ) (calls : List Call) (call : Call) (added : List Record) → AreRight o s calls → MayReply o s calls call.command call.reply
-    → added ≡ added_by (batch_after calls) call.command call.reply → shown_by (shown calls) call.reply ≤ s.last → (knows_dead calls ≡ true → s.dead ≡ true) → (is_log_fault call.reply ≡ true → s.dead ≡ true) → own c s.entries ≡ entries_by c (entries_told c calls) call.command call.reply
+    → added ≡ added_by (batch_after calls) call.command call.reply → seen_with (seen_up_to calls) call.reply ≤ s.last → (knows_log_failed calls ≡ true → s.log_failed ≡ true) → (is_log_fault call.reply ≡ true → s.log_failed ≡ true) → entries_of_client c s.entries ≡ entries_by c (entries_told c calls) call.command call.reply
     → IsReady o s c (calls ++ call ∷ []) added
-ready_push o s c calls call added right may batch shown_is dead fault entries = record {
+ready_push o s c calls call added right may batch seen_published log_failed fault entries = record {
   batch = batch ∙ sym (fold_push (λ records (c : Call). added_by records c.command c.reply) [] calls call);
   right = right_push o s calls call right may;
-  shown_is = subst (λ n. n ≤ s.last) (sym (fold_push (λ least (c : Call). shown_by least c.reply) 0 calls call)) shown_is;
-  dead = λ knows. elim (or_cases (knows_dead calls) (is_log_fault call.reply || false) (sym (list_any-append (λ (c : Call). is_log_fault c.reply) calls (call ∷ [])) ∙ knows)) as (λ _. s.dead ≡ true) [
-    | inl before ↦ dead before
-    | inr now ↦ elim (or_cases (is_log_fault call.reply) false now) as (λ _. s.dead ≡ true) [ inl told ↦ fault told | inr never ↦ absurd (cc) ]
+  seen_published = subst (λ n. n ≤ s.last) (sym (fold_push (λ seen (c : Call). seen_with seen c.reply) 0 calls call)) seen_published;
+  log_failed = λ knows. elim (or_cases (knows_log_failed calls) (is_log_fault call.reply || false) (sym (list_any-append (λ (c : Call). is_log_fault c.reply) calls (call ∷ [])) ∙ knows)) as (λ _. s.log_failed ≡ true) [
+    | inl before ↦ log_failed before
+    | inr now ↦ elim (or_cases (is_log_fault call.reply) false now) as (λ _. s.log_failed ≡ true) [ inl told ↦ fault told | inr never ↦ absurd (cc) ]
   ];
   entries = entries ∙ sym (fold_push (λ mine (x : Call). entries_by c mine x.command x.reply) [] calls call);
 }
@@ -79,10 +79,10 @@ pub goes_ahead : (o : Options) (s : State) (c : ℕ) (lines : List Command) (cal
     → lines ≡ commands_of calls ++ left → IsAhead o s c lines (ahead calls added left client)
 goes_ahead o s c lines calls added [] client ready asked = record { ready = ready; asked = λ command e. absurd (cc e) }
 goes_ahead o s c lines calls added (add r ∷ left) client ready asked = goes_ahead o s c lines (calls ++ record { command = add r; reply = quiet } ∷ []) (added ++ r ∷ []) left client
-    (ready_push o s c calls (record { command = add r; reply = quiet }) (added ++ r ∷ []) ready.right refl (ap (λ records. records ++ r ∷ []) ready.batch) ready.shown_is ready.dead (λ told. absurd (cc)) ready.entries)
+    (ready_push o s c calls (record { command = add r; reply = quiet }) (added ++ r ∷ []) ready.right refl (ap (λ records. records ++ r ∷ []) ready.batch) ready.seen_published ready.log_failed (λ told. absurd (cc)) ready.entries)
     (asked ∙ asked_push calls (record { command = add r; reply = quiet }) left)
 goes_ahead o s c lines calls added (clear ∷ left) client ready asked = goes_ahead o s c lines (calls ++ record { command = clear; reply = quiet } ∷ []) [] left client
-    (ready_push o s c calls (record { command = clear; reply = quiet }) [] ready.right refl refl ready.shown_is ready.dead (λ told. absurd (cc)) ready.entries)
+    (ready_push o s c calls (record { command = clear; reply = quiet }) [] ready.right refl refl ready.seen_published ready.log_failed (λ told. absurd (cc)) ready.entries)
     (asked ∙ asked_push calls (record { command = clear; reply = quiet }) left)
 goes_ahead o s c lines calls added (commit how ∷ left) client ready asked = stops_at o s c lines calls added (commit how) left client ready asked
 goes_ahead o s c lines calls added (get key ∷ left) client ready asked = stops_at o s c lines calls added (get key) left client ready asked

@@ -1,14 +1,14 @@
 -- Events that move writers, and change neither clients, entries nor the table.
-use Rattle.std.proofs.Common.{◌≡◌, ℕ, ◌<◌, Bool, true, false, List, [], ◌++◌, filter, ap, sym, ◌∙◌, subst, arith, ◌==◌}
+use Rattle.std.proofs.Common.{◌≡◌, ℕ, ◌<◌, Bool, true, false, List, [], ◌++◌, filter, ap, sym, ◌∙◌, subst, ◌==◌}
 use Rattle.std.specs.List.{AllByRecursion, AllZip, count_by}
 use Rattle.wp_model.specs.Batch.{count_of}
 use Rattle.core_model.specs.Core.{Options, Writer, LogPhase, TablePhase, still, launched, published, State, has_run, table_group}
-use Rattle.core_model.specs.CoreLaw.{IsCore, Keeps, IsTable, IsUnmarked, LedIsFirst, SameLogFlag, HasInserted, IsEntryOf, hand, hand_with_runs, waiting, in_order, unpublished}
-use Rattle.core_laws.proofs.Tables.{subsequence_self, subsequence_longer}
+use Rattle.core_model.specs.CoreLaw.{IsCore, IsSubsequence, IsTable, IsUnmarked, LedIsFirst, SameLogFlag, HasInserted, IsEntryOf, hand, hand_with_runs, waiting, in_order, unpublished}
+use Rattle.core_laws.proofs.Tables.{AddsNobody, subsequence_self}
 
 -- the state with its writers elsewhere
 abbrev pub lined : State → List (List Writer) → LogPhase → List Writer → List Writer → Bool → State
-lined s second log queue gone dead = record s { second = second; log = log; queue = queue; gone = gone; dead = dead }
+lined s second log queue leaving log_failed = record s { second = second; log = log; queue = queue; leaving = leaving; log_failed = log_failed }
 
 -- the same clients wait
 pub record SameMembers (xs ys : List ℕ) : Type 1 where
@@ -30,9 +30,9 @@ pub record AreInPlace (o : Options) (s t : State) : Type 1 where
   pub is_table : IsTable o t s.table
   pub has_inserted : AllByRecursion (HasInserted s.inserted s.table) (filter has_run (table_group o t))
 
-pub relined : (o : Options) (s : State) (second : List (List Writer)) (log : LogPhase) (queue gone : List Writer) (dead : Bool)
-    → AreInPlace o s (lined s second log queue gone dead) → IsCore o s → IsCore o (lined s second log queue gone dead)
-relined o s second log queue gone dead places core = record {
+pub relined : (o : Options) (s : State) (second : List (List Writer)) (log : LogPhase) (queue leaving : List Writer) (log_failed : Bool)
+    → AreInPlace o s (lined s second log queue leaving log_failed) → IsCore o s → IsCore o (lined s second log queue leaving log_failed)
+relined o s second log queue leaving log_failed places core = record {
   once = λ c client is. places.members.counts (λ n. n == c) ∙ core.once c client is;
   clients = places.members.all _ core.clients;
   led_is_first = places.led;
@@ -67,6 +67,6 @@ same_unpublished o s t still e f = rw (e, f)
 same_unpublished o s t (launched ins fin) e f = rw (e, f)
 same_unpublished o s t published e f = rw (e, f)
 
--- nobody comes, and nobody passes another
-pub kept_order : (s t : State) → in_order s ≡ in_order t → (s.dead ≡ true → (t.entries ≡ s.entries) × (t.dead ≡ true)) → Keeps s t
-kept_order s t e dead = record { newcomer = []; at_most_one = omega arith; order = rw (← e) (subsequence_longer (in_order s) (in_order s) [] (subsequence_self (in_order s))); dead = dead }
+-- the line stays as it is
+pub kept_order : (s t : State) → in_order s ≡ in_order t → (s.log_failed ≡ true → (t.entries ≡ s.entries) × (t.log_failed ≡ true)) → AddsNobody s t
+kept_order s t e log_failed = record { order = subst (λ xs. IsSubsequence xs (in_order s)) e (subsequence_self (in_order s)); log_failed = log_failed }

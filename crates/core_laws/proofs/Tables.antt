@@ -8,7 +8,7 @@ use Rattle.std.proofs.lemmas.List.Folds.{list_any-append}
 use Rattle.std.proofs.lemmas.Bool.{or_cases, or_left, or_right, eqb-true, eq-eqb, cond-true, cond-false, cases_lt}
 use Rattle.wp_model.specs.History.{Entry}
 use Rattle.core_model.specs.Core.{Options, Writer, Client, client_at, leads, LogPhase, free, led, built, in_log, marked, handed, TablePhase, launched, published, State, has_run, table_group, in_hand, among}
-use Rattle.core_model.specs.CoreLaw.{IsCore, IsSubsequence, Keeps, in_order, waiting, joined, hand, hand_with_runs, unpublished, IsEntryOf}
+use Rattle.core_model.specs.CoreLaw.{IsCore, IsSubsequence, in_order, waiting, joined, hand, hand_with_runs, unpublished, IsEntryOf}
 use Rattle.core_model.specs.Step.{when}
 use Rattle.core_laws.proofs.Lists.{Parted, parted}
 
@@ -83,12 +83,6 @@ pub subsequence_self : (xs : List ℕ) → IsSubsequence xs xs
 subsequence_self [] = tt
 subsequence_self (x ∷ xs) = inl (refl, subsequence_self xs)
 
-pub subsequence_longer : (xs ys zs : List ℕ) → IsSubsequence xs ys → IsSubsequence xs (ys ++ zs)
-subsequence_longer [] ys zs h = tt
-subsequence_longer (x ∷ xs) [] zs h = absurd h
-subsequence_longer (x ∷ xs) (y ∷ ys) zs (inl h) = inl (h.0, subsequence_longer xs ys zs h.1)
-subsequence_longer (x ∷ xs) (y ∷ ys) zs (inr h) = inr (subsequence_longer (x ∷ xs) ys zs h)
-
 pub subsequence_after : (ws xs ys : List ℕ) → IsSubsequence xs ys → IsSubsequence xs (ws ++ ys)
 subsequence_after [] xs ys h = h
 subsequence_after (w ∷ ws) [] ys h = tt
@@ -98,14 +92,14 @@ pub subsequence_both : (ws xs zs : List ℕ) → IsSubsequence xs zs → IsSubse
 subsequence_both [] xs zs a = a
 subsequence_both (w ∷ ws) xs zs a = inl (refl, subsequence_both ws xs zs a)
 
--- an event that moves nobody and gives no runs
-pub keeps : (s t : State) → IsSubsequence (in_order t) (in_order s) → t.entries ≡ s.entries → t.dead ≡ s.dead → Keeps s t
-keeps s t order entries dead = record {
-  newcomer = [];
-  at_most_one = omega arith;
-  order = subsequence_longer (in_order t) (in_order s) [] order;
-  dead = λ was. (entries, dead ∙ was);
-}
+-- what an event keeps that adds nobody to the line
+pub record AddsNobody (old new : State) : Type 0 where
+  pub order : IsSubsequence (in_order new) (in_order old)
+  pub log_failed : old.log_failed ≡ true → (new.entries ≡ old.entries) × (new.log_failed ≡ true)
+
+-- an event that gives no runs
+pub keeps : (s t : State) → IsSubsequence (in_order t) (in_order s) → t.entries ≡ s.entries → t.log_failed ≡ s.log_failed → AddsNobody s t
+keeps s t order entries log_failed = record { order = order; log_failed = λ was. (entries, log_failed ∙ was) }
 
 -- The groups on the way
 
@@ -113,10 +107,10 @@ keeps s t order entries dead = record {
 abbrev pub with_table : State → TablePhase → State
 with_table s phase = record s { table = phase }
 
-pub keeps_with_table : (s : State) (a b : TablePhase) (inserted : List Entry) (last : ℕ) → Keeps (with_table s a) (record (with_table s b) { inserted = inserted; last = last })
+pub keeps_with_table : (s : State) (a b : TablePhase) (inserted : List Entry) (last : ℕ) → AddsNobody (with_table s a) (record (with_table s b) { inserted = inserted; last = last })
 keeps_with_table s a b inserted last = keeps (with_table s a) (record (with_table s b) { inserted = inserted; last = last }) (subsequence_self (in_order s)) refl refl
 
--- a group in the table is on the way, and what waits behind it is behind it
+-- a group in the table is on the way, and what waits for it comes after it
 pub split_groups : (o : Options) (s : State) (pipelined : Bool) (second : List (List Writer)) (log : LogPhase)
     → (pipelined ≡ false → second ≡ [])
     → 0 < length (table_group (record o { pipelined = pipelined }) (record s { second = second; log = log }))
@@ -162,9 +156,9 @@ there_filtered c p (w ∷ ws) = by (p w) (there_filtered c p ws)
     by false le = let e = times_cons c w.client (map (λ (w : Writer). w.client) ws) in omega arith
 
 -- all that wait, by the place where they wait
-pub waiting_parts : (c : ℕ) (s : State) → times c (waiting s) ≡ there c (joined s.second) + there c (hand s.log) + there c s.queue + there c s.gone
+pub waiting_parts : (c : ℕ) (s : State) → times c (waiting s) ≡ there c (joined s.second) + there c (hand s.log) + there c s.queue + there c s.leaving
 waiting_parts c s =
-    let a = times_append c (in_order s) (map (λ (w : Writer). w.client) s.gone) in
+    let a = times_append c (in_order s) (map (λ (w : Writer). w.client) s.leaving) in
     let b = there_append c (joined s.second ++ hand s.log) s.queue in
     let d = there_append c (joined s.second) (hand s.log) in
     omega arith
@@ -194,7 +188,7 @@ in_hand_once c (in_log ws) = omega arith
 in_hand_once c (marked ws) = omega arith
 in_hand_once c (handed d) = omega arith
 
--- the entries past the published sequence: those of the launched group, and those behind it
+-- the entries past the published sequence: those of the launched group, and those after it
 pub cut_ahead : (o : Options) (s : State) (ins fin : List ℕ) (core : IsCore o (with_table s (launched ins fin))) → Parted IsEntryOf (members o s) (filter has_run (unpublished o s published)) core.is_boundary.rest
 cut_ahead o s ins fin core =
     let split = groups_split o s core.single_stage core.is_table.0 in

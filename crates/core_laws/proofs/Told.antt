@@ -11,17 +11,17 @@ use Rattle.wp_model.specs.Batch.{count_of}
 use Rattle.wp_model.specs.History.{Entry, IsUpTo}
 use Rattle.wp_model.specs.Progress.{early_refusal, next_entry, batch_after}
 use Rattle.wp_model.specs.Runs.{commands_of}
-use Rattle.wp_model.specs.Outcomes.{own}
+use Rattle.wp_model.specs.Outcomes.{entries_of_client}
 use Rattle.wp_model.specs.Calls.{Command, add, clear, commit, get, many, scan, stop, unstop, slow, unslow, Reply, quiet, accepted, refused, found, found_each, rows, done, held, not_held, no_memory, Call}
 use Rattle.core_model.specs.Core.{Options, Writer, Client, LogPhase, free, led, built, in_log, marked, handed, State, client_at}
 use Rattle.core_model.specs.CoreLaw.{IsCore, hand, joined}
-use Rattle.core_model.specs.Replies.{shown, knows_dead, entries_told, ReadsAt, Gets, GetsMany, Scans, IsHandled, MayRefuse, MayReply, AreRight, lines_at}
+use Rattle.core_model.specs.Replies.{seen_up_to, knows_log_failed, entries_told, ReadsAt, Gets, GetsMany, Scans, IsHandled, MayRefuse, MayReply, AreRight, lines_at}
 use Rattle.core_laws.proofs.Groups.{SameSlowdown}
 use Rattle.core_laws.proofs.Lists.{all_append, all_weaker}
 
 -- all that wait, wherever they stand
 abbrev pub writers : State → List Writer
-writers s = ((joined s.second ++ hand s.log) ++ s.queue) ++ s.gone
+writers s = ((joined s.second ++ hand s.log) ++ s.queue) ++ s.leaving
 
 -- those that have no answer yet
 abbrev pub unanswered : LogPhase → List Writer → List Writer
@@ -43,11 +43,11 @@ IsOneKind (handed c) = Unit {0}
 
 -- what a writer's answer says of its client's entries
 abbrev pub IsAnswer : Options → State → Client → Writer → Option Reply → Type 0
-IsAnswer o s client w None = own w.client s.entries ≡ entries_told w.client client.calls
+IsAnswer o s client w None = entries_of_client w.client s.entries ≡ entries_told w.client client.calls
 IsAnswer o s client w (Some (accepted first last records)) = (records ≡ w.records) × (last + 1 ≡ first + count_of w.records)
-    × (own w.client s.entries ≡ entries_told w.client client.calls ++ next_entry w.client (entries_told w.client client.calls) w.options first w.records ∷ [])
-    × (knows_dead client.calls ≡ false)
-IsAnswer o s client w (Some (refused why)) = MayRefuse o s client.calls w.options why × (own w.client s.entries ≡ entries_told w.client client.calls)
+    × (entries_of_client w.client s.entries ≡ entries_told w.client client.calls ++ next_entry w.client (entries_told w.client client.calls) w.options first w.records ∷ [])
+    × (knows_log_failed client.calls ≡ false)
+IsAnswer o s client w (Some (refused why)) = MayRefuse o s client.calls w.options why × (entries_of_client w.client s.entries ≡ entries_told w.client client.calls)
 IsAnswer o s client w (Some quiet) = ⊥
 IsAnswer o s client w (Some (found at v)) = ⊥
 IsAnswer o s client w (Some (found_each at vs)) = ⊥
@@ -68,10 +68,10 @@ pub record Waits (o : Options) (plans : List (List Command)) (s : State) (w : Wr
 pub record IsToldSoFar (o : Options) (plans : List (List Command)) (s : State) (c : ℕ) (client : Client) : Type 0 where
   pub added : client.added ≡ batch_after client.calls
   pub right : AreRight o s client.calls
-  pub shown_is : shown client.calls ≤ s.last
-  pub dead : knows_dead client.calls ≡ true → s.dead ≡ true
+  pub seen_published : seen_up_to client.calls ≤ s.last
+  pub log_failed : knows_log_failed client.calls ≡ true → s.log_failed ≡ true
   pub asked : client.idle ≡ true → (lines : List Command) → lines_at plans c ≡ Some lines → lines ≡ commands_of client.calls ++ client.left
-  pub entries : client.idle ≡ true → own c s.entries ≡ entries_told c client.calls
+  pub entries : client.idle ≡ true → entries_of_client c s.entries ≡ entries_told c client.calls
 
 pub record Told (o : Options) (plans : List (List Command)) (s : State) : Type 0 where
   pub core : IsCore o s
@@ -90,14 +90,14 @@ up_to_more start entries xs at front is = record { rest = is.rest ++ xs; split =
 pub record Grows (s t : State) : Type 0 where
   pub new : List Entry
   pub entries : t.entries ≡ s.entries ++ new
-  pub dead : s.dead ≡ true → t.dead ≡ true
+  pub log_failed : s.log_failed ≡ true → t.log_failed ≡ true
   pub last : s.last ≤ t.last
 
 up_to_grown : (o : Options) (s t : State) → Grows s t → (at : ℕ) (front : List Entry) → IsUpTo o.start s.entries at front → IsUpTo o.start t.entries at front
 up_to_grown o s t grows at front is = rw grows.entries (up_to_more o.start s.entries grows.new at front is)
 
 pub refusal_more : (o : Options) (s t : State) → Grows s t → (before : List Call) (how : WriteOptions) (why : Refusal) → MayRefuse o s before how why → MayRefuse o t before how why
-refusal_more o s t grows before how (no.LogFault count) m = (m.0, grows.dead m.1)
+refusal_more o s t grows before how (no.LogFault count) m = (m.0, grows.log_failed m.1)
 refusal_more o s t grows before how (no.SequenceFull last) m = (m.0, m.1, (m.2.0, up_to_grown o s t grows last m.2.0 m.2.1), m.3)
 refusal_more o s t grows before how (no.Incomplete stops delays wait) m = m
 refusal_more o s t grows before how no.Empty m = m
@@ -178,10 +178,10 @@ pub right_more : (o : Options) (s t : State) → Grows s t → (calls : List Cal
 right_more o s t grows calls right before c after e = reply_more o s t grows before c.command c.reply (right before c after e)
 
 -- A client whose entries stay as they are
-pub own_same : (c : ℕ) (s t : State) (grows : Grows s t) → own c grows.new ≡ [] → own c t.entries ≡ own c s.entries
-own_same c s t grows none = ap (own c) grows.entries ∙ (filter-append (λ (e : Entry). e.client == c) s.entries grows.new ∙ rw none (append-nil (own c s.entries)))
+pub own_same : (c : ℕ) (s t : State) (grows : Grows s t) → entries_of_client c grows.new ≡ [] → entries_of_client c t.entries ≡ entries_of_client c s.entries
+own_same c s t grows none = ap (entries_of_client c) grows.entries ∙ (filter-append (λ (e : Entry). e.client == c) s.entries grows.new ∙ rw none (append-nil (entries_of_client c s.entries)))
 
-pub answer_same : (o : Options) (s t : State) (client : Client) (w : Writer) (answer : Option Reply) (grows : Grows s t) → own w.client grows.new ≡ [] → IsAnswer o s client w answer → IsAnswer o t client w answer
+pub answer_same : (o : Options) (s t : State) (client : Client) (w : Writer) (answer : Option Reply) (grows : Grows s t) → entries_of_client w.client grows.new ≡ [] → IsAnswer o s client w answer → IsAnswer o t client w answer
 answer_same o s t client w None grows none is = own_same w.client s t grows none ∙ is
 answer_same o s t client w (Some (accepted first last records)) grows none is = (is.0, is.1, own_same w.client s t grows none ∙ is.2, is.3)
 answer_same o s t client w (Some (refused why)) grows none is = (refusal_more o s t grows client.calls w.options why is.0, own_same w.client s t grows none ∙ is.1)
@@ -198,7 +198,7 @@ pub same_client : (s t : State) → t.clients ≡ s.clients → (c : ℕ) → cl
 same_client s t e zero = refl
 same_client s t e (suc c) = ap (λ cs. slice_get cs c) e
 
-pub waits_same : (o : Options) (plans : List (List Command)) (s t : State) (w : Writer) (grows : Grows s t) → t.clients ≡ s.clients → own w.client grows.new ≡ [] → Waits o plans s w → Waits o plans t w
+pub waits_same : (o : Options) (plans : List (List Command)) (s t : State) (w : Writer) (grows : Grows s t) → t.clients ≡ s.clients → entries_of_client w.client grows.new ≡ [] → Waits o plans s w → Waits o plans t w
 waits_same o plans s t w grows e none is = record {
   client = is.client;
   there = same_client s t e w.client ∙ is.there;
@@ -210,7 +210,7 @@ waits_same o plans s t w grows e none is = record {
 
 -- an event that changes no client
 pub told_without : (o : Options) (plans : List (List Command)) (s t : State) (grows : Grows s t) → t.clients ≡ s.clients
-    → ((c : ℕ) (client : Client) → client_at s c ≡ Some client → client.idle ≡ true → own c grows.new ≡ [])
+    → ((c : ℕ) (client : Client) → client_at s c ≡ Some client → client.idle ≡ true → entries_of_client c grows.new ≡ [])
     → AllByRecursion (λ (x : Entry). IsSome (client_at t x.client)) grows.new → AllByRecursion (Waits o plans t) (writers t) → AllByRecursion (λ (w : Writer). w.answer ≡ None) (unanswered t.log t.queue) → IsOneKind t.log
     → Told o plans s → IsCore o t → Told o plans t
 told_without o plans s t grows e idle of_clients waits none kind told core = record {
@@ -219,8 +219,8 @@ told_without o plans s t grows e idle of_clients waits none kind told core = rec
   each = λ c client there. let before : client_at s c ≡ Some client = sym (same_client s t e c) ∙ there in let is = told.each c client before in record {
     added = is.added;
     right = right_more o s t grows client.calls is.right;
-    shown_is = omega (arith, is.shown_is, grows.last);
-    dead = λ knows. grows.dead (is.dead knows);
+    seen_published = omega (arith, is.seen_published, grows.last);
+    log_failed = λ knows. grows.log_failed (is.log_failed knows);
     asked = is.asked;
     entries = λ rests. own_same c s t grows (idle c client before rests) ∙ is.entries rests;
   };
@@ -232,10 +232,10 @@ told_without o plans s t grows e idle of_clients waits none kind told core = rec
 }
 
 -- and gives no run either
-pub told_lines : (o : Options) (plans : List (List Command)) (s t : State) → t.clients ≡ s.clients → t.entries ≡ s.entries → t.dead ≡ s.dead → s.last ≤ t.last
+pub told_lines : (o : Options) (plans : List (List Command)) (s t : State) → t.clients ≡ s.clients → t.entries ≡ s.entries → t.log_failed ≡ s.log_failed → s.last ≤ t.last
     → ((P : Writer → Type 0) → AllByRecursion P (writers s) → AllByRecursion P (writers t)) → AllByRecursion (λ (w : Writer). w.answer ≡ None) (unanswered t.log t.queue) → IsOneKind t.log
     → Told o plans s → IsCore o t → Told o plans t
-told_lines o plans s t clients entries dead last same none kind told core =
-    let grows : Grows s t = record { new = []; entries = entries ∙ sym (append-nil s.entries); dead = λ was. dead ∙ was; last = last } in
+told_lines o plans s t clients entries log_failed last same none kind told core =
+    let grows : Grows s t = record { new = []; entries = entries ∙ sym (append-nil s.entries); log_failed = λ was. log_failed ∙ was; last = last } in
     told_without o plans s t grows clients (λ c client there idle. refl) tt
     (all_weaker (Waits o plans s) (Waits o plans t) (λ w is. waits_same o plans s t w grows clients refl is) (writers t) (same (Waits o plans s) told.waits)) none kind told core

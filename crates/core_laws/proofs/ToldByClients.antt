@@ -21,11 +21,11 @@ pub record GoesOn (s t : State) (c : ℕ) (old new : Client) : Type 0 where
   pub there : client_at s c ≡ Some old
   pub clients : t.clients ≡ (with_client s c new).clients
   pub entries : t.entries ≡ s.entries
-  pub dead : t.dead ≡ s.dead
+  pub log_failed : t.log_failed ≡ s.log_failed
   pub last : t.last ≡ s.last
 
 abbrev grows : (s t : State) (c : ℕ) (old new : Client) → GoesOn s t c old new → Grows s t
-grows s t c old new on = record { new = []; entries = on.entries ∙ sym (append-nil s.entries); dead = λ was. on.dead ∙ was; last = let e = on.last in omega arith }
+grows s t c old new on = record { new = []; entries = on.entries ∙ sym (append-nil s.entries); log_failed = λ was. on.log_failed ∙ was; last = let e = on.last in omega arith }
 
 pub the_client : (s t : State) (c : ℕ) (old new : Client) → GoesOn s t c old new → client_at t c ≡ Some new
 the_client s t c old new on = same_client (with_client s c new) t on.clients c ∙ replaced s c old new on.there
@@ -72,15 +72,15 @@ told_with o plans s t c old new on here waits log none before core = let more = 
     so_far n client is = record {
       added = is.added;
       right = right_more o s t (grows s t c old new on) client.calls is.right;
-      shown_is = let e = on.last in let f = is.shown_is in omega arith;
-      dead = λ knows. on.dead ∙ is.dead knows;
+      seen_published = let e = on.last in let f = is.seen_published in omega arith;
+      log_failed = λ knows. on.log_failed ∙ is.log_failed knows;
       asked = is.asked;
       entries = λ idle. own_same n s t (grows s t c old new on) refl ∙ is.entries idle;
     }
 
 -- An idle client on its way to its next call
 idle_ready : (o : Options) (plans : List (List Command)) (s : State) (c : ℕ) (client : Client) → client.idle ≡ true → IsToldSoFar o plans s c client → IsReady o s c client.calls client.added
-idle_ready o plans s c client idle is = record { batch = is.added; right = is.right; shown_is = is.shown_is; dead = is.dead; entries = is.entries idle }
+idle_ready o plans s c client idle is = record { batch = is.added; right = is.right; seen_published = is.seen_published; log_failed = is.log_failed; entries = is.entries idle }
 
 pub next_ready : (o : Options) (plans : List (List Command)) (s : State) (c : ℕ) (client : Client) → client.idle ≡ true → IsToldSoFar o plans s c client
     → IsReady o s c (next_call client).client.calls (next_call client).client.added
@@ -94,7 +94,7 @@ next_asked o plans s c client idle is command e lines there = (goes_ahead o s c 
 pub idle_absent : (o : Options) (s : State) (c : ℕ) (client : Client) → client_at s c ≡ Some client → client.idle ≡ true → IsCore o s → IsAbsent c (writers s)
 idle_absent o s c client is idle core = absent c (writers s)
     (let a = waiting_parts c s in let b : times c (waiting s) ≡ 0 = core.once c client is ∙ rw idle refl in
-    let d = there_append c ((joined s.second ++ hand s.log) ++ s.queue) s.gone in let e = there_append c (joined s.second ++ hand s.log) s.queue in let f = there_append c (joined s.second) (hand s.log) in omega arith)
+    let d = there_append c ((joined s.second ++ hand s.log) ++ s.queue) s.leaving in let e = there_append c (joined s.second ++ hand s.log) s.queue in let f = there_append c (joined s.second) (hand s.log) in omega arith)
 
 -- a call that is answered at once
 pub answered : (o : Options) (plans : List (List Command)) (s : State) (c : ℕ) (old : Client) (command : Command) (reply : Reply) → client_at s c ≡ Some old → old.idle ≡ true → (next_call old).call ≡ Some command
@@ -102,13 +102,13 @@ pub answered : (o : Options) (plans : List (List Command)) (s : State) (c : ℕ)
     → Told o plans s → IsCore o (with_client s c (told (next_call old).client command reply)) → Told o plans (with_client s c (told (next_call old).client command reply))
 answered o plans s c old command reply is idle call ready so_far =
     let a = (next_call old).client in let new = told a command reply in let t = with_client s c new in
-    let on : GoesOn s t c old new = record { there = is; clients = refl; entries = refl; dead = refl; last = refl } in
+    let on : GoesOn s t c old new = record { there = is; clients = refl; entries = refl; log_failed = refl; last = refl } in
     told_with o plans s t c old new on
     (record {
       added = ready.batch;
       right = ready.right;
-      shown_is = ready.shown_is;
-      dead = ready.dead;
+      seen_published = ready.seen_published;
+      log_failed = ready.log_failed;
       asked = λ idle_now lines there. next_asked o plans s c old idle (so_far.each c old is) command call lines there ∙ asked_push a.calls (record { command = command; reply = reply }) a.left;
       entries = λ idle_now. ready.entries;
     })

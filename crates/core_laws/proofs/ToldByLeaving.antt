@@ -34,22 +34,22 @@ all_refused o plans s t grows clients nothing why [] may none is = tt
 all_refused o plans s t grows clients nothing why (w ∷ ws) may none is =
     (refused_waits o plans s t grows clients nothing why w may.0 none.0 is.0, all_refused o plans s t grows clients nothing why ws may.1 none.1 is.1)
 
-told_left : (o : Options) (plans : List (List Command)) (s : State) (ws : List Writer) (dead : Bool) (why : Refusal) → s.log ≡ built ws → (s.dead ≡ true → dead ≡ true)
-    → AllByRecursion (λ (w : Writer). (calls : List Call) → MayRefuse o (left_of s (all_answered (refused why) ws) dead) calls w.options why) ws
-    → Told o plans s → IsCore o (left_of s (all_answered (refused why) ws) dead) → Told o plans (left_of s (all_answered (refused why) ws) dead)
-told_left o plans s ws dead why log dies may told =
-    let vs = all_answered (refused why) ws in let t : State = left_of s vs dead in
-    let grows : Grows s t = record { new = []; entries = sym (append-nil s.entries); dead = dies; last = omega arith } in
-    let before = apart (Waits o plans s) (joined s.second) (hand s.log) s.queue s.gone told.waits in
+told_left : (o : Options) (plans : List (List Command)) (s : State) (ws : List Writer) (log_failed : Bool) (why : Refusal) → s.log ≡ built ws → (s.log_failed ≡ true → log_failed ≡ true)
+    → AllByRecursion (λ (w : Writer). (calls : List Call) → MayRefuse o (left_of s (all_answered (refused why) ws) log_failed) calls w.options why) ws
+    → Told o plans s → IsCore o (left_of s (all_answered (refused why) ws) log_failed) → Told o plans (left_of s (all_answered (refused why) ws) log_failed)
+told_left o plans s ws log_failed why log dies may told =
+    let vs = all_answered (refused why) ws in let t : State = left_of s vs log_failed in
+    let grows : Grows s t = record { new = []; entries = sym (append-nil s.entries); log_failed = dies; last = omega arith } in
+    let before = apart (Waits o plans s) (joined s.second) (hand s.log) s.queue s.leaving told.waits in
     let hands : AllByRecursion (Waits o plans s) ws = subst (AllByRecursion (Waits o plans s)) (ap hand log) before.at_hand in
     let none : AllByRecursion (λ (w : Writer). w.answer ≡ None) (ws ++ s.queue) = rw log at told.none in
     let same : (us : List Writer) → AllByRecursion (Waits o plans s) us → AllByRecursion (Waits o plans t) us = all_weaker (Waits o plans s) (Waits o plans t) (λ w is. waits_same o plans s t w grows refl refl is) in
     told_without o plans s t grows refl (λ c client there idle. refl) tt
-    (together (Waits o plans t) (joined s.second) [] s.queue (s.gone ++ vs) (record {
+    (together (Waits o plans t) (joined s.second) [] s.queue (s.leaving ++ vs) (record {
       at_second = same (joined s.second) before.at_second;
       at_hand = tt;
       at_queue = same s.queue before.at_queue;
-      at_gone = all_append (Waits o plans t) s.gone vs (same s.gone before.at_gone) (all_refused o plans s t grows refl refl why ws may (all_front _ ws s.queue none) hands);
+      at_leaving = all_append (Waits o plans t) s.leaving vs (same s.leaving before.at_leaving) (all_refused o plans s t grows refl refl why ws may (all_front _ ws s.queue none) hands);
     })) (all_back _ ws s.queue none) tt told
 
 pub told_by_fault : (o : Options) (plans : List (List Command)) (s t : State) (c : ℕ) → Told o plans s → fault s c s.log ≡ Some t → IsCore o t → Told o plans t
@@ -72,9 +72,9 @@ pub told_by_refuse : (o : Options) (plans : List (List Command)) (s t : State) (
 told_by_refuse o plans s t c stops delays wait told e core = by_phase s.log refl e
   where
     by_phase : (phase : LogPhase) → s.log ≡ phase → refuse s c (no.Incomplete stops delays wait) phase ≡ Some t → Told o plans t
-    by_phase (built ws) is e = let u : State = left_of s (all_answered (refused (no.Incomplete stops delays wait)) ws) s.dead in let h = when_some (leads c ws && is_no_slowdown ws) u t e in
+    by_phase (built ws) is e = let u : State = left_of s (all_answered (refused (no.Incomplete stops delays wait)) ws) s.log_failed in let h = when_some (leads c ws && is_no_slowdown ws) u t e in
         let kind : SameSlowdown ws = rw is at told.one_kind in
-        becomes o plans u t h.1 core (told_left o plans s ws s.dead (no.Incomplete stops delays wait) is (λ was. was) (all_weaker (λ (w : Writer). w.options.no_slowdown ≡ true) (λ (w : Writer). (calls : List Call) → MayRefuse o u calls w.options (no.Incomplete stops delays wait)) (λ w slow calls. slow) ws
+        becomes o plans u t h.1 core (told_left o plans s ws s.log_failed (no.Incomplete stops delays wait) is (λ was. was) (all_weaker (λ (w : Writer). w.options.no_slowdown ≡ true) (λ (w : Writer). (calls : List Call) → MayRefuse o u calls w.options (no.Incomplete stops delays wait)) (λ w slow calls. slow) ws
         (none_slowed ws kind (and_parts (leads c ws) (is_no_slowdown ws) h.0).1)) told)
     by_phase free is e = absurd (cc)
     by_phase (led d) is e = absurd (cc)

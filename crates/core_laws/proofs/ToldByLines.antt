@@ -16,19 +16,19 @@ use Rattle.core_laws.proofs.Tables.{with_table, cut_ahead, when_some}
 use Rattle.core_laws.proofs.Told.{Told, writers, unanswered, told_lines}
 
 -- what holds of all that wait, place by place
-pub record Parts (P : Writer → Type 0) (seconds hands queue gone : List Writer) : Type 0 where
+pub record Parts (P : Writer → Type 0) (seconds hands queue leaving : List Writer) : Type 0 where
   pub at_second : AllByRecursion P seconds
   pub at_hand : AllByRecursion P hands
   pub at_queue : AllByRecursion P queue
-  pub at_gone : AllByRecursion P gone
+  pub at_leaving : AllByRecursion P leaving
 
 pub apart : (P : Writer → Type 0) (a b c d : List Writer) → AllByRecursion P (((a ++ b) ++ c) ++ d) → Parts P a b c d
 apart P a b c d all =
     let line = all_front P ((a ++ b) ++ c) d all in let groups = all_front P (a ++ b) c line in
-    record { at_second = all_front P a b groups; at_hand = all_back P a b groups; at_queue = all_back P (a ++ b) c line; at_gone = all_back P ((a ++ b) ++ c) d all }
+    record { at_second = all_front P a b groups; at_hand = all_back P a b groups; at_queue = all_back P (a ++ b) c line; at_leaving = all_back P ((a ++ b) ++ c) d all }
 
 pub together : (P : Writer → Type 0) (a b c d : List Writer) → Parts P a b c d → AllByRecursion P (((a ++ b) ++ c) ++ d)
-together P a b c d parts = all_append P ((a ++ b) ++ c) d (all_append P (a ++ b) c (all_append P a b parts.at_second parts.at_hand) parts.at_queue) parts.at_gone
+together P a b c d parts = all_append P ((a ++ b) ++ c) d (all_append P (a ++ b) c (all_append P a b parts.at_second parts.at_hand) parts.at_queue) parts.at_leaving
 
 pub becomes : (o : Options) (plans : List (List Command)) (s t : State) → s ≡ t → IsCore o t → (IsCore o s → Told o plans s) → Told o plans t
 becomes o plans s t e core f = subst (λ t. IsCore o t → Told o plans t) e f core
@@ -46,7 +46,7 @@ told_by_elect o plans s t c told e core = by_phase s.log refl e
     by_phase (handed d) is e = absurd (cc)
 
 same_built : (s : State) (n d : ℕ) → s.log ≡ led d → writers s ≡ writers (record s { log = built (take n s.queue); queue = drop n s.queue })
-same_built s n d is = ap (λ line. line ++ s.gone) (rw is (rw (append_assoc (joined s.second) (take n s.queue) (drop n s.queue), take-append-drop n s.queue, append-nil (joined s.second))))
+same_built s n d is = ap (λ line. line ++ s.leaving) (rw is (rw (append_assoc (joined s.second) (take n s.queue) (drop n s.queue), take-append-drop n s.queue, append-nil (joined s.second))))
 
 pub told_by_build : (o : Options) (plans : List (List Command)) (s t : State) (c : ℕ) → Told o plans s → build o s c s.log ≡ Some t → IsCore o t → Told o plans t
 told_by_build o plans s t c told e core = by_phase s.log refl e
@@ -76,7 +76,7 @@ told_by_boundary o plans s t c told e core = by_phase s.log refl e
     by_phase (handed d) is e = absurd (cc)
 
 same_seconds : (s : State) (c : ℕ) (ws : List Writer) → s.log ≡ marked ws → writers s ≡ writers (record s { log = handed c; second = s.second ++ ws ∷ [] })
-same_seconds s c ws is = ap (λ line. (line ++ s.queue) ++ s.gone)
+same_seconds s c ws is = ap (λ line. (line ++ s.queue) ++ s.leaving)
     (rw is (sym (ap (λ line. line ++ []) (flat_map-append (λ (ws : List Writer). ws) s.second (ws ∷ []) ∙ ap (λ ws. joined s.second ++ ws) (append-nil ws)) ∙ append-nil (joined s.second ++ ws))))
 
 pub told_by_second : (o : Options) (plans : List (List Command)) (s t : State) (c : ℕ) → Told o plans s → to_second s c s.log ≡ Some t → IsCore o t → Told o plans t
@@ -152,7 +152,7 @@ told_by_publish o plans s t m told e core = by_phase s.table refl e
     by_phase still is e = absurd (cc)
     by_phase published is e = absurd (cc)
 
--- the first group of the second queue, and those behind it
+-- the first group of the second queue, and those after it
 seconds_cut : (P : Writer → Type 0) (wss : List (List Writer)) → AllByRecursion P (joined wss) → AllByRecursion P (joined (drop 1 wss)) × AllByRecursion P (first_group wss)
 seconds_cut P [] a = (tt, tt)
 seconds_cut P (ws ∷ wss) a = (all_back P ws (joined wss) a, all_front P ws (joined wss) a)
@@ -179,14 +179,14 @@ exited s pipelined = record (leave (if pipelined then record s { second = drop 1
 
 told_exited : (o : Options) (plans : List (List Command)) (s : State) (pipelined : Bool) → Told o plans s → IsCore o (exited s pipelined) → Told o plans (exited s pipelined)
 told_exited o plans s true told = told_lines o plans s (exited s true) refl refl refl (omega arith)
-    (λ P a. let p = apart P (joined s.second) (hand s.log) s.queue s.gone a in let cut = seconds_cut P s.second p.at_second in
-    together P (joined (drop 1 s.second)) (hand s.log) s.queue (s.gone ++ first_group s.second)
-    (record { at_second = cut.0; at_hand = p.at_hand; at_queue = p.at_queue; at_gone = all_append P s.gone (first_group s.second) p.at_gone cut.1 }))
+    (λ P a. let p = apart P (joined s.second) (hand s.log) s.queue s.leaving a in let cut = seconds_cut P s.second p.at_second in
+    together P (joined (drop 1 s.second)) (hand s.log) s.queue (s.leaving ++ first_group s.second)
+    (record { at_second = cut.0; at_hand = p.at_hand; at_queue = p.at_queue; at_leaving = all_append P s.leaving (first_group s.second) p.at_leaving cut.1 }))
     told.none told.one_kind told
 told_exited o plans s false told = told_lines o plans s (exited s false) refl refl refl (omega arith)
-    (λ P a. let p = apart P (joined s.second) (hand s.log) s.queue s.gone a in
-    together P (joined s.second) [] s.queue (s.gone ++ in_hand s.log)
-    (record { at_second = p.at_second; at_hand = tt; at_queue = p.at_queue; at_gone = all_append P s.gone (in_hand s.log) p.at_gone (hand_in_log P s.log p.at_hand) }))
+    (λ P a. let p = apart P (joined s.second) (hand s.log) s.queue s.leaving a in
+    together P (joined s.second) [] s.queue (s.leaving ++ in_hand s.log)
+    (record { at_second = p.at_second; at_hand = tt; at_queue = p.at_queue; at_leaving = all_append P s.leaving (in_hand s.log) p.at_leaving (hand_in_log P s.log p.at_hand) }))
     (queue_unanswered (λ (w : Writer). w.answer ≡ None) s.log s.queue told.none) tt told
 
 pub told_by_exit : (o : Options) (plans : List (List Command)) (s t : State) (c : ℕ) → Told o plans s → exit o s c s.table ≡ Some t → IsCore o t → Told o plans t

@@ -16,7 +16,7 @@ use Rattle.core_laws.proofs.Told.{Told}
 use Rattle.core_laws.proofs.ToldByLines.{becomes}
 use Rattle.core_laws.proofs.ToldByClients.{next_ready, answered}
 
--- the entries up to the published sequence are those of its front
+-- the entries up to the published sequence are those of the boundary
 some_same : {A : Type 0} {a b : A} → Some a ≡ Some b → a ≡ b
 some_same e = cc
 
@@ -35,19 +35,19 @@ published_is o s core =
     ap map_of (ap (take_while (λ (x : Entry). nat_le (last_of x) s.last)) b.split ∙ up_to_last o.start core.front b.rest s.last history b.ends)
 
 reads : (o : Options) (s : State) (c : ℕ) (calls : List Call) (added : List Record) (answers : Pairs → Type 0) → IsCore o s → IsReady o s c calls added → answers (published_map s) → ReadsAt o s calls s.last answers
-reads o s c calls added answers core ready answer = record { front = core.front; is_front = core.is_boundary; not_below = ready.shown_is; answer = subst answers (published_is o s core) answer }
+reads o s c calls added answers core ready answer = record { front = core.front; is_front = core.is_boundary; not_below = ready.seen_published; answer = subst answers (published_is o s core) answer }
 
 read_ready : (o : Options) (s : State) (c : ℕ) (calls : List Call) (added : List Record) (command : Command) (reply : Reply) → read_reply s command ≡ Some reply → IsCore o s → IsReady o s c calls added
     → IsReady o s c (calls ++ record { command = command; reply = reply } ∷ []) added
 read_ready o s c calls added (get key) reply is core ready = subst (λ reply. IsReady o s c (calls ++ record { command = get key; reply = reply } ∷ []) added) (some_same is)
     (ready_push o s c calls (record { command = get key; reply = found s.last (value_at (published_map s) key) }) added ready.right
-    (reads o s c calls added (λ m. value_at (published_map s) key ≡ value_at m key) core ready refl) ready.batch (let a = ready.shown_is in omega arith) ready.dead (λ told. absurd (cc)) ready.entries)
+    (reads o s c calls added (λ m. value_at (published_map s) key ≡ value_at m key) core ready refl) ready.batch (let a = ready.seen_published in omega arith) ready.log_failed (λ told. absurd (cc)) ready.entries)
 read_ready o s c calls added (many keys) reply is core ready = subst (λ reply. IsReady o s c (calls ++ record { command = many keys; reply = reply } ∷ []) added) (some_same is)
     (ready_push o s c calls (record { command = many keys; reply = found_each s.last (map (value_at (published_map s)) keys) }) added ready.right
-    (reads o s c calls added (λ m. map (value_at (published_map s)) keys ≡ map (value_at m) keys) core ready refl) ready.batch (let a = ready.shown_is in omega arith) ready.dead (λ told. absurd (cc)) ready.entries)
+    (reads o s c calls added (λ m. map (value_at (published_map s)) keys ≡ map (value_at m) keys) core ready refl) ready.batch (let a = ready.seen_published in omega arith) ready.log_failed (λ told. absurd (cc)) ready.entries)
 read_ready o s c calls added (scan lo hi) reply is core ready = subst (λ reply. IsReady o s c (calls ++ record { command = scan lo hi; reply = reply } ∷ []) added) (some_same is)
     (ready_push o s c calls (record { command = scan lo hi; reply = rows s.last (rows_within lo hi (published_map s)) }) added ready.right
-    (reads o s c calls added (λ m. rows_within lo hi (published_map s) ≡ rows_within lo hi m) core ready refl) ready.batch (let a = ready.shown_is in omega arith) ready.dead (λ told. absurd (cc)) ready.entries)
+    (reads o s c calls added (λ m. rows_within lo hi (published_map s) ≡ rows_within lo hi m) core ready refl) ready.batch (let a = ready.seen_published in omega arith) ready.log_failed (λ told. absurd (cc)) ready.entries)
 read_ready o s c calls added (add r) reply is core ready = absurd (cc)
 read_ready o s c calls added clear reply is core ready = absurd (cc)
 read_ready o s c calls added (commit how) reply is core ready = absurd (cc)

@@ -75,7 +75,7 @@ another_record is = records_differ
 pub no_fault : AreRightIn [] 0 (refused_for (no.LogFault 1)) → ⊥
 unfolding varint_within
 no_fault is =
-    let dead : false ≡ true = ((part [] 0 (refused_for (no.LogFault 1)) is).right (record { command = add put_a1; reply = quiet } ∷ []) (record { command = commit plain; reply = refused (no.LogFault 1) }) [] refl).1 in cc
+    let log_failed : false ≡ true = ((part [] 0 (refused_for (no.LogFault 1)) is).right (record { command = add put_a1; reply = quiet } ∷ []) (record { command = commit plain; reply = refused (no.LogFault 1) }) [] refl).1 in cc
 
 pub has_room : AreRightIn [] 0 (refused_for (no.SequenceFull 0)) → ⊥
 unfolding varint_within

@@ -1,11 +1,14 @@
 -- States that break the core's law, each in one part.
-use Rattle.std.proofs.Common.{◌≡◌, ℕ, ◌<◌, ◌⊎◌, inl, inr, List, [], ◌∷◌, ◌++◌, length, map, flat_map, refl, ap, sym, ◌∙◌, subst, append-nil, arith}
+use Rattle.std.proofs.Common.{◌≡◌, ℕ, true, false, ◌==◌, ◌<◌, ◌⊎◌, inl, inr, List, [], ◌∷◌, ◌++◌, length, map, flat_map, refl, ap, sym, ◌∙◌, subst, append-nil, arith}
 use Rattle.std.specs.List.{AllByRecursion, Contains}
-use Rattle.std.proofs.lemmas.Bool.{eq-eqb}
+use Rattle.std.proofs.lemmas.Bool.{eq-eqb, or_left}
+use Rattle.std.proofs.lemmas.List.Folds.{list_any-append}
 use Rattle.wp_model.specs.declared.history.Flag.TheVariants.{Log, NoLog}
 use Rattle.wp_model.specs.History.{Entry, RunsFollow, last_sequence, logged}
-use Rattle.core_model.specs.Core.{Options, Writer, still, State}
-use Rattle.core_model.specs.CoreLaw.{IsCore, IsInsertedAhead}
+use Rattle.core_model.specs.Core.{Options, Writer, still, State, among}
+use Rattle.core_model.specs.declared.event.Event.{Event}
+use Rattle.core_model.specs.declared.event.Event.TheVariants as e
+use Rattle.core_model.specs.CoreLaw.{IsCore, IsInsertedAhead, IsSubsequence, KeepsOrder, Keeps, in_order, waiting}
 use Rattle.core_laws.specs.Examples.{single_stage, entry_at}
 use Rattle.core_laws.proofs.Lists.{contains_cases}
 use Rattle.core_laws.proofs.Tables.{times, there, waiting_parts, waits_once}
@@ -73,3 +76,50 @@ with_a_gap s entries groups core = by core.parts (sym groups ∙ core.groups) (a
         let follow : RunsFollow (entry_at 1 1 Log ∷ entry_at 3 3 Log ∷ []) = subst RunsFollow (sym (cut ∙ append-nil p)) runs.0 in
         number_apart 2 3 (omega arith) (sym follow.0.first)
     by (p ∷ q ∷ parts) e cut runs = cc
+
+-- whoever waits first stays first
+not_turned : IsSubsequence (2 ∷ 1 ∷ []) (1 ∷ 2 ∷ []) → ⊥
+not_turned (inl h) = number_apart 1 2 (omega arith) (sym h.0)
+not_turned (inr (inl h)) = h.1
+not_turned (inr (inr h)) = h
+
+module _ (s t : State) (before : in_order s ≡ 1 ∷ 2 ∷ []) (after : in_order t ≡ 2 ∷ 1 ∷ []) where
+  out_of_order : IsSubsequence (in_order t) (in_order s) → ⊥
+  out_of_order order = not_turned (rw (before, after) at order)
+
+  not_by : (event : Event) → KeepsOrder event s t → ⊥
+  not_by (e.Link c) (inl same) = absurd (let turned : 2 ∷ 1 ∷ [] ≡ 1 ∷ 2 ∷ [] = sym after ∙ (same ∙ before) in cc)
+  not_by (e.Link c) (inr more) =
+      let longer = ap length (sym after ∙ (more.0 ∙ ap (λ line. line ++ c ∷ []) before)) in
+      number_apart 2 3 (omega arith) longer
+  not_by (e.Elect c) order = out_of_order order
+  not_by (e.Build c) order = out_of_order order
+  not_by (e.Log c) order = out_of_order order
+  not_by (e.Fault c) order = out_of_order order
+  not_by (e.Refuse c stops delays wait) order = out_of_order order
+  not_by (e.Boundary c) order = out_of_order order
+  not_by (e.Second c) order = out_of_order order
+  not_by (e.Next c) order = out_of_order order
+  not_by (e.Launch c) order = out_of_order order
+  not_by (e.Insert m) order = out_of_order order
+  not_by (e.Finish m) order = out_of_order order
+  not_by (e.Publish m) order = out_of_order order
+  not_by (e.Exit c) order = out_of_order order
+  not_by (e.Complete m) order = out_of_order order
+  not_by (e.Read c) order = out_of_order order
+
+pub sent_to_the_back : (event : Event) (s t : State) → in_order s ≡ 1 ∷ 2 ∷ [] → in_order t ≡ 2 ∷ 1 ∷ [] → Keeps event s t → ⊥
+sent_to_the_back event s t before after keeps = not_by s t before after event keeps.order
+
+pub linked_twice : (s t : State) → in_order s ≡ 1 ∷ [] → in_order t ≡ 1 ∷ 1 ∷ [] → Keeps (e.Link 1) s t → ⊥
+linked_twice s t before after keeps = by keeps.order
+  where
+    by : KeepsOrder (e.Link 1) s t → ⊥
+    by (inl same) = number_apart 1 2 (omega arith) (ap length (sym before ∙ (sym same ∙ after)))
+    by (inr more) =
+        let here : among 1 (in_order s) ≡ true = ap (among 1) before in
+        let there : among 1 (waiting s) ≡ true = list_any-append (λ n. n == 1) (in_order s) _ ∙ or_left (among 1 (in_order s)) _ here in
+        absurd (let both : true ≡ false = sym there ∙ more.1 in cc)
+
+pub added_unlinked : (s t : State) → in_order s ≡ [] → in_order t ≡ 1 ∷ [] → Keeps (e.Elect 1) s t → ⊥
+added_unlinked s t before after keeps = let none : IsSubsequence (1 ∷ []) [] = rw (before, after) at keeps.order in none

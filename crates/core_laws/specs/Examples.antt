@@ -1,16 +1,17 @@
 -- What the examples are made of: one client that writes and reads.
-use Rattle.std.specs.Prelude.{ℕ, true, false, List, [], ◌∷◌, codes}
+use Rattle.std.specs.Prelude.{ℕ, true, false, List, [], ◌∷◌, ◌++◌, map, Some, codes}
 use Rattle.wp_model.specs.declared.write.Refusal.{Refusal}
 use Rattle.wp_model.specs.declared.write.WriteOptions.{WriteOptions}
 use Rattle.wp_model.specs.declared.history.Flag.{Flag}
-use Rattle.wp_model.specs.declared.history.Flag.TheVariants.{Log}
+use Rattle.wp_model.specs.declared.history.Flag.TheVariants.{Log, NoLog}
 use Rattle.wp_model.specs.Batch.{Record, value}
 use Rattle.wp_model.specs.History.{Entry}
 use Rattle.wp_model.specs.Runs.{commands_of}
-use Rattle.wp_model.specs.Calls.{Command, add, commit, get, Reply, quiet, accepted, Call, refused}
+use Rattle.wp_model.specs.Calls.{Command, add, commit, get, Reply, quiet, accepted, refused, found, Call}
 use Rattle.core_model.specs.declared.event.Event.{Event}
 use Rattle.core_model.specs.declared.event.Event.TheVariants as e
-use Rattle.core_model.specs.Core.{Options, State, opened}
+use Rattle.core_model.specs.Core.{Options, Client, State, opened}
+use Rattle.core_model.specs.Step.{state_after}
 use Rattle.core_model.specs.Replies.{AreRepliesOf}
 
 -- groups of up to 1 MiB, batches of up to 4 KiB, and no batch before
@@ -35,20 +36,46 @@ first_entry r = record { client = 1; ordinal = 1; first = 1; count = 1; flag = L
 
 -- the batch of one record of a client under a sequence, in the log or not
 abbrev pub entry_at : ℕ → ℕ → Flag → Entry
-entry_at client sequence flag = record { client = client; ordinal = 1; first = sequence; count = 1; flag = flag; records = put_a1 ∷ [] }
+entry_at client sequence flag = record {
+  client = client;
+  ordinal = 1;
+  first = sequence;
+  count = 1;
+  flag = flag;
+  records = put_a1 ∷ [];
+}
 
--- a write of put_a1, and a read behind it
+-- batches of two clients, both logged; and of three, of which the middle one isn't
+abbrev pub one_logged : List Entry
+one_logged = entry_at 1 1 Log ∷ []
+
+abbrev pub two_logged : List Entry
+two_logged = entry_at 1 1 Log ∷ entry_at 2 2 Log ∷ []
+
+abbrev pub gap_in_the_log : List Entry
+gap_in_the_log = entry_at 1 1 Log ∷ entry_at 2 2 NoLog ∷ entry_at 3 3 Log ∷ []
+
+-- a write of put_a1, and then a read
 abbrev pub script : List (List Command)
 script = (add put_a1 ∷ commit plain ∷ get (codes "a") ∷ []) ∷ []
 
 abbrev pub wrote : Record → List Call
-wrote r = record { command = add put_a1; reply = quiet } ∷ record { command = commit plain; reply = accepted 1 1 (r ∷ []) } ∷ []
+wrote r = record { command = add put_a1; reply = quiet }
+    ∷ record { command = commit plain; reply = accepted 1 1 (r ∷ []) } ∷ []
 
 abbrev pub refused_for : Refusal → List Call
-refused_for why = record { command = add put_a1; reply = quiet } ∷ record { command = commit plain; reply = refused why } ∷ []
+refused_for why = record { command = add put_a1; reply = quiet }
+    ∷ record { command = commit plain; reply = refused why } ∷ []
 
 abbrev pub reading : Reply → List Call
 reading reply = record { command = get (codes "a"); reply = reply } ∷ []
+
+abbrev pub written_and_read : List Call
+written_and_read = wrote put_a1 ++ reading (found 1 (Some (codes "1")))
+
+-- the clients' calls after these events
+abbrev pub calls_after : Options → List Event → List (List Call)
+calls_after o events = map (λ (client : Client). client.calls) (state_after o script events).clients
 
 -- the whole way of a write in each of the two ways, and the read
 abbrev pub way_through_the_log : List Event
@@ -62,7 +89,12 @@ way_through_the_table = e.Launch 1 ∷ e.Insert 1 ∷ e.Finish 1 ∷ e.Publish 1
 
 -- one idle client that was told this, where the history has these entries and is published up to a sequence
 abbrev pub told_in : List Entry → ℕ → List Call → State
-told_in entries last calls = record (opened single_stage []) { clients = record { left = []; added = []; calls = calls; idle = true } ∷ []; entries = entries; assigned = last; last = last }
+told_in entries last calls = record (opened single_stage []) {
+  clients = record { left = []; added = []; calls = calls; idle = true } ∷ [];
+  entries = entries;
+  assigned = last;
+  last = last;
+}
 
 abbrev pub AreRightIn : List Entry → ℕ → List Call → Type 0
 AreRightIn entries last calls = AreRepliesOf single_stage (commands_of calls ∷ []) (told_in entries last calls)

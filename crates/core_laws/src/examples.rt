@@ -1,32 +1,43 @@
 //! Examples: a write that goes its whole way, and states and replies that no list of events comes to.
 
-ghost use Rattle.std.specs.Prelude.{◌≡◌, ◌++◌, [], ◌∷◌, Some, None, codes, map};
-ghost use Rattle.wp_model.specs.declared.history.Flag.TheVariants.{Log, NoLog};
+ghost use Rattle.std.specs.Prelude.{◌≡◌, ◌++◌, [], ◌∷◌, Some, None, codes};
 ghost use Rattle.wp_model.specs.declared.write.Refusal.TheVariants.{LogFault, SequenceFull};
 ghost use Rattle.wp_model.specs.Calls.{found};
-ghost use Rattle.core_model.specs.Core.{Options, Writer, Client, still, State, opened};
-ghost use Rattle.core_model.specs.Step.{replay};
-ghost use Rattle.core_model.specs.CoreLaw.{IsCore};
-ghost use Rattle.core_laws.specs.Examples.{single_stage, pipelined, put_a1, put_a2, first_entry, entry_at, script, wrote, refused_for, reading, way_through_the_log, way_between, way_through_the_table, AreRightIn};
+ghost use Rattle.core_model.specs.declared.event.Event.{Event};
+ghost use Rattle.core_model.specs.declared.event.Event.TheVariants.{Link, Elect};
+ghost use Rattle.core_model.specs.Core.{Options, Writer, still, State};
+ghost use Rattle.core_model.specs.CoreLaw.{IsCore, Keeps, in_order};
+ghost use Rattle.core_laws.specs.Examples.{single_stage, pipelined, put_a1, put_a2, first_entry, one_logged, two_logged, gap_in_the_log, wrote, refused_for, reading, written_and_read, calls_after, way_through_the_log, way_between, way_through_the_table, AreRightIn};
 
-/// A write goes its whole way, and a read behind it finds what it wrote.
+/// A write goes its whole way, and a later read finds what it wrote.
 pub fn one_write()
-    ensures single_stage { map (λ (client : Client). client.calls) (replay single_stage (opened single_stage script) (way_through_the_log ++ way_through_the_table)).state.clients
-        ≡ (wrote put_a1 ++ reading (found 1 (Some (codes "1")))) ∷ [] }
-    ensures pipelined { map (λ (client : Client). client.calls) (replay pipelined (opened pipelined script) (way_through_the_log ++ way_between ++ way_through_the_table)).state.clients
-        ≡ (wrote put_a1 ++ reading (found 1 (Some (codes "1")))) ∷ [] }
+    ensures single_stage { calls_after single_stage (way_through_the_log ++ way_through_the_table)
+        ≡ written_and_read ∷ [] }
+    ensures pipelined { calls_after pipelined (way_through_the_log ++ way_between ++ way_through_the_table)
+        ≡ written_and_read ∷ [] }
 {}
 
-/// States in which the core never is.
+/// States in which the core never is, and steps that no event makes.
 pub fn wrong_states()
     // a group is published as its first member finishes: the second one's entry isn't in the table
-    ensures published_too_early { (s : State) → s.entries ≡ entry_at 1 1 Log ∷ entry_at 2 2 Log ∷ [] → s.inserted ≡ entry_at 1 1 Log ∷ [] → s.last ≡ 2 → IsCore single_stage s → ⊥ }
+    ensures published_too_early { (s : State) → s.entries ≡ two_logged → s.inserted ≡ one_logged → s.last ≡ 2
+        → IsCore single_stage s → ⊥ }
     // an entry is in the table before its group is launched
-    ensures inserted_too_early { (s : State) → s.table ≡ still → s.entries ≡ entry_at 1 1 Log ∷ [] → s.inserted ≡ entry_at 1 1 Log ∷ [] → s.last ≡ 0 → IsCore single_stage s → ⊥ }
+    ensures inserted_too_early { (s : State) → s.table ≡ still → s.entries ≡ one_logged → s.inserted ≡ one_logged
+        → s.last ≡ 0 → IsCore single_stage s → ⊥ }
     // a client waits twice
-    ensures twice { (o : Options) (s : State) (v w : Writer) → s.queue ≡ v ∷ w ∷ [] → v.client ≡ w.client → IsCore o s → ⊥ }
+    ensures twice { (o : Options) (s : State) (v w : Writer) → s.queue ≡ v ∷ w ∷ [] → v.client ≡ w.client
+        → IsCore o s → ⊥ }
     // one logged group on both sides of a batch that isn't logged
-    ensures with_a_gap { (s : State) → s.entries ≡ entry_at 1 1 Log ∷ entry_at 2 2 NoLog ∷ entry_at 3 3 Log ∷ [] → s.groups ≡ 2 ∷ [] → IsCore single_stage s → ⊥ }
+    ensures with_a_gap { (s : State) → s.entries ≡ gap_in_the_log → s.groups ≡ 2 ∷ [] → IsCore single_stage s → ⊥ }
+    // a writer that waits first is sent to the back
+    ensures sent_to_the_back { (event : Event) (s t : State) → in_order s ≡ 1 ∷ 2 ∷ [] → in_order t ≡ 2 ∷ 1 ∷ []
+        → Keeps event s t → ⊥ }
+    // a client that waits is linked once more
+    ensures linked_twice { (s t : State) → in_order s ≡ 1 ∷ [] → in_order t ≡ 1 ∷ 1 ∷ []
+        → Keeps (Link 1) s t → ⊥ }
+    // an event that isn't a link adds a writer
+    ensures added_unlinked { (s t : State) → in_order s ≡ [] → in_order t ≡ 1 ∷ [] → Keeps (Elect 1) s t → ⊥ }
 {}
 
 /// Replies that are not those of a plain map at points of the one history.
@@ -45,6 +56,6 @@ pub fn wrong_replies()
     ensures another_record { AreRightIn (first_entry put_a2 ∷ []) 1 (wrote put_a2) → ⊥ }
     // a commit is refused for a fault that wasn't
     ensures no_fault { AreRightIn [] 0 (refused_for (LogFault 1)) → ⊥ }
-    // a commit is refused for want of a run that fits
+    // a commit is refused because no run fits, and one does
     ensures has_room { AreRightIn [] 0 (refused_for (SequenceFull 0)) → ⊥ }
 {}

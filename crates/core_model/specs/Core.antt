@@ -25,7 +25,8 @@ pub record Writer : Type 0 where
   pub records : List Record
   pub answer : Option Reply
 
--- a client: the lines that are left, the records of its batch, its calls with their replies, and whether it waits for no answer
+-- a client: the lines that are left, the records of its batch, its calls with their replies, and whether it is idle,
+-- which is that it waits for no answer
 pub record Client : Type 0 where
   pub left : List Command
   pub added : List Record
@@ -58,11 +59,11 @@ pub record State : Type 0 where
   -- the entries given runs, and the sequence given last
   pub entries : List Entry
   pub assigned : ℕ
-  pub dead : Bool
+  pub log_failed : Bool
   pub inserted : List Entry
   pub last : ℕ
-  -- those that have left with their answers, and aren't completed
-  pub gone : List Writer
+  -- those that have left with their answers, and whose clients don't have them yet
+  pub leaving : List Writer
 
 abbrev pub idle_client : List Command → Client
 idle_client commands = record { left = commands; added = []; calls = []; idle = true }
@@ -77,10 +78,10 @@ opened o plans = record {
   groups = [];
   entries = [];
   assigned = o.start;
-  dead = false;
+  log_failed = false;
   inserted = [];
   last = o.start;
-  gone = [];
+  leaving = [];
 }
 
 -- Clients
@@ -99,21 +100,33 @@ pub record Ahead : Type 0 where
   pub client : Client
 
 abbrev pub ahead : List Call → List Record → List Command → Client → Ahead
-ahead calls added [] client = record { call = None; client = record client { left = []; added = added; calls = calls } }
-ahead calls added (add r ∷ left) client = ahead (calls ++ record { command = add r; reply = quiet } ∷ []) (added ++ r ∷ []) left client
-ahead calls added (clear ∷ left) client = ahead (calls ++ record { command = clear; reply = quiet } ∷ []) [] left client
-ahead calls added (c ∷ left) client = record { call = Some c; client = record client { left = left; added = added; calls = calls } }
+ahead calls added [] client =
+    record { call = None; client = record client { left = []; added = added; calls = calls } }
+ahead calls added (add r ∷ left) client =
+    ahead (calls ++ record { command = add r; reply = quiet } ∷ []) (added ++ r ∷ []) left client
+ahead calls added (clear ∷ left) client =
+    ahead (calls ++ record { command = clear; reply = quiet } ∷ []) [] left client
+ahead calls added (c ∷ left) client =
+    record { call = Some c; client = record client { left = left; added = added; calls = calls } }
 
 abbrev pub next_call : Client → Ahead
 next_call client = ahead client.calls client.added client.left client
 
 abbrev pub told : Client → Command → Reply → Client
-told client command reply = record client { calls = client.calls ++ record { command = command; reply = reply } ∷ []; idle = true }
+told client command reply = record client {
+  calls = client.calls ++ record { command = command; reply = reply } ∷ [];
+  idle = true;
+}
 
 -- Batches
 
 abbrev pub item_of : Writer → Item
-item_of w = record { size = size_of_batch w.records; sync = w.options.sync; no_log = w.options.no_log; no_slowdown = w.options.no_slowdown }
+item_of w = record {
+  size = size_of_batch w.records;
+  sync = w.options.sync;
+  no_log = w.options.no_log;
+  no_slowdown = w.options.no_slowdown;
+}
 
 -- the checks before a batch is linked; the core knows no write controller, so nobody holds a token
 abbrev pub refusal_of : Options → WriteOptions → List Record → Option Refusal
@@ -126,12 +139,14 @@ leads c (w ∷ ws) = w.client == c
 
 -- Runs
 
--- members get runs in order, from the sequence given last; where one doesn't fit it is refused, and later ones that fit are still taken
+-- members get runs in order, from the sequence given last; one that doesn't fit is refused, and later ones that fit are
+-- still taken
 abbrev pub with_runs : ℕ → List Writer → List Writer
 with_runs last [] = []
 with_runs last (w ∷ ws) =
     if nat_le (last + count_of w.records) max_sequence
-    then record w { answer = Some (accepted (last + 1) (last + count_of w.records) w.records) } ∷ with_runs (last + count_of w.records) ws
+    then record w { answer = Some (accepted (last + 1) (last + count_of w.records) w.records) }
+    ∷ with_runs (last + count_of w.records) ws
     else record w { answer = Some (refused (no.SequenceFull last)) } ∷ with_runs last ws
 
 -- the first sequence of a member's run
@@ -150,7 +165,14 @@ abbrev pub ordinal_at : State → ℕ → ℕ
 ordinal_at s c = 1 + length (filter (λ (x : Entry). x.client == c) s.entries)
 
 abbrev pub entry_of : State → Writer → ℕ → Entry
-entry_of s w first = record { client = w.client; ordinal = ordinal_at s w.client; first = first; count = count_of w.records; flag = flag_of w.options; records = w.records }
+entry_of s w first = record {
+  client = w.client;
+  ordinal = ordinal_at s w.client;
+  first = first;
+  count = count_of w.records;
+  flag = flag_of w.options;
+  records = w.records;
+}
 
 -- the entries of a group's members that have runs
 abbrev pub entries_of : State → List Writer → List Entry

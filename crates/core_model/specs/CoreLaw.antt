@@ -1,12 +1,12 @@
 -- What holds of the core after every event.
-use Rattle.std.specs.Prelude.{◌≡◌, ◌⊎◌, ℕ, ◌<◌, ◌≤◌, true, false, IsTrue, List, [], ◌∷◌, ◌++◌, length, map, filter, flat_map, count_by, Contains, ⊤, ◌==◌, if◌then◌else◌, Some, IsSome}
+use Rattle.std.specs.Prelude.{◌≡◌, ◌⊎◌, ℕ, ◌<◌, true, false, IsTrue, List, [], ◌∷◌, ◌++◌, length, map, filter, flat_map, count_by, Contains, ⊤, ◌==◌, if◌then◌else◌, Some, IsSome}
 use Rattle.std.specs.List.{AllByRecursion, AllZip}
 use Rattle.core_model.specs.declared.event.Event.{Event}
+use Rattle.core_model.specs.declared.event.Event.TheVariants as e
 use Rattle.wp_model.specs.Batch.{count_of}
 use Rattle.wp_model.specs.History.{Entry, IsHistory, RunsFollow, IsUpTo, last_sequence, last_of, logged, flag_of}
-use Rattle.wp_model.specs.Calls.{Command, accepted}
-use Rattle.core_model.specs.Core.{Options, Writer, Client, LogPhase, free, led, built, in_log, marked, handed, TablePhase, still, launched, published, State, opened, client_at, leads, has_run, table_group, among}
-use Rattle.core_model.specs.Step.{step}
+use Rattle.wp_model.specs.Calls.{accepted}
+use Rattle.core_model.specs.Core.{Options, Writer, Client, LogPhase, free, led, built, in_log, marked, handed, TablePhase, still, launched, published, State, client_at, leads, has_run, table_group, among, runners}
 
 -- the group in hand
 abbrev pub hand : LogPhase → List Writer
@@ -20,12 +20,13 @@ hand (handed c) = []
 abbrev pub joined : List (List Writer) → List Writer
 joined wss = flat_map (λ ws. ws) wss
 
--- those that wait, the first linked of them first
+-- the clients whose writers are in line, the first linked of them first
 abbrev pub in_order : State → List ℕ
 in_order s = map (λ (w : Writer). w.client) (joined s.second ++ hand s.log ++ s.queue)
 
+-- all clients that wait for an answer: those in line, and those whose writers have left with one
 abbrev pub waiting : State → List ℕ
-waiting s = in_order s ++ map (λ (w : Writer). w.client) s.gone
+waiting s = in_order s ++ map (λ (w : Writer). w.client) s.leaving
 
 -- who leads the log is first in the queue
 abbrev pub LedIsFirst : LogPhase → List Writer → Type 0
@@ -70,15 +71,19 @@ pub record IsEntryOf (w : Writer) (x : Entry) : Type 0 where
   pub flag : x.flag ≡ flag_of w.options
   pub run : w.answer ≡ Some (accepted x.first (last_of x) x.records)
 
--- a launched or published group is there, what a launched one has inserted are its members', and who has finished has inserted
+-- a launched or published group is there; who has inserted has a run in the launched one, and who has finished has
+-- inserted
 abbrev pub IsTable : Options → State → TablePhase → Type 0
 IsTable o s still = ⊤
 IsTable o s published = 0 < length (table_group o s)
-IsTable o s (launched ins fin) = (0 < length (table_group o s)) × AllByRecursion (λ c. IsTrue (among c (map (λ (w : Writer). w.client) (filter has_run (table_group o s))))) ins × AllByRecursion (λ c. IsTrue (among c ins)) fin
+IsTable o s (launched ins fin) = (0 < length (table_group o s))
+    × AllByRecursion (λ c. IsTrue (among c (runners (table_group o s)))) ins
+    × AllByRecursion (λ c. IsTrue (among c ins)) fin
 
 -- a member that has inserted has its entry in the table
 abbrev pub HasInserted : List Entry → TablePhase → Writer → Type 0
-HasInserted inserted (launched ins fin) w = IsTrue (among w.client ins) → (x : Entry) × IsEntryOf w x × Contains inserted x
+HasInserted inserted (launched ins fin) w =
+    IsTrue (among w.client ins) → (x : Entry) × IsEntryOf w x × Contains inserted x
 HasInserted inserted still w = ⊤
 HasInserted inserted published w = ⊤
 
@@ -95,7 +100,8 @@ SameLogFlag (w ∷ ws) = AllByRecursion (λ (v : Writer). v.options.no_log ≡ w
 
 pub record IsCore (o : Options) (s : State) : Type 0 where
   -- each client is idle, or waits in just one place, once
-  pub once : (c : ℕ) (client : Client) → client_at s c ≡ Some client → count_by (λ n. n == c) (waiting s) ≡ (if client.idle then 0 else 1)
+  pub once : (c : ℕ) (client : Client) → client_at s c ≡ Some client
+      → count_by (λ n. n == c) (waiting s) ≡ (if client.idle then 0 else 1)
   pub clients : AllByRecursion (λ c. IsSome (client_at s c)) (waiting s)
   pub led_is_first : LedIsFirst s.log s.queue
   pub single_stage : o.pipelined ≡ false → s.second ≡ []
@@ -112,7 +118,8 @@ pub record IsCore (o : Options) (s : State) : Type 0 where
   pub ahead : AllZip IsEntryOf (filter has_run (unpublished o s s.table)) is_boundary.rest
   -- all up to it is in the table, and what is there past it belongs to the launched group
   pub in_table : AllByRecursion (λ x. Contains s.inserted x) front
-  pub from_entries : AllByRecursion (λ x. Contains s.entries x × (Contains front x ⊎ IsInsertedAhead s.table x)) s.inserted
+  pub from_entries : AllByRecursion (λ x. Contains s.entries x × (Contains front x ⊎ IsInsertedAhead s.table x))
+      s.inserted
   pub is_table : IsTable o s s.table
   pub has_inserted : AllByRecursion (HasInserted s.inserted s.table) (filter has_run (table_group o s))
   -- the logged groups are the logged entries, cut into parts
@@ -122,19 +129,21 @@ pub record IsCore (o : Options) (s : State) : Type 0 where
   pub none_empty : AllByRecursion (λ p. 0 < length p) parts
   pub runs : AllByRecursion RunsFollow parts
 
--- what an event keeps: nobody passes another (new is what is left of old, perhaps with one more behind it), and a dead log gives no more runs
+-- What an event keeps
+
+-- the first list is what is left of the second
 abbrev pub IsSubsequence : List ℕ → List ℕ → Type 0
 IsSubsequence [] ys = ⊤
 IsSubsequence (x ∷ xs) [] = ⊥
 IsSubsequence (x ∷ xs) (y ∷ ys) = ((x ≡ y) × IsSubsequence xs ys) ⊎ IsSubsequence (x ∷ xs) ys
 
-pub record Keeps (old new : State) : Type 0 where
-  pub newcomer : List ℕ
-  pub at_most_one : length newcomer ≤ 1
-  pub order : IsSubsequence (in_order new) (in_order old ++ newcomer)
-  pub dead : old.dead ≡ true → (new.entries ≡ old.entries) × (new.dead ≡ true)
+-- nobody passes another: a link adds nobody, or its client at the end, if that didn't wait; other events add nobody
+abbrev pub KeepsOrder : Event → State → State → Type 0
+KeepsOrder (e.Link c) old new =
+    (in_order new ≡ in_order old) ⊎ ((in_order new ≡ in_order old ++ c ∷ []) × (among c (waiting old) ≡ false))
+KeepsOrder other old new = IsSubsequence (in_order new) (in_order old)
 
--- The law: it holds at the opening, and each event keeps it.
-pub record CoreLaw : Type 0 where
-  pub opening : (o : Options) (plans : List (List Command)) → IsCore o (opened o plans)
-  pub kept : (o : Options) (s t : State) (event : Event) → IsCore o s → step o s event ≡ Some t → IsCore o t × Keeps s t
+pub record Keeps (event : Event) (old new : State) : Type 0 where
+  pub order : KeepsOrder event old new
+  -- a log that has failed gives no more runs
+  pub log_failed : old.log_failed ≡ true → (new.entries ≡ old.entries) × (new.log_failed ≡ true)

@@ -1,5 +1,6 @@
 pub mod Core
 pub mod CoreLaw
+pub mod Halves
 pub mod ReplayText
 pub mod Replies
 pub mod Schedule

@@ -5,5 +5,8 @@ use Rattle.core_model.specs.Core.{published_map}
 use Rattle.core_model.specs.Step.{Replayed}
 
 abbrev pub replay_text : Replayed → List ℕ
-replay_text r = line (codes "events" ∷ decimal r.taken ∷ codes "skipped" ∷ decimal r.skipped ∷ []) ++ clients_text (map (λ c. c.calls) r.state.clients)
-    ++ history_text r.state.entries ++ state_text (λ w. w) r.state.last (published_map r.state) ++ line (codes "groups" ∷ decimal (length r.state.groups) ∷ [])
+replay_text r = line (codes "events" ∷ decimal r.taken ∷ codes "skipped" ∷ decimal r.skipped ∷ [])
+    ++ clients_text (map (λ c. c.calls) r.state.clients)
+    ++ history_text r.state.entries
+    ++ state_text (λ w. w) r.state.last (published_map r.state)
+    ++ line (codes "groups" ∷ decimal (length r.state.groups) ∷ [])

@@ -13,8 +13,10 @@ EventWord = List ℕ × (ℕ → Event)
 -- those of a write path in a single stage
 abbrev pub first_event_words : List EventWord
 first_event_words =
-    (codes "link", e.Link) ∷ (codes "elect", e.Elect) ∷ (codes "build", e.Build) ∷ (codes "log", e.Log) ∷ (codes "fault", e.Fault) ∷ (codes "launch", e.Launch)
-    ∷ (codes "insert", e.Insert) ∷ (codes "finish", e.Finish) ∷ (codes "publish", e.Publish) ∷ (codes "exit", e.Exit) ∷ (codes "complete", e.Complete) ∷ (codes "read", e.Read) ∷ []
+    (codes "link", e.Link) ∷ (codes "elect", e.Elect) ∷ (codes "build", e.Build) ∷ (codes "log", e.Log)
+    ∷ (codes "fault", e.Fault) ∷ (codes "launch", e.Launch) ∷ (codes "insert", e.Insert) ∷ (codes "finish", e.Finish)
+    ∷ (codes "publish", e.Publish) ∷ (codes "exit", e.Exit) ∷ (codes "complete", e.Complete)
+    ∷ (codes "read", e.Read) ∷ []
 
 -- a client of the script, by its number
 abbrev pub client_number : ℕ → List ℕ → Option ℕ
@@ -49,7 +51,7 @@ abbrev pub is_first_word : List ℕ → List (List ℕ) → Bool
 is_first_word word [] = false
 is_first_word word (w ∷ ws) = bytes_eq w word
 
--- the schedule begins; nothing stands behind that word
+-- the schedule begins; nothing stands after that word
 abbrev pub begins_schedule : List ℕ → Bool
 begins_schedule line = are_plain line && is_first_word (codes "schedule") (words_of line)
 
@@ -67,11 +69,13 @@ abbrev pub line_added : Grammar → List EventWord → Script → Option (List E
 line_added g words script None line =
     if begins_schedule line then begun script (words_of line)
     else line_of g.forms line >>= with_line g.client_limit script >>= λ s. Ok (in_script s)
-line_added g words script (Some events) line = event_of (length script) words line >>= λ event. Ok (with_event script events event)
+line_added g words script (Some events) line =
+    event_of (length script) words line >>= λ event. Ok (with_event script events event)
 
 abbrev pub after_line : Grammar → List EventWord → Result Draft Fault → ℕ × List ℕ → Result Draft Fault
 after_line g words (Err fault) l = Err fault
-after_line g words (Ok d) l = if is_passed_over l.1 then Ok d else at_line l.0 (line_added g words d.script d.events l.1)
+after_line g words (Ok d) l =
+    if is_passed_over l.1 then Ok d else at_line l.0 (line_added g words d.script d.events l.1)
 
 abbrev pub lines_read : Grammar → List EventWord → List ℕ → Result Draft Fault
 lines_read g words text = fold (after_line g words) (Ok (in_script [])) (enumerate_from 1 (lines_of text))
@@ -93,7 +97,9 @@ finished (Ok d) = with_schedule d.script d.events
 
 -- What a script and its schedule say, or the first fault; before all a text that is too long.
 abbrev pub schedule_of : Grammar → List EventWord → List ℕ → Result Schedule Fault
-schedule_of g words text = if nat_lt g.text_limit (length text) then Err (record { line = 0; kind = Long }) else finished (lines_read g words text)
+schedule_of g words text =
+    if nat_lt g.text_limit (length text) then Err (record { line = 0; kind = Long })
+    else finished (lines_read g words text)
 
 -- a script of several clients, whose lines are those of one client's
 abbrev pub clients_grammar : Grammar

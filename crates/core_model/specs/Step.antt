@@ -10,7 +10,7 @@ use Rattle.wp_model.specs.Batch.{Record}
 use Rattle.wp_model.specs.History.{Entry}
 use Rattle.wp_model.specs.Grouping.{group_len}
 use Rattle.wp_model.specs.Calls.{Command, commit, Reply, accepted, refused}
-use Rattle.core_model.specs.Core.{Options, Writer, Client, LogPhase, free, led, built, in_log, marked, handed, TablePhase, still, launched, published, State, client_at, with_client, next_call, told, item_of, refusal_of, leads, with_runs, has_run, all_answered, entries_of, last_entry, table_group, among, runners, read_reply}
+use Rattle.core_model.specs.Core.{Options, Writer, Client, LogPhase, free, led, built, in_log, marked, handed, TablePhase, still, launched, published, State, opened, client_at, with_client, next_call, told, item_of, refusal_of, leads, with_runs, has_run, all_answered, entries_of, last_entry, table_group, among, runners, read_reply}
 
 -- a fact lets an event come
 abbrev pub when : Bool → State → Option State
@@ -18,17 +18,20 @@ when true s = Some s
 when false s = None
 
 -- link c: c is idle and its next call is a commit. It is refused at once, or goes to the end of the queue
-abbrev pub linked : Options → State → ℕ → Client → WriteOptions → Option Refusal → State
-linked o s c client how (Some why) = with_client s c (told client (commit how) (refused why))
-linked o s c client how None = record (with_client s c (record client { idle = false })) { queue = s.queue ++ record { client = c; options = how; records = client.added; answer = None } ∷ [] }
+abbrev pub link_with : Options → State → ℕ → Client → WriteOptions → Option Refusal → State
+link_with o s c client how (Some why) = with_client s c (told client (commit how) (refused why))
+link_with o s c client how None = record (with_client s c (record client { idle = false })) {
+  queue = s.queue ++ record { client = c; options = how; records = client.added; answer = None } ∷ [];
+}
 
 abbrev pub link_call : Options → State → ℕ → Client → Option Command → Option State
-link_call o s c client (Some (commit how)) = Some (linked o s c client how (refusal_of o how client.added))
+link_call o s c client (Some (commit how)) = Some (link_with o s c client how (refusal_of o how client.added))
 link_call o s c client other = None
 
 abbrev pub link : Options → State → ℕ → Option Client → Option State
 link o s c None = None
-link o s c (Some client) = if client.idle then link_call o s c (next_call client).client (next_call client).call else None
+link o s c (Some client) =
+    if client.idle then link_call o s c (next_call client).client (next_call client).call else None
 
 -- elect c: the log is free, and c is first in the queue
 abbrev pub elect : State → ℕ → LogPhase → Option State
@@ -40,10 +43,13 @@ abbrev pub group_size : Options → State → ℕ
 group_size o s = group_len o.group_bytes (map item_of s.queue)
 
 abbrev pub build : Options → State → ℕ → LogPhase → Option State
-build o s c (led d) = when (c == d) (record s { log = built (take (group_size o s) s.queue); queue = drop (group_size o s) s.queue })
+build o s c (led d) = when (c == d) (record s {
+  log = built (take (group_size o s) s.queue);
+  queue = drop (group_size o s) s.queue;
+})
 build o s c other = None
 
--- log c: built by c, and the log isn't dead. Runs are given; where none fits all leave
+-- log c: built by c, and the log hasn't failed. Runs are given; where none fits all leave
 abbrev pub is_unlogged : List Writer → Bool
 is_unlogged [] = false
 is_unlogged (w ∷ ws) = w.options.no_log
@@ -57,18 +63,20 @@ with_group s ws entries = record s {
 }
 
 abbrev pub leave : State → List Writer → State
-leave s ws = record s { gone = s.gone ++ ws }
+leave s ws = record s { leaving = s.leaving ++ ws }
 
 abbrev pub logged_group : State → List Writer → State
-logged_group s ws = if list_any has_run ws then with_group s ws (entries_of s ws) else record (leave s ws) { log = free }
+logged_group s ws =
+    if list_any has_run ws then with_group s ws (entries_of s ws) else record (leave s ws) { log = free }
 
 abbrev pub log_group : State → ℕ → LogPhase → Option State
-log_group s c (built ws) = when (leads c ws && not s.dead) (logged_group s (with_runs s.assigned ws))
+log_group s c (built ws) = when (leads c ws && not s.log_failed) (logged_group s (with_runs s.assigned ws))
 log_group s c other = None
 
--- fault c: built by c. All leave, and the log is dead
+-- fault c: built by c. All leave, and the log has failed
 abbrev pub fault : State → ℕ → LogPhase → Option State
-fault s c (built ws) = when (leads c ws) (record (leave s (all_answered (refused (no.LogFault 1)) ws)) { log = free; dead = true })
+fault s c (built ws) =
+    when (leads c ws) (record (leave s (all_answered (refused (no.LogFault 1)) ws)) { log = free; log_failed = true })
 fault s c other = None
 
 -- refuse c: built by c, of a group that isn't to be slowed down. All leave
@@ -77,7 +85,8 @@ is_no_slowdown [] = false
 is_no_slowdown (w ∷ ws) = w.options.no_slowdown
 
 abbrev pub refuse : State → ℕ → Refusal → LogPhase → Option State
-refuse s c why (built ws) = when (leads c ws && is_no_slowdown ws) (record (leave s (all_answered (refused why) ws)) { log = free })
+refuse s c why (built ws) =
+    when (leads c ws && is_no_slowdown ws) (record (leave s (all_answered (refused why) ws)) { log = free })
 refuse s c why other = None
 
 -- boundary c, second c, next c: the group goes to the second queue, and only then may another be elected
@@ -109,7 +118,8 @@ insert o s m other = None
 
 -- finish m: m is inserted and not finished
 abbrev pub finish : State → ℕ → TablePhase → Option State
-finish s m (launched ins fin) = when (among m ins && not (among m fin)) (record s { table = launched ins (fin ++ m ∷ []) })
+finish s m (launched ins fin) =
+    when (among m ins && not (among m fin)) (record s { table = launched ins (fin ++ m ∷ []) })
 finish s m other = None
 
 -- publish m: all are finished, and m finished last
@@ -136,7 +146,8 @@ abbrev pub without_table_group : Options → State → State
 without_table_group o s = if o.pipelined then record s { second = drop 1 s.second } else record s { log = free }
 
 abbrev pub exit : Options → State → ℕ → TablePhase → Option State
-exit o s c published = when (leads c (table_group o s)) (record (leave (without_table_group o s) (table_group o s)) { table = still })
+exit o s c published =
+    when (leads c (table_group o s)) (record (leave (without_table_group o s) (table_group o s)) { table = still })
 exit o s c other = None
 
 -- complete m: m has left with its answer. After `ok` its batch is new and empty, after a refusal it is as it was
@@ -148,7 +159,9 @@ abbrev pub completed : Client → Writer → Reply → Client
 completed client w reply = record (told client (commit w.options) reply) { added = added_after reply client.added }
 
 abbrev pub complete_with : State → ℕ → Option Client → Writer → Option Reply → Option State
-complete_with s m (Some client) w (Some reply) = Some (record (with_client s m (completed client w reply)) { gone = filter (λ (x : Writer). not (x.client == m)) s.gone })
+complete_with s m (Some client) w (Some reply) = Some (record (with_client s m (completed client w reply)) {
+  leaving = filter (λ (x : Writer). not (x.client == m)) s.leaving;
+})
 complete_with s m other w reply = None
 
 abbrev pub complete : State → ℕ → Option Writer → Option State
@@ -166,7 +179,8 @@ read_call s c client (Some command) = read_with s c client command (read_reply s
 
 abbrev pub read : State → ℕ → Option Client → Option State
 read s c None = None
-read s c (Some client) = if client.idle then read_call s c (next_call client).client (next_call client).call else None
+read s c (Some client) =
+    if client.idle then read_call s c (next_call client).client (next_call client).call else None
 
 -- The state after an event, where it may come.
 abbrev pub step : Options → State → Event → Option State
@@ -184,7 +198,7 @@ step o s (e.Insert m) = insert o s m s.table
 step o s (e.Finish m) = finish s m s.table
 step o s (e.Publish m) = publish o s m s.table
 step o s (e.Exit c) = exit o s c s.table
-step o s (e.Complete m) = complete s m (find (λ (w : Writer). w.client == m) s.gone)
+step o s (e.Complete m) = complete s m (find (λ (w : Writer). w.client == m) s.leaving)
 step o s (e.Read c) = read s c (client_at s c)
 
 -- a list of events, of which those that may not come are passed over; how many came and how many were passed over
@@ -198,4 +212,9 @@ replayed r None = record r { skipped = r.skipped + 1 }
 replayed r (Some s) = record r { state = s; taken = r.taken + 1 }
 
 abbrev pub replay : Options → State → List Event → Replayed
-replay o s events = fold (λ r event. replayed r (step o r.state event)) (record { state = s; taken = 0; skipped = 0 }) events
+replay o s events =
+    fold (λ r event. replayed r (step o r.state event)) (record { state = s; taken = 0; skipped = 0 }) events
+
+-- the state after a list of events from the opening on
+abbrev pub state_after : Options → List (List Command) → List Event → State
+state_after o plans events = (replay o (opened o plans) events).state

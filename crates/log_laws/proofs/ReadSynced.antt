@@ -83,12 +83,12 @@ stand_behind number file offset [] ys stand = subst (λ n. Stand number file n y
 stand_behind number file offset (x ∷ xs) ys stand =
     subst (λ n. Stand number file n ys) (sym (end_more number offset x xs)) (stand_behind number file (behind number offset x) xs ys (stand_rest number file offset x (xs ++ ys) stand))
 
--- a front of begun fragments is begun
+-- A front of begun fragments is begun.
 middles_front : (xs ys : List Fragment) → AllByRecursion (λ k. k ≡ middle) (kinds_of (xs ++ ys)) → AllByRecursion (λ k. k ≡ middle) (kinds_of xs)
 middles_front [] ys all = tt
 middles_front (x ∷ xs) ys all = (all.0, middles_front xs ys all.1)
 
-begun_front : (xs ys : List Fragment) → AreBegun (kinds_of (xs ++ ys)) → AreBegun (kinds_of xs)
+pub begun_front : (xs ys : List Fragment) → AreBegun (kinds_of (xs ++ ys)) → AreBegun (kinds_of xs)
 begun_front [] ys begun = tt
 begun_front (x ∷ xs) ys begun = with_kind x.kind begun
   where
@@ -153,7 +153,7 @@ stands_next number image s kept done later less within whole part fit =
     let end : end_of number 0 done ≡ kept = zero-add (length (placed number 0 done)) ∙ (ap length (sym part) ∙ omega (arith, length-take kept image)) in
     subst (λ n. Stand number image n later) end (stand_behind number image 0 done later whole_stand)
 
-whole_last : (done : List (List Fragment)) (g : List Fragment) (gs : List (List Fragment)) → Whole (done ++ g ∷ gs) → AreOneRecord (kinds_of g)
+pub whole_last : (done : List (List Fragment)) (g : List Fragment) (gs : List (List Fragment)) → Whole (done ++ g ∷ gs) → AreOneRecord (kinds_of g)
 whole_last [] g gs whole = whole.0
 whole_last (d ∷ done) g gs whole = whole_last done g gs whole.1
 

@@ -143,7 +143,7 @@ text_is_placed number offset (r ∷ rs) =
     let fs : List Fragment = as_fragments (parts_of number offset r) in
     ap (λ (l : List ℕ). placed number offset fs ++ l) (text_is_placed number (end_of number offset fs) rs) ∙ sym (placed_append number offset fs (all_fragments (groups_from number (end_of number offset fs) rs)))
 
-fit_joined : (number : Option ℕ) → (offset : ℕ) (xs ys : List Fragment) → FitFrom number offset xs → FitFrom number (end_of number offset xs) ys → FitFrom number offset (xs ++ ys)
+pub fit_joined : (number : Option ℕ) → (offset : ℕ) (xs ys : List Fragment) → FitFrom number offset xs → FitFrom number (end_of number offset xs) ys → FitFrom number offset (xs ++ ys)
 fit_joined number offset [] ys fit_x fit_y = subst (λ n. FitFrom number n ys) (end_none number offset) fit_y
 fit_joined number offset (x ∷ xs) ys fit_x fit_y = (fit_x.0, fit_joined number (behind number offset x) xs ys fit_x.1 (subst (λ n. FitFrom number n ys) (end_more number offset x xs) fit_y))
 

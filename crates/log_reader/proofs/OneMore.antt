@@ -7,10 +7,10 @@ use Rattle.wp_model.specs.declared.log.Damage.{Damage}
 use Rattle.wp_model.specs.declared.log.EndReason.TheVariants as ends
 use Rattle.wp_model.specs.Log.{Kind, full, first, middle, last, Fragment, placed, next_place, GoesToLast, AreOneRecord, kinds_of, record_of}
 use Rattle.wp_model.specs.Reading.{Seen, Next, fragment, nothing, damage, next_seen, Stand, end_of, AreBegun, Comes, ReadingEnds, clean, broken, bad_order, unfinished}
-use Rattle.log_reader.specs.declared.reader.Turn.TheVariants as turn
+use Rattle.log_reader.specs.declared.reader.Continuation.TheVariants as continuation
 use Rattle.log_reader.specs.Blocks.{IsNext}
 use Rattle.log_reader.specs.Records.{IsRecord, Reads}
-use Rattle.log_reader.specs.Steps.{BeginsAt, Stood, turn_of, end_of_reading}
+use Rattle.log_reader.specs.Steps.{BeginsAt, Stood, continuation_of, end_of_reading}
 use Rattle.log_reader.proofs.Placed.{end_none, end_append, placed_append, fit_joined}
 
 -- the kinds of a record's first fragments
@@ -60,11 +60,11 @@ one_from : (k : Kind) (ks : List Kind) → k ≡ first → AreOneRecord (k ∷ k
 one_from k ks e one = subst (λ j. AreOneRecord (j ∷ ks)) e one
 
 -- what a turn says of the kinds
-pub more_begun : (fs : List Fragment) (f : Fragment) (begun : Option ℕ) (place at start : ℕ) → AreBegun (kinds_of fs) → BeginsAt begun place fs → (fs ≡ [] → at ≡ next_place None place) → turn_of f.kind begun at ≡ turn.More start
+pub more_begun : (fs : List Fragment) (f : Fragment) (begun : Option ℕ) (place at start : ℕ) → AreBegun (kinds_of fs) → BeginsAt begun place fs → (fs ≡ [] → at ≡ next_place None place) → continuation_of f.kind begun at ≡ continuation.More start
     → AreBegun (kinds_of (fs ++ f ∷ [])) × BeginsAt (Some start) place (fs ++ f ∷ [])
 more_begun [] f None place at start are begins here e = by_kind f.kind e
   where
-    by_kind : (k : Kind) → turn_of k None at ≡ turn.More start → AreBegun (k ∷ []) × (start ≡ next_place None place)
+    by_kind : (k : Kind) → continuation_of k None at ≡ continuation.More start → AreBegun (k ∷ []) × (start ≡ next_place None place)
     by_kind full h = absurd (cc)
     by_kind first h = let same : at ≡ start = cc in (tt, sym same ∙ here refl)
     by_kind middle h = absurd (cc)
@@ -76,17 +76,17 @@ more_begun (g ∷ fs) f (Some s) place at start are begins here e =
     let is = by_kind f.kind e in
     (begun_by g.kind (kinds_of (fs ++ f ∷ [])) kinds.0 (middles_more fs f is.0 kinds.1), sym is.1 ∙ begins)
   where
-    by_kind : (k : Kind) → turn_of k (Some s) at ≡ turn.More start → (k ≡ middle) × (s ≡ start)
+    by_kind : (k : Kind) → continuation_of k (Some s) at ≡ continuation.More start → (k ≡ middle) × (s ≡ start)
     by_kind full h = absurd (cc)
     by_kind first h = absurd (cc)
     by_kind middle h = (refl, cc)
     by_kind last h = absurd (cc)
 
-pub last_one : (fs : List Fragment) (f : Fragment) (begun : Option ℕ) (place at start : ℕ) → AreBegun (kinds_of fs) → BeginsAt begun place fs → (fs ≡ [] → at ≡ next_place None place) → turn_of f.kind begun at ≡ turn.Last start
+pub last_one : (fs : List Fragment) (f : Fragment) (begun : Option ℕ) (place at start : ℕ) → AreBegun (kinds_of fs) → BeginsAt begun place fs → (fs ≡ [] → at ≡ next_place None place) → continuation_of f.kind begun at ≡ continuation.Last start
     → AreOneRecord (kinds_of (fs ++ f ∷ [])) × (start ≡ next_place None place)
 last_one [] f None place at start are begins here e = by_kind f.kind e
   where
-    by_kind : (k : Kind) → turn_of k None at ≡ turn.Last start → AreOneRecord (k ∷ []) × (start ≡ next_place None place)
+    by_kind : (k : Kind) → continuation_of k None at ≡ continuation.Last start → AreOneRecord (k ∷ []) × (start ≡ next_place None place)
     by_kind full h = let same : at ≡ start = cc in (refl, sym same ∙ here refl)
     by_kind first h = absurd (cc)
     by_kind middle h = absurd (cc)
@@ -98,17 +98,17 @@ last_one (g ∷ fs) f (Some s) place at start are begins here e =
     let is = by_kind f.kind e in
     (one_by g.kind (kinds_of (fs ++ f ∷ [])) kinds.0 (to_last fs f is.0 kinds.1), sym is.1 ∙ begins)
   where
-    by_kind : (k : Kind) → turn_of k (Some s) at ≡ turn.Last start → (k ≡ last) × (s ≡ start)
+    by_kind : (k : Kind) → continuation_of k (Some s) at ≡ continuation.Last start → (k ≡ last) × (s ≡ start)
     by_kind full h = absurd (cc)
     by_kind first h = absurd (cc)
     by_kind middle h = absurd (cc)
     by_kind last h = (refl, cc)
 
-pub misplaced : (fs : List Fragment) (f : Fragment) (begun : Option ℕ) (place at : ℕ) → AreBegun (kinds_of fs) → BeginsAt begun place fs → turn_of f.kind begun at ≡ turn.Misplaced
+pub misplaced : (fs : List Fragment) (f : Fragment) (begun : Option ℕ) (place at : ℕ) → AreBegun (kinds_of fs) → BeginsAt begun place fs → continuation_of f.kind begun at ≡ continuation.Misplaced
     → (AreBegun (kinds_of (fs ++ f ∷ [])) → ⊥) × (AreOneRecord (kinds_of (fs ++ f ∷ [])) → ⊥)
 misplaced [] f None place at are begins e = by_kind f.kind e
   where
-    by_kind : (k : Kind) → turn_of k None at ≡ turn.Misplaced → (AreBegun (k ∷ []) → ⊥) × (AreOneRecord (k ∷ []) → ⊥)
+    by_kind : (k : Kind) → continuation_of k None at ≡ continuation.Misplaced → (AreBegun (k ∷ []) → ⊥) × (AreOneRecord (k ∷ []) → ⊥)
     by_kind full h = absurd (cc)
     by_kind first h = absurd (cc)
     by_kind middle h = ((λ b. b), λ o. o)
@@ -121,13 +121,13 @@ misplaced (g ∷ fs) f (Some s) place at are begins e =
       λ o. not_last f.kind e (no_last fs f kinds.1 (one_from g.kind (kinds_of (fs ++ f ∷ [])) kinds.0 o)),
     )
   where
-    not_middle : (k : Kind) → turn_of k (Some s) at ≡ turn.Misplaced → k ≡ middle → ⊥
+    not_middle : (k : Kind) → continuation_of k (Some s) at ≡ continuation.Misplaced → k ≡ middle → ⊥
     not_middle full h is = cc
     not_middle first h is = cc
     not_middle middle h is = cc
     not_middle last h is = cc
 
-    not_last : (k : Kind) → turn_of k (Some s) at ≡ turn.Misplaced → k ≡ last → ⊥
+    not_last : (k : Kind) → continuation_of k (Some s) at ≡ continuation.Misplaced → k ≡ last → ⊥
     not_last full h is = cc
     not_last first h is = cc
     not_last middle h is = cc
@@ -187,7 +187,7 @@ sees_behind file place offset begun old s next e = record {
 }
 
 pub ends_in_order : (file : List ℕ) (place offset start : ℕ) (block : List ℕ) (at code from to : ℕ) (begun : Option ℕ) (old : List ℕ) (s : Stood file place begun old offset) (n : IsNext file offset start block at code from to)
-    → turn_of n.kind begun (start + at) ≡ turn.Misplaced → ReadingEnds None file place (start + at) ends.BadOrder
+    → continuation_of n.kind begun (start + at) ≡ continuation.Misplaced → ReadingEnds None file place (start + at) ends.BadOrder
 ends_in_order file place offset start block at code from to begun old s n e =
     let f = the_fragment file offset start block at code from to n in
     let wrong = misplaced s.fragments f begun place (start + at) s.are_begun s.begins e in
@@ -209,7 +209,7 @@ ends_with_file file place offset file_len begun old new s none len = by_begun be
 
 -- a record goes on
 pub goes_further : (file : List ℕ) (place offset start : ℕ) (block : List ℕ) (at code from to begin : ℕ) (begun : Option ℕ) (old new : List ℕ) → Stood file place begun old offset → (n : IsNext file offset start block at code from to)
-    → turn_of n.kind begun (start + at) ≡ turn.More begin → new ≡ old ++ slice_range block from to → Stood file place (Some begin) new (start + to)
+    → continuation_of n.kind begun (start + at) ≡ continuation.More begin → new ≡ old ++ slice_range block from to → Stood file place (Some begin) new (start + to)
 goes_further file place offset start block at code from to begin begun old new s n e taken =
     let f = the_fragment file offset start block at code from to n in
     let more = added file place offset start block at code from to begun old new s n taken in
@@ -218,7 +218,7 @@ goes_further file place offset start block at code from to begin begun old new s
 
 -- a record ends
 pub ends_record : (file : List ℕ) (place offset start : ℕ) (block : List ℕ) (at code from to begin : ℕ) (begun : Option ℕ) (old new : List ℕ) → Stood file place begun old offset → (n : IsNext file offset start block at code from to)
-    → turn_of n.kind begun (start + at) ≡ turn.Last begin → new ≡ old ++ slice_range block from to → IsRecord file place begin (start + to) new
+    → continuation_of n.kind begun (start + at) ≡ continuation.Last begin → new ≡ old ++ slice_range block from to → IsRecord file place begin (start + to) new
 ends_record file place offset start block at code from to begin begun old new s n e taken =
     let f = the_fragment file offset start block at code from to n in
     let more = added file place offset start block at code from to begun old new s n taken in

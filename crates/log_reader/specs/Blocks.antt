@@ -6,7 +6,7 @@ use Rattle.wp_model.specs.Reading.{next_seen, end_of, Stand}
 use Rattle.log_block.specs.declared.fragments.Seen.{Seen}
 use Rattle.log_block.specs.declared.fragments.Seen.TheVariants as seen
 
--- the block of the file that begins there stands in front, as far as the file has it
+-- the block of the file that begins there is a prefix of this one, as far as the file has it
 abbrev pub ReadsBlock : List ℕ → ℕ → List ℕ → ℕ → Type 0
 ReadsBlock file start block len = take len block ≡ take 32768 (drop start file)
 
@@ -42,7 +42,7 @@ SeenThere file offset start block at (seen.Fragment code from to) = SeenNext fil
 SeenThere file offset start block at seen.End = (length block ≡ 32768 → Reaches file offset (start + 32768)) × (length block < 32768 → SeenNext file offset start block at seen.End)
 SeenThere file offset start block at (seen.Damage d) = SeenNext file offset start block at (seen.Damage d)
 
--- a fragment's part lies in the block, of which the file has so many bytes, behind the place where its header begins
+-- a fragment's part lies in the block, of which the file has so many bytes, after the place where its header begins
 abbrev pub PartIn : ℕ → ℕ → Seen → Type 0
 PartIn len at (seen.Fragment code from to) = (at < from) × (from ≤ to) × (to ≤ len)
 PartIn len at seen.End = Unit {0}

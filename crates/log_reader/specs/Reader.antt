@@ -16,7 +16,7 @@ pub record Reader : Type 0 where
 abbrev pub Follows : List ℕ → Reader → Type 0
 Follows file r = IsOn file r.window
 
--- it stands behind the records that were read, until it stops
+-- it stands after the records that were read, until it stops
 pub record IsReader (r : Reader) : Type 0 where
   pub sound : IsSound r.window
   pub behind : r.stopped ≡ None → offset_of r.window ≡ r.place
@@ -28,7 +28,7 @@ PlaceAfter old new (next.End at why) = new.place ≡ old.place
 PlaceAfter old new (next.Fault count) = new.place ≡ old.place
 PlaceAfter old new next.NoMemory = new.place ≡ old.place
 
--- a record ends behind the place, and no file is so long that the places come to an end
+-- a record ends after the place, and no file is so long that the places come to an end
 abbrev pub GoesForward : ℕ → Next → Type 0
 GoesForward place (next.Record start end) = (place < end) × (end < 2 ^ 63)
 GoesForward place (next.End at why) = Unit {0}

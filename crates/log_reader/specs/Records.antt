@@ -6,7 +6,7 @@ use Rattle.wp_model.specs.Reading.{Stand, end_of, ReadingEnds}
 use Rattle.log_reader.specs.declared.reader.Next.{Next}
 use Rattle.log_reader.specs.declared.reader.Next.TheVariants as next
 
--- These bytes are a record that stands in the file behind the place, from the one offset to the other.
+-- These bytes are a record that stands in the file after the place, from the one offset to the other.
 pub record IsRecord (file : List ℕ) (place start end : ℕ) (bytes : List ℕ) : Type 0 where
   pub fragments : List Fragment
   pub one : AreOneRecord (kinds_of fragments)
@@ -23,12 +23,12 @@ Reads file place in_hand (next.End at why) = ReadingEnds None file place at why
 Reads file place in_hand (next.Fault count) = Unit {0}
 Reads file place in_hand next.NoMemory = Unit {0}
 
--- a fault is the disk's: its count rose to this one or further
+-- A fault is the disk's: its count rose to this one or further. With any other answer the count stands.
 abbrev pub HasFault : ℕ → ℕ → Next → Type 0
-HasFault before now (next.Record start end) = Unit {0}
-HasFault before now (next.End at why) = Unit {0}
+HasFault before now (next.Record start end) = now ≡ before
+HasFault before now (next.End at why) = now ≡ before
 HasFault before now (next.Fault count) = Rose before count × (count ≤ now)
-HasFault before now next.NoMemory = Unit {0}
+HasFault before now next.NoMemory = now ≡ before
 
 -- anything but a record stops the reading
 abbrev pub stopped_by : Next → Option Next

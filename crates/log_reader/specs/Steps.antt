@@ -7,8 +7,8 @@ use Rattle.log_reader.specs.declared.reader.Next.{Next}
 use Rattle.log_reader.specs.declared.reader.Next.TheVariants as next
 use Rattle.log_reader.specs.declared.reader.Step.{Step}
 use Rattle.log_reader.specs.declared.reader.Step.TheVariants as step
-use Rattle.log_reader.specs.declared.reader.Turn.{Turn}
-use Rattle.log_reader.specs.declared.reader.Turn.TheVariants as turn
+use Rattle.log_reader.specs.declared.reader.Continuation.{Continuation}
+use Rattle.log_reader.specs.declared.reader.Continuation.TheVariants as continuation
 use Rattle.log_reader.specs.Records.{Reads, HasFault}
 
 -- where the record begins whose first fragments these are, if there are any
@@ -18,7 +18,7 @@ BeginsAt None place (f ∷ fs) = ⊥
 BeginsAt (Some start) place [] = ⊥
 BeginsAt (Some start) place (f ∷ fs) = start ≡ next_place None place
 
--- the first fragments of a record were read from a place on, and the reader stands behind them
+-- the first fragments of a record were read from a place on, and the reader stands after them
 pub record Stood (file : List ℕ) (place : ℕ) (begun : Option ℕ) (in_hand : List ℕ) (offset : ℕ) : Type 0 where
   pub fragments : List Fragment
   pub are_begun : AreBegun (kinds_of fragments)
@@ -44,19 +44,19 @@ Moves old new (step.More start) = old < new
 Moves old new (step.Done answer) = EndsAt old new answer
 
 abbrev pub HasFaultStep : ℕ → ℕ → Step → Type 0
-HasFaultStep before now (step.More start) = Unit {0}
+HasFaultStep before now (step.More start) = now ≡ before
 HasFaultStep before now (step.Done answer) = HasFault before now answer
 
 -- what a fragment of this kind comes to at an offset, where the record begins at another, if it has begun
-abbrev pub turn_of : Kind → Option ℕ → ℕ → Turn
-turn_of full None at = turn.Last at
-turn_of first None at = turn.More at
-turn_of middle None at = turn.Misplaced
-turn_of last None at = turn.Misplaced
-turn_of full (Some start) at = turn.Misplaced
-turn_of first (Some start) at = turn.Misplaced
-turn_of middle (Some start) at = turn.More start
-turn_of last (Some start) at = turn.Last start
+abbrev pub continuation_of : Kind → Option ℕ → ℕ → Continuation
+continuation_of full None at = continuation.Last at
+continuation_of first None at = continuation.More at
+continuation_of middle None at = continuation.Misplaced
+continuation_of last None at = continuation.Misplaced
+continuation_of full (Some start) at = continuation.Misplaced
+continuation_of first (Some start) at = continuation.Misplaced
+continuation_of middle (Some start) at = continuation.More start
+continuation_of last (Some start) at = continuation.Last start
 
 -- what the end of the file means
 abbrev pub end_of_reading : Option ℕ → ℕ → Next

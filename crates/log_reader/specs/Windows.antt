@@ -30,6 +30,6 @@ pub record IsOn (file : List ℕ) (w : Window) : Type 0 where
 abbrev pub SeesNext : List ℕ → ℕ → Window → Seen → Type 0
 SeesNext file offset w s = SeenNext file offset w.start (bytes_of w) w.at s
 
--- a fragment's part lies in the block, behind the place where the reader stands
+-- a fragment's part lies in the block, after the place where the reader stands
 abbrev pub PartLies : Window → Seen → Type 0
 PartLies w s = PartIn w.len w.at s

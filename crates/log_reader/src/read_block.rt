@@ -1,6 +1,6 @@
 //! A block, from the disk.
 
-ghost use Rattle.std.specs.Prelude.{◌≡◌, ◌+◌, ◌^◌, ◌<◌, ◌≤◌, length, IfOk, IfErr, IfSome};
+ghost use Rattle.std.specs.Prelude.{◌≡◌, ◌+◌, ◌^◌, ◌<◌, ◌≤◌, length, IfOk, IfErr, IfSome, OnOk};
 ghost use Rattle.wp_edge.specs.Disk.{TimePasses};
 ghost use Rattle.wp_edge.specs.Faults.{Rose};
 ghost use Rattle.log_reader.specs.Blocks.{ReadsBlock};
@@ -8,14 +8,15 @@ ghost use Rattle.log_reader.specs.Blocks.{ReadsBlock};
 use log_block::BLOCK_LEN;
 use wp_edge::Disk;
 
-/// Reads the block that begins at the offset `start` to the front of `block`, as far as the disk has it, and answers how many
-/// bytes that are. A fault is answered by the disk's count.
+/// Reads the block that begins at the offset `start` into the first bytes of `block`, as far as the disk has it, and
+/// answers how many bytes that are. A fault is answered by the disk's count, and no read that failed is tried again.
 pub fn read_block<D: Disk>(disk: &mut D, start: u64, block: &mut [u8]) -> Result<usize, u64>
     requires room { length block.old ≡ BLOCK_LEN }
     requires small { start < 2 ^ 63 }
     ensures bytes { IfSome (D.told disk.old) (λ d. IfOk result (ReadsBlock d.content start block.new)) }
     ensures in_block { IfOk result (λ len. len ≤ BLOCK_LEN) }
     ensures in_file { IfOk result (λ len. start + len < 2 ^ 63) }
+    ensures worked { OnOk result (D.faults disk.new ≡ D.faults disk.old) }
     ensures fault { IfErr result (λ count. Rose (D.faults disk.old) count × (count ≤ D.faults disk.new)) }
     ensures later { D.faults disk.old ≤ D.faults disk.new }
     ensures same { D.told disk.new ≡ D.told disk.old }

@@ -20,7 +20,7 @@ use wp_model::{EndReason, NoMemory};
 /// What reading on comes to.
 #[derive(Clone, Copy, Debug, PartialEq, Eq)]
 pub enum Next {
-    /// A record, which is in hand: the offset of its first fragment, and the one behind its last.
+    /// A record, which is in hand: the offset of its first fragment, and the one after its last.
     Record { start: u64, end: u64 },
     /// Nothing more is read: at which offset that shows, and why.
     End { at: u64, why: EndReason },
@@ -50,7 +50,12 @@ impl Model for LogReader {
 
     ghost view = { λ r. record { place = r.place; in_hand = r.in_hand.items; stopped = r.stopped; window = r.window } };
 
-    ghost invariant = { λ r. IsReader (record { place = r.place; in_hand = r.in_hand.items; stopped = r.stopped; window = r.window }) };
+    ghost invariant = { λ r. IsReader (record {
+      place = r.place;
+      in_hand = r.in_hand.items;
+      stopped = r.stopped;
+      window = r.window;
+    }) };
 }
 
 impl LogReader {
@@ -68,8 +73,8 @@ impl LogReader {
         })
     }
 
-    /// Reads the next record of the log that the disk holds, which is the same at each call. After any answer but `Record` the
-    /// same answer comes again, and the disk isn't touched.
+    /// Reads the next record of the log that the disk holds, which is the same at each call. After any answer but
+    /// `Record` the same answer comes again, and the disk isn't touched. A read that failed is never tried again.
     pub fn next<D: Disk>(&mut self, disk: &mut D) -> Next
         ensures reads { IfSome (D.told disk.old) (λ d. Follows d.content self.old → self.old.stopped ≡ None
             → Reads d.content self.old.place self.new.in_hand result) }
@@ -111,8 +116,8 @@ enum Step {
     Done(Next),
 }
 
-/// What becomes of a record with a fragment.
-enum Turn {
+/// How a record continues with a fragment.
+enum Continuation {
     /// It ends there. It begins at this offset.
     Last(u64),
     /// It goes on. It begins at this offset.
@@ -204,28 +209,29 @@ fn take_part(
     end: usize,
 ) -> Step
     requires sound { IsSound window.old }
-    requires behind { window.old.at < start }
+    requires after { window.old.at < start }
     requires ordered { start ≤ end }
     requires in_block { end ≤ window.old.len }
     ensures sound { IsSound window.new }
-    ensures step { (file : List ℕ) (place offset : ℕ) → IsOn file window.old → Stood file place begun in_hand.old.items offset
+    ensures step { (file : List ℕ) (place offset : ℕ) → IsOn file window.old
+        → Stood file place begun in_hand.old.items offset
         → IsNext file offset window.old.start (bytes_of window.old) window.old.at kind start end
         → StepIs file place in_hand.new.items (offset_of window.new) result }
     ensures on { (file : List ℕ) → IsOn file window.old → IsOn file window.new }
     ensures moves { Moves (offset_of window.old) (offset_of window.new) result }
-    ensures no_fault { (before now : ℕ) → HasFaultStep before now result }
+    ensures no_fault { (count : ℕ) → HasFaultStep count count result }
 {
     let at = window.offset();
-    match turn_of(kind, begun, at) {
-        Turn::Misplaced => Step::Done(Next::End {
+    match continuation_of(kind, begun, at) {
+        Continuation::Misplaced => Step::Done(Next::End {
             at,
             why: EndReason::BadOrder,
         }),
-        Turn::More(first) => match add_part(window, in_hand, start, end) {
+        Continuation::More(first) => match add_part(window, in_hand, start, end) {
             Ok(()) => Step::More(first),
             Err(_) => Step::Done(Next::NoMemory),
         },
-        Turn::Last(first) => match add_part(window, in_hand, start, end) {
+        Continuation::Last(first) => match add_part(window, in_hand, start, end) {
             Ok(()) => Step::Done(Next::Record {
                 start: first,
                 end: window.offset(),
@@ -236,19 +242,19 @@ fn take_part(
 }
 
 /// What a fragment of this type at the offset `at` comes to, where the record begins at `begun`, if it has begun.
-fn turn_of(kind: u8, begun: Option<u64>, at: u64) -> Turn
-    ensures { (k : Kind) → kind ≡ kind_code None k → result ≡ steps.turn_of k begun at }
+fn continuation_of(kind: u8, begun: Option<u64>, at: u64) -> Continuation
+    ensures { (k : Kind) → kind ≡ kind_code None k → result ≡ steps.continuation_of k begun at }
 {
     match (kind, begun) {
-        (FULL, None) => Turn::Last(at),
-        (FIRST, None) => Turn::More(at),
-        (MIDDLE, Some(first)) => Turn::More(first),
-        (LAST, Some(first)) => Turn::Last(first),
-        _ => Turn::Misplaced,
+        (FULL, None) => Continuation::Last(at),
+        (FIRST, None) => Continuation::More(at),
+        (MIDDLE, Some(first)) => Continuation::More(first),
+        (LAST, Some(first)) => Continuation::Last(first),
+        _ => Continuation::Misplaced,
     }
 }
 
-/// Adds the part from `start` to `end` of the block to the record. The window goes on behind it.
+/// Adds the part from `start` to `end` of the block to the record. The window goes on after it.
 fn add_part(
     window: &mut Window,
     in_hand: &mut Vec<u8>,

@@ -93,7 +93,7 @@ fn reads_the_records_of_several_blocks(rt: HostRuntime) -> Result<(), Fail> {
     Ok(())
 }
 
-// The log is cut behind so many bytes.
+// The log is cut after so many bytes.
 #[test]
 fn reads_what_is_left_of_a_log(rt: HostRuntime) -> Result<(), Fail> {
     let alloc = rt.alloc();

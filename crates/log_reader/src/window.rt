@@ -52,6 +52,7 @@ impl Window {
         ensures on { IfSome (D.told disk.old) (λ d. IsOn d.content self.old → IsOn d.content self.new) }
         ensures part { IfOk result (PartLies self.new) }
         ensures forward { offset_of self.old ≤ offset_of self.new }
+        ensures worked { OnOk result (D.faults disk.new ≡ D.faults disk.old) }
         ensures fault { IfErr result (λ count. Rose (D.faults disk.old) count × (count ≤ D.faults disk.new)) }
         ensures later { D.faults disk.old ≤ D.faults disk.new }
         ensures same { D.told disk.new ≡ D.told disk.old }
@@ -80,6 +81,7 @@ impl Window {
         ensures on { IfSome (D.told disk.old) (λ d. IsOn d.content self.old → IsOn d.content self.new) }
         ensures start { self.new.start ≡ self.old.start }
         ensures at { self.new.at ≡ self.old.at }
+        ensures worked { OnOk result (D.faults disk.new ≡ D.faults disk.old) }
         ensures fault { IfErr result (λ count. Rose (D.faults disk.old) count × (count ≤ D.faults disk.new)) }
         ensures later { D.faults disk.old ≤ D.faults disk.new }
         ensures same { D.told disk.new ≡ D.told disk.old }

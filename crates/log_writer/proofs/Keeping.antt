@@ -1,8 +1,9 @@
 -- What a crash leaves, from the bytes to the records.
-use Rattle.std.proofs.Common.{◌≡◌, inl, inr, ⊎_elim, ℕ, ◌+◌, ◌≤◌, Bool, true, false, IsTrue, List, [], ◌∷◌, ◌++◌, length, take, drop, map, Option, Some, None, IfSome, sym, ◌∙◌, ap, subst, arith, append_assoc, length-append, length-take, add-zero, zero-add}
+use Rattle.std.proofs.Common.{◌≡◌, ℕ, ◌+◌, ◌≤◌, Bool, true, false, IsTrue, List, [], ◌∷◌, ◌++◌, length, take, drop, map, Option, Some, None, IfSome, sym, ◌∙◌, ap, subst, arith, append_assoc, length-append, length-take, add-zero, zero-add}
 use Rattle.std.proofs.Math.Seq.{take-take, take-append_seam, take-length}
 use Rattle.std.proofs.lemmas.List.{take-append-le, take-append-drop, take_all, append-nil}
 use Rattle.wp_edge.specs.Disk.{Disk, IsImage, Told, LeavesOnly}
+use Rattle.wp_edge.specs.declared.disk.Disk.{Ghosts}
 use Rattle.wp_model.specs.Log.{record_text, text_from, text}
 use Rattle.wp_model.specs.Recovery.{logged_bytes}
 use Rattle.log_laws.proofs.Placed.{length_map}
@@ -11,8 +12,9 @@ use Rattle.log_laws.proofs.Crash.{reads_front}
 use Rattle.log_laws.proofs.Recovers.{recovers_front}
 use Rattle.log_laws.proofs.Synced.{holds_synced}
 use Rattle.log_laws.proofs.ReadSynced.{reads_synced}
-use Rattle.log_writer.specs.Crashes.{KeepsSafe, KeepsWhatWasSafe, HoldsRecords, KeepsPrefix}
+use Rattle.log_writer.specs.Crashes.{KeepsSafe, KeepsWhatWasSafe, MayBeLeft, HoldsRecords, KeepsPrefix}
 use Rattle.log_writer.specs.Puts.{IsAllSafe, IsSynced}
+use Rattle.log_writer.proofs.Putting.{leaves_so, leaves_now}
 
 -- the text of records and more of them
 pub text_append : (offset : ℕ) (xs ys : List (List ℕ)) → text_from None offset (xs ++ ys) ≡ text_from None offset xs ++ text_from None (offset + length (text_from None offset xs)) ys
@@ -107,14 +109,13 @@ len_more None (Some y) len end bytes sync len_is put end_is = absurd put
 len_more (Some x) None len end bytes sync len_is put end_is = tt
 len_more (Some x) (Some y) len end bytes sync len_is put end_is = omega (arith, len_is, ap length put.0, length-append x.content bytes, end_is)
 
--- what a crash leaves, in other words
-pub leaves_so : {D : Type 0} (moment from : D → ℕ) (since : D → ℕ → List ℕ → Type 0) (P Q : List ℕ → Type 0) (a b : D) → LeavesOnly moment from since a b P → ((image : List ℕ) → P image → Q image) → LeavesOnly moment from since a b Q
-leaves_so moment from since P Q a b leaves to = record {
-  later = leaves.later;
-  forgets = leaves.forgets;
-  each = λ image told s. to image (leaves.each image told s);
-  before = λ t image told le s. ⊎_elim (λ earlier. inl earlier) (λ p. inr (to image p)) (leaves.before t image told le s);
-}
+-- what a crash leaves of a call, from what is safe
+pub left_safe : (told : Option Disk) (more : ℕ) (image : List ℕ) → MayBeLeft told more image → KeepsWhatWasSafe told image
+left_safe None more image left = tt
+left_safe (Some d) more image left = left.safe
+
+pub leaves_safe : {D : Type 0} (moment from : D → ℕ) (since : D → ℕ → List ℕ → Type 0) (told : Option Disk) (more : ℕ) (a b : D) → LeavesOnly moment from since a b (MayBeLeft told more) → LeavesOnly moment from since a b (KeepsWhatWasSafe told)
+leaves_safe moment from since told more a b leaves = leaves_so moment from since (MayBeLeft told more) (KeepsWhatWasSafe told) a b leaves (left_safe told more)
 
 pub crash_keeps : {D : Type 0} (moment from : D → ℕ) (since : D → ℕ → List ℕ → Type 0) (told : Option Disk) (a b : D) (more : List (List ℕ)) → LeavesOnly moment from since a b (KeepsWhatWasSafe told)
     → IfSome told (λ d. (records : List (List ℕ)) (safe : ℕ) → HoldsRecords d records safe → LeavesOnly moment from since a b (KeepsPrefix (records ++ more) safe))
@@ -127,11 +128,7 @@ pub image_keeps : (told : Option Disk) (image : List ℕ) → IfSome told (λ d.
 image_keeps None image is = tt
 image_keeps (Some d) image is = record { front = is.synced; no_shorter = is.no_shorter }
 
-pub leaves_same : {D : Type 0} (told : D → Option Disk) (moment from : D → ℕ) (since : D → ℕ → List ℕ → Type 0) (a : D)
-    → ((image : List ℕ) → from a ≤ moment a → since a (moment a) image → IfSome (told a) (λ d. IsImage d image)) → LeavesOnly moment from since a a (KeepsWhatWasSafe (told a))
-leaves_same told moment from since a only = record {
-  later = omega arith;
-  forgets = omega arith;
-  each = λ image known s. image_keeps (told a) image (only image known s);
-  before = λ t image known le s. inl s;
-}
+pub leaves_same : {D : Type 0} (ghosts : Ghosts D) (a : D) → ((image : List ℕ) → ghosts.from a ≤ ghosts.moment a → ghosts.since a (ghosts.moment a) image → IfSome (ghosts.told a) (λ d. IsImage d image))
+    → LeavesOnly ghosts.moment ghosts.from ghosts.since a a (KeepsWhatWasSafe (ghosts.told a))
+leaves_same ghosts a only =
+    leaves_so ghosts.moment ghosts.from ghosts.since (λ image. IfSome (ghosts.told a) (λ d. IsImage d image)) (KeepsWhatWasSafe (ghosts.told a)) a a (leaves_now ghosts a only) (image_keeps (ghosts.told a))

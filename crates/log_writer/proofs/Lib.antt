@@ -5,3 +5,5 @@ pub mod Keeping
 pub mod Calls
 pub mod Standing
 pub mod Surviving
+pub mod Held
+pub mod Filling

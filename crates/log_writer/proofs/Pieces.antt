@@ -4,14 +4,14 @@ use Rattle.std.proofs.Math.ListN.{length-replicate}
 use Rattle.std.proofs.lemmas.Bool.{ltb-true}
 use Rattle.std.proofs.lemmas.List.{append-nil, drop-drop}
 use Rattle.std.specs.Result.{IsErr}
-use Rattle.wp_edge.specs.Disk.{IsDisk}
+use Rattle.wp_edge.specs.Disk.{IsDisk, IsImage}
 use Rattle.wp_edge.specs.declared.disk.Disk.{Ghosts}
 use Rattle.wp_edge.specs.declared.failed.Failed.{Failed}
 use Rattle.wp_model.specs.Log as log
 use Rattle.log_block.specs.declared.pieces.Piece.{Piece}
 use Rattle.log_block.specs.Pieces.{piece_text, pieces_text, CoverRecord, StandsInBlock, StandInBlocks, end_in_block}
 use Rattle.log_writer.specs.Puts.{Puts}
-use Rattle.log_writer.proofs.Putting.{puts_more, puts_cut}
+use Rattle.log_writer.proofs.Putting.{puts_none, puts_more, puts_cut}
 
 -- what is put of a piece, whose part is the front of what is left of the record
 abbrev pub put_of : List ℕ → Piece → List ℕ
@@ -28,6 +28,22 @@ pub record IsSoFar {D : Type 0} (ghosts : Ghosts D) (bytes : List ℕ) (offset :
   pub cut : CoverRecord (length bytes) from pieces
   pub at : ℕ
   pub laid : StandInBlocks at pieces
+
+-- None of it is put yet.
+pub starts_so : {D : Type 0} (ghosts : Ghosts D) (bytes : List ℕ) (offset at : ℕ) (start : D) (pieces : List Piece)
+    → ((image : List ℕ) → ghosts.from start ≤ ghosts.moment start → ghosts.since start (ghosts.moment start) image → IfSome (ghosts.told start) (λ d. IsImage d image))
+    → pieces_text bytes pieces ≡ log.record_text None offset bytes → CoverRecord (length bytes) 0 pieces → StandInBlocks at pieces → IsSoFar ghosts bytes offset start start bytes pieces offset
+starts_so ghosts bytes offset at start pieces only text cut laid = record {
+  done = [];
+  text = text;
+  put = puts_none ghosts start only;
+  end_is = omega arith;
+  from = 0;
+  rest_is = refl;
+  cut = cut;
+  at = at;
+  laid = laid;
+}
 
 -- a piece may be put
 pub record MayBePut (rest : List ℕ) (p : Piece) : Type 0 where
@@ -74,7 +90,7 @@ module _ {D : Type 0} (ghosts : Ghosts D) (bytes : List ℕ) (offset : ℕ) (sta
   puts_next then t is more = puts_same (puts_more ghosts start now then so_far.done (put_of rest p) false tt (Ok t) is so_far.put more)
     where
       puts_same : {T : Type 0} {t : T} → Puts {E = Failed} ghosts start then (so_far.done ++ put_of rest p) false (Ok t) → Puts {T = Unit {0}} {E = Failed} ghosts start then (so_far.done ++ put_of rest p) false (Ok tt)
-      puts_same q = record { are_put = q.are_put; counted = q.counted; cause = record { later = (q.cause).later; failed = tt }; crash = q.crash }
+      puts_same q = record { are_put = q.are_put; counted = q.counted; cause = record { later = (q.cause).later; failed = tt; worked = (q.cause).worked }; reached = q.reached; crash = q.crash }
 
   -- one more is put
   pub goes_on : {T : Type 0} (then : D) (rest' : List ℕ) (end' : ℕ) (t : T) → IfSome (ghosts.told start) IsDisk → Puts {E = Failed} ghosts now then (put_of rest p) false (Ok t)
@@ -103,7 +119,7 @@ pub puts_whole : {D U : Type 0} (ghosts : Ghosts D) (bytes : List ℕ) (offset :
 puts_whole ghosts bytes offset start now rest end u so_far =
     let whole : so_far.done ≡ log.record_text None offset bytes = sym (append-nil so_far.done) ∙ so_far.text in
     let q = so_far.put in
-    subst (λ (l : List ℕ). Puts {E = Failed} ghosts start now l false (Ok u)) whole (record { are_put = q.are_put; counted = q.counted; cause = record { later = (q.cause).later; failed = tt }; crash = q.crash })
+    subst (λ (l : List ℕ). Puts {E = Failed} ghosts start now l false (Ok u)) whole (record { are_put = q.are_put; counted = q.counted; cause = record { later = (q.cause).later; failed = tt; worked = (q.cause).worked }; reached = q.reached; crash = q.crash })
 
 pub ends_at : {D : Type 0} (ghosts : Ghosts D) (bytes : List ℕ) (offset : ℕ) (start now : D) (rest : List ℕ) (end : ℕ) → IsSoFar ghosts bytes offset start now rest [] end → end ≡ offset + length (log.record_text None offset bytes)
 ends_at ghosts bytes offset start now rest end so_far =

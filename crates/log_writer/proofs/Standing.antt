@@ -15,7 +15,7 @@ use Rattle.log_writer.proofs.Calls.{first_more, written_more, begun_more, begun_
 use Rattle.log_writer.proofs.Keeping.{text_more}
 
 -- where no call failed, the content is the text of what was written
-whole_text : (d : Disk) (calls : List GroupCall) (safe : ℕ) → first_fault calls ≡ None → HoldsCalls d calls safe → d.content ≡ text None (written_by calls)
+pub whole_text : (d : Disk) (calls : List GroupCall) (safe : ℕ) → first_fault calls ≡ None → HoldsCalls d calls safe → d.content ≡ text None (written_by calls)
 whole_text d calls safe none holds =
     let same : text None (begun_by calls) ≡ text None (written_by calls) = ap (text None) (begun_written calls none) in
     holds.content ∙ (ap (take holds.many) same ∙ take_all holds.many (text None (written_by calls)) holds.whole)
@@ -152,7 +152,7 @@ told_empty : (a : Option Disk) → IfSome a (λ d. d.content ≡ []) → IfSome 
 told_empty None empty = tt
 told_empty (Some d) empty = (0, record { many = 0; content = empty; whole = omega arith; some = omega arith; synced = omega arith; have_synced = tt })
 
-stands_first : {D : Type 0} {ghosts : Ghosts D} (disk : D) (log : LogWriter D ghosts) → HasOpened disk log → Stands [] log
+pub stands_first : {D : Type 0} {ghosts : Ghosts D} (disk : D) (log : LogWriter D ghosts) → HasOpened disk log → Stands [] log
 stands_first {ghosts = ghosts} disk log opened = record {
   fault = opened.fault;
   len = opened.len;

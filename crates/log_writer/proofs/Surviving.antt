@@ -13,8 +13,8 @@ use Rattle.log_writer.specs.Words.{disk_of, len_of, fault_of}
 use Rattle.log_writer.specs.Adding.{GroupCall, record_of_call, answer_of, Grows, Stops, Adds}
 use Rattle.log_writer.specs.Written.{Wrote, no_call, one_more, IsWritten, written_by, begun_by, HoldsCalls, HasCauseSince}
 use Rattle.log_writer.proofs.Calls.{begun_front}
-use Rattle.log_writer.proofs.Keeping.{text_front, keeps_prefix, leaves_so, leaves_same}
-use Rattle.log_writer.proofs.Putting.{told_more, leaves_more}
+use Rattle.log_writer.proofs.Keeping.{text_front, keeps_prefix, leaves_safe, leaves_same}
+use Rattle.log_writer.proofs.Putting.{told_more, leaves_so, leaves_more}
 
 -- content is put behind, and what is safe stays safe
 pub record Extends (x y : Disk) : Type 0 where
@@ -72,14 +72,14 @@ module _ {D : Type 0} {ghosts : Ghosts D} (laws : Laws ghosts) where
   survives_none : (log : LogWriter D ghosts) → Survives log log
   survives_none log = record {
     extends = told_none (ghosts.told (disk_of log));
-    leaves = leaves_same ghosts.told ghosts.moment ghosts.from ghosts.since (disk_of log) (laws.only_now (disk_of log));
+    leaves = leaves_same ghosts (disk_of log) (laws.only_now (disk_of log));
     later = omega arith;
   }
 
   survives_put : (old new : LogWriter D ghosts) (bytes : List ℕ) (sync : Bool) (r : Result (Unit {0}) ℕ) → Puts ghosts (disk_of old) (disk_of new) bytes sync r → Survives old new
   survives_put old new bytes sync r put = record {
     extends = told_extends (ghosts.told (disk_of old)) (ghosts.told (disk_of new)) bytes sync r (laws.is_disk (disk_of old)) put.are_put;
-    leaves = put.crash;
+    leaves = leaves_safe ghosts.moment ghosts.from ghosts.since (ghosts.told (disk_of old)) (length bytes) (disk_of old) (disk_of new) put.crash;
     later = (put.cause).later;
   }
 
@@ -106,20 +106,22 @@ module _ {D : Type 0} {ghosts : Ghosts D} (laws : Laws ghosts) where
   caused_call : (disk : D) (c : GroupCall) (now new : LogWriter D ghosts) → HasCauseSince disk now → Adds c now new → HasCauseSince disk new
   caused_call disk c now new since adds = by_fault (fault_of now) refl adds.dead
     where
-      by_answer : (f : Option ℕ) → Puts ghosts (disk_of now) (disk_of new) (record_text None (len_of now) (record_of_call c)) c.sync (answer_of f)
+      by_answer : (f : Option ℕ) → fault_of now ≡ None → Puts ghosts (disk_of now) (disk_of new) (record_text None (len_of now) (record_of_call c)) c.sync (answer_of f)
           → MatchOption f (Grows (record_text None (len_of now) (record_of_call c)) now new) (Stops now new) → HasCauseSince disk new
-      by_answer None put grows = record {
+      by_answer None is_none put grows = record {
         later = omega (arith, since.later, (put.cause).later);
         rose = subst (λ (f : Option ℕ). IfSome f (λ count. Rose (ghosts.faults disk) count × (count ≤ ghosts.faults (disk_of new)))) (sym grows.fault) tt;
+        no_fault = λ none. (put.cause).worked ∙ since.no_fault is_none;
       }
-      by_answer (Some count) put stops = record {
+      by_answer (Some count) is_none put stops = record {
         later = omega (arith, since.later, (put.cause).later);
         rose = subst (λ (f : Option ℕ). IfSome f (λ n. Rose (ghosts.faults disk) n × (n ≤ ghosts.faults (disk_of new)))) (sym stops.fault)
             (omega (arith, since.later, (put.cause).failed, stops.count_is), omega (arith, stops.count_is));
+        no_fault = λ none. let wrong : ◌≡◌ {A = Option ℕ} None (Some count) = sym none ∙ stops.fault in absurd (cc);
       }
 
       by_fault : (f : Option ℕ) → fault_of now ≡ f → IfSome f (λ count. (c.failed ≡ Some count) × (new ≡ now)) → HasCauseSince disk new
-      by_fault None is_none kept = by_answer c.failed (adds.put is_none) (adds.kept is_none)
+      by_fault None is_none kept = by_answer c.failed is_none (adds.put is_none) (adds.kept is_none)
       by_fault (Some count) is_some kept = subst (λ (log : LogWriter D ghosts). HasCauseSince disk log) (sym kept.1) since
 
   caused_calls : (disk : D) (opened : LogWriter D ghosts) (calls : List GroupCall) (new : LogWriter D ghosts) → HasCauseSince disk opened → Wrote opened calls new → HasCauseSince disk new
@@ -131,15 +133,14 @@ module _ {D : Type 0} {ghosts : Ghosts D} (laws : Laws ghosts) where
       (record {
         later = ((is.has_opened).looked_at).later;
         rose = subst (λ (f : Option ℕ). IfSome f (λ n. Rose (ghosts.faults disk) n × (n ≤ ghosts.faults (disk_of is.opened)))) (sym (is.has_opened).fault) tt;
+        no_fault = λ none. (is.has_opened).no_fault;
       })
       is.wrote
 
--- What was safe is found, whatever was written or begun behind.
-pub holds_calls_keeps : (d : Disk) (calls more : List GroupCall) (safe : ℕ) (image : List ℕ) → IsDisk d → HoldsCalls d calls safe → KeepsSafe d image → KeepsPrefix (begun_by (calls ++ more)) safe image
-holds_calls_keeps d calls more safe image is holds keeps =
-    let behind = begun_front calls more in
-    let all : List (List ℕ) = begun_by (calls ++ more) in
-    let same : take safe all ≡ take safe (written_by calls) = ap (take safe) behind.1 ∙ take-append-le safe (written_by calls) behind.0 holds.some in
+-- What was safe of the records stands in front of each image.
+pub safe_front : (d : Disk) (calls : List GroupCall) (safe : ℕ) (image : List ℕ) → IsDisk d → HoldsCalls d calls safe → KeepsSafe d image
+    → take (length (text None (take safe (written_by calls)))) image ≡ text None (take safe (written_by calls))
+safe_front d calls safe image is holds keeps =
     let n : ℕ = length (text None (take safe (written_by calls))) in
     let here = begun_front calls [] in
     let begun : begun_by calls ≡ written_by calls ++ here.0 = ap begun_by (sym (append-nil calls)) ∙ here.1 in
@@ -147,11 +148,17 @@ holds_calls_keeps d calls more safe image is holds keeps =
     let in_text : take n (text None (begun_by calls)) ≡ text None (take safe (written_by calls)) =
     ap (λ (l : List (List ℕ)). take (length (text None l)) (text None (begun_by calls))) (sym same_here) ∙ (text_front (begun_by calls) safe ∙ ap (text None) same_here) in
     let within : n ≤ holds.many = omega (arith, holds.synced, is.synced, ap length holds.content, length-take holds.many (text None (begun_by calls))) in
-    let front : take n image ≡ text None (take safe (written_by calls)) =
-    sym (take-take n d.synced image holds.synced) ∙ (ap (take n) keeps.front ∙ (take-take n d.synced d.content holds.synced ∙ (ap (take n) holds.content ∙ (take-take n holds.many (text None (begun_by calls)) within ∙ in_text)))) in
+    sym (take-take n d.synced image holds.synced) ∙ (ap (take n) keeps.front ∙ (take-take n d.synced d.content holds.synced ∙ (ap (take n) holds.content ∙ (take-take n holds.many (text None (begun_by calls)) within ∙ in_text))))
+
+-- What was safe is found, whatever was written or begun after it.
+pub holds_calls_keeps : (d : Disk) (calls more : List GroupCall) (safe : ℕ) (image : List ℕ) → IsDisk d → HoldsCalls d calls safe → KeepsSafe d image → KeepsPrefix (begun_by (calls ++ more)) safe image
+holds_calls_keeps d calls more safe image is holds keeps =
+    let behind = begun_front calls more in
+    let all : List (List ℕ) = begun_by (calls ++ more) in
+    let same : take safe all ≡ take safe (written_by calls) = ap (take safe) behind.1 ∙ take-append-le safe (written_by calls) behind.0 holds.some in
     keeps_prefix all safe image (omega (arith, holds.some, ap length behind.1, length-append (written_by calls) behind.0))
     (subst (λ (l : List (List ℕ)). length (text None l) ≤ length image) (sym same) (omega (arith, holds.synced, keeps.no_shorter)))
-    (subst (λ (l : List (List ℕ)). take (length (text None l)) image ≡ text None l) (sym same) front)
+    (subst (λ (l : List (List ℕ)). take (length (text None l)) image ≡ text None l) (sym same) (safe_front d calls safe image is holds keeps))
 
 -- at any moment of calls behind some
 pub told_keeps : {D : Type 0} (moment from : D → ℕ) (since : D → ℕ → List ℕ → Type 0) (told : Option Disk) (a b : D) (before after : List GroupCall) → IfSome told IsDisk → LeavesOnly moment from since a b (KeepsWhatWasSafe told)

@@ -1,7 +1,7 @@
 -- A call of `add_group`, and what it does to the log.
 use Rattle.std.specs.Prelude.{◌≡◌, ℕ, ◌+◌, Bool, List, length, Option, Some, None, Result, Ok, Err, IfSome, MatchOption}
 use Rattle.wp_edge.specs.declared.disk.Disk.{Ghosts}
-use Rattle.wp_model.specs.Batch.{Record, group_record}
+pub use Rattle.wp_model.specs.LogContents.{GroupCall, record_of_call}
 use Rattle.wp_model.specs.Log.{record_text}
 use Rattle.write_batch.specs.Contents.{Contents}
 use Rattle.log_writer.specs.declared.errors.Fault.{Fault}
@@ -10,24 +10,18 @@ use Rattle.log_writer.specs.Groups.{batches_of}
 use Rattle.log_writer.specs.Puts.{Puts}
 use Rattle.log_writer.specs.Words.{disk_of, len_of, fault_of}
 
--- a call, and the count that it was answered where it failed
-pub record GroupCall : Type 0 where
-  pub first : ℕ
-  pub batches : List (List Record)
-  pub sync : Bool
-  pub failed : Option ℕ
-
 abbrev pub count_of_fault : {T : Type 0} → Result T Fault → Option ℕ
 count_of_fault (Ok x) = None
 count_of_fault (Err fault) = Some fault.count
 
 -- the call of these arguments that had this answer
 abbrev pub call_of : {T : Type 0} → ℕ → List Contents → Bool → Result T Fault → GroupCall
-call_of first members sync result = record { first = first; batches = batches_of members; sync = sync; failed = count_of_fault result }
-
--- the one record of its group
-abbrev pub record_of_call : GroupCall → List ℕ
-record_of_call c = group_record c.first c.batches
+call_of first members sync result = record {
+  first = first;
+  batches = batches_of members;
+  sync = sync;
+  failed = count_of_fault result;
+}
 
 -- whether it worked, as an answer
 abbrev pub answer_of : Option ℕ → Result (Unit {0}) ℕ
@@ -46,8 +40,13 @@ module _ {D : Type 0} {ghosts : Ghosts D} where
     pub fault : fault_of new ≡ Some count
     pub count_is : count ≡ ghosts.faults (disk_of new)
 
-  -- The call put the record's text at the end of the log, and synced it if that was asked. After a fault nothing is done.
+  -- the text of the call's record at the end of the log
+  abbrev pub text_at_end : GroupCall → LogWriter D ghosts → List ℕ
+  text_at_end c log = record_text None (len_of log) (record_of_call c)
+
+  -- The call put the record's text at the end of the log, and synced it if that was asked. After a fault nothing is
+  -- done.
   pub record Adds (c : GroupCall) (old new : LogWriter D ghosts) : Type 0 where
     pub dead : IfSome (fault_of old) (λ count. (c.failed ≡ Some count) × (new ≡ old))
-    pub put : fault_of old ≡ None → Puts ghosts (disk_of old) (disk_of new) (record_text None (len_of old) (record_of_call c)) c.sync (answer_of c.failed)
-    pub kept : fault_of old ≡ None → MatchOption c.failed (Grows (record_text None (len_of old) (record_of_call c)) old new) (Stops old new)
+    pub put : fault_of old ≡ None → Puts ghosts (disk_of old) (disk_of new) (text_at_end c old) c.sync (answer_of c.failed)
+    pub kept : fault_of old ≡ None → MatchOption c.failed (Grows (text_at_end c old) old new) (Stops old new)

@@ -12,7 +12,7 @@ batches_of members = map (λ (m : Contents). m.records) members
 abbrev pub counts_of : List Contents → ℕ
 counts_of members = sum_by (λ (m : Contents). count_of m.records) members
 
--- the bytes of the members behind their headers, joined, and how many they are
+-- the bytes of the members after their headers, joined, and how many they are
 abbrev pub bodies_of : List Contents → List ℕ
 bodies_of members = flat_map (λ (m : Contents). body m.records) members
 

@@ -14,12 +14,13 @@ pub record IsLookedAt {D : Type 0} (ghosts : Ghosts D) (old new : D) : Type 0 wh
   pub later : ghosts.faults old ≤ ghosts.faults new
   pub time : TimePasses ghosts.told ghosts.moment ghosts.from ghosts.since old new
 
--- The log of an empty disk has no bytes.
+-- The log of an empty disk has no bytes. No call of the disk failed.
 pub record HasOpened {D : Type 0} {ghosts : Ghosts D} (disk : D) (log : LogWriter D ghosts) : Type 0 where
   pub looked_at : IsLookedAt ghosts disk (disk_of log)
   pub empty : IfSome (ghosts.told disk) (λ d. d.content ≡ [])
   pub len : len_of log ≡ 0
   pub fault : fault_of log ≡ None
+  pub no_fault : ghosts.faults (disk_of log) ≡ ghosts.faults disk
 
 -- a failed look at the length, a length above 0, or no memory for the block
 abbrev pub IsCause : {D : Type 0} → Ghosts D → D → D → OpenError → Type 0
@@ -27,7 +28,14 @@ IsCause ghosts old new (Fault count) = Rose (ghosts.faults old) count × (count 
 IsCause ghosts old new (NotEmpty len) = (0 < len) × IfSome (ghosts.told old) (λ d. length d.content ≡ len)
 IsCause ghosts old new NoMemory = IfSome (ghosts.told old) (λ d. d.content ≡ [])
 
+-- without a fault the count stands
+abbrev pub CountStands : {D : Type 0} → Ghosts D → D → D → OpenError → Type 0
+CountStands ghosts old new (Fault count) = Unit {0}
+CountStands ghosts old new (NotEmpty len) = ghosts.faults new ≡ ghosts.faults old
+CountStands ghosts old new NoMemory = ghosts.faults new ≡ ghosts.faults old
+
 -- why it was not opened
 pub record IsOpenError {D : Type 0} (ghosts : Ghosts D) (old new : D) (why : OpenError) : Type 0 where
   pub looked_at : IsLookedAt ghosts old new
   pub cause : IsCause ghosts old new why
+  pub no_fault : CountStands ghosts old new why

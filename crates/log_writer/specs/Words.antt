@@ -1,5 +1,5 @@
 -- What a log writer shows.
-use Rattle.std.specs.Prelude.{ℕ, Option}
+use Rattle.std.specs.Prelude.{ℕ, Option, vec_capacity}
 use Rattle.wp_edge.specs.declared.disk.Disk.{Ghosts}
 use Rattle.log_writer.specs.declared.writer.LogWriter.{LogWriter}
 
@@ -13,3 +13,7 @@ len_of w = w.len
 -- the count of the fault that ended the log, if one did
 abbrev pub fault_of : {D : Type 0} {ghosts : Ghosts D} → LogWriter D ghosts → Option ℕ
 fault_of w = w.fault
+
+-- the memory that it holds for a block, in bytes
+abbrev pub room_of : {D : Type 0} {ghosts : Ghosts D} → LogWriter D ghosts → ℕ
+room_of w = vec_capacity w.block

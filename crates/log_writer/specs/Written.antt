@@ -1,5 +1,5 @@
 -- What a log has become by calls of `add_group`.
-use Rattle.std.specs.Prelude.{◌≡◌, ℕ, ◌≤◌, true, List, [], ◌∷◌, ◌++◌, length, take, drop, Option, Some, None, IfSome}
+use Rattle.std.specs.Prelude.{◌≡◌, ℕ, ◌+◌, ◌≤◌, true, List, [], ◌∷◌, ◌++◌, length, take, drop, slice_get, Option, Some, None, IfSome}
 use Rattle.std.specs.List.{AllByRecursion}
 use Rattle.wp_edge.specs.Disk.{Disk}
 use Rattle.wp_edge.specs.declared.disk.Disk.{Ghosts}
@@ -7,16 +7,20 @@ use Rattle.wp_model.specs.Counts.{Rose}
 use Rattle.wp_model.specs.Log.{text}
 use Rattle.log_writer.specs.declared.writer.LogWriter.{LogWriter}
 use Rattle.log_writer.specs.Words.{disk_of, len_of, fault_of}
+use Rattle.log_writer.specs.Crashes.{HoldsUpTo}
 use Rattle.log_writer.specs.Opening.{HasOpened}
 use Rattle.log_writer.specs.Adding.{GroupCall, record_of_call, Adds}
 
 -- these calls, one after another, took the log from what it was to what it is
-pub data Wrote {D : Type 0} {ghosts : Ghosts D} (old : LogWriter D ghosts) : List GroupCall → LogWriter D ghosts → Type 0 where
+pub data Wrote {D : Type 0} {ghosts : Ghosts D} (old : LogWriter D ghosts)
+    : List GroupCall → LogWriter D ghosts → Type 0 where
   no_call : Wrote old [] old
-  one_more : {calls : List GroupCall} {now new : LogWriter D ghosts} (c : GroupCall) → Wrote old calls now → Adds c now new → Wrote old (calls ++ c ∷ []) new
+  one_more : {calls : List GroupCall} {now new : LogWriter D ghosts} (c : GroupCall)
+      → Wrote old calls now → Adds c now new → Wrote old (calls ++ c ∷ []) new
 
 -- the log was opened on this disk, and these calls wrote it
-pub record IsWritten {D : Type 0} {ghosts : Ghosts D} (disk : D) (calls : List GroupCall) (log : LogWriter D ghosts) : Type 0 where
+pub record IsWritten {D : Type 0} {ghosts : Ghosts D} (disk : D) (calls : List GroupCall) (log : LogWriter D ghosts)
+    : Type 0 where
   pub opened : LogWriter D ghosts
   pub has_opened : HasOpened disk opened
   pub wrote : Wrote opened calls log
@@ -45,7 +49,12 @@ begun_by (c ∷ calls) = record_of_call c ∷ if_worked c.failed (begun_by calls
 abbrev pub HaveSynced : List GroupCall → ℕ → Type 0
 HaveSynced calls n = AllByRecursion (λ (c : GroupCall). c.failed ≡ None → c.sync ≡ true → ⊥) (drop n calls)
 
--- The disk's content is the text of all that was written, and perhaps a front of what was begun. The first records, so
+-- Of each of these calls that worked and was to sync, an image holds all up to the end of its record.
+abbrev pub HoldsSynced : ℕ → List GroupCall → List ℕ → Type 0
+HoldsSynced reached calls image = (k : ℕ) (c : GroupCall) → slice_get calls k ≡ Some c → c.failed ≡ None → c.sync ≡ true
+    → HoldsUpTo reached (text None (take (k + 1) (written_by calls))) image
+
+-- The disk's content is the text of all that was written, and perhaps a prefix of what was begun. The first records, so
 -- many, are safe, and those that were to be synced are among them.
 pub record HoldsCalls (d : Disk) (calls : List GroupCall) (safe : ℕ) : Type 0 where
   pub many : ℕ
@@ -61,7 +70,8 @@ pub record Stands {D : Type 0} {ghosts : Ghosts D} (calls : List GroupCall) (log
   pub len : len_of log ≡ length (text None (written_by calls))
   pub told : IfSome (ghosts.told (disk_of log)) (λ d. (safe : ℕ) × HoldsCalls d calls safe)
 
--- the fault came in one of the calls: the disk's count rose to it since then
+-- the fault came in one of the calls: the disk's count rose to it since then, and where there is none it stands
 pub record HasCauseSince {D : Type 0} {ghosts : Ghosts D} (disk : D) (log : LogWriter D ghosts) : Type 0 where
   pub later : ghosts.faults disk ≤ ghosts.faults (disk_of log)
   pub rose : IfSome (fault_of log) (λ count. Rose (ghosts.faults disk) count × (count ≤ ghosts.faults (disk_of log)))
+  pub no_fault : fault_of log ≡ None → ghosts.faults (disk_of log) ≡ ghosts.faults disk

@@ -1,6 +1,6 @@
 //! The bytes of a group's record, which stand apart in the members.
 
-ghost use Rattle.std.specs.Prelude.{◌≡◌, ◌+◌, ◌≤◌, ◌<◌, ◌^◌, ◌++◌, length, take, drop, vec_capacity};
+ghost use Rattle.std.specs.Prelude.{◌≡◌, ◌+◌, ◌≤◌, ◌<◌, ◌^◌, ◌++◌, length, take, drop};
 ghost use Rattle.wp_model.specs.Batch as model;
 ghost use Rattle.log_writer.specs.Groups.{counts_of, body_lens_of, bodies_of};
 
@@ -11,7 +11,7 @@ use write_batch::Batch;
 pub(crate) const BATCH_HEADER_LEN: usize = 12;
 
 /// The bytes of a group's record that are still to be written: the rest of its header or of a member, and the members
-/// behind. Contracts see the bytes.
+/// after it. Contracts see the bytes.
 #[derive(Drop)]
 pub(crate) struct GroupBytes<'a> {
     front: &'a [u8],
@@ -28,7 +28,7 @@ impl<'a> Model for GroupBytes<'a> {
 }
 
 impl<'a> GroupBytes<'a> {
-    /// This header, and the members' bytes behind their headers.
+    /// This header, and the members' bytes after their headers.
     pub(crate) fn new(header: &'a [u8], members: &'a [Batch]) -> GroupBytes<'a>
         ensures { result ≡ header.now ++ bodies_of members.now }
     {
@@ -38,18 +38,16 @@ impl<'a> GroupBytes<'a> {
         }
     }
 
-    /// Moves the first `len` bytes behind those of the block, which has room for them.
-    pub(crate) fn move_to(&mut self, block: &mut Vec<u8>, len: usize)
-        requires there { len ≤ length self.old }
-        requires room { length block.old.items + len ≤ vec_capacity block.old }
-        ensures moved { block.new.items ≡ block.old.items ++ take len self.old }
-        ensures rest { self.new ≡ drop len self.old }
-        ensures room { vec_capacity block.old ≤ vec_capacity block.new }
+    /// Moves the first bytes into `part`, as many as it has.
+    pub(crate) fn move_to(&mut self, part: &mut [u8])
+        requires there { length part.old ≤ length self.old }
+        ensures moved { part.new ≡ take (length part.old) self.old }
+        ensures rest { self.new ≡ drop (length part.old) self.old }
     {
-        let mut left = len;
-        while left > self.front.len() {
-            left -= self.front.len();
-            put_reserved(block, self.front);
+        let mut at = 0;
+        while part.len() - at > self.front.len() {
+            set_at(part, at, self.front);
+            at += self.front.len();
             let (member, behind) = match self.behind {
                 [member, behind @ ..] => (member, behind),
                 [] => unreachable!(),
@@ -57,13 +55,13 @@ impl<'a> GroupBytes<'a> {
             self.front = body_of(member);
             self.behind = behind;
         }
-        let (now, later) = self.front.split_at(left);
-        put_reserved(block, now);
+        let (now, later) = self.front.split_at(part.len() - at);
+        set_at(part, at, now);
         self.front = later;
     }
 }
 
-/// A member's bytes behind its header.
+/// A member's bytes after its header.
 fn body_of(member: &Batch) -> &[u8]
     ensures { result.now ≡ model.body member.now.records }
 {
@@ -78,7 +76,7 @@ pub(crate) fn count_of(members: &[Batch]) -> u32
     members.iter().map(|member| member.count()).sum()
 }
 
-/// The bytes of the members behind their headers.
+/// The bytes of the members after their headers.
 pub(crate) fn bodies_len(members: &[Batch]) -> usize
     requires { body_lens_of members.now < 2 ^ 63 }
     ensures { result ≡ body_lens_of members.now }
@@ -95,14 +93,11 @@ pub(crate) fn group_header(first: u64, count: u32) -> [u8; 12]
     [s0, s1, s2, s3, s4, s5, s6, s7, c0, c1, c2, c3]
 }
 
-/// Puts bytes behind the others, where there is room.
-pub(crate) fn put_reserved(bytes: &mut Vec<u8>, more: &[u8])
-    requires { length bytes.old.items + length more.now ≤ vec_capacity bytes.old }
-    ensures items { bytes.new.items ≡ bytes.old.items ++ more.now }
-    ensures room { vec_capacity bytes.old ≤ vec_capacity bytes.new }
+/// Writes bytes over those from the place `at` on.
+pub(crate) fn set_at(bytes: &mut [u8], at: usize, more: &[u8])
+    requires { at + length more.now ≤ length bytes.old }
+    ensures there { take (at + length more.now) bytes.new ≡ take at bytes.old ++ more.now }
+    ensures behind { drop (at + length more.now) bytes.new ≡ drop (at + length more.now) bytes.old }
 {
-    match bytes.extend_from_slice(more) {
-        Ok(()) => {}
-        Err(_) => unreachable!(),
-    }
+    bytes[at..at + more.len()].copy_from_slice(more);
 }

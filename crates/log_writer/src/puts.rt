@@ -1,11 +1,11 @@
 //! What is put at the end of a log's disk.
 
-ghost use Rattle.std.specs.Prelude.{◌≡◌, ◌+◌, ◌-◌, ◌^◌, ◌<◌, ◌≤◌, [], ◌++◌, length, take, drop, replicate, true, false, None, OnOk, IfOk, vec_capacity};
+ghost use Rattle.std.specs.Prelude.{◌≡◌, ◌+◌, ◌-◌, ◌^◌, ◌<◌, ◌≤◌, [], ◌++◌, length, take, drop, replicate, true, false, None, OnOk, IfOk};
 ghost use Rattle.wp_model.specs.Log as log;
 ghost use Rattle.log_writer.specs.Groups.{counts_of, body_lens_of, record_of_group};
 ghost use Rattle.log_writer.specs.Puts.{Puts};
 
-use crate::group_bytes::{GroupBytes, bodies_len, count_of, group_header, put_reserved};
+use crate::group_bytes::{GroupBytes, bodies_len, count_of, group_header, set_at};
 use log_block::{BLOCK_LEN, Fragmenter, HEADER_LEN, MAX_PART_LEN, Piece, header};
 use wp_edge::{Disk, Failed};
 use write_batch::Batch;
@@ -36,59 +36,41 @@ pub(crate) fn sync_if<D: Disk>(disk: &mut D, sync: bool) -> Result<(), Failed>
 }
 
 /// Puts a fragment together in the block: its header, and a part of so many bytes, which are moved out of the group's.
-fn fill(block: &mut Vec<u8>, rest: &mut GroupBytes<'_>, kind: u8, len: usize)
-    requires room { BLOCK_LEN ≤ vec_capacity block.old }
+fn fill(block: &mut [u8], rest: &mut GroupBytes<'_>, kind: u8, len: usize)
+    requires room { length block.old ≡ BLOCK_LEN }
     requires fits { len ≤ MAX_PART_LEN }
     requires there { len ≤ length rest.old }
-    ensures filled { let part = take len rest.old in block.new.items ≡ log.header None kind part ++ part }
+    ensures filled { let part = take len rest.old in
+        take (HEADER_LEN + len) block.new ≡ log.header None kind part ++ part }
     ensures rest { rest.new ≡ drop len rest.old }
-    ensures room { BLOCK_LEN ≤ vec_capacity block.new }
 {
-    block.clear();
-    put_reserved(block, &[0; HEADER_LEN]);
-    rest.move_to(block, len);
-    let header = header_of(block, kind);
-    set_front(block, &header);
-}
-
-/// The header of the fragment of which the part stands in the block behind the header's place.
-fn header_of(block: &[u8], kind: u8) -> [u8; 7]
-    requires there { HEADER_LEN ≤ length block.now }
-    requires fits { length block.now ≤ BLOCK_LEN }
-    ensures { result ≡ log.header None kind (drop HEADER_LEN block.now) }
-{
-    header(kind, &block[HEADER_LEN..])
-}
-
-/// Writes bytes over the first ones.
-fn set_front(bytes: &mut Vec<u8>, front: &[u8])
-    requires { length front.now ≤ length bytes.old.items }
-    ensures items { bytes.new.items ≡ front.now ++ drop (length front.now) bytes.old.items }
-    ensures room { vec_capacity bytes.old ≤ vec_capacity bytes.new }
-{
-    bytes[0..front.len()].copy_from_slice(front);
+    let end = HEADER_LEN + len;
+    rest.move_to(&mut block[HEADER_LEN..end]);
+    let header = header(kind, &block[HEADER_LEN..end]);
+    set_at(block, 0, &header);
 }
 
 /// Writes a piece of a record: the zeros before it, if there are any, and its fragment.
 fn put_piece<D: Disk>(
     disk: &mut D,
-    block: &mut Vec<u8>,
+    block: &mut [u8],
     rest: &mut GroupBytes<'_>,
     piece: Piece,
 ) -> Result<(), Failed>
-    requires room { BLOCK_LEN ≤ vec_capacity block.old }
+    requires room { length block.old ≡ BLOCK_LEN }
     requires zeros { piece.zeros ≤ 6 }
     requires ordered { piece.start ≤ piece.end }
     requires fits { piece.end - piece.start ≤ MAX_PART_LEN }
     requires there { piece.end - piece.start ≤ length rest.old }
     ensures put { let part = take (piece.end - piece.start) rest.old in
-        Puts ⟦<D as Disk>⟧ disk.old disk.new (replicate piece.zeros 0 ++ (log.header None piece.kind part ++ part)) false result }
+        let text = replicate piece.zeros 0 ++ (log.header None piece.kind part ++ part) in
+        Puts ⟦<D as Disk>⟧ disk.old disk.new text false result }
     ensures rest { OnOk result (rest.new ≡ drop (piece.end - piece.start) rest.old) }
-    ensures room { BLOCK_LEN ≤ vec_capacity block.new }
 {
     append_zeros(disk, piece.zeros)?;
-    fill(block, rest, piece.kind, piece.end - piece.start);
-    append(disk, block)
+    let len = piece.end - piece.start;
+    fill(block, rest, piece.kind, len);
+    append(disk, &block[..HEADER_LEN + len])
 }
 
 /// How many bytes a piece makes.
@@ -104,17 +86,16 @@ fn piece_len(piece: Piece) -> u64
 /// Writes a record of so many bytes where the log ends, at this offset, and answers where it ends then.
 fn put_record<D: Disk>(
     disk: &mut D,
-    block: &mut Vec<u8>,
+    block: &mut [u8],
     offset: u64,
     rest: &mut GroupBytes<'_>,
     len: usize,
 ) -> Result<u64, Failed>
-    requires room { BLOCK_LEN ≤ vec_capacity block.old }
+    requires room { length block.old ≡ BLOCK_LEN }
     requires counted { offset ≤ D.added disk.old }
     requires whole { len ≡ length rest.old }
     ensures put { Puts ⟦<D as Disk>⟧ disk.old disk.new (log.record_text None offset rest.old) false result }
     ensures end { IfOk result (λ end. end ≡ offset + length (log.record_text None offset rest.old)) }
-    ensures room { BLOCK_LEN ≤ vec_capacity block.new }
 {
     let mut end = offset;
     for piece in Fragmenter::new((offset % BLOCK_LEN as u64) as usize, len) {
@@ -124,23 +105,24 @@ fn put_record<D: Disk>(
     Ok(end)
 }
 
-/// Writes a group's record where the log ends, at this offset, and syncs it if that is asked. The answer is where the log
-/// ends then.
+/// Writes a group's record where the log ends, at this offset, and syncs it if that is asked. The answer is where the
+/// log ends then.
 pub(crate) fn put_group<D: Disk>(
     disk: &mut D,
-    block: &mut Vec<u8>,
+    block: &mut [u8],
     offset: u64,
     first: u64,
     members: &[Batch],
     sync: bool,
 ) -> Result<u64, Failed>
-    requires room { BLOCK_LEN ≤ vec_capacity block.old }
+    requires room { length block.old ≡ BLOCK_LEN }
     requires counted { offset ≤ D.added disk.old }
     requires counts { counts_of members.now < 2 ^ 32 }
     requires lens { body_lens_of members.now < 2 ^ 63 }
-    ensures put { Puts ⟦<D as Disk>⟧ disk.old disk.new (log.record_text None offset (record_of_group first members.now)) sync result }
-    ensures end { IfOk result (λ end. end ≡ offset + length (log.record_text None offset (record_of_group first members.now))) }
-    ensures room { BLOCK_LEN ≤ vec_capacity block.new }
+    ensures put { let text = log.record_text None offset (record_of_group first members.now) in
+        Puts ⟦<D as Disk>⟧ disk.old disk.new text sync result }
+    ensures end { let text = log.record_text None offset (record_of_group first members.now) in
+        IfOk result (λ end. end ≡ offset + length text) }
 {
     let header = group_header(first, count_of(members));
     let len = header.len() + bodies_len(members);

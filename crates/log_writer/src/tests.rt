@@ -127,7 +127,7 @@ fn ends_at_the_first_fault(rt: HostRuntime) -> Result<(), Fail> {
     Ok(())
 }
 
-// How many fragments are read from the front of a block.
+// How many fragments are read from the start of a block.
 fn fragments_in(block: &[u8]) -> usize
     requires { length block.now ≤ BLOCK_LEN }
 {

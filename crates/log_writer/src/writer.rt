@@ -1,6 +1,6 @@
 //! The log of groups.
 
-ghost use Rattle.std.specs.Prelude.{◌≡◌, ◌≤◌, length, vec_capacity, IfSome, None};
+ghost use Rattle.std.specs.Prelude.{◌≡◌, ◌≤◌, length, vec_len, IfOk, IfSome, None};
 ghost use Rattle.std.proofs.Props.{props};
 
 use crate::puts::put_group;
@@ -8,30 +8,29 @@ use crate::{Fault, OpenError};
 use log_block::BLOCK_LEN;
 use std::alloc::Global;
 use wp_edge::Disk;
+use wp_model::NoMemory;
 use write_batch::Batch;
 
 /// A log on a disk, to which groups of batches are written. Once a write has failed it takes no more.
 pub struct LogWriter<D: Disk> {
     disk: D,
-    /// Where a fragment is put together: it has room for a block.
+    /// Where a fragment is put together: as many bytes as a block has.
     block: Vec<u8>,
     /// The bytes of the groups that were written whole.
     len: u64,
     /// The count of the fault, where a write failed.
     fault: Option<u64>,
-    ghost room: { 32768 ≤ vec_capacity block },
+    ghost room: { vec_len block ≡ 32768 },
     ghost within: { len ≤ D.added disk },
     ghost told_len: { fault ≡ None → IfSome (D.told disk) (λ d. length d.content ≡ len) } by { Prim.hlevel props },
 }
 
 impl<D: Disk> LogWriter<D> {
-    ghost use Rattle.std.specs.Prelude.{ℕ, ◌+◌, ◌-◌, ◌^◌, ◌<◌, List, [], ◌∷◌, ◌++◌, IsTrue, IfOk, IfErr, OnOk};
-    ghost use Rattle.wp_edge.specs.Disk.{IsImage, LeavesOnly};
+    ghost use Rattle.std.specs.Prelude.{◌+◌, ◌-◌, ◌^◌, ◌<◌, IsTrue, IfErr, OnOk};
     ghost use Rattle.wp_model.specs.History.{max_sequence};
-    ghost use Rattle.wp_model.specs.Log.{text};
-    ghost use Rattle.log_writer.specs.Words.{disk_of, len_of, fault_of};
+    ghost use Rattle.log_writer.specs.Words.{disk_of, len_of, fault_of, room_of};
     ghost use Rattle.log_writer.specs.Groups.{counts_of, body_lens_of, record_of_group};
-    ghost use Rattle.log_writer.specs.Crashes.{HoldsRecords, KeepsPrefix};
+    ghost use Rattle.log_writer.specs.Crashes.{LeavesPrefix, IsDurable};
     ghost use Rattle.log_writer.specs.Adding.{Adds, call_of};
     ghost use Rattle.log_writer.specs.Opening.{HasOpened, IsOpenError};
 
@@ -50,7 +49,7 @@ impl<D: Disk> LogWriter<D> {
         if len > 0 {
             return Err((disk, OpenError::NotEmpty { len }));
         }
-        match Vec::with_capacity(alloc, BLOCK_LEN) {
+        match empty_block(alloc) {
             Ok(block) => Ok(LogWriter {
                 disk,
                 block,
@@ -61,24 +60,28 @@ impl<D: Disk> LogWriter<D> {
         }
     }
 
-    /// Writes a group of batches as one record, behind what the log has: a header of twelve bytes, which are the sequence
-    /// `first` and the sum of the members' counts, and then the members' bytes behind their headers. There is one append for
-    /// each block that the record touches, and one sync if that is asked. It takes no memory.
+    /// Writes a group of batches as one record, after what the log has: a header of twelve bytes, which are the
+    /// sequence `first` and the sum of the members' counts, and then the members' bytes after their headers. There is
+    /// one append for each block that the record touches, and one sync if that is asked. It takes no memory.
     ///
-    /// A fault of the disk ends the log: each later call is answered with the count that is kept then, and leaves the disk
-    /// alone, since nobody knows what stands behind the log's end.
+    /// A fault of the disk ends the log: each later call is answered with the count that is kept then, and leaves the
+    /// disk alone, since nobody knows what stands after the log's end. A write or a sync that failed is never tried
+    /// again.
+    ///
+    /// A crash at any moment of the call leaves a prefix of the records before and of this one, with all that was safe.
+    /// Once a call that syncs has returned, a crash leaves all of them.
     pub fn add_group(&mut self, first: u64, members: &[Batch], sync: bool) -> Result<(), Fault>
         requires some { 0 < length members.now }
         requires counts { counts_of members.now < 2 ^ 32 }
         requires run { first + counts_of members.now - 1 ≤ max_sequence }
         requires lens { body_lens_of members.now < 2 ^ 63 }
         ensures adds { Adds (call_of first members.now sync result) self.old self.new }
-        // A crash at any moment of the call leaves a prefix of the records before and of this one, with all that was safe.
-        ensures crash { IfSome (D.told (disk_of self.old)) (λ d. (records : List (List ℕ)) (safe : ℕ) → HoldsRecords d records safe
-            → LeavesOnly D.moment D.from D.since (disk_of self.old) (disk_of self.new) (KeepsPrefix (records ++ record_of_group first members.now ∷ []) safe)) }
-        // Once a call that syncs has returned, a crash leaves all of them.
-        ensures durable { OnOk result (IsTrue sync → IfSome (D.told (disk_of self.old)) (λ d. (records : List (List ℕ)) → d.content ≡ text None records
-            → IfSome (D.told (disk_of self.new)) (λ e. (image : List ℕ) → IsImage e image → KeepsPrefix (records ++ record_of_group first members.now ∷ []) (length records + 1) image))) }
+        ensures no_fault { OnOk result (D.faults (disk_of self.new) ≡ D.faults (disk_of self.old)) }
+        ensures room { room_of self.new ≡ room_of self.old }
+        ensures crash { let record_bytes = record_of_group first members.now in
+            LeavesPrefix ⟦<D as Disk>⟧ (disk_of self.old) (disk_of self.new) record_bytes }
+        ensures durable { let record_bytes = record_of_group first members.now in
+            OnOk result (IsTrue sync → IsDurable ⟦<D as Disk>⟧ (disk_of self.old) (disk_of self.new) record_bytes) }
     {
         if let Some(count) = self.fault {
             return Err(Fault { count });
@@ -129,4 +132,11 @@ impl<D: Disk> LogWriter<D> {
         } = self;
         disk
     }
+}
+
+/// As many bytes as a block has.
+fn empty_block(alloc: Global) -> Result<Vec<u8>, NoMemory>
+    ensures { IfOk result (λ block. vec_len block ≡ BLOCK_LEN) }
+{
+    Ok(vec![in alloc; 0u8; BLOCK_LEN]?)
 }

@@ -61,6 +61,8 @@ impl GroupParts<Nodes> for Parts {
 
     ghost parts = { λ p. group_of p.parts };
 
+    ghost room = { λ p. p.clients };
+
     fn len(&self) -> usize {
         self.len()
     }

@@ -13,7 +13,7 @@ mod rotations;
 mod tree;
 
 pub use node::{Node, Nodes};
-pub use parts::{Part, Parts};
+pub use parts::{MemberNodes, Parts};
 pub use tree::{Tree, orders_of_versions};
 
 #[cfg(test)]

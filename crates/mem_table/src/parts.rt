@@ -12,7 +12,7 @@ use wp_model::NoMemory;
 
 /// A member of a group, by its number, and its nodes.
 #[derive(Drop)]
-pub struct Part {
+pub struct MemberNodes {
     pub member: u32,
     pub nodes: Nodes,
 }
@@ -22,7 +22,7 @@ pub struct Part {
 #[derive(Drop)]
 pub struct Parts {
     clients: u32,
-    parts: Vec<Part>,
+    parts: Vec<MemberNodes>,
 }
 
 impl Model for Parts {
@@ -54,12 +54,12 @@ impl Parts {
     {
         match self.place_of(member) {
             Some(at) => self.parts[at].nodes.append(nodes),
-            None => self.parts.push(Part { member, nodes }).unwrap(),
+            None => self.parts.push(MemberNodes { member, nodes }).unwrap(),
         }
     }
 
     /// Takes the first part out.
-    pub fn pop(&mut self) -> Option<Part>
+    pub fn pop(&mut self) -> Option<MemberNodes>
         ensures parts { MatchOption result ((self.old.parts ≡ []) × (self.new.parts ≡ [])) (λ part. self.old.parts ≡ part ∷ self.new.parts) }
         ensures clients { self.new.clients ≡ self.old.clients }
     {

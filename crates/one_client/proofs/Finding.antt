@@ -1,20 +1,17 @@
 -- What an edit or a look-up at a key's place does to pairs in order.
-use Rattle.std.proofs.Common.{◌≡◌, ℕ, zero, suc, List, [], ◌∷◌, map, get_or, set, cond, Bool, true, false, Some, None, refl, sym, ◌∙◌, ap, arith}
+use Rattle.std.proofs.Common.{◌≡◌, ℕ, zero, suc, List, [], ◌∷◌, get_or, set, cond, Bool, true, false, Some, None, refl, sym, ◌∙◌, ap, arith}
 use Rattle.std.specs.List.{insert, remove, AllByRecursion}
 use Rattle.std.specs.List.Sorted.{IsStrictlySortedBy}
 use Rattle.std.specs.Map as spec
+use Rattle.std.specs.Map.{keys_of}
 use Rattle.std.specs.BTreeMap.{insert_entry, is_at}
 use Rattle.std.specs.Ordering.{match_ordering, ordering_reverse, is_eq}
 use Rattle.std.specs.declared.cmp.Ordering.{Ordering}
 use Rattle.std.specs.declared.cmp.Ordering.TheVariants.{Less, Equal, Greater}
-use Rattle.std.proofs.Math.ListN.{get_or-map}
-use Rattle.std.proofs.lemmas.List.{map-set}
 use Rattle.std.proofs.lemmas.Cmp.{nat_list_cmp_total}
 use Rattle.wp_model.specs.Map.{Pairs, byte_order, value_at}
-use Rattle.one_client.specs.declared.published.Pair.{Pair}
-use Rattle.one_client.specs.Keys.{keys_of, AreAscending}
+use Rattle.one_client.specs.Keys.{AreAscending}
 use Rattle.one_client.specs.Places.{IsFoundAt, IsGapAt}
-use Rattle.one_client.specs.Published.{pair_of}
 
 -- the same comparison from the other side
 flip : (a b : List ℕ) (o : Ordering) → byte_order a b ≡ o → byte_order b a ≡ ordering_reverse o
@@ -56,7 +53,7 @@ module _ (key : List ℕ) where
   insert_found (e ∷ m) (suc at) d v f = ap (λ x. e ∷ x) (insert_found m at d v (found_tail e m at f)) ∙ sym (insert_further e m v (f.before 0 d (omega arith)))
 
   -- a new pair in the gap
-  insert_missing : (m : Pairs) (at : ℕ) (v : List ℕ) → IsGapAt key m at → insert m at (key, v) ≡ insert_entry byte_order m key v
+  pub insert_missing : (m : Pairs) (at : ℕ) (v : List ℕ) → IsGapAt key m at → insert m at (key, v) ≡ insert_entry byte_order m key v
   insert_missing [] zero v g = refl
   insert_missing [] (suc at) v g = absurd (omega (arith, g.in_range))
   insert_missing (e ∷ m) zero v g = sym (ap (λ o. match_ordering o ((key, v) ∷ e ∷ m) ((e.0, v) ∷ m) (e ∷ insert_entry byte_order m key v)) (flip e.0 key Greater (g.after 0 e (omega arith) (omega arith))))
@@ -85,71 +82,44 @@ all_above a b below [] all = tt
 all_above a b below (k ∷ ks) all = (nat_list_cmp_total.trans a b k below all.0, all_above a b below ks all.1)
 
 -- what holds of all keys and of a new one
-all_keys-insert : (P : List ℕ → Type 0) (xs : List Pair) (at : ℕ) (p : Pair) → P p.key → AllByRecursion P (keys_of xs) → AllByRecursion P (keys_of (insert xs at p))
+all_keys-insert : (P : List ℕ → Type 0) (xs : Pairs) (at : ℕ) (p : List ℕ × List ℕ) → P p.0 → AllByRecursion P (keys_of xs) → AllByRecursion P (keys_of (insert xs at p))
 all_keys-insert P xs zero p this all = (this, all)
 all_keys-insert P [] (suc at) p this all = (this, tt)
 all_keys-insert P (x ∷ xs) (suc at) p this all = (all.0, all_keys-insert P xs at p this all.1)
 
 -- a new pair in the gap keeps the order
-ascending_missing : (xs : List Pair) (at : ℕ) (p : Pair) → AreAscending xs → IsGapAt p.key (map pair_of xs) at → AreAscending (insert xs at p)
+ascending_missing : (xs : Pairs) (at : ℕ) (p : List ℕ × List ℕ) → AreAscending xs → IsGapAt p.0 xs at → AreAscending (insert xs at p)
 unfolding IsStrictlySortedBy
 ascending_missing [] zero p ascending g = (tt, tt)
 ascending_missing [] (suc at) p ascending g = absurd (omega (arith, g.in_range))
 ascending_missing (x ∷ xs) zero p ascending g =
-    let below : byte_order p.key x.key ≡ Less = flip x.key p.key Greater (g.after 0 (pair_of x) (omega arith) (omega arith)) in
-    ((below, all_above p.key x.key below (keys_of xs) ascending.0), ascending)
+    let below : byte_order p.0 x.0 ≡ Less = flip x.0 p.0 Greater (g.after 0 x (omega arith) (omega arith)) in
+    ((below, all_above p.0 x.0 below (keys_of xs) ascending.0), ascending)
 ascending_missing (x ∷ xs) (suc at) p ascending g = (
-  all_keys-insert (λ k. byte_order x.key k ≡ Less) xs at p (g.before 0 (pair_of x) (omega arith)) ascending.0,
-  ascending_missing xs at p ascending.1 (gap_tail p.key (pair_of x) (map pair_of xs) at g),
+  all_keys-insert (λ k. byte_order x.0 k ≡ Less) xs at p (g.before 0 x (omega arith)) ascending.0,
+  ascending_missing xs at p ascending.1 (gap_tail p.0 x xs at g),
 )
 
 -- and so does one that may not have been taken
-pub ascending_tried : (taken : Bool) (xs : List Pair) (at : ℕ) (p : Pair) → AreAscending xs → IsGapAt p.key (map pair_of xs) at → AreAscending (cond taken (insert xs at p) xs)
+pub ascending_tried : (taken : Bool) (xs : Pairs) (at : ℕ) (p : List ℕ × List ℕ) → AreAscending xs → IsGapAt p.0 xs at → AreAscending (cond taken (insert xs at p) xs)
 ascending_tried true xs at p ascending g = ascending_missing xs at p ascending g
 ascending_tried false xs at p ascending g = ascending
 
 -- the pairs after a new value at the key's place
-pub pairs_found : (xs : List Pair) (at : ℕ) (old : Pair) (key v : List ℕ) → old ≡ get_or xs at old → IsFoundAt key (map pair_of xs) at → map pair_of (set xs at (record { key = old.key; value = v })) ≡ insert_entry byte_order (map pair_of xs) key v
-pairs_found xs at old key v is f =
-    let here : (get_or (map pair_of xs) at (pair_of old)).0 ≡ old.key = ap (λ p. p.0) (get_or-map pair_of xs at old) ∙ sym (ap (λ (p : Pair). p.key) is) in
-    map-set pair_of xs at _ ∙ ap (λ k. set (map pair_of xs) at (k, v)) (sym here) ∙ insert_found key (map pair_of xs) at (pair_of old) v f
-
--- a new pair, seen as key and value
-shown-insert : (xs : List Pair) (at : ℕ) (p : Pair) → map pair_of (insert xs at p) ≡ insert (map pair_of xs) at (pair_of p)
-shown-insert xs zero p = refl
-shown-insert [] (suc at) p = refl
-shown-insert (x ∷ xs) (suc at) p = ap (λ m. pair_of x ∷ m) (shown-insert xs at p)
-
--- and after a new pair
-pub pairs_missing : (xs : List Pair) (at : ℕ) (p : Pair) → IsGapAt p.key (map pair_of xs) at → map pair_of (insert xs at p) ≡ insert_entry byte_order (map pair_of xs) p.key p.value
-pairs_missing xs at p g = shown-insert xs at p ∙ insert_missing p.key (map pair_of xs) at p.value g
-
--- the keys of the pairs, seen as key and value
-pub same_keys : (xs : List Pair) → spec.keys_of (map pair_of xs) ≡ keys_of xs
-same_keys [] = refl
-same_keys (x ∷ xs) = ap (λ ks. x.key ∷ ks) (same_keys xs)
+pub pairs_found : (xs : Pairs) (at : ℕ) (old : List ℕ × List ℕ) (key v : List ℕ) → old ≡ get_or xs at old → IsFoundAt key xs at → set xs at (old.0, v) ≡ insert_entry byte_order xs key v
+pairs_found xs at old key v is f = ap (λ (p : List ℕ × List ℕ). set xs at (p.0, v)) is ∙ insert_found key xs at old v f
 
 -- what holds of all keys holds without one
-all_keys-remove : (P : List ℕ → Type 0) (xs : List Pair) (at : ℕ) → AllByRecursion P (keys_of xs) → AllByRecursion P (keys_of (remove xs at))
+all_keys-remove : (P : List ℕ → Type 0) (xs : Pairs) (at : ℕ) → AllByRecursion P (keys_of xs) → AllByRecursion P (keys_of (remove xs at))
 all_keys-remove P [] zero all = tt
 all_keys-remove P [] (suc at) all = tt
 all_keys-remove P (x ∷ xs) zero all = all.1
 all_keys-remove P (x ∷ xs) (suc at) all = (all.0, all_keys-remove P xs at all.1)
 
 -- and the order stays
-pub ascending_removed : (xs : List Pair) (at : ℕ) → AreAscending xs → AreAscending (remove xs at)
+pub ascending_removed : (xs : Pairs) (at : ℕ) → AreAscending xs → AreAscending (remove xs at)
 unfolding IsStrictlySortedBy
 ascending_removed [] zero ascending = tt
 ascending_removed [] (suc at) ascending = tt
 ascending_removed (x ∷ xs) zero ascending = ascending.1
-ascending_removed (x ∷ xs) (suc at) ascending = (all_keys-remove (λ k. byte_order x.key k ≡ Less) xs at ascending.0, ascending_removed xs at ascending.1)
-
-shown-remove : (xs : List Pair) (at : ℕ) → map pair_of (remove xs at) ≡ remove (map pair_of xs) at
-shown-remove [] zero = refl
-shown-remove [] (suc at) = refl
-shown-remove (x ∷ xs) zero = refl
-shown-remove (x ∷ xs) (suc at) = ap (λ m. pair_of x ∷ m) (shown-remove xs at)
-
--- the pairs without the key's
-pub pairs_removed : (key : List ℕ) (xs : List Pair) (at : ℕ) → IsFoundAt key (map pair_of xs) at → map pair_of (remove xs at) ≡ spec.remove_entry (is_at (byte_order key)) (map pair_of xs)
-pairs_removed key xs at f = shown-remove xs at ∙ remove_found key (map pair_of xs) at f
+ascending_removed (x ∷ xs) (suc at) ascending = (all_keys-remove (λ k. byte_order x.0 k ≡ Less) xs at ascending.0, ascending_removed xs at ascending.1)

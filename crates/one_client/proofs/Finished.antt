@@ -11,22 +11,22 @@ use Rattle.wp_model.specs.Progress.{early_refusal}
 use Rattle.wp_model.specs.Replies.{MayLackMemory}
 use Rattle.wp_model.specs.Runs.{whole, cut_off, commands_of}
 use Rattle.wp_model.specs.Calls as calls
-use Rattle.one_client.specs.declared.outcome.Reply.{Reply}
-use Rattle.one_client.specs.declared.outcome.Reply.TheVariants as reply
-use Rattle.one_client.specs.declared.options.RunOptions.{RunOptions}
+use Rattle.client_calls.specs.declared.reply.Reply.{Reply}
+use Rattle.client_calls.specs.declared.reply.Reply.TheVariants as reply
+use Rattle.client_calls.specs.declared.options.Options.{Options}
 use Rattle.one_client.specs.declared.write_path.WritePath.{WritePath}
-use Rattle.one_client.specs.Shows.{ShowsReply, ShowsEntry, lacks_memory}
+use Rattle.client_calls.specs.Shows.{ShowsReply, ShowsEntry, lacks_memory}
 use Rattle.log_writer.specs.declared.writer.LogWriter.{LogWriter}
 use Rattle.log_writer.specs.Words.{disk_of, fault_of}
 use Rattle.log_writer.specs.Written.{no_call}
-use Rattle.one_client.specs.Counts.{IsReached}
-use Rattle.one_client.specs.Crashes.{AreCalls}
+use Rattle.run_model.specs.Running.{IsReached}
+use Rattle.one_client.specs.GroupsOfOne.{AreCalls}
 use Rattle.one_client.specs.Commits as commits
-use Rattle.one_client.specs.Commits.{IsFresh, Refuses, Keeps, options_of}
-use Rattle.one_client.specs.Clients.{Answers, home_of, Ran}
-use Rattle.one_client.specs.Refusals.{is_for_itself}
+use Rattle.one_client.specs.Commits.{IsFresh, IsSetUp, Refuses, Keeps}
+use Rattle.one_client.specs.Clients.{Answers, settings_of, Ran}
+use Rattle.run_model.specs.Refusals.{is_for_itself}
 use Rattle.one_client.proofs.Histories.{all_more, zip_more}
-use Rattle.one_client.proofs.Going.{fates_of, place, tells_on_same, Going}
+use Rattle.one_client.proofs.Going.{statuses_of, place, tells_on_same, Going}
 use Rattle.one_client.proofs.Steps.{early_for_itself, log_kept, holds_kept}
 
 -- want of memory is none of the early checks' refusals
@@ -35,24 +35,24 @@ early_is_other limit records how e = let is : is_for_itself NoMemory ≡ true = 
 
 module _ {D : Type 0} {ghosts : Ghosts D} where
   -- before the first command
-  pub going_none : (path : WritePath D ghosts) (replies : List Reply) (pending : List Record) → IsFresh path → replies ≡ [] → pending ≡ [] → Going (options_of path) path path [] replies pending
-  going_none path replies pending is_fresh none_said none_added = rw (none_said, none_added) (record {
+  pub going_none : (options : Options) (path : WritePath D ghosts) (replies : List Reply) (pending : List Record) → IsSetUp options path → IsFresh path → replies ≡ [] → pending ≡ [] → Going options path path [] replies pending
+  going_none options path replies pending set_up is_fresh none_said none_added = rw (none_said, none_added) (record {
     entries = [];
-    handled = [];
-    least = 0;
+    attempts = [];
+    seen_up_to = 0;
     calls = [];
     holds = record {
       is_history = tt;
       ours = tt;
       small = tt;
-      last = refl;
+      last = set_up.last;
       pairs = is_fresh.pairs;
       shown = subst (λ l. AllZip ShowsEntry l []) (sym is_fresh.history) tt;
     };
-    limit = refl;
+    limit = set_up.limit;
     groups = [];
     wrote = no_call;
-    are_calls = subst (λ f. AreCalls [] [] path.last f []) (sym is_fresh.fault) refl;
+    are_calls = subst (λ f. AreCalls [] [] options.last f []) (sym is_fresh.fault) refl;
     run = λ opened. refl;
     commands = refl;
     shown = tt;
@@ -61,26 +61,26 @@ module _ {D : Type 0} {ghosts : Ghosts D} where
     fault = subst (λ f. IfSome f (λ count. IsReached (ghosts.faults (disk_of path.log)) count (ghosts.faults (disk_of path.log)))) (sym is_fresh.fault) tt;
     later = omega arith;
     tells_on = tells_on_same (ghosts.told (disk_of path.log));
-    taken = λ none. tt;
+    refusals = λ none. tt;
   })
 
-  module _ (options : RunOptions) (old path : WritePath D ghosts) (done : List calls.Command) (replies : List Reply) (pending : List Record) (going : Going options old path done replies pending) where
+  module _ (options : Options) (old path : WritePath D ghosts) (done : List calls.Command) (replies : List Reply) (pending : List Record) (going : Going options old path done replies pending) where
     -- all were answered
     pub ran_whole : Ran options old path done replies
     ran_whole = record {
       entries = going.entries;
       holds = going.holds;
       calls = going.calls;
-      end = place pending going.entries going.handled going.least;
+      end = place pending going.entries going.attempts going.seen_up_to;
       transcript = λ opened. whole (sym going.commands) (going.run opened);
       shown = going.shown;
       mine = refl;
       asked = refl;
-      fates = fates_of options.last going.entries (fault_of path.log) 0 going.handled going.fine;
+      statuses = statuses_of options.last going.entries (fault_of path.log) 0 going.attempts going.fine;
       groups = going.groups;
       wrote = going.wrote;
       are_calls = going.are_calls;
-      taken = going.taken;
+      refusals = going.refusals;
       fault = going.fault;
       later = going.later;
       tells_on = going.tells_on;
@@ -88,7 +88,7 @@ module _ {D : Type 0} {ghosts : Ghosts D} where
 
     -- one found no memory, and wrote nothing
     cut : (new : WritePath D ghosts) (c : calls.Command) (rest : List calls.Command) → Keeps path new → new.log ≡ path.log
-        → ((opened : ℕ) → MayLackMemory (home_of options opened) (place pending going.entries going.handled going.least) c) → Ran options old new (done ++ c ∷ rest) (replies ++ reply.NoMemory ∷ [])
+        → ((opened : ℕ) → MayLackMemory (settings_of options opened) (place pending going.entries going.attempts going.seen_up_to) c) → Ran options old new (done ++ c ∷ rest) (replies ++ reply.NoMemory ∷ [])
     cut new c rest keeps same may =
         let last : calls.Call = record { command = c; reply = calls.no_memory } in
         let commands : done ++ c ∷ rest ≡ commands_of (going.calls ++ last ∷ []) ++ rest =
@@ -100,16 +100,16 @@ module _ {D : Type 0} {ghosts : Ghosts D} where
           entries = going.entries;
           holds = holds_kept options old path done replies pending going new keeps;
           calls = going.calls ++ last ∷ [];
-          end = place pending going.entries going.handled going.least;
+          end = place pending going.entries going.attempts going.seen_up_to;
           transcript = λ opened. cut_off going.calls c rest refl commands (going.run opened) (may opened);
           shown = zip_more ShowsReply replies going.calls reply.NoMemory last going.shown refl;
           mine = refl;
           asked = refl;
-          fates = fates_of options.last going.entries (fault_of new.log) 0 going.handled log.fine;
+          statuses = statuses_of options.last going.entries (fault_of new.log) 0 going.attempts log.fine;
           groups = log.groups;
           wrote = log.wrote;
           are_calls = log.are_calls;
-          taken = λ none. all_more _ going.calls last (going.taken (ap (λ (l : LogWriter D ghosts). fault_of l) (sym same) ∙ none)) (λ why e. absurd (cc e));
+          refusals = λ none. all_more _ going.calls last (going.refusals (ap (λ (l : LogWriter D ghosts). fault_of l) (sym same) ∙ none)) (λ why e. absurd (cc e));
           fault = log.fault;
           later = log.later;
           tells_on = log.tells_on;

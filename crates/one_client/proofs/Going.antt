@@ -10,74 +10,74 @@ use Rattle.log_writer.specs.Written.{Wrote}
 use Rattle.wp_model.specs.History as history
 use Rattle.wp_model.specs.History.{IsBoundary, last_sequence}
 use Rattle.wp_model.specs.Batch.{Record}
-use Rattle.wp_model.specs.Handled.{Handling, Fate, taken, slowed, faulted, full, is_faulted, knows_dead}
-use Rattle.wp_model.specs.Groups.{IsFate, AreFates}
+use Rattle.wp_model.specs.Attempts.{Attempt, WriteStatus, succeeded, slowed, faulted, full, is_faulted, knows_dead}
+use Rattle.wp_model.specs.Groups.{IsStatus, AreStatuses}
 use Rattle.wp_model.specs.Progress.{Progress, fresh}
 use Rattle.wp_model.specs.Runs.{Run, commands_of}
 use Rattle.wp_model.specs.Calls.{Call, Command}
-use Rattle.one_client.specs.declared.options.RunOptions.{RunOptions}
-use Rattle.one_client.specs.declared.outcome.Reply.{Reply}
+use Rattle.client_calls.specs.declared.options.Options.{Options}
+use Rattle.client_calls.specs.declared.reply.Reply.{Reply}
 use Rattle.one_client.specs.declared.write_path.WritePath.{WritePath}
-use Rattle.one_client.specs.Shows.{ShowsReply}
-use Rattle.one_client.specs.Counts.{IsReached}
-use Rattle.one_client.specs.Crashes.{AreCalls}
-use Rattle.one_client.specs.Clients.{Holds, home_of, story_of, TellsOn}
-use Rattle.one_client.specs.Refusals.{AreRefusedForThemselves}
+use Rattle.client_calls.specs.Shows.{ShowsReply}
+use Rattle.run_model.specs.Running.{IsReached}
+use Rattle.one_client.specs.GroupsOfOne.{AreCalls}
+use Rattle.one_client.specs.Clients.{Holds, settings_of, trace_of, TellsOn}
+use Rattle.run_model.specs.Refusals.{AreRefusedForThemselves}
 use Rattle.one_client.proofs.Histories.{boundary_more}
 
 -- Fates
 
 -- what became of a commit is that of this history and this fault
-abbrev pub IsFineFate : ℕ → List history.Entry → Option ℕ → Fate → Type 0
-IsFineFate start entries fault taken = ⊤
-IsFineFate start entries fault (slowed place) = ⊥
-IsFineFate start entries fault (faulted count) = fault ≡ Some count
-IsFineFate start entries fault (full last) = IsBoundary start entries last
+abbrev pub IsFineStatus : ℕ → List history.Entry → Option ℕ → WriteStatus → Type 0
+IsFineStatus start entries fault succeeded = ⊤
+IsFineStatus start entries fault (slowed place) = ⊥
+IsFineStatus start entries fault (faulted count) = fault ≡ Some count
+IsFineStatus start entries fault (full last) = IsBoundary start entries last
 
-abbrev pub AreFine : ℕ → List history.Entry → Option ℕ → List Handling → Type 0
-AreFine start entries fault handled = AllByRecursion (λ (h : Handling). IsFineFate start entries fault h.fate) handled
+abbrev pub AreFine : ℕ → List history.Entry → Option ℕ → List Attempt → Type 0
+AreFine start entries fault attempts = AllByRecursion (λ (h : Attempt). IsFineStatus start entries fault h.status) attempts
 
-fate_longer : (start : ℕ) (entries : List history.Entry) (e : history.Entry) (fault : Option ℕ) (fate : Fate) → IsFineFate start entries fault fate → IsFineFate start (entries ++ e ∷ []) fault fate
-fate_longer start entries e fault taken fine = fine
-fate_longer start entries e fault (slowed place) fine = fine
-fate_longer start entries e fault (faulted count) fine = fine
-fate_longer start entries e fault (full last) fine = boundary_more start entries e last fine
+status_longer : (start : ℕ) (entries : List history.Entry) (e : history.Entry) (fault : Option ℕ) (status : WriteStatus) → IsFineStatus start entries fault status → IsFineStatus start (entries ++ e ∷ []) fault status
+status_longer start entries e fault succeeded fine = fine
+status_longer start entries e fault (slowed place) fine = fine
+status_longer start entries e fault (faulted count) fine = fine
+status_longer start entries e fault (full last) fine = boundary_more start entries e last fine
 
 -- with one entry more
-pub fine_longer : (start : ℕ) (entries : List history.Entry) (e : history.Entry) (fault : Option ℕ) (handled : List Handling) → AreFine start entries fault handled → AreFine start (entries ++ e ∷ []) fault handled
+pub fine_longer : (start : ℕ) (entries : List history.Entry) (e : history.Entry) (fault : Option ℕ) (attempts : List Attempt) → AreFine start entries fault attempts → AreFine start (entries ++ e ∷ []) fault attempts
 fine_longer start entries e fault [] fine = tt
-fine_longer start entries e fault (h ∷ handled) fine = (fate_longer start entries e fault h.fate fine.0, fine_longer start entries e fault handled fine.1)
+fine_longer start entries e fault (h ∷ attempts) fine = (status_longer start entries e fault h.status fine.0, fine_longer start entries e fault attempts fine.1)
 
-fate_of_fault : (start : ℕ) (entries : List history.Entry) (fault : Option ℕ) (fate : Fate) → IsFineFate start entries None fate → IsFineFate start entries fault fate
-fate_of_fault start entries fault taken fine = fine
-fate_of_fault start entries fault (slowed place) fine = fine
-fate_of_fault start entries fault (faulted count) fine = absurd (cc fine)
-fate_of_fault start entries fault (full last) fine = fine
+status_of_fault : (start : ℕ) (entries : List history.Entry) (fault : Option ℕ) (status : WriteStatus) → IsFineStatus start entries None status → IsFineStatus start entries fault status
+status_of_fault start entries fault succeeded fine = fine
+status_of_fault start entries fault (slowed place) fine = fine
+status_of_fault start entries fault (faulted count) fine = absurd (cc fine)
+status_of_fault start entries fault (full last) fine = fine
 
 -- before a fault nothing came to one
-pub fine_of_fault : (start : ℕ) (entries : List history.Entry) (fault : Option ℕ) (handled : List Handling) → AreFine start entries None handled → AreFine start entries fault handled
+pub fine_of_fault : (start : ℕ) (entries : List history.Entry) (fault : Option ℕ) (attempts : List Attempt) → AreFine start entries None attempts → AreFine start entries fault attempts
 fine_of_fault start entries fault [] fine = tt
-fine_of_fault start entries fault (h ∷ handled) fine = (fate_of_fault start entries fault h.fate fine.0, fine_of_fault start entries fault handled fine.1)
+fine_of_fault start entries fault (h ∷ attempts) fine = (status_of_fault start entries fault h.status fine.0, fine_of_fault start entries fault attempts fine.1)
 
-not_faulted : (start : ℕ) (entries : List history.Entry) (fate : Fate) → IsFineFate start entries None fate → is_faulted fate ≡ false
-not_faulted start entries taken fine = refl
+not_faulted : (start : ℕ) (entries : List history.Entry) (status : WriteStatus) → IsFineStatus start entries None status → is_faulted status ≡ false
+not_faulted start entries succeeded fine = refl
 not_faulted start entries (slowed place) fine = refl
 not_faulted start entries (faulted count) fine = absurd (cc fine)
 not_faulted start entries (full last) fine = refl
 
-pub none_dead : (start : ℕ) (entries : List history.Entry) (handled : List Handling) → AreFine start entries None handled → knows_dead handled ≡ false
+pub none_dead : (start : ℕ) (entries : List history.Entry) (attempts : List Attempt) → AreFine start entries None attempts → knows_dead attempts ≡ false
 none_dead start entries [] fine = refl
-none_dead start entries (h ∷ handled) fine = rw (not_faulted start entries h.fate fine.0) (none_dead start entries handled fine.1)
+none_dead start entries (h ∷ attempts) fine = rw (not_faulted start entries h.status fine.0) (none_dead start entries attempts fine.1)
 
-pub fate_of : (start : ℕ) (entries : List history.Entry) (fault : Option ℕ) (call : ℕ) (fate : Fate) → IsFineFate start entries fault fate → IsFate (story_of start entries) [] fault 1 call fate
-fate_of start entries fault call taken fine = tt
-fate_of start entries fault call (slowed place) fine = absurd fine
-fate_of start entries fault call (faulted count) fine = fine
-fate_of start entries fault call (full last) fine = fine
+pub status_of : (start : ℕ) (entries : List history.Entry) (fault : Option ℕ) (call : ℕ) (status : WriteStatus) → IsFineStatus start entries fault status → IsStatus (trace_of start entries) [] fault 1 call status
+status_of start entries fault call succeeded fine = tt
+status_of start entries fault call (slowed place) fine = absurd fine
+status_of start entries fault call (faulted count) fine = fine
+status_of start entries fault call (full last) fine = fine
 
-pub fates_of : (start : ℕ) (entries : List history.Entry) (fault : Option ℕ) (call : ℕ) (handled : List Handling) → AreFine start entries fault handled → AreFates (story_of start entries) [] fault 1 call handled
-fates_of start entries fault call [] fine = tt
-fates_of start entries fault call (h ∷ handled) fine = (fate_of start entries fault call h.fate fine.0, fates_of start entries fault (call + 1) handled fine.1)
+pub statuses_of : (start : ℕ) (entries : List history.Entry) (fault : Option ℕ) (call : ℕ) (attempts : List Attempt) → AreFine start entries fault attempts → AreStatuses (trace_of start entries) [] fault 1 call attempts
+statuses_of start entries fault call [] fine = tt
+statuses_of start entries fault call (h ∷ attempts) fine = (status_of start entries fault call h.status fine.0, statuses_of start entries fault (call + 1) attempts fine.1)
 
 -- What is told
 
@@ -102,26 +102,26 @@ tells_on_any R (Some x) (Some y) told = tt
 -- On the way
 
 -- where a client stands that was never told of a controller
-abbrev pub place : List Record → List history.Entry → List Handling → ℕ → Progress
-place pending mine handled least = record { pending = pending; mine = mine; asked = []; handled = handled; least = least; known = 0 }
+abbrev pub place : List Record → List history.Entry → List Attempt → ℕ → Progress
+place pending mine attempts seen_up_to = record { pending = pending; mine = mine; asked = []; attempts = attempts; seen_up_to = seen_up_to; known = 0 }
 
 -- these commands were answered so, and brought it here
-pub record Going {D : Type 0} {ghosts : Ghosts D} (options : RunOptions) (old path : WritePath D ghosts) (done : List Command) (replies : List Reply) (pending : List Record) : Type 0 where
+pub record Going {D : Type 0} {ghosts : Ghosts D} (options : Options) (old path : WritePath D ghosts) (done : List Command) (replies : List Reply) (pending : List Record) : Type 0 where
   pub entries : List history.Entry
-  pub handled : List Handling
-  pub least : ℕ
+  pub attempts : List Attempt
+  pub seen_up_to : ℕ
   pub calls : List Call
   pub holds : Holds options.last path entries
   pub limit : path.batch_bytes ≡ options.batch_bytes
   pub groups : List GroupCall
   pub wrote : Wrote old.log groups path.log
-  pub are_calls : AreCalls entries handled (last_sequence options.last entries) (fault_of path.log) groups
-  pub run : (opened : ℕ) → Run (home_of options opened) (story_of options.last entries) 1 fresh calls (place pending entries handled least)
+  pub are_calls : AreCalls entries attempts (last_sequence options.last entries) (fault_of path.log) groups
+  pub run : (opened : ℕ) → Run (settings_of options opened) (trace_of options.last entries) 1 fresh calls (place pending entries attempts seen_up_to)
   pub commands : commands_of calls ≡ done
   pub shown : AllZip ShowsReply replies calls
-  pub below : least ≤ last_sequence options.last entries
-  pub fine : AreFine options.last entries (fault_of path.log) handled
+  pub below : seen_up_to ≤ last_sequence options.last entries
+  pub fine : AreFine options.last entries (fault_of path.log) attempts
   pub fault : IfSome (fault_of path.log) (λ count. IsReached (ghosts.faults (disk_of old.log)) count (ghosts.faults (disk_of path.log)))
   pub later : ghosts.faults (disk_of old.log) ≤ ghosts.faults (disk_of path.log)
   pub tells_on : TellsOn (ghosts.told (disk_of old.log)) (ghosts.told (disk_of path.log))
-  pub taken : fault_of path.log ≡ None → AreRefusedForThemselves calls
+  pub refusals : fault_of path.log ≡ None → AreRefusedForThemselves calls

@@ -7,14 +7,15 @@ use Rattle.wp_model.specs.declared.write.WriteOptions.{WriteOptions}
 use Rattle.wp_model.specs.declared.history.Flag.TheVariants as flag
 use Rattle.wp_model.specs.Batch.{Record, count_of}
 use Rattle.wp_model.specs.History.{Entry, is_logged, logged, flag_of, max_sequence}
-use Rattle.wp_model.specs.Handled.{Handling, faulted}
+use Rattle.wp_model.specs.Attempts.{Attempt, faulted}
 use Rattle.log_writer.specs.declared.writer.LogWriter.{LogWriter}
 use Rattle.log_writer.specs.Words.{disk_of, fault_of}
 use Rattle.log_writer.specs.Adding.{GroupCall, Adds}
 use Rattle.log_writer.specs.Written.{Wrote, one_more}
-use Rattle.one_client.specs.Counts.{IsReached}
+use Rattle.run_model.specs.Running.{IsReached}
 use Rattle.one_client.specs.Commits.{call_of_batch, Logs}
-use Rattle.one_client.specs.Crashes.{HasFaulted, is_sync, call_of_entry, calls_of, AreCalls}
+use Rattle.run_model.specs.Crashes.{is_sync}
+use Rattle.one_client.specs.GroupsOfOne.{IsLostCall, call_of_entry, calls_of, AreCalls}
 use Rattle.one_client.specs.Clients.{TellsOn}
 use Rattle.one_client.proofs.Going.{tells_on_same, tells_on_any}
 
@@ -45,21 +46,23 @@ sync_is how is = ap (λ b. is_sync (cond b flag.NoLog (cond how.sync flag.Sync f
     by_sync false = refl
 
 -- with one commit more it was among them before
-faulted_longer : (commits : List Handling) (h : Handling) (count last : ℕ) (x : List ℕ) → HasFaulted commits count last x → HasFaulted (commits ++ h ∷ []) count last x
-faulted_longer commits h count last x has = record {
-  before = has.before;
-  commit = has.commit;
-  after = has.after ++ h ∷ [];
-  there = ap (λ (l : List Handling). l ++ h ∷ []) has.there ∙ append_assoc has.before (has.commit ∷ has.after) (h ∷ []);
-  fate = has.fate;
-  to_log = has.to_log;
-  fits = has.fits;
-  same = has.same;
+lost_longer : (commits : List Attempt) (h : Attempt) (count last : ℕ) (c : GroupCall) → IsLostCall commits count last c → IsLostCall (commits ++ h ∷ []) count last c
+lost_longer commits h count last c lost = record {
+  before = lost.before;
+  commit = lost.commit;
+  after = lost.after ++ h ∷ [];
+  there = ap (λ (l : List Attempt). l ++ h ∷ []) lost.there ∙ append_assoc lost.before (lost.commit ∷ lost.after) (h ∷ []);
+  status = lost.status;
+  to_log = lost.to_log;
+  fits = lost.fits;
+  first = lost.first;
+  batches = lost.batches;
+  failed = lost.failed;
 }
 
-pub calls_longer : (entries : List Entry) (commits : List Handling) (h : Handling) (last : ℕ) (fault : Option ℕ) (calls : List GroupCall) → AreCalls entries commits last fault calls → AreCalls entries (commits ++ h ∷ []) last fault calls
+pub calls_longer : (entries : List Entry) (commits : List Attempt) (h : Attempt) (last : ℕ) (fault : Option ℕ) (calls : List GroupCall) → AreCalls entries commits last fault calls → AreCalls entries (commits ++ h ∷ []) last fault calls
 calls_longer entries commits h last None calls are = are
-calls_longer entries commits h last (Some count) calls are = (are.0, record { failed = are.1.failed; has_faulted = faulted_longer commits h count last _ are.1.has_faulted }, are.2)
+calls_longer entries commits h last (Some count) calls are = (are.0, lost_longer commits h count last are.0 are.1, are.2)
 
 module _ {D : Type 0} {ghosts : Ghosts D} (old now new : LogWriter D ghosts) (called : List GroupCall) (written : Wrote old called now) (living : fault_of now ≡ None) where
   -- An accepted batch: the log lives, and its calls are those of the longer history.
@@ -94,7 +97,7 @@ module _ {D : Type 0} {ghosts : Ghosts D} (old now new : LogWriter D ghosts) (ca
           }
 
   -- A write that failed: the log has its fault, and its last call is that of the commit that was answered so.
-  pub record Dies (entries : List Entry) (commits : List Handling) (last count : ℕ) : Type 0 where
+  pub record Dies (entries : List Entry) (commits : List Attempt) (last count : ℕ) : Type 0 where
     pub calls : List GroupCall
     pub wrote : Wrote old calls new
     pub are : AreCalls entries commits last (Some count) calls
@@ -102,8 +105,8 @@ module _ {D : Type 0} {ghosts : Ghosts D} (old now new : LogWriter D ghosts) (ca
     pub reached : IsReached (ghosts.faults (disk_of now)) count (ghosts.faults (disk_of new))
     pub tells_on : TellsOn (ghosts.told (disk_of now)) (ghosts.told (disk_of new))
 
-  pub dies : (entries : List Entry) (commits : List Handling) (last count : ℕ) (records : List Record) (how : WriteOptions) → called ≡ calls_of entries → how.no_log ≡ false → last + count_of records ≤ max_sequence
-      → Adds (call_of_batch (last + 1) records how (Some count)) now new → Dies entries (commits ++ record { records = records; options = how; fate = faulted count } ∷ []) last count
+  pub dies : (entries : List Entry) (commits : List Attempt) (last count : ℕ) (records : List Record) (how : WriteOptions) → called ≡ calls_of entries → how.no_log ≡ false → last + count_of records ≤ max_sequence
+      → Adds (call_of_batch (last + 1) records how (Some count)) now new → Dies entries (commits ++ record { records = records; options = how; status = faulted count } ∷ []) last count
   dies entries commits last count records how are to_log fits adds =
       let c : GroupCall = call_of_batch (last + 1) records how (Some count) in
       let is = (adds.kept living).count_is in
@@ -114,17 +117,16 @@ module _ {D : Type 0} {ghosts : Ghosts D} (old now new : LogWriter D ghosts) (ca
         are = (
           c,
           record {
+            before = commits;
+            commit = record { records = records; options = how; status = faulted count };
+            after = [];
+            there = refl;
+            status = refl;
+            to_log = to_log;
+            fits = fits;
+            first = refl;
+            batches = refl;
             failed = refl;
-            has_faulted = record {
-              before = commits;
-              commit = record { records = records; options = how; fate = faulted count };
-              after = [];
-              there = refl;
-              fate = refl;
-              to_log = to_log;
-              fits = fits;
-              same = refl;
-            };
           },
           ap (λ (l : List GroupCall). l ++ c ∷ []) are,
         );

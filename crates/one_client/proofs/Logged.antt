@@ -9,7 +9,7 @@ use Rattle.wp_model.specs.History.{Entry, last_of, Follows, IsHistory, is_logged
 use Rattle.wp_model.specs.LogContents.{record_of_entries, records_of}
 use Rattle.wp_model.specs.Recovery.{Logged, logged_bytes, last_after, AreInOrder}
 use Rattle.log_writer.specs.Crashes.{AreRisingBatches}
-use Rattle.one_client.specs.Crashes.{alone, groups_of}
+use Rattle.one_client.specs.GroupsOfOne.{alone, groups_of}
 
 -- A small batch is read
 

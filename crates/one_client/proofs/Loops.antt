@@ -1,11 +1,18 @@
 -- The element that a loop over a list has come to.
-use Rattle.std.proofs.Common.{◌≡◌, ℕ, suc, ◌+◌, ◌<◌, List, [], ◌∷◌, ◌++◌, length, map, take, drop, get_or, ap, sym, ◌∙◌, arith}
+use Rattle.std.specs.List.{AllByRecursion}
+use Rattle.std.proofs.Common.{◌≡◌, ℕ, zero, suc, subst, ◌+◌, ◌<◌, List, [], ◌∷◌, ◌++◌, length, map, take, drop, get_or, ap, sym, ◌∙◌, arith}
 use Rattle.std.proofs.lemmas.List.{take_more, take-append-drop, map-append}
 use Rattle.std.proofs.Math.Seq.{drop-cons}
 
--- it is the next one behind those before
+-- it is the next one after those before
 pub item_more : {A : Type 0} (xs : List A) (i : ℕ) (x : A) → i < length xs → x ≡ get_or xs i x → take (i + 1) xs ≡ take i xs ++ x ∷ []
 item_more xs i x here is = take_more xs i x here ∙ ap (λ y. take i xs ++ y ∷ []) (sym is)
+
+-- what holds of each holds of it
+pub all_at : {A : Type 0} (P : A → Type 0) (xs : List A) (i : ℕ) (x : A) → AllByRecursion P xs → i < length xs → x ≡ get_or xs i x → P x
+all_at P [] i x all here is = absurd (omega (arith, here))
+all_at P (y ∷ xs) zero x all here is = subst P (sym is) all.0
+all_at P (y ∷ xs) (suc i) x all here is = all_at P xs i x all.1 (omega (arith, here)) is
 
 -- where each is seen by a function
 module _ {A B : Type 0} (f : A → B) (xs : List A) (i : ℕ) (x : A) (here : i < length xs) (is : x ≡ get_or xs i x) where

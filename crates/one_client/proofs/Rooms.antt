@@ -5,10 +5,10 @@ use Rattle.wp_model.specs.Batch.{Record, count_of, record_bytes, header, body, b
 use Rattle.wp_model.specs.Calls as calls
 use Rattle.client_script.specs.Scripts.{additions_of}
 use Rattle.wp_edge.specs.declared.disk.Disk.{Ghosts}
-use Rattle.one_client.specs.declared.outcome.Reply.{Reply}
-use Rattle.one_client.specs.declared.outcome.Reply.TheVariants as reply
+use Rattle.client_calls.specs.declared.reply.Reply.{Reply}
+use Rattle.client_calls.specs.declared.reply.Reply.TheVariants as reply
 use Rattle.one_client.specs.declared.write_path.WritePath.{WritePath}
-use Rattle.one_client.specs.Shows.{lacks_memory}
+use Rattle.client_calls.specs.Shows.{lacks_memory}
 use Rattle.one_client.specs.Clients.{HasRoom, Answers}
 
 -- the length of a batch doesn't hang on its sequence

@@ -10,31 +10,31 @@ use Rattle.wp_model.specs.Batch.{Record, count_of, size_of_batch}
 use Rattle.wp_model.specs.Map.{after_records, value_at}
 use Rattle.wp_model.specs.History as history
 use Rattle.wp_model.specs.History.{last_sequence, last_of, map_of, max_sequence}
-use Rattle.wp_model.specs.Story.{Begins}
-use Rattle.wp_model.specs.Handled.{Handling, Fate, taken, faulted, full}
+use Rattle.wp_model.specs.Trace.{Begins}
+use Rattle.wp_model.specs.Attempts.{Attempt, WriteStatus, succeeded, faulted, full}
 use Rattle.wp_model.specs.Progress.{Progress, fresh, early_refusal, next_entry}
-use Rattle.wp_model.specs.Replies.{Replies, IsHandled, Stays, MayRefuse}
+use Rattle.wp_model.specs.Replies.{Replies, IsAttempted, Stays, MayRefuse}
 use Rattle.wp_model.specs.Runs.{Step, commands_of}
 use Rattle.wp_model.specs.Calls as calls
 use Rattle.wp_model.proofs.Prefixes.{prefix_self}
 use Rattle.wp_model.proofs.Runs.{run_in, run_more}
-use Rattle.one_client.specs.declared.options.RunOptions.{RunOptions}
-use Rattle.one_client.specs.declared.outcome.Reply.{Reply}
-use Rattle.one_client.specs.declared.outcome.Reply.TheVariants as reply
+use Rattle.client_calls.specs.declared.options.Options.{Options}
+use Rattle.client_calls.specs.declared.reply.Reply.{Reply}
+use Rattle.client_calls.specs.declared.reply.Reply.TheVariants as reply
 use Rattle.one_client.specs.declared.write_path.WritePath.{WritePath}
-use Rattle.one_client.specs.declared.write_path.Run.{Run}
+use Rattle.client_calls.specs.declared.run.Run.{Run}
 use Rattle.one_client.specs.Published.{pairs_of}
-use Rattle.one_client.specs.Shows.{ShowsReply, ShowsEntry, lacks_memory}
+use Rattle.client_calls.specs.Shows.{ShowsReply, ShowsEntry, lacks_memory}
 use Rattle.log_writer.specs.declared.writer.LogWriter.{LogWriter}
 use Rattle.log_writer.specs.Words.{disk_of, fault_of}
 use Rattle.log_writer.specs.Adding.{GroupCall}
 use Rattle.log_writer.specs.Written.{Wrote}
-use Rattle.one_client.specs.Counts.{IsReached}
-use Rattle.one_client.specs.Crashes.{calls_of, AreCalls}
+use Rattle.run_model.specs.Running.{IsReached}
+use Rattle.one_client.specs.GroupsOfOne.{calls_of, AreCalls}
 use Rattle.one_client.specs.Commits as commits
 use Rattle.one_client.specs.Commits.{Accepts, Refuses, Keeps}
-use Rattle.one_client.specs.Clients.{Holds, home_of, story_of, TellsOn, Answers}
-use Rattle.one_client.specs.Refusals.{is_for_itself, RefusesForItself}
+use Rattle.one_client.specs.Clients.{Holds, settings_of, trace_of, TellsOn, Answers}
+use Rattle.run_model.specs.Refusals.{is_for_itself, RefusesForItself}
 use Rattle.one_client.proofs.Histories.{all_more, zip_more, zip_length, last_more, history_more, map_more, prefix_more, boundary_last, all_below}
 use Rattle.one_client.proofs.LogCalls.{calls_longer, Lives, lives, Dies, dies}
 use Rattle.one_client.proofs.Going.{AreFine, fine_longer, fine_of_fault, none_dead, place, tells_on_more, Going}
@@ -44,12 +44,12 @@ use Rattle.one_client.proofs.Going.{AreFine, fine_longer, fine_of_fault, none_de
 abbrev call : calls.Command → calls.Reply → calls.Call
 call c r = record { command = c; reply = r }
 
-step : (options : RunOptions) (opened : ℕ) (entries : List history.Entry) (p : Progress) (c : calls.Command) (r : calls.Reply) (q : Progress) → p.known ≡ 0 → q.known ≡ 0
-    → Replies (home_of options opened) (story_of options.last entries) 1 p c r q → Step (home_of options opened) (story_of options.last entries) 1 p c r q
+step : (options : Options) (opened : ℕ) (entries : List history.Entry) (p : Progress) (c : calls.Command) (r : calls.Reply) (q : Progress) → p.known ≡ 0 → q.known ≡ 0
+    → Replies (settings_of options opened) (trace_of options.last entries) 1 p c r q → Step (settings_of options opened) (trace_of options.last entries) 1 p c r q
 step options opened entries p c r q a b replies = record { replies = replies; rises = omega (arith, a, b); within = omega (arith, b) }
 
-longer : (start : ℕ) (entries : List history.Entry) (e : history.Entry) → Begins (story_of start entries) (story_of start (entries ++ e ∷ []))
-longer start entries e = record { start = refl; entries = prefix_more entries e; turns = prefix_self [] }
+longer : (start : ℕ) (entries : List history.Entry) (e : history.Entry) → Begins (trace_of start entries) (trace_of start (entries ++ e ∷ []))
+longer start entries e = record { start = refl; entries = prefix_more entries e; controller_calls = prefix_self [] }
 
 commands_more : (cs : List calls.Call) (c : calls.Call) → commands_of (cs ++ c ∷ []) ≡ commands_of cs ++ c.command ∷ []
 commands_more cs c = map-append (λ (x : calls.Call). x.command) cs (c ∷ [])
@@ -75,33 +75,33 @@ early_for_itself limit records how why e = by_tests (count_of records == 0) (nat
 said_for_itself : (why : Refusal) → is_for_itself why ≡ true → RefusesForItself (calls.refused why)
 said_for_itself why is w said = let same : why ≡ w = cc said in subst (λ x. is_for_itself x ≡ true) same is
 
-module _ {D : Type 0} {ghosts : Ghosts D} (options : RunOptions) (old path : WritePath D ghosts) (done : List calls.Command) (replies : List Reply) (before : List Record) (going : Going options old path done replies before) where
+module _ {D : Type 0} {ghosts : Ghosts D} (options : Options) (old path : WritePath D ghosts) (done : List calls.Command) (replies : List Reply) (before : List Record) (going : Going options old path done replies before) where
   -- all that is known of the log's calls
-  pub record Log (handled : List Handling) (log : LogWriter D ghosts) : Type 0 where
+  pub record Log (attempts : List Attempt) (log : LogWriter D ghosts) : Type 0 where
     pub groups : List GroupCall
     pub wrote : Wrote old.log groups log
-    pub are_calls : AreCalls going.entries handled (last_sequence options.last going.entries) (fault_of log) groups
-    pub fine : AreFine options.last going.entries (fault_of log) handled
+    pub are_calls : AreCalls going.entries attempts (last_sequence options.last going.entries) (fault_of log) groups
+    pub fine : AreFine options.last going.entries (fault_of log) attempts
     pub fault : IfSome (fault_of log) (λ count. IsReached (ghosts.faults (disk_of old.log)) count (ghosts.faults (disk_of log)))
     pub later : ghosts.faults (disk_of old.log) ≤ ghosts.faults (disk_of log)
     pub tells_on : TellsOn (ghosts.told (disk_of old.log)) (ghosts.told (disk_of log))
 
   -- the history stays as it is
-  going_on : (new : WritePath D ghosts) (c : calls.Command) (r : Reply) (after : List Record) (shown : calls.Reply) (handled : List Handling) (least : ℕ) → Holds options.last new going.entries → new.batch_bytes ≡ options.batch_bytes → Log handled new.log
-      → ((opened : ℕ) → Step (home_of options opened) (story_of options.last going.entries) 1 (place before going.entries going.handled going.least) c shown (place after going.entries handled least))
-      → ShowsReply r (call c shown) → least ≤ last_sequence options.last going.entries
+  going_on : (new : WritePath D ghosts) (c : calls.Command) (r : Reply) (after : List Record) (shown : calls.Reply) (attempts : List Attempt) (seen_up_to : ℕ) → Holds options.last new going.entries → new.batch_bytes ≡ options.batch_bytes → Log attempts new.log
+      → ((opened : ℕ) → Step (settings_of options opened) (trace_of options.last going.entries) 1 (place before going.entries going.attempts going.seen_up_to) c shown (place after going.entries attempts seen_up_to))
+      → ShowsReply r (call c shown) → seen_up_to ≤ last_sequence options.last going.entries
       → (fault_of new.log ≡ None → (fault_of path.log ≡ None) × RefusesForItself shown) → Going options old new (done ++ c ∷ []) (replies ++ r ∷ []) after
-  going_on new c r after shown handled least holds limit log goes shows below taken_too = record {
+  going_on new c r after shown attempts seen_up_to holds limit log goes shows below taken_too = record {
     entries = going.entries;
-    handled = handled;
-    least = least;
+    attempts = attempts;
+    seen_up_to = seen_up_to;
     calls = going.calls ++ call c shown ∷ [];
     holds = holds;
     limit = limit;
     groups = log.groups;
     wrote = log.wrote;
     are_calls = log.are_calls;
-    run = λ opened. run_more (home_of options opened) (story_of options.last going.entries) 1 fresh going.calls _ (call c shown) _ (going.run opened) (goes opened);
+    run = λ opened. run_more (settings_of options opened) (trace_of options.last going.entries) 1 fresh going.calls _ (call c shown) _ (going.run opened) (goes opened);
     commands = commands_more going.calls (call c shown) ∙ ap (λ cs. cs ++ c ∷ []) going.commands;
     shown = zip_more ShowsReply replies going.calls r (call c shown) going.shown shows;
     below = below;
@@ -109,11 +109,11 @@ module _ {D : Type 0} {ghosts : Ghosts D} (options : RunOptions) (old path : Wri
     fault = log.fault;
     later = log.later;
     tells_on = log.tells_on;
-    taken = λ none. all_more _ going.calls (call c shown) (going.taken (taken_too none).0) (taken_too none).1;
+    refusals = λ none. all_more _ going.calls (call c shown) (going.refusals (taken_too none).0) (taken_too none).1;
   }
 
   -- the log as it was
-  log_same : Log going.handled path.log
+  log_same : Log going.attempts path.log
   log_same = record {
     groups = going.groups;
     wrote = going.wrote;
@@ -124,18 +124,18 @@ module _ {D : Type 0} {ghosts : Ghosts D} (options : RunOptions) (old path : Wri
     tells_on = going.tells_on;
   }
 
-  pub log_kept : (log : LogWriter D ghosts) → log ≡ path.log → Log going.handled log
+  pub log_kept : (log : LogWriter D ghosts) → log ≡ path.log → Log going.attempts log
   unfolding log_same
-  log_kept log same = subst (Log going.handled) (sym same) log_same
+  log_kept log same = subst (Log going.attempts) (sym same) log_same
 
   -- with one commit more in hand
-  log_longer : (log : LogWriter D ghosts) (h : Handling) → log ≡ path.log → AreFine options.last going.entries (fault_of log) (going.handled ++ h ∷ []) → Log (going.handled ++ h ∷ []) log
+  log_longer : (log : LogWriter D ghosts) (h : Attempt) → log ≡ path.log → AreFine options.last going.entries (fault_of log) (going.attempts ++ h ∷ []) → Log (going.attempts ++ h ∷ []) log
   log_longer log h same fine =
       let was = log_kept log same in
       record {
         groups = was.groups;
         wrote = was.wrote;
-        are_calls = calls_longer going.entries going.handled h _ (fault_of log) was.groups was.are_calls;
+        are_calls = calls_longer going.entries going.attempts h _ (fault_of log) was.groups was.are_calls;
         fine = fine;
         fault = was.fault;
         later = was.later;
@@ -143,18 +143,18 @@ module _ {D : Type 0} {ghosts : Ghosts D} (options : RunOptions) (old path : Wri
       }
 
   -- nothing was written or tried
-  going_same : (c : calls.Command) (r : Reply) (after : List Record) (shown : calls.Reply) (least : ℕ)
-      → ((opened : ℕ) → Step (home_of options opened) (story_of options.last going.entries) 1 (place before going.entries going.handled going.least) c shown (place after going.entries going.handled least))
-      → ShowsReply r (call c shown) → least ≤ last_sequence options.last going.entries → RefusesForItself shown → Going options old path (done ++ c ∷ []) (replies ++ r ∷ []) after
-  going_same c r after shown least goes shows below other =
-      going_on path c r after shown going.handled least going.holds going.limit (log_kept path.log refl) goes shows below (λ none. (none, other))
+  going_same : (c : calls.Command) (r : Reply) (after : List Record) (shown : calls.Reply) (seen_up_to : ℕ)
+      → ((opened : ℕ) → Step (settings_of options opened) (trace_of options.last going.entries) 1 (place before going.entries going.attempts going.seen_up_to) c shown (place after going.entries going.attempts seen_up_to))
+      → ShowsReply r (call c shown) → seen_up_to ≤ last_sequence options.last going.entries → RefusesForItself shown → Going options old path (done ++ c ∷ []) (replies ++ r ∷ []) after
+  going_same c r after shown seen_up_to goes shows below other =
+      going_on path c r after shown going.attempts seen_up_to going.holds going.limit (log_kept path.log refl) goes shows below (λ none. (none, other))
 
   going_add : (r : Record) → Going options old path (done ++ calls.add r ∷ []) (replies ++ reply.Quiet ∷ []) (before ++ r ∷ [])
-  going_add r = going_same (calls.add r) reply.Quiet (before ++ r ∷ []) calls.quiet going.least
+  going_add r = going_same (calls.add r) reply.Quiet (before ++ r ∷ []) calls.quiet going.seen_up_to
       (λ opened. step options opened going.entries _ _ _ _ refl refl refl) refl going.below (λ why e. absurd (cc e))
 
   going_clear : Going options old path (done ++ calls.clear ∷ []) (replies ++ reply.Quiet ∷ []) []
-  going_clear = going_same calls.clear reply.Quiet [] calls.quiet going.least
+  going_clear = going_same calls.clear reply.Quiet [] calls.quiet going.seen_up_to
       (λ opened. step options opened going.entries _ _ _ _ refl refl refl) refl going.below (λ why e. absurd (cc e))
 
   going_get : (key : List ℕ) (at : ℕ) (v : Option (List ℕ)) → at ≡ path.last → v ≡ value_at (pairs_of path.published) key
@@ -171,13 +171,13 @@ module _ {D : Type 0} {ghosts : Ghosts D} (options : RunOptions) (old path : Wri
       })) refl (omega (arith, last)) (λ why e. absurd (cc e))
 
   -- a step by a commit that passed the early checks
-  handled_step : (entries : List history.Entry) (how : WriteOptions) (shown : calls.Reply) (q : Progress) (opened : ℕ) → q.known ≡ 0 → early_refusal options.batch_bytes false before how ≡ None
-      → IsHandled (story_of options.last entries) 1 (place before going.entries going.handled going.least) how shown q
-      → Step (home_of options opened) (story_of options.last entries) 1 (place before going.entries going.handled going.least) (calls.commit how) shown q
-  handled_step entries how shown q opened known passed is =
-      let p = place before going.entries going.handled going.least in
+  attempted_step : (entries : List history.Entry) (how : WriteOptions) (shown : calls.Reply) (q : Progress) (opened : ℕ) → q.known ≡ 0 → early_refusal options.batch_bytes false before how ≡ None
+      → IsAttempted (trace_of options.last entries) 1 (place before going.entries going.attempts going.seen_up_to) how shown q
+      → Step (settings_of options opened) (trace_of options.last entries) 1 (place before going.entries going.attempts going.seen_up_to) (calls.commit how) shown q
+  attempted_step entries how shown q opened known passed is =
+      let p = place before going.entries going.attempts going.seen_up_to in
       step options opened entries p (calls.commit how) shown q refl known
-      (subst (λ (o : Option Refusal). MatchOption o (IsHandled (story_of options.last entries) 1 p how shown q) (λ why. (shown ≡ calls.refused why) × Stays p q)) (sym passed) is)
+      (subst (λ (o : Option Refusal). MatchOption o (IsAttempted (trace_of options.last entries) 1 p how shown q) (λ why. (shown ≡ calls.refused why) × Stays p q)) (sym passed) is)
 
   going_accepted : (new : WritePath D ghosts) (how : WriteOptions) (run : Run) → Accepts path new before how run → ghosts.faults (disk_of path.log) ≤ ghosts.faults (disk_of new.log)
       → Going options old new (done ++ calls.commit how ∷ []) (replies ++ reply.Accepted run.first run.last ∷ []) []
@@ -190,18 +190,18 @@ module _ {D : Type 0} {ghosts : Ghosts D} (options : RunOptions) (old path : Wri
       let ends : last_of e ≡ run.last = (let a = written.first in let b = written.last in omega (arith, some, a, b)) in
       let last : run.last ≡ last_sequence start entries = sym (last_more start going.entries e ∙ ends) in
       let was : path.last ≡ last_sequence start going.entries = going.holds.last in
-      let alive : AreFine start going.entries None going.handled = subst (λ f. AreFine start going.entries f going.handled) written.alive going.fine in
+      let alive : AreFine start going.entries None going.attempts = subst (λ f. AreFine start going.entries f going.attempts) written.alive going.fine in
       let shown = calls.accepted run.first run.last before in
-      let h : Handling = record { records = before; options = how; fate = taken } in
-      let handled = going.handled ++ h ∷ [] in
+      let h : Attempt = record { records = before; options = how; status = succeeded } in
+      let attempts = going.attempts ++ h ∷ [] in
       let passed : early_refusal options.batch_bytes false before how ≡ None = subst (λ n. early_refusal n false before how ≡ None) going.limit accepts.passed in
-      let were : going.groups ≡ calls_of going.entries = subst (λ f. AreCalls going.entries going.handled (last_sequence start going.entries) f going.groups) written.alive going.are_calls in
+      let were : going.groups ≡ calls_of going.entries = subst (λ f. AreCalls going.entries going.attempts (last_sequence start going.entries) f going.groups) written.alive going.are_calls in
       let log : Lives old.log path.log new.log going.groups going.wrote written.alive entries = lives old.log path.log new.log going.groups going.wrote written.alive going.entries e how were refl written.logged in
       let same_fault : None ≡ fault_of new.log = sym log.alive in
       record {
         entries = entries;
-        handled = handled;
-        least = max going.least run.last;
+        attempts = attempts;
+        seen_up_to = max going.seen_up_to run.last;
         calls = going.calls ++ call (calls.commit how) shown ∷ [];
         holds = record {
           is_history = history_more start going.entries e going.holds.is_history (record {
@@ -226,23 +226,23 @@ module _ {D : Type 0} {ghosts : Ghosts D} (options : RunOptions) (old path : Wri
         limit = accepts.limit ∙ going.limit;
         groups = log.calls;
         wrote = log.wrote;
-        are_calls = subst (λ f. AreCalls entries handled (last_sequence start entries) f log.calls) same_fault log.are;
-        run = λ opened. run_more (home_of options opened) (story_of start entries) 1 fresh going.calls _ (call (calls.commit how) shown) _
-            (run_in (story_of start going.entries) (story_of start entries) (longer start going.entries e) (home_of options opened) 1 fresh going.calls _ (going.run opened))
-            (handled_step entries how shown (place [] entries handled (max going.least run.last)) opened refl passed (record {
+        are_calls = subst (λ f. AreCalls entries attempts (last_sequence start entries) f log.calls) same_fault log.are;
+        run = λ opened. run_more (settings_of options opened) (trace_of start entries) 1 fresh going.calls _ (call (calls.commit how) shown) _
+            (run_in (trace_of start going.entries) (trace_of start entries) (longer start going.entries e) (settings_of options opened) 1 fresh going.calls _ (going.run opened))
+            (attempted_step entries how shown (place [] entries attempts (max going.seen_up_to run.last)) opened refl passed (record {
               batch = refl;
               run = (let a = written.first in let b = written.last in omega (arith, a, b));
-              alive = none_dead start going.entries going.handled alive;
+              alive = none_dead start going.entries going.attempts alive;
               after = refl;
             }));
         commands = commands_more going.calls (call (calls.commit how) shown) ∙ ap (λ cs. cs ++ calls.commit how ∷ []) going.commands;
         shown = zip_more ShowsReply replies going.calls (reply.Accepted run.first run.last) (call (calls.commit how) shown) going.shown (before, refl);
         below = (let b = going.below in let a = written.last in omega (arith, b, a, was, last));
-        fine = subst (λ f. AreFine start entries f handled) same_fault (all_more _ going.handled h (fine_longer start going.entries e None going.handled alive) tt);
+        fine = subst (λ f. AreFine start entries f attempts) same_fault (all_more _ going.attempts h (fine_longer start going.entries e None going.attempts alive) tt);
         fault = subst (λ f. IfSome f (λ count. IsReached (ghosts.faults (disk_of old.log)) count (ghosts.faults (disk_of new.log)))) same_fault tt;
         later = (let l = going.later in omega (arith, l, later));
         tells_on = tells_on_more (ghosts.told (disk_of old.log)) (ghosts.told (disk_of path.log)) (ghosts.told (disk_of new.log)) going.tells_on log.tells_on;
-        taken = λ none. all_more _ going.calls (call (calls.commit how) shown) (going.taken written.alive) (λ why e. absurd (cc e));
+        refusals = λ none. all_more _ going.calls (call (calls.commit how) shown) (going.refusals written.alive) (λ why e. absurd (cc e));
       }
 
   -- what a refusal keeps
@@ -258,19 +258,19 @@ module _ {D : Type 0} {ghosts : Ghosts D} (options : RunOptions) (old path : Wri
 
   -- a refusal by the checks
   refused_early : (how : WriteOptions) (why : Refusal) (opened : ℕ) → early_refusal options.batch_bytes false before how ≡ Some why
-      → Step (home_of options opened) (story_of options.last going.entries) 1 (place before going.entries going.handled going.least) (calls.commit how) (calls.refused why) (place before going.entries going.handled going.least)
+      → Step (settings_of options opened) (trace_of options.last going.entries) 1 (place before going.entries going.attempts going.seen_up_to) (calls.commit how) (calls.refused why) (place before going.entries going.attempts going.seen_up_to)
   refused_early how why opened early =
-      let p = place before going.entries going.handled going.least in
+      let p = place before going.entries going.attempts going.seen_up_to in
       step options opened going.entries p (calls.commit how) (calls.refused why) p refl refl
-      (subst (λ (o : Option Refusal). MatchOption o (IsHandled (story_of options.last going.entries) 1 p how (calls.refused why) p) (λ x. (calls.refused why ≡ calls.refused x) × Stays p p)) (sym early) (refl, refl))
+      (subst (λ (o : Option Refusal). MatchOption o (IsAttempted (trace_of options.last going.entries) 1 p how (calls.refused why) p) (λ x. (calls.refused why ≡ calls.refused x) × Stays p p)) (sym early) (refl, refl))
 
   -- a refusal behind them, with what became of the commit
-  abbrev handled_with : WriteOptions → Fate → List Handling
-  handled_with how fate = going.handled ++ record { records = before; options = how; fate = fate } ∷ []
+  abbrev attempts_with : WriteOptions → WriteStatus → List Attempt
+  attempts_with how status = going.attempts ++ record { records = before; options = how; status = status } ∷ []
 
-  refused_late : (how : WriteOptions) (why : Refusal) (fate : Fate) (opened : ℕ) → early_refusal options.batch_bytes false before how ≡ None → MayRefuse [] 0 going.entries going.handled before how why (Some fate)
-      → Step (home_of options opened) (story_of options.last going.entries) 1 (place before going.entries going.handled going.least) (calls.commit how) (calls.refused why) (place before going.entries (handled_with how fate) going.least)
-  refused_late how why fate opened passed may = handled_step going.entries how (calls.refused why) (place before going.entries (handled_with how fate) going.least) opened refl passed (Some fate, may, refl)
+  refused_late : (how : WriteOptions) (why : Refusal) (status : WriteStatus) (opened : ℕ) → early_refusal options.batch_bytes false before how ≡ None → MayRefuse [] 0 going.entries going.attempts before how why (Some status)
+      → Step (settings_of options opened) (trace_of options.last going.entries) 1 (place before going.entries going.attempts going.seen_up_to) (calls.commit how) (calls.refused why) (place before going.entries (attempts_with how status) going.seen_up_to)
+  refused_late how why status opened passed may = attempted_step going.entries how (calls.refused why) (place before going.entries (attempts_with how status) going.seen_up_to) opened refl passed (Some status, may, refl)
 
   -- a fault, old or new
   dead : (new : WritePath D ghosts) (how : WriteOptions) (count : ℕ) → Keeps path new → early_refusal options.batch_bytes false before how ≡ None → commits.IsDead path new before how count → ghosts.faults (disk_of path.log) ≤ ghosts.faults (disk_of new.log)
@@ -278,24 +278,24 @@ module _ {D : Type 0} {ghosts : Ghosts D} (options : RunOptions) (old path : Wri
   dead new how count keeps passed (inl was) later =
       let same = was.1 in
       let fault : fault_of new.log ≡ Some count = ap (λ (l : LogWriter D ghosts). fault_of l) same ∙ was.0 in
-      going_on new (calls.commit how) (reply.Refused (no.LogFault count)) before (calls.refused (no.LogFault count)) (handled_with how (faulted count)) going.least (holds_kept new keeps) (keeps.limit ∙ going.limit)
-      (log_longer new.log (record { records = before; options = how; fate = faulted count }) same (all_more _ going.handled _ (log_kept new.log same).fine fault))
+      going_on new (calls.commit how) (reply.Refused (no.LogFault count)) before (calls.refused (no.LogFault count)) (attempts_with how (faulted count)) going.seen_up_to (holds_kept new keeps) (keeps.limit ∙ going.limit)
+      (log_longer new.log (record { records = before; options = how; status = faulted count }) same (all_more _ going.attempts _ (log_kept new.log same).fine fault))
       (λ opened. refused_late how (no.LogFault count) (faulted count) opened passed refl) refl going.below (λ none. absurd (cc (none, fault)))
   dead new how count keeps passed (inr loses) later =
       let start = options.last in
       let last : path.last ≡ last_sequence start going.entries = going.holds.last in
       let alive = loses.alive in
-      let were : going.groups ≡ calls_of going.entries = subst (λ f. AreCalls going.entries going.handled (last_sequence start going.entries) f going.groups) alive going.are_calls in
-      let log : Dies old.log path.log new.log going.groups going.wrote alive going.entries (handled_with how (faulted count)) path.last count = dies old.log path.log new.log going.groups going.wrote alive going.entries going.handled path.last count before how were loses.to_log loses.fits loses.tried in
+      let were : going.groups ≡ calls_of going.entries = subst (λ f. AreCalls going.entries going.attempts (last_sequence start going.entries) f going.groups) alive going.are_calls in
+      let log : Dies old.log path.log new.log going.groups going.wrote alive going.entries (attempts_with how (faulted count)) path.last count = dies old.log path.log new.log going.groups going.wrote alive going.entries going.attempts path.last count before how were loses.to_log loses.fits loses.tried in
       let fault : fault_of new.log ≡ Some count = log.fault in
       let hit = log.reached in
-      going_on new (calls.commit how) (reply.Refused (no.LogFault count)) before (calls.refused (no.LogFault count)) (handled_with how (faulted count)) going.least (holds_kept new keeps) (keeps.limit ∙ going.limit)
+      going_on new (calls.commit how) (reply.Refused (no.LogFault count)) before (calls.refused (no.LogFault count)) (attempts_with how (faulted count)) going.seen_up_to (holds_kept new keeps) (keeps.limit ∙ going.limit)
       (record {
         groups = log.calls;
         wrote = log.wrote;
-        are_calls = subst (λ f. AreCalls going.entries (handled_with how (faulted count)) (last_sequence start going.entries) f log.calls) (sym fault)
-            (subst (λ n. AreCalls going.entries (handled_with how (faulted count)) n (Some count) log.calls) last log.are);
-        fine = all_more _ going.handled _ (fine_of_fault start going.entries (fault_of new.log) going.handled (subst (λ f. AreFine start going.entries f going.handled) alive going.fine)) fault;
+        are_calls = subst (λ f. AreCalls going.entries (attempts_with how (faulted count)) (last_sequence start going.entries) f log.calls) (sym fault)
+            (subst (λ n. AreCalls going.entries (attempts_with how (faulted count)) n (Some count) log.calls) last log.are);
+        fine = all_more _ going.attempts _ (fine_of_fault start going.entries (fault_of new.log) going.attempts (subst (λ f. AreFine start going.entries f going.attempts) alive going.fine)) fault;
         fault = subst (λ f. IfSome f (λ n. IsReached (ghosts.faults (disk_of old.log)) n (ghosts.faults (disk_of new.log)))) (sym fault) (
           (let r = hit.0 in let l = going.later in omega (arith, r, l)),
           hit.1,
@@ -310,13 +310,13 @@ module _ {D : Type 0} {ghosts : Ghosts D} (options : RunOptions) (old path : Wri
       → Going options old new (done ++ calls.commit how ∷ []) (replies ++ reply.Refused (no.SequenceFull last) ∷ []) before
   full_now new how last keeps passed alive is passes same =
       let start = options.last in
-      let fine : AreFine start going.entries None going.handled = subst (λ f. AreFine start going.entries f going.handled) alive going.fine in
+      let fine : AreFine start going.entries None going.attempts = subst (λ f. AreFine start going.entries f going.attempts) alive going.fine in
       let ends : last ≡ last_sequence start going.entries = is ∙ going.holds.last in
       let below : AllByRecursion (λ (e : history.Entry). last_of e ≤ last) going.entries = subst (λ n. AllByRecursion (λ (e : history.Entry). last_of e ≤ n) going.entries) (sym ends) (all_below start going.entries going.holds.is_history) in
       let whole = boundary_last start going.entries in
-      going_on new (calls.commit how) (reply.Refused (no.SequenceFull last)) before (calls.refused (no.SequenceFull last)) (handled_with how (full last)) going.least (holds_kept new keeps) (keeps.limit ∙ going.limit)
-      (log_longer new.log (record { records = before; options = how; fate = full last }) same (all_more _ going.handled _ (log_kept new.log same).fine (going.entries, record { rest = whole.rest; split = whole.split; ends = ends })))
-      (λ opened. refused_late how (no.SequenceFull last) (full last) opened passed (refl, none_dead start going.entries going.handled fine, below, passes)) refl going.below
+      going_on new (calls.commit how) (reply.Refused (no.SequenceFull last)) before (calls.refused (no.SequenceFull last)) (attempts_with how (full last)) going.seen_up_to (holds_kept new keeps) (keeps.limit ∙ going.limit)
+      (log_longer new.log (record { records = before; options = how; status = full last }) same (all_more _ going.attempts _ (log_kept new.log same).fine (going.entries, record { rest = whole.rest; split = whole.split; ends = ends })))
+      (λ opened. refused_late how (no.SequenceFull last) (full last) opened passed (refl, none_dead start going.entries going.attempts fine, below, passes)) refl going.below
       (λ none. (alive, said_for_itself (no.SequenceFull last) refl))
 
   going_refused : (new : WritePath D ghosts) (how : WriteOptions) (why : Refusal) → Refuses path new before how why → (why ≡ no.NoMemory → ⊥) → ghosts.faults (disk_of path.log) ≤ ghosts.faults (disk_of new.log)
@@ -339,7 +339,7 @@ module _ {D : Type 0} {ghosts : Ghosts D} (options : RunOptions) (old path : Wri
       by_check (Some early) e is =
           let same = is.1 in
           let said : early_refusal options.batch_bytes false before how ≡ Some why = limited (Some early) e ∙ ap Some (sym is.0) in
-          going_on new (calls.commit how) (reply.Refused why) before (calls.refused why) going.handled going.least (holds_kept new refuses.keeps) (refuses.keeps.limit ∙ going.limit) (log_kept new.log same)
+          going_on new (calls.commit how) (reply.Refused why) before (calls.refused why) going.attempts going.seen_up_to (holds_kept new refuses.keeps) (refuses.keeps.limit ∙ going.limit) (log_kept new.log same)
           (λ opened. refused_early how why opened said) refl going.below
           (λ none. (sym (ap (λ (l : LogWriter D ghosts). fault_of l) same) ∙ none, said_for_itself why (early_for_itself options.batch_bytes before how why said)))
 

@@ -6,9 +6,9 @@ use Rattle.wp_model.specs.Map.{Pairs, byte_order}
 use Rattle.one_client.specs.declared.changes.Change.{Change}
 use Rattle.one_client.specs.declared.changes.Change.TheVariants.{Set, Remove}
 
--- a pair sets its key, and a key is taken out
+-- a key is given a value, or taken out
 abbrev pub after_change : Pairs → Change → Pairs
-after_change m (Set pair) = insert_entry byte_order m pair.key pair.value
+after_change m (Set key value) = insert_entry byte_order m key value
 after_change m (Remove key) = remove_entry (is_at (byte_order key)) m
 
 -- no change leaves the map as it is

@@ -9,25 +9,26 @@ use Rattle.wp_model.specs.Batch.{Record, size_of_batch}
 use Rattle.wp_model.specs.Map.{value_at}
 use Rattle.wp_model.specs.History as history
 use Rattle.wp_model.specs.History.{IsHistory, last_sequence, map_of}
-use Rattle.wp_model.specs.Story.{Story, Home}
-use Rattle.wp_model.specs.Groups.{AreFates}
+use Rattle.wp_model.specs.Trace.{Trace, Settings}
+use Rattle.wp_model.specs.Groups.{AreStatuses}
 use Rattle.wp_model.specs.Progress.{Progress}
 use Rattle.wp_model.specs.Runs.{IsTranscript}
 use Rattle.wp_model.specs.Calls as calls
 use Rattle.client_script.specs.Scripts.{additions_of}
-use Rattle.one_client.specs.declared.options.RunOptions.{RunOptions}
-use Rattle.one_client.specs.declared.outcome.Reply.{Reply}
-use Rattle.one_client.specs.declared.outcome.Reply.TheVariants as reply
+use Rattle.client_calls.specs.declared.options.Options.{Options}
+use Rattle.client_calls.specs.declared.reply.Reply.{Reply}
+use Rattle.client_calls.specs.declared.reply.Reply.TheVariants as reply
 use Rattle.one_client.specs.declared.write_path.WritePath.{WritePath}
 use Rattle.one_client.specs.Published.{pairs_of}
-use Rattle.one_client.specs.Shows.{ShowsReply, ShowsEntry}
-use Rattle.one_client.specs.Counts.{IsReached}
-use Rattle.one_client.specs.Crashes.{AreCalls}
+use Rattle.client_calls.specs.Shows.{ShowsReply, ShowsEntry}
+use Rattle.run_model.specs.Running.{IsReached}
+use Rattle.one_client.specs.GroupsOfOne.{AreCalls}
+use Rattle.client_calls.specs.Settings as calls_model
 use Rattle.log_writer.specs.Words.{disk_of, fault_of}
 use Rattle.log_writer.specs.Adding.{GroupCall}
 use Rattle.log_writer.specs.Written.{Wrote}
 use Rattle.one_client.specs.Commits.{Accepts, Refuses}
-use Rattle.one_client.specs.Refusals.{AreRefusedForThemselves}
+use Rattle.run_model.specs.Refusals.{AreRefusedForThemselves}
 
 -- One command
 
@@ -88,29 +89,29 @@ abbrev pub TellsOn : Option Disk → Option Disk → Type 0
 TellsOn old new = Told old new (λ before after. ⊤)
 
 -- without a controller
-abbrev pub story_of : ℕ → List history.Entry → Story
-story_of start entries = record { start = start; entries = entries; turns = [] }
+abbrev pub trace_of : ℕ → List history.Entry → Trace
+trace_of start entries = record { start = start; entries = entries; controller_calls = [] }
 
 -- one client
-abbrev pub home_of : RunOptions → ℕ → Home
-home_of options opened = record { start = options.last; clients = 1; group_bytes = 1048576; batch_bytes = options.batch_bytes; opened = opened }
+abbrev pub settings_of : Options → ℕ → Settings
+settings_of options opened = calls_model.settings_of options 1 opened
 
 -- The client's replies are a transcript of its commands, over the history that the write path then holds. The log writer's calls were those of the
 -- logged entries.
-pub record Ran {D : Type 0} {ghosts : Ghosts D} (options : RunOptions) (old new : WritePath D ghosts) (commands : List calls.Command) (replies : List Reply) : Type 0 where
+pub record Ran {D : Type 0} {ghosts : Ghosts D} (options : Options) (old new : WritePath D ghosts) (commands : List calls.Command) (replies : List Reply) : Type 0 where
   pub entries : List history.Entry
   pub holds : Holds options.last new entries
   pub calls : List calls.Call
   pub end : Progress
-  pub transcript : (opened : ℕ) → IsTranscript (home_of options opened) (story_of options.last entries) 1 commands calls end
+  pub transcript : (opened : ℕ) → IsTranscript (settings_of options opened) (trace_of options.last entries) 1 commands calls end
   pub shown : AllZip ShowsReply replies calls
   pub mine : end.mine ≡ entries
   pub asked : end.asked ≡ []
-  pub fates : AreFates (story_of options.last entries) [] (fault_of new.log) 1 0 end.handled
+  pub statuses : AreStatuses (trace_of options.last entries) [] (fault_of new.log) 1 0 end.attempts
   pub groups : List GroupCall
   pub wrote : Wrote old.log groups new.log
-  pub are_calls : AreCalls entries end.handled (last_sequence options.last entries) (fault_of new.log) groups
-  pub taken : fault_of new.log ≡ None → AreRefusedForThemselves calls
+  pub are_calls : AreCalls entries end.attempts (last_sequence options.last entries) (fault_of new.log) groups
+  pub refusals : fault_of new.log ≡ None → AreRefusedForThemselves calls
   pub fault : IfSome (fault_of new.log) (λ count. IsReached (ghosts.faults (disk_of old.log)) count (ghosts.faults (disk_of new.log)))
   pub later : ghosts.faults (disk_of old.log) ≤ ghosts.faults (disk_of new.log)
   pub tells_on : TellsOn (ghosts.told (disk_of old.log)) (ghosts.told (disk_of new.log))

@@ -11,15 +11,15 @@ use Rattle.wp_model.specs.Progress.{early_refusal}
 use Rattle.log_writer.specs.declared.writer.LogWriter.{LogWriter}
 use Rattle.log_writer.specs.Words.{len_of, fault_of}
 use Rattle.log_writer.specs.Adding.{GroupCall, Adds}
-use Rattle.one_client.specs.declared.outcome.Entry.{Entry}
+use Rattle.client_calls.specs.declared.entry.Entry.{Entry}
 use Rattle.write_batch.specs.Contents.{Contents}
-use Rattle.one_client.specs.declared.options.RunOptions.{RunOptions}
+use Rattle.client_calls.specs.declared.options.Options.{Options}
 use Rattle.one_client.specs.declared.write_path.WritePath.{WritePath}
-use Rattle.one_client.specs.declared.write_path.Run.{Run}
+use Rattle.client_calls.specs.declared.run.Run.{Run}
 use Rattle.one_client.specs.Published.{pairs_of}
 
 -- the one client's next batch in the history
-abbrev pub next_entry : ℕ → Contents → WriteOptions → Run → Entry
+abbrev pub next_entry : ℕ → Contents → WriteOptions → Run → Entry Contents
 next_entry before batch how run = record { client = 1; ordinal = before + 1; first = run.first; last = run.last; flag = flag_of how; batch = batch }
 
 -- the log writer's call for a batch that is a group of its own, and the count that it was answered where it failed
@@ -27,9 +27,10 @@ abbrev pub call_of_batch : ℕ → List Record → WriteOptions → Option ℕ �
 call_of_batch first records how failed = record { first = first; batches = records ∷ []; sync = how.sync; failed = failed }
 
 module _ {D : Type 0} {ghosts : Ghosts D} where
-  -- how a run is set up that begins here
-  abbrev pub options_of : WritePath D ghosts → RunOptions
-  options_of path = record { last = path.last; batch_bytes = path.batch_bytes }
+  -- a run with these options begins here
+  pub record IsSetUp (options : Options) (path : WritePath D ghosts) : Type 0 where
+    pub last : path.last ≡ options.last
+    pub limit : path.batch_bytes ≡ options.batch_bytes
 
   -- nothing was written
   pub record IsFresh (path : WritePath D ghosts) : Type 0 where

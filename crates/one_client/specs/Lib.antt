@@ -1,12 +1,8 @@
-pub mod Counts
 pub mod Keys
 pub mod Places
 pub mod Published
-pub mod Shows
 pub mod Changes
 pub mod Commits
-pub mod Refusals
-pub mod Crashes
+pub mod GroupsOfOne
 pub mod Clients
 pub mod Ends
-pub mod Running

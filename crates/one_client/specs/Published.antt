@@ -1,14 +1,10 @@
 -- The pairs that a published state holds.
-use Rattle.std.specs.Prelude.{ℕ, ◌-◌, List, map, vec_len, vec_capacity}
+use Rattle.std.specs.Prelude.{ℕ, ◌-◌, vec_len, vec_capacity}
 use Rattle.wp_model.specs.Map.{Pairs}
-use Rattle.one_client.specs.declared.published.Pair.{Pair}
 use Rattle.one_client.specs.declared.published.Published.{Published}
 
-abbrev pub pair_of : Pair → List ℕ × List ℕ
-pair_of p = (p.key, p.value)
-
 abbrev pub pairs_of : Published → Pairs
-pairs_of state = map pair_of state.pairs.items
+pairs_of state = state.pairs.items
 
 -- for how many more keys there is room
 abbrev pub room_of : Published → ℕ

@@ -5,7 +5,6 @@ ghost use Rattle.wp_model.specs.Map.{Pairs, after_record, after_records};
 ghost use Rattle.write_batch.specs.View.{record_of};
 ghost use Rattle.one_client.specs.Changes.{after_changes, after_change_if};
 
-use crate::published::Pair;
 use std::alloc::Global;
 use wp_coding::Bytes;
 use wp_model::NoMemory;
@@ -14,8 +13,8 @@ use write_batch::{Batch, RecordView};
 /// What a record does to the map, with strings of its own, so that doing it takes no memory.
 #[derive(Drop)]
 pub enum Change {
-    Set(Pair),
-    Remove(Bytes),
+    Set { key: Bytes, value: Bytes },
+    Remove { key: Bytes },
 }
 
 /// The changes of a batch, in order.
@@ -36,12 +35,14 @@ fn change_of(alloc: Global, view: RecordView<'_>) -> Result<Option<Change>, NoMe
     ensures { IfOk result (λ change. (m : Pairs) → after_change_if m change ≡ after_record m (record_of view.entry)) }
 {
     match view {
-        RecordView::Value { key, value } => Ok(Some(Change::Set(Pair {
+        RecordView::Value { key, value } => Ok(Some(Change::Set {
             key: Bytes::copy(alloc, key)?,
             value: Bytes::copy(alloc, value)?,
-        }))),
+        })),
         RecordView::Deletion { key } | RecordView::SingleDeletion { key } => {
-            Ok(Some(Change::Remove(Bytes::copy(alloc, key)?)))
+            Ok(Some(Change::Remove {
+                key: Bytes::copy(alloc, key)?,
+            }))
         }
         RecordView::LogData { .. } => Ok(None),
     }

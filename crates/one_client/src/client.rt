@@ -2,14 +2,16 @@
 
 ghost use Rattle.std.specs.Prelude.{◌≡◌, ◌≤◌, map, IfOk, OnErr, IsOkUnless, MatchResult};
 ghost use Rattle.wp_model.specs.Batch.{size_of_batch};
-ghost use Rattle.client_script.specs.Scripts.{command_of, additions_of};
+ghost use Rattle.std.specs.List.{AllByRecursion};
+ghost use Rattle.client_calls.specs.declared.options.Options.{Options};
+ghost use Rattle.client_calls.specs.Commands.{command_of};
+ghost use Rattle.client_script.specs.Scripts.{additions_of, IsScriptCommand};
 ghost use Rattle.log_writer.specs.Words.{disk_of};
-ghost use Rattle.one_client.specs.Commits.{IsFresh, options_of};
+ghost use Rattle.one_client.specs.Commits.{IsFresh, IsSetUp};
 ghost use Rattle.one_client.specs.Clients.{HasRoom, Answers, AnswersCommit, Ran};
 
-use crate::outcome::Reply;
 use crate::write_path::WritePath;
-use client_script::Command;
+use client_calls::{Command, Reply};
 use std::alloc::Global;
 use wp_edge::Disk;
 use wp_model::{NoMemory, Refusal, WriteOptions};
@@ -23,8 +25,10 @@ pub fn run_client<D: Disk>(
     commands: &[Command],
 ) -> Result<Vec<Reply>, NoMemory>
     requires fresh { IsFresh path.old }
+    requires commands { AllByRecursion IsScriptCommand commands.now }
     requires fits { size_of_batch (additions_of (map command_of commands.now)) ≤ 16777216 }
-    ensures ran { IfOk result (λ replies. Ran (options_of path.old) path.old path.new (map command_of commands.now) replies.items) }
+    ensures ran { IfOk result (λ replies. (options : Options) → IsSetUp options path.old
+        → Ran options path.old path.new (map command_of commands.now) replies.items) }
     ensures none { OnErr result (path.new ≡ path.old) }
 {
     let mut replies = Vec::with_capacity(alloc, commands.len())?;
@@ -47,6 +51,7 @@ fn answer<D: Disk>(
     batch: &mut Batch,
     command: &Command,
 ) -> Reply
+    requires command { IsScriptCommand command.now }
     requires fits { HasRoom batch.old.records (command_of command.now) }
     ensures answers { Answers path.old path.new batch.old.records batch.new.records (command_of command.now) result }
     ensures counts { D.faults (disk_of path.old.log) ≤ D.faults (disk_of path.new.log) }
@@ -68,6 +73,12 @@ fn answer<D: Disk>(
             },
             Err(NoMemory) => Reply::NoMemory,
         },
+        Command::Many { .. }
+        | Command::Scan { .. }
+        | Command::Stop
+        | Command::Unstop
+        | Command::Slow { .. }
+        | Command::Unslow => unreachable!(),
     }
 }
 

@@ -1,15 +1,11 @@
-//! The write path of one client: a commit goes to the log, unless its flags say not to, and then into the published map, which the client's reads ask.
+//! The write path of one client: a commit goes to the log, unless its flags say not to, and then into the published map,
+//! which the client's reads ask.
 #![tactic(auto)]
 
 mod changes;
 mod client;
-mod options;
-mod outcome;
 mod published;
 mod running;
 mod write_path;
 
-pub use options::RunOptions;
-pub use outcome::{Entry, Outcome, Reply};
-pub use published::{Pair, Published};
 pub use running::{End, Executed, execute};

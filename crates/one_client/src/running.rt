@@ -1,18 +1,19 @@
 //! A run of a script: its client over the write path.
 
 ghost use Rattle.std.specs.Prelude.{◌≡◌, ◌≤◌, ◌-◌, ◌^◌, length};
-ghost use Rattle.client_script.specs.Scripts.{commands_of, FitsBatches};
+ghost use Rattle.client_script.specs.Scripts.{commands_of, FitsBatches, HasScriptCommands};
 ghost use Rattle.log_writer.specs.Words.{disk_of};
-ghost use Rattle.one_client.specs.Crashes.{IsLeftSince};
-ghost use Rattle.one_client.specs.Running.{IsEnd, outcome_of};
+ghost use Rattle.run_model.specs.Crashes.{IsImageSince};
+ghost use Rattle.run_model.specs.Running.{GoesOn};
+ghost use Rattle.one_client.specs.Ends.{IsEnd, outcome_of};
 
 use crate::client::run_client;
-use crate::options::RunOptions;
-use crate::outcome::{Outcome, Reply};
 use crate::write_path::WritePath;
+use client_calls::{Options, Outcome, Reply};
 use client_script::Script;
-use log_writer::OpenError;
+use log_writer::{OpenError, crashes_between_calls, written_by_calls};
 use std::alloc::Global;
+use wp_coding::PairList;
 use wp_edge::Disk;
 use wp_model::NoMemory;
 
@@ -25,7 +26,8 @@ pub enum End {
     NotEmpty { len: u64 },
     /// Nothing was run for want of memory.
     NoMemory,
-    Ran(Outcome),
+    /// It has this outcome.
+    Ran(Outcome<PairList>),
 }
 
 /// The disk that a run gives back, and how it ended.
@@ -49,13 +51,17 @@ impl From<OpenError> for End {
     }
 }
 
-/// Runs a script of one client over the write path of a disk's log, and gives the disk back.
-pub fn execute<D: Disk>(alloc: Global, disk: D, script: &Script, options: RunOptions) -> Executed<D>
+/// Runs a script of one client over the write path of a disk's log, and gives the disk back. Of the options those on
+/// batches count: a group is one batch.
+pub fn execute<D: Disk>(alloc: Global, disk: D, script: &Script, options: Options) -> Executed<D>
     requires one { length script.now.clients.items ≡ 1 }
+    requires commands { HasScriptCommands script.now }
     requires fits { FitsBatches script.now }
     requires last { options.last ≤ 2 ^ 56 - 1 }
-    ensures end { IsEnd options (commands_of script.now) (D.told disk) (D.told result.disk) (D.faults disk) (D.faults result.disk) (IsLeftSince D.moment D.from D.since disk result.disk) result.end }
+    ensures end { IsEnd options (commands_of script.now) (D.told disk) (D.told result.disk) (D.faults disk)
+        (D.faults result.disk) (IsImageSince D.moment D.from D.since disk result.disk) result.end }
     ensures later { D.faults disk ≤ D.faults result.disk }
+    ensures time { GoesOn D.moment D.from disk result.disk }
 {
     let mut path = match WritePath::open(alloc, disk, options) {
         Ok(path) => path,
@@ -71,6 +77,8 @@ pub fn execute<D: Disk>(alloc: Global, disk: D, script: &Script, options: RunOpt
     };
     match run_client(alloc, &mut path, &script.clients[0]) {
         Ok(replies) => {
+            written_by_calls::<D>();
+            crashes_between_calls::<D>();
             transcripts.push_reserved(replies);
             finished(path, transcripts)
         }
@@ -109,7 +117,7 @@ fn finished<D: Disk>(path: WritePath<D>, transcripts: Vec<Vec<Reply>>) -> Execut
             transcripts,
             history,
             last,
-            state: published,
+            state: published.into_pairs(),
             log_len,
             fault,
         }),

@@ -1,34 +1,21 @@
 //! The write path of one client: batches go to the log, unless they are not to be logged, and then into the published map.
 
-ghost use Rattle.std.specs.Prelude.{◌≡◌, ◌+◌, ◌^◌, ◌<◌, ◌≤◌, ℕ, [], ◌∷◌, ◌++◌, length, IfNone, IfOk, IfErr, OnOk, OnErr, vec_len, vec_capacity, false};
+ghost use Rattle.std.specs.Prelude.{◌≡◌, ◌+◌, ◌^◌, ◌<◌, ◌≤◌, ℕ, [], ◌∷◌, ◌++◌, length, IfOk, IfErr, OnOk, OnErr, vec_len, vec_capacity};
 ghost use Rattle.wp_model.specs.Batch.{size_of_batch, count_of};
-ghost use Rattle.wp_model.specs.History as history;
 ghost use Rattle.wp_model.specs.Map.{Pairs, after_records, value_at};
-ghost use Rattle.wp_model.specs.Progress.{early_refusal};
 ghost use Rattle.one_client.specs.Changes.{after_changes};
 ghost use Rattle.one_client.specs.Published.{pairs_of, room_of};
 
 use crate::changes::{Change, changes_of};
-use crate::options::RunOptions;
-use crate::outcome::Entry;
 use crate::published::Published;
+use client_calls::{Entry, Measure, Options, Run, flag_of, next_run, refusal_at_once};
 use log_writer::{Fault, LogWriter, OpenError};
 use std::alloc::Global;
 use std::{mem, slice};
 use wp_coding::Bytes;
 use wp_edge::Disk;
-use wp_model::{Flag, NoMemory, Refusal, WriteOptions};
+use wp_model::{NoMemory, Refusal, WriteOptions};
 use write_batch::Batch;
-
-/// The greatest sequence.
-const MAX_SEQUENCE: u64 = (1 << 56) - 1;
-
-/// The run of sequences that an accepted batch was given.
-#[derive(Clone, Copy, Debug, PartialEq, Eq)]
-pub struct Run {
-    pub first: u64,
-    pub last: u64,
-}
 
 /// What a write takes, made before it: the changes of its batch, and the client's next batch.
 #[derive(Drop)]
@@ -44,7 +31,7 @@ pub struct WritePath<D: Disk> {
     /// The sequence given last, which is published.
     pub last: u64,
     /// The accepted batches, in order of their sequences.
-    pub history: Vec<Entry>,
+    pub history: Vec<Entry<Batch>>,
     /// The most bytes that a batch may have.
     pub batch_bytes: u64,
     ghost within: { last < 2 ^ 56 },
@@ -53,7 +40,7 @@ pub struct WritePath<D: Disk> {
 impl<D: Disk> WritePath<D> {
     ghost use Rattle.log_writer.specs.Opening.{HasOpened, IsOpenError};
     ghost use Rattle.log_writer.specs.Words.{disk_of};
-    ghost use Rattle.one_client.specs.Commits.{IsFresh, Accepts, Refuses, Writes, IsLateRefusal, next_entry, options_of};
+    ghost use Rattle.one_client.specs.Commits.{IsFresh, Accepts, Refuses, Writes, IsLateRefusal, IsSetUp, next_entry};
 
     /// The log's disk. What stood beside it is given up.
     pub fn into_disk(self) -> D
@@ -70,10 +57,10 @@ impl<D: Disk> WritePath<D> {
     }
 
     /// Opens the log of an empty disk. Nothing was written yet.
-    pub fn open(alloc: Global, disk: D, options: RunOptions) -> Result<WritePath<D>, (D, OpenError)>
+    pub fn open(alloc: Global, disk: D, options: Options) -> Result<WritePath<D>, (D, OpenError)>
         requires { options.last < 2 ^ 56 }
         ensures ok { IfOk result (λ path. HasOpened disk path.log × IsFresh path) }
-        ensures options { IfOk result (λ path. options_of path ≡ options) }
+        ensures options { IfOk result (IsSetUp options) }
         ensures err { IfErr result (λ e. IsOpenError ⟦<D as Disk>⟧ disk e.0 e.1) }
     {
         match LogWriter::open(alloc, disk) {
@@ -101,7 +88,8 @@ impl<D: Disk> WritePath<D> {
         ensures kept { OnErr result (batch.new.records ≡ batch.old.records) }
         ensures counts { D.faults (disk_of self.old.log) ≤ D.faults (disk_of self.new.log) }
     {
-        if let Some(why) = refusal_at_once(batch, how, self.batch_bytes) {
+        let measure = Measure::of(batch);
+        if let Some(why) = refusal_at_once(measure, how, self.batch_bytes, false) {
             return Err(why);
         }
         let Ok(room) = self.make_room(alloc, batch) else {
@@ -158,14 +146,7 @@ impl<D: Disk> WritePath<D> {
         if let Some(count) = self.log.fault() {
             return Err(Refusal::LogFault { count });
         }
-        let count = u64::from(batch.count());
-        if self.last + count > MAX_SEQUENCE {
-            return Err(Refusal::SequenceFull { last: self.last });
-        }
-        let run = Run {
-            first: self.last + 1,
-            last: self.last + count,
-        };
+        let run = next_run(self.last, u64::from(batch.count()))?;
         batch.set_sequence(run.first);
         if how.no_log {
             return Ok(run);
@@ -203,37 +184,6 @@ impl<D: Disk> WritePath<D> {
     }
 }
 
-/// The refusals that come at once, in the order of the checks.
-fn refusal_at_once(batch: &Batch, how: WriteOptions, batch_bytes: u64) -> Option<Refusal>
-    ensures refusal { result ≡ early_refusal batch_bytes false batch.now.records how }
-    ensures small { IfNone result (size_of_batch batch.now.records ≤ 16777216) }
-{
-    if batch.count() == 0 {
-        return Some(Refusal::Empty);
-    }
-    let size = batch.size();
-    if size > batch_bytes {
-        return Some(Refusal::TooLarge { size });
-    }
-    if how.sync && how.no_log {
-        return Some(Refusal::SyncWithoutLog);
-    }
-    None
-}
-
-/// How a batch that was committed so stands in the history.
-fn flag_of(how: WriteOptions) -> Flag
-    ensures { result ≡ history.flag_of how }
-{
-    if how.no_log {
-        Flag::NoLog
-    } else if how.sync {
-        Flag::Sync
-    } else {
-        Flag::Log
-    }
-}
-
 /// Makes changes to the map, one after another.
 fn change_all(published: &mut Published, changes: Vec<Change>)
     requires { vec_len changes ≤ room_of published.old }
@@ -241,8 +191,8 @@ fn change_all(published: &mut Published, changes: Vec<Change>)
 {
     for change in changes {
         match change {
-            Change::Set(pair) => published.insert(pair),
-            Change::Remove(key) => published.remove(key.as_slice()),
+            Change::Set { key, value } => published.insert(key, value),
+            Change::Remove { key } => published.remove(key.as_slice()),
         }
     }
 }

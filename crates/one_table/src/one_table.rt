@@ -1,5 +1,6 @@
 //! The table.
 ghost use Rattle.std.specs.Prelude.{◌≡◌};
+ghost use Rattle.table_steps.specs.Accounts.{opening_of};
 
 use table_rule::Versioned;
 use table_steps::SharedTable;
@@ -7,6 +8,6 @@ use table_steps::SharedTable;
 /// A table of versions whose tree stands under one lock. `T` is the tree, and `N` a member's nodes.
 #[derive(Drop)]
 pub struct OneTable<T: Versioned, N: Versioned> {
-    pub steps: SharedTable<T, N>,
-    ghost one: { steps.table.shared.key.shards ≡ 1 },
+    pub(crate) steps: SharedTable<T, N>,
+    ghost one: { (opening_of steps).shards ≡ 1 },
 }

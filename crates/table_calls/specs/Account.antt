@@ -1,9 +1,13 @@
 -- What a client's seat knows of a table and has to do there, as callers see it.
-use Rattle.std.specs.Prelude.{◌≡◌, ℕ, List, Option, None, Some}
-use Rattle.table_rule.specs.declared.content.Part.{Part}
+use Rattle.std.specs.Prelude.{◌≡◌, ℕ, List, [], ◌∷◌, ◌++◌, length, Option, None, Some}
+use Rattle.table_rule.specs.declared.content.MemberVersions.{MemberVersions}
+use Rattle.table_rule.specs.declared.content.Version.{Version}
+use Rattle.table_rule.specs.declared.view.Launched.{Launched}
+use Rattle.table_rule.specs.declared.view.Opening.{Opening}
 use Rattle.table_rule.specs.declared.view.Stage.{Stage}
-use Rattle.table_rule.specs.declared.view.Stage.TheVariants.{Idle, Publishing}
+use Rattle.table_rule.specs.declared.view.Stage.TheVariants.{Idle, Waiting, Holding, Publishing}
 use Rattle.table_rule.specs.Histories.{In, Begins, IsHistory}
+use Rattle.table_rule.specs.Steps.{work, launched_behind, IsPartOf, IsAwaited}
 use Rattle.table_calls.specs.declared.finished.Finished.{Finished}
 use Rattle.table_calls.specs.declared.finished.Finished.TheVariants.{Last, Others}
 
@@ -11,11 +15,11 @@ pub record Account : Type 0 where
   -- the client
   pub number : ℕ
   -- the published groups that it has seen, the oldest first
-  pub seen : List (List Part)
+  pub seen : List (List MemberVersions)
   -- where its own part is
   pub stage : Stage
-  -- the group that it launched, with the history before it
-  pub launched : Option (List (List Part) × List Part)
+  -- the group that it launched and waits for
+  pub launched : Option Launched
 
 -- It has seen the history up to some moment, with all that it had seen.
 pub record Learns (start : ℕ) (before after : Account) : Type 0 where
@@ -32,17 +36,33 @@ pub record Steps (before : Account) (stage : Stage) (after : Account) : Type 0 w
   pub stage_is : after.stage ≡ stage
   pub launched : after.launched ≡ before.launched
 
--- It finished its part, and where it was the last it may publish the group once.
-abbrev pub Counts : Account → ℕ → Finished → Account → Type 0
-Counts before last Last after = Steps before (Publishing last) after
-Counts before last Others after = Steps before Idle after
-
--- It launched a group behind a history.
-pub record Launches (before : Account) (history : List (List Part)) (group : List Part) (after : Account) : Type 0 where
+-- It launched a group behind a history, and is to take its own part of it.
+pub record Launches (start : ℕ) (before : Account) (history : List (List MemberVersions)) (group : List MemberVersions) (after : Account) : Type 0 where
   pub number : after.number ≡ before.number
   pub seen : after.seen ≡ before.seen
-  pub stage : after.stage ≡ before.stage
-  pub launched_is : after.launched ≡ Some (history, group)
+  pub stage_is : after.stage ≡ Waiting (launched_behind start history group)
+  pub launched_is : after.launched ≡ Some (launched_behind start history group)
+
+-- It took its own part of a launched group, which is the one that it waited for, if it launched one.
+pub record Takes (opening : Opening) (before : Account) (versions : List Version) (after : Account) : Type 0 where
+  pub launched : Launched
+  pub steps : Steps before (Holding (work launched [] versions)) after
+  pub own_part : IsPartOf opening before.number before.seen launched versions
+  pub awaited : IsAwaited before.stage launched
+
+-- It finished its part. Where it was the last it may publish the group once.
+abbrev pub Counts : Account → Launched → Finished → Account → Type 0
+Counts before launched Last after = Steps before (Publishing launched) after
+Counts before launched Others after = Steps before Idle after
+
+-- It published the group, and has seen it behind the history before.
+pub record Publishes (start : ℕ) (before : Account) (launched : Launched) (after : Account) : Type 0 where
+  pub number : after.number ≡ before.number
+  pub stage_is : after.stage ≡ Idle
+  pub launched_is : after.launched ≡ before.launched
+  pub seen_is : after.seen ≡ launched.before ++ launched.group ∷ []
+  pub seen_before : Begins before.seen launched.before
+  pub is_history : IsHistory start after.seen
 
 -- It has nothing to do.
 pub record IsReady (account : Account) : Type 0 where
@@ -50,6 +70,6 @@ pub record IsReady (account : Account) : Type 0 where
   pub none_launched : account.launched ≡ None
 
 -- All that was published is one history, and each client has seen a beginning of it.
-pub record IsClosing (start : ℕ) (history : List (List Part)) (accounts : List Account) : Type 0 where
+pub record IsClosing (start : ℕ) (history : List (List MemberVersions)) (accounts : List Account) : Type 0 where
   pub is_history : IsHistory start history
   pub each : (account : Account) → In account accounts → Begins account.seen history

@@ -6,10 +6,13 @@ use table_rule::Versioned;
 
 /// The members of a group with their nodes, each member once.
 pub trait GroupParts<N: Versioned> {
-    ghost use Rattle.std.specs.Prelude.{List};
-    ghost use Rattle.table_rule.specs.declared.content.Part.{Part};
+    ghost use Rattle.std.specs.Prelude.{ℕ, List};
+    ghost use Rattle.table_rule.specs.declared.content.MemberVersions.{MemberVersions};
 
-    ghost parts: { Self → List Part };
+    ghost parts: { Self → List MemberVersions };
+
+    /// For how many members there is room.
+    ghost room: { Self → ℕ };
 
     /// How many members there are.
     fn len(&self) -> usize
@@ -22,5 +25,6 @@ pub trait GroupParts<N: Versioned> {
 
     /// Takes the first member out, with its nodes.
     fn pop(&mut self) -> Option<(u64, N)>
-        ensures { MatchOption result ((Self.parts self.old ≡ []) × (Self.parts self.new ≡ [])) (λ taken. Self.parts self.old ≡ (record { member = taken.0; versions = N.versions taken.1 }) ∷ Self.parts self.new) };
+        ensures room { Self.room self.new ≡ Self.room self.old }
+        ensures first { MatchOption result ((Self.parts self.old ≡ []) × (Self.parts self.new ≡ [])) (λ taken. Self.parts self.old ≡ (record { member = taken.0; versions = N.versions taken.1 }) ∷ Self.parts self.new) };
 }

@@ -1,25 +1,29 @@
 //! The calls.
-ghost use Rattle.std.specs.Prelude.{◌≡◌, ℕ, ◌<◌, ◌≤◌, ◌^◌, List, [], ◌∷◌, ◌++◌, None, Some, map, IfOk};
+ghost use Rattle.std.specs.Prelude.{◌≡◌, ℕ, ◌<◌, ◌≤◌, ◌^◌, List, [], ◌∷◌, ◌++◌, length, None, Some, map, IfOk};
 ghost use Rattle.wp_model.specs.Map.{rows_within};
 ghost use Rattle.wp_coding.specs.Answers.{found_value};
-ghost use Rattle.table_rule.specs.declared.content.Part.{Part};
+ghost use Rattle.table_rule.specs.declared.content.MemberVersions.{MemberVersions};
+ghost use Rattle.table_rule.specs.declared.view.Launched.{Launched};
 ghost use Rattle.table_rule.specs.declared.view.Stage.TheVariants.{Idle, Holding, Stored, Publishing};
 ghost use Rattle.table_rule.specs.Histories.{In, last_of, map_after, value_in};
 ghost use Rattle.table_rule.specs.Rule.{end_of};
-ghost use Rattle.table_rule.specs.Steps.{IsNext, work};
-ghost use Rattle.table_calls.specs.Account.{Account, Learns, Launches, Steps, Counts, IsReady, IsClosing};
+ghost use Rattle.table_rule.specs.Steps.{IsNext, MayTake, work};
+ghost use Rattle.table_calls.specs.declared.finished.Finished.TheVariants.{Last};
+ghost use Rattle.table_calls.specs.Account.{Account, Learns, Launches, Takes, Steps, Counts, Publishes, IsReady, IsClosing};
 
 use crate::finished::Finished;
+use crate::group::GroupParts;
 use crate::seats::Seats;
 use std::alloc::Global;
 use std::sync::Wait;
+use table_rule::Versioned;
 use wp_coding::{Bytes, Read, Reads, Rows};
 use wp_model::NoMemory;
 
 /// A table of versions, which groups are published to. `P` is a list of a group's members with their nodes.
 ///
 /// Each client has one seat. A group is launched by the client that has the turn. Each member takes its part, inserts it and finishes. Who finishes last publishes the group. The client that launched it waits for that, and has the turn again.
-pub trait Table<P> {
+pub trait Table<N: Versioned, P: GroupParts<N>> {
     /// A client's seat.
     type Seat;
 
@@ -30,27 +34,22 @@ pub trait Table<P> {
     type Part;
 
     ghost use Rattle.std.specs.Prelude.{ℕ, List};
-    ghost use Rattle.table_rule.specs.declared.content.Part.{Part};
+    ghost use Rattle.table_rule.specs.declared.content.MemberVersions.{MemberVersions};
     ghost use Rattle.table_rule.specs.declared.content.Version.{Version};
     ghost use Rattle.table_rule.specs.declared.view.Opening.{Opening};
     ghost use Rattle.table_calls.specs.Account.{Account};
 
     /// What it was opened for.
-    ghost home: { Self → Opening };
-
-    /// The parts of a list.
-    ghost group: { P → List Part };
+    ghost opening: { Self → Opening };
 
     /// What a client's seat knows and has to do.
     ghost account: { Self.Seat → Account };
 
     /// All that is published. Who has the turn knows that no group is launched.
-    ghost history: { Self.Turn → List (List Part) };
+    ghost history: { Self.Turn → List (List MemberVersions) };
 
-    /// The versions of a part, and the last sequence of its group.
+    /// The versions of a part.
     ghost versions: { Self.Part → List Version };
-
-    ghost group_last: { Self.Part → ℕ };
 
     /// The seat, and the turn, are of this table.
     ghost ours: { Self → Self.Seat → Type 0 };
@@ -61,12 +60,12 @@ pub trait Table<P> {
     fn last(&self, seat: &mut Self::Seat) -> u64
         requires { ours self.now seat.old }
         ensures ours { ours self.now seat.new }
-        ensures seen { Learns (home self.now).start (account seat.old) (account seat.new) }
-        ensures value { result ≡ last_of (home self.now).start (account seat.new).seen };
+        ensures seen { Learns (opening self.now).start (account seat.old) (account seat.new) }
+        ensures value { result ≡ last_of (opening self.now).start (account seat.new).seen };
 
     /// The number of its lock words.
     fn locks(&self) -> u64
-        ensures { result ≡ (home self.now).shards };
+        ensures { result ≡ (opening self.now).shards };
 
     /// The value of a key, with the published sequence that it is of. Want of memory leaves the table as it was.
     fn read<R: Wait>(
@@ -78,8 +77,8 @@ pub trait Table<P> {
     ) -> Result<Read, NoMemory>
         requires { ours self.now seat.old }
         ensures ours { ours self.now seat.new }
-        ensures seen { Learns (home self.now).start (account seat.old) (account seat.new) }
-        ensures at { IfOk result (λ read. read.at ≡ last_of (home self.now).start (account seat.new).seen) }
+        ensures seen { Learns (opening self.now).start (account seat.old) (account seat.new) }
+        ensures at { IfOk result (λ read. read.at ≡ last_of (opening self.now).start (account seat.new).seen) }
         ensures value { IfOk result (λ read. found_value read.value ≡ value_in key.now (account seat.new).seen) };
 
     /// The values of keys, all of one published sequence.
@@ -92,8 +91,8 @@ pub trait Table<P> {
     ) -> Result<Reads, NoMemory>
         requires { ours self.now seat.old }
         ensures ours { ours self.now seat.new }
-        ensures seen { Learns (home self.now).start (account seat.old) (account seat.new) }
-        ensures at { IfOk result (λ reads. reads.at ≡ last_of (home self.now).start (account seat.new).seen) }
+        ensures seen { Learns (opening self.now).start (account seat.old) (account seat.new) }
+        ensures at { IfOk result (λ reads. reads.at ≡ last_of (opening self.now).start (account seat.new).seen) }
         ensures values { IfOk result (λ reads. reads.values ≡ map (λ key. value_in key (account seat.new).seen) keys.now) };
 
     /// The keys from `lo` on and below `hi` with their values, all of one published sequence, in byte order.
@@ -107,62 +106,64 @@ pub trait Table<P> {
     ) -> Result<Rows, NoMemory>
         requires { ours self.now seat.old }
         ensures ours { ours self.now seat.new }
-        ensures seen { Learns (home self.now).start (account seat.old) (account seat.new) }
-        ensures at { IfOk result (λ rows. rows.at ≡ last_of (home self.now).start (account seat.new).seen) }
+        ensures seen { Learns (opening self.now).start (account seat.old) (account seat.new) }
+        ensures at { IfOk result (λ rows. rows.at ≡ last_of (opening self.now).start (account seat.new).seen) }
         ensures rows { IfOk result (λ rows. rows.rows ≡ rows_within lo.now hi.now (map_after (account seat.new).seen)) };
 
-    /// Launches a group and hands each member its nodes. So far a group has one member, the client that launches it. The seat keeps the turn until `await_published`.
+    /// Launches a group and hands each member its nodes. So far a group has one member, the client that launches it, which is to take its part next. The seat keeps the turn until `await_published`.
     fn launch(&self, seat: &mut Self::Seat, turn: Self::Turn, parts: &mut P)
         requires ours { ours self.now seat.old × our_turn self.now turn }
-        requires free { (account seat.old).launched ≡ None }
-        requires next { IsNext (home self.now) (history turn) (group parts.old) }
-        requires fits { end_of (last_of (home self.now).start (history turn)) (group parts.old) < 2 ^ 64 }
-        requires alone { (part : Part) × (group parts.old ≡ part ∷ []) × (part.member ≡ (account seat.old).number) }
+        requires ready { IsReady (account seat.old) }
+        requires next { IsNext (opening self.now) (history turn) (P.parts parts.old) }
+        requires fits { end_of (last_of (opening self.now).start (history turn)) (P.parts parts.old) < 2 ^ 64 }
+        requires alone { (part : MemberVersions) × (P.parts parts.old ≡ part ∷ []) × (part.member ≡ (account seat.old).number) }
         ensures ours { ours self.now seat.new }
-        ensures launched { Launches (account seat.old) (history turn) (group parts.old) (account seat.new) }
-        ensures emptied { group parts.new ≡ [] };
+        ensures launched { Launches (opening self.now).start (account seat.old) (history turn) (P.parts parts.old) (account seat.new) }
+        ensures emptied { P.parts parts.new ≡ [] }
+        ensures room { P.room parts.new ≡ P.room parts.old };
 
     /// Waits until the client's part is handed out, and takes it.
     fn take<R: Wait>(&self, rt: &R, seat: &mut Self::Seat) -> Self::Part
         requires ours { ours self.now seat.old }
-        requires idle { (account seat.old).stage ≡ Idle }
+        requires free { MayTake (account seat.old).stage }
         ensures ours { ours self.now seat.new }
-        ensures taken { Steps (account seat.old) (Holding (work (group_last result) [] (versions result))) (account seat.new) };
+        ensures taken { Takes (opening self.now) (account seat.old) (versions result) (account seat.new) };
 
     /// Puts the part's nodes into their trees, each under its lock.
     fn insert<R: Wait>(&self, rt: &R, seat: &mut Self::Seat, part: Self::Part)
         requires ours { ours self.now seat.old }
-        requires taken { (account seat.old).stage ≡ Holding (work (group_last part) [] (versions part)) }
+        requires taken { (u : Launched) × ((account seat.old).stage ≡ Holding (work u [] (versions part))) }
         ensures ours { ours self.now seat.new }
-        ensures stored { Steps (account seat.old) (Stored (group_last part)) (account seat.new) };
+        ensures stored { (u : Launched) → (account seat.old).stage ≡ Holding (work u [] (versions part)) → Steps (account seat.old) (Stored u) (account seat.new) };
 
-    /// The client's part is finished.
+    /// The client's part is finished. A group's only member is the last to finish.
     fn finish(&self, seat: &mut Self::Seat) -> Finished
         requires ours { ours self.now seat.old }
-        requires stored { (last : ℕ) × ((account seat.old).stage ≡ Stored last) }
+        requires stored { (u : Launched) × ((account seat.old).stage ≡ Stored u) }
         ensures ours { ours self.now seat.new }
-        ensures counted { (last : ℕ) → (account seat.old).stage ≡ Stored last → Counts (account seat.old) last result (account seat.new) };
+        ensures counted { (u : Launched) → (account seat.old).stage ≡ Stored u → Counts (account seat.old) u result (account seat.new) }
+        ensures only_member { (u : Launched) → (account seat.old).stage ≡ Stored u → length u.group ≡ 1 → result ≡ Last };
 
-    /// Publishes the group, of which this client finished last.
+    /// Publishes the group, of which this client finished last. The client has then seen it.
     fn publish(&self, seat: &mut Self::Seat)
         requires ours { ours self.now seat.old }
-        requires last_one { (last : ℕ) × ((account seat.old).stage ≡ Publishing last) }
+        requires last_one { (u : Launched) × ((account seat.old).stage ≡ Publishing u) }
         ensures ours { ours self.now seat.new }
-        ensures published { Steps (account seat.old) Idle (account seat.new) };
+        ensures published { (u : Launched) → (account seat.old).stage ≡ Publishing u → Publishes (opening self.now).start (account seat.old) u (account seat.new) };
 
     /// Waits until the group that this client launched is published, and takes the turn back. `last` is the group's last sequence.
     fn await_published<R: Wait>(&self, rt: &R, seat: &mut Self::Seat, last: u64) -> Self::Turn
         requires ours { ours self.now seat.old }
         requires idle { (account seat.old).stage ≡ Idle }
-        requires launched { (before : List (List Part)) × (g : List Part) × ((account seat.old).launched ≡ Some (before, g)) × (last ≡ end_of (last_of (home self.now).start before) g) }
+        requires launched { (u : Launched) × ((account seat.old).launched ≡ Some u) × (last ≡ u.last) }
         ensures ours { ours self.now seat.new × our_turn self.now result }
-        ensures published { (before : List (List Part)) (g : List Part) → (account seat.old).launched ≡ Some (before, g) → history result ≡ before ++ g ∷ [] }
-        ensures seen { Learns (home self.now).start (record (account seat.old) { launched = None }) (account seat.new) }
-        ensures reached { last ≤ last_of (home self.now).start (account seat.new).seen };
+        ensures published { (u : Launched) → (account seat.old).launched ≡ Some u → history result ≡ u.before ++ u.group ∷ [] }
+        ensures seen { Learns (opening self.now).start (record (account seat.old) { launched = None }) (account seat.new) }
+        ensures reached { last ≤ last_of (opening self.now).start (account seat.new).seen };
 
     /// Gives the table up, with all seats.
     fn close(self, seats: Seats<Self::Seat, Self::Turn>)
         requires turn { our_turn self seats.turn }
         requires clients { (seat : Self.Seat) → In seat seats.clients.items → ours self seat × IsReady (account seat) }
-        ensures { IsClosing (home self).start (history seats.turn) (map account seats.clients.items) };
+        ensures { IsClosing (opening self).start (history seats.turn) (map account seats.clients.items) };
 }

@@ -3,7 +3,7 @@ use Rattle.std.proofs.Common.{◌≡◌, ℕ, suc, eqb, cond, Bool, true, false,
 use Rattle.std.proofs.Math.Nat.{mod-one}
 use Rattle.wp_model.specs.Checksum.{crc32c}
 use Rattle.table_rule.specs.declared.content.Version.{Version}
-use Rattle.table_rule.specs.declared.content.Part.{Part}
+use Rattle.table_rule.specs.declared.content.MemberVersions.{MemberVersions}
 use Rattle.table_rule.specs.Histories.{In, versions_of, Runs, last_of, shard_of, of_shard, AreRising, IsOrderUpTo}
 use Rattle.table_rule.specs.Steps.{Shows}
 use Rattle.table_rule.proofs.Histories.{in_run}
@@ -42,7 +42,7 @@ rising_run last [] r = tt
 rising_run last (v ∷ vs) r = ((λ w h. let k = (in_run (suc last) vs w r.1 h).0 in let e = r.0 in omega arith), rising_run (suc last) vs r.1)
 
 -- What was seen of the shard is an order of the tree's versions up to its end, whatever stands past it.
-pub seen_order : (shards j start : ℕ) (seen : List (List Part)) (vs : List Version) → Runs start (versions_of seen) → Shows shards j start seen vs → IsOrderUpTo (last_of start seen) vs (of_shard shards j (versions_of seen))
+pub seen_order : (shards j start : ℕ) (seen : List (List MemberVersions)) (vs : List Version) → Runs start (versions_of seen) → Shows shards j start seen vs → IsOrderUpTo (last_of start seen) vs (of_shard shards j (versions_of seen))
 seen_order shards j start seen vs runs shows =
     let p : Version → Bool = λ v. eqb (shard_of shards v) j in record {
       same = λ v. (

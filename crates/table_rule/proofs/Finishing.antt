@@ -1,34 +1,36 @@
 -- Who counts down, who publishes, and who launches.
-use Rattle.std.proofs.Common.{◌≡◌, ◌≢◌, ℕ, zero, suc, ◌+◌, ◌-◌, ◌^◌, ◌%◌, ◌<◌, ◌⊎◌, List, [], ◌∷◌, ◌++◌, length, get_or, set, refl, sym, ap, ◌∙◌, subst, inl, inr, ⊎_elim, arith, append-nil, length-set, get_or-set_other, get_or-set_same}
+use Rattle.std.proofs.Common.{◌≡◌, ◌≢◌, ℕ, zero, suc, ◌+◌, ◌-◌, ◌^◌, ◌%◌, ◌<◌, ◌≤◌, ◌⊎◌, List, [], ◌∷◌, ◌++◌, length, get_or, set, refl, sym, ap, ◌∙◌, subst, inl, inr, ⊎_elim, arith, append-nil, length-set, get_or-set_other, get_or-set_same}
 use mathlib.Core.Logic.{dite}
 use mathlib.Core.Option.{none, some}
 use native.Mathlib.Decide.{ℕ_discrete}
 use lib.ListN.{get_elem?}
 use Rattle.atomic_table.specs.Table.{step, keeps, Allows}
 use Rattle.table_rule.specs.declared.content.Version.{Version}
-use Rattle.table_rule.specs.declared.content.Part.{Part}
+use Rattle.table_rule.specs.declared.content.MemberVersions.{MemberVersions}
 use Rattle.table_rule.specs.declared.view.Opening.{Opening}
 use Rattle.table_rule.specs.declared.view.SeatState.{SeatState}
+use Rattle.table_rule.specs.declared.view.Launched.{Launched}
 use Rattle.table_rule.specs.declared.view.Lock.TheVariants.{Free}
 use Rattle.table_rule.specs.declared.view.Stage.{Stage}
-use Rattle.table_rule.specs.declared.view.Stage.TheVariants.{Idle, Holding, Stored, Publishing, Resting, Handing, Filling}
-use Rattle.table_rule.specs.Histories.{In, versions_in, versions_of, Runs, last_of, Begins, Apart, Members}
-use Rattle.table_rule.specs.Rule.{Place, out, coming, inserted, finished, ShardState, Mode, still, running, ended, stored_in, InPart, NotTaken, unfinished, AllParts, AllFinished, AllComing, end_of, IsLaunched, InMode, KnowsLock, Knows, seat_state, InPlace}
-use Rattle.table_rule.specs.Steps.{SeatNow, IsAt}
+use Rattle.table_rule.specs.declared.view.Stage.TheVariants.{Idle, Waiting, Holding, Stored, Publishing, Resting, Handing, Filling}
+use Rattle.table_rule.specs.Histories.{In, versions_in, versions_of, Runs, last_of, Begins, Apart, Members, AreSome, IsHistory}
+use Rattle.table_rule.specs.Rule.{Place, out, coming, filling, handed, busy, inserted, finished, ShardState, Mode, still, running, ended, stored_in, InPart, NotTaken, IsComing, open_part, unfinished, AllParts, AllFinished, AllComing, end_of, IsLaunched, IsRunning, InMode, KnowsLock, Knows, seat_state, InPlace}
+use Rattle.table_rule.specs.Steps.{SeatNow, IsAt, IsWithTurn, launched_behind}
 use Rattle.table_rule.proofs.Puts.{put, put_at, put_here}
 use Rattle.table_rule.proofs.Histories.{in_left, in_right, in_split, begins_same, begins_more, versions_snoc, last_snoc}
 use Rattle.table_rule.proofs.Parts.{IsOpen, part_at}
-use Rattle.table_rule.proofs.Moves.{TableState, Homes, shard_stays, place_stays, moved, Goes, unmoved}
+use Rattle.table_rule.proofs.Moves.{TableState, Homes, shard_stays, place_stays, moved, all_moved, Goes, unmoved, same_now, allows, progress_moves}
+use Rattle.table_rule.specs.Events.{TableNow, table_now, progress_of, to_insert, to_finish, is_finished, Stays, OnlyMember, IsLaunch, IsFinish, IsPublish, now_of, IsNow, Comes, StepIs}
 use Rattle.table_rule.specs.Steps.{launched, counted, ending, publishes, awaited}
-use Rattle.table_rule.proofs.Locks.{one, own, IsWithMember, loaded, Rule, knows_member}
-use Rattle.table_rule.proofs.Parts.{all_done, open_mode, one_less, none_open, in_group, placed, placed_out, placed_is, placed_coming, coming_parts, coming_open, parts_put, fit_put, finished_at, finished_parts, stored_group}
+use Rattle.table_rule.proofs.Locks.{one, own, launched_in, IsWithMember, loaded, Rule, knows_member}
+use Rattle.table_rule.proofs.Parts.{all_done, open_mode, one_less, none_open, in_group, placed, placed_out, placed_is, placed_coming, coming_at, coming_parts, coming_open, parts_put, fit_put, finished_at, finished_parts, stored_group}
 use Rattle.table_rule.proofs.Histories.{some_snoc, runs_append, member_or}
 use Rattle.table_rule.proofs.Handing.{keys_stay}
 
-running_one : (g h : List Part) → running g ≡ running h → g ≡ h
+running_one : (g h : List MemberVersions) → running g ≡ running h → g ≡ h
 running_one g h e = cc
 
-ended_one : (c d : ℕ) (g h : List Part) → ended c g ≡ ended d h → (c ≡ d) × (g ≡ h)
+ended_one : (c d : ℕ) (g h : List MemberVersions) → ended c g ≡ ended d h → (c ≡ d) × (g ≡ h)
 ended_one c d g h e = (cc, cc)
 
 less : (x : ℕ) → 0 < x → x < 18446744073709551616 → (x + (2 ^ 64 - 1)) % 2 ^ 64 ≡ x - 1
@@ -40,14 +42,18 @@ IsGone p = (p ≡ out) ⊎ ((l : ℕ) × (vs : List Version) × (p ≡ finished 
 gone_open : (p : Place) → IsGone p → IsOpen p → ⊥
 gone_open p gone is = ⊎_elim (λ (t : p ≡ out). absurd (subst IsOpen t is)) (λ (t : (l : ℕ) × (vs : List Version) × (p ≡ finished l vs)). absurd (subst IsOpen t.2 is)) gone
 
+gone_coming : (p : Place) → IsGone p → IsComing p → ⊥
+gone_coming p gone is = ⊎_elim (λ (t : p ≡ out). absurd (subst IsComing t is)) (λ (t : (l : ℕ) × (vs : List Version) × (p ≡ finished l vs)). absurd (subst IsComing t.2 is)) gone
+
 module _ {T N : Type 0} (held_by : T → List Version) (nodes_of : N → List Version) (z : Opening) where
   -- the last part is finished: what others know
-  knows_ended : (published : List (List Part)) (mode : Mode) (place : ℕ → Place) (lock : ℕ → ShardState) (g : List Part) (c k : ℕ) → mode ≡ running g → ((i : ℕ) → IsGone (place i)) → (seen : List (List Part)) (st : Stage)
+  knows_ended : (published : List (List MemberVersions)) (mode : Mode) (place : ℕ → Place) (lock : ℕ → ShardState) (g : List MemberVersions) (c k : ℕ) → mode ≡ running g → ((i : ℕ) → IsGone (place i)) → (seen : List (List MemberVersions)) (st : Stage)
       → Knows z.shards z.start published mode place lock k seen st → Knows z.shards z.start published (ended c g) place lock k seen st
   knows_ended published mode place lock g c k is gone seen Idle ok = ok
-  knows_ended published mode place lock g c k is gone seen (Holding w) ok = ok
-  knows_ended published mode place lock g c k is gone seen (Stored l) ok = ok
-  knows_ended published mode place lock g c k is gone seen (Publishing l) ok = let bad : running g ≡ ended k ok.0 = sym is ∙ ok.1 in absurd (cc)
+  knows_ended published mode place lock g c k is gone seen (Waiting u) ok = absurd (gone_coming (place k) (gone k) ok.0)
+  knows_ended published mode place lock g c k is gone seen (Holding w) ok = absurd (gone_open (place k) (gone k) (subst IsOpen (sym ok.0) tt))
+  knows_ended published mode place lock g c k is gone seen (Stored u) ok = absurd (gone_open (place k) (gone k) (subst IsOpen (sym ok.0.1) tt))
+  knows_ended published mode place lock g c k is gone seen (Publishing u) ok = let bad : running g ≡ ended k u.group = sym is ∙ ok.1 in absurd (cc)
   knows_ended published mode place lock g c k is gone seen Resting ok = let bad : running g ≡ still = sym is ∙ ok.1 in absurd (cc)
   knows_ended published mode place lock g c k is gone seen (Handing h []) ok = (
     ok.0,
@@ -61,7 +67,7 @@ module _ {T N : Type 0} (held_by : T → List Version) (nodes_of : N → List Ve
   knows_ended published mode place lock g c k is gone seen (Handing h (p ∷ ps)) ok = absurd (gone_open (place p.member) (gone p.member) (subst IsOpen (sym ok.3.0) tt))
   knows_ended published mode place lock g c k is gone seen (Filling h p ps) ok = absurd (gone_open (place p.member) (gone p.member) (subst IsOpen (sym ok.3) tt))
 
-  module _ (s : TableState held_by nodes_of) (r : Rule held_by nodes_of z s) (c l : ℕ) (vs : List Version) (now : r.place c ≡ inserted l vs) (g : List Part) (is : r.mode ≡ running g) (x y : ℕ) where
+  module _ (s : TableState held_by nodes_of) (r : Rule held_by nodes_of z s) (c l : ℕ) (vs : List Version) (now : r.place c ≡ inserted l vs) (g : List MemberVersions) (is : r.mode ≡ running g) (x y : ℕ) where
     fin : Place
     fin = finished l vs
 
@@ -71,8 +77,8 @@ module _ {T N : Type 0} (held_by : T → List Version) (nodes_of : N → List Ve
     -- the group is still running, or c may publish it
     counts_to : (id : ℕ) (h h' : SeatState) (mode : Mode) → get_elem? s.views id ≡ some (h ∷ []) → h.client ≡ c → h'.client ≡ h.client → h'.opening ≡ h.opening → h'.lock ≡ Free → h'.seen ≡ h.seen → InMode z.clients y after (last_of z.start r.published) mode
         → Knows z.shards z.start r.published mode after r.lock h.client h'.seen h'.stage
-        → ((k : ℕ) → k ≢ c → (seen : List (List Part)) (st : Stage) → Knows z.shards z.start r.published r.mode after r.lock k seen st → Knows z.shards z.start r.published mode after r.lock k seen st)
-        → Rule held_by nodes_of z (record { words = set s.words (z.shards + 1) y; homes = s.homes; views = set s.views id (h' ∷ []) })
+        → ((k : ℕ) → k ≢ c → (seen : List (List MemberVersions)) (st : Stage) → Knows z.shards z.start r.published r.mode after r.lock k seen st → Knows z.shards z.start r.published mode after r.lock k seen st)
+        → IsNow held_by nodes_of z (table_now r.published mode after) (record { words = set s.words (z.shards + 1) y; homes = s.homes; views = set s.views id (h' ∷ []) })
     counts_to id h h' mode at' c_is same_c same_s free same_seen mode_is knows others =
         let fit = (r.seats id (h ∷ []) at').0 in
         let k : ℕ = z.shards + 1 in
@@ -100,7 +106,7 @@ module _ {T N : Type 0} (held_by : T → List Version) (nodes_of : N → List Ve
           );
           complete = r.complete;
           stored = λ i v h. r.stored i v (put_at r.place c (finished l vs) (λ i p. In v (stored_in p) → In v (stored_in (r.place i))) i (λ e o. subst (λ (p : Place). In v (stored_in p)) (sym (ap r.place e ∙ now)) o) (λ _ o. o) h);
-          seen = subst (λ (y : List (List Part)). Begins y r.published) (sym same_seen) fit.3;
+          seen = subst (λ (y : List (List MemberVersions)). Begins y r.published) (sym same_seen) fit.3;
           grows = begins_same r.published;
           knows_lock = subst (KnowsLock z.shards z.start r.published mode after r.lock h.client) (sym free) tt;
           knows = knows;
@@ -108,37 +114,40 @@ module _ {T N : Type 0} (held_by : T → List Version) (nodes_of : N → List Ve
           others = λ j ne seen st ok. others j (λ e. ne (e ∙ sym c_is)) seen st (knows_member held_by nodes_of z r.published r.mode r.place r.lock r.lock c (finished l vs) j (λ e. ne (e ∙ sym c_is)) (λ l' us' bad. absurd (subst IsWithMember (sym now ∙ bad) tt)) (λ l' us' bad. absurd (subst IsWithMember (sym now ∙ bad) tt)) seen st ok);
         }
 
-  last_in : Stage → ℕ
-  last_in Idle = 0
-  last_in (Holding w) = w.last
-  last_in (Stored l) = l
-  last_in (Publishing l) = l
-  last_in Resting = 0
-  last_in (Handing g ps) = 0
-  last_in (Filling g p ps) = 0
+  pub others_end : (u : Launched) (x : ℕ) → x ≢ 1 → ending u x ≡ Idle
+  others_end u zero ne = refl
+  others_end u (suc zero) ne = absurd (ne refl)
+  others_end u (suc (suc x)) ne = refl
 
-  pub others_end : (l x : ℕ) → x ≢ 1 → ending l x ≡ Idle
-  others_end l zero ne = refl
-  others_end l (suc zero) ne = absurd (ne refl)
-  others_end l (suc (suc x)) ne = refl
+  few_open : (place : ℕ → Place) (g : List MemberVersions) → unfinished place g ≤ length g
+  few_open place [] = omega arith
+  few_open place (p ∷ ps) = let a = at_most (place p.member) in let b = few_open place ps in omega arith
+    where
+      at_most : (p : Place) → open_part p ≤ 1
+      at_most out = omega arith
+      at_most (coming l vs) = omega arith
+      at_most (filling l vs) = omega arith
+      at_most (handed l vs) = omega arith
+      at_most (busy l d m) = omega arith
+      at_most (inserted l vs) = omega arith
+      at_most (finished l vs) = omega arith
 
   -- the fetch-sub of RUNNING
-  pub counts : (slots id : ℕ) (me : SeatNow T N) (c k : ℕ) (seen : List (List Part)) (l : ℕ) → k ≡ z.shards + 1 → IsAt c z seen Free (Stored l) me → Allows (Rule held_by nodes_of z) slots id me k (λ n. (n + (2 ^ 64 - 1)) % 2 ^ 64) (counted (step slots k 1 0 none) me)
-  unfolding last_in
-  counts slots id me c k seen l is mid s r long at fits =
-      let h : SeatState = seat_state c z seen Free (Stored l) in
+  pub counts_is : (slots id : ℕ) (me : SeatNow T N) (c k : ℕ) (seen : List (List MemberVersions)) (u : Launched) → k ≡ z.shards + 1 → IsAt c z seen Free (Stored u) me → StepIs held_by nodes_of (IsFinish c) z slots id me k (λ n. (n + (2 ^ 64 - 1)) % 2 ^ 64) (counted (step slots k 1 0 none) me)
+  counts_is slots id me c k seen u is mid s r long at fits =
+      let h : SeatState = seat_state c z seen Free (Stored u) in
       let at' : get_elem? s.views id ≡ some (h ∷ []) = at ∙ ap some mid in
       let fit = (r.seats id (h ∷ []) at').0 in
-      let vs : List Version = fit.5.0 in
-      let now : r.place c ≡ inserted l vs = fit.5.1 in
+      let l : ℕ = u.last in
+      let vs : List Version = fit.5.0.0 in
+      let now : r.place c ≡ inserted l vs = fit.5.0.1 in
       let x : ℕ = get_or s.words k 0 in
       let last : ℕ = last_of z.start r.published in
       let x_is : x ≡ get_or s.words (z.shards + 1) 0 = ap (λ (i : ℕ). get_or s.words i 0) is in
-      let gm = open_mode z.clients (get_or s.words (z.shards + 1) 0) r.place last c r.mode r.mode_is (subst IsOpen (sym now) tt) in
-      let g : List Part = gm.0 in
-      let ok = subst (InMode z.clients (get_or s.words (z.shards + 1) 0) r.place last) gm.1 r.mode_is in
+      let g : List MemberVersions = u.group in
+      let running_now : r.mode ≡ running g = fit.5.1.0 in
+      let ok = subst (InMode z.clients (get_or s.words (z.shards + 1) 0) r.place last) running_now r.mode_is in
       let p = in_it s r c l vs now last g ok.3 in
-      let part : InPart (end_of last g) p.0.versions (inserted l vs) = subst (InPart (end_of last g) p.0.versions) (ap r.place p.2 ∙ now) (part_at r.place (end_of last g) g p.0 ok.2 p.1) in
       let place = put r.place c (finished l vs) in
       let y : ℕ = (x + (2 ^ 64 - 1)) % 2 ^ 64 in
       let fewer : suc (unfinished place g) ≡ unfinished r.place g = one_less r.place c l vs z.clients g p.0 p.1 p.2 (subst IsOpen (sym now) tt) ok.3.2 in
@@ -148,30 +157,44 @@ module _ {T N : Type 0} (held_by : T → List Version) (nodes_of : N → List Ve
       let y_is : y ≡ unfinished place g = omega arith in
       let parts : AllParts place (end_of last g) g = parts_put r.place c (finished l vs) (end_of last g) g (λ us o. subst (InPart (end_of last g) us) now o) ok.2 in
       let fit' : IsLaunched z.clients y place last g = fit_put r.place c (finished l vs) z.clients (get_or s.words (z.shards + 1) 0) y last g (λ e. subst IsOpen (sym now ∙ e) tt) ok.3 in
-      let h' : SeatState = seat_state c z seen Free (ending l x) in
-      let rule : Rule held_by nodes_of z (record { words = set s.words (z.shards + 1) y; homes = s.homes; views = set s.views id (h' ∷ []) }) = dite (ℕ_discrete x 1)
+      let h' : SeatState = seat_state c z seen Free (ending u x) in
+      let was : OnlyMember c to_finish is_finished (now_of held_by nodes_of z s r) (table_now r.published r.mode place) = progress_moves r.published r.mode r.mode r.place c (inserted l vs) (finished l vs) now in
+      let rule : Comes held_by nodes_of (IsFinish c x) z (now_of held_by nodes_of z s r) (record { words = set s.words (z.shards + 1) y; homes = s.homes; views = set s.views id (h' ∷ []) }) = dite (ℕ_discrete x 1)
       (λ (e : x ≡ 1).
       let none_left : unfinished place g ≡ 0 = omega arith in
-      let all = none_open place (end_of last g) g none_left parts in
-      counts_to s r c l vs now g gm.1 x y id h h' (ended c g) at' refl refl refl refl refl (y_is ∙ none_left, all, fit')
-      (subst (λ (i : ℕ). Knows z.shards z.start r.published (ended c g) place r.lock c seen (ending l i)) (sym e) (g, refl, subst NotTaken (sym (put_here r.place c (finished l vs))) tt, sym part.0))
-      (λ j ne. knows_ended r.published r.mode place r.lock g c j gm.1 (all_gone z.clients y place last g all fit')))
-      (λ (ne : x ≢ 1). counts_to s r c l vs now g gm.1 x y id h h' r.mode at' refl refl refl refl refl (subst (InMode z.clients y place last) (sym gm.1) (y_is, (omega arith), parts, fit'))
-      (subst (Knows z.shards z.start r.published r.mode place r.lock c seen) (sym (others_end l x ne)) (subst NotTaken (sym (put_here r.place c (finished l vs))) tt))
-      (λ j ne seen st ok. ok)) in (
+      let all = none_open place (end_of last g) g none_left parts in (
+        table_now r.published (ended c g) place,
+        (g, running_now, p, (was.0, was.1, was.2, was.3), (λ _. (refl, λ q h. ap progress_of (finished_at place (end_of last g) g q all h))), (λ ne. absurd (ne e))),
+        counts_to s r c l vs now g running_now x y id h h' (ended c g) at' refl refl refl refl refl (y_is ∙ none_left, all, fit')
+            (subst (λ (i : ℕ). Knows z.shards z.start r.published (ended c g) place r.lock c seen (ending u i)) (sym e) (subst NotTaken (sym (put_here r.place c (finished l vs))) tt, refl, fit.5.1.1))
+            (λ j ne. knows_ended r.published r.mode place r.lock g c j running_now (all_gone z.clients y place last g all fit')),
+      ))
+      (λ (ne : x ≢ 1). (
+        table_now r.published r.mode place,
+        (g, running_now, p, (was.0, was.1, was.2, was.3), (λ e. absurd (ne e)), (λ _. refl)),
+        counts_to s r c l vs now g running_now x y id h h' r.mode at' refl refl refl refl refl (subst (InMode z.clients y place last) (sym running_now) (y_is, (omega arith), parts, fit'))
+            (subst (Knows z.shards z.start r.published r.mode place r.lock c seen) (sym (others_end u x ne)) (subst NotTaken (sym (put_here r.place c (finished l vs))) tt))
+            (λ j ne seen st ok. ok),
+      )) in (
         h' ∷ [],
         keeps,
         tt,
-        subst (λ (i : ℕ). Rule held_by nodes_of z (record { words = set s.words i y; homes = s.homes; views = set s.views id (h' ∷ []) })) (sym is) rule,
-        λ c' z' seen' l' mid'. let e = sym mid ∙ mid' in let l_is : l ≡ l' = ap (λ w. last_in (own w).stage) e in
-            ((λ i. seat_state (own (e i)).client (own (e i)).opening (own (e i)).seen (own (e i)).lock (ending (l_is i) x) ∷ []), refl),
+        subst (λ (i : ℕ). Comes held_by nodes_of (IsFinish c x) z (now_of held_by nodes_of z s r) (record { words = set s.words i y; homes = s.homes; views = set s.views id (h' ∷ []) })) (sym is) rule,
+        λ c' z' seen' u' mid'. let e = sym mid ∙ mid' in let u_is : u ≡ u' = ap (λ w. launched_in u (own w).stage) e in (
+          (λ i. seat_state (own (e i)).client (own (e i)).opening (own (e i)).seen (own (e i)).lock (ending (u_is i) x) ∷ []),
+          refl,
+          λ alone. let few = few_open r.place g in let one_member : length g ≡ 1 = ap (λ (v : Launched). length v.group) u_is ∙ alone in omega arith,
+        ),
       )
     where
-      in_it : (s : TableState held_by nodes_of) (r : Rule held_by nodes_of z s) (c l : ℕ) (vs : List Version) → r.place c ≡ inserted l vs → (last : ℕ) (g : List Part) → IsLaunched z.clients (get_or s.words (z.shards + 1) 0) r.place last g → (p : Part) × In p g × (p.member ≡ c)
-      in_it s r c l vs now last g fit = ⊎_elim (λ (t : (p : Part) × In p g × (p.member ≡ c)). t) (λ (t : Apart c g). absurd (subst IsOpen (sym now ∙ fit.3 c t) tt)) (member_or c g)
+      in_it : (s : TableState held_by nodes_of) (r : Rule held_by nodes_of z s) (c l : ℕ) (vs : List Version) → r.place c ≡ inserted l vs → (last : ℕ) (g : List MemberVersions) → IsLaunched z.clients (get_or s.words (z.shards + 1) 0) r.place last g → (p : MemberVersions) × In p g × (p.member ≡ c)
+      in_it s r c l vs now last g fit = ⊎_elim (λ (t : (p : MemberVersions) × In p g × (p.member ≡ c)). t) (λ (t : Apart c g). absurd (subst IsOpen (sym now ∙ fit.3 c t) tt)) (member_or c g)
 
-      all_gone : (n word : ℕ) (place : ℕ → Place) (last : ℕ) (g : List Part) → AllFinished place (end_of last g) g → IsLaunched n word place last g → (i : ℕ) → IsGone (place i)
+      all_gone : (n word : ℕ) (place : ℕ → Place) (last : ℕ) (g : List MemberVersions) → AllFinished place (end_of last g) g → IsLaunched n word place last g → (i : ℕ) → IsGone (place i)
       all_gone n word place last g all fit i = all_done n word place last g all fit i
+
+  pub counts : (slots id : ℕ) (me : SeatNow T N) (c k : ℕ) (seen : List (List MemberVersions)) (u : Launched) → k ≡ z.shards + 1 → IsAt c z seen Free (Stored u) me → Allows (Rule held_by nodes_of z) slots id me k (λ n. (n + (2 ^ 64 - 1)) % 2 ^ 64) (counted (step slots k 1 0 none) me)
+  counts slots id me c k seen u is mid = allows held_by nodes_of (IsFinish c) z slots id me k (λ n. (n + (2 ^ 64 - 1)) % 2 ^ 64) (counted (step slots k 1 0 none) me) (counts_is slots id me c k seen u is mid)
 
   -- all that a published group leaves: each place is out
   row_out : (words : List ℕ) (homes : Homes held_by nodes_of) (i : ℕ) (p : Place) → IsGone p → InPlace held_by nodes_of z.shards words homes i p → InPlace held_by nodes_of z.shards words homes i out
@@ -180,12 +203,13 @@ module _ {T N : Type 0} (held_by : T → List Version) (nodes_of : N → List Ve
       (λ (t : (l : ℕ) × (vs : List Version) × (p ≡ finished l vs)). let o = subst (InPlace held_by nodes_of z.shards words homes i) t.2 ok in (o.0, o.1))
       gone
 
-  knows_published : (published : List (List Part)) (mode : Mode) (place : ℕ → Place) (lock : ℕ → ShardState) (g : List Part) (c k : ℕ) → k ≢ c → mode ≡ ended c g → ((i : ℕ) → IsGone (place i)) → (seen : List (List Part)) (st : Stage)
+  knows_published : (published : List (List MemberVersions)) (mode : Mode) (place : ℕ → Place) (lock : ℕ → ShardState) (g : List MemberVersions) (c k : ℕ) → k ≢ c → mode ≡ ended c g → ((i : ℕ) → IsGone (place i)) → (seen : List (List MemberVersions)) (st : Stage)
       → Knows z.shards z.start published mode place lock k seen st → Knows z.shards z.start (published ++ g ∷ []) still (λ _. out) lock k seen st
   knows_published published mode place lock g c k ne is gone seen Idle ok = tt
-  knows_published published mode place lock g c k ne is gone seen (Holding w) ok = absurd (gone_open (place k) (gone k) (subst IsOpen (sym ok) tt))
-  knows_published published mode place lock g c k ne is gone seen (Stored l) ok = absurd (gone_open (place k) (gone k) (subst IsOpen (sym ok.1) tt))
-  knows_published published mode place lock g c k ne is gone seen (Publishing l) ok = absurd (ne (sym (ended_one c k g ok.0 (sym is ∙ ok.1)).0))
+  knows_published published mode place lock g c k ne is gone seen (Waiting u) ok = absurd (gone_coming (place k) (gone k) ok.0)
+  knows_published published mode place lock g c k ne is gone seen (Holding w) ok = absurd (gone_open (place k) (gone k) (subst IsOpen (sym ok.0) tt))
+  knows_published published mode place lock g c k ne is gone seen (Stored u) ok = absurd (gone_open (place k) (gone k) (subst IsOpen (sym ok.0.1) tt))
+  knows_published published mode place lock g c k ne is gone seen (Publishing u) ok = absurd (ne (sym (ended_one c k g u.group (sym is ∙ ok.1)).0))
   knows_published published mode place lock g c k ne is gone seen Resting ok = let bad : ended c g ≡ still = sym is ∙ ok.1 in absurd (cc)
   knows_published published mode place lock g c k ne is gone seen (Handing h []) ok = (
     ok.0,
@@ -200,31 +224,35 @@ module _ {T N : Type 0} (held_by : T → List Version) (nodes_of : N → List Ve
   knows_published published mode place lock g c k ne is gone seen (Filling h p ps) ok = absurd (gone_open (place p.member) (gone p.member) (subst IsOpen (sym ok.3) tt))
 
   -- the store of LAST
-  pub publishes_all : (slots id : ℕ) (me : SeatNow T N) (c k : ℕ) (seen : List (List Part)) (l : ℕ) → k ≡ z.shards → IsAt c z seen Free (Publishing l) me → Allows (Rule held_by nodes_of z) slots id me k (λ _. l) (λ _. publishes (step slots k l 0 none) me l)
-  publishes_all slots id me c k seen l is mid s r long at fits =
-      let h : SeatState = seat_state c z seen Free (Publishing l) in
+  pub publishes_is : (slots id : ℕ) (me : SeatNow T N) (c k : ℕ) (seen : List (List MemberVersions)) (u : Launched) (l : ℕ) → l ≡ u.last → k ≡ z.shards → IsAt c z seen Free (Publishing u) me → StepIs held_by nodes_of (λ _. IsPublish c) z slots id me k (λ _. l) (λ _. publishes (step slots k l 0 none) me l)
+  publishes_is slots id me c k seen u l l_is is mid s r long at fits =
+      let h : SeatState = seat_state c z seen Free (Publishing u) in
       let at' : get_elem? s.views id ≡ some (h ∷ []) = at ∙ ap some mid in
       let fit = (r.seats id (h ∷ []) at').0 in
-      let g : List Part = fit.5.0 in
+      let g : List MemberVersions = u.group in
       let mode_was : r.mode ≡ ended c g = fit.5.1 in
+      let before_is : r.published ≡ u.before = fit.5.2.0 in
       let last : ℕ = last_of z.start r.published in
       let ok = subst (InMode z.clients (get_or s.words (z.shards + 1) 0) r.place last) mode_was r.mode_is in
       let all : (i : ℕ) → IsGone (r.place i) = all_done z.clients (get_or s.words (z.shards + 1) 0) r.place last g ok.1 ok.2 in
-      let now : List (List Part) = r.published ++ g ∷ [] in
-      let h' : SeatState = seat_state c z seen Free Idle in
+      let now : List (List MemberVersions) = r.published ++ g ∷ [] in
+      let h' : SeatState = seat_state c z (u.before ++ g ∷ []) Free Idle in
+      let now_is : now ≡ u.before ++ g ∷ [] = ap (λ (b : List (List MemberVersions)). b ++ g ∷ []) before_is in
       let ws : List ℕ = set s.words z.shards l in
       let w : (i : ℕ) → i ≢ z.shards → get_or ws i 0 ≡ get_or s.words i 0 = λ i ne. get_or-set_other s.words z.shards i l 0 (λ e. ne (omega arith)) in
       let wide : length s.words ≡ z.shards + 2 + z.clients = r.wide in
       let parts = versions_snoc r.published g in
-      let rule : Rule held_by nodes_of z (record { words = ws; homes = s.homes; views = set s.views id (h' ∷ []) }) = moved held_by nodes_of z s r id ws s.homes h h' now still (λ _. out) r.lock record {
+      let runs_now : Runs z.start (versions_of now) = subst (Runs z.start) (sym parts) (runs_append z.start (versions_of r.published) (versions_in g) r.runs ok.2.0) in
+      let some_now : AreSome now = some_snoc r.published g r.some_each ok.2.1 in
+      let rule : IsNow held_by nodes_of z (table_now now still (λ _. out)) (record { words = ws; homes = s.homes; views = set s.views id (h' ∷ []) }) = moved held_by nodes_of z s r id ws s.homes h h' now still (λ _. out) r.lock record {
         sits = at';
         same_client = refl;
         same_opening = refl;
         wide = length-set s.words z.shards l;
         many = refl;
-        last_is = get_or-set_same s.words z.shards l 0 (omega arith) ∙ (sym fit.5.3 ∙ sym (last_snoc z.start r.published g));
-        runs = subst (Runs z.start) (sym parts) (runs_append z.start (versions_of r.published) (versions_in g) r.runs ok.2.0);
-        some_each = some_snoc r.published g r.some_each ok.2.1;
+        last_is = get_or-set_same s.words z.shards l 0 (omega arith) ∙ (l_is ∙ fit.5.2.1 ∙ sym (last_snoc z.start r.published g));
+        runs = runs_now;
+        some_each = some_now;
         shards_are = λ i lt o. shard_stays held_by nodes_of s.words ws s.homes s.homes z.shards i (w i (λ e. omega arith)) refl (r.lock i) o;
         rows = λ i lo _ o. row_out ws s.homes i (r.place i) (all i) (place_stays held_by nodes_of s.words ws s.homes s.homes z.shards i (w (z.shards + 1 + i) (λ e. omega arith)) refl (r.place i) o);
         mode_is = (w (z.shards + 1) (λ e. omega arith) ∙ ok.0, λ _. refl);
@@ -240,7 +268,7 @@ module _ {T N : Type 0} (held_by : T → List Version) (nodes_of : N → List Ve
             (λ (b : In v (versions_in g)). let p = in_group g v b in r.stored p.0.member v (subst (λ (x : Place). In v (stored_in x)) (sym (finished_at r.place (end_of last g) g p.0 ok.1 p.1)) p.2))
             (in_split v (versions_of r.published) (versions_in g) (subst (In v) parts h));
         stored = λ i v h. absurd h;
-        seen = begins_more seen r.published (g ∷ []) fit.3;
+        seen = subst (λ (b : List (List MemberVersions)). Begins b now) now_is (begins_same now);
         grows = (g ∷ [], refl);
         knows_lock = tt;
         knows = tt;
@@ -250,44 +278,69 @@ module _ {T N : Type 0} (held_by : T → List Version) (nodes_of : N → List Ve
         h' ∷ [],
         keeps,
         tt,
-        subst (λ (i : ℕ). Rule held_by nodes_of z (record { words = set s.words i l; homes = s.homes; views = set s.views id (h' ∷ []) })) (sym is) rule,
-        λ c' z' seen' l' mid'. (ap (one (λ w. seat_state w.client w.opening w.seen w.lock Idle)) (sym mid ∙ mid'), refl),
+        (table_now now still (λ _. out), (g, mode_was, refl, refl, λ _. refl), subst (λ (i : ℕ). IsNow held_by nodes_of z (table_now now still (λ _. out)) (record { words = set s.words i l; homes = s.homes; views = set s.views id (h' ∷ []) })) (sym is) rule),
+        λ c' z' seen' u' mid'.
+            let e = sym mid ∙ mid' in
+            let u_is : u ≡ u' = ap (λ w. launched_in u (own w).stage) e in
+            let seen_is : seen ≡ seen' = ap (λ w. (own w).seen) e in
+            let z_is : z ≡ z' = ap (λ w. (own w).opening) e in
+            let history : IsHistory z.start (u.before ++ g ∷ []) = subst (IsHistory z.start) now_is (runs_now, some_now) in (
+              (λ i. seat_state (own (e i)).client (own (e i)).opening ((u_is i).before ++ (u_is i).group ∷ []) (own (e i)).lock Idle ∷ []),
+              subst (λ (y : List (List MemberVersions) × List (List MemberVersions)). Begins y.0 y.1) (λ i. (seen_is i, (u_is i).before)) (subst (Begins seen) before_is fit.3),
+              subst (λ (y : ℕ × List (List MemberVersions)). IsHistory y.0 y.1) (λ i. ((z_is i).start, (u_is i).before ++ (u_is i).group ∷ [])) history,
+              refl,
+            ),
       )
 
+  pub publishes_all : (slots id : ℕ) (me : SeatNow T N) (c k : ℕ) (seen : List (List MemberVersions)) (u : Launched) (l : ℕ) → l ≡ u.last → k ≡ z.shards → IsAt c z seen Free (Publishing u) me → Allows (Rule held_by nodes_of z) slots id me k (λ _. l) (λ _. publishes (step slots k l 0 none) me l)
+  publishes_all slots id me c k seen u l l_is is mid = allows held_by nodes_of (λ _. IsPublish c) z slots id me k (λ _. l) (λ _. publishes (step slots k l 0 none) me l) (publishes_is slots id me c k seen u l l_is is mid)
+
+  -- the view of a client and of the turn, when the group g is launched
+  begun : List MemberVersions → List SeatState → List SeatState
+  begun g [] = []
+  begun g (h ∷ []) = []
+  begun g (h ∷ t ∷ ts) = seat_state h.client h.opening h.seen h.lock (Waiting (launched_behind t.opening.start t.seen g)) ∷ seat_state t.client t.opening t.seen t.lock (Handing g g) ∷ []
+
   -- nothing is launched: what the clients know while the turn launches
-  knows_launched : (published : List (List Part)) (place place' : ℕ → Place) (lock : ℕ → ShardState) (g : List Part) (mode : Mode) (k : ℕ) → k ≢ 0 → mode ≡ still → ((i : ℕ) → place i ≡ out) → ((i : ℕ) → NotTaken (place' i)) → (seen : List (List Part)) (st : Stage)
+  knows_launched : (published : List (List MemberVersions)) (place place' : ℕ → Place) (lock : ℕ → ShardState) (g : List MemberVersions) (mode : Mode) (k : ℕ) → k ≢ 0 → mode ≡ still → ((i : ℕ) → place i ≡ out) → ((i : ℕ) → NotTaken (place' i)) → (seen : List (List MemberVersions)) (st : Stage)
       → Knows z.shards z.start published mode place lock k seen st → Knows z.shards z.start published (running g) place' lock k seen st
   knows_launched published place place' lock g mode k ne is nobody free seen Idle ok = free k
-  knows_launched published place place' lock g mode k ne is nobody free seen (Holding w) ok = absurd (subst IsOpen (sym ok ∙ nobody k) tt)
-  knows_launched published place place' lock g mode k ne is nobody free seen (Stored l) ok = absurd (subst IsOpen (sym ok.1 ∙ nobody k) tt)
-  knows_launched published place place' lock g mode k ne is nobody free seen (Publishing l) ok = let bad : still ≡ ended k ok.0 = sym is ∙ ok.1 in absurd (cc)
+  knows_launched published place place' lock g mode k ne is nobody free seen (Waiting u) ok = absurd (subst IsComing (nobody k) ok.0)
+  knows_launched published place place' lock g mode k ne is nobody free seen (Holding w) ok = absurd (subst IsOpen (sym ok.0 ∙ nobody k) tt)
+  knows_launched published place place' lock g mode k ne is nobody free seen (Stored u) ok = absurd (subst IsOpen (sym ok.0.1 ∙ nobody k) tt)
+  knows_launched published place place' lock g mode k ne is nobody free seen (Publishing u) ok = let bad : still ≡ ended k u.group = sym is ∙ ok.1 in absurd (cc)
   knows_launched published place place' lock g mode k ne is nobody free seen Resting ok = absurd (ne ok.0)
   knows_launched published place place' lock g mode k ne is nobody free seen (Handing h []) ok = absurd (ne ok.0)
   knows_launched published place place' lock g mode k ne is nobody free seen (Handing h (p ∷ ps)) ok = absurd (ne ok.0)
   knows_launched published place place' lock g mode k ne is nobody free seen (Filling h p ps) ok = absurd (ne ok.0)
 
-  -- the turn's store of RUNNING
-  pub launches : (slots id : ℕ) (me : SeatNow T N) (k x : ℕ) (seen : List (List Part)) (g : List Part) → k ≡ z.shards + 1 → x ≡ length g → IsAt 0 z seen Free Resting me
-      → Runs (last_of z.start seen) (versions_in g) → 0 < length (versions_in g) → Members z.clients g → Allows (Rule held_by nodes_of z) slots id me k (λ _. x) (λ _. launched g (step slots k x 0 none) me x)
-  launches slots id me k x seen g is count mid run nonempty members s r long at fits =
-      let h : SeatState = seat_state 0 z seen Free Resting in
-      let at' : get_elem? s.views id ≡ some (h ∷ []) = at ∙ ap some mid in
-      let fit = (r.seats id (h ∷ []) at').0 in
+  -- the store of RUNNING, by a member that has the turn
+  pub launches_is : (slots id : ℕ) (me : SeatNow T N) (c k x : ℕ) (own_seen seen : List (List MemberVersions)) (g : List MemberVersions) → k ≡ z.shards + 1 → x ≡ length g → 0 < c → (p : MemberVersions) × In p g × (p.member ≡ c) → IsWithTurn c z own_seen Idle seen Resting me
+      → Runs (last_of z.start seen) (versions_in g) → 0 < length (versions_in g) → Members z.clients g → StepIs held_by nodes_of (λ _. IsLaunch g) z slots id me k (λ _. x) (λ _. launched g (step slots k x 0 none) me x)
+  unfolding begun
+  launches_is slots id me c k x own_seen seen g is count low member mid run nonempty members s r long at fits =
+      let h : SeatState = seat_state c z own_seen Free Idle in
+      let t : SeatState = seat_state 0 z seen Free Resting in
+      let at' : get_elem? s.views id ≡ some (h ∷ t ∷ []) = at ∙ ap some mid in
+      let fits = r.seats id (h ∷ t ∷ []) at' in
+      let own_fit = fits.0 in
+      let fit = fits.1.0 in
       let last : ℕ = last_of z.start r.published in
       let end : ℕ = end_of last g in
       let ok = subst (InMode z.clients (get_or s.words (z.shards + 1) 0) r.place last) fit.5.1 r.mode_is in
       let place : ℕ → Place = placed end g in
       let come : AllComing place end g = placed_coming z.clients end g members in
-      let h' : SeatState = seat_state 0 z seen Free (Handing g g) in
+      let u : Launched = launched_behind z.start seen g in
+      let h' : SeatState = seat_state c z own_seen Free (Waiting u) in
+      let t' : SeatState = seat_state 0 z seen Free (Handing g g) in
       let ws : List ℕ = set s.words (z.shards + 1) x in
       let w : (i : ℕ) → i ≢ z.shards + 1 → get_or ws i 0 ≡ get_or s.words i 0 = λ i ne. get_or-set_other s.words (z.shards + 1) i x 0 (λ e. ne (omega arith)) in
       let wide : length s.words ≡ z.shards + 2 + z.clients = r.wide in
-      let run' : Runs last (versions_in g) = subst (λ (l : List (List Part)). Runs (last_of z.start l) (versions_in g)) (sym fit.5.2) run in
+      let run' : Runs last (versions_in g) = subst (λ (l : List (List MemberVersions)). Runs (last_of z.start l) (versions_in g)) (sym fit.5.2) run in
       let nothing : (i : ℕ) (v : Version) → In v (stored_in (r.place i)) → ⊥ = λ i v h. subst (λ (p : Place). In v (stored_in p)) (ok.1 i) h in
-      let rule : Rule held_by nodes_of z (record { words = ws; homes = s.homes; views = set s.views id (h' ∷ []) }) = moved held_by nodes_of z s r id ws s.homes h h' r.published (running g) place r.lock record {
+      let mine : IsComing (place c) = subst (λ (i : ℕ). IsComing (place i)) member.2 (subst IsComing (sym (coming_at place end g member.0 come member.1)) tt) in
+      let rule : IsNow held_by nodes_of z (table_now r.published (running g) place) (record { words = ws; homes = s.homes; views = set s.views id (h' ∷ t' ∷ []) }) = all_moved held_by nodes_of z s r id ws s.homes (h ∷ t ∷ []) (h' ∷ t' ∷ []) r.published (running g) place r.lock record {
         sits = at';
-        same_client = refl;
-        same_opening = refl;
         wide = length-set s.words (z.shards + 1) x;
         many = refl;
         last_is = w z.shards (λ e. omega arith) ∙ r.last_is;
@@ -299,25 +352,26 @@ module _ {T N : Type 0} (held_by : T → List Version) (nodes_of : N → List Ve
         sound = λ j v lt h. let o = r.sound j v lt h in (o.0, ⊎_elim (λ (a : In v (versions_of r.published)). inl a) (λ (b : (i : ℕ) × In v (stored_in (r.place i))). absurd (nothing b.0 v b.1)) o.1);
         complete = r.complete;
         stored = λ i v h. absurd (none_in end (place i) (placed_is end g i) v h);
-        seen = fit.3;
         grows = begins_same r.published;
-        knows_lock = tt;
-        knows = starts g g come refl fit.5.2;
+        fit = (
+          (own_fit.0, own_fit.1, own_fit.2, own_fit.3, tt, (mine, (refl, (fit.5.2, ap (λ (b : List (List MemberVersions)). end_of (last_of z.start b) g) (sym fit.5.2))))),
+          ((fit.0, fit.1, fit.2, fit.3, tt, starts g g come refl fit.5.2), tt),
+        );
         others_lock = λ j _ x. keys_stay held_by nodes_of z r.published r.published r.mode (running g) r.place place r.lock j x;
-        others = λ j ne. knows_launched r.published r.place place r.lock g r.mode j ne fit.5.1 ok.1 (λ i. free_in end (place i) (placed_is end g i));
+        others = λ j ne. knows_launched r.published r.place place r.lock g r.mode j (λ e. ne (ap r.seat e ∙ fit.0)) fit.5.1 ok.1 (λ i. free_in end (place i) (placed_is end g i));
       } in (
-        h' ∷ [],
+        h' ∷ t' ∷ [],
         keeps,
         tt,
-        subst (λ (i : ℕ). Rule held_by nodes_of z (record { words = set s.words i x; homes = s.homes; views = set s.views id (h' ∷ []) })) (sym is) rule,
-        λ z' seen' mid'. (ap (one (λ w. seat_state w.client w.opening w.seen w.lock (Handing g g))) (sym mid ∙ mid'), refl),
+        (table_now r.published (running g) place, (fit.5.1, refl, refl, λ i. ahead_in end (place i) (placed_is end g i)), subst (λ (i : ℕ). IsNow held_by nodes_of z (table_now r.published (running g) place) (record { words = set s.words i x; homes = s.homes; views = set s.views id (h' ∷ t' ∷ []) })) (sym is) rule),
+        λ c' z' own' seen' mid'. (ap (begun g) (sym mid ∙ mid'), refl),
       )
     where
-      some_part : (g : List Part) → 0 < length (versions_in g) → 0 < length g
+      some_part : (g : List MemberVersions) → 0 < length (versions_in g) → 0 < length g
       some_part [] lo = absurd (omega arith)
       some_part (p ∷ ps) lo = omega arith
 
-      starts : (h ps : List Part) → AllComing (placed (end_of (last_of z.start r.published) g) g) (end_of (last_of z.start r.published) h) ps → h ≡ g → r.published ≡ seen → Knows z.shards z.start r.published (running g) (placed (end_of (last_of z.start r.published) g) g) r.lock 0 seen (Handing h ps)
+      starts : (h ps : List MemberVersions) → AllComing (placed (end_of (last_of z.start r.published) g) g) (end_of (last_of z.start r.published) h) ps → h ≡ g → r.published ≡ seen → Knows z.shards z.start r.published (running g) (placed (end_of (last_of z.start r.published) g) g) r.lock 0 seen (Handing h ps)
       starts h [] come e same = (refl, inl (ap running (sym e), same))
       starts h (p ∷ ps) come e same = (refl, ap running (sym e), same, come)
 
@@ -333,14 +387,21 @@ module _ {T N : Type 0} (held_by : T → List Version) (nodes_of : N → List Ve
           (λ (t : (vs : List Version) × (p ≡ coming end vs)). absurd (subst (λ (x : Place). In v (stored_in x)) t.1 h))
           way
 
+      ahead_in : (end : ℕ) (p : Place) → (p ≡ out) ⊎ ((vs : List Version) × (p ≡ coming end vs)) → progress_of p ≡ to_insert
+      ahead_in end p way = ⊎_elim (λ (t : p ≡ out). ap progress_of t) (λ (t : (vs : List Version) × (p ≡ coming end vs)). ap progress_of t.1) way
+
       free_in : (end : ℕ) (p : Place) → (p ≡ out) ⊎ ((vs : List Version) × (p ≡ coming end vs)) → NotTaken p
       free_in end p way = ⊎_elim
           (λ (t : p ≡ out). subst NotTaken (sym t) tt)
           (λ (t : (vs : List Version) × (p ≡ coming end vs)). subst NotTaken (sym t.1) tt)
           way
 
+  pub launches : (slots id : ℕ) (me : SeatNow T N) (c k x : ℕ) (own_seen seen : List (List MemberVersions)) (g : List MemberVersions) → k ≡ z.shards + 1 → x ≡ length g → 0 < c → (p : MemberVersions) × In p g × (p.member ≡ c) → IsWithTurn c z own_seen Idle seen Resting me
+      → Runs (last_of z.start seen) (versions_in g) → 0 < length (versions_in g) → Members z.clients g → Allows (Rule held_by nodes_of z) slots id me k (λ _. x) (λ _. launched g (step slots k x 0 none) me x)
+  launches slots id me c k x own_seen seen g is count low member mid run nonempty members = allows held_by nodes_of (λ _. IsLaunch g) z slots id me k (λ _. x) (λ _. launched g (step slots k x 0 none) me x) (launches_is slots id me c k x own_seen seen g is count low member mid run nonempty members)
+
   -- the turn's load of LAST
-  module _ (slots id : ℕ) (me : SeatNow T N) (k : ℕ) (seen : List (List Part)) (g : List Part) (is : k ≡ z.shards) (mid : IsAt 0 z seen Free (Handing g []) me)
+  module _ (slots id : ℕ) (me : SeatNow T N) (k : ℕ) (seen : List (List MemberVersions)) (g : List MemberVersions) (is : k ≡ z.shards) (mid : IsAt 0 z seen Free (Handing g []) me)
       (s : TableState held_by nodes_of) (r : Rule held_by nodes_of z s) (at : get_elem? s.views id ≡ some me.0) where
     abbrev found : ℕ
     found = get_or s.words k 0
@@ -348,13 +409,14 @@ module _ {T N : Type 0} (held_by : T → List Version) (nodes_of : N → List Ve
     found_is : found ≡ last_of z.start r.published
     found_is = ap (λ (i : ℕ). get_or s.words i 0) is ∙ r.last_is
 
-    same_goal : (z' : Opening) (seen' : List (List Part)) (g' : List Part) → IsAt 0 z' seen' Free (Handing g' []) me → end_of (last_of z.start seen) g ≡ end_of (last_of z'.start seen') g'
+    same_goal : (z' : Opening) (seen' : List (List MemberVersions)) (g' : List MemberVersions) → IsAt 0 z' seen' Free (Handing g' []) me → end_of (last_of z.start seen) g ≡ end_of (last_of z'.start seen') g'
     same_goal z' seen' g' mid' =
         let e = sym mid ∙ mid' in
         (λ i. end_of (last_of ((own (e i)).opening).start ((own (e i)).seen)) (group_in (own (e i)).stage))
       where
-        group_in : Stage → List Part
+        group_in : Stage → List MemberVersions
         group_in Idle = []
+        group_in (Waiting u) = []
         group_in (Holding w) = []
         group_in (Stored l) = []
         group_in (Publishing l) = []
@@ -362,7 +424,7 @@ module _ {T N : Type 0} (held_by : T → List Version) (nodes_of : N → List Ve
         group_in (Handing g ps) = g
         group_in (Filling g p ps) = g
 
-    waits : r.published ≡ seen → 0 < length (versions_in g) → Goes held_by nodes_of z s k id me (awaited (step slots k 0 0 none) me) found
+    waits : r.published ≡ seen → 0 < length (versions_in g) → Goes held_by nodes_of (λ _. Stays) z s (now_of held_by nodes_of z s r) k id me (awaited (step slots k 0 0 none) me) found
     waits same nonempty =
         let low : found ≡ last_of z.start seen = found_is ∙ ap (last_of z.start) same in
         let ne : found ≢ end_of (last_of z.start seen) g = λ e. omega arith in (
@@ -376,8 +438,9 @@ module _ {T N : Type 0} (held_by : T → List Version) (nodes_of : N → List Ve
     rests_on : SeatState → SeatState
     rests_on x = seat_state x.client x.opening (x.seen ++ group x.stage ∷ []) x.lock Resting
       where
-        group : Stage → List Part
+        group : Stage → List MemberVersions
         group Idle = []
+        group (Waiting u) = []
         group (Holding w) = []
         group (Stored l) = []
         group (Publishing l) = []
@@ -385,7 +448,7 @@ module _ {T N : Type 0} (held_by : T → List Version) (nodes_of : N → List Ve
         group (Handing g ps) = g
         group (Filling g p ps) = g
 
-    rests : r.mode ≡ still → r.published ≡ seen ++ g ∷ [] → Goes held_by nodes_of z s k id me (awaited (step slots k 0 0 none) me) found
+    rests : r.mode ≡ still → r.published ≡ seen ++ g ∷ [] → Goes held_by nodes_of (λ _. Stays) z s (now_of held_by nodes_of z s r) k id me (awaited (step slots k 0 0 none) me) found
     unfolding rests_on
     rests mode_was same =
         let h : SeatState = seat_state 0 z seen Free (Handing g []) in
@@ -395,32 +458,36 @@ module _ {T N : Type 0} (held_by : T → List Version) (nodes_of : N → List Ve
           h' ∷ [],
           keeps,
           tt,
-          loaded held_by nodes_of z s k s.homes (set s.views id (h' ∷ [])) (moved held_by nodes_of z s r id s.words s.homes h h' r.published r.mode r.place r.lock record {
-            sits = at';
-            same_client = refl;
-            same_opening = refl;
-            wide = refl;
-            many = refl;
-            last_is = r.last_is;
-            runs = r.runs;
-            some_each = r.some_each;
-            shards_are = λ j _ ok. ok;
-            rows = λ i _ _ ok. ok;
-            mode_is = r.mode_is;
-            sound = r.sound;
-            complete = r.complete;
-            stored = r.stored;
-            seen = ([], same ∙ sym (append-nil (seen ++ g ∷ [])));
-            grows = begins_same r.published;
-            knows_lock = tt;
-            knows = (refl, mode_was, same);
-            others_lock = λ _ _ _ ok. ok;
-            others = λ _ _ _ _ ok. ok;
-          }),
+          (
+            now_of held_by nodes_of z s r,
+            same_now held_by nodes_of (now_of held_by nodes_of z s r),
+            loaded held_by nodes_of z (now_of held_by nodes_of z s r) s k s.homes (set s.views id (h' ∷ [])) (moved held_by nodes_of z s r id s.words s.homes h h' r.published r.mode r.place r.lock record {
+              sits = at';
+              same_client = refl;
+              same_opening = refl;
+              wide = refl;
+              many = refl;
+              last_is = r.last_is;
+              runs = r.runs;
+              some_each = r.some_each;
+              shards_are = λ j _ ok. ok;
+              rows = λ i _ _ ok. ok;
+              mode_is = r.mode_is;
+              sound = r.sound;
+              complete = r.complete;
+              stored = r.stored;
+              seen = ([], same ∙ sym (append-nil (seen ++ g ∷ [])));
+              grows = begins_same r.published;
+              knows_lock = tt;
+              knows = (refl, mode_was, same);
+              others_lock = λ _ _ _ ok. ok;
+              others = λ _ _ _ _ ok. ok;
+            }),
+          ),
           λ z' seen' g' mid'. ((λ _. (ap (one rests_on) (sym mid ∙ mid'), refl)), λ ne. absurd (ne (done ∙ same_goal z' seen' g' mid'))),
         )
 
-    awaits_all : Goes held_by nodes_of z s k id me (awaited (step slots k 0 0 none) me) found
+    awaits_all : Goes held_by nodes_of (λ _. Stays) z s (now_of held_by nodes_of z s r) k id me (awaited (step slots k 0 0 none) me) found
     awaits_all =
         let fit = (r.seats id (seat_state 0 z seen Free (Handing g []) ∷ []) (at ∙ ap some mid)).0 in
         ⊎_elim
@@ -430,5 +497,8 @@ module _ {T N : Type 0} (held_by : T → List Version) (nodes_of : N → List Ve
         (λ (u : (r.mode ≡ still) × (r.published ≡ seen ++ g ∷ [])). rests u.0 u.1) t)
         fit.5.1
 
-  pub awaits : (slots id : ℕ) (me : SeatNow T N) (k : ℕ) (seen : List (List Part)) (g : List Part) → k ≡ z.shards → IsAt 0 z seen Free (Handing g []) me → Allows (Rule held_by nodes_of z) slots id me k (λ y. y) (awaited (step slots k 0 0 none) me)
-  awaits slots id me k seen g is mid s r long at fits = awaits_all slots id me k seen g is mid s r at
+  pub awaits_is : (slots id : ℕ) (me : SeatNow T N) (k : ℕ) (seen : List (List MemberVersions)) (g : List MemberVersions) → k ≡ z.shards → IsAt 0 z seen Free (Handing g []) me → StepIs held_by nodes_of (λ _. Stays) z slots id me k (λ y. y) (awaited (step slots k 0 0 none) me)
+  awaits_is slots id me k seen g is mid s r long at fits = awaits_all slots id me k seen g is mid s r at
+
+  pub awaits : (slots id : ℕ) (me : SeatNow T N) (k : ℕ) (seen : List (List MemberVersions)) (g : List MemberVersions) → k ≡ z.shards → IsAt 0 z seen Free (Handing g []) me → Allows (Rule held_by nodes_of z) slots id me k (λ y. y) (awaited (step slots k 0 0 none) me)
+  awaits slots id me k seen g is mid = allows held_by nodes_of (λ _. Stays) z slots id me k (λ y. y) (awaited (step slots k 0 0 none) me) (awaits_is slots id me k seen g is mid)

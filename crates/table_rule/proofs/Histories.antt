@@ -3,7 +3,7 @@ use Rattle.std.proofs.Common.{◌≡◌, ℕ, suc, ◌+◌, ◌<◌, ◌≤◌, 
 use native.Mathlib.Decide.{ℕ_discrete}
 use mathlib.Core.Logic.{dite}
 use Rattle.table_rule.specs.declared.content.Version.{Version}
-use Rattle.table_rule.specs.declared.content.Part.{Part}
+use Rattle.table_rule.specs.declared.content.MemberVersions.{MemberVersions}
 use Rattle.table_rule.specs.Histories.{In, versions_in, versions_of, Runs, last_of, Begins, Apart, AreSome}
 
 module _ {A : Type 0} where
@@ -28,14 +28,14 @@ module _ {A : Type 0} where
   pub begins_more : (xs ys zs : List A) → Begins xs ys → Begins xs (ys ++ zs)
   begins_more xs ys zs a = begins_trans xs ys (ys ++ zs) a (zs, refl)
 
-pub versions_append : (gs hs : List (List Part)) → versions_of (gs ++ hs) ≡ versions_of gs ++ versions_of hs
+pub versions_append : (gs hs : List (List MemberVersions)) → versions_of (gs ++ hs) ≡ versions_of gs ++ versions_of hs
 versions_append [] hs = refl
 versions_append (g ∷ gs) hs = ap (λ l. versions_in g ++ l) (versions_append gs hs) ∙ sym (append_assoc (versions_in g) (versions_of gs) (versions_of hs))
 
-pub versions_snoc : (gs : List (List Part)) (g : List Part) → versions_of (gs ++ g ∷ []) ≡ versions_of gs ++ versions_in g
+pub versions_snoc : (gs : List (List MemberVersions)) (g : List MemberVersions) → versions_of (gs ++ g ∷ []) ≡ versions_of gs ++ versions_in g
 versions_snoc gs g = versions_append gs (g ∷ []) ∙ ap (λ l. versions_of gs ++ l) (append-nil (versions_in g))
 
-pub last_snoc : (start : ℕ) (gs : List (List Part)) (g : List Part) → last_of start (gs ++ g ∷ []) ≡ last_of start gs + length (versions_in g)
+pub last_snoc : (start : ℕ) (gs : List (List MemberVersions)) (g : List MemberVersions) → last_of start (gs ++ g ∷ []) ≡ last_of start gs + length (versions_in g)
 last_snoc start gs g = let e = ap length (versions_snoc gs g) ∙ length-append (versions_of gs) (versions_in g) in omega arith
 
 pub runs_append : (last : ℕ) (xs ys : List Version) → Runs last xs → Runs (last + length xs) ys → Runs last (xs ++ ys)
@@ -59,33 +59,33 @@ in_run last (x ∷ xs) v r h = ⊎_elim
     h
 
 -- what a history has up to the end of one of its beginnings
-pub up_to : (start : ℕ) (seen all : List (List Part)) (v : Version) → Runs start (versions_of all) → Begins seen all → In v (versions_of all) → v.sequence ≤ last_of start seen → In v (versions_of seen)
+pub up_to : (start : ℕ) (seen all : List (List MemberVersions)) (v : Version) → Runs start (versions_of all) → Begins seen all → In v (versions_of all) → v.sequence ≤ last_of start seen → In v (versions_of seen)
 up_to start seen all v runs begins h low =
     let parts : versions_of all ≡ versions_of seen ++ versions_of begins.0 = ap versions_of begins.1 ∙ versions_append seen begins.0 in
     let r = runs_right start (versions_of seen) (versions_of begins.0) (subst (Runs start) parts runs) in
     ⊎_elim (λ t. t) (λ (t : In v (versions_of begins.0)). let k = in_run (last_of start seen) (versions_of begins.0) v r t in let a = k.0 in absurd (omega arith))
     (in_split v (versions_of seen) (versions_of begins.0) (subst (In v) parts h))
 
-pub begins_in : (seen all : List (List Part)) (v : Version) → Begins seen all → In v (versions_of seen) → In v (versions_of all)
+pub begins_in : (seen all : List (List MemberVersions)) (v : Version) → Begins seen all → In v (versions_of seen) → In v (versions_of all)
 begins_in seen all v b h = subst (In v) (sym (ap versions_of b.1 ∙ versions_append seen b.0)) (in_left v (versions_of seen) (versions_of b.0) h)
 
-pub some_snoc : (gs : List (List Part)) (g : List Part) → AreSome gs → 0 < length (versions_in g) → AreSome (gs ++ g ∷ [])
+pub some_snoc : (gs : List (List MemberVersions)) (g : List MemberVersions) → AreSome gs → 0 < length (versions_in g) → AreSome (gs ++ g ∷ [])
 some_snoc [] g a b = (b, tt)
 some_snoc (h ∷ gs) g a b = (a.0, some_snoc gs g a.1 b)
 
 -- a member is of the group, or apart from it
-pub member_or : (i : ℕ) (g : List Part) → ((p : Part) × In p g × (p.member ≡ i)) ⊎ Apart i g
+pub member_or : (i : ℕ) (g : List MemberVersions) → ((p : MemberVersions) × In p g × (p.member ≡ i)) ⊎ Apart i g
 member_or i [] = inr tt
 member_or i (p ∷ ps) = dite (ℕ_discrete p.member i)
     (λ e. inl (p, inl refl, e))
-    (λ ne. ⊎_elim (λ (t : (q : Part) × In q ps × (q.member ≡ i)). inl (t.0, inr t.1, t.2)) (λ (t : Apart i ps). inr (ne, t)) (member_or i ps))
+    (λ ne. ⊎_elim (λ (t : (q : MemberVersions) × In q ps × (q.member ≡ i)). inl (t.0, inr t.1, t.2)) (λ (t : Apart i ps). inr (ne, t)) (member_or i ps))
 
-pub part_in : (p : Part) (g : List Part) (v : Version) → In p g → In v p.versions → In v (versions_in g)
+pub part_in : (p : MemberVersions) (g : List MemberVersions) (v : Version) → In p g → In v p.versions → In v (versions_in g)
 part_in p [] v h i = absurd h
 part_in p (q ∷ qs) v h i = ⊎_elim
-    (λ (e : q ≡ p). in_left v q.versions (versions_in qs) (subst (λ (w : Part). In v w.versions) (sym e) i))
+    (λ (e : q ≡ p). in_left v q.versions (versions_in qs) (subst (λ (w : MemberVersions). In v w.versions) (sym e) i))
     (λ (t : In p qs). in_right v q.versions (versions_in qs) (part_in p qs v t i))
     h
 
-pub longer : (xs ys : List (List Part)) (b : Begins xs ys) → length (versions_of ys) ≡ length (versions_of xs) + length (versions_of b.0)
+pub longer : (xs ys : List (List MemberVersions)) (b : Begins xs ys) → length (versions_of ys) ≡ length (versions_of xs) + length (versions_of b.0)
 longer xs ys b = ap (λ l. length (versions_of l)) b.1 ∙ (ap length (versions_append xs b.0) ∙ length-append (versions_of xs) (versions_of b.0))

@@ -7,24 +7,26 @@ use prog.Atomic.{either}
 use Rattle.atomic_table.specs.Table.{step, keeps, takes, gives, stepped, Allows, put_back}
 use Rattle.atomic_table.proofs.Lists.{set_here, set_else, exchanged}
 use Rattle.table_rule.specs.declared.content.Version.{Version}
-use Rattle.table_rule.specs.declared.content.Part.{Part}
+use Rattle.table_rule.specs.declared.content.MemberVersions.{MemberVersions}
 use Rattle.table_rule.specs.declared.view.Opening.{Opening}
 use Rattle.table_rule.specs.declared.view.SeatState.{SeatState}
+use Rattle.table_rule.specs.declared.view.Launched.{Launched}
 use Rattle.table_rule.specs.declared.content.Content.{Content}
 use Rattle.table_rule.specs.declared.content.Content.TheVariants.{Tree}
 use Rattle.table_rule.specs.declared.view.Lock.{Lock}
 use Rattle.table_rule.specs.declared.view.Lock.TheVariants.{Free, Held}
 use Rattle.table_rule.specs.declared.view.Stage.{Stage}
-use Rattle.table_rule.specs.declared.view.Stage.TheVariants.{Idle, Holding, Stored, Publishing, Resting, Handing, Filling}
+use Rattle.table_rule.specs.declared.view.Stage.TheVariants.{Idle, Waiting, Holding, Stored, Publishing, Resting, Handing, Filling}
 use Rattle.table_rule.specs.Histories.{In, versions_of, last_of, shard_of, Begins, IsHistory}
-use Rattle.table_rule.specs.Rule.{Place, out, coming, filling, handed, busy, inserted, finished, ShardState, opened, held, Mode, contents, stored_in, InPart, NotTaken, end_of, InMode, KnowsLock, Knows, seat_state, InShard, InPlace, IsConsistent}
+use Rattle.table_rule.specs.Rule.{Place, out, coming, filling, handed, busy, inserted, finished, ShardState, opened, held, Mode, contents, stored_in, InPart, NotTaken, IsComing, end_of, InMode, KnowsLock, Knows, seat_state, InShard, InPlace, IsConsistent}
 use Rattle.table_rule.specs.Steps.{SeatNow, work, Shows, Adds, IsAt, IsFresh, learned, locked, unlocked, added}
 use Rattle.table_rule.specs.Steps.{IsClient}
+use Rattle.table_rule.specs.Events.{TableNow, table_now, progress_of, Stays, IsRead, now_of, IsNow, StepIs}
 use Rattle.table_rule.proofs.Puts.{put, put_at, put_here, put_else}
 use Rattle.table_rule.proofs.Histories.{in_left, in_right, in_split, begins_same, in_run, up_to, begins_in, longer}
 use Rattle.table_rule.proofs.Fresh.{fresh}
 use Rattle.table_rule.proofs.Parts.{later, IsOpen, mode_put, coming_put}
-use Rattle.table_rule.proofs.Moves.{TableState, Homes, shard_stays, place_stays, moved, Goes, unmoved}
+use Rattle.table_rule.proofs.Moves.{TableState, Homes, shard_stays, place_stays, moved, Goes, unmoved, same_now, allows, progress_stays}
 
 -- the view of one state, changed
 abbrev pub one : (SeatState → SeatState) → List SeatState → List SeatState
@@ -35,8 +37,20 @@ abbrev pub own : List SeatState → SeatState
 own [] = seat_state 0 (record { clients = 0; shards = 0; start = 0 }) [] Free Idle
 own (h ∷ hs) = h
 
-pub client_knows : (k start : ℕ) (published : List (List Part)) (mode : Mode) (place : ℕ → Place) (lock : ℕ → ShardState) (c : ℕ) (seen now : List (List Part)) (st : Stage) → IsClient st → Knows k start published mode place lock c seen st → Knows k start published mode place lock c now st
+-- the group that a client has a part of, or u
+abbrev pub launched_in : Launched → Stage → Launched
+launched_in u Idle = u
+launched_in u (Waiting v) = v
+launched_in u (Holding w) = w.launched
+launched_in u (Stored v) = v
+launched_in u (Publishing v) = v
+launched_in u Resting = u
+launched_in u (Handing g ps) = u
+launched_in u (Filling g p ps) = u
+
+pub client_knows : (k start : ℕ) (published : List (List MemberVersions)) (mode : Mode) (place : ℕ → Place) (lock : ℕ → ShardState) (c : ℕ) (seen now : List (List MemberVersions)) (st : Stage) → IsClient st → Knows k start published mode place lock c seen st → Knows k start published mode place lock c now st
 client_knows k start published mode place lock c seen now Idle is ok = ok
+client_knows k start published mode place lock c seen now (Waiting u) is ok = ok
 client_knows k start published mode place lock c seen now (Holding w) is ok = ok
 client_knows k start published mode place lock c seen now (Stored l) is ok = ok
 client_knows k start published mode place lock c seen now (Publishing l) is ok = ok
@@ -61,11 +75,11 @@ module _ {T N : Type 0} (held_by : T → List Version) (nodes_of : N → List Ve
   abbrev pub Rule : TableState held_by nodes_of → Type 0
   Rule = IsConsistent held_by nodes_of z
 
-  pub loaded : (s : TableState held_by nodes_of) (k : ℕ) (hs : Homes held_by nodes_of) (vs : List (List SeatState)) → Rule (record { words = s.words; homes = hs; views = vs }) → Rule (record { words = set s.words k (get_or s.words k 0); homes = hs; views = vs })
-  loaded s k hs vs r = subst (λ (w : List ℕ). Rule (record { words = w; homes = hs; views = vs })) (sym (set-get_or s.words k 0)) r
+  pub loaded : (now : TableNow) (s : TableState held_by nodes_of) (k : ℕ) (hs : Homes held_by nodes_of) (vs : List (List SeatState)) → IsNow held_by nodes_of z now (record { words = s.words; homes = hs; views = vs }) → IsNow held_by nodes_of z now (record { words = set s.words k (get_or s.words k 0); homes = hs; views = vs })
+  loaded now s k hs vs r = subst (λ (w : List ℕ). IsNow held_by nodes_of z now (record { words = w; homes = hs; views = vs })) (sym (set-get_or s.words k 0)) r
 
-  pub learns : (slots id : ℕ) (me : SeatNow T N) (c k : ℕ) (seen : List (List Part)) (stage : Stage) → k ≡ z.shards → IsClient stage → IsAt c z seen Free stage me → Allows Rule slots id me k (λ y. y) (learned (step slots k 0 0 none) me)
-  learns slots id me c k seen stage is client mid s r long at fits =
+  pub learns_is : (slots id : ℕ) (me : SeatNow T N) (c k : ℕ) (seen : List (List MemberVersions)) (stage : Stage) → k ≡ z.shards → IsClient stage → IsAt c z seen Free stage me → StepIs held_by nodes_of (IsRead z.start) z slots id me k (λ y. y) (learned (step slots k 0 0 none) me)
+  learns_is slots id me c k seen stage is client mid s r long at fits =
       let h : SeatState = seat_state c z seen Free stage in
       let at' : get_elem? s.views id ≡ some (h ∷ []) = at ∙ ap some mid in
       let fit = (r.seats id (h ∷ []) at').0 in
@@ -74,28 +88,32 @@ module _ {T N : Type 0} (held_by : T → List Version) (nodes_of : N → List Ve
         h' ∷ [],
         keeps,
         tt,
-        loaded s k s.homes (set s.views id (h' ∷ [])) (moved held_by nodes_of z s r id s.words s.homes h h' r.published r.mode r.place r.lock record {
-          sits = at';
-          same_client = refl;
-          same_opening = refl;
-          wide = refl;
-          many = refl;
-          last_is = r.last_is;
-          runs = r.runs;
-          some_each = r.some_each;
-          shards_are = λ j _ ok. ok;
-          rows = λ i _ _ ok. ok;
-          mode_is = r.mode_is;
-          sound = r.sound;
-          complete = r.complete;
-          stored = r.stored;
-          seen = begins_same r.published;
-          grows = begins_same r.published;
-          knows_lock = tt;
-          knows = client_knows z.shards z.start r.published r.mode r.place r.lock c seen r.published stage client fit.5;
-          others_lock = λ _ _ _ ok. ok;
-          others = λ _ _ _ _ ok. ok;
-        }),
+        (
+          now_of held_by nodes_of z s r,
+          (same_now held_by nodes_of (now_of held_by nodes_of z s r), found),
+          loaded (now_of held_by nodes_of z s r) s k s.homes (set s.views id (h' ∷ [])) (moved held_by nodes_of z s r id s.words s.homes h h' r.published r.mode r.place r.lock record {
+            sits = at';
+            same_client = refl;
+            same_opening = refl;
+            wide = refl;
+            many = refl;
+            last_is = r.last_is;
+            runs = r.runs;
+            some_each = r.some_each;
+            shards_are = λ j _ ok. ok;
+            rows = λ i _ _ ok. ok;
+            mode_is = r.mode_is;
+            sound = r.sound;
+            complete = r.complete;
+            stored = r.stored;
+            seen = begins_same r.published;
+            grows = begins_same r.published;
+            knows_lock = tt;
+            knows = client_knows z.shards z.start r.published r.mode r.place r.lock c seen r.published stage client fit.5;
+            others_lock = λ _ _ _ ok. ok;
+            others = λ _ _ _ _ ok. ok;
+          }),
+        ),
         λ c' z' seen' stage' mid'.
             let e = sym mid ∙ mid' in
             let z_is : z ≡ z' = ap (λ l. (own l).opening) e in (
@@ -108,8 +126,11 @@ module _ {T N : Type 0} (held_by : T → List Version) (nodes_of : N → List Ve
             ),
       )
 
+  pub learns : (slots id : ℕ) (me : SeatNow T N) (c k : ℕ) (seen : List (List MemberVersions)) (stage : Stage) → k ≡ z.shards → IsClient stage → IsAt c z seen Free stage me → Allows Rule slots id me k (λ y. y) (learned (step slots k 0 0 none) me)
+  learns slots id me c k seen stage is client mid = allows held_by nodes_of (IsRead z.start) z slots id me k (λ y. y) (learned (step slots k 0 0 none) me) (learns_is slots id me c k seen stage is client mid)
+
   -- a shard's tree shows what a seat has seen
-  pub shows : (s : TableState held_by nodes_of) (r : Rule s) (j : ℕ) (seen : List (List Part)) (vs : List Version) → j < z.shards → Begins seen r.published → contents (r.lock j) ≡ vs → Shows z.shards j z.start seen vs
+  pub shows : (s : TableState held_by nodes_of) (r : Rule s) (j : ℕ) (seen : List (List MemberVersions)) (vs : List Version) → j < z.shards → Begins seen r.published → contents (r.lock j) ≡ vs → Shows z.shards j z.start seen vs
   shows s r j seen vs lt begins is = (
     (λ v h. (r.sound j v lt (subst (In v) (sym is) h)).0),
     (λ v h e. subst (In v) is (subst (λ (i : ℕ). In v (contents (r.lock i))) e (r.complete v (begins_in seen r.published v begins h)))),
@@ -124,14 +145,14 @@ module _ {T N : Type 0} (held_by : T → List Version) (nodes_of : N → List Ve
 
   door_open : (words : List ℕ) (homes : Homes held_by nodes_of) (j : ℕ) (d : ShardState) → InShard held_by nodes_of z.shards words homes j d → get_or words j 0 ≡ 0 → (t : T) × (d ≡ opened (held_by t)) × (get_elem? homes j ≡ some (some (Tree t)))
   door_open words homes j (opened vs) ok e = (ok.1.0, ap opened (sym ok.1.2), ok.1.1)
-  door_open words homes j (held c vs) ok e = absurd (omega arith)
+  door_open words homes j (held c vs) ok e = let one_now = ok.0 in absurd (omega arith)
 
   same_contents : (lock : ℕ → ShardState) (j : ℕ) (d : ShardState) → contents d ≡ contents (lock j) → (i : ℕ) → contents (put lock j d i) ≡ contents (lock i)
   same_contents lock j d e i = put_at lock j d (λ i x. contents x ≡ contents (lock i)) i (λ is. e ∙ ap (λ k. contents (lock k)) (sym is)) (λ _. refl)
 
-  module _ (slots id : ℕ) (me : SeatNow T N) (c j : ℕ) (seen : List (List Part)) (stage : Stage) (lt : j < z.shards) (mid : IsAt c z seen Free stage me)
+  module _ (slots id : ℕ) (me : SeatNow T N) (c j : ℕ) (seen : List (List MemberVersions)) (stage : Stage) (lt : j < z.shards) (mid : IsAt c z seen Free stage me)
       (s : TableState held_by nodes_of) (r : Rule s) (at : get_elem? s.views id ≡ some me.0) where
-    locks_hit : get_or s.words j 0 ≡ 0 → Goes held_by nodes_of z s j id me (locked held_by (step slots j 0 1 none) me) 1
+    locks_hit : get_or s.words j 0 ≡ 0 → Goes held_by nodes_of (λ _. Stays) z s (now_of held_by nodes_of z s r) j id me (locked held_by (step slots j 0 1 none) me) 1
     locks_hit zero_now =
         let h : SeatState = seat_state c z seen Free stage in
         let at' : get_elem? s.views id ≡ some (h ∷ []) = at ∙ ap some mid in
@@ -145,34 +166,39 @@ module _ {T N : Type 0} (held_by : T → List Version) (nodes_of : N → List Ve
         let lock = put r.lock j state in
         let w : (i : ℕ) → i ≢ j → get_or ws i 0 ≡ get_or s.words i 0 = λ i ne. get_or-set_other s.words j i 1 0 (λ e. ne (omega arith)) in
         let wide : length s.words ≡ z.shards + 2 + z.clients = r.wide in
+        let many : length s.homes ≡ z.shards + 1 + z.clients = r.many in
         let contained : (i : ℕ) → contents (lock i) ≡ contents (r.lock i) = same_contents r.lock j state (ap contents (sym d.1)) in (
           h' ∷ [],
           takes j (Tree d.0),
           d.2,
-          moved held_by nodes_of z s r id ws hs h h' r.published r.mode r.place lock record {
-            sits = at';
-            same_client = refl;
-            same_opening = refl;
-            wide = length-set s.words j 1;
-            many = length-set s.homes j none;
-            last_is = w z.shards (λ e. omega arith) ∙ r.last_is;
-            runs = r.runs;
-            some_each = r.some_each;
-            shards_are = λ i _ ok. put_at r.lock j state (λ i x. InShard held_by nodes_of z.shards s.words s.homes i (r.lock i) → InShard held_by nodes_of z.shards ws hs i x) i
-                (λ is _. ap (λ (k : ℕ). get_or ws k 0) is ∙ get_or-set_same s.words j 1 0 (omega arith))
-                (λ ne was. shard_stays held_by nodes_of s.words ws s.homes hs z.shards i (w i ne) (set_else s.homes j i none ne) (r.lock i) was) ok;
-            rows = λ i lo _ ok. place_stays held_by nodes_of s.words ws s.homes hs z.shards i (w (z.shards + 1 + i) (λ e. omega arith)) (set_else s.homes j (z.shards + i) none (λ e. omega arith)) (r.place i) ok;
-            mode_is = subst (λ (x : ℕ). InMode z.clients x r.place (last_of z.start r.published) r.mode) (sym (w (z.shards + 1) (λ e. omega arith))) r.mode_is;
-            sound = λ i v lt' h. r.sound i v lt' (subst (In v) (contained i) h);
-            complete = λ v h. subst (In v) (sym (contained (shard_of z.shards v))) (r.complete v h);
-            stored = λ i v h. subst (In v) (sym (contained (shard_of z.shards v))) (r.stored i v h);
-            seen = fit.3;
-            grows = begins_same r.published;
-            knows_lock = (lt, put_here r.lock j state);
-            knows = fit.5;
-            others_lock = λ k ne x. still_locked k ne d x;
-            others = λ _ _ _ _ ok. ok;
-          },
+          (
+            now_of held_by nodes_of z s r,
+            same_now held_by nodes_of (now_of held_by nodes_of z s r),
+            moved held_by nodes_of z s r id ws hs h h' r.published r.mode r.place lock record {
+              sits = at';
+              same_client = refl;
+              same_opening = refl;
+              wide = length-set s.words j 1;
+              many = length-set s.homes j none;
+              last_is = w z.shards (λ e. omega arith) ∙ r.last_is;
+              runs = r.runs;
+              some_each = r.some_each;
+              shards_are = λ i _ ok. put_at r.lock j state (λ i x. InShard held_by nodes_of z.shards s.words s.homes i (r.lock i) → InShard held_by nodes_of z.shards ws hs i x) i
+                  (λ is _. (ap (λ (k : ℕ). get_or ws k 0) is ∙ get_or-set_same s.words j 1 0 (omega arith), ap (λ (k : ℕ). get_elem? hs k) is ∙ set_here s.homes j none (omega arith)))
+                  (λ ne was. shard_stays held_by nodes_of s.words ws s.homes hs z.shards i (w i ne) (set_else s.homes j i none ne) (r.lock i) was) ok;
+              rows = λ i lo _ ok. place_stays held_by nodes_of s.words ws s.homes hs z.shards i (w (z.shards + 1 + i) (λ e. omega arith)) (set_else s.homes j (z.shards + i) none (λ e. omega arith)) (r.place i) ok;
+              mode_is = subst (λ (x : ℕ). InMode z.clients x r.place (last_of z.start r.published) r.mode) (sym (w (z.shards + 1) (λ e. omega arith))) r.mode_is;
+              sound = λ i v lt' h. r.sound i v lt' (subst (In v) (contained i) h);
+              complete = λ v h. subst (In v) (sym (contained (shard_of z.shards v))) (r.complete v h);
+              stored = λ i v h. subst (In v) (sym (contained (shard_of z.shards v))) (r.stored i v h);
+              seen = fit.3;
+              grows = begins_same r.published;
+              knows_lock = (lt, put_here r.lock j state);
+              knows = fit.5;
+              others_lock = λ k ne x. still_locked k ne d x;
+              others = λ _ _ _ _ ok. ok;
+            },
+          ),
           λ c' z' seen' stage' mid'.
               let e = sym mid ∙ mid' in
               let z_is : z ≡ z' = ap (λ l. (own l).opening) e in (
@@ -181,10 +207,11 @@ module _ {T N : Type 0} (held_by : T → List Version) (nodes_of : N → List Ve
               ),
         )
       where
-        new_ones : (k : ℕ) (now : List (List Part)) (st : Stage) (vs : List Version) → Knows z.shards z.start r.published r.mode r.place r.lock k now st → j < z.shards → contents (r.lock j) ≡ vs → IsFresh st vs
+        new_ones : (k : ℕ) (now : List (List MemberVersions)) (st : Stage) (vs : List Version) → Knows z.shards z.start r.published r.mode r.place r.lock k now st → j < z.shards → contents (r.lock j) ≡ vs → IsFresh st vs
         new_ones k now Idle vs ok lt is = tt
+        new_ones k now (Waiting u) vs ok lt is = tt
         new_ones k now (Holding w) vs ok lt is = λ v x hv hx e.
-            let f = fresh z.clients (get_or s.words (z.shards + 1) 0) r.place (last_of z.start r.published) k w.last w.done w.rest ok r.mode r.mode_is v hv in
+            let f = fresh z.clients (get_or s.words (z.shards + 1) 0) r.place (last_of z.start r.published) k w.launched.last w.done w.rest ok.0 r.mode r.mode_is v hv in
             ⊎_elim (λ (t : In x (versions_of r.published)). let a = (in_run z.start (versions_of r.published) x r.runs t).1 in let b = f.0 in absurd (omega arith))
             (λ (t : (i : ℕ) × In x (stored_in (r.place i))). f.1 t.0 x t.1 e)
             (r.sound j x lt (subst (In x) (sym is) hx)).1
@@ -198,10 +225,13 @@ module _ {T N : Type 0} (held_by : T → List Version) (nodes_of : N → List Ve
         still_locked k ne d Free ok = ok
         still_locked k ne d (Held i vs) ok = (ok.0, put_at r.lock j (held c (held_by d.0)) (λ i x. r.lock i ≡ held k vs → x ≡ held k vs) i (λ is was. let bad : opened (held_by d.0) ≡ held k vs = sym d.1 ∙ (ap r.lock (sym is) ∙ was) in absurd (cc)) (λ _ was. was) ok.1)
 
-  pub locks : (slots id : ℕ) (me : SeatNow T N) (c j : ℕ) (seen : List (List Part)) (stage : Stage) → j < z.shards → IsAt c z seen Free stage me → Allows Rule slots id me j (λ y. either (eqb y 0) 1 y) (locked held_by (step slots j 0 1 none) me)
-  locks slots id me c j seen stage lt mid s r long at fits = exchanged (get_or s.words j 0) 0 1 (Goes held_by nodes_of z s j id me (locked held_by (step slots j 0 1 none) me))
+  pub locks_is : (slots id : ℕ) (me : SeatNow T N) (c j : ℕ) (seen : List (List MemberVersions)) (stage : Stage) → j < z.shards → IsAt c z seen Free stage me → StepIs held_by nodes_of (λ _. Stays) z slots id me j (λ y. either (eqb y 0) 1 y) (locked held_by (step slots j 0 1 none) me)
+  locks_is slots id me c j seen stage lt mid s r long at fits = exchanged (get_or s.words j 0) 0 1 (Goes held_by nodes_of (λ _. Stays) z s (now_of held_by nodes_of z s r) j id me (locked held_by (step slots j 0 1 none) me))
       (locks_hit slots id me c j seen stage lt mid s r at)
       (λ miss. (me.0, keeps, tt, unmoved held_by nodes_of z s j id me.0 at r, λ _ _ _ _ _. ((λ hit. absurd (miss hit)), λ _. refl)))
+
+  pub locks : (slots id : ℕ) (me : SeatNow T N) (c j : ℕ) (seen : List (List MemberVersions)) (stage : Stage) → j < z.shards → IsAt c z seen Free stage me → Allows Rule slots id me j (λ y. either (eqb y 0) 1 y) (locked held_by (step slots j 0 1 none) me)
+  locks slots id me c j seen stage lt mid = allows held_by nodes_of (λ _. Stays) z slots id me j (λ y. either (eqb y 0) 1 y) (locked held_by (step slots j 0 1 none) me) (locks_is slots id me c j seen stage lt mid)
 
   pub carried_put : (hs : Homes held_by nodes_of) (c : List (ℕ × Content T N)) (i : ℕ) (y : Content T N) (more : List (ℕ × Content T N)) → c ≡ (i, y) ∷ more → put_back hs c ≡ set hs i (some y)
   carried_put hs c i y more e = ap (put_back hs) e
@@ -212,9 +242,9 @@ module _ {T N : Type 0} (held_by : T → List Version) (nodes_of : N → List Ve
     opens_lock is k ne place Free ok = ok
     opens_lock is k ne place (Held i us) ok = (ok.0, put_at r.lock j (opened ws) (λ i x. r.lock i ≡ held k us → x ≡ held k us) i (λ here was. absurd (ne (held_one k c us vs (sym was ∙ (ap r.lock here ∙ is))))) (λ _ was. was) ok.1)
 
-  pub unlocks : (slots id : ℕ) (me : SeatNow T N) (c j : ℕ) (seen : List (List Part)) (stage : Stage) (vs : List Version) (t : T) (more : List (ℕ × Content T N)) → IsAt c z seen (Held j vs) stage me → me.1 ≡ (j, Tree t) ∷ more → held_by t ≡ vs
-      → Allows Rule slots id me j (λ _. 0) (λ _. unlocked (step slots j 0 0 none) me 0)
-  unlocks slots id me c j seen stage vs t more mid slot same s r long at fits =
+  pub unlocks_is : (slots id : ℕ) (me : SeatNow T N) (c j : ℕ) (seen : List (List MemberVersions)) (stage : Stage) (vs : List Version) (t : T) (more : List (ℕ × Content T N)) → IsAt c z seen (Held j vs) stage me → me.1 ≡ (j, Tree t) ∷ more → held_by t ≡ vs
+      → StepIs held_by nodes_of (λ _. Stays) z slots id me j (λ _. 0) (λ _. unlocked (step slots j 0 0 none) me 0)
+  unlocks_is slots id me c j seen stage vs t more mid slot same s r long at fits =
       let h : SeatState = seat_state c z seen (Held j vs) stage in
       let at' : get_elem? s.views id ≡ some (h ∷ []) = at ∙ ap some mid in
       let fit = (r.seats id (h ∷ []) at').0 in
@@ -232,40 +262,49 @@ module _ {T N : Type 0} (held_by : T → List Version) (nodes_of : N → List Ve
         h' ∷ [],
         gives,
         tt,
-        subst (λ (l : List (ℕ × Content T N)). Rule (stepped s j 0 id l (h' ∷ []) gives)) (sym slot) (moved held_by nodes_of z s r id ws hs h h' r.published r.mode r.place lock record {
-          sits = at';
-          same_client = refl;
-          same_opening = refl;
-          wide = length-set s.words j 0;
-          many = length-set s.homes j (some (Tree t));
-          last_is = w z.shards (λ e. omega arith) ∙ r.last_is;
-          runs = r.runs;
-          some_each = r.some_each;
-          shards_are = λ i _ ok. put_at r.lock j state (λ i x. InShard held_by nodes_of z.shards s.words s.homes i (r.lock i) → InShard held_by nodes_of z.shards ws hs i x) i
-              (λ e _. subst (λ (k : ℕ). InShard held_by nodes_of z.shards ws hs k state) (sym e) (get_or-set_same s.words j 0 0 (omega arith), (t, set_here s.homes j (some (Tree t)) (omega arith), same)))
-              (λ ne was. shard_stays held_by nodes_of s.words ws s.homes hs z.shards i (w i ne) (set_else s.homes j i (some (Tree t)) ne) (r.lock i) was) ok;
-          rows = λ i lo _ ok. place_stays held_by nodes_of s.words ws s.homes hs z.shards i (w (z.shards + 1 + i) (λ e. omega arith)) (set_else s.homes j (z.shards + i) (some (Tree t)) (λ e. omega arith)) (r.place i) ok;
-          mode_is = subst (λ (x : ℕ). InMode z.clients x r.place (last_of z.start r.published) r.mode) (sym (w (z.shards + 1) (λ e. omega arith))) r.mode_is;
-          sound = λ i v lt' h. r.sound i v lt' (subst (In v) (contained i) h);
-          complete = λ v h. subst (In v) (sym (contained (shard_of z.shards v))) (r.complete v h);
-          stored = λ i v h. subst (In v) (sym (contained (shard_of z.shards v))) (r.stored i v h);
-          seen = fit.3;
-          grows = begins_same r.published;
-          knows_lock = tt;
-          knows = fit.5;
-          others_lock = λ k ne x. opens_lock s r c j vs vs is k ne r.place x;
-          others = λ _ _ _ _ ok. ok;
-        }),
+        (
+          now_of held_by nodes_of z s r,
+          same_now held_by nodes_of (now_of held_by nodes_of z s r),
+          subst (λ (l : List (ℕ × Content T N)). IsNow held_by nodes_of z (now_of held_by nodes_of z s r) (stepped s j 0 id l (h' ∷ []) gives)) (sym slot) (moved held_by nodes_of z s r id ws hs h h' r.published r.mode r.place lock record {
+            sits = at';
+            same_client = refl;
+            same_opening = refl;
+            wide = length-set s.words j 0;
+            many = length-set s.homes j (some (Tree t));
+            last_is = w z.shards (λ e. omega arith) ∙ r.last_is;
+            runs = r.runs;
+            some_each = r.some_each;
+            shards_are = λ i _ ok. put_at r.lock j state (λ i x. InShard held_by nodes_of z.shards s.words s.homes i (r.lock i) → InShard held_by nodes_of z.shards ws hs i x) i
+                (λ e _. subst (λ (k : ℕ). InShard held_by nodes_of z.shards ws hs k state) (sym e) (get_or-set_same s.words j 0 0 (omega arith), (t, set_here s.homes j (some (Tree t)) (omega arith), same)))
+                (λ ne was. shard_stays held_by nodes_of s.words ws s.homes hs z.shards i (w i ne) (set_else s.homes j i (some (Tree t)) ne) (r.lock i) was) ok;
+            rows = λ i lo _ ok. place_stays held_by nodes_of s.words ws s.homes hs z.shards i (w (z.shards + 1 + i) (λ e. omega arith)) (set_else s.homes j (z.shards + i) (some (Tree t)) (λ e. omega arith)) (r.place i) ok;
+            mode_is = subst (λ (x : ℕ). InMode z.clients x r.place (last_of z.start r.published) r.mode) (sym (w (z.shards + 1) (λ e. omega arith))) r.mode_is;
+            sound = λ i v lt' h. r.sound i v lt' (subst (In v) (contained i) h);
+            complete = λ v h. subst (In v) (sym (contained (shard_of z.shards v))) (r.complete v h);
+            stored = λ i v h. subst (In v) (sym (contained (shard_of z.shards v))) (r.stored i v h);
+            seen = fit.3;
+            grows = begins_same r.published;
+            knows_lock = tt;
+            knows = fit.5;
+            others_lock = λ k ne x. opens_lock s r c j vs vs is k ne r.place x;
+            others = λ _ _ _ _ ok. ok;
+          }),
+        ),
         λ c' z' seen' stage' vs' mid'. (ap (one (λ x. seat_state x.client x.opening x.seen Free x.stage)) (sym mid ∙ mid'), refl),
       )
 
+  pub unlocks : (slots id : ℕ) (me : SeatNow T N) (c j : ℕ) (seen : List (List MemberVersions)) (stage : Stage) (vs : List Version) (t : T) (more : List (ℕ × Content T N)) → IsAt c z seen (Held j vs) stage me → me.1 ≡ (j, Tree t) ∷ more → held_by t ≡ vs
+      → Allows Rule slots id me j (λ _. 0) (λ _. unlocked (step slots j 0 0 none) me 0)
+  unlocks slots id me c j seen stage vs t more mid slot same = allows held_by nodes_of (λ _. Stays) z slots id me j (λ _. 0) (λ _. unlocked (step slots j 0 0 none) me 0) (unlocks_is slots id me c j seen stage vs t more mid slot same)
+
   -- what others know stays where a member's part goes on
-  pub knows_member : (published : List (List Part)) (mode : Mode) (place : ℕ → Place) (lock lock' : ℕ → ShardState) (m : ℕ) (new : Place) (k : ℕ) → k ≢ m → ((l : ℕ) (vs : List Version) → place m ≡ coming l vs → ⊥) → ((l : ℕ) (vs : List Version) → place m ≡ filling l vs → ⊥)
-      → (seen : List (List Part)) (st : Stage) → Knows z.shards z.start published mode place lock k seen st → Knows z.shards z.start published mode (put place m new) lock' k seen st
+  pub knows_member : (published : List (List MemberVersions)) (mode : Mode) (place : ℕ → Place) (lock lock' : ℕ → ShardState) (m : ℕ) (new : Place) (k : ℕ) → k ≢ m → ((l : ℕ) (vs : List Version) → place m ≡ coming l vs → ⊥) → ((l : ℕ) (vs : List Version) → place m ≡ filling l vs → ⊥)
+      → (seen : List (List MemberVersions)) (st : Stage) → Knows z.shards z.start published mode place lock k seen st → Knows z.shards z.start published mode (put place m new) lock' k seen st
   knows_member published mode place lock lock' m new k ne not_c not_f seen Idle ok = subst NotTaken (sym (put_else place m new k ne)) ok
-  knows_member published mode place lock lock' m new k ne not_c not_f seen (Holding w) ok = put_else place m new k ne ∙ ok
-  knows_member published mode place lock lock' m new k ne not_c not_f seen (Stored l) ok = (ok.0, put_else place m new k ne ∙ ok.1)
-  knows_member published mode place lock lock' m new k ne not_c not_f seen (Publishing l) ok = (ok.0, ok.1, subst NotTaken (sym (put_else place m new k ne)) ok.2, ok.3)
+  knows_member published mode place lock lock' m new k ne not_c not_f seen (Waiting u) ok = (subst IsComing (sym (put_else place m new k ne)) ok.0, ok.1)
+  knows_member published mode place lock lock' m new k ne not_c not_f seen (Holding w) ok = (put_else place m new k ne ∙ ok.0, ok.1)
+  knows_member published mode place lock lock' m new k ne not_c not_f seen (Stored u) ok = ((ok.0.0, put_else place m new k ne ∙ ok.0.1), ok.1)
+  knows_member published mode place lock lock' m new k ne not_c not_f seen (Publishing u) ok = (subst NotTaken (sym (put_else place m new k ne)) ok.0, ok.1, ok.2)
   knows_member published mode place lock lock' m new k ne not_c not_f seen Resting ok = ok
   knows_member published mode place lock lock' m new k ne not_c not_f seen (Handing g []) ok = ok
   knows_member published mode place lock lock' m new k ne not_c not_f seen (Handing g (p ∷ ps)) ok = (ok.0, ok.1, ok.2, coming_put place m new (end_of (last_of z.start published) g) (p ∷ ps) not_c ok.3)
@@ -280,32 +319,33 @@ module _ {T N : Type 0} (held_by : T → List Version) (nodes_of : N → List Ve
   add_stage : SeatState → SeatState
   add_stage x = seat_state x.client x.opening x.seen Free (after x.stage)
     where
-      step_on : List Version → List Version → ℕ → Stage
-      step_on d [] l = Idle
-      step_on d (v ∷ m) l = Holding (work l (d ++ v ∷ []) m)
+      step_on : List Version → List Version → Launched → Stage
+      step_on d [] u = Idle
+      step_on d (v ∷ m) u = Holding (work u (d ++ v ∷ []) m)
 
       after : Stage → Stage
       after Idle = Idle
-      after (Holding w) = step_on w.done w.rest w.last
+      after (Waiting u) = Idle
+      after (Holding w) = step_on w.done w.rest w.launched
       after (Stored l) = Idle
       after (Publishing l) = Idle
       after Resting = Idle
       after (Handing g ps) = Idle
       after (Filling g p ps) = Idle
 
-  pub adds : (slots id : ℕ) (me : SeatNow T N) (c j : ℕ) (seen : List (List Part)) (l : ℕ) (done rest' : List Version) (v : Version) (vs : List Version) (t : T) (more : List (ℕ × Content T N)) → IsAt c z seen (Held j vs) (Holding (work l done (v ∷ rest'))) me → me.1 ≡ (j, Tree t) ∷ more
-      → Adds vs v (held_by t) → shard_of z.shards v ≡ j → Allows Rule slots id me j (λ _. 0) (λ _. added (step slots j 0 0 none) me 0)
+  pub adds_is : (slots id : ℕ) (me : SeatNow T N) (c j : ℕ) (seen : List (List MemberVersions)) (u : Launched) (done rest' : List Version) (v : Version) (vs : List Version) (t : T) (more : List (ℕ × Content T N)) → IsAt c z seen (Held j vs) (Holding (work u done (v ∷ rest'))) me → me.1 ≡ (j, Tree t) ∷ more
+      → Adds vs v (held_by t) → shard_of z.shards v ≡ j → StepIs held_by nodes_of (λ _. Stays) z slots id me j (λ _. 0) (λ _. added (step slots j 0 0 none) me 0)
   unfolding add_stage
-  adds slots id me c j seen l done rest' v vs t more mid slot added_v here s r long at fits =
-      let h : SeatState = seat_state c z seen (Held j vs) (Holding (work l done (v ∷ rest'))) in
+  adds_is slots id me c j seen u done rest' v vs t more mid slot added_v here s r long at fits =
+      let h : SeatState = seat_state c z seen (Held j vs) (Holding (work u done (v ∷ rest'))) in
       let at' : get_elem? s.views id ≡ some (h ∷ []) = at ∙ ap some mid in
       let fit = (r.seats id (h ∷ []) at').0 in
       let lt : j < z.shards = fit.4.0 in
       let is : r.lock j ≡ held c vs = fit.4.1 in
-      let now : r.place c ≡ busy l done (v ∷ rest') = fit.5 in
-      let h' : SeatState = seat_state c z seen Free (Holding (work l (done ++ v ∷ []) rest')) in
+      let now : r.place c ≡ busy u.last done (v ∷ rest') = fit.5.0 in
+      let h' : SeatState = seat_state c z seen Free (Holding (work u (done ++ v ∷ []) rest')) in
       let state : ShardState = opened (held_by t) in
-      let new : Place = busy l (done ++ v ∷ []) rest' in
+      let new : Place = busy u.last (done ++ v ∷ []) rest' in
       let ws : List ℕ = set s.words j 0 in
       let hs = set s.homes j (some (Tree t)) in
       let lock = put r.lock j state in
@@ -322,45 +362,53 @@ module _ {T N : Type 0} (held_by : T → List Version) (nodes_of : N → List Ve
         h' ∷ [],
         gives,
         tt,
-        subst (λ (x : List (ℕ × Content T N)). Rule (stepped s j 0 id x (h' ∷ []) gives)) (sym slot) (moved held_by nodes_of z s r id ws hs h h' r.published r.mode place lock record {
-          sits = at';
-          same_client = refl;
-          same_opening = refl;
-          wide = length-set s.words j 0;
-          many = length-set s.homes j (some (Tree t));
-          last_is = w z.shards (λ e. omega arith) ∙ r.last_is;
-          runs = r.runs;
-          some_each = r.some_each;
-          shards_are = λ i _ ok. put_at r.lock j state (λ i x. InShard held_by nodes_of z.shards s.words s.homes i (r.lock i) → InShard held_by nodes_of z.shards ws hs i x) i
-              (λ e _. subst (λ (k : ℕ). InShard held_by nodes_of z.shards ws hs k state) (sym e) (get_or-set_same s.words j 0 0 (omega arith), (t, set_here s.homes j (some (Tree t)) (omega arith), refl)))
-              (λ ne was. shard_stays held_by nodes_of s.words ws s.homes hs z.shards i (w i ne) (set_else s.homes j i (some (Tree t)) ne) (r.lock i) was) ok;
-          rows = λ i lo _ ok.
-              let same = place_stays held_by nodes_of s.words ws s.homes hs z.shards i (w (z.shards + 1 + i) (λ e. omega arith)) (set_else s.homes j (z.shards + i) (some (Tree t)) (λ e. omega arith)) (r.place i) ok in
-              put_at r.place c new (λ i p. InPlace held_by nodes_of z.shards ws hs i (r.place i) → InPlace held_by nodes_of z.shards ws hs i p) i (λ e was. subst (λ (p : Place). InPlace held_by nodes_of z.shards ws hs i p) (ap r.place e ∙ now) was) (λ _ was. was) same;
-          mode_is = subst (λ (x : ℕ). InMode z.clients x place (last_of z.start r.published) r.mode) (sym (w (z.shards + 1) (λ e. omega arith)))
-              (mode_put r.place c new z.clients (get_or s.words (z.shards + 1) 0) (last_of z.start r.published) r.mode is_open tt
-              (λ end us ok. let o = subst (InPart end us) now ok in (o.0, append_assoc done (v ∷ []) rest' ∙ o.1)) r.mode_is);
-          sound = λ i x lt' h. put_at r.lock j state (λ i d. ((In x (contents (r.lock i))) → (shard_of z.shards x ≡ i) × (In x (versions_of r.published) ⊎ ((k : ℕ) × In x (stored_in (place k))))) → In x (contents d) → (shard_of z.shards x ≡ i) × (In x (versions_of r.published) ⊎ ((k : ℕ) × In x (stored_in (place k))))) i
-              (λ e was in_t. ⊎_elim
-              (λ (f : x ≡ v). (ap (shard_of z.shards) f ∙ (here ∙ sym e), inr (c, subst (λ (y : Version). In y (stored_in (place c))) (sym f) comes)))
-              (λ (f : In x vs). was (subst (λ (d : ShardState). In x (contents d)) (sym (ap r.lock e ∙ is)) f))
-              (added_v.2 x in_t))
-              (λ _ was. was)
-              (λ in_old. let o = r.sound i x lt' in_old in (o.0, ⊎_elim (λ (a : In x (versions_of r.published)). inl a) (λ (b : (k : ℕ) × In x (stored_in (r.place k))). inr (b.0, kept b.0 x b.1)) o.1)) h;
-          complete = λ x h. stays (shard_of z.shards x) x (r.complete x h);
-          stored = λ i x h. put_at r.place c new (λ i p. ((In x (stored_in (r.place i))) → In x (contents (lock (shard_of z.shards x)))) → In x (stored_in p) → In x (contents (lock (shard_of z.shards x)))) i
-              (λ e was in_p. ⊎_elim
-              (λ (a : In x done). was (subst (λ (p : Place). In x (stored_in p)) (sym (ap r.place e ∙ now)) a))
-              (λ (b : In x (v ∷ [])). ⊎_elim (λ (f : v ≡ x). subst (λ (y : Version). In y (contents (lock (shard_of z.shards y)))) f in_new) (λ (bad : ⊥). absurd bad) b)
-              (in_split x done (v ∷ []) in_p))
-              (λ _ was. was)
-              (λ in_old. stays (shard_of z.shards x) x (r.stored i x in_old)) h;
-          seen = fit.3;
-          grows = begins_same r.published;
-          knows_lock = tt;
-          knows = put_here r.place c new;
-          others_lock = λ k ne x. opens_lock s r c j vs (held_by t) is k ne place x;
-          others = λ k ne seen st. knows_member r.published r.mode r.place r.lock lock c new k ne (λ l us bad. absurd (subst IsWithMember (sym now ∙ bad) tt)) (λ l us bad. absurd (subst IsWithMember (sym now ∙ bad) tt)) seen st;
-        }),
-        λ c' z' seen' l' done' more' v' vs' mid'. (ap (one add_stage) (sym mid ∙ mid'), refl),
+        (
+          table_now r.published r.mode place,
+          (refl, refl, progress_stays r.place c new (ap progress_of (sym now))),
+          subst (λ (x : List (ℕ × Content T N)). IsNow held_by nodes_of z (table_now r.published r.mode place) (stepped s j 0 id x (h' ∷ []) gives)) (sym slot) (moved held_by nodes_of z s r id ws hs h h' r.published r.mode place lock record {
+            sits = at';
+            same_client = refl;
+            same_opening = refl;
+            wide = length-set s.words j 0;
+            many = length-set s.homes j (some (Tree t));
+            last_is = w z.shards (λ e. omega arith) ∙ r.last_is;
+            runs = r.runs;
+            some_each = r.some_each;
+            shards_are = λ i _ ok. put_at r.lock j state (λ i x. InShard held_by nodes_of z.shards s.words s.homes i (r.lock i) → InShard held_by nodes_of z.shards ws hs i x) i
+                (λ e _. subst (λ (k : ℕ). InShard held_by nodes_of z.shards ws hs k state) (sym e) (get_or-set_same s.words j 0 0 (omega arith), (t, set_here s.homes j (some (Tree t)) (omega arith), refl)))
+                (λ ne was. shard_stays held_by nodes_of s.words ws s.homes hs z.shards i (w i ne) (set_else s.homes j i (some (Tree t)) ne) (r.lock i) was) ok;
+            rows = λ i lo _ ok.
+                let same = place_stays held_by nodes_of s.words ws s.homes hs z.shards i (w (z.shards + 1 + i) (λ e. omega arith)) (set_else s.homes j (z.shards + i) (some (Tree t)) (λ e. omega arith)) (r.place i) ok in
+                put_at r.place c new (λ i p. InPlace held_by nodes_of z.shards ws hs i (r.place i) → InPlace held_by nodes_of z.shards ws hs i p) i (λ e was. subst (λ (p : Place). InPlace held_by nodes_of z.shards ws hs i p) (ap r.place e ∙ now) was) (λ _ was. was) same;
+            mode_is = subst (λ (x : ℕ). InMode z.clients x place (last_of z.start r.published) r.mode) (sym (w (z.shards + 1) (λ e. omega arith)))
+                (mode_put r.place c new z.clients (get_or s.words (z.shards + 1) 0) (last_of z.start r.published) r.mode is_open tt
+                (λ end us ok. let o = subst (InPart end us) now ok in (o.0, append_assoc done (v ∷ []) rest' ∙ o.1)) r.mode_is);
+            sound = λ i x lt' h. put_at r.lock j state (λ i d. ((In x (contents (r.lock i))) → (shard_of z.shards x ≡ i) × (In x (versions_of r.published) ⊎ ((k : ℕ) × In x (stored_in (place k))))) → In x (contents d) → (shard_of z.shards x ≡ i) × (In x (versions_of r.published) ⊎ ((k : ℕ) × In x (stored_in (place k))))) i
+                (λ e was in_t. ⊎_elim
+                (λ (f : x ≡ v). (ap (shard_of z.shards) f ∙ (here ∙ sym e), inr (c, subst (λ (y : Version). In y (stored_in (place c))) (sym f) comes)))
+                (λ (f : In x vs). was (subst (λ (d : ShardState). In x (contents d)) (sym (ap r.lock e ∙ is)) f))
+                (added_v.2 x in_t))
+                (λ _ was. was)
+                (λ in_old. let o = r.sound i x lt' in_old in (o.0, ⊎_elim (λ (a : In x (versions_of r.published)). inl a) (λ (b : (k : ℕ) × In x (stored_in (r.place k))). inr (b.0, kept b.0 x b.1)) o.1)) h;
+            complete = λ x h. stays (shard_of z.shards x) x (r.complete x h);
+            stored = λ i x h. put_at r.place c new (λ i p. ((In x (stored_in (r.place i))) → In x (contents (lock (shard_of z.shards x)))) → In x (stored_in p) → In x (contents (lock (shard_of z.shards x)))) i
+                (λ e was in_p. ⊎_elim
+                (λ (a : In x done). was (subst (λ (p : Place). In x (stored_in p)) (sym (ap r.place e ∙ now)) a))
+                (λ (b : In x (v ∷ [])). ⊎_elim (λ (f : v ≡ x). subst (λ (y : Version). In y (contents (lock (shard_of z.shards y)))) f in_new) (λ (bad : ⊥). absurd bad) b)
+                (in_split x done (v ∷ []) in_p))
+                (λ _ was. was)
+                (λ in_old. stays (shard_of z.shards x) x (r.stored i x in_old)) h;
+            seen = fit.3;
+            grows = begins_same r.published;
+            knows_lock = tt;
+            knows = (put_here r.place c new, fit.5.1);
+            others_lock = λ k ne x. opens_lock s r c j vs (held_by t) is k ne place x;
+            others = λ k ne seen st. knows_member r.published r.mode r.place r.lock lock c new k ne (λ l us bad. absurd (subst IsWithMember (sym now ∙ bad) tt)) (λ l us bad. absurd (subst IsWithMember (sym now ∙ bad) tt)) seen st;
+          }),
+        ),
+        λ c' z' seen' u' done' more' v' vs' mid'. (ap (one add_stage) (sym mid ∙ mid'), refl),
       )
+
+  pub adds : (slots id : ℕ) (me : SeatNow T N) (c j : ℕ) (seen : List (List MemberVersions)) (u : Launched) (done rest' : List Version) (v : Version) (vs : List Version) (t : T) (more : List (ℕ × Content T N)) → IsAt c z seen (Held j vs) (Holding (work u done (v ∷ rest'))) me → me.1 ≡ (j, Tree t) ∷ more
+      → Adds vs v (held_by t) → shard_of z.shards v ≡ j → Allows Rule slots id me j (λ _. 0) (λ _. added (step slots j 0 0 none) me 0)
+  adds slots id me c j seen u done rest' v vs t more mid slot added_v here = allows held_by nodes_of (λ _. Stays) z slots id me j (λ _. 0) (λ _. added (step slots j 0 0 none) me 0) (adds_is slots id me c j seen u done rest' v vs t more mid slot added_v here)

@@ -6,18 +6,20 @@ use lib.ListN.{get_elem?}
 use Rattle.atomic_table.specs.Table.{step, keeps, Allows, opening, Splits, Joins}
 use Rattle.atomic_table.proofs.Lists.{at_set, set_else}
 use Rattle.table_rule.specs.declared.content.Version.{Version}
-use Rattle.table_rule.specs.declared.content.Part.{Part}
+use Rattle.table_rule.specs.declared.content.MemberVersions.{MemberVersions}
 use Rattle.table_rule.specs.declared.view.Opening.{Opening}
 use Rattle.table_rule.specs.declared.view.SeatState.{SeatState}
 use Rattle.table_rule.specs.declared.content.Content.{Content}
 use Rattle.table_rule.specs.declared.content.Content.TheVariants.{Blank, Tree}
 use Rattle.table_rule.specs.declared.view.Lock.TheVariants.{Free}
+use Rattle.table_rule.specs.declared.view.Stage.{Stage}
 use Rattle.table_rule.specs.declared.view.Stage.TheVariants.{Idle, Resting}
 use Rattle.table_rule.specs.Histories.{In, last_of, Begins}
 use Rattle.table_rule.specs.Rule.{out, opened, still, Fits, AllFit, seat_state}
 use Rattle.table_rule.specs.Steps.{SeatNow}
 use Rattle.table_rule.proofs.Puts.{put, put_here, put_else}
-use Rattle.table_rule.proofs.Moves.{TableState, unmoved}
+use Rattle.table_rule.proofs.Moves.{TableState, unmoved, allows}
+use Rattle.table_rule.specs.Events.{Stays, StepIs}
 use Rattle.table_rule.proofs.Locks.{Rule}
 use Rattle.table_rule.specs.Rule.{newcomers}
 use Rattle.table_rule.specs.Histories.{IsHistory}
@@ -118,6 +120,28 @@ module _ {T N : Type 0} (held_by : T → List Version) (nodes_of : N → List Ve
       (λ (t : (j ≡ k) × (seat_state c z [] Free Idle ∷ [] ≡ v)). subst (λ (x : ℕ × List SeatState). AllSit s r f x.0 x.1) (λ i. (sym t.0 i, t.1 i)) ((put_here r.seat c k, ok.0.1, ok.0.2, ok.0.3, ok.0.4, ok.0.5), tt))
       (at_end (set s.views id (newcomers z (suc c) m)) (seat_state c z [] Free Idle ∷ []) v j e))
 
+  -- the second of two states gets a seat of its own
+  pub splits_second : (id : ℕ) (h t : SeatState) → h.client ≢ t.client → Splits (Rule held_by nodes_of z) id (h ∷ t ∷ []) (h ∷ []) (t ∷ [])
+  splits_second id h t apart s r at =
+      let k : ℕ = length (set s.views id (h ∷ [])) in
+      let ok = r.seats id (h ∷ t ∷ []) at in
+      let f : ℕ → ℕ = put r.seat t.client k in
+      let o = ok.0 in
+      let p = ok.1.0 in
+      reseated s r f (set s.views id (h ∷ []) ++ (t ∷ []) ∷ []) (λ j v e. ⊎_elim
+      (λ (a : get_elem? (set s.views id (h ∷ [])) j ≡ some v). ⊎_elim
+      (λ (u : (j ≡ id) × (h ∷ [] ≡ v)). subst (λ (x : ℕ × List SeatState). AllSit s r f x.0 x.1) (λ i. (sym u.0 i, u.1 i)) ((put_else r.seat t.client k h.client apart ∙ o.0, o.1, o.2, o.3, o.4, o.5), tt))
+      (λ (u : (j ≢ id) × (get_elem? s.views j ≡ some v)). seats_stay s r t.client k j v (λ x there e. u.0 (sym there ∙ (ap r.seat e ∙ p.0))) (r.seats j v u.1))
+      (at_set s.views id j (h ∷ []) v a))
+      (λ (a : (j ≡ k) × (t ∷ [] ≡ v)). subst (λ (x : ℕ × List SeatState). AllSit s r f x.0 x.1) (λ i. (sym a.0 i, a.1 i)) ((put_here r.seat t.client k, p.1, p.2, p.3, p.4, p.5), tt))
+      (at_end (set s.views id (h ∷ [])) (t ∷ []) v j e))
+
+  -- the turn is split off a client's seat
+  pub splits_turn : (id c : ℕ) (own seen : List (List MemberVersions)) (stage turn : Stage) (v : List SeatState) → 0 < c → v ≡ seat_state c z own Free stage ∷ seat_state 0 z seen Free turn ∷ []
+      → Splits (Rule held_by nodes_of z) id v (first_only v) (all_but_first v)
+  splits_turn id c own seen stage turn v lo e = subst (λ w. Splits (Rule held_by nodes_of z) id w (first_only w) (all_but_first w)) (sym e)
+      (splits_second id (seat_state c z own Free stage) (seat_state 0 z seen Free turn) (λ e. omega arith))
+
   pub left_is : (c m : ℕ) (v : List SeatState) → v ≡ newcomers z c (suc m) → (all_but_first v ≡ newcomers z (suc c) m) × (first_only v ≡ seat_state c z [] Free Idle ∷ [])
   left_is c m v e = (ap all_but_first e, ap first_only e)
 
@@ -165,7 +189,7 @@ module _ {T N : Type 0} (held_by : T → List Version) (nodes_of : N → List Ve
   fit_in s r id h (x ∷ xs) has ok = ⊎_elim (λ (e : x ≡ h). subst (Fits z r.published r.mode r.place r.lock r.seat id) e ok.0) (λ (t : In h xs). fit_in s r id h xs t ok.1) has
 
   -- with the turn's seat among those joined, its history is the table's, and all seen are beginnings of it
-  pub closes : (s : TableState held_by nodes_of) (id : ℕ) (v : List SeatState) (seen : List (List Part)) → Rule held_by nodes_of z s → get_elem? s.views id ≡ some v → In (seat_state 0 z seen Free Resting) v → Closes z v seen × (get_or s.words z.shards 0 ≡ last_of z.start seen)
+  pub closes : (s : TableState held_by nodes_of) (id : ℕ) (v : List SeatState) (seen : List (List MemberVersions)) → Rule held_by nodes_of z s → get_elem? s.views id ≡ some v → In (seat_state 0 z seen Free Resting) v → Closes z v seen × (get_or s.words z.shards 0 ≡ last_of z.start seen)
   closes s id v seen r at has =
       let ok = r.seats id v at in
       let same : r.published ≡ seen = (fit_in s r id (seat_state 0 z seen Free Resting) v has ok).5.2 in (
@@ -174,8 +198,8 @@ module _ {T N : Type 0} (held_by : T → List Version) (nodes_of : N → List Ve
       )
 
   -- the last load
-  pub closes_load : (slots id : ℕ) (me : SeatNow T N) (k : ℕ) → k ≡ z.shards → Allows (Rule held_by nodes_of z) slots id me k (λ y. y) (closing (step slots k 0 0 none) me)
-  closes_load slots id me k is s r long at fits = (
+  pub closes_is : (slots id : ℕ) (me : SeatNow T N) (k : ℕ) → k ≡ z.shards → StepIs held_by nodes_of (λ _. Stays) z slots id me k (λ y. y) (closing (step slots k 0 0 none) me)
+  closes_is slots id me k is s r long at fits = (
     me.0,
     keeps,
     tt,
@@ -185,3 +209,6 @@ module _ {T N : Type 0} (held_by : T → List Version) (nodes_of : N → List Ve
         subst (λ (y : Opening). In (seat_state 0 y history Free Resting) me.0 → Closes y me.0 history × (get_or s.words k 0 ≡ last_of y.start history)) (sym same)
         (λ here. let o = closes s id me.0 history r at here in (o.0, ap (λ (i : ℕ). get_or s.words i 0) is ∙ o.1)) has,
   )
+
+  pub closes_load : (slots id : ℕ) (me : SeatNow T N) (k : ℕ) → k ≡ z.shards → Allows (Rule held_by nodes_of z) slots id me k (λ y. y) (closing (step slots k 0 0 none) me)
+  closes_load slots id me k is = allows held_by nodes_of (λ _. Stays) z slots id me k (λ y. y) (closing (step slots k 0 0 none) me) (closes_is slots id me k is)

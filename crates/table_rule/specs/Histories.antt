@@ -5,7 +5,7 @@ use Rattle.wp_model.specs.Batch as model
 use Rattle.wp_model.specs.Checksum.{crc32c}
 use Rattle.wp_model.specs.Map.{Pairs, after_records, value_at}
 use Rattle.table_rule.specs.declared.content.Version.{Version}
-use Rattle.table_rule.specs.declared.content.Part.{Part}
+use Rattle.table_rule.specs.declared.content.MemberVersions.{MemberVersions}
 
 -- a is one of them
 abbrev pub In : {A : Type 0} → A → List A → Type 0
@@ -17,11 +17,11 @@ abbrev pub Begins : {A : Type 0} → List A → List A → Type 0
 Begins {A = A} xs ys = (more : List A) × (ys ≡ xs ++ more)
 
 -- the versions of a group, and of groups
-abbrev pub versions_in : List Part → List Version
+abbrev pub versions_in : List MemberVersions → List Version
 versions_in [] = []
 versions_in (p ∷ ps) = p.versions ++ versions_in ps
 
-abbrev pub versions_of : List (List Part) → List Version
+abbrev pub versions_of : List (List MemberVersions) → List Version
 versions_of [] = []
 versions_of (g ∷ gs) = versions_in g ++ versions_of gs
 
@@ -31,26 +31,26 @@ Runs last [] = Unit {0}
 Runs last (v ∷ vs) = (v.sequence ≡ suc last) × Runs (suc last) vs
 
 -- the last sequence of a history above `start`
-abbrev pub last_of : ℕ → List (List Part) → ℕ
+abbrev pub last_of : ℕ → List (List MemberVersions) → ℕ
 last_of start gs = start + length (versions_of gs)
 
 -- no part is this member's
-abbrev pub Apart : ℕ → List Part → Type 0
+abbrev pub Apart : ℕ → List MemberVersions → Type 0
 Apart m [] = Unit {0}
 Apart m (p ∷ ps) = (p.member ≢ m) × Apart m ps
 
 -- the members are numbers from 1 to n, each once
-abbrev pub Members : ℕ → List Part → Type 0
+abbrev pub Members : ℕ → List MemberVersions → Type 0
 Members n [] = Unit {0}
 Members n (p ∷ ps) = (0 < p.member) × (p.member ≤ n) × Apart p.member ps × Members n ps
 
 -- no group is empty
-abbrev pub AreSome : List (List Part) → Type 0
+abbrev pub AreSome : List (List MemberVersions) → Type 0
 AreSome [] = Unit {0}
 AreSome (g ∷ gs) = (0 < length (versions_in g)) × AreSome gs
 
 -- the groups that were published above `start`, the oldest first
-abbrev pub IsHistory : ℕ → List (List Part) → Type 0
+abbrev pub IsHistory : ℕ → List (List MemberVersions) → Type 0
 IsHistory start gs = Runs start (versions_of gs) × AreSome gs
 
 -- the shard of a key, and of a version
@@ -76,10 +76,10 @@ abbrev pub map_of : List Version → Pairs
 map_of vs = after_records [] (map record_of vs)
 
 -- the map after a history, and the value of a key there
-abbrev pub map_after : List (List Part) → Pairs
+abbrev pub map_after : List (List MemberVersions) → Pairs
 map_after gs = map_of (versions_of gs)
 
-abbrev pub value_in : List ℕ → List (List Part) → Option (List ℕ)
+abbrev pub value_in : List ℕ → List (List MemberVersions) → Option (List ℕ)
 value_in key gs = value_at (map_after gs) key
 
 -- no sequence is below one before it
@@ -98,6 +98,6 @@ module _ {H : Type 0} (made : H → List Version) where
   made_by [] = []
   made_by (h ∷ hs) = made h ++ made_by hs
 
-  abbrev pub Images : List H → List (List Part) → Type 0
+  abbrev pub Images : List H → List (List MemberVersions) → Type 0
   Images hs [] = made_by hs ≡ []
   Images hs (g ∷ gs) = (front : List H) × (rest : List H) × (hs ≡ front ++ rest) × (made_by front ≡ versions_in g) × Images rest gs

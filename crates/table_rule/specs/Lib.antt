@@ -1,4 +1,6 @@
 pub mod Histories
+pub mod Batches
 pub mod Rule
 pub mod Steps
 pub mod Seats
+pub mod Events

@@ -1,19 +1,20 @@
 -- The rule of the table.
 -- Words: shard j's lock is word j, LAST is word k, RUNNING is word k + 1, RUN_i is word k + 1 + i. Slots: shard j's tree is slot j, member i's nodes are slot k + i, and slot k is never used.
 use Rattle.std.specs.Prelude.{◌≡◌, ℕ, zero, suc, ◌+◌, ◌<◌, ◌≤◌, ◌⊎◌, List, [], ◌∷◌, ◌++◌, length, slice_index}
-use mathlib.Core.Option.{Option, some}
+use mathlib.Core.Option.{Option, none, some}
 use lib.ListN.{get_elem?}
 use Rattle.atomic_table.specs.Table.{State}
 use Rattle.table_rule.specs.declared.content.Version.{Version}
-use Rattle.table_rule.specs.declared.content.Part.{Part}
+use Rattle.table_rule.specs.declared.content.MemberVersions.{MemberVersions}
 use Rattle.table_rule.specs.declared.view.Opening.{Opening}
 use Rattle.table_rule.specs.declared.view.SeatState.{SeatState}
+use Rattle.table_rule.specs.declared.view.Launched.{Launched}
 use Rattle.table_rule.specs.declared.content.Content.{Content}
 use Rattle.table_rule.specs.declared.content.Content.TheVariants.{Blank, Tree, Nodes}
 use Rattle.table_rule.specs.declared.view.Lock.{Lock}
 use Rattle.table_rule.specs.declared.view.Lock.TheVariants.{Free, Held}
 use Rattle.table_rule.specs.declared.view.Stage.{Stage}
-use Rattle.table_rule.specs.declared.view.Stage.TheVariants.{Idle, Holding, Stored, Publishing, Resting, Handing, Filling}
+use Rattle.table_rule.specs.declared.view.Stage.TheVariants.{Idle, Waiting, Holding, Stored, Publishing, Resting, Handing, Filling}
 use Rattle.table_rule.specs.Histories.{In, versions_in, versions_of, Runs, last_of, shard_of, Begins, Apart, Members, AreSome}
 
 -- where a client's part of the launched group is, with the group's last sequence
@@ -34,8 +35,8 @@ pub data ShardState : Type 0 where
 -- no group is launched, or one is, or all its parts are finished and one member may publish it
 pub data Mode : Type 0 where
   still : Mode
-  running : List Part → Mode
-  ended : ℕ → List Part → Mode
+  running : List MemberVersions → Mode
+  ended : ℕ → List MemberVersions → Mode
 
 abbrev pub contents : ShardState → List Version
 contents (opened vs) = vs
@@ -80,30 +81,40 @@ NotTaken (busy l done more) = ⊥
 NotTaken (inserted l vs) = ⊥
 NotTaken (finished l vs) = Unit {0}
 
+-- the client's part is with the turn, or in the client's slot
+abbrev pub IsComing : Place → Type 0
+IsComing out = ⊥
+IsComing (coming l vs) = Unit {0}
+IsComing (filling l vs) = Unit {0}
+IsComing (handed l vs) = Unit {0}
+IsComing (busy l done more) = ⊥
+IsComing (inserted l vs) = ⊥
+IsComing (finished l vs) = ⊥
+
 module _ (place : ℕ → Place) where
-  abbrev pub unfinished : List Part → ℕ
+  abbrev pub unfinished : List MemberVersions → ℕ
   unfinished [] = 0
   unfinished (p ∷ ps) = open_part (place p.member) + unfinished ps
 
-  abbrev pub AllParts : ℕ → List Part → Type 0
+  abbrev pub AllParts : ℕ → List MemberVersions → Type 0
   AllParts end [] = Unit {0}
   AllParts end (p ∷ ps) = InPart end p.versions (place p.member) × AllParts end ps
 
-  abbrev pub AllFinished : ℕ → List Part → Type 0
+  abbrev pub AllFinished : ℕ → List MemberVersions → Type 0
   AllFinished end [] = Unit {0}
   AllFinished end (p ∷ ps) = (place p.member ≡ finished end p.versions) × AllFinished end ps
 
-  abbrev pub AllComing : ℕ → List Part → Type 0
+  abbrev pub AllComing : ℕ → List MemberVersions → Type 0
   AllComing end [] = Unit {0}
   AllComing end (p ∷ ps) = (place p.member ≡ coming end p.versions) × Apart p.member ps × AllComing end ps
 
 -- the last sequence of a group behind `last`
-abbrev pub end_of : ℕ → List Part → ℕ
+abbrev pub end_of : ℕ → List MemberVersions → ℕ
 end_of last g = last + length (versions_in g)
 
 module _ (n : ℕ) (word : ℕ) (place : ℕ → Place) (last : ℕ) where
   -- a group that may be published behind `last`
-  abbrev pub IsLaunched : List Part → Type 0
+  abbrev pub IsLaunched : List MemberVersions → Type 0
   IsLaunched g = Runs last (versions_in g) × (0 < length (versions_in g)) × Members n g × ((i : ℕ) → Apart i g → place i ≡ out)
 
   abbrev pub InMode : Mode → Type 0
@@ -111,23 +122,32 @@ module _ (n : ℕ) (word : ℕ) (place : ℕ → Place) (last : ℕ) where
   InMode (running g) = (word ≡ unfinished place g) × (0 < word) × AllParts place (end_of last g) g × IsLaunched g
   InMode (ended m g) = (word ≡ 0) × AllFinished place (end_of last g) g × IsLaunched g
 
-module _ (k start : ℕ) (published : List (List Part)) (mode : Mode) (place : ℕ → Place) (lock : ℕ → ShardState) (c : ℕ) where
+module _ (k start : ℕ) (published : List (List MemberVersions)) (mode : Mode) (place : ℕ → Place) (lock : ℕ → ShardState) (c : ℕ) where
   abbrev pub KnowsLock : Lock → Type 0
   KnowsLock Free = Unit {0}
   KnowsLock (Held j vs) = (j < k) × (lock j ≡ held c vs)
 
-  module _ (seen : List (List Part)) where
+  -- it is the group that goes behind what is published
+  abbrev pub IsBehind : Launched → Type 0
+  IsBehind u = (published ≡ u.before) × (u.last ≡ end_of (last_of start published) u.group)
+
+  -- that group is launched, and some part of it isn't finished
+  abbrev pub IsRunning : Launched → Type 0
+  IsRunning u = (mode ≡ running u.group) × IsBehind u
+
+  module _ (seen : List (List MemberVersions)) where
     abbrev pub Knows : Stage → Type 0
     Knows Idle = NotTaken (place c)
-    Knows (Holding w) = place c ≡ busy w.last w.done w.rest
-    Knows (Stored l) = (vs : List Version) × (place c ≡ inserted l vs)
-    Knows (Publishing l) = (g : List Part) × (mode ≡ ended c g) × (NotTaken (place c)) × (end_of (last_of start published) g ≡ l)
+    Knows (Waiting u) = IsComing (place c) × IsRunning u
+    Knows (Holding w) = (place c ≡ busy w.launched.last w.done w.rest) × IsRunning w.launched
+    Knows (Stored u) = ((vs : List Version) × (place c ≡ inserted u.last vs)) × IsRunning u
+    Knows (Publishing u) = NotTaken (place c) × (mode ≡ ended c u.group) × IsBehind u
     Knows Resting = (c ≡ 0) × (mode ≡ still) × (published ≡ seen)
     Knows (Handing g []) = (c ≡ 0) × (((mode ≡ running g) × (published ≡ seen)) ⊎ ((m : ℕ) × (mode ≡ ended m g) × (published ≡ seen)) ⊎ ((mode ≡ still) × (published ≡ seen ++ g ∷ [])))
     Knows (Handing g (p ∷ ps)) = (c ≡ 0) × (mode ≡ running g) × (published ≡ seen) × AllComing place (end_of (last_of start published) g) (p ∷ ps)
     Knows (Filling g p ps) = (c ≡ 0) × (mode ≡ running g) × (published ≡ seen) × (place p.member ≡ filling (end_of (last_of start published) g) p.versions) × AllComing place (end_of (last_of start published) g) ps
 
-module _ (z : Opening) (published : List (List Part)) (mode : Mode) (place : ℕ → Place) (lock : ℕ → ShardState) (seat : ℕ → ℕ) (j : ℕ) where
+module _ (z : Opening) (published : List (List MemberVersions)) (mode : Mode) (place : ℕ → Place) (lock : ℕ → ShardState) (seat : ℕ → ℕ) (j : ℕ) where
   abbrev pub Fits : SeatState → Type 0
   Fits h = (seat h.client ≡ j) × (h.client ≤ z.clients) × (h.opening ≡ z) × Begins h.seen published × KnowsLock z.shards z.start published mode place lock h.client h.lock × Knows z.shards z.start published mode place lock h.client h.seen h.stage
 
@@ -135,7 +155,7 @@ module _ (z : Opening) (published : List (List Part)) (mode : Mode) (place : ℕ
   AllFit [] = Unit {0}
   AllFit (h ∷ hs) = Fits h × AllFit hs
 
-abbrev pub seat_state : ℕ → Opening → List (List Part) → Lock → Stage → SeatState
+abbrev pub seat_state : ℕ → Opening → List (List MemberVersions) → Lock → Stage → SeatState
 seat_state c z seen lock stage = record { client = c; opening = z; seen = seen; lock = lock; stage = stage }
 
 -- m clients from c on, and then the turn
@@ -147,7 +167,7 @@ module _ {T N : Type 0} (held_by : T → List Version) (nodes_of : N → List Ve
   module _ (k : ℕ) (words : List ℕ) (homes : List (Option (Content T N))) where
     abbrev pub InShard : ℕ → ShardState → Type 0
     InShard j (opened vs) = (slice_index words j ≡ 0) × ((t : T) × (get_elem? homes j ≡ some (some (Tree t))) × (held_by t ≡ vs))
-    InShard j (held c vs) = slice_index words j ≡ 1
+    InShard j (held c vs) = (slice_index words j ≡ 1) × (get_elem? homes j ≡ some none)
 
     abbrev pub InPlace : ℕ → Place → Type 0
     InPlace i out = (slice_index words (k + 1 + i) ≡ 0) × (get_elem? homes (k + i) ≡ some (some Blank))
@@ -159,7 +179,7 @@ module _ {T N : Type 0} (held_by : T → List Version) (nodes_of : N → List Ve
     InPlace i (finished l vs) = (slice_index words (k + 1 + i) ≡ 0) × (get_elem? homes (k + i) ≡ some (some Blank))
 
   pub record IsConsistent (z : Opening) (s : State (Content T N) (List SeatState)) : Type 0 where
-    pub published : List (List Part)
+    pub published : List (List MemberVersions)
     pub mode : Mode
     pub place : ℕ → Place
     pub lock : ℕ → ShardState

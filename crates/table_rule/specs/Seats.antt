@@ -6,7 +6,7 @@ use Rattle.table_rule.specs.declared.view.Lock.TheVariants.{Free}
 use Rattle.table_rule.specs.declared.view.Stage.TheVariants.{Resting}
 use Rattle.table_rule.specs.Rule.{seat_state}
 use Rattle.table_rule.specs.Steps.{SeatNow}
-use Rattle.table_rule.specs.declared.content.Part.{Part}
+use Rattle.table_rule.specs.declared.content.MemberVersions.{MemberVersions}
 use Rattle.table_rule.specs.declared.view.Opening.{Opening}
 use Rattle.table_rule.specs.declared.view.SeatState.{SeatState}
 use Rattle.table_rule.specs.Histories.{In, Begins, IsHistory, last_of}
@@ -20,9 +20,9 @@ first_only [] = []
 first_only (x ∷ xs) = x ∷ []
 
 -- the history is one, and what each seat has seen is a beginning of it
-abbrev pub Closes : Opening → List SeatState → List (List Part) → Type 0
+abbrev pub Closes : Opening → List SeatState → List (List MemberVersions) → Type 0
 Closes z v history = IsHistory z.start history × ((h : SeatState) → In h v → Begins h.seen history)
 
 -- a load of LAST by a seat that has the turn's seat_state, which is free: all that it holds has seen beginnings of the turn's history
 abbrev pub closing : {T N : Type 0} → Step (Content T N) → SeatNow T N → ℕ → SeatNow T N → Type 0
-closing st m r m' = (z : Opening) (history : List (List Part)) → In (seat_state 0 z history Free Resting) m.0 → Closes z m.0 history × (r ≡ last_of z.start history)
+closing st m r m' = (z : Opening) (history : List (List MemberVersions)) → In (seat_state 0 z history Free Resting) m.0 → Closes z m.0 history × (r ≡ last_of z.start history)

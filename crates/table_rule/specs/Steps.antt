@@ -2,27 +2,36 @@
 use Rattle.std.specs.Prelude.{◌≡◌, ◌≢◌, ℕ, ◌<◌, ◌≤◌, ◌+◌, ◌⊎◌, zero, suc, List, [], ◌∷◌, ◌++◌, length}
 use Rattle.atomic_table.specs.Table.{Me, Step, rest}
 use Rattle.table_rule.specs.declared.content.Version.{Version}
-use Rattle.table_rule.specs.declared.content.Part.{Part}
+use Rattle.table_rule.specs.declared.content.MemberVersions.{MemberVersions}
 use Rattle.table_rule.specs.declared.view.Opening.{Opening}
 use Rattle.table_rule.specs.declared.view.Work.{Work}
+use Rattle.table_rule.specs.declared.view.Launched.{Launched}
 use Rattle.table_rule.specs.declared.view.SeatState.{SeatState}
 use Rattle.table_rule.specs.declared.content.Content.{Content}
 use Rattle.table_rule.specs.declared.content.Content.TheVariants.{Blank, Tree, Nodes}
 use Rattle.table_rule.specs.declared.view.Lock.{Lock}
 use Rattle.table_rule.specs.declared.view.Lock.TheVariants.{Free, Held}
 use Rattle.table_rule.specs.declared.view.Stage.{Stage}
-use Rattle.table_rule.specs.declared.view.Stage.TheVariants.{Idle, Holding, Stored, Publishing, Resting, Handing, Filling}
+use Rattle.table_rule.specs.declared.view.Stage.TheVariants.{Idle, Waiting, Holding, Stored, Publishing, Resting, Handing, Filling}
 use Rattle.table_rule.specs.Histories.{In, versions_in, versions_of, Runs, last_of, shard_of, Begins, Members, IsHistory}
 use Rattle.table_rule.specs.Rule.{seat_state, end_of}
 
 abbrev pub SeatNow : Type 0 → Type 0 → Type 0
 SeatNow T N = Me (Content T N) (List SeatState)
 
-abbrev pub work : ℕ → List Version → List Version → Work
-work l done more = record { last = l; done = done; rest = more }
+abbrev pub work : Launched → List Version → List Version → Work
+work u done more = record { launched = u; done = done; rest = more }
+
+-- the group, launched behind a history above `start`
+abbrev pub launched_behind : ℕ → List (List MemberVersions) → List MemberVersions → Launched
+launched_behind start before g = record { before = before; group = g; last = end_of (last_of start before) g }
+
+-- a member's versions, as a part of a group
+abbrev pub part_of : ℕ → List Version → MemberVersions
+part_of m vs = record { member = m; versions = vs }
 
 -- what a tree shows of a history: all its versions of that shard, and nothing else up to its end
-abbrev pub Shows : ℕ → ℕ → ℕ → List (List Part) → List Version → Type 0
+abbrev pub Shows : ℕ → ℕ → ℕ → List (List MemberVersions) → List Version → Type 0
 Shows k j start seen vs = ((v : Version) → In v vs → shard_of k v ≡ j)
     × ((v : Version) → In v (versions_of seen) → shard_of k v ≡ j → In v vs)
     × ((v : Version) → In v vs → v.sequence ≤ last_of start seen → In v (versions_of seen))
@@ -32,17 +41,18 @@ abbrev pub Adds : List Version → Version → List Version → Type 0
 Adds vs v ws = In v ws × ((x : Version) → In x vs → In x ws) × ((x : Version) → In x ws → (x ≡ v) ⊎ In x vs)
 
 -- the fetch-sub of RUNNING: the one that found 1 may publish
-abbrev pub ending : ℕ → ℕ → Stage
-ending l zero = Idle
-ending l (suc zero) = Publishing l
-ending l (suc (suc r)) = Idle
+abbrev pub ending : Launched → ℕ → Stage
+ending u zero = Idle
+ending u (suc zero) = Publishing u
+ending u (suc (suc r)) = Idle
 
 -- what is still to be inserted is not in the tree
 abbrev pub IsFresh : Stage → List Version → Type 0
 IsFresh Idle vs = Unit {0}
+IsFresh (Waiting u) vs = Unit {0}
 IsFresh (Holding w) vs = (v x : Version) → In v w.rest → In x vs → x.sequence ≢ v.sequence
-IsFresh (Stored l) vs = Unit {0}
-IsFresh (Publishing l) vs = Unit {0}
+IsFresh (Stored u) vs = Unit {0}
+IsFresh (Publishing u) vs = Unit {0}
 IsFresh Resting vs = Unit {0}
 IsFresh (Handing g ps) vs = Unit {0}
 IsFresh (Filling g p ps) vs = Unit {0}
@@ -50,74 +60,115 @@ IsFresh (Filling g p ps) vs = Unit {0}
 -- a stage of a client
 abbrev pub IsClient : Stage → Type 0
 IsClient Idle = Unit {0}
+IsClient (Waiting u) = Unit {0}
 IsClient (Holding w) = Unit {0}
-IsClient (Stored l) = Unit {0}
-IsClient (Publishing l) = Unit {0}
+IsClient (Stored u) = Unit {0}
+IsClient (Publishing u) = Unit {0}
 IsClient Resting = ⊥
 IsClient (Handing g ps) = ⊥
 IsClient (Filling g p ps) = ⊥
 
+-- the client may take a part
+abbrev pub MayTake : Stage → Type 0
+MayTake Idle = Unit {0}
+MayTake (Waiting u) = Unit {0}
+MayTake (Holding w) = ⊥
+MayTake (Stored u) = ⊥
+MayTake (Publishing u) = ⊥
+MayTake Resting = ⊥
+MayTake (Handing g ps) = ⊥
+MayTake (Filling g p ps) = ⊥
+
+-- a client that waits for its part of the group v is given no part of another
+abbrev pub IsAwaited : Stage → Launched → Type 0
+IsAwaited Idle u = Unit {0}
+IsAwaited (Waiting v) u = u ≡ v
+IsAwaited (Holding w) u = Unit {0}
+IsAwaited (Stored v) u = Unit {0}
+IsAwaited (Publishing v) u = Unit {0}
+IsAwaited Resting u = Unit {0}
+IsAwaited (Handing g ps) u = Unit {0}
+IsAwaited (Filling g p ps) u = Unit {0}
+
 -- the group may be launched behind what is published
-abbrev pub IsNext : Opening → List (List Part) → List Part → Type 0
+abbrev pub IsNext : Opening → List (List MemberVersions) → List MemberVersions → Type 0
 IsNext z seen g = Runs (last_of z.start seen) (versions_in g) × (0 < length (versions_in g)) × Members z.clients g
+
+-- The versions are client c's part of a launched group, which goes behind all that c has seen.
+pub record IsPartOf (z : Opening) (c : ℕ) (seen : List (List MemberVersions)) (u : Launched) (vs : List Version) : Type 0 where
+  pub part : In (part_of c vs) u.group
+  pub next : IsNext z u.before u.group
+  pub last_is : u.last ≡ end_of (last_of z.start u.before) u.group
+  pub seen_before : Begins seen u.before
+  pub is_history : IsHistory z.start u.before
 
 module _ {T N : Type 0} where
   -- the seat has the view of one client or of the turn, here c
-  abbrev pub IsAt : ℕ → Opening → List (List Part) → Lock → Stage → SeatNow T N → Type 0
+  abbrev pub IsAt : ℕ → Opening → List (List MemberVersions) → Lock → Stage → SeatNow T N → Type 0
   IsAt c z seen lock stage m = m.0 ≡ seat_state c z seen lock stage ∷ []
 
   -- a client's load of LAST: it has seen the history up to the number found
   abbrev pub learned : Step (Content T N) → SeatNow T N → ℕ → SeatNow T N → Type 0
-  learned st m r m' = (c : ℕ) (z : Opening) (seen : List (List Part)) (stage : Stage) → IsAt c z seen Free stage m → (now : List (List Part)) × IsAt c z now Free stage m' × Begins seen now × IsHistory z.start now × (r ≡ last_of z.start now) × (m'.1 ≡ m.1)
+  learned st m r m' = (c : ℕ) (z : Opening) (seen : List (List MemberVersions)) (stage : Stage) → IsAt c z seen Free stage m → (now : List (List MemberVersions)) × IsAt c z now Free stage m' × Begins seen now × IsHistory z.start now × (r ≡ last_of z.start now) × (m'.1 ≡ m.1)
 
   -- the compare-exchange of a lock from 0 to 1
   module _ (held_by : T → List Version) where
     abbrev pub locked : Step (Content T N) → SeatNow T N → ℕ → SeatNow T N → Type 0
-    locked st m r m' = (c : ℕ) (z : Opening) (seen : List (List Part)) (stage : Stage) → IsAt c z seen Free stage m
+    locked st m r m' = (c : ℕ) (z : Opening) (seen : List (List MemberVersions)) (stage : Stage) → IsAt c z seen Free stage m
         → (r ≡ 0 → (t : T) × IsAt c z seen (Held st.word (held_by t)) stage m' × (m'.1 ≡ (st.word, Tree t) ∷ m.1) × Shows z.shards st.word z.start seen (held_by t) × IsFresh stage (held_by t))
         × (r ≢ 0 → m' ≡ m)
 
   -- the unlocking store: the tree is as it was, or it has one version more
   abbrev pub unlocked : Step (Content T N) → SeatNow T N → ℕ → SeatNow T N → Type 0
-  unlocked st m r m' = (c : ℕ) (z : Opening) (seen : List (List Part)) (stage : Stage) (vs : List Version) → IsAt c z seen (Held st.word vs) stage m → IsAt c z seen Free stage m' × (m'.1 ≡ rest m.1)
+  unlocked st m r m' = (c : ℕ) (z : Opening) (seen : List (List MemberVersions)) (stage : Stage) (vs : List Version) → IsAt c z seen (Held st.word vs) stage m → IsAt c z seen Free stage m' × (m'.1 ≡ rest m.1)
 
   abbrev pub added : Step (Content T N) → SeatNow T N → ℕ → SeatNow T N → Type 0
-  added st m r m' = (c : ℕ) (z : Opening) (seen : List (List Part)) (l : ℕ) (done more : List Version) (v : Version) (vs : List Version) → IsAt c z seen (Held st.word vs) (Holding (work l done (v ∷ more))) m
-      → IsAt c z seen Free (Holding (work l (done ++ v ∷ []) more)) m' × (m'.1 ≡ rest m.1)
+  added st m r m' = (c : ℕ) (z : Opening) (seen : List (List MemberVersions)) (u : Launched) (done more : List Version) (v : Version) (vs : List Version)
+      → IsAt c z seen (Held st.word vs) (Holding (work u done (v ∷ more))) m → IsAt c z seen Free (Holding (work u (done ++ v ∷ []) more)) m' × (m'.1 ≡ rest m.1)
 
-  -- the turn's store of RUNNING
-  abbrev pub launched : List Part → Step (Content T N) → SeatNow T N → ℕ → SeatNow T N → Type 0
-  launched g st m r m' = (z : Opening) (seen : List (List Part)) → IsAt 0 z seen Free Resting m → IsAt 0 z seen Free (Handing g g) m' × (m'.1 ≡ m.1)
+  -- the seat has the views of client c, who has seen `own`, and of the turn
+  abbrev pub IsWithTurn : ℕ → Opening → List (List MemberVersions) → Stage → List (List MemberVersions) → Stage → SeatNow T N → Type 0
+  IsWithTurn c z own stage seen turn m = m.0 ≡ seat_state c z own Free stage ∷ seat_state 0 z seen Free turn ∷ []
+
+  -- the store of RUNNING, by a member that has the turn
+  abbrev pub launched : List MemberVersions → Step (Content T N) → SeatNow T N → ℕ → SeatNow T N → Type 0
+  launched g st m r m' = (c : ℕ) (z : Opening) (own seen : List (List MemberVersions)) → IsWithTurn c z own Idle seen Resting m
+      → IsWithTurn c z own (Waiting (launched_behind z.start seen g)) seen (Handing g g) m' × (m'.1 ≡ m.1)
 
   -- the turn's load of RUN_i
   abbrev pub emptied : Step (Content T N) → SeatNow T N → ℕ → SeatNow T N → Type 0
-  emptied st m r m' = (z : Opening) (seen : List (List Part)) (g : List Part) (p : Part) (ps : List Part) → IsAt 0 z seen Free (Handing g (p ∷ ps)) m → st.word ≡ z.shards + 1 + p.member
+  emptied st m r m' = (z : Opening) (seen : List (List MemberVersions)) (g : List MemberVersions) (p : MemberVersions) (ps : List MemberVersions) → IsAt 0 z seen Free (Handing g (p ∷ ps)) m → st.word ≡ z.shards + 1 + p.member
       → IsAt 0 z seen Free (Filling g p ps) m' × (r ≡ 0) × (m'.1 ≡ (z.shards + p.member, Blank) ∷ m.1)
 
   -- the turn's store of RUN_i
   abbrev pub given : Step (Content T N) → SeatNow T N → ℕ → SeatNow T N → Type 0
-  given st m r m' = (z : Opening) (seen : List (List Part)) (g : List Part) (p : Part) (ps : List Part) → IsAt 0 z seen Free (Filling g p ps) m → IsAt 0 z seen Free (Handing g ps) m' × (m'.1 ≡ rest m.1)
+  given st m r m' = (z : Opening) (seen : List (List MemberVersions)) (g : List MemberVersions) (p : MemberVersions) (ps : List MemberVersions) → IsAt 0 z seen Free (Filling g p ps) m → IsAt 0 z seen Free (Handing g ps) m' × (m'.1 ≡ rest m.1)
 
   -- a client's load of its RUN
   module _ (nodes_of : N → List Version) where
     abbrev pub took : Step (Content T N) → SeatNow T N → ℕ → SeatNow T N → Type 0
-    took st m r m' = (c : ℕ) (z : Opening) (seen : List (List Part)) → IsAt c z seen Free Idle m
-        → (r ≡ 1 → (x : N) × (l : ℕ) × IsAt c z seen Free (Holding (work l [] (nodes_of x))) m' × (m'.1 ≡ (z.shards + c, Nodes x l) ∷ m.1))
+    took st m r m' = (c : ℕ) (z : Opening) (seen : List (List MemberVersions)) (stage : Stage) → IsAt c z seen Free stage m → MayTake stage
+        → (r ≡ 1 → (x : N) × (u : Launched) × IsAt c z seen Free (Holding (work u [] (nodes_of x))) m' × (m'.1 ≡ (z.shards + c, Nodes x u.last) ∷ m.1)
+        × IsPartOf z c seen u (nodes_of x) × IsAwaited stage u)
         × (r ≢ 1 → m' ≡ m)
 
   -- a client's store of its RUN
   abbrev pub settled : Step (Content T N) → SeatNow T N → ℕ → SeatNow T N → Type 0
-  settled st m r m' = (c : ℕ) (z : Opening) (seen : List (List Part)) (l : ℕ) (done : List Version) → IsAt c z seen Free (Holding (work l done [])) m → IsAt c z seen Free (Stored l) m' × (m'.1 ≡ rest m.1)
+  settled st m r m' = (c : ℕ) (z : Opening) (seen : List (List MemberVersions)) (u : Launched) (done : List Version)
+      → IsAt c z seen Free (Holding (work u done [])) m → IsAt c z seen Free (Stored u) m' × (m'.1 ≡ rest m.1)
 
+  -- the fetch-sub of RUNNING: a group's only member finds 1
   abbrev pub counted : Step (Content T N) → SeatNow T N → ℕ → SeatNow T N → Type 0
-  counted st m r m' = (c : ℕ) (z : Opening) (seen : List (List Part)) (l : ℕ) → IsAt c z seen Free (Stored l) m → IsAt c z seen Free (ending l r) m' × (m'.1 ≡ m.1)
+  counted st m r m' = (c : ℕ) (z : Opening) (seen : List (List MemberVersions)) (u : Launched)
+      → IsAt c z seen Free (Stored u) m → IsAt c z seen Free (ending u r) m' × (m'.1 ≡ m.1) × (length u.group ≡ 1 → r ≡ 1)
 
-  -- the store of LAST
+  -- the store of LAST: it has seen the history with the group
   abbrev pub publishes : Step (Content T N) → SeatNow T N → ℕ → SeatNow T N → Type 0
-  publishes st m r m' = (c : ℕ) (z : Opening) (seen : List (List Part)) (l : ℕ) → IsAt c z seen Free (Publishing l) m → IsAt c z seen Free Idle m' × (m'.1 ≡ m.1)
+  publishes st m r m' = (c : ℕ) (z : Opening) (seen : List (List MemberVersions)) (u : Launched)
+      → IsAt c z seen Free (Publishing u) m → IsAt c z (u.before ++ u.group ∷ []) Free Idle m' × Begins seen u.before × IsHistory z.start (u.before ++ u.group ∷ []) × (m'.1 ≡ m.1)
 
   -- the turn's load of LAST, with no part left to hand over
   abbrev pub awaited : Step (Content T N) → SeatNow T N → ℕ → SeatNow T N → Type 0
-  awaited st m r m' = (z : Opening) (seen : List (List Part)) (g : List Part) → IsAt 0 z seen Free (Handing g []) m
+  awaited st m r m' = (z : Opening) (seen : List (List MemberVersions)) (g : List MemberVersions) → IsAt 0 z seen Free (Handing g []) m
       → (r ≡ end_of (last_of z.start seen) g → IsAt 0 z (seen ++ g ∷ []) Free Resting m' × (m'.1 ≡ m.1))
       × (r ≢ end_of (last_of z.start seen) g → m' ≡ m)

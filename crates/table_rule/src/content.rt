@@ -21,7 +21,7 @@ pub struct Version {
 }
 
 /// A member's part of a group, in the order of its sequences. A group is a list of parts. No value of this type is made.
-pub struct Part {
+pub struct MemberVersions {
     pub member: u64,
     pub versions: LinkedList<Version>,
 }

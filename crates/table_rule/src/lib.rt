@@ -21,36 +21,38 @@
 //!
 //! # Steps
 //!
-//! The turn is a seat of its own, of which a table has one. Who keeps it may launch a group. A reader's seat is a client's.
+//! The turn is a seat of its own, of which a table has one. A client that keeps it may launch a group of which it is a member. A reader's seat is a client's. What each step is of the write path says [`steps_and_events`].
 //!
 //! | Step | Who makes it | What it does | Event of the write path |
 //! |---|---|---|---|
 //! | load of LAST ([`Learn`]) | a client | sees the published history | read |
 //! | compare-exchange of a lock from 0 to 1 ([`LockShard`]) | a client | takes the tree out of its slot | |
 //! | store of 0 to a lock ([`UnlockShard`]) | who locked it | gives the tree back as it was | |
-//! | store of 0 to a lock ([`AddVersion`]) | a member | gives the tree back with one version of its part more | insert, where it is the part's last |
-//! | store of RUNNING ([`Launch`]) | the turn | begins a group, with the number of its parts | launch |
+//! | store of 0 to a lock ([`AddVersion`]) | a member | gives the tree back with one version of its part more | |
+//! | store of RUNNING ([`Launch`]) | a member that has the turn, with both seats as one | begins a group, with the number of its parts | launch |
 //! | load of RUN `i` ([`Empty`]) | the turn | takes the empty slot of a member | |
 //! | store of 1 to RUN `i` ([`Give`]) | the turn | gives that slot back with the member's nodes | |
 //! | load of RUN `i` ([`Take`]) | member `i` | takes its nodes out of its slot, where it finds 1 | |
-//! | store of 0 to RUN `i` ([`Settle`]) | member `i` | gives the empty slot back, all its nodes being in their trees | |
+//! | store of 0 to RUN `i` ([`Settle`]) | member `i` | gives the empty slot back, all its nodes being in their trees | insert |
 //! | fetch-sub of RUNNING ([`Count`]) | a member | its part is finished; who finds 1 may publish | finish |
 //! | store of LAST ([`Publish`]) | the member that took RUNNING to 0 | publishes the group | publish |
 //! | load of LAST ([`Await`]) | the turn | the group is published, where it finds the group's last sequence | |
 //! | load of LAST ([`Close`]) | the turn's seat, joined with the clients' | the one history of the table is known | |
 //!
-//! A compare-exchange that fails is a load that tells nothing. A seat is made and joined at opening and closing alone.
+//! A compare-exchange that fails is a load that tells nothing. Seats are made at opening and joined at closing; for the store of RUNNING the turn is joined to the seat of the client that launches, and split off again.
 #![tactic(auto)]
 
 mod content;
+mod law;
 mod rule;
 mod steps;
 mod view;
 
-pub use content::{Content, Part, Version};
-pub use rule::{Both, First, TableLaw, Versioned};
+pub use content::{Content, MemberVersions, Version};
+pub use law::steps_and_events;
+pub use rule::{AllButFirst, Both, First, TableLaw, Versioned};
 pub use steps::{
     AddVersion, Await, Close, Count, Empty, Give, GroupPlan, Launch, Learn, LockShard, Publish,
     Settle, Take, UnlockShard,
 };
-pub use view::{Lock, Opening, SeatState, Stage, View, Work};
+pub use view::{Launched, Lock, Opening, SeatState, Stage, View, Work};

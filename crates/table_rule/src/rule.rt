@@ -33,6 +33,15 @@ impl Split<View> for First {
     ghost right = { λ v. first_only v };
 }
 
+/// Cuts all but the first state of a seat off.
+pub struct AllButFirst;
+
+impl Split<View> for AllButFirst {
+    ghost left = { λ v. first_only v };
+
+    ghost right = { λ v. all_but_first v };
+}
+
 /// Takes another seat's states in.
 pub struct Both;
 

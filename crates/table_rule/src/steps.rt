@@ -40,16 +40,16 @@ impl<T, N> Play<Content<T, N>, View> for AddVersion {
 /// The group that a launch is for.
 pub trait GroupPlan {
     ghost use Rattle.std.specs.Prelude.{List};
-    ghost use Rattle.table_rule.specs.declared.content.Part.{Part};
+    ghost use Rattle.table_rule.specs.declared.content.MemberVersions.{MemberVersions};
 
-    ghost group: { List Part };
+    ghost group: { List MemberVersions };
 }
 
 impl GroupPlan for Brand {
     ghost group = { [] };
 }
 
-/// The turn's store of RUNNING.
+/// The store of RUNNING, by a member that has the turn.
 pub struct Launch<G> {
     marker: PhantomData<G>,
 }

@@ -1,6 +1,6 @@
 //! What a seat knows of the table. Of the types here a program makes only `Opening`: the others are what contracts speak of.
 
-use crate::content::{Part, Version};
+use crate::content::{MemberVersions, Version};
 use std::collections::LinkedList;
 
 /// How many clients and shards a table was opened for, and the sequence that was published then.
@@ -11,9 +11,16 @@ pub struct Opening {
     pub start: u64,
 }
 
-/// The part that a member has taken: the group's last sequence, the versions that are in their trees, and those that aren't.
-pub struct Work {
+/// A group that was launched: what was published before, oldest first, its members with their versions, and its last sequence.
+pub struct Launched {
+    pub before: LinkedList<LinkedList<MemberVersions>>,
+    pub group: LinkedList<MemberVersions>,
     pub last: u64,
+}
+
+/// The part of a group that a member has taken: its versions that are in their trees, and those that aren't.
+pub struct Work {
+    pub launched: Launched,
     pub done: LinkedList<Version>,
     pub rest: LinkedList<Version>,
 }
@@ -28,18 +35,20 @@ pub enum Lock {
 pub enum Stage {
     /// It has no part in hand.
     Idle,
+    /// It launched this group, and has yet to take its own part of it.
+    Waiting(Launched),
     /// It has taken its part, and is putting it into the trees.
     Holding(Work),
-    /// Its part is in the trees. The number is the group's last sequence.
-    Stored(u64),
-    /// It finished last, and is to publish that sequence.
-    Publishing(u64),
+    /// Its part of this group is in the trees.
+    Stored(Launched),
+    /// It finished last, and is to publish this group.
+    Publishing(Launched),
     /// No group is launched.
     Resting,
     /// A group is launched, and these parts of it are still to be handed out.
-    Handing(LinkedList<Part>, LinkedList<Part>),
+    Handing(LinkedList<MemberVersions>, LinkedList<MemberVersions>),
     /// The same, while one part is put into its slot.
-    Filling(LinkedList<Part>, Part, LinkedList<Part>),
+    Filling(LinkedList<MemberVersions>, MemberVersions, LinkedList<MemberVersions>),
 }
 
 /// What a seat knows of one client, or of the turn, which is client 0.
@@ -47,7 +56,7 @@ pub struct SeatState {
     pub client: u64,
     pub opening: Opening,
     /// The published groups that it has seen, the oldest first.
-    pub seen: LinkedList<LinkedList<Part>>,
+    pub seen: LinkedList<LinkedList<MemberVersions>>,
     pub lock: Lock,
     pub stage: Stage,
 }

@@ -4,12 +4,12 @@ use Rattle.atomic_table.specs.Table.{rest}
 use Rattle.table_rule.specs.declared.view.Opening.{Opening}
 use Rattle.table_rule.specs.declared.content.Content.{Content}
 use Rattle.table_rule.specs.declared.content.Content.TheVariants.{Blank, Tree, Nodes}
-use Rattle.table_rule.specs.declared.content.Part.{Part}
+use Rattle.table_rule.specs.declared.content.MemberVersions.{MemberVersions}
 use Rattle.table_rule.specs.declared.view.Lock.{Lock}
 use Rattle.table_rule.specs.declared.view.Stage.{Stage}
 use Rattle.table_rule.specs.declared.view.SeatState.{SeatState}
 use Rattle.table_rule.specs.declared.view.Lock.TheVariants.{Free}
-use Rattle.table_rule.specs.declared.view.Stage.TheVariants.{Idle, Holding, Stored, Publishing, Resting, Handing, Filling}
+use Rattle.table_rule.specs.declared.view.Stage.TheVariants.{Idle, Waiting, Holding, Stored, Publishing, Resting, Handing, Filling}
 use Rattle.table_rule.specs.Rule.{seat_state, end_of}
 use Rattle.table_rule.specs.Histories.{last_of}
 use Rattle.table_steps.specs.declared.seat.TableSeat.{TableSeat}
@@ -38,11 +38,12 @@ same_tree t u i j l m m' a b = ap (top_or t) (sym a ∙ b)
 pub shards_of : (y z : Opening) → y ≡ z → z.shards ≡ y.shards
 shards_of y z e = ap (λ (x : Opening). x.shards) (sym e)
 
-pub renamed : {T N : Type 0} (c d : ℕ) (z : Opening) (seen : List (List Part)) (lock : Lock) (stage : Stage) (m : SeatNow T N) → d ≡ c → IsAt c z seen lock stage m → IsAt d z seen lock stage m
+pub renamed : {T N : Type 0} (c d : ℕ) (z : Opening) (seen : List (List MemberVersions)) (lock : Lock) (stage : Stage) (m : SeatNow T N) → d ≡ c → IsAt c z seen lock stage m → IsAt d z seen lock stage m
 renamed c d z seen lock stage m e ok = ok ∙ (λ i. seat_state (sym e i) z seen lock stage ∷ [])
 
-abbrev group_in : Stage → List Part
+abbrev group_in : Stage → List MemberVersions
 group_in Idle = []
+group_in (Waiting u) = []
 group_in (Holding w) = []
 group_in (Stored l) = []
 group_in (Publishing l) = []
@@ -50,7 +51,7 @@ group_in Resting = []
 group_in (Handing g ps) = g
 group_in (Filling g p ps) = g
 
-pub same_goal : {T N : Type 0} (z : Opening) (seen seen' : List (List Part)) (g g' : List Part) (m : SeatNow T N) → IsAt 0 z seen Free (Handing g []) m → IsAt 0 z seen' Free (Handing g' []) m → end_of (last_of z.start seen) g ≡ end_of (last_of z.start seen') g'
+pub same_goal : {T N : Type 0} (z : Opening) (seen seen' : List (List MemberVersions)) (g g' : List MemberVersions) (m : SeatNow T N) → IsAt 0 z seen Free (Handing g []) m → IsAt 0 z seen' Free (Handing g' []) m → end_of (last_of z.start seen) g ≡ end_of (last_of z.start seen') g'
 same_goal z seen seen' g g' m a b = let e = sym a ∙ b in (λ i. end_of (last_of z.start (own (e i)).seen) (group_in (own (e i)).stage))
 
 abbrev nodes_or : {T N : Type 0} → N × ℕ → Content T N → N × ℕ

@@ -5,7 +5,7 @@ use Rattle.atomic_table.specs.Seated.{TableId}
 use Rattle.table_rule.specs.declared.content.Content.{Content}
 use Rattle.table_rule.specs.declared.content.Content.TheVariants.{Tree}
 use Rattle.table_rule.specs.declared.content.Version.{Version}
-use Rattle.table_rule.specs.declared.content.Part.{Part}
+use Rattle.table_rule.specs.declared.content.MemberVersions.{MemberVersions}
 use Rattle.table_rule.specs.declared.view.Opening.{Opening}
 use Rattle.table_rule.specs.declared.view.SeatState.{SeatState}
 use Rattle.table_rule.specs.declared.view.Lock.TheVariants.{Free}
@@ -22,11 +22,11 @@ module _ {T N : Type 0} where
   IsEmptyTree versions_of slot = (tree : T) × (slot ≡ Tree tree) × (versions_of tree ≡ [])
 
   -- the turn of this table, with no group launched, and all that is published
-  abbrev pub IsTurnOf : TableId → Opening → List (List Part) → Turn T N → Type 0
+  abbrev pub IsTurnOf : TableId → Opening → List (List MemberVersions) → Turn T N → Type 0
   IsTurnOf id z history turn = (turn.seat.table_id ≡ id) × (turn.seat.me.1 ≡ []) × IsAt 0 z history Free Resting turn.seat.me × (turn.last ≡ last_of z.start history)
 
   -- a client's seat of this table, with nothing to do, and what it has seen
-  abbrev pub IsSeatOf : TableId → Opening → List (List Part) → Client T N → Type 0
+  abbrev pub IsSeatOf : TableId → Opening → List (List MemberVersions) → Client T N → Type 0
   IsSeatOf id z seen client = (client.seat.table_id ≡ id) × (client.seat.me.1 ≡ []) × IsAt client.number z seen Free Idle client.seat.me
 
   -- the seats of clients from 1 on
@@ -35,12 +35,12 @@ module _ {T N : Type 0} where
 
   -- all are seats of this table, with nothing to do
   abbrev pub AreIdle : TableId → Opening → List (TableSeat T N) → Type 0
-  AreIdle id z seats = (seat : TableSeat T N) → In seat seats → (seen : List (List Part)) × IsSeatOf id z seen seat.client
+  AreIdle id z seats = (seat : TableSeat T N) → In seat seats → (seen : List (List MemberVersions)) × IsSeatOf id z seen seat.client
 
   -- what each has seen is a beginning of the history
-  abbrev pub HaveSeen : Opening → List (List Part) → List (TableSeat T N) → Type 0
-  HaveSeen z history seats = (seat : TableSeat T N) (seen : List (List Part)) → In seat seats → IsAt seat.client.number z seen Free Idle seat.client.seat.me → Begins seen history
+  abbrev pub HaveSeen : Opening → List (List MemberVersions) → List (TableSeat T N) → Type 0
+  HaveSeen z history seats = (seat : TableSeat T N) (seen : List (List MemberVersions)) → In seat seats → IsAt seat.client.number z seen Free Idle seat.client.seat.me → Begins seen history
 
   -- these seats' states are among those joined
   abbrev pub AreJoined : Opening → List (TableSeat T N) → List SeatState → Type 0
-  AreJoined z seats v = (seat : TableSeat T N) (seen : List (List Part)) → In seat seats → IsAt seat.client.number z seen Free Idle seat.client.seat.me → In (seat_state seat.client.number z seen Free Idle) v
+  AreJoined z seats v = (seat : TableSeat T N) (seen : List (List MemberVersions)) → In seat seats → IsAt seat.client.number z seen Free Idle seat.client.seat.me → In (seat_state seat.client.number z seen Free Idle) v

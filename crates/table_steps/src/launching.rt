@@ -1,50 +1,65 @@
 //! The turn: a group is launched, and its launcher waits until it is published.
-ghost use Rattle.std.specs.Prelude.{◌≡◌, ℕ, ◌<◌, ◌≤◌, List, [], ◌∷◌, ◌++◌, length};
-ghost use Rattle.table_rule.specs.declared.content.Part.{Part};
+ghost use Rattle.std.specs.Prelude.{◌≡◌, ◌<◌, ◌≤◌, List, [], ◌∷◌, ◌++◌, length};
+ghost use Rattle.table_rule.specs.declared.content.MemberVersions.{MemberVersions};
 ghost use Rattle.table_rule.specs.declared.view.Lock.TheVariants.{Free};
-ghost use Rattle.table_rule.specs.declared.view.Stage.TheVariants.{Resting, Handing};
-ghost use Rattle.table_rule.specs.Histories.{last_of};
+ghost use Rattle.table_rule.specs.declared.view.Stage.TheVariants.{Idle, Waiting, Resting, Handing};
+ghost use Rattle.table_rule.specs.Histories.{In, last_of};
 ghost use Rattle.table_rule.specs.Rule.{end_of};
-ghost use Rattle.table_rule.specs.Steps.{IsAt, IsNext};
+ghost use Rattle.table_rule.specs.Steps.{IsAt, IsNext, launched_behind};
 
-use crate::shared::SharedTable;
+use crate::shared::{Client, SharedTable};
 use atomic_table::Seat;
 use crossbeam_utils::Backoff;
 use std::marker::Brand;
 use std::sync::Wait;
 use table_calls::{GroupParts, VersionNodes, VersionTree};
-use table_rule::{Await, Content, Empty, Give, GroupPlan, Launch, View};
+use table_rule::{AllButFirst, Await, Both, Content, Empty, Give, GroupPlan, Launch, View};
 
 /// The right to launch. A table has one.
 #[derive(Drop)]
 pub struct Turn<T, N> {
-    pub seat: Seat<Content<T, N>, View>,
+    pub(crate) seat: Seat<Content<T, N>, View>,
     /// The published sequence, where no group is launched.
-    pub last: u64,
+    pub(crate) last: u64,
 }
 
 impl<T: VersionTree<N::Node>, N: VersionNodes> SharedTable<T, N> {
-    // Sets the running count to the number of members.
-    fn set_running<G: GroupPlan, P: GroupParts<N>>(&self, turn: &mut Turn<T, N>, parts: &P)
-        requires seat { turn.old.seat.table_id ≡ self.now.table.shared.table_id }
-        requires next { (seen : List (List Part)) × IsAt 0 self.now.table.shared.key seen Free Resting turn.old.seat.me × IsNext self.now.table.shared.key seen G.group }
+    // Sets the running count to the number of members. The client's seat and the turn's are one meanwhile, so that the client knows of the group.
+    fn set_running<G: GroupPlan, P: GroupParts<N>>(
+        &self,
+        who: &mut Client<T, N>,
+        turn: Turn<T, N>,
+        parts: &P,
+    ) -> Turn<T, N>
+        requires seat { (who.old.seat.table_id ≡ self.now.table.shared.table_id) × (turn.seat.table_id ≡ self.now.table.shared.table_id) × (turn.seat.me.1 ≡ []) × (0 < who.old.number) }
+        requires next { (own : List (List MemberVersions)) × (seen : List (List MemberVersions)) × IsAt who.old.number self.now.table.shared.key own Free Idle who.old.seat.me × IsAt 0 self.now.table.shared.key seen Free Resting turn.seat.me × IsNext self.now.table.shared.key seen G.group }
+        requires member { (p : MemberVersions) × In p G.group × (p.member ≡ who.old.number) }
         requires group { P.parts parts.now ≡ G.group }
-        ensures seat { (turn.new.seat.table_id ≡ turn.old.seat.table_id) × (turn.new.seat.me.1 ≡ turn.old.seat.me.1) × (turn.new.last ≡ turn.old.last) }
-        ensures launched { (seen : List (List Part)) → IsAt 0 self.now.table.shared.key seen Free Resting turn.old.seat.me → IsAt 0 self.now.table.shared.key seen Free (Handing G.group G.group) turn.new.seat.me }
+        ensures client { (who.new.seat.table_id ≡ who.old.seat.table_id) × (who.new.number ≡ who.old.number) × (who.new.seat.me.1 ≡ who.old.seat.me.1) }
+        ensures turn { (result.seat.table_id ≡ turn.seat.table_id) × (result.seat.me.1 ≡ []) × (result.last ≡ turn.last) }
+        ensures waiting { (own seen : List (List MemberVersions)) → IsAt who.old.number self.now.table.shared.key own Free Idle who.old.seat.me → IsAt 0 self.now.table.shared.key seen Free Resting turn.seat.me → IsAt who.old.number self.now.table.shared.key own Free (Waiting (launched_behind self.now.table.shared.key.start seen G.group)) who.new.seat.me }
+        ensures handing { (own seen : List (List MemberVersions)) → IsAt who.old.number self.now.table.shared.key own Free Idle who.old.seat.me → IsAt 0 self.now.table.shared.key seen Free Resting turn.seat.me → IsAt 0 self.now.table.shared.key seen Free (Handing G.group G.group) result.seat.me }
     {
-        self.table.shared.store::<Launch<G>>(
-            &mut turn.seat,
+        let shared = &self.table.shared;
+        shared.join_seat::<Both>(&mut who.seat, turn.seat);
+        shared.store::<Launch<G>>(
+            &mut who.seat,
             self.opening.shards as usize + 1,
             parts.len() as u64,
         );
+        let seat = shared.split_seat::<AllButFirst>(&mut who.seat);
+        Turn {
+            seat,
+            last: turn.last,
+        }
     }
 
     // Hands one member its nodes.
     fn offer(&self, turn: &mut Turn<T, N>, member: u64, nodes: N, last: u64)
         requires seat { (turn.old.seat.table_id ≡ self.now.table.shared.table_id) × (0 < member) × (member ≤ self.now.table.shared.key.clients) }
-        requires next { (seen : List (List Part)) × (g : List Part) × (p : Part) × (ps : List Part) × IsAt 0 self.now.table.shared.key seen Free (Handing g (p ∷ ps)) turn.old.seat.me × (p.member ≡ member) × (N.versions nodes ≡ p.versions) × (last ≡ end_of (last_of self.now.table.shared.key.start seen) g) }
+        requires next { (seen : List (List MemberVersions)) × (g : List MemberVersions) × (p : MemberVersions) × (ps : List MemberVersions) × IsAt 0 self.now.table.shared.key seen Free (Handing g (p ∷ ps)) turn.old.seat.me × (p.member ≡ member) × (N.versions nodes ≡ p.versions) × (last ≡ end_of (last_of self.now.table.shared.key.start seen) g) }
         ensures seat { (turn.new.seat.table_id ≡ turn.old.seat.table_id) × (turn.new.seat.me.1 ≡ turn.old.seat.me.1) × (turn.new.last ≡ turn.old.last) }
-        ensures given { (seen : List (List Part)) (g : List Part) (p : Part) (ps : List Part) → IsAt 0 self.now.table.shared.key seen Free (Handing g (p ∷ ps)) turn.old.seat.me → IsAt 0 self.now.table.shared.key seen Free (Handing g ps) turn.new.seat.me }
+        ensures given { (seen : List (List MemberVersions)) (g : List MemberVersions) (p : MemberVersions) (ps : List MemberVersions) → IsAt 0 self.now.table.shared.key seen Free (Handing g (p ∷ ps)) turn.old.seat.me → IsAt 0 self.now.table.shared.key seen Free (Handing g ps) turn.new.seat.me }
     {
         let shared = &self.table.shared;
         let word = self.opening.shards as usize + 1 + member as usize;
@@ -57,26 +72,37 @@ impl<T: VersionTree<N::Node>, N: VersionNodes> SharedTable<T, N> {
         shared.store::<Give>(&mut turn.seat, word, 1);
     }
 
-    /// Launches a group whose last sequence is `last`, and hands each member its nodes.
-    pub fn launch<P: GroupParts<N>>(&self, turn: &mut Turn<T, N>, parts: &mut P, last: u64)
-        requires seat { turn.old.seat.table_id ≡ self.now.table.shared.table_id }
-        requires next { (seen : List (List Part)) × IsAt 0 self.now.table.shared.key seen Free Resting turn.old.seat.me × IsNext self.now.table.shared.key seen (P.parts parts.old) × (last ≡ end_of (last_of self.now.table.shared.key.start seen) (P.parts parts.old)) }
-        ensures seat { (turn.new.seat.table_id ≡ turn.old.seat.table_id) × (turn.new.seat.me.1 ≡ turn.old.seat.me.1) × (turn.new.last ≡ turn.old.last) }
-        ensures launched { (seen : List (List Part)) → IsAt 0 self.now.table.shared.key seen Free Resting turn.old.seat.me → IsAt 0 self.now.table.shared.key seen Free (Handing (P.parts parts.old) []) turn.new.seat.me }
+    /// Launches a group whose last sequence is `last`, and of which the client is a member, and hands each member its nodes.
+    pub(crate) fn launch<P: GroupParts<N>>(
+        &self,
+        who: &mut Client<T, N>,
+        turn: Turn<T, N>,
+        parts: &mut P,
+        last: u64,
+    ) -> Turn<T, N>
+        requires seat { (who.old.seat.table_id ≡ self.now.table.shared.table_id) × (turn.seat.table_id ≡ self.now.table.shared.table_id) × (turn.seat.me.1 ≡ []) × (0 < who.old.number) }
+        requires next { (own : List (List MemberVersions)) × (seen : List (List MemberVersions)) × IsAt who.old.number self.now.table.shared.key own Free Idle who.old.seat.me × IsAt 0 self.now.table.shared.key seen Free Resting turn.seat.me × IsNext self.now.table.shared.key seen (P.parts parts.old) × (last ≡ end_of (last_of self.now.table.shared.key.start seen) (P.parts parts.old)) }
+        requires member { (p : MemberVersions) × In p (P.parts parts.old) × (p.member ≡ who.old.number) }
+        ensures client { (who.new.seat.table_id ≡ who.old.seat.table_id) × (who.new.number ≡ who.old.number) × (who.new.seat.me.1 ≡ who.old.seat.me.1) }
+        ensures turn { (result.seat.table_id ≡ turn.seat.table_id) × (result.seat.me.1 ≡ []) × (result.last ≡ turn.last) }
+        ensures waiting { (own seen : List (List MemberVersions)) → IsAt who.old.number self.now.table.shared.key own Free Idle who.old.seat.me → IsAt 0 self.now.table.shared.key seen Free Resting turn.seat.me → IsAt who.old.number self.now.table.shared.key own Free (Waiting (launched_behind self.now.table.shared.key.start seen (P.parts parts.old))) who.new.seat.me }
+        ensures handed { (own seen : List (List MemberVersions)) → IsAt who.old.number self.now.table.shared.key own Free Idle who.old.seat.me → IsAt 0 self.now.table.shared.key seen Free Resting turn.seat.me → IsAt 0 self.now.table.shared.key seen Free (Handing (P.parts parts.old) []) result.seat.me }
         ensures emptied { P.parts parts.new ≡ [] }
+        ensures room { P.room parts.new ≡ P.room parts.old }
     {
-        self.set_running::<Brand, P>(turn, parts);
+        let mut turn = self.set_running::<Brand, P>(who, turn, parts);
         while let Some((member, nodes)) = parts.pop() {
-            self.offer(turn, member, nodes, last);
+            self.offer(&mut turn, member, nodes, last);
         }
+        turn
     }
 
     /// Waits until the launched group, whose last sequence is `last`, is published. The turn is free again. It spins a few turns, and then yields.
-    pub fn await_published<R: Wait>(&self, rt: &R, turn: &mut Turn<T, N>, last: u64)
+    pub(crate) fn await_published<R: Wait>(&self, rt: &R, turn: &mut Turn<T, N>, last: u64)
         requires seat { turn.old.seat.table_id ≡ self.now.table.shared.table_id }
-        requires launched { (seen : List (List Part)) × (g : List Part) × IsAt 0 self.now.table.shared.key seen Free (Handing g []) turn.old.seat.me × (last ≡ end_of (last_of self.now.table.shared.key.start seen) g) }
+        requires launched { (seen : List (List MemberVersions)) × (g : List MemberVersions) × IsAt 0 self.now.table.shared.key seen Free (Handing g []) turn.old.seat.me × (last ≡ end_of (last_of self.now.table.shared.key.start seen) g) }
         ensures seat { (turn.new.seat.table_id ≡ turn.old.seat.table_id) × (turn.new.seat.me.1 ≡ turn.old.seat.me.1) × (turn.new.last ≡ turn.old.last) }
-        ensures published { (seen : List (List Part)) (g : List Part) → IsAt 0 self.now.table.shared.key seen Free (Handing g []) turn.old.seat.me → IsAt 0 self.now.table.shared.key (seen ++ g ∷ []) Free Resting turn.new.seat.me }
+        ensures published { (seen : List (List MemberVersions)) (g : List MemberVersions) → IsAt 0 self.now.table.shared.key seen Free (Handing g []) turn.old.seat.me → IsAt 0 self.now.table.shared.key (seen ++ g ∷ []) Free Resting turn.new.seat.me }
     {
         let backoff = Backoff::new();
         for _ in rt.forever() {

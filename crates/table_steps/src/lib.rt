@@ -1,6 +1,7 @@
-//! The steps of a published table one by one, for any number of shards: locking, looking up, launching, inserting, publishing, and how a table is opened and closed. The words and slots are those of `table_rule`. A table of one lock, or of many, chooses the shard of each key.
+//! A published table of any number of shards: how it is opened and closed, and the calls of a client's seat, each made of the atomic steps of `table_rule`. A table of one lock, or of many, chooses the shard of each key.
 #![tactic(auto)]
 
+mod calls;
 mod closing;
 mod launching;
 mod member;
@@ -10,6 +11,5 @@ mod seat;
 mod shared;
 
 pub use launching::Turn;
-pub use member::Handed;
 pub use seat::TableSeat;
-pub use shared::{Client, SharedTable};
+pub use shared::SharedTable;

@@ -1,15 +1,18 @@
 //! A member's part: it is taken, put into the trees, finished, and its group published.
-ghost use Rattle.std.specs.Prelude.{◌≡◌, ℕ, ◌+◌, ◌<◌, ◌≤◌, List, [], ◌∷◌, ◌++◌};
+ghost use Rattle.std.specs.Prelude.{◌≡◌, ℕ, ◌+◌, ◌<◌, ◌≤◌, List, [], ◌∷◌, ◌++◌, length};
 ghost use Rattle.atomic_table.specs.Table.{rest};
 ghost use Rattle.table_rule.specs.declared.content.Content.{Content};
 ghost use Rattle.table_rule.specs.declared.content.Content.TheVariants.{Blank};
-ghost use Rattle.table_rule.specs.declared.content.Part.{Part};
+ghost use Rattle.table_rule.specs.declared.content.MemberVersions.{MemberVersions};
 ghost use Rattle.table_rule.specs.declared.content.Version.{Version};
 ghost use Rattle.table_rule.specs.declared.view.Lock.TheVariants.{Free};
-ghost use Rattle.table_rule.specs.declared.view.Stage.TheVariants.{Idle, Holding, Stored, Publishing};
+ghost use Rattle.table_rule.specs.declared.view.Launched.{Launched};
+ghost use Rattle.table_rule.specs.declared.view.Stage.{Stage};
+ghost use Rattle.table_rule.specs.declared.view.Stage.TheVariants.{Holding, Stored, Publishing};
 ghost use Rattle.table_rule.specs.Histories.{shard_of};
-ghost use Rattle.table_rule.specs.Steps.{IsAt, work};
-ghost use Rattle.table_steps.specs.Seen.{Ended};
+ghost use Rattle.table_rule.specs.Steps.{IsAt, MayTake, work};
+ghost use Rattle.table_calls.specs.declared.finished.Finished.TheVariants.{Last};
+ghost use Rattle.table_steps.specs.Seen.{Took, Ended, Published};
 
 use crate::shared::{Client, SharedTable};
 use crossbeam_utils::Backoff;
@@ -19,18 +22,19 @@ use table_rule::{AddVersion, Content, Count, Publish, Settle, Take};
 
 /// A member's nodes, and the last sequence of their group.
 #[derive(Drop)]
-pub struct Handed<N> {
-    pub nodes: N,
-    pub last: u64,
+pub(crate) struct Handed<N> {
+    pub(crate) nodes: N,
+    pub(crate) last: u64,
 }
 
 impl<T: VersionTree<N::Node>, N: VersionNodes> SharedTable<T, N> {
     /// Waits for the member's nodes. It spins a few turns, and then yields.
-    pub fn take<R: Wait>(&self, rt: &R, who: &mut Client<T, N>) -> Handed<N>
+    pub(crate) fn take<R: Wait>(&self, rt: &R, who: &mut Client<T, N>) -> Handed<N>
         requires seat { (who.old.seat.table_id ≡ self.now.table.shared.table_id) × (0 < who.old.number) × (who.old.number ≤ self.now.table.shared.key.clients) }
-        requires idle { (seen : List (List Part)) × IsAt who.old.number self.now.table.shared.key seen Free Idle who.old.seat.me }
+        requires free { (seen : List (List MemberVersions)) × (stage : Stage) × IsAt who.old.number self.now.table.shared.key seen Free stage who.old.seat.me × MayTake stage }
         ensures seat { (who.new.seat.table_id ≡ who.old.seat.table_id) × (who.new.number ≡ who.old.number) }
-        ensures taken { (seen : List (List Part)) → IsAt who.old.number self.now.table.shared.key seen Free Idle who.old.seat.me → IsAt who.old.number self.now.table.shared.key seen Free (Holding (work result.last [] (N.versions result.nodes))) who.new.seat.me × (who.new.seat.me.1 ≡ (self.now.table.shared.key.shards + who.old.number, Blank) ∷ who.old.seat.me.1) }
+        ensures slot { who.new.seat.me.1 ≡ (self.now.table.shared.key.shards + who.old.number, Blank) ∷ who.old.seat.me.1 }
+        ensures taken { (seen : List (List MemberVersions)) (stage : Stage) → IsAt who.old.number self.now.table.shared.key seen Free stage who.old.seat.me → MayTake stage → Took who.old.number self.now.table.shared.key seen stage result.last (N.versions result.nodes) who.new.seat.me }
     {
         let shared = &self.table.shared;
         let word = self.opening.shards as usize + 1 + who.number as usize;
@@ -50,11 +54,11 @@ impl<T: VersionTree<N::Node>, N: VersionNodes> SharedTable<T, N> {
     }
 
     /// Puts one node into the tree of its shard.
-    pub fn add<R: Wait>(&self, rt: &R, who: &mut Client<T, N>, shard: u64, node: N::Node)
+    pub(crate) fn add<R: Wait>(&self, rt: &R, who: &mut Client<T, N>, shard: u64, node: N::Node)
         requires seat { (who.old.seat.table_id ≡ self.now.table.shared.table_id) × (shard < self.now.table.shared.key.shards) × (shard_of self.now.table.shared.key.shards (N.Node.version node) ≡ shard) }
-        requires next { (seen : List (List Part)) × (l : ℕ) × (done : List Version) × (more : List Version) × IsAt who.old.number self.now.table.shared.key seen Free (Holding (work l done (N.Node.version node ∷ more))) who.old.seat.me }
+        requires next { (seen : List (List MemberVersions)) × (u : Launched) × (done : List Version) × (more : List Version) × IsAt who.old.number self.now.table.shared.key seen Free (Holding (work u done (N.Node.version node ∷ more))) who.old.seat.me }
         ensures seat { (who.new.seat.table_id ≡ who.old.seat.table_id) × (who.new.number ≡ who.old.number) × (who.new.seat.me.1 ≡ who.old.seat.me.1) }
-        ensures added { (seen : List (List Part)) (l : ℕ) (done more : List Version) → IsAt who.old.number self.now.table.shared.key seen Free (Holding (work l done (N.Node.version node ∷ more))) who.old.seat.me → IsAt who.old.number self.now.table.shared.key seen Free (Holding (work l (done ++ N.Node.version node ∷ []) more)) who.new.seat.me }
+        ensures added { (seen : List (List MemberVersions)) (u : Launched) (done more : List Version) → IsAt who.old.number self.now.table.shared.key seen Free (Holding (work u done (N.Node.version node ∷ more))) who.old.seat.me → IsAt who.old.number self.now.table.shared.key seen Free (Holding (work u (done ++ N.Node.version node ∷ []) more)) who.new.seat.me }
     {
         let shared = &self.table.shared;
         let mut tree = self.lock(rt, who, shard);
@@ -67,22 +71,23 @@ impl<T: VersionTree<N::Node>, N: VersionNodes> SharedTable<T, N> {
     }
 
     /// All nodes of the member's part are in their trees.
-    pub fn settle(&self, who: &mut Client<T, N>)
+    pub(crate) fn settle(&self, who: &mut Client<T, N>)
         requires seat { (who.old.seat.table_id ≡ self.now.table.shared.table_id) × (0 < who.old.number) × (who.old.number ≤ self.now.table.shared.key.clients) }
-        requires added { (seen : List (List Part)) × (l : ℕ) × (done : List Version) × (more : List (ℕ × Content T N)) × IsAt who.old.number self.now.table.shared.key seen Free (Holding (work l done [])) who.old.seat.me × (who.old.seat.me.1 ≡ (self.now.table.shared.key.shards + who.old.number, Blank) ∷ more) }
+        requires added { (seen : List (List MemberVersions)) × (u : Launched) × (done : List Version) × (more : List (ℕ × Content T N)) × IsAt who.old.number self.now.table.shared.key seen Free (Holding (work u done [])) who.old.seat.me × (who.old.seat.me.1 ≡ (self.now.table.shared.key.shards + who.old.number, Blank) ∷ more) }
         ensures seat { (who.new.seat.table_id ≡ who.old.seat.table_id) × (who.new.number ≡ who.old.number) × (who.new.seat.me.1 ≡ rest who.old.seat.me.1) }
-        ensures stored { (seen : List (List Part)) (l : ℕ) (done : List Version) → IsAt who.old.number self.now.table.shared.key seen Free (Holding (work l done [])) who.old.seat.me → IsAt who.old.number self.now.table.shared.key seen Free (Stored l) who.new.seat.me }
+        ensures stored { (seen : List (List MemberVersions)) (u : Launched) (done : List Version) → IsAt who.old.number self.now.table.shared.key seen Free (Holding (work u done [])) who.old.seat.me → IsAt who.old.number self.now.table.shared.key seen Free (Stored u) who.new.seat.me }
     {
         let word = self.opening.shards as usize + 1 + who.number as usize;
         self.table.shared.store::<Settle>(&mut who.seat, word, 0);
     }
 
     /// Counts the member's part down.
-    pub fn finish(&self, who: &mut Client<T, N>) -> Finished
+    pub(crate) fn finish(&self, who: &mut Client<T, N>) -> Finished
         requires seat { who.old.seat.table_id ≡ self.now.table.shared.table_id }
-        requires stored { (seen : List (List Part)) × (l : ℕ) × IsAt who.old.number self.now.table.shared.key seen Free (Stored l) who.old.seat.me }
+        requires stored { (seen : List (List MemberVersions)) × (u : Launched) × IsAt who.old.number self.now.table.shared.key seen Free (Stored u) who.old.seat.me }
         ensures seat { (who.new.seat.table_id ≡ who.old.seat.table_id) × (who.new.number ≡ who.old.number) × (who.new.seat.me.1 ≡ who.old.seat.me.1) }
-        ensures ended { (seen : List (List Part)) (l : ℕ) → IsAt who.old.number self.now.table.shared.key seen Free (Stored l) who.old.seat.me → Ended who.old.number self.now.table.shared.key seen l result who.new.seat.me }
+        ensures only_member { (seen : List (List MemberVersions)) (u : Launched) → IsAt who.old.number self.now.table.shared.key seen Free (Stored u) who.old.seat.me → length u.group ≡ 1 → result ≡ Last }
+        ensures ended { (seen : List (List MemberVersions)) (u : Launched) → IsAt who.old.number self.now.table.shared.key seen Free (Stored u) who.old.seat.me → Ended who.old.number self.now.table.shared.key seen u result who.new.seat.me }
     {
         let running = self.opening.shards as usize + 1;
         let unfinished = self
@@ -97,11 +102,11 @@ impl<T: VersionTree<N::Node>, N: VersionNodes> SharedTable<T, N> {
     }
 
     /// Publishes the group, whose last sequence is `last`.
-    pub fn publish(&self, who: &mut Client<T, N>, last: u64)
+    pub(crate) fn publish(&self, who: &mut Client<T, N>, last: u64)
         requires seat { who.old.seat.table_id ≡ self.now.table.shared.table_id }
-        requires last_one { (seen : List (List Part)) × IsAt who.old.number self.now.table.shared.key seen Free (Publishing last) who.old.seat.me }
+        requires last_one { (seen : List (List MemberVersions)) × (u : Launched) × IsAt who.old.number self.now.table.shared.key seen Free (Publishing u) who.old.seat.me × (last ≡ u.last) }
         ensures seat { (who.new.seat.table_id ≡ who.old.seat.table_id) × (who.new.number ≡ who.old.number) × (who.new.seat.me.1 ≡ who.old.seat.me.1) }
-        ensures published { (seen : List (List Part)) → IsAt who.old.number self.now.table.shared.key seen Free (Publishing last) who.old.seat.me → IsAt who.old.number self.now.table.shared.key seen Free Idle who.new.seat.me }
+        ensures published { (seen : List (List MemberVersions)) (u : Launched) → IsAt who.old.number self.now.table.shared.key seen Free (Publishing u) who.old.seat.me → Published who.old.number self.now.table.shared.key seen u who.new.seat.me }
     {
         self.table
             .shared

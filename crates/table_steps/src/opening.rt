@@ -5,6 +5,7 @@ ghost use Rattle.table_rule.specs.declared.content.Content.{Content};
 ghost use Rattle.table_rule.specs.declared.content.Content.TheVariants.{Blank};
 ghost use Rattle.table_rule.specs.Histories.{In};
 ghost use Rattle.table_rule.specs.Rule.{newcomers};
+ghost use Rattle.table_steps.specs.Accounts.{opening_of, IsTurnAtStart, AreSeatsAtStart};
 ghost use Rattle.table_steps.specs.Ends.{IsEmptyTree, IsTurnOf, IsSeatOf, AreSeatsOf};
 
 use crate::launching::Turn;
@@ -83,6 +84,13 @@ impl<T: VersionTree<N::Node> + Drop, N: VersionNodes + Drop> SharedTable<T, N> {
         })
     }
 
+    /// The number of shards.
+    pub fn shards(&self) -> u64
+        ensures { result ≡ (opening_of self.now).shards }
+    {
+        self.opening.shards
+    }
+
     /// Makes a table of empty trees, with the published sequence `last`, and its seats.
     pub fn open(
         alloc: Global,
@@ -91,9 +99,9 @@ impl<T: VersionTree<N::Node> + Drop, N: VersionNodes + Drop> SharedTable<T, N> {
         last: u64,
     ) -> Result<(SharedTable<T, N>, Seats<TableSeat<T, N>, Turn<T, N>>), NoMemory>
         requires { 0 < shards }
-        ensures table { IfOk result (λ opened. opened.0.table.shared.key ≡ record { clients = clients; shards = shards; start = last }) }
-        ensures turn { IfOk result (λ opened. IsTurnOf opened.0.table.shared.table_id opened.0.table.shared.key [] opened.1.turn) }
-        ensures clients { IfOk result (λ opened. AreSeatsOf opened.0.table.shared.table_id opened.0.table.shared.key clients opened.1.clients.items) }
+        ensures table { IfOk result (λ opened. opening_of opened.0 ≡ record { clients = clients; shards = shards; start = last }) }
+        ensures turn { IfOk result (λ opened. IsTurnAtStart opened.0 opened.1.turn) }
+        ensures clients { IfOk result (λ opened. AreSeatsAtStart opened.0 clients opened.1.clients.items) }
     {
         let opening = Opening {
             clients: clients as u64,

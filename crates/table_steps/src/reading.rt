@@ -2,7 +2,7 @@
 ghost use Rattle.std.specs.Prelude.{◌≡◌, ℕ, ◌<◌, List, IfOk};
 ghost use Rattle.wp_model.specs.Map.{value_at, rows_within};
 ghost use Rattle.wp_coding.specs.Answers.{found_value};
-ghost use Rattle.table_rule.specs.declared.content.Part.{Part};
+ghost use Rattle.table_rule.specs.declared.content.MemberVersions.{MemberVersions};
 ghost use Rattle.table_rule.specs.declared.content.Version.{Version};
 ghost use Rattle.table_rule.specs.declared.view.Lock.TheVariants.{Free};
 ghost use Rattle.table_rule.specs.declared.view.Stage.{Stage};
@@ -33,7 +33,7 @@ fn copied<B: VersionNode, T: VersionTree<B>>(
 
 impl<T: VersionTree<N::Node>, N: VersionNodes> SharedTable<T, N> {
     /// The key's value in a shard, as of `at`, the end of what the seat has seen.
-    pub fn find<R: Wait>(
+    pub(crate) fn find<R: Wait>(
         &self,
         alloc: Global,
         rt: &R,
@@ -43,9 +43,9 @@ impl<T: VersionTree<N::Node>, N: VersionNodes> SharedTable<T, N> {
         at: u64,
     ) -> Result<Found, NoMemory>
         requires seat { (who.old.seat.table_id ≡ self.now.table.shared.table_id) × (shard < self.now.table.shared.key.shards) }
-        requires seen { (seen : List (List Part)) × (stage : Stage) × IsAt who.old.number self.now.table.shared.key seen Free stage who.old.seat.me × Runs self.now.table.shared.key.start (versions_of seen) × (at ≡ last_of self.now.table.shared.key.start seen) }
+        requires seen { (seen : List (List MemberVersions)) × (stage : Stage) × IsAt who.old.number self.now.table.shared.key seen Free stage who.old.seat.me × Runs self.now.table.shared.key.start (versions_of seen) × (at ≡ last_of self.now.table.shared.key.start seen) }
         ensures seat { (who.new.seat.table_id ≡ who.old.seat.table_id) × (who.new.number ≡ who.old.number) × (who.new.seat.me ≡ who.old.seat.me) }
-        ensures value { IfOk result (λ found. (seen : List (List Part)) (stage : Stage) → IsAt who.old.number self.now.table.shared.key seen Free stage who.old.seat.me → found_value found ≡ value_at (map_of (of_shard self.now.table.shared.key.shards shard (versions_of seen))) key.now) }
+        ensures value { IfOk result (λ found. (seen : List (List MemberVersions)) (stage : Stage) → IsAt who.old.number self.now.table.shared.key seen Free stage who.old.seat.me → found_value found ≡ value_at (map_of (of_shard self.now.table.shared.key.shards shard (versions_of seen))) key.now) }
     {
         let tree = self.lock(rt, who, shard);
         let found = copied::<N::Node, T>(alloc, &tree, key, at);
@@ -54,7 +54,7 @@ impl<T: VersionTree<N::Node>, N: VersionNodes> SharedTable<T, N> {
     }
 
     /// The keys of a shard from `lo` on and below `hi` with their values, as of `at`, the end of what the seat has seen.
-    pub fn find_rows<R: Wait>(
+    pub(crate) fn find_rows<R: Wait>(
         &self,
         alloc: Global,
         rt: &R,
@@ -65,10 +65,10 @@ impl<T: VersionTree<N::Node>, N: VersionNodes> SharedTable<T, N> {
         at: u64,
     ) -> Result<Rows, NoMemory>
         requires seat { (who.old.seat.table_id ≡ self.now.table.shared.table_id) × (shard < self.now.table.shared.key.shards) }
-        requires seen { (seen : List (List Part)) × (stage : Stage) × IsAt who.old.number self.now.table.shared.key seen Free stage who.old.seat.me × Runs self.now.table.shared.key.start (versions_of seen) × (at ≡ last_of self.now.table.shared.key.start seen) }
+        requires seen { (seen : List (List MemberVersions)) × (stage : Stage) × IsAt who.old.number self.now.table.shared.key seen Free stage who.old.seat.me × Runs self.now.table.shared.key.start (versions_of seen) × (at ≡ last_of self.now.table.shared.key.start seen) }
         ensures seat { (who.new.seat.table_id ≡ who.old.seat.table_id) × (who.new.number ≡ who.old.number) × (who.new.seat.me ≡ who.old.seat.me) }
         ensures at { IfOk result (λ rows. rows.at ≡ at) }
-        ensures rows { IfOk result (λ rows. (seen : List (List Part)) (stage : Stage) → IsAt who.old.number self.now.table.shared.key seen Free stage who.old.seat.me → rows.rows ≡ rows_within lo.now hi.now (map_of (of_shard self.now.table.shared.key.shards shard (versions_of seen)))) }
+        ensures rows { IfOk result (λ rows. (seen : List (List MemberVersions)) (stage : Stage) → IsAt who.old.number self.now.table.shared.key seen Free stage who.old.seat.me → rows.rows ≡ rows_within lo.now hi.now (map_of (of_shard self.now.table.shared.key.shards shard (versions_of seen)))) }
     {
         let tree = self.lock(rt, who, shard);
         let rows = tree.range(alloc, lo, hi, at);

@@ -6,8 +6,8 @@ use crate::shared::Client;
 /// A client's seat, with the turn from when the client launches a group until the group is published.
 #[derive(Drop)]
 pub struct TableSeat<T, N> {
-    pub client: Client<T, N>,
-    pub turn: Option<Turn<T, N>>,
-    /// The last sequence of the group whose part the client has inserted last.
-    pub last: u64,
+    pub(crate) client: Client<T, N>,
+    pub(crate) turn: Option<Turn<T, N>>,
+    /// The last sequence of the group whose part the client has taken last.
+    pub(crate) last: u64,
 }

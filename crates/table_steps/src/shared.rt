@@ -3,7 +3,7 @@ ghost use Rattle.std.specs.Prelude.{◌≡◌, ℕ, ◌+◌, ◌<◌, ◌≤◌,
 ghost use Rattle.atomic_table.specs.Table.{rest};
 ghost use Rattle.table_rule.specs.declared.content.Content.{Content};
 ghost use Rattle.table_rule.specs.declared.content.Content.TheVariants.{Blank};
-ghost use Rattle.table_rule.specs.declared.content.Part.{Part};
+ghost use Rattle.table_rule.specs.declared.content.MemberVersions.{MemberVersions};
 ghost use Rattle.table_rule.specs.declared.view.Lock.TheVariants.{Free, Held};
 ghost use Rattle.table_rule.specs.declared.view.Stage.{Stage};
 ghost use Rattle.table_rule.specs.declared.view.Stage.TheVariants.{Idle};
@@ -20,32 +20,25 @@ use table_rule::{Content, Learn, LockShard, Opening, TableLaw, UnlockShard, Vers
 /// The words and slots of a table. `T` are its trees, and `N` a member's nodes.
 #[derive(Drop)]
 pub struct SharedTable<T: Versioned, N: Versioned> {
-    pub table: Table<Content<T, N>, View, Opening, TableLaw, Global>,
-    pub opening: Opening,
+    pub(crate) table: Table<Content<T, N>, View, Opening, TableLaw, Global>,
+    pub(crate) opening: Opening,
     ghost sized: { (table.shared.table_id.words ≡ opening.shards + 2 + opening.clients) × (table.shared.table_id.slots ≡ opening.shards + 1 + opening.clients) × (table.shared.key ≡ opening) × (0 < opening.shards) × (opening.shards < 2 ^ 32) × (opening.clients < 2 ^ 32) },
 }
 
 /// A client's seat.
 #[derive(Drop)]
-pub struct Client<T, N> {
-    pub number: u64,
-    pub seat: Seat<Content<T, N>, View>,
+pub(crate) struct Client<T, N> {
+    pub(crate) number: u64,
+    pub(crate) seat: Seat<Content<T, N>, View>,
 }
 
 impl<T: VersionTree<N::Node>, N: VersionNodes> SharedTable<T, N> {
-    /// The number of shards.
-    pub fn shards(&self) -> u64
-        ensures { result ≡ self.now.table.shared.key.shards }
-    {
-        self.opening.shards
-    }
-
     /// The published sequence.
-    pub fn last(&self, who: &mut Client<T, N>) -> u64
+    pub(crate) fn last(&self, who: &mut Client<T, N>) -> u64
         requires seat { who.old.seat.table_id ≡ self.now.table.shared.table_id }
-        requires free { (seen : List (List Part)) × (stage : Stage) × IsAt who.old.number self.now.table.shared.key seen Free stage who.old.seat.me × IsClient stage }
+        requires free { (seen : List (List MemberVersions)) × (stage : Stage) × IsAt who.old.number self.now.table.shared.key seen Free stage who.old.seat.me × IsClient stage }
         ensures seat { (who.new.seat.table_id ≡ who.old.seat.table_id) × (who.new.number ≡ who.old.number) × (who.new.seat.me.1 ≡ who.old.seat.me.1) }
-        ensures seen { (seen : List (List Part)) (stage : Stage) → IsAt who.old.number self.now.table.shared.key seen Free stage who.old.seat.me → Sees who.old.number self.now.table.shared.key seen stage result who.new.seat.me }
+        ensures seen { (seen : List (List MemberVersions)) (stage : Stage) → IsAt who.old.number self.now.table.shared.key seen Free stage who.old.seat.me → Sees who.old.number self.now.table.shared.key seen stage result who.new.seat.me }
     {
         self.table
             .shared
@@ -53,11 +46,11 @@ impl<T: VersionTree<N::Node>, N: VersionNodes> SharedTable<T, N> {
     }
 
     /// Waits until the seat has seen the sequence `at_least`, and gives the published sequence that it has then seen.
-    pub fn await_seen<R: Wait>(&self, rt: &R, who: &mut Client<T, N>, at_least: u64) -> u64
+    pub(crate) fn await_seen<R: Wait>(&self, rt: &R, who: &mut Client<T, N>, at_least: u64) -> u64
         requires seat { who.old.seat.table_id ≡ self.now.table.shared.table_id }
-        requires free { (seen : List (List Part)) × IsAt who.old.number self.now.table.shared.key seen Free Idle who.old.seat.me }
+        requires free { (seen : List (List MemberVersions)) × IsAt who.old.number self.now.table.shared.key seen Free Idle who.old.seat.me }
         ensures seat { (who.new.seat.table_id ≡ who.old.seat.table_id) × (who.new.number ≡ who.old.number) × (who.new.seat.me.1 ≡ who.old.seat.me.1) × (at_least ≤ result) }
-        ensures seen { (seen : List (List Part)) → IsAt who.old.number self.now.table.shared.key seen Free Idle who.old.seat.me → Sees who.old.number self.now.table.shared.key seen Idle result who.new.seat.me }
+        ensures seen { (seen : List (List MemberVersions)) → IsAt who.old.number self.now.table.shared.key seen Free Idle who.old.seat.me → Sees who.old.number self.now.table.shared.key seen Idle result who.new.seat.me }
     {
         let backoff = Backoff::new();
         for _ in rt.forever() {
@@ -71,11 +64,11 @@ impl<T: VersionTree<N::Node>, N: VersionNodes> SharedTable<T, N> {
     }
 
     /// Waits for a shard's lock, and takes its tree. It spins a few turns, and then yields.
-    pub fn lock<R: Wait>(&self, rt: &R, who: &mut Client<T, N>, shard: u64) -> T
+    pub(crate) fn lock<R: Wait>(&self, rt: &R, who: &mut Client<T, N>, shard: u64) -> T
         requires seat { (who.old.seat.table_id ≡ self.now.table.shared.table_id) × (shard < self.now.table.shared.key.shards) }
-        requires free { (seen : List (List Part)) × (stage : Stage) × IsAt who.old.number self.now.table.shared.key seen Free stage who.old.seat.me }
+        requires free { (seen : List (List MemberVersions)) × (stage : Stage) × IsAt who.old.number self.now.table.shared.key seen Free stage who.old.seat.me }
         ensures seat { (who.new.seat.table_id ≡ who.old.seat.table_id) × (who.new.number ≡ who.old.number) }
-        ensures locked { (seen : List (List Part)) (stage : Stage) → IsAt who.old.number self.now.table.shared.key seen Free stage who.old.seat.me → Locked who.old.number self.now.table.shared.key shard seen stage (T.versions result) who.old.seat.me who.new.seat.me }
+        ensures locked { (seen : List (List MemberVersions)) (stage : Stage) → IsAt who.old.number self.now.table.shared.key seen Free stage who.old.seat.me → Locked who.old.number self.now.table.shared.key shard seen stage (T.versions result) who.old.seat.me who.new.seat.me }
     {
         let shared = &self.table.shared;
         let backoff = Backoff::new();
@@ -93,11 +86,11 @@ impl<T: VersionTree<N::Node>, N: VersionNodes> SharedTable<T, N> {
     }
 
     /// Gives a shard's tree back as it was.
-    pub fn unlock(&self, who: &mut Client<T, N>, shard: u64, tree: T)
+    pub(crate) fn unlock(&self, who: &mut Client<T, N>, shard: u64, tree: T)
         requires seat { (who.old.seat.table_id ≡ self.now.table.shared.table_id) × (shard < self.now.table.shared.key.shards) }
-        requires held { (seen : List (List Part)) × (stage : Stage) × (more : List (ℕ × Content T N)) × IsAt who.old.number self.now.table.shared.key seen (Held shard (T.versions tree)) stage who.old.seat.me × (who.old.seat.me.1 ≡ (shard, Blank) ∷ more) }
+        requires held { (seen : List (List MemberVersions)) × (stage : Stage) × (more : List (ℕ × Content T N)) × IsAt who.old.number self.now.table.shared.key seen (Held shard (T.versions tree)) stage who.old.seat.me × (who.old.seat.me.1 ≡ (shard, Blank) ∷ more) }
         ensures seat { (who.new.seat.table_id ≡ who.old.seat.table_id) × (who.new.number ≡ who.old.number) × (who.new.seat.me.1 ≡ rest who.old.seat.me.1) }
-        ensures free { (seen : List (List Part)) (stage : Stage) → IsAt who.old.number self.now.table.shared.key seen (Held shard (T.versions tree)) stage who.old.seat.me → IsAt who.old.number self.now.table.shared.key seen Free stage who.new.seat.me }
+        ensures free { (seen : List (List MemberVersions)) (stage : Stage) → IsAt who.old.number self.now.table.shared.key seen (Held shard (T.versions tree)) stage who.old.seat.me → IsAt who.old.number self.now.table.shared.key seen Free stage who.new.seat.me }
     {
         let shared = &self.table.shared;
         match shared.exchange(&mut who.seat, shard as usize, Content::Tree(tree)) {

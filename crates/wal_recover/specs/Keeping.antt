@@ -32,7 +32,7 @@ pub record MayBeKept (last : ℕ) (bytes : List ℕ) : Type 0 where
   pub is : IsBatch (logged_bytes batch) batch.first batch.records
   pub may : MayFollow last batch
 
--- a record's batch is kept behind the others, up to this offset
+-- a record's batch is kept after the others, up to this offset
 pub record Adds (old new : Kept) (bytes : List ℕ) (end : ℕ) : Type 0 where
   pub kept : MayBeKept old.last bytes
   pub groups : new.groups.items ≡ old.groups.items ++ note_of kept.batch ∷ []

@@ -22,7 +22,7 @@ pub record HasRecovered (file : List ℕ) (shown : Recovered) : Type 0 where
   pub is : recovery.IsRecovered None file recovered
   pub shows : ShowsRecovered shown recovered
 
--- why a log was not recovered: the disk's count rose in the call, or there was no memory
+-- why a log was not recovered: the disk's count rose in the call, or there was no memory and no fault
 abbrev pub IsRecoverError : ℕ → ℕ → RecoverError → Type 0
 IsRecoverError before now (Fault count) = Rose before count × (count ≤ now)
-IsRecoverError before now NoMemory = Unit {0}
+IsRecoverError before now NoMemory = now ≡ before

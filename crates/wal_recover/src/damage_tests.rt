@@ -143,7 +143,7 @@ fn stops_at_an_inverted_byte(rt: HostRuntime) -> Result<(), Fail> {
     Ok(())
 }
 
-// The front of a record that puts 32740 zeros at `a`. With its fragment's header it has 32765 bytes.
+// The beginning of a record that puts 32740 zeros at `a`. With its fragment's header it has 32765 bytes.
 const LONG: [u8; 25] = [
     0x58, 0x87, 0x9c, 0xa3, 0xf6, 0x7f, 0x01, // the header
     0x01, 0x00, 0x00, 0x00, 0x00, 0x00, 0x00, 0x00, // sequence 1
@@ -151,7 +151,7 @@ const LONG: [u8; 25] = [
     0x01, 0x01, b'a', 0xe4, 0xff, 0x01, // put a, 32740 bytes
 ];
 
-// A log of this front, zeros up to so many bytes, and the second record.
+// A log of this beginning, zeros up to so many bytes, and the second record.
 fn log_of_two_blocks(alloc: Global, len: usize) -> Result<Vec<u8>, AllocError>
     ensures { IfOk result (λ log. 24 ≤ vec_len log) }
 {

@@ -30,7 +30,7 @@ pub struct Kept {
     pub map: PairMap,
     /// The last sequence, 0 before the first.
     pub last: u64,
-    /// The offset behind them.
+    /// The offset after them.
     pub end: u64,
 }
 
@@ -52,7 +52,9 @@ impl Kept {
 
     /// Keeps the record of these bytes, which ends at the offset `end`, or says why it can't be kept.
     pub fn keep(&mut self, bytes: &[u8], end: u64) -> Result<Option<EndReason>, NoMemory>
-        ensures { IfOk result (λ r. MatchOption r (Adds self.old self.new bytes.now end) (λ why. (self.new ≡ self.old) × Refuses self.old.last bytes.now why)) }
+        ensures { IfOk result (λ r. MatchOption r
+            (Adds self.old self.new bytes.now end)
+            (λ why. (self.new ≡ self.old) × Refuses self.old.last bytes.now why)) }
     {
         let batch = match read_batch(bytes) {
             Ok(batch) => batch,

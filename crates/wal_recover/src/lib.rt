@@ -1,7 +1,7 @@
-//! Point-in-time recovery of a log (RocksDB wiki, "WAL Recovery Modes", kPointInTimeRecovery): the records in front of the
-//! first place that doesn't read, or of the first record that is no batch or whose run of sequences doesn't rise.
+//! Point-in-time recovery of a log (RocksDB wiki, "WAL Recovery Modes", kPointInTimeRecovery): the records before the
+//! first place that doesn't read, or before the first record that is no batch or whose run of sequences doesn't rise.
 //!
-//! Any bytes recover something. What follows damage is not looked at: a log is a history, and what stands behind a gap would
+//! Any bytes recover something. What follows damage is not looked at: a log is a history, and what stands after a gap would
 //! be another one.
 #![tactic(auto)]
 
@@ -13,5 +13,7 @@ pub use recovery::{End, RecoverError, Recovered, recover};
 
 #[cfg(test)]
 mod damage_tests;
+#[cfg(test)]
+mod missing_tests;
 #[cfg(test)]
 mod tests;

@@ -1,6 +1,7 @@
 //! Recovery, record by record.
 
-ghost use Rattle.std.specs.Prelude.{◌≡◌, ◌≤◌, IfOk, IfErr, IfSome};
+ghost use Rattle.std.specs.Prelude.{◌≡◌, ◌≤◌, IfOk, IfErr, IfSome, OnOk};
+ghost use Rattle.wp_edge.specs.Disk.{TimePasses};
 ghost use Rattle.wal_recover.specs.Recovering.{HasRecovered, IsRecoverError};
 
 use crate::kept::{GroupNote, Kept};
@@ -17,8 +18,8 @@ pub struct End {
     pub why: EndReason,
 }
 
-/// What a log recovers: the groups that are kept, the map and the last sequence of all their records, the offset behind them,
-/// and the end.
+/// What a log recovers: the groups that are kept, the map and the last sequence of all their records, the offset after
+/// them, and the end.
 #[derive(Drop)]
 pub struct Recovered {
     pub groups: Vec<GroupNote>,
@@ -48,13 +49,19 @@ impl From<NoMemory> for RecoverError {
 
 /// Recovers the log that a disk holds. Any bytes give an answer, and the disk keeps them.
 ///
-/// It is `Fault` where a read failed, and `NoMemory` where there was no memory for a block, a record, a note, a key or a value.
+/// It reads from the start on and never asks the disk for its length, so that a disk on which nothing can be read is a
+/// fault and not an empty log. No read that failed is tried again.
+///
+/// It is `Fault` where a read failed, and `NoMemory` where there was no memory for a block, a record, a note, a key or a
+/// value.
 pub fn recover<D: Disk>(alloc: Global, disk: &mut D) -> Result<Recovered, RecoverError>
     ensures recovered { IfSome (D.told disk.old) (λ d. IfOk result (HasRecovered d.content)) }
+    ensures worked { OnOk result (D.faults disk.new ≡ D.faults disk.old) }
     ensures error { IfErr result (IsRecoverError (D.faults disk.old) (D.faults disk.new)) }
     ensures later { D.faults disk.old ≤ D.faults disk.new }
     ensures same { D.told disk.new ≡ D.told disk.old }
     ensures adds_none { D.added disk.new ≡ D.added disk.old }
+    ensures time { TimePasses D.told D.moment D.from D.since disk.old disk.new }
 {
     let mut log = LogReader::open(alloc)?;
     let mut kept = Kept::new(alloc);

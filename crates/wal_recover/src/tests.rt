@@ -8,7 +8,7 @@ use wp_edge::MemDisk;
 use wp_model::{Damage, EndReason};
 use write_batch::Batch;
 
-// Puts a record behind the log, in its fragments.
+// Puts a record after the log, in its fragments.
 fn put_record(log: &mut Vec<u8>, bytes: &[u8]) -> Result<(), AllocError> {
     for piece in Fragmenter::new(log.len() % BLOCK_LEN, bytes.len()) {
         log.resize(log.len().saturating_add(piece.zeros), 0)?;
@@ -98,7 +98,7 @@ const PUT: [u8; 5] = [1, 1, 0x61, 1, 0x31];
 
 const MAX_SEQUENCE: u64 = 72_057_594_037_927_935;
 
-// Puts the batch of this header and these records behind the log.
+// Puts the batch of this header and these records after the log.
 fn put_batch(
     alloc: Global,
     log: &mut Vec<u8>,

@@ -3,3 +3,5 @@ pub mod Register
 pub mod Division
 pub mod Message
 pub mod Table
+pub mod Tables
+pub mod Slices

@@ -4,9 +4,11 @@
 mod answers;
 mod bytes;
 mod checksum;
+mod far_tables;
 mod numbers;
 mod pair_map;
 mod reading;
+mod tables;
 
 pub use answers::{Found, FoundList, PairList, Read, Reads, Rows};
 pub use bytes::Bytes;

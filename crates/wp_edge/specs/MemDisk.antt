@@ -1,5 +1,5 @@
 -- What a disk in memory shows.
-use Rattle.std.specs.Prelude.{◌≡◌, ◌⊎◌, ℕ, List, length, drop, Option, Some}
+use Rattle.std.specs.Prelude.{◌≡◌, ◌⊎◌, ℕ, ◌+◌, Bool, nat_lt, List, length, take, drop, slice_set, Option, Some}
 use Rattle.wp_edge.specs.Disk.{Disk, IsImage}
 use Rattle.wp_edge.specs.Eras.{WasImage, told_from}
 use Rattle.wp_edge.specs.Listed.{Listed}
@@ -12,9 +12,25 @@ disk_of d = record { content = d.content.items; synced = d.synced; reach = d.rea
 abbrev pub told_of : MemDisk → Option Disk
 told_of d = Some (disk_of d)
 
+-- how many bytes it has
+abbrev pub len_of : MemDisk → ℕ
+len_of d = length (disk_of d).content
+
 -- how many bytes the content may have
 abbrev pub capacity_of : MemDisk → ℕ
 capacity_of d = d.capacity
+
+-- so many more bytes are too many
+abbrev pub has_no_room : MemDisk → ℕ → Bool
+has_no_room d more = nat_lt (capacity_of d) (len_of d + more)
+
+-- its first bytes, as a crash may leave them
+abbrev pub cut_to : ℕ → Disk → Disk
+cut_to len d = record { content = take len d.content; synced = len; reach = len }
+
+-- with another byte at a place
+abbrev pub with_byte : Disk → ℕ → ℕ → Disk
+with_byte d at byte = record d { content = slice_set d.content at byte }
 
 -- the calls that are to fail, those made, and the faults
 abbrev pub disk_calls : MemDisk → Listed

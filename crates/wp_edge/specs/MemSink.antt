@@ -1,5 +1,5 @@
 -- What a sink in memory shows.
-use Rattle.std.specs.Prelude.{ℕ, List}
+use Rattle.std.specs.Prelude.{ℕ, ◌-◌, min, Bool, ◌&&◌, nat_le, nat_lt, List, length}
 use Rattle.wp_edge.specs.Listed.{Listed}
 use Rattle.wp_edge.specs.declared.mem_sink.MemSink.{MemSink}
 
@@ -14,6 +14,14 @@ sink_capacity s = s.capacity
 -- how many bytes a write takes at most
 abbrev pub sink_piece : MemSink → ℕ
 sink_piece s = s.piece
+
+-- how many bytes it takes of a piece with so many
+abbrev pub takes_of : MemSink → ℕ → ℕ
+takes_of s len = min (min len (sink_capacity s - length (taken_of s))) (sink_piece s)
+
+-- it has no room for any of so many bytes
+abbrev pub is_full_for : MemSink → ℕ → Bool
+is_full_for s len = nat_le (sink_capacity s) (length (taken_of s)) && nat_lt 0 len
 
 -- the calls that are to fail, those made, and the faults
 abbrev pub sink_calls : MemSink → Listed

@@ -1,5 +1,5 @@
 -- What a source in memory shows.
-use Rattle.std.specs.Prelude.{ℕ, List, drop}
+use Rattle.std.specs.Prelude.{ℕ, min, List, length, drop}
 use Rattle.wp_edge.specs.Listed.{Listed}
 use Rattle.wp_edge.specs.declared.mem_source.MemSource.{MemSource}
 
@@ -10,6 +10,10 @@ left_of s = drop s.at s.bytes.items
 -- how many bytes a read gives at most
 abbrev pub source_piece : MemSource → ℕ
 source_piece s = s.piece
+
+-- how many bytes it gives to a buffer with so many
+abbrev pub gives_of : MemSource → ℕ → ℕ
+gives_of s len = min (min (length (left_of s)) len) (source_piece s)
 
 -- the calls that are to fail, those made, and the faults
 abbrev pub source_calls : MemSource → Listed

@@ -1,8 +1,8 @@
 //! The calls of a device in memory, some of which are to fail.
 
-ghost use Rattle.std.specs.Prelude.{◌≡◌, ◌==◌, ◌+◌, ◌-◌, ◌^◌, ◌≤◌, min, is_err, IfOk, if◌then◌else◌};
+ghost use Rattle.std.specs.Prelude.{◌≡◌, ◌==◌, ◌+◌, ◌-◌, ◌^◌, ◌≤◌, min, is_err, IfOk};
 ghost use Rattle.std.specs.List.{list_any};
-ghost use Rattle.wp_edge.specs.Listed.{Listed, fresh};
+ghost use Rattle.wp_edge.specs.Listed.{Listed, fresh, counted};
 
 use crate::Failed;
 use crate::failed::count_fault;
@@ -47,7 +47,7 @@ impl Calls {
         ensures fails { self.new.fails ≡ self.old.fails }
         ensures numbered { self.new.calls ≡ min (self.old.calls + 1) (2 ^ 64 - 1) }
         ensures listed { is_err result ≡ list_any (λ n. n == self.new.calls) self.old.fails }
-        ensures faults { self.new.faults ≡ (if is_err result then min (self.old.faults + 1) (2 ^ 64 - 1) else self.old.faults) }
+        ensures faults { self.new.faults ≡ counted (is_err result) self.old.faults }
         ensures later { self.old.faults ≤ self.new.faults }
     {
         self.made = self.made.saturating_add(1);

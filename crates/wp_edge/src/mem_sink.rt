@@ -1,6 +1,6 @@
 //! A sink in memory.
 
-ghost use Rattle.std.specs.Prelude.{◌≡◌, ◌-◌, ◌<◌, ◌≤◌, ◌&&◌, nat_lt, nat_le, min, length, [], Some, vec_len, vec_capacity, IfOk};
+ghost use Rattle.std.specs.Prelude.{◌≡◌, ◌<◌, ◌≤◌, length, [], Some, vec_len, vec_capacity, IfOk};
 
 use crate::calls::Calls;
 use crate::{Failed, Sink};
@@ -57,7 +57,7 @@ impl MemSink {
 impl Sink for MemSink {
     ghost use Rattle.wp_edge.specs.Faults.{HasCause};
     ghost use Rattle.wp_edge.specs.Listed.{FailsAsListed};
-    ghost use Rattle.wp_edge.specs.MemSink.{taken_of, sink_capacity, sink_piece, sink_calls};
+    ghost use Rattle.wp_edge.specs.MemSink.{taken_of, sink_capacity, sink_piece, takes_of, is_full_for, sink_calls};
     ghost use Rattle.wp_edge.specs.Streams.{Writes};
 
     ghost taken = { λ s. Some (taken_of s) };
@@ -71,10 +71,10 @@ impl Sink for MemSink {
     // It takes as many bytes as it may, and fails just at the listed calls and where it is full.
     fn write(&mut self, piece: &[u8]) -> Result<usize, Failed>
         ensures bytes { Writes (Some (taken_of self.old)) (Some (taken_of self.new)) result piece.now }
-        ensures count { IfOk result (λ n. n ≡ min (min (length piece.now) (sink_capacity self.old - length (taken_of self.old))) (sink_piece self.old)) }
+        ensures count { IfOk result (λ n. n ≡ takes_of self.old (length piece.now)) }
         ensures capacity { sink_capacity self.new ≡ sink_capacity self.old }
         ensures piece { sink_piece self.new ≡ sink_piece self.old }
-        ensures listed { FailsAsListed (sink_calls self.old) (sink_calls self.new) (nat_le (sink_capacity self.old) (length (taken_of self.old)) && nat_lt 0 (length piece.now)) result }
+        ensures listed { FailsAsListed (sink_calls self.old) (sink_calls self.new) (is_full_for self.old (length piece.now)) result }
         ensures cause { HasCause (sink_calls self.old).faults (sink_calls self.new).faults result }
     {
         self.calls.begin()?;

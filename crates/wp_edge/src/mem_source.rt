@@ -1,6 +1,6 @@
 //! A source in memory.
 
-ghost use Rattle.std.specs.Prelude.{◌≡◌, ◌<◌, ◌≤◌, min, length, false, Some, vec_len, IfOk};
+ghost use Rattle.std.specs.Prelude.{◌≡◌, ◌<◌, ◌≤◌, length, false, Some, vec_len, IfOk};
 
 use crate::calls::Calls;
 use crate::{Failed, Source};
@@ -43,7 +43,7 @@ impl MemSource {
 impl Source for MemSource {
     ghost use Rattle.wp_edge.specs.Faults.{HasCause};
     ghost use Rattle.wp_edge.specs.Listed.{FailsAsListed};
-    ghost use Rattle.wp_edge.specs.MemSource.{left_of, source_piece, source_calls};
+    ghost use Rattle.wp_edge.specs.MemSource.{left_of, source_piece, gives_of, source_calls};
     ghost use Rattle.wp_edge.specs.Streams.{Reads};
 
     ghost left = { λ s. Some (left_of s) };
@@ -57,7 +57,7 @@ impl Source for MemSource {
     // It gives as many bytes as it may.
     fn read(&mut self, buf: &mut [u8]) -> Result<usize, Failed>
         ensures bytes { Reads (Some (left_of self.old)) (Some (left_of self.new)) result buf.new }
-        ensures count { IfOk result (λ n. n ≡ min (min (length (left_of self.old)) (length buf.old)) (source_piece self.old)) }
+        ensures count { IfOk result (λ n. n ≡ gives_of self.old (length buf.old)) }
         ensures piece { source_piece self.new ≡ source_piece self.old }
         ensures listed { FailsAsListed (source_calls self.old) (source_calls self.new) false result }
         ensures cause { HasCause (source_calls self.old).faults (source_calls self.new).faults result }

@@ -6,33 +6,42 @@ use crate::Clock;
 use std::time::Duration;
 use std::{rt, thread};
 
-/// The system's monotonic clock, in microseconds from a start of the system's own. It tells nothing of its moments.
+/// The system's monotonic clock, in microseconds from a start of the system's own. It tells no moment but those that it
+/// has answered.
 #[derive(Drop)]
-pub struct RealClock<R: rt::Clock + Drop> {
+pub struct RealClock<R: Drop> {
     runtime: R,
-    answered: u64,
+    answered: Option<u64>,
 }
 
 impl<R: rt::Clock + Drop> RealClock<R> {
-    /// The clock of this runtime.
-    pub fn new(runtime: R) -> Self {
+    ghost use Rattle.wp_edge.specs.RealClock.{real_answered};
+
+    /// The clock of this runtime, which has answered no moment yet.
+    pub fn new(runtime: R) -> Self
+        ensures answered { real_answered result ≡ None }
+    {
         RealClock {
             runtime,
-            answered: 0,
+            answered: None,
         }
     }
 }
 
 impl<R: rt::Clock + Drop> Clock for RealClock<R> {
-    ghost last = { λ _. None };
+    ghost use Rattle.wp_edge.specs.RealClock.{real_answered};
+
+    ghost last = { real_answered };
 
     // Where the clock can't be read it answers the last moment again, and 0 where there is none. Past the greatest
     // `u64` it stands still.
     fn now(&mut self) -> u64 {
-        if let Ok(since_start) = self.runtime.monotonic() {
-            self.answered = u64::try_from(since_start.as_micros()).unwrap_or(u64::MAX);
-        }
-        self.answered
+        let moment = match self.runtime.monotonic() {
+            Ok(since_start) => u64::try_from(since_start.as_micros()).unwrap_or(u64::MAX),
+            Err(_) => self.answered.unwrap_or(0),
+        };
+        self.answered = Some(moment);
+        moment
     }
 
     // It sleeps.

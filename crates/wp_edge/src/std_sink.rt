@@ -2,8 +2,9 @@
 
 ghost use Rattle.std.specs.Prelude.{◌≡◌, None};
 
-use crate::failed::count_fault;
+use crate::failed::{MAX_TRIES, count_fault};
 use crate::{Failed, Sink};
+use std::io::ErrorKind;
 use std::marker::Model;
 
 /// Standard output. It tells nothing of its bytes. It has no buffer: what was taken was handed to the system.
@@ -25,7 +26,7 @@ impl<R: Print + Drop> Model for StdSink<R> {
 impl<R: Print + Drop> StdSink<R> {
     /// Standard output, to which nothing was written yet.
     pub fn new(runtime: R) -> Self
-        ensures { result ≡ 0 }
+        ensures no_fault { result ≡ 0 }
     {
         StdSink { runtime, faults: 0 }
     }
@@ -40,11 +41,16 @@ impl<R: Print + Drop> Sink for StdSink<R> {
         self.faults
     }
 
-    // One write of the system. Each of its errors is a fault, and so is that it took no byte of some.
+    // One write of the system, made again where a signal came in between. Each other error of it is a fault, and so is
+    // that it took no byte of some.
     fn write(&mut self, piece: &[u8]) -> Result<usize, Failed> {
-        match self.runtime.write_some(piece) {
-            Ok(n) if n > 0 || piece.is_empty() => Ok(n),
-            _ => Err(count_fault(&mut self.faults)),
+        for _ in 0..MAX_TRIES {
+            match self.runtime.write_some(piece) {
+                Ok(n) if n > 0 || piece.is_empty() => return Ok(n),
+                Err(error) if error.kind() == ErrorKind::Interrupted => {}
+                _ => break,
+            }
         }
+        Err(count_fault(&mut self.faults))
     }
 }

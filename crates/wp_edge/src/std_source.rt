@@ -1,10 +1,10 @@
 //! Standard input as a source.
 
-ghost use Rattle.std.specs.Prelude.{◌≡◌, None};
+ghost use Rattle.std.specs.Prelude.{◌≡◌, ◌≤◌, length, None, IfOk};
 
-use crate::failed::count_fault;
+use crate::failed::{MAX_TRIES, count_fault};
 use crate::{Failed, Source};
-use std::io::Read;
+use std::io::{self, ErrorKind, Read};
 use std::marker::Model;
 
 /// Standard input. It tells nothing of its bytes.
@@ -26,7 +26,7 @@ impl<R: Input> Model for StdSource<R> {
 impl<R: Input> StdSource<R> {
     /// Standard input, of which nothing was read yet.
     pub fn new(rt: &R) -> Self
-        ensures { result ≡ 0 }
+        ensures no_fault { result ≡ 0 }
     {
         StdSource {
             reader: rt.reader(),
@@ -44,11 +44,24 @@ impl<R: Input> Source for StdSource<R> {
         self.faults
     }
 
-    // One read of the system. Each of its errors is a fault, also that a signal came in between.
+    // Each error of the system is a fault.
     fn read(&mut self, buf: &mut [u8]) -> Result<usize, Failed> {
-        match self.reader.read(buf) {
+        match read_again(&mut self.reader, buf) {
             Ok(n) => Ok(n),
             Err(_) => Err(count_fault(&mut self.faults)),
         }
     }
+}
+
+/// One read of the system, made again where a signal came in between.
+pub(crate) fn read_again<T: Read>(reader: &mut T, buf: &mut [u8]) -> io::Result<usize>
+    ensures at_most { IfOk result (λ n. n ≤ length buf.new) }
+{
+    for _ in 0..MAX_TRIES {
+        match reader.read(buf) {
+            Err(error) if error.kind() == ErrorKind::Interrupted => {}
+            done => return done,
+        }
+    }
+    Err(io::Error::from(ErrorKind::Interrupted))
 }

@@ -1,4 +1,10 @@
+ghost use Rattle.std.specs.Prelude.{◌≤◌, IfOk};
+
 use super::*;
+use crate::std_source::read_again;
+use std::cell::Cell;
+use std::fmt::Display;
+use std::io::{Print, Read};
 use std::test::Fail;
 use std::{env, fs, io, process};
 
@@ -73,38 +79,67 @@ fn path_of(rt: &HostRuntime, name: &str) -> io::Result<String> {
 fn file_is_a_disk(rt: HostRuntime) -> Result<(), Fail> {
     let path = path_of(&rt, "log")?;
     let mut disk = FileDisk::new(rt, path.clone()?);
-    assert!(rt;
-        !fs::exists(&rt, path.as_str())?,
-        "it is made at the first call"
+    assert_eq!(rt; disk.len(), Ok(0), "no file is an empty one");
+    assert_eq!(rt; disk.sync(), Ok(()));
+    assert_eq!(rt;
+        disk.read(0, &mut [0; 4]),
+        Err(Failed),
+        "but none to be read"
     );
-    assert_eq!(rt; disk.len(), Ok(0));
-    assert!(rt; fs::exists(&rt, path.as_str())?);
+    assert!(rt; !fs::exists(&rt, path.as_str())?, "an append makes it");
     for piece in ["ab", "", "cde"] {
         assert_eq!(rt; disk.append(piece.as_bytes()), Ok(()), "{piece}");
     }
     assert_eq!(rt; disk.sync(), Ok(()));
+    assert_eq!(rt;
+        fs::read(&rt, path.as_str())?.as_slice(),
+        b"abcde".as_slice()
+    );
 
     let mut again = FileDisk::new(rt, path.clone()?);
     let mut buf = [0; 4];
+    assert_eq!(rt; again.len(), Ok(5));
+    assert_eq!(rt;
+        again.append(b"f"),
+        Err(Failed),
+        "another one is open for writing"
+    );
+    drop(disk);
     assert_eq!(rt; again.append(b"f"), Ok(()));
     assert_eq!(rt; again.len(), Ok(6));
     for (at, want) in [(0, 4), (3, 3), (6, 0), (u64::MAX, 0)] {
         assert_eq!(rt; again.read(at, &mut buf), Ok(want), "at {at}");
     }
     assert_eq!(rt; buf, *b"defd");
-    assert_eq!(rt; again.faults(), 0);
+    assert_eq!(rt; again.faults(), 1);
     fs::remove_file(&rt, path.as_str())?;
     Ok(())
 }
 
 #[test]
-fn file_that_cannot_be_opened(rt: HostRuntime) -> Result<(), Fail> {
+fn file_that_another_has_changed(rt: HostRuntime) -> Result<(), Fail> {
+    let path = path_of(&rt, "changed")?;
+    let mut disk = FileDisk::new(rt, path.clone()?);
+    assert_eq!(rt; disk.len(), Ok(0));
+    fs::write(&rt, path.as_str(), b"a")?;
+    assert_eq!(rt; disk.append(b"b"), Err(Failed));
+    assert_eq!(rt; fs::read(&rt, path.as_str())?.as_slice(), b"a".as_slice());
+    fs::remove_file(&rt, path.as_str())?;
+    Ok(())
+}
+
+#[test]
+fn files_that_fail(rt: HostRuntime) -> Result<(), Fail> {
     let mut disk = FileDisk::new(rt, path_of(&rt, "no-folder/log")?);
-    assert_eq!(rt; disk.len(), Err(Failed));
     assert_eq!(rt; disk.read(0, &mut [0; 4]), Err(Failed));
     assert_eq!(rt; disk.append(b"a"), Err(Failed));
-    assert_eq!(rt; disk.sync(), Err(Failed));
-    assert_eq!(rt; disk.faults(), 4);
+    assert_eq!(rt; disk.faults(), 2);
+    let mut folder = FileDisk::new(rt, String::from_str(rt.alloc(), "/")?);
+    assert_eq!(rt; folder.len(), Err(Failed));
+    // The system syncs no such file, so a sync that works was never made.
+    let mut null = FileDisk::new(rt, String::from_str(rt.alloc(), "/dev/null")?);
+    assert_eq!(rt; null.len(), Ok(0));
+    assert_eq!(rt; null.sync(), Err(Failed));
     Ok(())
 }
 
@@ -123,6 +158,63 @@ fn system_streams_and_clock(rt: HostRuntime) {
     let before = clock.now();
     clock.pause(1000);
     assert!(rt; clock.now() >= before);
+}
+
+/// A stream whose first call is interrupted. Later ones take or give two bytes.
+#[derive(Drop)]
+struct Slow {
+    interrupted: Cell<bool>,
+}
+
+impl Slow {
+    fn new() -> Slow {
+        Slow {
+            interrupted: Cell::new(false),
+        }
+    }
+
+    fn count(&self, len: usize) -> io::Result<usize>
+        ensures { IfOk result (λ n. n ≤ len) }
+    {
+        if self.interrupted.replace(true) {
+            Ok(len.min(2))
+        } else {
+            Err(io::Error::from(io::ErrorKind::Interrupted))
+        }
+    }
+}
+
+impl Print for Slow {
+    fn print<D: Display + Drop>(&self, _value: D) -> io::Result<()> {
+        Ok(())
+    }
+
+    fn println<D: Display + Drop>(&self, _value: D) -> io::Result<()> {
+        Ok(())
+    }
+
+    fn write_all(&self, _bytes: &[u8]) -> io::Result<()> {
+        Ok(())
+    }
+
+    fn write_some(&self, bytes: &[u8]) -> io::Result<usize> {
+        self.count(bytes.len())
+    }
+}
+
+impl Read for Slow {
+    fn read(&mut self, buf: &mut [u8]) -> io::Result<usize> {
+        self.count(buf.len())
+    }
+}
+
+#[test]
+fn interrupted_calls_are_made_again(rt: HostRuntime) -> Result<(), Fail> {
+    let mut sink = StdSink::new(Slow::new());
+    assert_eq!(rt; sink.write(b"abc"), Ok(2), "not all of it");
+    assert_eq!(rt; sink.faults(), 0);
+    assert_eq!(rt; read_again(&mut Slow::new(), &mut [0; 3])?, 2);
+    Ok(())
 }
 
 fn may_go_to_a_thread<T: Send>(_: &T) {}

@@ -12,8 +12,8 @@ pub mod Text
 pub mod Grouping
 pub mod Controller
 pub mod Tokens
-pub mod Story
-pub mod Handled
+pub mod Trace
+pub mod Attempts
 pub mod Groups
 pub mod Progress
 pub mod Replies
@@ -21,3 +21,4 @@ pub mod Runs
 pub mod Outcomes
 pub mod LogContents
 pub mod Script
+pub mod Generator

@@ -1,7 +1,7 @@
 -- What a run leaves in the log.
-use Rattle.std.specs.Prelude.{◌≡◌, ℕ, ◌<◌, List, [], ◌∷◌, length, take, map, flat_map, None}
+use Rattle.std.specs.Prelude.{◌≡◌, ℕ, ◌<◌, Bool, Option, List, [], ◌∷◌, length, take, map, flat_map, None}
 use Rattle.std.specs.List.{AllByRecursion}
-use Rattle.wp_model.specs.Batch.{group_record}
+use Rattle.wp_model.specs.Batch.{Record, group_record}
 use Rattle.wp_model.specs.Log.{text}
 use Rattle.wp_model.specs.History.{Entry, RunsFollow, logged}
 use Rattle.wp_model.specs.Calls.{Outcome}
@@ -25,3 +25,18 @@ pub record IsLogOf (o : Outcome) (content : List ℕ) (groups : List (List Entry
   pub of_history : AreGroupsOf o.history groups
   pub content_is : take o.log_len content ≡ text None (records_of groups)
   pub length_is : o.log_len ≡ length (text None (records_of groups))
+
+-- a call of `add_group`, and the count of faults that it was answered where it failed
+pub record GroupCall : Type 0 where
+  pub first : ℕ
+  pub batches : List (List Record)
+  pub sync : Bool
+  pub failed : Option ℕ
+
+-- the one record of its group
+abbrev pub record_of_call : GroupCall → List ℕ
+record_of_call c = group_record c.first c.batches
+
+-- An image that is longer than this text, and than what could be reached before the text was written, begins with the text.
+abbrev pub HoldsUpTo : ℕ → List ℕ → List ℕ → Type 0
+HoldsUpTo reached t image = length t < length image → reached < length image → take (length t) image ≡ t

@@ -6,7 +6,7 @@ use Rattle.wp_model.specs.declared.write.Refusal.TheVariants as no
 use Rattle.wp_model.specs.Batch.{Record, count_of, size_of_batch}
 use Rattle.wp_model.specs.History.{Entry, flag_of}
 use Rattle.wp_model.specs.Controller.{Action}
-use Rattle.wp_model.specs.Handled.{Handling}
+use Rattle.wp_model.specs.Attempts.{Attempt}
 use Rattle.wp_model.specs.Calls.{Command, add, clear, commit, Reply, accepted, Call}
 
 pub record Progress : Type 0 where
@@ -17,14 +17,14 @@ pub record Progress : Type 0 where
   -- its calls of the controller that were done
   pub asked : List Action
   -- its commits that a leader took in hand
-  pub handled : List Handling
+  pub attempts : List Attempt
   -- it was shown what was published up to here
-  pub least : ℕ
+  pub seen_up_to : ℕ
   -- how many of the controller's calls its pass has seen
   pub known : ℕ
 
 abbrev pub fresh : Progress
-fresh = record { pending = []; mine = []; asked = []; handled = []; least = 0; known = 0 }
+fresh = record { pending = []; mine = []; asked = []; attempts = []; seen_up_to = 0; known = 0 }
 
 -- a client's next entry
 abbrev pub next_entry : ℕ → List Entry → WriteOptions → ℕ → List Record → Entry

@@ -4,7 +4,7 @@ use Rattle.std.specs.List.{list_all, slice_split, enumerate_from}
 use Rattle.wp_model.specs.declared.script.ScriptFault.{ScriptFault}
 use Rattle.wp_model.specs.declared.script.ScriptFault.TheVariants.{Long, Byte, Word, Form, Client, Clients, NoClient, NoSchedule}
 use Rattle.wp_model.specs.Batch.{value, deletion, single_deletion, log_data}
-use Rattle.wp_model.specs.Calls.{Command, add, clear, commit, get}
+use Rattle.wp_model.specs.Calls.{Command, add, clear, commit, get, many, scan, stop, unstop, slow, unslow}
 
 -- Lines and words
 
@@ -77,6 +77,10 @@ two_words line [] = Err Form
 two_words line (w ∷ []) = Err Form
 two_words line (w ∷ v ∷ u ∷ ws) = Err Form
 
+abbrev pub some_words : (List (List ℕ) → Line) → List (List ℕ) → Read Line
+some_words line [] = Err Form
+some_words line (w ∷ ws) = Ok (line (w ∷ ws))
+
 -- the flags `sync` and `nolog`, each or not, in this order
 abbrev pub is_first : List ℕ → List (List ℕ) → Bool
 is_first w [] = false
@@ -91,6 +95,14 @@ commit_flags ws =
     let sync = is_first (codes "sync") ws in let behind_sync = behind_first sync ws in
     let no_log = is_first (codes "nolog") behind_sync in let rest = behind_first no_log behind_sync in
     no_word (command (commit (record { sync = sync; no_log = no_log; no_slowdown = false }))) rest
+
+-- the same with the flag `noslow` behind them
+abbrev pub all_commit_flags : List (List ℕ) → Read Line
+all_commit_flags ws =
+    let sync = is_first (codes "sync") ws in let after_sync = behind_first sync ws in
+    let no_log = is_first (codes "nolog") after_sync in let after_no_log = behind_first no_log after_sync in
+    let no_slowdown = is_first (codes "noslow") after_no_log in let rest = behind_first no_slowdown after_no_log in
+    no_word (command (commit (record { sync = sync; no_log = no_log; no_slowdown = no_slowdown }))) rest
 
 -- what stands behind a first word
 pub record CommandForm : Type 0 where
@@ -109,6 +121,39 @@ forms =
     ∷ record { word = codes "commit"; rest = commit_flags }
     ∷ record { word = codes "get"; rest = one_word (λ k. command (get k)) }
     ∷ []
+
+-- reads of several keys at once, and of all keys in a range
+abbrev pub read_forms : List CommandForm
+read_forms =
+    record { word = codes "many"; rest = some_words (λ ks. command (many ks)) }
+    ∷ record { word = codes "scan"; rest = two_words (λ lo hi. command (scan lo hi)) }
+    ∷ []
+
+-- the tokens of the write controller
+abbrev pub token_forms : List CommandForm
+token_forms =
+    record { word = codes "stop"; rest = no_word (command stop) }
+    ∷ record { word = codes "unstop"; rest = no_word (command unstop) }
+    ∷ record { word = codes "slow"; rest = one_number (λ r. command (slow r)) }
+    ∷ record { word = codes "unslow"; rest = no_word (command unslow) }
+    ∷ []
+
+-- batches of every kind of record, commits with every flag, and every read
+abbrev pub client_forms : List CommandForm
+client_forms =
+    record { word = codes "client"; rest = one_number section }
+    ∷ record { word = codes "put"; rest = two_words (λ k v. command (add (value k v))) }
+    ∷ record { word = codes "del"; rest = one_word (λ k. command (add (deletion k))) }
+    ∷ record { word = codes "sdel"; rest = one_word (λ k. command (add (single_deletion k))) }
+    ∷ record { word = codes "note"; rest = one_word (λ t. command (add (log_data t))) }
+    ∷ record { word = codes "clear"; rest = no_word (command clear) }
+    ∷ record { word = codes "commit"; rest = all_commit_flags }
+    ∷ record { word = codes "get"; rest = one_word (λ k. command (get k)) }
+    ∷ read_forms
+
+-- every line that a client's section may have
+abbrev pub whole_forms : List CommandForm
+whole_forms = client_forms ++ token_forms
 
 -- the words of a line, by the form whose word stands first; a first word that is no command is found before the others are looked at
 abbrev pub by_form : List CommandForm → List ℕ → List (List ℕ) → Read Line
@@ -153,6 +198,10 @@ pub record Grammar : Type 0 where
 -- that of one client
 abbrev pub run_grammar : Grammar
 run_grammar = record { text_limit = 16777216; client_limit = 1; forms = forms }
+
+-- that of several clients, with every line
+abbrev pub whole_grammar : Grammar
+whole_grammar = record { text_limit = 16777216; client_limit = 16; forms = whole_forms }
 
 abbrev pub with_line : ℕ → Script → Line → Read Script
 with_line most script (section n) = with_section most script n

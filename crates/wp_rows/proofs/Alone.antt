@@ -1,8 +1,8 @@
 -- Outcomes of one client.
 use Rattle.std.proofs.Common.{◌≡◌, ℕ, zero, suc, ◌+◌, Option, Some, List, [], ◌∷◌, ◌++◌, max, slice_get, refl, ap, arith}
 use Rattle.wp_model.specs.Batch.{Record}
-use Rattle.wp_model.specs.Story.{Story}
-use Rattle.wp_model.specs.Handled.{Handling, Fate, taken, with_fate}
+use Rattle.wp_model.specs.Trace.{Trace}
+use Rattle.wp_model.specs.Attempts.{Attempt, WriteStatus, succeeded, with_attempt}
 use Rattle.wp_model.specs.Groups.{Group}
 use Rattle.wp_model.specs.Progress.{Progress, next_entry}
 use Rattle.wp_model.specs.Replies.{Replies}
@@ -18,22 +18,22 @@ first_only x y zero h = (refl, cc h)
 first_only x y (suc i) h = absurd (cc h)
 
 -- the one client's transcript is all that has to be legal
-pub each_one : (story : Story) (groups : List Group) (fault : Option ℕ) (commands : List Command) (calls : List Call) (handled : List Handling)
-    → IsLegalTranscript one_client story groups fault 1 commands calls handled
+pub each_one : (trace : Trace) (groups : List Group) (fault : Option ℕ) (commands : List Command) (calls : List Call) (attempts : List Attempt)
+    → IsLegalTranscript one_client trace groups fault 1 commands calls attempts
     → (i : ℕ) (cs : List Command) (ks : List Call) → slice_get (commands ∷ []) i ≡ Some cs → slice_get (calls ∷ []) i ≡ Some ks
-    → (h : List Handling) × (slice_get (handled ∷ []) i ≡ Some h) × IsLegalTranscript one_client story groups fault (i + 1) cs ks h
-each_one story groups fault commands calls handled t i cs ks a b =
+    → (h : List Attempt) × (slice_get (attempts ∷ []) i ≡ Some h) × IsLegalTranscript one_client trace groups fault (i + 1) cs ks h
+each_one trace groups fault commands calls attempts t i cs ks a b =
     let f = first_only commands cs i a in
     let g = first_only calls ks i b in (
-      handled,
-      ap (λ n. slice_get (handled ∷ []) n) f.0,
+      attempts,
+      ap (λ n. slice_get (attempts ∷ []) n) f.0,
       rw (f.0, ← f.1, ← g.1) t,
     )
 
 -- a call of a client that knows nothing of the controller
-pub quietly : (story : Story) (p : Progress) (c : Command) (r : Reply) (q : Progress) → Replies one_client story 1 p c r q → p.known ≡ 0 → q.known ≡ 0
-    → Step one_client story 1 p c r q
-quietly story p c r q h k l = record { replies = h; rises = omega (arith, k, l); within = omega (arith, l) }
+pub quietly : (trace : Trace) (p : Progress) (c : Command) (r : Reply) (q : Progress) → Replies one_client trace 1 p c r q → p.known ≡ 0 → q.known ≡ 0
+    → Step one_client trace 1 p c r q
+quietly trace p c r q h k l = record { replies = h; rises = omega (arith, k, l); within = omega (arith, l) }
 
 -- Where the client stands after each kind of call
 
@@ -44,12 +44,12 @@ abbrev pub took : ℕ → ℕ → Progress → Progress
 took first last p = record p {
   pending = [];
   mine = p.mine ++ next_entry 1 p.mine plain first p.pending ∷ [];
-  handled = with_fate p.handled p.pending plain (Some taken);
-  least = max p.least last;
+  attempts = with_attempt p.attempts p.pending plain (Some succeeded);
+  seen_up_to = max p.seen_up_to last;
 }
 
-abbrev pub fell : Fate → Progress → Progress
-fell fate p = record p { handled = with_fate p.handled p.pending plain (Some fate) }
+abbrev pub fell : WriteStatus → Progress → Progress
+fell status p = record p { attempts = with_attempt p.attempts p.pending plain (Some status) }
 
 abbrev pub shown : ℕ → Progress → Progress
-shown at p = record p { least = at }
+shown at p = record p { seen_up_to = at }

@@ -5,11 +5,11 @@ use Rattle.wp_model.specs.declared.write.Refusal.TheVariants as no
 use Rattle.wp_model.specs.Batch.{Record}
 use Rattle.wp_model.specs.Calls.{Command, add, commit, get, quiet, accepted, refused, found, Call, Outcome}
 use Rattle.wp_model.specs.History.{Entry}
-use Rattle.wp_model.specs.Story.{Home}
+use Rattle.wp_model.specs.Trace.{Settings}
 use Rattle.wp_rows.specs.Examples.{put_a1, put_a2, put_b2, plain}
 
 -- one client, a fresh store, and the limits of RocksDB's groups and of a batch
-abbrev pub one_client : Home
+abbrev pub one_client : Settings
 one_client = record { start = 0; clients = 1; group_bytes = 1048576; batch_bytes = 16777216; opened = 0 }
 
 -- the client's how many-th batch, at this sequence, of one record

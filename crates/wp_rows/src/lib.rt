@@ -3,6 +3,7 @@
 
 mod bytes;
 mod checksums;
+mod generators;
 mod grouping;
 mod histories;
 mod logs;
@@ -13,10 +14,13 @@ mod texts;
 
 pub use bytes::{batches, group_of_two_batches, sizes_of_batches, varints};
 pub use checksums::{checksum_of_digits, checksum_of_empty_record};
+pub use generators::{first_batch, first_draws, summary};
 pub use grouping::{group_of_one, groups_by_options, groups_by_size};
 pub use histories::{flags_of_commits, logs_of_histories, maps_of_batches};
 pub use logs::{end_of_block, log_of_one_batch, long_records, record_of_no_bytes};
 pub use outcomes::{failed_write, one_commit, refused_commit, stale_read};
 pub use recoveries::{empty_log_recovered, two_batches_recovered};
-pub use scripts::{faults_of_scripts, one_script, passed_over_lines};
+pub use scripts::{
+    faults_of_scripts, one_script, passed_over_lines, records_and_flags, whole_scripts,
+};
 pub use texts::{digits_of_bytes, text_of_one_commit, text_of_refused_commit};

@@ -20,7 +20,7 @@ pub fn failed_write()
     ensures legal { IsLegal one_client 1 failing_script failed_write }
 {}
 
-/// A read that answers an older value than the client was shown is legal in no story.
+/// A read that answers an older value than the client was shown is legal in no trace.
 pub fn stale_read()
     ensures not_legal { (ended : ℕ) → IsLegal one_client ended stale_script stale_read → ⊥ }
 {}

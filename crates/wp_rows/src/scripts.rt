@@ -1,10 +1,11 @@
 //! What scripts say, and their first faults.
 
-ghost use Rattle.std.specs.Prelude.{◌≡◌, ℕ, ◌<◌, true, List, [], ◌∷◌, length, replicate, codes, Ok};
+ghost use Rattle.std.specs.Prelude.{◌≡◌, ℕ, ◌<◌, true, List, [], ◌∷◌, ◌++◌, length, replicate, flat_map, codes, decimal, Ok};
+ghost use Rattle.std.specs.List.{range_with_len};
 ghost use Rattle.wp_model.specs.declared.script.ScriptFault.TheVariants.{Long, Byte, Word, Form, Client, Clients, NoClient};
 ghost use Rattle.wp_model.specs.Batch.{deletion, single_deletion, log_data};
-ghost use Rattle.wp_model.specs.Calls.{add, clear, commit, get};
-ghost use Rattle.wp_model.specs.Script.{script_of, run_grammar};
+ghost use Rattle.wp_model.specs.Calls.{add, clear, commit, get, many, scan, stop, unstop, slow, unslow};
+ghost use Rattle.wp_model.specs.Script.{script_of, run_grammar, whole_grammar};
 ghost use Rattle.wp_rows.specs.Examples.{put_a1, plain, fault_at};
 
 /// A script of one batch and one read. Its last line feed may lack.
@@ -43,4 +44,19 @@ pub fn faults_of_scripts()
     ensures word_behind_clear { script_of run_grammar (codes "client 1\nclear a") ≡ fault_at 2 Form }
     ensures two_keys { script_of run_grammar (codes "client 1\ndel a b") ≡ fault_at 2 Form }
     ensures long_enough { script_of run_grammar (replicate 16384 35) ≡ fault_at 0 NoClient }
+{}
+
+/// The whole grammar: reads of several keys, the controller's tokens, every flag, and more than one client.
+pub fn whole_scripts()
+    ensures reads { script_of whole_grammar (codes "client 1\nmany a b\nscan a c") ≡ Ok ((many (codes "a" ∷ codes "b" ∷ []) ∷ scan (codes "a") (codes "c") ∷ []) ∷ []) }
+    ensures tokens { script_of whole_grammar (codes "client 1\nstop\nunstop\nslow 7\nunslow") ≡ Ok ((stop ∷ unstop ∷ slow 7 ∷ unslow ∷ []) ∷ []) }
+    ensures flags { script_of whole_grammar (codes "client 1\ncommit noslow\ncommit sync noslow\ncommit sync nolog noslow")
+        ≡ Ok ((commit (record plain { no_slowdown = true }) ∷ commit (record plain { sync = true; no_slowdown = true }) ∷ commit (record { sync = true; no_log = true; no_slowdown = true }) ∷ []) ∷ []) }
+    ensures two_clients { script_of whole_grammar (codes "client 1\nget a\nclient 2\nput a 1") ≡ Ok ((get (codes "a") ∷ []) ∷ (add put_a1 ∷ []) ∷ []) }
+    ensures too_many_clients { script_of whole_grammar (flat_map (λ n. codes "client " ++ decimal n ++ codes "\n") (range_with_len 1 17)) ≡ fault_at 17 Clients }
+    ensures no_key { script_of whole_grammar (codes "client 1\nmany") ≡ fault_at 2 Form }
+    ensures flags_turned { script_of whole_grammar (codes "client 1\ncommit noslow sync") ≡ fault_at 2 Form }
+    ensures no_rate { script_of whole_grammar (codes "client 1\nslow") ≡ fault_at 2 Form }
+    ensures of_one_client { script_of run_grammar (codes "client 1\nmany a b") ≡ fault_at 2 Word }
+    ensures without_tokens { script_of run_grammar (codes "client 1\nstop") ≡ fault_at 2 Word }
 {}

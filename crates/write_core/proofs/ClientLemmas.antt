@@ -8,12 +8,16 @@ use Rattle.std.proofs.lemmas.List.Sums.{sum_by-cons, sum_by-append, sum_by-set}
 use Rattle.wp_model.specs.Calls.{Command, Reply, Call}
 use Rattle.core_model.specs.Core as core
 use Rattle.core_model.specs.CoreLaw.{IsCore, in_order, waiting}
-use Rattle.write_core.specs.declared.plan.ClientPlan.{ClientPlan}
+use Rattle.core_plans.specs.declared.plan.ClientPlan.{ClientPlan}
 use Rattle.write_core.specs.declared.writer.CoreReply.{CoreReply}
 use Rattle.write_core.specs.declared.state.Seat.{Seat}
-use Rattle.write_core.specs.Shown.{records_in, added_by_line, shown_writer}
+use Rattle.core_plans.specs.Plans.{records_in}
+use Rattle.write_core.specs.Shown.{shown_writer}
+use Rattle.client_calls.specs.Commands.{record_added}
 use Rattle.write_core.specs.declared.writer.Writer.{Writer}
-use Rattle.write_core.specs.Mirrors.{IsClient, AreClients, IsReply, AreReplies, is_answer, answers_of, AreDone, done_of, lines_left}
+use Rattle.write_core.specs.Mirrors.{IsClient, AreClients, AreDone, done_of, lines_left}
+use Rattle.core_plans.specs.Answers.{is_answer, answers_of}
+use Rattle.write_core.specs.Replies.{IsReply, AreReplies}
 
 replies_push : (xs : List CoreReply) (rs : List Reply) (x : CoreReply) (r : Reply) → AreReplies xs rs → IsReply x r → AreReplies (xs ++ x ∷ []) (rs ++ r ∷ [])
 replies_push [] [] x r h k = (k, tt)
@@ -89,58 +93,58 @@ clients_set plans seats clients i plan seat client are h p is = record {
         are.each j pj sj cj ep (sym (set_other seats i j seat other) ∙ es) (sym (set_other clients i j client other) ∙ ec)
 
 -- who has left with an answer isn't idle
-found_counts : (c : ℕ) (gone : List core.Writer) (w : core.Writer) → find (λ (v : core.Writer). v.client == c) gone ≡ Some w → 1 ≤ count_by (λ n. n == c) (map (λ (v : core.Writer). v.client) gone)
+found_counts : (c : ℕ) (leaving : List core.Writer) (w : core.Writer) → find (λ (v : core.Writer). v.client == c) leaving ≡ Some w → 1 ≤ count_by (λ n. n == c) (map (λ (v : core.Writer). v.client) leaving)
 found_counts c [] w e = cc
-found_counts c (v ∷ gone) w e = by_first (found_counts c gone w) (v.client == c) refl e
+found_counts c (v ∷ leaving) w e = by_first (found_counts c leaving w) (v.client == c) refl e
   where
-    by_first : (find (λ (v : core.Writer). v.client == c) gone ≡ Some w → 1 ≤ count_by (λ n. n == c) (map (λ (v : core.Writer). v.client) gone))
-        → (b : Bool) → (v.client == c) ≡ b → (if b then Some v else find (λ (v : core.Writer). v.client == c) gone) ≡ Some w
-        → 1 ≤ count_by (λ n. n == c) (v.client ∷ map (λ (v : core.Writer). v.client) gone)
+    by_first : (find (λ (v : core.Writer). v.client == c) leaving ≡ Some w → 1 ≤ count_by (λ n. n == c) (map (λ (v : core.Writer). v.client) leaving))
+        → (b : Bool) → (v.client == c) ≡ b → (if b then Some v else find (λ (v : core.Writer). v.client == c) leaving) ≡ Some w
+        → 1 ≤ count_by (λ n. n == c) (v.client ∷ map (λ (v : core.Writer). v.client) leaving)
     by_first later true t e =
         let one : ◌≡◌ {A = ℕ} (if v.client == c then 1 else 0) 1 = ap (λ b. if b then 1 else 0) t in
-        omega (arith, one, sum_by-cons (λ n. if n == c then 1 else 0) v.client (map (λ (v : core.Writer). v.client) gone))
+        omega (arith, one, sum_by-cons (λ n. if n == c then 1 else 0) v.client (map (λ (v : core.Writer). v.client) leaving))
     by_first later false t e =
-        omega (arith, later e, sum_by-cons (λ n. if n == c then 1 else 0) v.client (map (λ (v : core.Writer). v.client) gone))
+        omega (arith, later e, sum_by-cons (λ n. if n == c then 1 else 0) v.client (map (λ (v : core.Writer). v.client) leaving))
 
-pub gone_is_busy : (o : core.Options) (s : core.State) (c : ℕ) (client : core.Client) (w : core.Writer) → IsCore o s → core.client_at s c ≡ Some client → find (λ (v : core.Writer). v.client == c) s.gone ≡ Some w → client.idle ≡ false
-gone_is_busy o s c client w is there found = by_idle client.idle (is.once c client there)
+pub leaving_is_busy : (o : core.Options) (s : core.State) (c : ℕ) (client : core.Client) (w : core.Writer) → IsCore o s → core.client_at s c ≡ Some client → find (λ (v : core.Writer). v.client == c) s.leaving ≡ Some w → client.idle ≡ false
+leaving_is_busy o s c client w is there found = by_idle client.idle (is.once c client there)
   where
     there_are : 1 ≤ count_by (λ n. n == c) (waiting s)
-    there_are = omega (arith, sum_by-append (λ n. if n == c then 1 else 0) (in_order s) (map (λ (v : core.Writer). v.client) s.gone), found_counts c s.gone w found)
+    there_are = omega (arith, sum_by-append (λ n. if n == c then 1 else 0) (in_order s) (map (λ (v : core.Writer). v.client) s.leaving), found_counts c s.leaving w found)
 
     by_idle : (b : Bool) → count_by (λ n. n == c) (waiting s) ≡ (if b then 0 else 1) → b ≡ false
     by_idle true e = absurd (omega (arith, there_are))
     by_idle false e = refl
 
 pub empty_lines : (plan : ClientPlan) (n : ℕ) → records_in plan (record { from = n; to = n }) ≡ []
-empty_lines plan n = let none : n - n ≡ 0 = omega arith in ap (λ k. filter_map added_by_line (take k (drop n plan.lines.items))) none
+empty_lines plan n = let none : n - n ≡ 0 = omega arith in ap (λ k. filter_map record_added (take k (drop n plan.lines.items))) none
 
 -- who is told leaves no other trace
-pub find_filter : (m c : ℕ) (gone : List core.Writer) → find (λ (w : core.Writer). w.client == c) (filter (λ (w : core.Writer). not (w.client == m)) gone)
-    ≡ (if c == m then None else find (λ (w : core.Writer). w.client == c) gone)
+pub find_filter : (m c : ℕ) (leaving : List core.Writer) → find (λ (w : core.Writer). w.client == c) (filter (λ (w : core.Writer). not (w.client == m)) leaving)
+    ≡ (if c == m then None else find (λ (w : core.Writer). w.client == c) leaving)
 find_filter m c [] = none (c == m)
   where
     none : (b : Bool) → (let e : Option core.Writer = None in e) ≡ (if b then None else None)
     none true = refl
     none false = refl
-find_filter m c (w ∷ gone) = by_test (find_filter m c gone) (w.client == m) (w.client == c) (c == m) refl refl refl
+find_filter m c (w ∷ leaving) = by_test (find_filter m c leaving) (w.client == m) (w.client == c) (c == m) refl refl refl
   where
-    by_test : find (λ (w : core.Writer). w.client == c) (filter (λ (w : core.Writer). not (w.client == m)) gone) ≡ (if c == m then None else find (λ (w : core.Writer). w.client == c) gone)
+    by_test : find (λ (w : core.Writer). w.client == c) (filter (λ (w : core.Writer). not (w.client == m)) leaving) ≡ (if c == m then None else find (λ (w : core.Writer). w.client == c) leaving)
         → (a b d : Bool) → (w.client == m) ≡ a → (w.client == c) ≡ b → (c == m) ≡ d
-        → find (λ (w : core.Writer). w.client == c) (if not a then w ∷ filter (λ (w : core.Writer). not (w.client == m)) gone else filter (λ (w : core.Writer). not (w.client == m)) gone)
-        ≡ (if d then None else (if b then Some w else find (λ (w : core.Writer). w.client == c) gone))
-    by_test later true true true p q r = later ∙ ap (λ x. if x then None else find (λ (w : core.Writer). w.client == c) gone) r
-    by_test later true false true p q r = later ∙ ap (λ x. if x then None else find (λ (w : core.Writer). w.client == c) gone) r
-    by_test later true false false p q r = later ∙ ap (λ x. if x then None else find (λ (w : core.Writer). w.client == c) gone) r
+        → find (λ (w : core.Writer). w.client == c) (if not a then w ∷ filter (λ (w : core.Writer). not (w.client == m)) leaving else filter (λ (w : core.Writer). not (w.client == m)) leaving)
+        ≡ (if d then None else (if b then Some w else find (λ (w : core.Writer). w.client == c) leaving))
+    by_test later true true true p q r = later ∙ ap (λ x. if x then None else find (λ (w : core.Writer). w.client == c) leaving) r
+    by_test later true false true p q r = later ∙ ap (λ x. if x then None else find (λ (w : core.Writer). w.client == c) leaving) r
+    by_test later true false false p q r = later ∙ ap (λ x. if x then None else find (λ (w : core.Writer). w.client == c) leaving) r
     by_test later true true false p q r = let e : w.client ≡ m = grind (arith, nat_tests) in let f : w.client ≡ c = grind (arith, nat_tests) in let g : c ≡ m = sym f ∙ e in let h : (c == m) ≡ true = grind (arith, nat_tests) in cc
     by_test later false true true p q r = let e : w.client ≡ c = grind (arith, nat_tests) in let f : c ≡ m = grind (arith, nat_tests) in let g : w.client ≡ m = e ∙ f in let h : (w.client == m) ≡ true = grind (arith, nat_tests) in cc
-    by_test later false true false p q r = ap (λ x. if x then Some w else find (λ (w : core.Writer). w.client == c) (filter (λ (w : core.Writer). not (w.client == m)) gone)) q
-    by_test later false false true p q r = ap (λ x. if x then Some w else find (λ (w : core.Writer). w.client == c) (filter (λ (w : core.Writer). not (w.client == m)) gone)) q ∙ later ∙ ap (λ x. if x then None else find (λ (w : core.Writer). w.client == c) gone) r
-    by_test later false false false p q r = ap (λ x. if x then Some w else find (λ (w : core.Writer). w.client == c) (filter (λ (w : core.Writer). not (w.client == m)) gone)) q ∙ later ∙ ap (λ x. if x then None else find (λ (w : core.Writer). w.client == c) gone) r
+    by_test later false true false p q r = ap (λ x. if x then Some w else find (λ (w : core.Writer). w.client == c) (filter (λ (w : core.Writer). not (w.client == m)) leaving)) q
+    by_test later false false true p q r = ap (λ x. if x then Some w else find (λ (w : core.Writer). w.client == c) (filter (λ (w : core.Writer). not (w.client == m)) leaving)) q ∙ later ∙ ap (λ x. if x then None else find (λ (w : core.Writer). w.client == c) leaving) r
+    by_test later false false false p q r = ap (λ x. if x then Some w else find (λ (w : core.Writer). w.client == c) (filter (λ (w : core.Writer). not (w.client == m)) leaving)) q ∙ later ∙ ap (λ x. if x then None else find (λ (w : core.Writer). w.client == c) leaving) r
 
-pub done_told : (plans : List ClientPlan) (old new : List (Option Writer)) (gone : List core.Writer) (m : ℕ) → AreDone plans old gone → ((c : ℕ) → done_of new c ≡ (if c == m then None else done_of old c))
-    → AreDone plans new (filter (λ (w : core.Writer). not (w.client == m)) gone)
-done_told plans old new gone m are set = λ c. find_filter m c gone ∙ ap (λ x. if c == m then None else x) (are c) ∙ by_test (c == m) c ∙ ap (option_map (shown_writer plans)) (sym (set c))
+pub done_told : (plans : List ClientPlan) (old new : List (Option Writer)) (leaving : List core.Writer) (m : ℕ) → AreDone plans old leaving → ((c : ℕ) → done_of new c ≡ (if c == m then None else done_of old c))
+    → AreDone plans new (filter (λ (w : core.Writer). not (w.client == m)) leaving)
+done_told plans old new leaving m are set = λ c. find_filter m c leaving ∙ ap (λ x. if c == m then None else x) (are c) ∙ by_test (c == m) c ∙ ap (option_map (shown_writer plans)) (sym (set c))
   where
     by_test : (b : Bool) (c : ℕ) → (if b then None else option_map (shown_writer plans) (done_of old c)) ≡ option_map (shown_writer plans) (if b then None else done_of old c)
     by_test true c = refl

@@ -1,5 +1,5 @@
 -- The group in hand gets its runs.
-use Rattle.std.proofs.Common.{◌≡◌, ℕ, zero, suc, ◌+◌, ◌-◌, ◌<◌, ◌≤◌, Bool, true, false, not, ◌&&◌, ◌||◌, nat_le, List, [], ◌∷◌, ◌++◌, length, take, drop, map, get_or, Option, Some, None, vec_len, refl, sym, ap, ◌∙◌, subst, arith}
+use Rattle.std.proofs.Common.{◌≡◌, ℕ, zero, suc, ◌+◌, ◌<◌, ◌≤◌, Bool, true, false, not, ◌&&◌, ◌||◌, nat_le, List, [], ◌∷◌, ◌++◌, length, take, drop, map, get_or, Option, Some, None, vec_len, refl, sym, ap, ◌∙◌, subst, arith}
 use Rattle.std.specs.Prelude.{if◌then◌else◌, is_some, option_map, vec_capacity}
 use Rattle.std.specs.List.{AllByRecursion, list_any, cons_option, drop-map, take-map}
 use Rattle.std.proofs.lemmas.List.{map-append, drop-drop, length-map, length-take-le, length-drop}
@@ -11,13 +11,13 @@ use Rattle.core_model.specs.Core as core
 use Rattle.core_model.specs.Step as event
 use Rattle.write_core.specs.declared.phases.LogPhase.{LogPhase}
 use Rattle.write_core.specs.declared.phases.LogPhase.TheVariants.{Free, Led, Built, InLog, Marked, Handed}
-use Rattle.write_core.specs.declared.plan.ClientPlan.{ClientPlan}
+use Rattle.core_plans.specs.declared.plan.ClientPlan.{ClientPlan}
 use Rattle.write_core.specs.declared.writer.Writer.{Writer}
-use Rattle.write_core.specs.declared.writer.CoreEntry.{CoreEntry}
+use Rattle.core_plans.specs.Plans.{records_of}
+use Rattle.write_core.specs.Shown.{CoreEntry, shown_writer, shown_entry, shown_log, cut, total}
 use Rattle.write_core.specs.declared.state.State.{State}
 use Rattle.write_core.specs.Leads.{leads_front}
 use Rattle.write_core.specs.Phases.{has_group, is_built}
-use Rattle.write_core.specs.Shown.{records_of, shown_writer, shown_entry, shown_log, cut, total}
 use Rattle.write_core.specs.Mirrors.{Mirrors, IsLine, AreWriters, IsClientOf, answered}
 use Rattle.write_core.specs.Runs.{GotRuns, IsCounted, unanswered}
 use Rattle.write_core.proofs.LogEvents.{hand_of, leads_line, no_writer}
@@ -26,7 +26,7 @@ use Rattle.write_core.proofs.TableEvents.{known_take, known_drop}
 use Rattle.write_core.proofs.RunLemmas.{accepted_writer, refused_writer, take_front, append_none}
 
 log_by_phase : (s : core.State) (c : ℕ) (log : LogPhase) (ws : List core.Writer) → event.log_group s c (shown_log log ws)
-    ≡ event.when ((is_built log && core.leads c ws) && not s.dead) (event.logged_group s (core.with_runs s.assigned ws))
+    ≡ event.when ((is_built log && core.leads c ws) && not s.log_failed) (event.logged_group s (core.with_runs s.assigned ws))
 log_by_phase s c Free ws = refl
 log_by_phase s c (Led d) ws = refl
 log_by_phase s c Built ws = refl
@@ -35,11 +35,11 @@ log_by_phase s c Marked ws = refl
 log_by_phase s c (Handed d) ws = refl
 
 pub log_group_is : (o : core.Options) (r : State) (s : core.State) (c : ℕ) → Mirrors o r s → event.log_group s c s.log
-    ≡ event.when ((is_built r.log && leads_front c r.in_second r.in_hand r.waiting.items) && not r.dead) (event.logged_group s (core.with_runs s.assigned (hand_of r)))
+    ≡ event.when ((is_built r.log && leads_front c r.in_second r.in_hand r.linked.items) && not r.log_failed) (event.logged_group s (core.with_runs s.assigned (hand_of r)))
 log_group_is o r s c m =
     ap (event.log_group s c) m.line.hand ∙ log_by_phase s c r.log (hand_of r)
-    ∙ ap (λ b. event.when ((is_built r.log && b) && not s.dead) (event.logged_group s (core.with_runs s.assigned (hand_of r)))) (leads_line r.plans.items c r.in_second r.in_hand r.waiting.items)
-    ∙ ap (λ b. event.when ((is_built r.log && leads_front c r.in_second r.in_hand r.waiting.items) && not b) (event.logged_group s (core.with_runs s.assigned (hand_of r)))) m.dead
+    ∙ ap (λ b. event.when ((is_built r.log && b) && not s.log_failed) (event.logged_group s (core.with_runs s.assigned (hand_of r)))) (leads_line r.plans.items c r.in_second r.in_hand r.linked.items)
+    ∙ ap (λ b. event.when ((is_built r.log && leads_front c r.in_second r.in_hand r.linked.items) && not b) (event.logged_group s (core.with_runs s.assigned (hand_of r)))) m.log_failed
 
 -- Whether one has a run
 
@@ -181,17 +181,17 @@ all_counted plans (w ∷ ws) e = (ap (λ ns. get_or ns 0 0) e, all_counted plans
 -- The group in hand of a state, once it has got its runs
 
 abbrev group_of : State → List Writer
-group_of r = take r.in_hand (drop r.in_second r.waiting.items)
+group_of r = take r.in_hand (drop r.in_second r.linked.items)
 
 -- what stands in the line for it, and what it came to
-pub record HandGot (r : State) (s : core.State) (waiting group : List Writer) (es : List CoreEntry) (last : ℕ) : Type 0 where
+pub record HandGot (r : State) (s : core.State) (linked group : List Writer) (es : List CoreEntry) (last : ℕ) : Type 0 where
   pub runs : map (shown_writer r.plans.items) group ≡ core.with_runs s.assigned (hand_of r)
   pub listed : map (shown_entry r.plans.items) es ≡ s.entries ++ core.entries_of s (map (shown_writer r.plans.items) group)
   pub reached : last ≡ core.last_entry s.assigned (core.entries_of s (map (shown_writer r.plans.items) group))
-  pub shown : take r.in_hand (drop r.in_second (map (shown_writer r.plans.items) waiting)) ≡ map (shown_writer r.plans.items) group
-  pub writers : AreWriters r.plans.items waiting r.items.items
+  pub shown : take r.in_hand (drop r.in_second (map (shown_writer r.plans.items) linked)) ≡ map (shown_writer r.plans.items) group
+  pub writers : AreWriters r.plans.items linked r.items.items
   pub line : (t : core.State) (log2 : LogPhase) → t.second ≡ s.second → t.queue ≡ s.queue → t.log ≡ shown_log log2 (map (shown_writer r.plans.items) group) → has_group log2 ≡ true
-      → IsLine (map (shown_writer r.plans.items) waiting) r.second.items r.in_second r.in_hand log2 t
+      → IsLine (map (shown_writer r.plans.items) linked) r.second.items r.in_second r.in_hand log2 t
 
 abbrev pub Gives : State → core.State → List Writer → List CoreEntry → ℕ → List Writer → Type 0
 Gives r s group es last old = AllByRecursion (IsCounted r.plans.items) old → s.entries ≡ map (shown_entry r.plans.items) r.entries.items → vec_len r.entries + length old ≤ vec_capacity r.entries
@@ -222,38 +222,38 @@ built_has_group Marked e = cc
 built_has_group (Handed d) e = cc
 
 group_len : (r : State) → length (group_of r) ≡ r.in_hand
-group_len r = length-take-le r.in_hand (drop r.in_second r.waiting.items) (omega (arith, length-drop r.in_second r.waiting.items, r.groups_wait, r.waiting.ok.0))
+group_len r = length-take-le r.in_hand (drop r.in_second r.linked.items) (omega (arith, length-drop r.in_second r.linked.items, r.groups_wait, r.linked.ok.0))
 
-pub size_of_group : (r : State) (all : List Writer) (n : ℕ) → all ≡ r.waiting.items → n ≡ r.in_hand → length (take n (drop r.in_second all)) ≡ r.in_hand
+pub size_of_group : (r : State) (all : List Writer) (n : ℕ) → all ≡ r.linked.items → n ≡ r.in_hand → length (take n (drop r.in_second all)) ≡ r.in_hand
 size_of_group r all n e k = ap (λ j. length (take j (drop r.in_second all))) k ∙ ap (λ xs. length (take r.in_hand (drop r.in_second xs))) e ∙ group_len r
 
 hand_got_at : (o : core.Options) (r : State) (s : core.State) → Mirrors o r s → is_built r.log ≡ true → (group : List Writer) (es : List CoreEntry) (last : ℕ)
-    → map unanswered group ≡ map unanswered (group_of r) → Gives r s group es last (group_of r) → HandGot r s (with_group_at r.in_second r.in_hand group r.waiting.items) group es last
+    → map unanswered group ≡ map unanswered (group_of r) → Gives r s group es last (group_of r) → HandGot r s (with_group_at r.in_second r.in_hand group r.linked.items) group es last
 hand_got_at o r s m built group es last same gives =
     let plans : List ClientPlan = r.plans.items in
     let f : Writer → core.Writer = shown_writer plans in
-    let within : r.in_second ≤ length r.waiting.items = omega (arith, r.groups_wait, r.waiting.ok.0) in
+    let within : r.in_second ≤ length r.linked.items = omega (arith, r.groups_wait, r.linked.ok.0) in
     let size : length group ≡ r.in_hand = sym (length-map group unanswered) ∙ ap length same ∙ length-map (group_of r) unanswered ∙ group_len r in
     let counted : AllByRecursion (IsCounted plans) (group_of r) =
-    known_take (IsCounted plans) r.in_hand (drop r.in_second r.waiting.items) (known_drop (IsCounted plans) r.in_second r.waiting.items (all_counted plans r.waiting.items m.writers.counts_are)) in
+    known_take (IsCounted plans) r.in_hand (drop r.in_second r.linked.items) (known_drop (IsCounted plans) r.in_second r.linked.items (all_counted plans r.linked.items m.writers.counts_are)) in
     let room : vec_len r.entries + length (group_of r) ≤ vec_capacity r.entries =
     omega (arith, m.room.entries, built_unanswered r.log r.in_hand built, group_len r, r.groups_wait) in
     let got : GotRuns plans s s.entries r.assigned (group_of r) group es last = gives counted m.entries room in
-    let hand : map f (group_of r) ≡ hand_of r = sym (take-map f r.in_hand (drop r.in_second r.waiting.items)) ∙ ap (take r.in_hand) (sym (drop-map f r.in_second r.waiting.items)) in
+    let hand : map f (group_of r) ≡ hand_of r = sym (take-map f r.in_hand (drop r.in_second r.linked.items)) ∙ ap (take r.in_hand) (sym (drop-map f r.in_second r.linked.items)) in
     record {
       runs = got.runs ∙ ap (λ n. core.with_runs n (map f (group_of r))) (sym m.assigned) ∙ ap (core.with_runs s.assigned) hand;
       listed = got.listed;
       reached = got.reached ∙ ap (λ n. core.last_entry n (core.entries_of s (map f group))) (sym m.assigned);
-      shown = hand_shown plans r.in_second r.in_hand group r.waiting.items within size;
-      writers = writers_alike plans r.waiting.items (with_group_at r.in_second r.in_hand group r.waiting.items) r.items.items (unanswered_at r.in_second r.in_hand group r.waiting.items same) m.writers;
-      line = λ t log2 seconds queues log some. line_at plans s t r.second.items r.in_second r.in_hand r.log log2 r.waiting.items group m.line within size seconds queues log some;
+      shown = hand_shown plans r.in_second r.in_hand group r.linked.items within size;
+      writers = writers_alike plans r.linked.items (with_group_at r.in_second r.in_hand group r.linked.items) r.items.items (unanswered_at r.in_second r.in_hand group r.linked.items same) m.writers;
+      line = λ t log2 seconds queues log some. line_at plans s t r.second.items r.in_second r.in_hand r.log log2 r.linked.items group m.line within size seconds queues log some;
     }
 
-hand_got_in : (o : core.Options) (r : State) (s : core.State) → Mirrors o r s → is_built r.log ≡ true → (all : List Writer) (n : ℕ) (group : List Writer) (es : List CoreEntry) (last : ℕ) → all ≡ r.waiting.items → n ≡ r.in_hand
+hand_got_in : (o : core.Options) (r : State) (s : core.State) → Mirrors o r s → is_built r.log ≡ true → (all : List Writer) (n : ℕ) (group : List Writer) (es : List CoreEntry) (last : ℕ) → all ≡ r.linked.items → n ≡ r.in_hand
     → map unanswered group ≡ map unanswered (take n (drop r.in_second all)) → Gives r s group es last (take n (drop r.in_second all)) → HandGot r s (take r.in_second all ++ (group ++ drop n (drop r.in_second all))) group es last
 hand_got_in o r s m built all n group es last e k =
     let P : List Writer → Type 0 = λ xs. map unanswered group ≡ map unanswered (take n (drop r.in_second xs)) → Gives r s group es last (take n (drop r.in_second xs)) → HandGot r s (with_group_at r.in_second n group xs) group es last in
-    let Q : ℕ → Type 0 = λ j. map unanswered group ≡ map unanswered (take j (drop r.in_second r.waiting.items)) → Gives r s group es last (take j (drop r.in_second r.waiting.items)) → HandGot r s (with_group_at r.in_second j group r.waiting.items) group es last in
+    let Q : ℕ → Type 0 = λ j. map unanswered group ≡ map unanswered (take j (drop r.in_second r.linked.items)) → Gives r s group es last (take j (drop r.in_second r.linked.items)) → HandGot r s (with_group_at r.in_second j group r.linked.items) group es last in
     subst P (sym e) (subst Q (sym k) (hand_got_at o r s m built group es last))
 
 drop_none : {A : Type 0} (n : ℕ) (xs : List A) → length xs ≡ n → drop n xs ≡ []
@@ -267,15 +267,15 @@ written_over n xs ys e k =
     let over : xs ≡ xs ++ drop (length xs) ys = append_none xs ∙ ap (λ zs. xs ++ zs) (sym (drop_none (length xs) ys (k ∙ sym e))) in
     sym (take-length xs) ∙ ap (λ j. take j xs) e ∙ ap (take n) over
 
-pub hand_got : (o : core.Options) (r : State) (s : core.State) → Mirrors o r s → is_built r.log ≡ true → (all : List Writer) (n : ℕ) (group : List Writer) (es : List CoreEntry) (last : ℕ) → all ≡ r.waiting.items → n ≡ r.in_hand
+pub hand_got : (o : core.Options) (r : State) (s : core.State) → Mirrors o r s → is_built r.log ≡ true → (all : List Writer) (n : ℕ) (group : List Writer) (es : List CoreEntry) (last : ℕ) → all ≡ r.linked.items → n ≡ r.in_hand
     → map unanswered group ≡ map unanswered (take n (drop r.in_second all)) → Gives r s group es last (take n (drop r.in_second all))
-    → HandGot r s (take (vec_len r.waiting) ((take r.in_second all ++ (group ++ drop n (drop r.in_second all))) ++ drop (length (take r.in_second all ++ (group ++ drop n (drop r.in_second all)))) r.waiting.items)) group es last
+    → HandGot r s (take (vec_len r.linked) ((take r.in_second all ++ (group ++ drop n (drop r.in_second all))) ++ drop (length (take r.in_second all ++ (group ++ drop n (drop r.in_second all)))) r.linked.items)) group es last
 hand_got o r s m built all n group es last e k same gives =
     let line : List Writer = take r.in_second all ++ (group ++ drop n (drop r.in_second all)) in
     let P : List Writer → Type 0 = λ xs. HandGot r s xs group es last in
     let long : length line ≡ length all = sym (length-map line unanswered) ∙ ap length (unanswered_at r.in_second n group all same) ∙ length-map all unanswered in
-    let full : length r.waiting.items ≡ vec_len r.waiting = sym r.waiting.ok.0 in
-    subst P (written_over (vec_len r.waiting) line r.waiting.items (long ∙ ap length e ∙ full) full) (hand_got_in o r s m built all n group es last e k same gives)
+    let full : length r.linked.items ≡ vec_len r.linked = sym r.linked.ok.0 in
+    subst P (written_over (vec_len r.linked) line r.linked.items (long ∙ ap length e ∙ full) full) (hand_got_in o r s m built all n group es last e k same gives)
 
 -- The state after the event
 

@@ -1,6 +1,6 @@
 -- Writers that leave, by their clients' numbers.
-use Rattle.std.proofs.Common.{◌≡◌, ◌≢◌, ℕ, zero, suc, ◌+◌, ◌-◌, ◌<◌, ◌≤◌, Bool, true, false, ◌==◌, List, [], ◌∷◌, ◌++◌, length, take, drop, map, get_or, slice_set, Option, Some, None, refl, sym, ap, ◌∙◌, subst, arith, append_assoc}
-use Rattle.std.specs.Prelude.{if◌then◌else◌, find, option_map}
+use Rattle.std.proofs.Common.{◌≡◌, ◌≢◌, ℕ, zero, suc, ◌+◌, ◌<◌, Bool, true, false, ◌==◌, List, [], ◌∷◌, ◌++◌, length, take, drop, map, get_or, slice_set, Option, Some, None, refl, sym, ap, ◌∙◌, subst, arith, append_assoc}
+use Rattle.std.specs.Prelude.{if◌then◌else◌, option_map}
 use Rattle.std.specs.List.{AllByRecursion}
 use Rattle.std.specs.Option.{option_or}
 use Rattle.std.proofs.lemmas.List.{get_or-set_same, get_or-set_other, take-append-le, length-take-le, drop-drop, map-append, take_more}
@@ -8,9 +8,9 @@ use Rattle.std.proofs.lemmas.List.Folds.{find-append}
 use Rattle.std.proofs.lemmas.Bool.Decides.{nat_tests}
 use Rattle.std.proofs.Math.Seq.{drop-append-add}
 use Rattle.wp_model.specs.declared.write.Refusal.{Refusal}
-use Rattle.wp_model.specs.Calls.{Reply, refused}
+use Rattle.wp_model.specs.Calls.{refused}
 use Rattle.core_model.specs.Core as core
-use Rattle.write_core.specs.declared.plan.ClientPlan.{ClientPlan}
+use Rattle.core_plans.specs.declared.plan.ClientPlan.{ClientPlan}
 use Rattle.write_core.specs.declared.writer.Answer.TheVariants.{Refused}
 use Rattle.write_core.specs.declared.writer.Writer.{Writer}
 use Rattle.write_core.specs.Shown.{shown_writer}
@@ -32,10 +32,10 @@ done_set done place client (suc c) x h e = by_test (suc c == client) refl
         get_or-set_other done place c x None other
 
 -- one more has left
-pub done_more : (plans : List ClientPlan) (old new : List (Option Writer)) (gone : List core.Writer) (w : Writer) → AreDone plans old gone
-    → ((c : ℕ) → done_of new c ≡ option_or (done_of old c) (if w.client == c then Some w else None)) → AreDone plans new (gone ++ shown_writer plans w ∷ [])
-done_more plans old new gone w are set = λ c.
-    find-append (λ (v : core.Writer). v.client == c) gone (shown_writer plans w ∷ [])
+pub done_more : (plans : List ClientPlan) (old new : List (Option Writer)) (leaving : List core.Writer) (w : Writer) → AreDone plans old leaving
+    → ((c : ℕ) → done_of new c ≡ option_or (done_of old c) (if w.client == c then Some w else None)) → AreDone plans new (leaving ++ shown_writer plans w ∷ [])
+done_more plans old new leaving w are set = λ c.
+    find-append (λ (v : core.Writer). v.client == c) leaving (shown_writer plans w ∷ [])
     ∙ ap (λ o. option_or o (if w.client == c then Some (shown_writer plans w) else None)) (are c)
     ∙ both (done_of old c) (w.client == c)
     ∙ ap (option_map (shown_writer plans)) (sym (set c))
@@ -93,13 +93,13 @@ note_some old w x some c = by_test (w.client == c) refl
     by_test false t = or_none (done_of old c)
 
 -- a whole group, one after another
-pub group_more : (plans : List ClientPlan) (new : List (Option Writer)) (gone : List core.Writer) (ws : List Writer) (i : ℕ) (d : Writer) → i < length ws
-    → AreDone plans new ((gone ++ map (shown_writer plans) (take i ws)) ++ shown_writer plans (get_or ws i d) ∷ []) → AreDone plans new (gone ++ map (shown_writer plans) (take (i + 1) ws))
-group_more plans new gone ws i d h are =
+pub group_more : (plans : List ClientPlan) (new : List (Option Writer)) (leaving : List core.Writer) (ws : List Writer) (i : ℕ) (d : Writer) → i < length ws
+    → AreDone plans new ((leaving ++ map (shown_writer plans) (take i ws)) ++ shown_writer plans (get_or ws i d) ∷ []) → AreDone plans new (leaving ++ map (shown_writer plans) (take (i + 1) ws))
+group_more plans new leaving ws i d h are =
     let P : List core.Writer → Type 0 = λ xs. AreDone plans new xs in
-    let e : (gone ++ map (shown_writer plans) (take i ws)) ++ shown_writer plans (get_or ws i d) ∷ [] ≡ gone ++ map (shown_writer plans) (take (i + 1) ws) =
-    append_assoc gone (map (shown_writer plans) (take i ws)) (shown_writer plans (get_or ws i d) ∷ [])
-    ∙ ap (λ xs. gone ++ xs) (sym (map-append (shown_writer plans) (take i ws) (get_or ws i d ∷ [])) ∙ ap (map (shown_writer plans)) (sym (take_more ws i d h)))
+    let e : (leaving ++ map (shown_writer plans) (take i ws)) ++ shown_writer plans (get_or ws i d) ∷ [] ≡ leaving ++ map (shown_writer plans) (take (i + 1) ws) =
+    append_assoc leaving (map (shown_writer plans) (take i ws)) (shown_writer plans (get_or ws i d) ∷ [])
+    ∙ ap (λ xs. leaving ++ xs) (sym (map-append (shown_writer plans) (take i ws) (get_or ws i d ∷ [])) ∙ ap (map (shown_writer plans)) (sym (take_more ws i d h)))
     in subst P e are
 
 pub known_at : (n : ℕ) (ws : List Writer) (i : ℕ) (d : Writer) → AllByRecursion (IsClientOf n) ws → i < length ws → IsClientOf n (get_or ws i d)
@@ -120,16 +120,16 @@ with_refusal why w = record { client = w.client; options = w.options; batch = w.
 abbrev refused_shown : Refusal → List ClientPlan → List Writer → List core.Writer
 refused_shown why plans ws = core.all_answered (refused why) (map (shown_writer plans) ws)
 
-pub refused_more : (plans : List ClientPlan) (why : Refusal) (new : List (Option Writer)) (gone : List core.Writer) (ws : List Writer) (i : ℕ) (d : Writer) → i < length ws
-    → AreDone plans new ((gone ++ core.all_answered (refused why) (map (shown_writer plans) (take i ws))) ++ shown_writer plans (with_refusal why (get_or ws i d)) ∷ [])
-    → AreDone plans new (gone ++ core.all_answered (refused why) (map (shown_writer plans) (take (i + 1) ws)))
-refused_more plans why new gone ws i d h are =
+pub refused_more : (plans : List ClientPlan) (why : Refusal) (new : List (Option Writer)) (leaving : List core.Writer) (ws : List Writer) (i : ℕ) (d : Writer) → i < length ws
+    → AreDone plans new ((leaving ++ core.all_answered (refused why) (map (shown_writer plans) (take i ws))) ++ shown_writer plans (with_refusal why (get_or ws i d)) ∷ [])
+    → AreDone plans new (leaving ++ core.all_answered (refused why) (map (shown_writer plans) (take (i + 1) ws)))
+refused_more plans why new leaving ws i d h are =
     let P : List core.Writer → Type 0 = λ xs. AreDone plans new xs in
     let one : core.Writer = shown_writer plans (with_refusal why (get_or ws i d)) in
     let more : refused_shown why plans (take (i + 1) ws) ≡ refused_shown why plans (take i ws) ++ one ∷ [] =
     ap (refused_shown why plans) (take_more ws i d h)
     ∙ ap (core.all_answered (refused why)) (map-append (shown_writer plans) (take i ws) (get_or ws i d ∷ []))
     ∙ map-append (λ (w : core.Writer). record w { answer = Some (refused why) }) (map (shown_writer plans) (take i ws)) (shown_writer plans (get_or ws i d) ∷ []) in
-    let e : (gone ++ refused_shown why plans (take i ws)) ++ one ∷ [] ≡ gone ++ refused_shown why plans (take (i + 1) ws) =
-    append_assoc gone (refused_shown why plans (take i ws)) (one ∷ []) ∙ ap (λ xs. gone ++ xs) (sym more)
+    let e : (leaving ++ refused_shown why plans (take i ws)) ++ one ∷ [] ≡ leaving ++ refused_shown why plans (take (i + 1) ws) =
+    append_assoc leaving (refused_shown why plans (take i ws)) (one ∷ []) ∙ ap (λ xs. leaving ++ xs) (sym more)
     in subst P e are

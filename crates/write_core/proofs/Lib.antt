@@ -1,4 +1,3 @@
-pub mod AheadLemmas
 pub mod ClientLemmas
 pub mod Events
 pub mod HandRuns
@@ -6,7 +5,6 @@ pub mod LeavingLemmas
 pub mod Line
 pub mod LinkEvents
 pub mod LogEvents
-pub mod MapLemmas
 pub mod MarkLemmas
 pub mod OpeningLemmas
 pub mod ReadEvents
@@ -14,5 +12,7 @@ pub mod Removing
 pub mod ReplayLemmas
 pub mod ReplyLemmas
 pub mod RunLemmas
+pub mod ShowsLemmas
 pub mod SmallLemmas
 pub mod TableEvents
+pub mod WithinLemmas

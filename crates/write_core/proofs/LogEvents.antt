@@ -1,7 +1,6 @@
 -- The events of the log, as the code tests for them.
-use Rattle.std.proofs.Common.{◌≡◌, ℕ, zero, suc, ◌+◌, ◌<◌, ◌≤◌, Bool, true, false, ◌&&◌, nat_lt, List, [], ◌∷◌, ◌++◌, length, take, drop, map, get_or, Option, Some, None, refl, sym, ap, ◌∙◌, subst, arith}
+use Rattle.std.proofs.Common.{◌≡◌, ℕ, zero, suc, ◌+◌, ◌<◌, Bool, true, false, ◌&&◌, nat_lt, List, [], ◌∷◌, ◌++◌, length, take, drop, map, get_or, None, refl, sym, ap, ◌∙◌, arith, ◌==◌}
 use Rattle.std.proofs.lemmas.Bool.Decides.{nat_tests}
-use Rattle.std.proofs.Common.{◌==◌}
 use Rattle.wp_model.specs.declared.write.Refusal.{Refusal}
 use Rattle.wp_model.specs.declared.write.Refusal.TheVariants as no
 use Rattle.wp_model.specs.Calls.{refused}
@@ -10,16 +9,16 @@ use Rattle.core_model.specs.Step as event
 use Rattle.write_core.specs.declared.phases.LogPhase.{LogPhase}
 use Rattle.write_core.specs.declared.phases.LogPhase.TheVariants.{Free, Led, Built, InLog, Marked, Handed}
 use Rattle.write_core.specs.declared.state.State.{State}
-use Rattle.write_core.specs.declared.plan.ClientPlan.{ClientPlan}
+use Rattle.core_plans.specs.declared.plan.ClientPlan.{ClientPlan}
 use Rattle.write_core.specs.declared.writer.Writer.{Writer}
 use Rattle.write_core.specs.Leads.{leads_at, leads_front}
 use Rattle.write_core.specs.Phases.{has_group, is_free, is_led_by, is_built, is_in_log, is_marked, is_handed_by}
 use Rattle.write_core.specs.Shown.{shown_writer, shown_log}
-use Rattle.write_core.specs.Mirrors.{Mirrors, Stepped, answered}
+use Rattle.write_core.specs.Mirrors.{Mirrors, answered}
 
 -- the writers of a state as the machine has them
 abbrev pub line_of : State → List core.Writer
-line_of r = map (shown_writer r.plans.items) r.waiting.items
+line_of r = map (shown_writer r.plans.items) r.linked.items
 
 abbrev pub hand_of : State → List core.Writer
 hand_of r = take r.in_hand (drop r.in_second (line_of r))
@@ -64,11 +63,11 @@ elect_by_phase s c Marked ws = refl
 elect_by_phase s c (Handed d) ws = refl
 
 pub elect_is : (o : core.Options) (r : State) (s : core.State) (c : ℕ) → Mirrors o r s
-    → event.elect s c s.log ≡ event.when (is_free r.log && leads_at c (r.in_second + r.in_hand) r.waiting.items) (record s { log = core.led c })
+    → event.elect s c s.log ≡ event.when (is_free r.log && leads_at c (r.in_second + r.in_hand) r.linked.items) (record s { log = core.led c })
 elect_is o r s c m =
     ap (event.elect s c) m.line.hand ∙ elect_by_phase s c r.log (hand_of r)
     ∙ ap (λ q. event.when (is_free r.log && core.leads c q) (record s { log = core.led c })) m.line.queue
-    ∙ ap (λ b. event.when (is_free r.log && b) (record s { log = core.led c })) (leads_drop r.plans.items c (r.in_second + r.in_hand) r.waiting.items)
+    ∙ ap (λ b. event.when (is_free r.log && b) (record s { log = core.led c })) (leads_drop r.plans.items c (r.in_second + r.in_hand) r.linked.items)
 
 build_by_phase : (o : core.Options) (s : core.State) (c : ℕ) (log : LogPhase) (ws : List core.Writer) → event.build o s c (shown_log log ws)
     ≡ event.when (is_led_by c log) (record s { log = core.built (take (event.group_size o s) s.queue); queue = drop (event.group_size o s) s.queue })
@@ -93,10 +92,10 @@ boundary_by_phase o s c Marked ws = refl
 boundary_by_phase o s c (Handed d) ws = refl
 
 pub boundary_is : (o : core.Options) (r : State) (s : core.State) (c : ℕ) → Mirrors o r s → event.boundary o s c s.log
-    ≡ event.when (is_in_log r.log && (o.pipelined && leads_front c r.in_second r.in_hand r.waiting.items)) (record s { log = core.marked (hand_of r) })
+    ≡ event.when (is_in_log r.log && (o.pipelined && leads_front c r.in_second r.in_hand r.linked.items)) (record s { log = core.marked (hand_of r) })
 boundary_is o r s c m =
     ap (event.boundary o s c) m.line.hand ∙ boundary_by_phase o s c r.log (hand_of r)
-    ∙ ap (λ b. event.when (is_in_log r.log && (o.pipelined && b)) (record s { log = core.marked (hand_of r) })) (leads_line r.plans.items c r.in_second r.in_hand r.waiting.items)
+    ∙ ap (λ b. event.when (is_in_log r.log && (o.pipelined && b)) (record s { log = core.marked (hand_of r) })) (leads_line r.plans.items c r.in_second r.in_hand r.linked.items)
 
 second_by_phase : (s : core.State) (c : ℕ) (log : LogPhase) (ws : List core.Writer) → event.to_second s c (shown_log log ws)
     ≡ event.when (is_marked log && core.leads c ws) (record s { log = core.handed c; second = s.second ++ ws ∷ [] })
@@ -108,10 +107,10 @@ second_by_phase s c Marked ws = refl
 second_by_phase s c (Handed d) ws = refl
 
 pub second_is : (o : core.Options) (r : State) (s : core.State) (c : ℕ) → Mirrors o r s → event.to_second s c s.log
-    ≡ event.when (is_marked r.log && leads_front c r.in_second r.in_hand r.waiting.items) (record s { log = core.handed c; second = s.second ++ hand_of r ∷ [] })
+    ≡ event.when (is_marked r.log && leads_front c r.in_second r.in_hand r.linked.items) (record s { log = core.handed c; second = s.second ++ hand_of r ∷ [] })
 second_is o r s c m =
     ap (event.to_second s c) m.line.hand ∙ second_by_phase s c r.log (hand_of r)
-    ∙ ap (λ b. event.when (is_marked r.log && b) (record s { log = core.handed c; second = s.second ++ hand_of r ∷ [] })) (leads_line r.plans.items c r.in_second r.in_hand r.waiting.items)
+    ∙ ap (λ b. event.when (is_marked r.log && b) (record s { log = core.handed c; second = s.second ++ hand_of r ∷ [] })) (leads_line r.plans.items c r.in_second r.in_hand r.linked.items)
 
 -- What a phase says of the group in hand
 
@@ -168,7 +167,7 @@ leads_some c start zero ws e = cc
 leads_some c start (suc n) ws e = omega arith
 
 fault_by_phase : (s : core.State) (c : ℕ) (log : LogPhase) (ws : List core.Writer) → event.fault s c (shown_log log ws)
-    ≡ event.when (is_built log && core.leads c ws) (record (event.leave s (core.all_answered (refused (no.LogFault 1)) ws)) { log = core.free; dead = true })
+    ≡ event.when (is_built log && core.leads c ws) (record (event.leave s (core.all_answered (refused (no.LogFault 1)) ws)) { log = core.free; log_failed = true })
 fault_by_phase s c Free ws = refl
 fault_by_phase s c (Led d) ws = refl
 fault_by_phase s c Built ws = refl
@@ -177,10 +176,10 @@ fault_by_phase s c Marked ws = refl
 fault_by_phase s c (Handed d) ws = refl
 
 pub fault_is : (o : core.Options) (r : State) (s : core.State) (c : ℕ) → Mirrors o r s → event.fault s c s.log
-    ≡ event.when (is_built r.log && leads_front c r.in_second r.in_hand r.waiting.items) (record (event.leave s (core.all_answered (refused (no.LogFault 1)) (hand_of r))) { log = core.free; dead = true })
+    ≡ event.when (is_built r.log && leads_front c r.in_second r.in_hand r.linked.items) (record (event.leave s (core.all_answered (refused (no.LogFault 1)) (hand_of r))) { log = core.free; log_failed = true })
 fault_is o r s c m =
     ap (event.fault s c) m.line.hand ∙ fault_by_phase s c r.log (hand_of r)
-    ∙ ap (λ b. event.when (is_built r.log && b) (record (event.leave s (core.all_answered (refused (no.LogFault 1)) (hand_of r))) { log = core.free; dead = true })) (leads_line r.plans.items c r.in_second r.in_hand r.waiting.items)
+    ∙ ap (λ b. event.when (is_built r.log && b) (record (event.leave s (core.all_answered (refused (no.LogFault 1)) (hand_of r))) { log = core.free; log_failed = true })) (leads_line r.plans.items c r.in_second r.in_hand r.linked.items)
 
 refuse_by_phase : (s : core.State) (c : ℕ) (why : Refusal) (log : LogPhase) (ws : List core.Writer) → event.refuse s c why (shown_log log ws)
     ≡ event.when ((is_built log && core.leads c ws) && event.is_no_slowdown ws) (record (event.leave s (core.all_answered (refused why) ws)) { log = core.free })
@@ -192,10 +191,10 @@ refuse_by_phase s c why Marked ws = refl
 refuse_by_phase s c why (Handed d) ws = refl
 
 pub refuse_is : (o : core.Options) (r : State) (s : core.State) (c : ℕ) (why : Refusal) → Mirrors o r s → event.refuse s c why s.log
-    ≡ event.when ((is_built r.log && leads_front c r.in_second r.in_hand r.waiting.items) && event.is_no_slowdown (hand_of r)) (record (event.leave s (core.all_answered (refused why) (hand_of r))) { log = core.free })
+    ≡ event.when ((is_built r.log && leads_front c r.in_second r.in_hand r.linked.items) && event.is_no_slowdown (hand_of r)) (record (event.leave s (core.all_answered (refused why) (hand_of r))) { log = core.free })
 refuse_is o r s c why m =
     ap (event.refuse s c why) m.line.hand ∙ refuse_by_phase s c why r.log (hand_of r)
-    ∙ ap (λ b. event.when ((is_built r.log && b) && event.is_no_slowdown (hand_of r)) (record (event.leave s (core.all_answered (refused why) (hand_of r))) { log = core.free })) (leads_line r.plans.items c r.in_second r.in_hand r.waiting.items)
+    ∙ ap (λ b. event.when ((is_built r.log && b) && event.is_no_slowdown (hand_of r)) (record (event.leave s (core.all_answered (refused why) (hand_of r))) { log = core.free })) (leads_line r.plans.items c r.in_second r.in_hand r.linked.items)
 
 -- The leader of the group in hand
 

@@ -5,14 +5,18 @@ use Rattle.std.specs.Prelude.{option_map}
 use Rattle.std.proofs.lemmas.List.{length-map, take_more}
 use Rattle.std.proofs.lemmas.List.Sums.{sum_by-cons}
 use Rattle.core_model.specs.Core as core
-use Rattle.write_core.specs.declared.plan.ClientPlan.{ClientPlan}
+use Rattle.core_plans.specs.declared.plan.ClientPlan.{ClientPlan}
 use Rattle.write_core.specs.declared.writer.CoreReply.{CoreReply}
 use Rattle.write_core.specs.declared.writer.Writer.{Writer}
 use Rattle.write_core.specs.declared.state.Seat.{Seat}
 use Rattle.write_core.specs.Fresh.{IsFresh}
-use Rattle.write_core.specs.Shown.{command_of, commands_of, plans_of, records_in, shown_writer}
-use Rattle.write_core.specs.Small.{IsSmallPlan}
-use Rattle.write_core.specs.Mirrors.{IsClient, AreClients, AreReplies, AreDone, answers_of, done_of, lines_left}
+use Rattle.core_plans.specs.Plans.{commands_of, plans_of, records_in}
+use Rattle.write_core.specs.Shown.{shown_writer}
+use Rattle.client_calls.specs.Commands.{command_of}
+use Rattle.core_plans.specs.Small.{IsSmallPlan}
+use Rattle.write_core.specs.Mirrors.{IsClient, AreClients, AreDone, done_of, lines_left}
+use Rattle.core_plans.specs.Answers.{answers_of}
+use Rattle.write_core.specs.Replies.{AreReplies}
 
 -- Two lists, place by place
 

@@ -1,23 +1,26 @@
 -- Which lines are reads, and what they are answered.
-use Rattle.std.proofs.Common.{◌≡◌, ℕ, zero, suc, ◌+◌, ◌-◌, ◌<◌, ◌≤◌, Bool, true, false, List, [], ◌∷◌, length, drop, slice_get, slice_set, Option, Some, None, refl, sym, ap, ◌∙◌, subst, arith}
+use Rattle.std.proofs.Common.{◌≡◌, ℕ, zero, suc, ◌+◌, ◌-◌, ◌<◌, ◌≤◌, true, false, List, [], ◌∷◌, length, slice_get, slice_set, Option, Some, None, refl, sym, ap, ◌∙◌, subst, arith}
 use Rattle.std.proofs.lemmas.List.{length-drop, length-map}
 use Rattle.std.specs.Prelude.{option_map}
 use Rattle.std.specs.Option.{option_map_or}
 use Rattle.wp_model.specs.Calls.{Command, Reply}
 use Rattle.core_model.specs.Core as core
 use Rattle.core_model.specs.Step as event
-use Rattle.write_core.specs.declared.plan.PlanLine.{PlanLine}
-use Rattle.write_core.specs.declared.plan.PlanLine.TheVariants.{Put, Delete, SingleDelete, Note, Clear, Commit, Get, Many, Scan}
+use Rattle.client_calls.specs.declared.command.Command.{Command as Line}
+use Rattle.client_calls.specs.declared.command.Command.TheVariants.{Put, Delete, SingleDelete, Note, Clear, Commit, Get, Many, Scan, Stop, Unstop, Slow, Unslow}
 use Rattle.write_core.specs.declared.writer.CoreReply.TheVariants.{ReadAt}
-use Rattle.write_core.specs.Shown.{command_of, commands_of}
-use Rattle.write_core.specs.declared.plan.ClientPlan.{ClientPlan}
+use Rattle.core_plans.specs.Plans.{commands_of}
+use Rattle.client_calls.specs.Commands.{command_of}
+use Rattle.core_plans.specs.declared.plan.ClientPlan.{ClientPlan}
 use Rattle.write_core.specs.declared.state.Seat.{Seat}
-use Rattle.write_core.specs.declared.batch.Ahead.{Ahead}
+use Rattle.core_plans.specs.declared.ahead.Ahead.{Ahead}
 use Rattle.write_core.proofs.ClientLemmas.{lines_fewer}
-use Rattle.write_core.specs.Mirrors.{IsReply, is_answer, IsClient, lines_left}
-use Rattle.write_core.specs.Ahead.{is_read_line, IsAhead}
+use Rattle.write_core.specs.Mirrors.{IsClient, lines_left}
+use Rattle.core_plans.specs.Answers.{is_answer}
+use Rattle.write_core.specs.Replies.{IsReply}
+use Rattle.core_plans.specs.Ahead.{is_read_line, IsAhead}
 
-pub not_read : (s : core.State) (c : ℕ) (client : core.Client) (o : Option PlanLine) → option_map_or is_read_line o false ≡ false → event.read_call s c client (option_map command_of o) ≡ None
+pub not_read : (s : core.State) (c : ℕ) (client : core.Client) (o : Option Line) → option_map_or is_read_line o false ≡ false → event.read_call s c client (option_map command_of o) ≡ None
 not_read s c client None e = refl
 not_read s c client (Some (Put key v)) e = refl
 not_read s c client (Some (Delete key)) e = refl
@@ -28,9 +31,13 @@ not_read s c client (Some (Commit options)) e = refl
 not_read s c client (Some (Get key)) e = cc
 not_read s c client (Some (Many keys)) e = cc
 not_read s c client (Some (Scan lo hi)) e = cc
+not_read s c client (Some Stop) e = refl
+not_read s c client (Some Unstop) e = refl
+not_read s c client (Some (Slow rate)) e = refl
+not_read s c client (Some Unslow) e = refl
 
 -- a read and its answer
-pub record IsRead (s : core.State) (o : Option PlanLine) : Type 0 where
+pub record IsRead (s : core.State) (o : Option Line) : Type 0 where
   pub command : Command
   pub reply : Reply
   pub line : option_map command_of o ≡ Some command
@@ -38,7 +45,7 @@ pub record IsRead (s : core.State) (o : Option PlanLine) : Type 0 where
   pub loud : is_answer reply ≡ Some reply
   pub at : IsReply (ReadAt s.last) reply
 
-pub read_is : (s : core.State) (o : Option PlanLine) → option_map_or is_read_line o false ≡ true → IsRead s o
+pub read_is : (s : core.State) (o : Option Line) → option_map_or is_read_line o false ≡ true → IsRead s o
 read_is s None e = cc
 read_is s (Some (Put key v)) e = cc
 read_is s (Some (Delete key)) e = cc
@@ -49,8 +56,12 @@ read_is s (Some (Commit options)) e = cc
 read_is s (Some (Get key)) e = record { command = command_of (Get key); reply = _; line = refl; answered = refl; loud = refl; at = refl }
 read_is s (Some (Many keys)) e = record { command = command_of (Many keys); reply = _; line = refl; answered = refl; loud = refl; at = refl }
 read_is s (Some (Scan lo hi)) e = record { command = command_of (Scan lo hi); reply = _; line = refl; answered = refl; loud = refl; at = refl }
+read_is s (Some Stop) e = cc
+read_is s (Some Unstop) e = cc
+read_is s (Some (Slow rate)) e = cc
+read_is s (Some Unslow) e = cc
 
-pub line_within : (lines : List PlanLine) (i : ℕ) (command : Command) → option_map command_of (slice_get lines i) ≡ Some command → i < length lines
+pub line_within : (lines : List Line) (i : ℕ) (command : Command) → option_map command_of (slice_get lines i) ≡ Some command → i < length lines
 line_within [] i command e = cc
 line_within (x ∷ lines) zero command e = omega arith
 line_within (x ∷ lines) (suc i) command e = let h = line_within lines i command e in omega (arith, h)

@@ -1,17 +1,18 @@
 -- What is left of the line when a group leaves it.
-use Rattle.std.proofs.Common.{◌≡◌, ℕ, zero, suc, ◌+◌, ◌-◌, ◌<◌, ◌≤◌, List, [], ◌∷◌, ◌++◌, length, take, drop, map, get_or, refl, sym, ap, ◌∙◌, arith, add-zero}
+use Rattle.std.proofs.Common.{◌≡◌, ℕ, ◌+◌, ◌-◌, ◌<◌, ◌≤◌, List, [], ◌∷◌, ◌++◌, length, take, drop, map, get_or, refl, sym, ap, ◌∙◌, arith}
 use Rattle.std.specs.List.{drop-map, take-map, AllByRecursion}
-use Rattle.std.proofs.lemmas.List.{drop-drop, map-append, length-take-le, length-drop, drop-append-le, take-append-le, take-take, drop-take}
+use Rattle.std.proofs.lemmas.List.{map-append, length-take-le, length-drop, drop-append-le, take-append-le, take-take, drop-take}
 use Rattle.std.proofs.Math.Seq.{drop-append-add}
 use Rattle.wp_model.specs.declared.group.Item.{Item}
 use Rattle.wp_model.specs.Batch.{count_of}
 use Rattle.core_model.specs.Core as core
 use Rattle.write_core.specs.declared.phases.LogPhase.{LogPhase}
 use Rattle.write_core.specs.declared.phases.LogPhase.TheVariants.{Free, Led, Built, InLog, Marked, Handed}
-use Rattle.write_core.specs.declared.plan.ClientPlan.{ClientPlan}
+use Rattle.core_plans.specs.declared.plan.ClientPlan.{ClientPlan}
 use Rattle.write_core.specs.declared.writer.Writer.{Writer}
 use Rattle.write_core.specs.Leads.{first_len}
-use Rattle.write_core.specs.Shown.{shown_writer, records_of, cut, total}
+use Rattle.core_plans.specs.Plans.{records_of}
+use Rattle.write_core.specs.Shown.{shown_writer, cut, total}
 use Rattle.write_core.specs.Mirrors.{AreWriters, IsClientOf, answered}
 use Rattle.write_core.proofs.TableEvents.{known_take, known_drop}
 
@@ -26,11 +27,11 @@ known_append : (P : Writer → Type 0) (xs ys : List Writer) → AllByRecursion 
 known_append P [] ys h k = k
 known_append P (x ∷ xs) ys h k = (h.0, known_append P xs ys h.1 k)
 
-pub writers_without : (plans : List ClientPlan) (waiting : List Writer) (items : List Item) (start end : ℕ) → AreWriters plans waiting items → AreWriters plans (without start end waiting) (without start end items)
-writers_without plans waiting items start end w = record {
-  items_are = ap (without start end) w.items_are ∙ sym (map_without (λ v. core.item_of (shown_writer plans v)) start end waiting);
-  counts_are = map_without (λ (v : Writer). v.count) start end waiting ∙ ap (without start end) w.counts_are ∙ sym (map_without (λ (v : Writer). count_of (records_of plans v.client v.batch)) start end waiting);
-  known = known_append (IsClientOf (length plans)) (take start waiting) (drop end waiting) (known_take (IsClientOf (length plans)) start waiting w.known) (known_drop (IsClientOf (length plans)) end waiting w.known);
+pub writers_without : (plans : List ClientPlan) (linked : List Writer) (items : List Item) (start end : ℕ) → AreWriters plans linked items → AreWriters plans (without start end linked) (without start end items)
+writers_without plans linked items start end w = record {
+  items_are = ap (without start end) w.items_are ∙ sym (map_without (λ v. core.item_of (shown_writer plans v)) start end linked);
+  counts_are = map_without (λ (v : Writer). v.count) start end linked ∙ ap (without start end) w.counts_are ∙ sym (map_without (λ (v : Writer). count_of (records_of plans v.client v.batch)) start end linked);
+  known = known_append (IsClientOf (length plans)) (take start linked) (drop end linked) (known_take (IsClientOf (length plans)) start linked w.known) (known_drop (IsClientOf (length plans)) end linked w.known);
 }
 
 drop_of_take : {A : Type 0} (n start : ℕ) (xs : List A) → n ≤ start → drop n (take start xs) ≡ take (start - n) (drop n xs)

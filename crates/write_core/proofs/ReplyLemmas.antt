@@ -1,11 +1,14 @@
 -- What a client was told, by its number.
-use Rattle.std.proofs.Common.{◌≡◌, ℕ, zero, suc, ◌+◌, ◌<◌, List, [], ◌∷◌, length, get_or, slice_get, Option, Some, None, refl, sym, ap, ◌∙◌, subst, arith}
+use Rattle.std.proofs.Common.{◌≡◌, ◌⊎◌, inl, inr, ℕ, zero, suc, ◌+◌, ◌<◌, List, [], ◌∷◌, length, get_or, slice_get, Option, Some, None, refl, sym, ap, ◌∙◌, subst, arith}
 use Rattle.std.specs.Prelude.{MatchOption}
+use Rattle.std.proofs.lemmas.Option.{slice_get_past}
 use Rattle.core_model.specs.Core as core
-use Rattle.write_core.specs.declared.plan.ClientPlan.{ClientPlan}
+use Rattle.core_plans.specs.declared.plan.ClientPlan.{ClientPlan}
 use Rattle.write_core.specs.declared.writer.CoreReply.{CoreReply}
 use Rattle.write_core.specs.declared.state.Seat.{Seat}
-use Rattle.write_core.specs.Mirrors.{AreClients, AreReplies, answers_of}
+use Rattle.write_core.specs.Mirrors.{AreClients}
+use Rattle.core_plans.specs.Answers.{answers_of}
+use Rattle.write_core.specs.Replies.{AreReplies}
 
 found_at : {A : Type 0} (xs : List A) (i : ℕ) (x : A) → i < length xs → x ≡ get_or xs i x → slice_get xs i ≡ Some x
 found_at [] i x h e = absurd (omega arith)
@@ -34,3 +37,13 @@ replies_are plans seats s client place seat items are is within found same =
         let found_seat : slice_get seats place ≡ Some seat = found_at seats place seat (omega (arith, are.plan_each, are.seat_each)) found in
         let Q : List CoreReply → Type 0 = λ xs. AreReplies xs (answers_of c.calls) in
         subst Q (sym same) (are.each place plan.0 seat c plan.1 found_seat e).replies
+
+-- a number that no client has
+pub no_replies : (plans : List ClientPlan) (seats : List Seat) (s : core.State) (client : ℕ) → AreClients plans seats s.clients → (client ≡ 0) ⊎ (length plans < client)
+    → MatchOption (core.client_at s client) (◌≡◌ {A = List CoreReply} [] []) (λ (c : core.Client). AreReplies [] (answers_of c.calls))
+no_replies plans seats s zero are past = refl
+no_replies plans seats s (suc c) are (inl e) = absurd (omega (arith, e))
+no_replies plans seats s (suc c) are (inr h) =
+    let none : slice_get s.clients c ≡ None = slice_get_past s.clients c (omega (arith, h, are.plan_each)) in
+    let P : Option core.Client → Type 0 = λ x. MatchOption x (◌≡◌ {A = List CoreReply} [] []) (λ (c : core.Client). AreReplies [] (answers_of c.calls)) in
+    subst P (sym none) refl

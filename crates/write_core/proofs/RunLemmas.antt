@@ -1,6 +1,6 @@
 -- Runs that are given to one writer after another.
-use Rattle.std.proofs.Common.{◌≡◌, ℕ, zero, suc, ◌+◌, ◌-◌, ◌^◌, ◌<◌, ◌≤◌, Bool, true, false, ◌==◌, nat_le, cond, List, [], ◌∷◌, ◌++◌, length, take, drop, map, get_or, slice_set, Option, Some, None, refl, sym, ap, ◌∙◌, subst, arith, append_assoc}
-use Rattle.std.specs.Prelude.{if◌then◌else◌, filter, filter_map, option_map, count_by, fold}
+use Rattle.std.proofs.Common.{◌≡◌, ℕ, zero, suc, ◌+◌, ◌-◌, ◌^◌, ◌<◌, ◌≤◌, Bool, true, false, ◌==◌, nat_le, cond, List, [], ◌∷◌, ◌++◌, length, take, drop, map, get_or, slice_set, Some, refl, sym, ap, ◌∙◌, subst, arith, append_assoc}
+use Rattle.std.specs.Prelude.{if◌then◌else◌, filter, option_map, count_by, fold}
 use Rattle.std.specs.List.{AllByRecursion, take-map}
 use Rattle.std.proofs.lemmas.Bool.Decides.{nat_tests}
 use Rattle.std.proofs.lemmas.List.{map-append, drop-drop, length-map, take_more}
@@ -11,12 +11,12 @@ use Rattle.wp_model.specs.Batch.{Record, count_of}
 use Rattle.wp_model.specs.Calls.{accepted, refused}
 use Rattle.wp_model.specs.History.{Entry, max_sequence, last_of, flag_of}
 use Rattle.core_model.specs.Core as core
-use Rattle.write_core.specs.declared.plan.ClientPlan.{ClientPlan}
+use Rattle.core_plans.specs.declared.plan.ClientPlan.{ClientPlan}
 use Rattle.write_core.specs.declared.writer.Writer.{Writer}
 use Rattle.write_core.specs.declared.writer.Answer.TheVariants.{Accepted, Refused}
-use Rattle.write_core.specs.declared.writer.CoreEntry.{CoreEntry}
-use Rattle.write_core.specs.Shown.{records_of, shown_writer, shown_entry}
-use Rattle.write_core.specs.Runs.{GotRuns, IsCounted, unanswered}
+use Rattle.core_plans.specs.Plans.{records_of}
+use Rattle.write_core.specs.Shown.{CoreEntry, shown_writer, shown_entry}
+use Rattle.write_core.specs.Runs.{GotRuns, IsCounted}
 
 last_more : (last : ℕ) (xs ys : List Entry) → core.last_entry last (xs ++ ys) ≡ core.last_entry (core.last_entry last xs) ys
 last_more last [] ys = refl
@@ -114,7 +114,7 @@ abbrev pub without_run : ℕ → Writer → Writer
 without_run last w = record { client = w.client; options = w.options; batch = w.batch; count = w.count; answer = Some (Refused (no.SequenceFull last)) }
 
 abbrev pub new_entry : ℕ → ℕ → Writer → CoreEntry
-new_entry ordinal last w = record { client = w.client; ordinal = ordinal; first = last + 1; count = w.count; flag = flag_of w.options; batch = w.batch }
+new_entry ordinal last w = record { client = w.client; ordinal = ordinal; first = last + 1; last = last + w.count; flag = flag_of w.options; batch = w.batch }
 
 pub got_run : (plans : List ClientPlan) (s : core.State) (last ordinal : ℕ) (w : Writer) (entries : List CoreEntry) → IsCounted plans w → last + w.count ≤ 2 ^ 56 - 1 → ordinal ≡ core.ordinal_at s w.client
     → GotRuns plans s (map (shown_entry plans) entries) last (w ∷ []) (with_run last w ∷ []) (entries ++ new_entry ordinal last w ∷ []) (last + w.count)
@@ -122,12 +122,13 @@ got_run plans s last ordinal w entries counted fits nth =
     let records : List Record = records_of plans w.client w.batch in
     let fit : nat_le (last + count_of records) max_sequence ≡ true = grind (arith, nat_tests) in
     let v : core.Writer = shown_writer plans w in
+    let long : last + w.count + 1 - (last + 1) ≡ count_of records = omega (arith, counted) in
     record {
       runs = ap (λ n. record v { answer = Some (accepted (last + 1) (last + n) records) } ∷ []) counted
           ∙ sym (ap (λ b. if b then accepted_writer last v ∷ [] else refused_writer last v ∷ []) fit);
       listed = map-append (shown_entry plans) entries (new_entry ordinal last w ∷ [])
-          ∙ ap (λ n. map (shown_entry plans) entries ++ record { client = w.client; ordinal = n; first = last + 1; count = w.count; flag = flag_of w.options; records = records } ∷ []) nth
-          ∙ ap (λ n. map (shown_entry plans) entries ++ record { client = w.client; ordinal = core.ordinal_at s w.client; first = last + 1; count = n; flag = flag_of w.options; records = records } ∷ []) counted;
+          ∙ ap (λ n. map (shown_entry plans) entries ++ record { client = w.client; ordinal = n; first = last + 1; count = last + w.count + 1 - (last + 1); flag = flag_of w.options; records = records } ∷ []) nth
+          ∙ ap (λ n. map (shown_entry plans) entries ++ record { client = w.client; ordinal = core.ordinal_at s w.client; first = last + 1; count = n; flag = flag_of w.options; records = records } ∷ []) long;
       reached = ap (λ n. last + n) counted ∙ sym (run_end last (count_of records));
     }
 

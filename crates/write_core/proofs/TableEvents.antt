@@ -1,5 +1,5 @@
 -- The events of the table, as the code tests for them.
-use Rattle.std.proofs.Common.{◌≡◌, ℕ, zero, suc, ◌+◌, ◌<◌, ◌≤◌, Bool, true, false, not, ◌&&◌, ◌||◌, ◌==◌, List, [], ◌∷◌, ◌++◌, length, take, drop, map, fold, Option, Some, None, refl, sym, ap, ◌∙◌, subst, arith}
+use Rattle.std.proofs.Common.{◌≡◌, ℕ, zero, suc, ◌<◌, ◌≤◌, Bool, true, false, not, ◌&&◌, ◌||◌, ◌==◌, List, [], ◌∷◌, length, take, drop, map, fold, Option, Some, None, refl, sym, ap, ◌∙◌, arith}
 use Rattle.std.specs.Prelude.{if◌then◌else◌, filter, is_some}
 use Rattle.std.specs.List.{drop-map, take-map, list_any, list_all, AllByRecursion}
 use Rattle.std.proofs.lemmas.Bool.Decides.{nat_tests}
@@ -11,16 +11,16 @@ use Rattle.write_core.specs.declared.phases.LogPhase.TheVariants.{Free, Led, Bui
 use Rattle.write_core.specs.declared.phases.TablePhase.{TablePhase}
 use Rattle.write_core.specs.declared.phases.TablePhase.TheVariants.{Still, Launched, Published}
 use Rattle.write_core.specs.declared.phases.Mark.{Mark}
-use Rattle.write_core.specs.declared.plan.ClientPlan.{ClientPlan}
+use Rattle.core_plans.specs.declared.plan.ClientPlan.{ClientPlan}
 use Rattle.write_core.specs.declared.writer.Answer.{Answer}
 use Rattle.write_core.specs.declared.writer.Answer.TheVariants.{Accepted, Refused}
 use Rattle.write_core.specs.declared.writer.Writer.{Writer}
 use Rattle.write_core.specs.declared.state.State.{State}
-use Rattle.write_core.specs.Phases.{is_in_log, is_still, is_launched, is_published, is_inserted, is_finished}
-use Rattle.write_core.specs.Leads.{leads_front, table_start, table_len, table_part, first_len, has_run, last_after, finished_last}
+use Rattle.write_core.specs.Phases.{is_in_log, is_still, is_launched, is_published, is_finished}
+use Rattle.write_core.specs.Leads.{leads_front, table_start, table_len, table_part, first_len, has_run, last_after}
 use Rattle.write_core.specs.Shown.{shown_writer, shown_answer, shown_log, cut}
-use Rattle.write_core.specs.Mirrors.{Mirrors, Stepped, IsTable, IsLaunched, IsClientOf, mark_of}
-use Rattle.write_core.proofs.LogEvents.{line_of, hand_of, leads_line}
+use Rattle.write_core.specs.Mirrors.{Mirrors, IsTable, IsLaunched, IsClientOf, mark_of}
+use Rattle.write_core.proofs.LogEvents.{line_of, leads_line}
 
 -- the part of a list that is the group in the table
 abbrev pub in_table : {A : Type 0} → State → List A → List A
@@ -50,19 +50,19 @@ group_is o r s m =
     ap (λ b. if b then core.first_group s.second else core.in_hand s.log) same
     ∙ group_by r.options.pipelined r s (line_of r) m.line.second_groups m.line.hand
 
-part_of_line : (r : State) → in_table r (line_of r) ≡ map (shown_writer r.plans.items) (in_table r r.waiting.items)
+part_of_line : (r : State) → in_table r (line_of r) ≡ map (shown_writer r.plans.items) (in_table r r.linked.items)
 part_of_line r =
     let start : ℕ = table_start r.options.pipelined r.in_second in
     let len : ℕ = table_len r.options.pipelined r.second.items r.log r.in_hand in
-    ap (take len) (drop-map (shown_writer r.plans.items) start r.waiting.items) ∙ take-map (shown_writer r.plans.items) len (drop start r.waiting.items)
+    ap (take len) (drop-map (shown_writer r.plans.items) start r.linked.items) ∙ take-map (shown_writer r.plans.items) len (drop start r.linked.items)
 
-pub members_are : (o : core.Options) (r : State) (s : core.State) → Mirrors o r s → core.table_group o s ≡ map (shown_writer r.plans.items) (in_table r r.waiting.items)
+pub members_are : (o : core.Options) (r : State) (s : core.State) → Mirrors o r s → core.table_group o s ≡ map (shown_writer r.plans.items) (in_table r r.linked.items)
 members_are o r s m = group_is o r s m ∙ part_of_line r
 
 pub leads_is : (o : core.Options) (r : State) (s : core.State) (c : ℕ) → Mirrors o r s → core.leads c (core.table_group o s)
-    ≡ leads_front c (table_start r.options.pipelined r.in_second) (table_len r.options.pipelined r.second.items r.log r.in_hand) r.waiting.items
+    ≡ leads_front c (table_start r.options.pipelined r.in_second) (table_len r.options.pipelined r.second.items r.log r.in_hand) r.linked.items
 leads_is o r s c m = ap (core.leads c) (group_is o r s m)
-    ∙ leads_line r.plans.items c (table_start r.options.pipelined r.in_second) (table_len r.options.pipelined r.second.items r.log r.in_hand) r.waiting.items
+    ∙ leads_line r.plans.items c (table_start r.options.pipelined r.in_second) (table_len r.options.pipelined r.second.items r.log r.in_hand) r.linked.items
 
 run_shown : (records : List Record) (a : Option Answer) → is_some (core.run_of (shown_answer records a)) ≡ has_run a
 run_shown records None = refl
@@ -99,7 +99,7 @@ launch_by o s c Published marks last e = ap (event.launch o s c) e
 launch_by o s c Launched marks last (ins, fin, e, l) = ap (event.launch o s c) e
 
 pub launch_is : (o : core.Options) (r : State) (s : core.State) (c : ℕ) → Mirrors o r s → event.launch o s c s.table
-    ≡ event.when (is_still r.table && leads_front c (table_start r.options.pipelined r.in_second) (table_len r.options.pipelined r.second.items r.log r.in_hand) r.waiting.items) (record s { table = core.launched [] [] })
+    ≡ event.when (is_still r.table && leads_front c (table_start r.options.pipelined r.in_second) (table_len r.options.pipelined r.second.items r.log r.in_hand) r.linked.items) (record s { table = core.launched [] [] })
 launch_is o r s c m = launch_by o s c r.table r.marks.items r.last_finished m.table ∙ ap (λ b. event.when (is_still r.table && b) (record s { table = core.launched [] [] })) (leads_is o r s c m)
 
 -- What stands for a launched group
@@ -163,11 +163,11 @@ known_drop P zero ws h = h
 known_drop P (suc n) [] h = tt
 known_drop P (suc n) (w ∷ ws) h = known_drop P n ws h.1
 
-pub runner_is_client : (o : core.Options) (r : State) (s : core.State) (c : ℕ) → Mirrors o r s → list_any (λ (w : Writer). w.client == c && has_run w.answer) (in_table r r.waiting.items) ≡ true → (1 ≤ c) × (c ≤ length r.plans.items)
+pub runner_is_client : (o : core.Options) (r : State) (s : core.State) (c : ℕ) → Mirrors o r s → list_any (λ (w : Writer). w.client == c && has_run w.answer) (in_table r r.linked.items) ≡ true → (1 ≤ c) × (c ≤ length r.plans.items)
 runner_is_client o r s c m e =
-    any_known (length r.plans.items) c (in_table r r.waiting.items)
-    (known_take (IsClientOf (length r.plans.items)) (table_len r.options.pipelined r.second.items r.log r.in_hand) (drop (table_start r.options.pipelined r.in_second) r.waiting.items)
-    (known_drop (IsClientOf (length r.plans.items)) (table_start r.options.pipelined r.in_second) r.waiting.items m.writers.known)) e
+    any_known (length r.plans.items) c (in_table r r.linked.items)
+    (known_take (IsClientOf (length r.plans.items)) (table_len r.options.pipelined r.second.items r.log r.in_hand) (drop (table_start r.options.pipelined r.in_second) r.linked.items)
+    (known_drop (IsClientOf (length r.plans.items)) (table_start r.options.pipelined r.in_second) r.linked.items m.writers.known)) e
 
 pub launched_table : (phase : TablePhase) (marks : List Mark) (last : Option ℕ) (ins fin : List ℕ) → is_launched phase ≡ true → IsLaunched marks last ins fin → IsTable phase marks last (core.launched ins fin)
 launched_table Launched marks last ins fin e l = (ins, fin, refl, l)
@@ -186,10 +186,10 @@ exit_by o s c Published marks last e = ap (event.exit o s c) e
 exit_by o s c Launched marks last (ins, fin, e, l) = ap (event.exit o s c) e
 
 pub exit_is : (o : core.Options) (r : State) (s : core.State) (c : ℕ) → Mirrors o r s → event.exit o s c s.table
-    ≡ event.when (is_published r.table && leads_front c (table_start r.options.pipelined r.in_second) (table_len r.options.pipelined r.second.items r.log r.in_hand) r.waiting.items) (after_exit s r.options.pipelined)
+    ≡ event.when (is_published r.table && leads_front c (table_start r.options.pipelined r.in_second) (table_len r.options.pipelined r.second.items r.log r.in_hand) r.linked.items) (after_exit s r.options.pipelined)
 exit_is o r s c m = exit_by o s c r.table r.marks.items r.last_finished m.table
     ∙ ap (λ b. event.when (is_published r.table && b) (after_exit s o.pipelined)) (leads_is o r s c m)
-    ∙ ap (λ b. event.when (is_published r.table && leads_front c (table_start r.options.pipelined r.in_second) (table_len r.options.pipelined r.second.items r.log r.in_hand) r.waiting.items) (after_exit s b)) (ap (λ (p : core.Options). p.pipelined) (sym m.options))
+    ∙ ap (λ b. event.when (is_published r.table && leads_front c (table_start r.options.pipelined r.in_second) (table_len r.options.pipelined r.second.items r.log r.in_hand) r.linked.items) (after_exit s b)) (ap (λ (p : core.Options). p.pipelined) (sym m.options))
 
 -- a group in hand that is in the table
 pub exit_hand : (log : LogPhase) (n start : ℕ) (s : core.State) (ws : List core.Writer) → s.log ≡ shown_log log (take n (drop start ws)) → 0 < (if is_in_log log then n else 0) → core.in_hand s.log ≡ take n (drop start ws)

@@ -1,11 +1,13 @@
-pub mod Ahead
 pub mod Counted
 pub mod Fresh
 pub mod Leads
-pub mod Maps
 pub mod Mirrors
 pub mod Phases
 pub mod Replay
+pub mod Replies
 pub mod Runs
 pub mod Shown
-pub mod Small
+pub mod Shows
+pub mod Steps
+pub mod TableGroup
+pub mod Within

@@ -1,71 +1,29 @@
 -- When the state of the code is that of the machine of events.
-use Rattle.std.specs.Prelude.{◌≡◌, ℕ, zero, suc, ◌+◌, ◌-◌, ◌^◌, ◌<◌, ◌≤◌, Bool, true, false, IsTrue, List, [], ◌∷◌, length, take, drop, map, filter_map, sum_by, Option, Some, None, find, slice_get, slice_index_or, option_map, ◌==◌, if◌then◌else◌, vec_len, vec_capacity}
+use Rattle.std.specs.Prelude.{◌≡◌, ℕ, zero, suc, ◌+◌, ◌≤◌, Bool, true, false, List, length, take, drop, map, sum_by, Option, Some, None, find, slice_get, slice_index_or, option_map, ◌==◌, if◌then◌else◌, vec_len, vec_capacity}
 use Rattle.std.specs.List.{AllByRecursion}
-use Rattle.std.specs.Option.{option_map_or, option_and_then}
 use Rattle.wp_model.specs.declared.group.Item.{Item}
-use Rattle.wp_model.specs.declared.write.Refusal.{Refusal}
-use Rattle.wp_model.specs.Batch.{Record, count_of, size_of_batch}
-use Rattle.wp_model.specs.History.{Entry}
-use Rattle.wp_model.specs.Calls.{Command, Reply, quiet, accepted, refused, found, found_each, rows, done, held, not_held, no_memory, Call}
+use Rattle.wp_model.specs.Batch.{count_of}
 use Rattle.core_model.specs.Core as core
 use Rattle.core_model.specs.Step.{is_last}
-use Rattle.write_core.specs.declared.plan.ClientPlan.{ClientPlan}
+use Rattle.core_plans.specs.declared.plan.ClientPlan.{ClientPlan}
 use Rattle.write_core.specs.declared.phases.LogPhase.{LogPhase}
 use Rattle.write_core.specs.declared.phases.LogPhase.TheVariants as phase
 use Rattle.write_core.specs.declared.phases.TablePhase.{TablePhase}
 use Rattle.write_core.specs.declared.phases.TablePhase.TheVariants as table
 use Rattle.write_core.specs.declared.phases.Mark.{Mark}
 use Rattle.write_core.specs.declared.phases.Mark.TheVariants.{Out}
-use Rattle.write_core.specs.declared.writer.Lines.{Lines}
 use Rattle.write_core.specs.declared.writer.Writer.{Writer}
-use Rattle.write_core.specs.declared.writer.CoreReply.{CoreReply}
-use Rattle.write_core.specs.declared.writer.CoreReply.TheVariants.{Accepted, Refused, ReadAt}
-use Rattle.write_core.specs.declared.writer.CoreEntry.{CoreEntry}
-use Rattle.write_core.specs.declared.state.CoreOptions.{CoreOptions}
+use Rattle.core_plans.specs.Answers.{answers_of}
+use Rattle.write_core.specs.Replies.{AreReplies}
+use Rattle.core_plans.specs.Plans.{commands_of, records_in, records_of}
+use Rattle.write_core.specs.Shown.{options_of, shown_writer, shown_entry, shown_log, cut, total}
 use Rattle.write_core.specs.declared.state.Seat.{Seat}
 use Rattle.write_core.specs.declared.state.State.{State}
 use Rattle.write_core.specs.Leads.{finished_last}
 use Rattle.write_core.specs.Phases.{has_group, is_inserted, is_finished}
-use Rattle.write_core.specs.Small.{AreSmall}
-use Rattle.write_core.specs.Shown.{commands_of, records_in, records_of, shown_writer, shown_entry, shown_log, cut, total, of_client}
-
-abbrev pub options_of : CoreOptions → core.Options
-options_of o = record { pipelined = o.pipelined; group_bytes = o.group_bytes; batch_bytes = o.batch_bytes; start = o.last }
+use Rattle.core_plans.specs.Small.{AreSmall}
 
 -- Clients
-
--- the replies to commits and reads
-abbrev pub is_answer : Reply → Option Reply
-is_answer quiet = None
-is_answer (accepted first last records) = Some (accepted first last records)
-is_answer (refused why) = Some (refused why)
-is_answer (found at v) = Some (found at v)
-is_answer (found_each at vs) = Some (found_each at vs)
-is_answer (rows at pairs) = Some (rows at pairs)
-is_answer done = Some done
-is_answer held = Some held
-is_answer not_held = Some not_held
-is_answer no_memory = Some no_memory
-
-abbrev pub answers_of : List Call → List Reply
-answers_of calls = filter_map (λ (c : Call). is_answer c.reply) calls
-
--- what a client was told in short and in full
-abbrev pub IsReply : CoreReply → Reply → Type 0
-IsReply (Accepted a b) (accepted first last records) = (a ≡ first) × (b ≡ last)
-IsReply (Refused why) (refused r) = why ≡ r
-IsReply (ReadAt n) (found at v) = n ≡ at
-IsReply (ReadAt n) (found_each at vs) = n ≡ at
-IsReply (ReadAt n) (rows at pairs) = n ≡ at
-IsReply (Accepted a b) other = ⊥
-IsReply (Refused why) other = ⊥
-IsReply (ReadAt n) other = ⊥
-
-abbrev pub AreReplies : List CoreReply → List Reply → Type 0
-AreReplies [] [] = Unit {0}
-AreReplies [] (r ∷ rs) = ⊥
-AreReplies (x ∷ xs) [] = ⊥
-AreReplies (x ∷ xs) (r ∷ rs) = IsReply x r × AreReplies xs rs
 
 -- a client's seat, by its plan
 pub record IsClient (plan : ClientPlan) (seat : Seat) (client : core.Client) : Type 0 where
@@ -97,10 +55,10 @@ pub record IsClientOf (plans : ℕ) (w : Writer) : Type 0 where
   pub few : w.client ≤ plans
 
 -- what is kept with each of them
-pub record AreWriters (plans : List ClientPlan) (waiting : List Writer) (items : List Item) : Type 0 where
-  pub items_are : items ≡ map (λ w. core.item_of (shown_writer plans w)) waiting
-  pub counts_are : map (λ (w : Writer). w.count) waiting ≡ map (λ (w : Writer). count_of (records_of plans w.client w.batch)) waiting
-  pub known : AllByRecursion (IsClientOf (length plans)) waiting
+pub record AreWriters (plans : List ClientPlan) (linked : List Writer) (items : List Item) : Type 0 where
+  pub items_are : items ≡ map (λ w. core.item_of (shown_writer plans w)) linked
+  pub counts_are : map (λ (w : Writer). w.count) linked ≡ map (λ (w : Writer). count_of (records_of plans w.client w.batch)) linked
+  pub known : AllByRecursion (IsClientOf (length plans)) linked
 
 -- The table
 abbrev pub mark_of : List Mark → ℕ → Mark
@@ -123,7 +81,7 @@ done_of left zero = None
 done_of left (suc c) = slice_index_or left c None
 
 abbrev pub AreDone : List ClientPlan → List (Option Writer) → List core.Writer → Type 0
-AreDone plans left gone = (c : ℕ) → find (λ (w : core.Writer). w.client == c) gone ≡ option_map (shown_writer plans) (done_of left c)
+AreDone plans left leaving = (c : ℕ) → find (λ (w : core.Writer). w.client == c) leaving ≡ option_map (shown_writer plans) (done_of left c)
 
 -- Room: what each vector may still come to have
 
@@ -140,10 +98,10 @@ abbrev pub lines_left : List core.Client → ℕ
 lines_left clients = sum_by (λ (c : core.Client). length c.left) clients
 
 pub record HasRoom (r : State) (left : ℕ) : Type 0 where
-  pub waiting : vec_len r.waiting + left ≤ vec_capacity r.waiting
-  pub items : vec_len r.waiting + left ≤ vec_capacity r.items
-  pub second : vec_len r.second + vec_len r.waiting + left ≤ vec_capacity r.second + r.in_second
-  pub entries : vec_len r.entries + vec_len r.waiting + left ≤ vec_capacity r.entries + r.in_second + answered r.log r.in_hand
+  pub linked : vec_len r.linked + left ≤ vec_capacity r.linked
+  pub items : vec_len r.linked + left ≤ vec_capacity r.items
+  pub second : vec_len r.second + vec_len r.linked + left ≤ vec_capacity r.second + r.in_second
+  pub entries : vec_len r.entries + vec_len r.linked + left ≤ vec_capacity r.entries + r.in_second + answered r.log r.in_hand
   pub groups : vec_len r.groups ≤ vec_len r.entries
   pub group_room : vec_capacity r.entries ≤ vec_capacity r.groups
 
@@ -151,14 +109,14 @@ pub record HasRoom (r : State) (left : ℕ) : Type 0 where
 pub record Mirrors (o : core.Options) (r : State) (s : core.State) : Type 0 where
   pub options : options_of r.options ≡ o
   pub clients : AreClients r.plans.items r.seats.items s.clients
-  pub line : IsLine (map (shown_writer r.plans.items) r.waiting.items) r.second.items r.in_second r.in_hand r.log s
-  pub writers : AreWriters r.plans.items r.waiting.items r.items.items
+  pub line : IsLine (map (shown_writer r.plans.items) r.linked.items) r.second.items r.in_second r.in_hand r.log s
+  pub writers : AreWriters r.plans.items r.linked.items r.items.items
   pub table : IsTable r.table r.marks.items r.last_finished s.table
-  pub gone : AreDone r.plans.items r.done.items s.gone
+  pub leaving : AreDone r.plans.items r.done.items s.leaving
   pub entries : s.entries ≡ map (shown_entry r.plans.items) r.entries.items
   pub groups : s.groups ≡ r.groups.items
   pub assigned : s.assigned ≡ r.assigned
-  pub dead : s.dead ≡ r.dead
+  pub log_failed : s.log_failed ≡ r.log_failed
   pub last : s.last ≡ r.last
   pub room : HasRoom r (lines_left s.clients)
 

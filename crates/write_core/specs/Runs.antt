@@ -3,10 +3,10 @@ use Rattle.std.specs.Prelude.{◌≡◌, ℕ, List, ◌++◌, map, None}
 use Rattle.wp_model.specs.Batch.{count_of}
 use Rattle.wp_model.specs.History.{Entry}
 use Rattle.core_model.specs.Core as core
-use Rattle.write_core.specs.declared.plan.ClientPlan.{ClientPlan}
+use Rattle.core_plans.specs.declared.plan.ClientPlan.{ClientPlan}
 use Rattle.write_core.specs.declared.writer.Writer.{Writer}
-use Rattle.write_core.specs.declared.writer.CoreEntry.{CoreEntry}
-use Rattle.write_core.specs.Shown.{records_of, shown_writer, shown_entry}
+use Rattle.core_plans.specs.Plans.{records_of}
+use Rattle.write_core.specs.Shown.{CoreEntry, shown_writer, shown_entry}
 
 -- a writer counts the records of its batch
 abbrev pub IsCounted : List ClientPlan → Writer → Type 0
@@ -16,7 +16,7 @@ IsCounted plans w = w.count ≡ count_of (records_of plans w.client w.batch)
 abbrev pub unanswered : Writer → Writer
 unanswered w = record { client = w.client; options = w.options; batch = w.batch; count = w.count; answer = None }
 
--- Writers got their runs in order behind the sequence `last`. An entry for each that has one went behind those in front,
+-- Writers got their runs in order after the sequence `last`. An entry for each that has one went after those in `front`,
 -- and `given` is the sequence given last.
 pub record GotRuns (plans : List ClientPlan) (s : core.State) (front : List Entry) (last : ℕ) (old new : List Writer) (entries : List CoreEntry) (given : ℕ) : Type 0 where
   pub runs : map (shown_writer plans) new ≡ core.with_runs last (map (shown_writer plans) old)

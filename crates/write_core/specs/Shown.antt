@@ -1,62 +1,28 @@
 -- What the values of the code stand for in the machine of events.
-use Rattle.std.specs.Prelude.{ℕ, zero, suc, ◌+◌, ◌-◌, Bool, true, false, List, [], ◌∷◌, take, drop, map, filter_map, Option, Some, None, slice_get, option_map}
-use Rattle.std.specs.Option.{option_map_or, option_and_then}
-use Rattle.wp_model.specs.Batch.{Record, value, deletion, single_deletion, log_data}
-use Rattle.wp_model.specs.History.{Entry}
-use Rattle.wp_model.specs.Calls.{Command, add, clear, commit, get, many, scan, Reply, accepted, refused}
+use Rattle.std.specs.Prelude.{ℕ, zero, suc, ◌+◌, List, [], ◌∷◌, take, drop, Option, Some, None, slice_get}
+use Rattle.wp_model.specs.Batch.{Record}
+use Rattle.wp_model.specs.History as history
+use Rattle.wp_model.specs.Calls.{Reply, accepted, refused}
 use Rattle.core_model.specs.Core as core
-use Rattle.write_core.specs.declared.plan.PlanLine.{PlanLine}
-use Rattle.write_core.specs.declared.plan.PlanLine.TheVariants.{Put, Delete, SingleDelete, Note, Clear, Commit, Get, Many, Scan}
-use Rattle.write_core.specs.declared.plan.ClientPlan.{ClientPlan}
+use Rattle.client_calls.specs.declared.entry.Entry.{Entry}
+use Rattle.client_calls.specs.Entries.{entry_of}
+use Rattle.core_plans.specs.Plans.{records_of}
+use Rattle.core_plans.specs.declared.plan.ClientPlan.{ClientPlan}
 use Rattle.write_core.specs.declared.phases.LogPhase.{LogPhase}
 use Rattle.write_core.specs.declared.phases.LogPhase.TheVariants.{Free, Led, Built, InLog, Marked, Handed}
-use Rattle.write_core.specs.declared.writer.Lines.{Lines}
+use Rattle.core_plans.specs.declared.plan.Lines.{Lines}
 use Rattle.write_core.specs.declared.writer.Writer.{Writer}
 use Rattle.write_core.specs.declared.writer.Answer.{Answer}
 use Rattle.write_core.specs.declared.writer.Answer.TheVariants.{Accepted, Refused}
-use Rattle.write_core.specs.declared.writer.CoreEntry.{CoreEntry}
+use Rattle.write_core.specs.declared.state.CoreOptions.{CoreOptions}
+use Rattle.write_core.specs.declared.state.State.{State}
 
--- a line of a plan as a client's command
-abbrev pub command_of : PlanLine → Command
-command_of (Put key v) = add (value key v)
-command_of (Delete key) = add (deletion key)
-command_of (SingleDelete key) = add (single_deletion key)
-command_of (Note text) = add (log_data text)
-command_of Clear = clear
-command_of (Commit options) = commit options
-command_of (Get key) = get key
-command_of (Many keys) = many keys.items
-command_of (Scan lo hi) = scan lo hi
+abbrev pub options_of : CoreOptions → core.Options
+options_of o = record { pipelined = o.pipelined; group_bytes = o.group_bytes; batch_bytes = o.batch_bytes; start = o.last }
 
-abbrev pub commands_of : ClientPlan → List Command
-commands_of plan = map command_of plan.lines.items
-
-abbrev pub plans_of : List ClientPlan → List (List Command)
-plans_of plans = map commands_of plans
-
--- the record that a line adds, if it adds one
-abbrev pub added_by_line : PlanLine → Option Record
-added_by_line (Put key v) = Some (value key v)
-added_by_line (Delete key) = Some (deletion key)
-added_by_line (SingleDelete key) = Some (single_deletion key)
-added_by_line (Note text) = Some (log_data text)
-added_by_line Clear = None
-added_by_line (Commit options) = None
-added_by_line (Get key) = None
-added_by_line (Many keys) = None
-added_by_line (Scan lo hi) = None
-
-abbrev pub between : {A : Type 0} → ℕ → ℕ → List A → List A
-between from to xs = take (to - from) (drop from xs)
-
--- the records that lines of a plan add
-abbrev pub records_in : ClientPlan → Lines → List Record
-records_in plan lines = filter_map added_by_line (between lines.from lines.to plan.lines.items)
-
--- clients are numbered from 1
-abbrev pub records_of : List ClientPlan → ℕ → Lines → List Record
-records_of plans zero lines = []
-records_of plans (suc c) lines = option_map_or (λ plan. records_in plan lines) (slice_get plans c) []
+-- the clients' plans, the first that of client 1
+abbrev pub plans_in : State → List ClientPlan
+plans_in r = r.plans.items
 
 abbrev pub shown_reply : List Record → Answer → Reply
 shown_reply records (Accepted first last) = accepted first last records
@@ -75,8 +41,12 @@ shown_writer plans w = record {
   answer = shown_answer (records_of plans w.client w.batch) w.answer;
 }
 
-abbrev pub shown_entry : List ClientPlan → CoreEntry → Entry
-shown_entry plans e = record { client = e.client; ordinal = e.ordinal; first = e.first; count = e.count; flag = e.flag; records = records_of plans e.client e.batch }
+-- an entry of the history, of a batch that stands in its client's plan
+abbrev pub CoreEntry : Type 0
+CoreEntry = Entry Lines
+
+abbrev pub shown_entry : List ClientPlan → CoreEntry → history.Entry
+shown_entry plans e = entry_of (λ (x : CoreEntry). records_of plans x.client x.batch) e
 
 -- the log's phase, with the group in hand
 abbrev pub shown_log : LogPhase → List core.Writer → core.LogPhase
@@ -87,7 +57,7 @@ shown_log InLog ws = core.in_log ws
 shown_log Marked ws = core.marked ws
 shown_log (Handed c) ws = core.handed c
 
--- a list cut into groups of these lengths, from the front on
+-- a list cut into groups of these lengths, from its first item on
 abbrev pub cut : {A : Type 0} → List ℕ → List A → List (List A)
 cut [] xs = []
 cut (n ∷ ns) xs = take n xs ∷ cut ns (drop n xs)

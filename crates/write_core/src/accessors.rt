@@ -3,16 +3,19 @@
 ghost use Rattle.std.specs.Prelude.{◌≡◌, [], map, MatchOption};
 ghost use Rattle.std.specs.List.{AllByRecursion};
 
-use crate::plan::ClientPlan;
 use crate::state::State;
-use crate::writer::{CoreEntry, CoreReply};
+use crate::writer::CoreReply;
+use client_calls::Entry;
+use core_plans::{ClientPlan, Lines};
 
 impl State {
     ghost use Rattle.core_model.specs.Core as core;
     ghost use Rattle.core_model.specs.CoreLaw.{IsCore};
-    ghost use Rattle.write_core.specs.Fresh.{IsWithinPlans, plans_in};
-    ghost use Rattle.write_core.specs.Mirrors.{Mirrors, AreReplies, answers_of};
-    ghost use Rattle.write_core.specs.Shown.{shown_entry};
+    ghost use Rattle.write_core.specs.Within.{IsWithinPlans};
+    ghost use Rattle.write_core.specs.Shown.{plans_in, shown_entry};
+    ghost use Rattle.write_core.specs.Shows.{Shows};
+    ghost use Rattle.core_plans.specs.Answers.{answers_of};
+    ghost use Rattle.write_core.specs.Replies.{AreReplies};
 
     /// The clients' plans, the first that of client 1.
     pub fn plans(&self) -> &[ClientPlan]
@@ -23,7 +26,8 @@ impl State {
 
     /// What a client was told so far, in order; nothing for a number that no client has.
     pub fn replies(&self, client: u32) -> &[CoreReply]
-        ensures { (o : core.Options) (s : core.State) → Mirrors o self.now s → MatchOption (core.client_at s client) (result.now ≡ []) (λ c. AreReplies result.now (answers_of c.calls)) }
+        ensures { (o : core.Options) (s : core.State) → Shows self.now o s
+            → MatchOption (core.client_at s client) (result.now ≡ []) (λ c. AreReplies result.now (answers_of c.calls)) }
     {
         let Some(place) = self.place_of(client) else {
             return &[];
@@ -33,23 +37,25 @@ impl State {
 
     /// The batches that were given runs, in the order of their runs. Each is of a client that there is, and of at least one
     /// record that counts.
-    pub fn entries(&self) -> &[CoreEntry]
-        ensures shown { (o : core.Options) (s : core.State) → Mirrors o self.now s → map (shown_entry (plans_in self.now)) result.now ≡ s.entries }
-        ensures within { (o : core.Options) (s : core.State) → IsCore o s → Mirrors o self.now s → AllByRecursion (IsWithinPlans (plans_in self.now)) result.now }
+    pub fn entries(&self) -> &[Entry<Lines>]
+        ensures shown { (o : core.Options) (s : core.State) → Shows self.now o s
+            → map (shown_entry (plans_in self.now)) result.now ≡ s.entries }
+        ensures within { (o : core.Options) (s : core.State) → IsCore o s → Shows self.now o s
+            → AllByRecursion (IsWithinPlans (plans_in self.now)) result.now }
     {
         &self.entries
     }
 
     /// How many entries each logged group has, in order.
     pub fn logged(&self) -> &[u64]
-        ensures { (o : core.Options) (s : core.State) → Mirrors o self.now s → result.now ≡ s.groups }
+        ensures { (o : core.Options) (s : core.State) → Shows self.now o s → result.now ≡ s.groups }
     {
         &self.groups
     }
 
     /// The sequence published last.
     pub fn last(&self) -> u64
-        ensures { (o : core.Options) (s : core.State) → Mirrors o self.now s → result ≡ s.last }
+        ensures { (o : core.Options) (s : core.State) → Shows self.now o s → result ≡ s.last }
     {
         self.last
     }

@@ -5,7 +5,7 @@ ghost use Rattle.std.specs.List.{AllByRecursion};
 ghost use Rattle.std.specs.Option.{option_or};
 ghost use Rattle.core_model.specs.Core as core;
 ghost use Rattle.wp_model.specs.Calls.{refused};
-ghost use Rattle.write_core.specs.declared.plan.ClientPlan.{ClientPlan};
+ghost use Rattle.core_plans.specs.declared.plan.ClientPlan.{ClientPlan};
 ghost use Rattle.write_core.specs.Shown.{shown_writer};
 ghost use Rattle.write_core.specs.Mirrors.{AreDone, IsClientOf, done_of};
 
@@ -25,7 +25,8 @@ pub(crate) fn done_of(done: &[Option<Writer>], client: u32) -> Option<Writer>
 /// Notes a writer that has left, or with `None` that it was told.
 pub(crate) fn set_done(done: &mut Vec<Option<Writer>>, client: u32, writer: Option<Writer>)
     ensures len { vec_len done.new ≡ vec_len done.old }
-    ensures set { 1 ≤ client → client ≤ length done.old.items → (c : ℕ) → done_of done.new.items c ≡ (if c == client then writer else done_of done.old.items c) }
+    ensures set { 1 ≤ client → client ≤ length done.old.items → (c : ℕ)
+        → done_of done.new.items c ≡ (if c == client then writer else done_of done.old.items c) }
 {
     let Some(place) = (client as usize).checked_sub(1) else {
         return;
@@ -38,7 +39,9 @@ pub(crate) fn set_done(done: &mut Vec<Option<Writer>>, client: u32, writer: Opti
 /// A writer leaves. Where its client had one that left before, that one stays.
 pub(crate) fn note_done(done: &mut Vec<Option<Writer>>, writer: Writer)
     ensures len { vec_len done.new ≡ vec_len done.old }
-    ensures noted { (plans : List ClientPlan) (gone : List core.Writer) → AreDone plans done.old.items gone → IsClientOf (length done.old.items) writer → AreDone plans done.new.items (gone ++ shown_writer plans writer ∷ []) }
+    ensures noted { (plans : List ClientPlan) (leaving : List core.Writer) → AreDone plans done.old.items leaving
+        → IsClientOf (length done.old.items) writer
+        → AreDone plans done.new.items (leaving ++ shown_writer plans writer ∷ []) }
 {
     match done_of(done, writer.client) {
         None => set_done(done, writer.client, Some(writer)),
@@ -49,7 +52,9 @@ pub(crate) fn note_done(done: &mut Vec<Option<Writer>>, writer: Writer)
 /// A group leaves, its writers in order.
 pub(crate) fn note_group(done: &mut Vec<Option<Writer>>, group: &[Writer])
     ensures len { vec_len done.new ≡ vec_len done.old }
-    ensures noted { (plans : List ClientPlan) (gone : List core.Writer) → AreDone plans done.old.items gone → AllByRecursion (IsClientOf (length done.old.items)) group.now → AreDone plans done.new.items (gone ++ map (shown_writer plans) group.now) }
+    ensures noted { (plans : List ClientPlan) (leaving : List core.Writer) → AreDone plans done.old.items leaving
+        → AllByRecursion (IsClientOf (length done.old.items)) group.now
+        → AreDone plans done.new.items (leaving ++ map (shown_writer plans) group.now) }
 {
     for writer in group {
         note_done(done, *writer);
@@ -59,7 +64,9 @@ pub(crate) fn note_group(done: &mut Vec<Option<Writer>>, group: &[Writer])
 /// A group leaves with a refusal, its writers in order.
 pub(crate) fn note_refused(done: &mut Vec<Option<Writer>>, group: &[Writer], why: Refusal)
     ensures len { vec_len done.new ≡ vec_len done.old }
-    ensures noted { (plans : List ClientPlan) (gone : List core.Writer) → AreDone plans done.old.items gone → AllByRecursion (IsClientOf (length done.old.items)) group.now → AreDone plans done.new.items (gone ++ core.all_answered (refused why) (map (shown_writer plans) group.now)) }
+    ensures noted { (plans : List ClientPlan) (leaving : List core.Writer) → AreDone plans done.old.items leaving
+        → AllByRecursion (IsClientOf (length done.old.items)) group.now
+        → AreDone plans done.new.items (leaving ++ core.all_answered (refused why) (map (shown_writer plans) group.now)) }
 {
     for writer in group {
         note_done(

@@ -11,29 +11,26 @@
 #![tactic(auto)]
 
 mod accessors;
-mod batch;
 mod clients;
+mod laws;
 mod leaving;
 mod log;
-mod maps;
 mod marks;
 mod opening;
 mod phases;
-mod plan;
 mod room;
 mod runs;
 mod seats;
-mod small;
 mod state;
 mod step;
 mod table;
 mod writer;
 
-pub use plan::{ClientPlan, PlanLine};
-pub use small::are_small;
+pub use core_plans::{ClientPlan, Lines, are_small};
+pub use laws::one_state;
 pub use state::{CoreOptions, State};
 pub use step::{Counts, replay};
-pub use writer::{CoreEntry, CoreReply, Lines};
+pub use writer::CoreReply;
 
 #[cfg(test)]
 mod tests;

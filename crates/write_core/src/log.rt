@@ -17,16 +17,18 @@ impl State {
     ghost use Rattle.std.specs.Prelude.{◌==◌, ◌&&◌, nat_lt, false, slice_get, take, length, drop, map, slice_index_or};
     ghost use Rattle.write_core.specs.declared.writer.Writer.{Writer};
     ghost use Rattle.wp_model.specs.Calls.{refused};
-    ghost use Rattle.write_core.specs.Shown.{shown_writer};
+    ghost use Rattle.write_core.specs.Shown.{shown_writer, plans_in};
     ghost use Rattle.wp_model.specs.Grouping.{group_len};
     ghost use Rattle.std.specs.Option.{option_map_or};
     ghost use Rattle.write_core.specs.Phases.{is_built};
-    ghost use Rattle.write_core.specs.Mirrors.{Mirrors, Stepped};
+    ghost use Rattle.write_core.specs.Steps.{HandLeaves, Steps};
     ghost use Rattle.write_core.specs.Leads.{leads_at, leads_front};
 
     /// The log is free, and the client is first in the queue. It leads.
     pub(crate) fn elect(&mut self, client: u32) -> bool
-        ensures { (o : core.Options) (s : core.State) → Mirrors o self.old s → Stepped (event.elect s client s.log) o s result self.new }
+        ensures steps { Steps (λ o s. event.elect s client s.log) self.old result self.new }
+        ensures unchanged { result ≡ false → self.new ≡ self.old }
+        ensures plans { plans_in self.new ≡ plans_in self.old }
     {
         let queue = self.in_second + self.in_hand;
         if !self.log.is_free() {
@@ -41,7 +43,9 @@ impl State {
 
     /// The client leads. Its group leaves the queue.
     pub(crate) fn build(&mut self, client: u32) -> bool
-        ensures { (o : core.Options) (s : core.State) → Mirrors o self.old s → Stepped (event.build o s client s.log) o s result self.new }
+        ensures steps { Steps (λ o s. event.build o s client s.log) self.old result self.new }
+        ensures unchanged { result ≡ false → self.new ≡ self.old }
+        ensures plans { plans_in self.new ≡ plans_in self.old }
     {
         if !self.log.is_led_by(client) {
             return false;
@@ -53,8 +57,9 @@ impl State {
 
     /// How many writers of the queue the next group takes.
     fn group_size(&self) -> usize
-        ensures rule { 0 < length (drop (self.now.in_second + self.now.in_hand) self.now.items.items) → result ≡ group_len self.now.options.group_bytes (drop (self.now.in_second + self.now.in_hand) self.now.items.items) }
-        ensures within { self.now.in_second + self.now.in_hand + result ≤ vec_len self.now.waiting }
+        ensures rule { 0 < length (drop (self.now.in_second + self.now.in_hand) self.now.items.items)
+            → result ≡ group_len self.now.options.group_bytes (drop (self.now.in_second + self.now.in_hand) self.now.items.items) }
+        ensures within { self.now.in_second + self.now.in_hand + result ≤ vec_len self.now.linked }
     {
         let queue = self.in_second + self.in_hand;
         if queue < self.items.len() {
@@ -64,15 +69,17 @@ impl State {
         }
     }
 
-    /// The client's group is built, and the log isn't dead. Runs are given in order, and a member whose run doesn't fit is
+    /// The client's group is built, and the log hasn't failed. Runs are given in order, and a member whose run doesn't fit is
     /// refused. Where none fits all leave.
     pub(crate) fn log_group(&mut self, client: u32) -> bool
-        ensures { (o : core.Options) (s : core.State) → Mirrors o self.old s → Stepped (event.log_group s client s.log) o s result self.new }
+        ensures steps { Steps (λ o s. event.log_group s client s.log) self.old result self.new }
+        ensures unchanged { result ≡ false → self.new ≡ self.old }
+        ensures plans { plans_in self.new ≡ plans_in self.old }
     {
         if !self.has_built(client) {
             return false;
         }
-        if self.dead {
+        if self.log_failed {
             return false;
         }
         let unlogged = self.is_unlogged();
@@ -80,7 +87,7 @@ impl State {
         let start = self.in_second;
         let end = start + self.in_hand;
         self.assigned = give_runs(
-            &mut self.waiting[start..end],
+            &mut self.linked[start..end],
             &mut self.entries,
             self.assigned,
         );
@@ -94,21 +101,25 @@ impl State {
         true
     }
 
-    /// The client's group is built, and the log fails. All its members are refused, and the log is dead.
+    /// The client's group is built, and the log fails. All its members are refused, and the log has failed.
     pub(crate) fn fault(&mut self, client: u32) -> bool
-        ensures { (o : core.Options) (s : core.State) → Mirrors o self.old s → Stepped (event.fault s client s.log) o s result self.new }
+        ensures steps { Steps (λ o s. event.fault s client s.log) self.old result self.new }
+        ensures unchanged { result ≡ false → self.new ≡ self.old }
+        ensures plans { plans_in self.new ≡ plans_in self.old }
     {
         if !self.has_built(client) {
             return false;
         }
         self.refuse_group(Refusal::LogFault { count: 1 });
-        self.dead = true;
+        self.log_failed = true;
         true
     }
 
     /// The client's group is built and isn't to be slowed down. All its members are refused.
     pub(crate) fn refuse(&mut self, client: u32, why: Refusal) -> bool
-        ensures { (o : core.Options) (s : core.State) → Mirrors o self.old s → Stepped (event.refuse s client why s.log) o s result self.new }
+        ensures steps { Steps (λ o s. event.refuse s client why s.log) self.old result self.new }
+        ensures unchanged { result ≡ false → self.new ≡ self.old }
+        ensures plans { plans_in self.new ≡ plans_in self.old }
     {
         if !self.has_built(client) {
             return false;
@@ -122,7 +133,9 @@ impl State {
 
     /// Pipelined: the client's group is logged, and the end of the group is marked.
     pub(crate) fn boundary(&mut self, client: u32) -> bool
-        ensures { (o : core.Options) (s : core.State) → Mirrors o self.old s → Stepped (event.boundary o s client s.log) o s result self.new }
+        ensures steps { Steps (λ o s. event.boundary o s client s.log) self.old result self.new }
+        ensures unchanged { result ≡ false → self.new ≡ self.old }
+        ensures plans { plans_in self.new ≡ plans_in self.old }
     {
         if !self.log.is_in_log() {
             return false;
@@ -139,7 +152,9 @@ impl State {
 
     /// The marked group goes to the end of the second queue.
     pub(crate) fn to_second(&mut self, client: u32) -> bool
-        ensures { (o : core.Options) (s : core.State) → Mirrors o self.old s → Stepped (event.to_second s client s.log) o s result self.new }
+        ensures steps { Steps (λ o s. event.to_second s client s.log) self.old result self.new }
+        ensures unchanged { result ≡ false → self.new ≡ self.old }
+        ensures plans { plans_in self.new ≡ plans_in self.old }
     {
         if !self.log.is_marked() {
             return false;
@@ -156,7 +171,9 @@ impl State {
 
     /// The log is free for the next leader.
     pub(crate) fn next(&mut self, client: u32) -> bool
-        ensures { (o : core.Options) (s : core.State) → Mirrors o self.old s → Stepped (event.next s client s.log) o s result self.new }
+        ensures steps { Steps (λ o s. event.next s client s.log) self.old result self.new }
+        ensures unchanged { result ≡ false → self.new ≡ self.old }
+        ensures plans { plans_in self.new ≡ plans_in self.old }
     {
         if !self.log.is_handed_by(client) {
             return false;
@@ -167,28 +184,30 @@ impl State {
 
     /// Whether the group in hand isn't to be slowed down, as its leader says.
     fn is_no_slowdown(&self) -> bool
-        requires { self.now.in_second < length self.now.waiting.items }
-        ensures { (d : Writer) → result ≡ (slice_index_or self.now.waiting.items self.now.in_second d).options.no_slowdown }
+        requires { self.now.in_second < length self.now.linked.items }
+        ensures { (d : Writer)
+            → result ≡ (slice_index_or self.now.linked.items self.now.in_second d).options.no_slowdown }
     {
-        self.waiting[self.in_second].options.no_slowdown
+        self.linked[self.in_second].options.no_slowdown
     }
 
     /// Whether the group in hand isn't logged, as its leader says.
     fn is_unlogged(&self) -> bool
-        requires { self.now.in_second < length self.now.waiting.items }
-        ensures { (d : Writer) → result ≡ (slice_index_or self.now.waiting.items self.now.in_second d).options.no_log }
+        requires { self.now.in_second < length self.now.linked.items }
+        ensures { (d : Writer) → result ≡ (slice_index_or self.now.linked.items self.now.in_second d).options.no_log }
     {
-        self.waiting[self.in_second].options.no_log
+        self.linked[self.in_second].options.no_log
     }
 
     /// All members of the group in hand leave with a refusal, and the log is free.
     fn refuse_group(&mut self, why: Refusal)
-        ensures { (o : core.Options) (s : core.State) → Mirrors o self.old s → Mirrors o self.new (record (event.leave s (core.all_answered (refused why) (take self.old.in_hand (drop self.old.in_second (map (shown_writer self.old.plans.items) self.old.waiting.items))))) { log = core.free }) }
+        ensures left { HandLeaves (core.all_answered (refused why)) self.old self.new }
+        ensures plans { plans_in self.new ≡ plans_in self.old }
     {
         let start = self.in_second;
         let len = self.in_hand;
-        note_refused(&mut self.done, &self.waiting[start..start + len], why);
-        remove_range(&mut self.waiting, start, len);
+        note_refused(&mut self.done, &self.linked[start..start + len], why);
+        remove_range(&mut self.linked, start, len);
         remove_range(&mut self.items, start, len);
         self.in_hand = 0;
         self.log = LogPhase::Free;
@@ -196,12 +215,13 @@ impl State {
 
     /// The group in hand leaves with its answers, and the log is free.
     pub(crate) fn leave_hand(&mut self)
-        ensures { (o : core.Options) (s : core.State) → Mirrors o self.old s → Mirrors o self.new (record (event.leave s (take self.old.in_hand (drop self.old.in_second (map (shown_writer self.old.plans.items) self.old.waiting.items)))) { log = core.free }) }
+        ensures left { HandLeaves (λ ws. ws) self.old self.new }
+        ensures plans { plans_in self.new ≡ plans_in self.old }
     {
         let start = self.in_second;
         let len = self.in_hand;
-        note_group(&mut self.done, &self.waiting[start..start + len]);
-        remove_range(&mut self.waiting, start, len);
+        note_group(&mut self.done, &self.linked[start..start + len]);
+        remove_range(&mut self.linked, start, len);
         remove_range(&mut self.items, start, len);
         self.in_hand = 0;
         self.log = LogPhase::Free;
@@ -209,23 +229,23 @@ impl State {
 
     /// Whether the client leads a group that is built.
     fn has_built(&self, client: u32) -> bool
-        ensures { result ≡ (is_built self.now.log && leads_front client self.now.in_second self.now.in_hand self.now.waiting.items) }
+        ensures { result ≡ (is_built self.now.log && leads_front client self.now.in_second self.now.in_hand self.now.linked.items) }
     {
         self.log.is_built() && self.leads_hand(client)
     }
 
     /// Whether the client leads the group in hand.
     pub(crate) fn leads_hand(&self, client: u32) -> bool
-        ensures { result ≡ leads_front client self.now.in_second self.now.in_hand self.now.waiting.items }
+        ensures { result ≡ leads_front client self.now.in_second self.now.in_hand self.now.linked.items }
     {
         self.in_hand > 0 && self.leads(client, self.in_second)
     }
 
     /// Whether the writer at a place is the client's.
     pub(crate) fn leads(&self, client: u32, place: usize) -> bool
-        ensures { result ≡ leads_at client place self.now.waiting.items }
+        ensures { result ≡ leads_at client place self.now.linked.items }
     {
-        match self.waiting.get(place) {
+        match self.linked.get(place) {
             Some(writer) => writer.client == client,
             None => false,
         }
@@ -234,7 +254,8 @@ impl State {
 
 /// Notes how many entries a group has, where that is logged.
 fn note_logged(groups: &mut Vec<u64>, given: u64, unlogged: bool)
-    ensures noted { vec_len groups.old < vec_capacity groups.old → groups.new.items ≡ (if unlogged then groups.old.items else groups.old.items ++ given ∷ []) }
+    ensures noted { vec_len groups.old < vec_capacity groups.old
+        → groups.new.items ≡ (if unlogged then groups.old.items else groups.old.items ++ given ∷ []) }
     ensures upper { vec_len groups.new ≤ vec_len groups.old + 1 }
     ensures capacity { vec_capacity groups.new ≡ vec_capacity groups.old }
 {

@@ -19,7 +19,8 @@ pub(crate) fn mark_of(marks: &[Mark], client: u32) -> Mark
 /// Notes how far a client is.
 pub(crate) fn set_mark(marks: &mut Vec<Mark>, client: u32, mark: Mark)
     ensures len { vec_len marks.new ≡ vec_len marks.old }
-    ensures set { 1 ≤ client → client ≤ length marks.old.items → (c : ℕ) → mark_of marks.new.items c ≡ (if c == client then mark else mark_of marks.old.items c) }
+    ensures set { 1 ≤ client → client ≤ length marks.old.items → (c : ℕ)
+        → mark_of marks.new.items c ≡ (if c == client then mark else mark_of marks.old.items c) }
 {
     let Some(place) = (client as usize).checked_sub(1) else {
         return;

@@ -2,21 +2,22 @@
 
 ghost use Rattle.std.specs.Prelude.{◌≡◌, ◌-◌, ◌^◌, ◌≤◌, length, sum_by, replicate, IfOk, vec_len};
 ghost use Rattle.std.specs.List.{AllZip};
-ghost use Rattle.write_core.specs.declared.plan.ClientPlan.{ClientPlan};
+ghost use Rattle.core_plans.specs.declared.plan.ClientPlan.{ClientPlan};
 ghost use Rattle.write_core.specs.Fresh.{IsFresh};
 
 use crate::phases::{LogPhase, Mark, TablePhase};
-use crate::plan::ClientPlan;
 use crate::state::{CoreOptions, Seat, State};
+use core_plans::ClientPlan;
 use std::alloc::Global;
 use wp_model::NoMemory;
 
 impl State {
     ghost use Rattle.core_model.specs.Core as core;
-    ghost use Rattle.write_core.specs.Mirrors.{Mirrors, options_of};
+    ghost use Rattle.write_core.specs.Shows.{Shows};
+    ghost use Rattle.core_plans.specs.Plans.{plans_of};
+    ghost use Rattle.write_core.specs.Shown.{options_of, plans_in};
     ghost use Rattle.std.specs.List.{AllByRecursion};
-    ghost use Rattle.write_core.specs.Shown.{plans_of};
-    ghost use Rattle.write_core.specs.Small.{IsSmallPlan};
+    ghost use Rattle.core_plans.specs.Small.{IsSmallPlan};
 
     /// No event has come yet. The clients run these plans, the first plan is that of client 1. Fails where there is no
     /// memory for all that events will need. No commit may come to a batch of more than 16 MiB, even if none before it
@@ -30,13 +31,14 @@ impl State {
         requires few { vec_len plans ≤ 16 }
         requires small { AllByRecursion IsSmallPlan plans.items }
         requires last_fits { options.last ≤ 2 ^ 56 - 1 }
-        ensures { IfOk result (λ r. Mirrors (options_of options) r (core.opened (options_of options) (plans_of plans.items))) }
+        ensures shows { IfOk result (λ r. Shows r (options_of options) (core.opened (options_of options) (plans_of plans.items))) }
+        ensures plans { IfOk result (λ r. plans_in r ≡ plans.items) }
     {
         let room = total_lines(&plans)?;
         let seats = new_seats(alloc, &plans)?;
         let marks = repeated(alloc, Mark::Out, plans.len())?;
         let done = repeated(alloc, None, plans.len())?;
-        let waiting = Vec::with_capacity(alloc, room)?;
+        let linked = Vec::with_capacity(alloc, room)?;
         let items = Vec::with_capacity(alloc, room)?;
         let second = Vec::with_capacity(alloc, room)?;
         let groups = Vec::with_capacity(alloc, room)?;
@@ -47,7 +49,7 @@ impl State {
             seats,
             marks,
             done,
-            waiting,
+            linked,
             items,
             second,
             in_second: 0,
@@ -58,7 +60,7 @@ impl State {
             groups,
             entries,
             assigned: options.last,
-            dead: false,
+            log_failed: false,
             last: options.last,
         })
     }

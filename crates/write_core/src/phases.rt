@@ -4,7 +4,7 @@ ghost use Rattle.std.specs.Prelude.{◌≡◌};
 ghost use Rattle.write_core.specs.Phases.{is_free, is_led_by, is_built, is_in_log, is_marked, is_handed_by, is_still, is_launched, is_published, is_inserted, is_finished};
 
 /// Where the log is: with nobody, with a leader, or with a group in hand, which stands in the state.
-#[derive(Clone, Copy, Debug)]
+#[derive(Clone, Copy)]
 pub(crate) enum LogPhase {
     Free,
     Led(u32),
@@ -59,7 +59,7 @@ impl LogPhase {
 }
 
 /// Where the memtable is.
-#[derive(Clone, Copy, Debug)]
+#[derive(Clone, Copy)]
 pub(crate) enum TablePhase {
     Still,
     Launched,
@@ -87,7 +87,7 @@ impl TablePhase {
 }
 
 /// How far a client is with the launched group.
-#[derive(Clone, Copy, Debug)]
+#[derive(Clone, Copy)]
 pub(crate) enum Mark {
     /// It has inserted nothing.
     Out,

@@ -2,7 +2,7 @@
 
 ghost use Rattle.std.specs.Prelude.{◌≡◌, ◌<◌, ◌≤◌, ◌+◌, ◌++◌, ◌∷◌, [], vec_len, vec_capacity};
 
-/// Puts an item behind the others, where there is room. This takes no memory.
+/// Puts an item after the others, where there is room. This takes no memory.
 pub(crate) fn push_within<T: Copy>(items: &mut Vec<T>, item: T)
     ensures pushed { vec_len items.old < vec_capacity items.old → items.new.items ≡ items.old.items ++ item ∷ [] }
     ensures len { vec_len items.old < vec_capacity items.old → vec_len items.new ≡ vec_len items.old + 1 }
@@ -15,13 +15,16 @@ pub(crate) fn push_within<T: Copy>(items: &mut Vec<T>, item: T)
     }
 }
 
-/// Puts an item behind each of two lists of one length, where both have room. This takes no memory.
+/// Puts an item at the end of each of two lists of one length, where both have room. This takes no memory.
 pub(crate) fn push_both<A: Copy, B: Copy>(first: &mut Vec<A>, second: &mut Vec<B>, a: A, b: B)
     requires { vec_len first.old ≡ vec_len second.old }
     ensures same_len { vec_len first.new ≡ vec_len second.new }
-    ensures first { vec_len first.old < vec_capacity first.old → vec_len second.old < vec_capacity second.old → first.new.items ≡ first.old.items ++ a ∷ [] }
-    ensures second { vec_len first.old < vec_capacity first.old → vec_len second.old < vec_capacity second.old → second.new.items ≡ second.old.items ++ b ∷ [] }
-    ensures len { vec_len first.old < vec_capacity first.old → vec_len second.old < vec_capacity second.old → vec_len first.new ≡ vec_len first.old + 1 }
+    ensures first { vec_len first.old < vec_capacity first.old → vec_len second.old < vec_capacity second.old
+        → first.new.items ≡ first.old.items ++ a ∷ [] }
+    ensures second { vec_len first.old < vec_capacity first.old → vec_len second.old < vec_capacity second.old
+        → second.new.items ≡ second.old.items ++ b ∷ [] }
+    ensures len { vec_len first.old < vec_capacity first.old → vec_len second.old < vec_capacity second.old
+        → vec_len first.new ≡ vec_len first.old + 1 }
     ensures lower { vec_len first.old ≤ vec_len first.new }
     ensures first_capacity { vec_capacity first.old ≤ vec_capacity first.new }
     ensures second_capacity { vec_capacity second.old ≤ vec_capacity second.new }

@@ -3,23 +3,22 @@
 ghost use Rattle.std.specs.Prelude.{◌≡◌, ◌<◌, ◌≤◌, ◌+◌, ◌-◌, ◌^◌, ◌∷◌, [], ◌==◌, List, length, map, take, count_by, vec_len, vec_capacity};
 ghost use Rattle.std.specs.List.{AllByRecursion};
 ghost use Rattle.core_model.specs.Core as core;
-ghost use Rattle.wp_model.specs.History.{flag_of};
-ghost use Rattle.write_core.specs.declared.plan.ClientPlan.{ClientPlan};
+ghost use Rattle.core_plans.specs.declared.plan.ClientPlan.{ClientPlan};
 ghost use Rattle.write_core.specs.Shown.{shown_entry};
 ghost use Rattle.write_core.specs.Runs.{GotRuns, IsCounted, unanswered};
 
 use crate::room::push_within;
-use crate::writer::{Answer, CoreEntry, Writer};
-use wp_model::{Flag, Refusal, WriteOptions};
+use crate::writer::{Answer, Writer};
+use client_calls::{Entry, flag_of, next_run};
+use core_plans::Lines;
 
-/// The greatest sequence, `kMaxSequenceNumber` of RocksDB's db/dbformat.h.
-const MAX_SEQUENCE: u64 = 72057594037927935;
-
-/// Gives the writers of a group their runs in order, behind the sequence `last`, and an entry to each that has one. A
+/// Gives the writers of a group their runs in order, after the sequence `last`, and an entry to each that has one. A
 /// writer whose run doesn't fit is refused, and later ones that fit get theirs. The result is the sequence given last.
-pub(crate) fn give_runs(group: &mut [Writer], entries: &mut Vec<CoreEntry>, last: u64) -> u64
+pub(crate) fn give_runs(group: &mut [Writer], entries: &mut Vec<Entry<Lines>>, last: u64) -> u64
     requires { last ≤ 2 ^ 56 - 1 }
-    ensures got { (plans : List ClientPlan) (s : core.State) → AllByRecursion (IsCounted plans) group.old → s.entries ≡ map (shown_entry plans) entries.old.items → vec_len entries.old + length group.old ≤ vec_capacity entries.old
+    ensures got { (plans : List ClientPlan) (s : core.State) → AllByRecursion (IsCounted plans) group.old
+        → s.entries ≡ map (shown_entry plans) entries.old.items
+        → vec_len entries.old + length group.old ≤ vec_capacity entries.old
         → GotRuns plans s s.entries last group.old group.new entries.new.items result }
     ensures writers { map unanswered group.new ≡ map unanswered group.old }
     ensures fits { result ≤ 2 ^ 56 - 1 }
@@ -35,12 +34,14 @@ pub(crate) fn give_runs(group: &mut [Writer], entries: &mut Vec<CoreEntry>, last
     given
 }
 
-/// Gives a writer its run behind the sequence `last`, and an entry, or refuses it. Entries from `before` on are those of
+/// Gives a writer its run after the sequence `last`, and an entry, or refuses it. Entries from `before` on are those of
 /// its own group. The result is the sequence given last.
-fn give_run(writer: &mut Writer, entries: &mut Vec<CoreEntry>, before: usize, last: u64) -> u64
+fn give_run(writer: &mut Writer, entries: &mut Vec<Entry<Lines>>, before: usize, last: u64) -> u64
     requires known { before ≤ vec_len entries.old }
     requires last_fits { last ≤ 2 ^ 56 - 1 }
-    ensures got { (plans : List ClientPlan) (s : core.State) → IsCounted plans writer.old → s.entries ≡ map (shown_entry plans) (take before entries.old.items) → vec_len entries.old < vec_capacity entries.old
+    ensures got { (plans : List ClientPlan) (s : core.State) → IsCounted plans writer.old
+        → s.entries ≡ map (shown_entry plans) (take before entries.old.items)
+        → vec_len entries.old < vec_capacity entries.old
         → GotRuns plans s (map (shown_entry plans) entries.old.items) last (writer.old ∷ []) (writer.new ∷ []) entries.new.items result }
     ensures writer { unanswered writer.new ≡ unanswered writer.old }
     ensures fits { result ≤ 2 ^ 56 - 1 }
@@ -48,30 +49,31 @@ fn give_run(writer: &mut Writer, entries: &mut Vec<CoreEntry>, before: usize, la
     ensures upper { vec_len entries.new ≤ vec_len entries.old + 1 }
     ensures capacity { vec_capacity entries.new ≡ vec_capacity entries.old }
 {
-    if writer.count > MAX_SEQUENCE - last {
-        let why = Refusal::SequenceFull { last };
-        writer.answer = Some(Answer::Refused { why });
-        return last;
-    }
-    let entry = CoreEntry {
+    let run = match next_run(last, writer.count) {
+        Ok(run) => run,
+        Err(why) => {
+            writer.answer = Some(Answer::Refused { why });
+            return last;
+        }
+    };
+    let entry = Entry {
         client: writer.client,
         ordinal: accepted_before(entries, before, writer.client) + 1,
-        first: last + 1,
-        count: writer.count,
+        first: run.first,
+        last: run.last,
         flag: flag_of(writer.options),
         batch: writer.batch,
     };
     push_within(entries, entry);
-    let given = last + writer.count;
     writer.answer = Some(Answer::Accepted {
-        first: last + 1,
-        last: given,
+        first: run.first,
+        last: run.last,
     });
-    given
+    run.last
 }
 
 /// How many of the first `before` entries are a client's.
-fn accepted_before(entries: &[CoreEntry], before: usize, client: u32) -> u64
+fn accepted_before(entries: &[Entry<Lines>], before: usize, client: u32) -> u64
     requires { before ≤ length entries.now }
     ensures counted { result ≡ count_by (λ e. e.client == client) (take before entries.now) }
     ensures few { result ≤ before }
@@ -80,17 +82,4 @@ fn accepted_before(entries: &[CoreEntry], before: usize, client: u32) -> u64
         .iter()
         .filter(|entry| entry.client == client)
         .count() as u64
-}
-
-/// How a batch that was committed so stands in the history.
-fn flag_of(options: WriteOptions) -> Flag
-    ensures { result ≡ flag_of options }
-{
-    if options.no_log {
-        Flag::NoLog
-    } else if options.sync {
-        Flag::Sync
-    } else {
-        Flag::Log
-    }
 }

@@ -3,8 +3,9 @@
 ghost use Rattle.std.specs.Prelude.{◌≡◌, ◌+◌, ◌-◌, ◌^◌, ◌<◌, ◌≤◌, ◌⊎◌, MatchOption, vec_len};
 
 use crate::phases::{LogPhase, Mark, TablePhase};
-use crate::plan::ClientPlan;
-use crate::writer::{CoreEntry, CoreReply, Writer};
+use crate::writer::{CoreReply, Writer};
+use client_calls::Entry;
+use core_plans::{ClientPlan, Lines};
 use wp_model::Item;
 
 /// How the core is set up.
@@ -21,7 +22,7 @@ pub struct CoreOptions {
 }
 
 /// Where a client is.
-#[derive(Debug, Drop)]
+#[derive(Drop)]
 pub(crate) struct Seat {
     /// The line that it comes to next.
     pub(crate) next: usize,
@@ -43,9 +44,9 @@ pub struct State {
     pub(crate) marks: Vec<Mark>,
     /// Each client's writer, where that has left with its answer and the client doesn't have it yet.
     pub(crate) done: Vec<Option<Writer>>,
-    /// The writers that wait, the first linked of them first: the groups of the second queue, the group in hand, and
+    /// The linked writers, in order: the groups of the second queue, the group in hand, and
     /// the queue.
-    pub(crate) waiting: Vec<Writer>,
+    pub(crate) linked: Vec<Writer>,
     /// What grouping sees of each of them.
     pub(crate) items: Vec<Item>,
     /// How many writers each group of the second queue has, and all these groups together.
@@ -59,15 +60,15 @@ pub struct State {
     pub(crate) last_finished: Option<u32>,
     /// How many entries each logged group has.
     pub(crate) groups: Vec<u64>,
-    pub(crate) entries: Vec<CoreEntry>,
+    pub(crate) entries: Vec<Entry<Lines>>,
     /// The sequence given last.
     pub(crate) assigned: u64,
     /// Whether the log has failed.
-    pub(crate) dead: bool,
+    pub(crate) log_failed: bool,
     /// The sequence published last.
     pub(crate) last: u64,
-    ghost one_item_each: { vec_len items ≡ vec_len waiting },
-    ghost groups_wait: { in_second + in_hand ≤ vec_len waiting },
+    ghost one_item_each: { vec_len items ≡ vec_len linked },
+    ghost groups_wait: { in_second + in_hand ≤ vec_len linked },
     ghost one_seat_each: { vec_len seats ≡ vec_len plans },
     ghost one_mark_each: { vec_len marks ≡ vec_len plans },
     ghost one_done_each: { vec_len done ≡ vec_len plans },

@@ -1,10 +1,9 @@
 //! The table of events.
 
-ghost use Rattle.core_model.specs.Core as core;
-ghost use Rattle.core_model.specs.CoreLaw.{IsCore};
-ghost use Rattle.core_model.specs.Step as table;
-ghost use Rattle.write_core.specs.Mirrors.{Mirrors, Stepped};
-ghost use Rattle.write_core.specs.Replay.{IsReplay};
+ghost use Rattle.std.specs.Prelude.{◌≡◌, false};
+ghost use Rattle.write_core.specs.Shown.{plans_in};
+ghost use Rattle.write_core.specs.Replay.{Replays};
+ghost use Rattle.write_core.specs.Shows.{Takes};
 
 use crate::state::State;
 use core_model::Event;
@@ -18,9 +17,12 @@ pub struct Counts {
 }
 
 impl State {
-    /// Takes an event, if it may come. Where it may not nothing changes, and the answer is false. This takes no memory.
+    /// Takes an event, if it may come. Where it may not nothing changes, and the answer is false. The plans stay as they
+    /// are. This takes no memory.
     pub fn step(&mut self, event: Event) -> bool
-        ensures { (o : core.Options) (s : core.State) → IsCore o s → Mirrors o self.old s → Stepped (table.step o s event) o s result self.new }
+        ensures takes { Takes event self.old result self.new }
+        ensures unchanged { result ≡ false → self.new ≡ self.old }
+        ensures plans { plans_in self.new ≡ plans_in self.old }
     {
         match event {
             Event::Link(client) => self.link(client),
@@ -56,7 +58,7 @@ impl State {
 }
 
 impl Counts {
-    ghost use Rattle.std.specs.Prelude.{◌≡◌, ◌+◌, ◌-◌, ◌^◌, ◌<◌};
+    ghost use Rattle.std.specs.Prelude.{◌+◌, ◌-◌, ◌^◌, ◌<◌};
     ghost use Rattle.write_core.specs.Counted.{counted};
 
     /// The counts after one more event, which came or not.
@@ -80,7 +82,9 @@ impl Counts {
 
 /// Takes events in order. Those that may not come are passed over.
 pub fn replay(state: &mut State, events: &[Event]) -> Counts
-    ensures { (o : core.Options) (s : core.State) → IsCore o s → Mirrors o state.old s → IsReplay o result state.new (table.replay o s events.now) }
+    ensures replays { Replays events.now state.old result state.new }
+    ensures unchanged { result.taken ≡ 0 → state.new ≡ state.old }
+    ensures plans { plans_in state.new ≡ plans_in state.old }
 {
     let mut counts = Counts {
         taken: 0,

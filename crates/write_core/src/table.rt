@@ -1,6 +1,6 @@
 //! The events of the memtable, from launching a group to its leaving.
 
-ghost use Rattle.std.specs.Prelude.{◌≡◌};
+ghost use Rattle.std.specs.Prelude.{◌≡◌, false};
 ghost use Rattle.write_core.specs.Leads.{last_after, finished_last};
 
 use crate::leaving::{note_group, remove_range};
@@ -14,13 +14,18 @@ impl State {
     ghost use Rattle.core_model.specs.Step as event;
     ghost use Rattle.std.specs.Prelude.{◌==◌, ◌&&◌, ◌||◌, not, fold, drop, length, ◌<◌};
     ghost use Rattle.std.specs.List.{list_any, list_all};
-    ghost use Rattle.write_core.specs.Leads.{leads_front, table_start, table_len, table_part, has_run, last_after};
+    ghost use Rattle.write_core.specs.Leads.{leads_front, has_run, last_after};
+    ghost use Rattle.write_core.specs.TableGroup.{table_start_in, table_len_in, table_group_in};
     ghost use Rattle.write_core.specs.Phases.{is_finished};
-    ghost use Rattle.write_core.specs.Mirrors.{Mirrors, Stepped, mark_of};
+    ghost use Rattle.write_core.specs.Shown.{plans_in};
+    ghost use Rattle.write_core.specs.Mirrors.{Mirrors, mark_of};
+    ghost use Rattle.write_core.specs.Steps.{Steps};
 
     /// Nothing is launched, and the client leads the group that comes next.
     pub(crate) fn launch(&mut self, client: u32) -> bool
-        ensures { (o : core.Options) (s : core.State) → Mirrors o self.old s → Stepped (event.launch o s client s.table) o s result self.new }
+        ensures steps { Steps (λ o s. event.launch o s client s.table) self.old result self.new }
+        ensures unchanged { result ≡ false → self.new ≡ self.old }
+        ensures plans { plans_in self.new ≡ plans_in self.old }
     {
         if !self.table.is_still() {
             return false;
@@ -36,7 +41,9 @@ impl State {
 
     /// The client has a run in the launched group, and inserts its entry.
     pub(crate) fn insert(&mut self, client: u32) -> bool
-        ensures { (o : core.Options) (s : core.State) → Mirrors o self.old s → Stepped (event.insert o s client s.table) o s result self.new }
+        ensures steps { Steps (λ o s. event.insert o s client s.table) self.old result self.new }
+        ensures unchanged { result ≡ false → self.new ≡ self.old }
+        ensures plans { plans_in self.new ≡ plans_in self.old }
     {
         if !self.table.is_launched() {
             return false;
@@ -53,7 +60,9 @@ impl State {
 
     /// The client has inserted, and is finished.
     pub(crate) fn finish(&mut self, client: u32) -> bool
-        ensures { (o : core.Options) (s : core.State) → Mirrors o self.old s → Stepped (event.finish s client s.table) o s result self.new }
+        ensures steps { Steps (λ o s. event.finish s client s.table) self.old result self.new }
+        ensures unchanged { result ≡ false → self.new ≡ self.old }
+        ensures plans { plans_in self.new ≡ plans_in self.old }
     {
         if !self.table.is_launched() {
             return false;
@@ -72,7 +81,9 @@ impl State {
 
     /// All are finished, the client last. The group's last sequence is published.
     pub(crate) fn publish(&mut self, client: u32) -> bool
-        ensures { (o : core.Options) (s : core.State) → Mirrors o self.old s → Stepped (event.publish o s client s.table) o s result self.new }
+        ensures steps { Steps (λ o s. event.publish o s client s.table) self.old result self.new }
+        ensures unchanged { result ≡ false → self.new ≡ self.old }
+        ensures plans { plans_in self.new ≡ plans_in self.old }
     {
         if !self.table.is_launched() {
             return false;
@@ -90,7 +101,9 @@ impl State {
 
     /// The client leads the published group. Its members leave with their answers.
     pub(crate) fn exit(&mut self, client: u32) -> bool
-        ensures { (o : core.Options) (s : core.State) → Mirrors o self.old s → Stepped (event.exit o s client s.table) o s result self.new }
+        ensures steps { Steps (λ o s. event.exit o s client s.table) self.old result self.new }
+        ensures unchanged { result ≡ false → self.new ≡ self.old }
+        ensures plans { plans_in self.new ≡ plans_in self.old }
     {
         if !self.table.is_published() {
             return false;
@@ -111,11 +124,13 @@ impl State {
     /// The first group of the second queue leaves with its answers.
     fn leave_second(&mut self)
         requires { 0 < length self.old.second.items }
-        ensures { (o : core.Options) (s : core.State) → Mirrors o self.old s → Mirrors o self.new (record (event.leave s (core.first_group s.second)) { second = drop 1 s.second }) }
+        ensures left { (o : core.Options) (s : core.State) → Mirrors o self.old s
+            → Mirrors o self.new (record (event.leave s (core.first_group s.second)) { second = drop 1 s.second }) }
+        ensures plans { plans_in self.new ≡ plans_in self.old }
     {
         let len = self.second[0].min(self.in_second);
-        note_group(&mut self.done, &self.waiting[..len]);
-        remove_range(&mut self.waiting, 0, len);
+        note_group(&mut self.done, &self.linked[..len]);
+        remove_range(&mut self.linked, 0, len);
         remove_range(&mut self.items, 0, len);
         self.second.remove(0);
         self.in_second -= len;
@@ -123,7 +138,7 @@ impl State {
 
     /// Where the group begins that is in the table or comes there next.
     fn table_start(&self) -> usize
-        ensures { result ≡ table_start self.now.options.pipelined self.now.in_second }
+        ensures { result ≡ table_start_in self.now }
     {
         if self.options.pipelined {
             0
@@ -134,7 +149,7 @@ impl State {
 
     /// How many writers it has.
     fn table_len(&self) -> usize
-        ensures { result ≡ table_len self.now.options.pipelined self.now.second.items self.now.log self.now.in_hand }
+        ensures { result ≡ table_len_in self.now }
     {
         if self.options.pipelined {
             match self.second.first() {
@@ -150,18 +165,18 @@ impl State {
 
     /// Whether the client leads the group in the table.
     fn leads_table(&self, client: u32) -> bool
-        ensures { result ≡ leads_front client (table_start self.now.options.pipelined self.now.in_second) (table_len self.now.options.pipelined self.now.second.items self.now.log self.now.in_hand) self.now.waiting.items }
+        ensures { result ≡ leads_front client (table_start_in self.now) (table_len_in self.now) self.now.linked.items }
     {
         self.table_len() > 0 && self.leads(client, self.table_start())
     }
 
     /// Whether the client has a run in the group in the table.
     fn has_runner(&self, client: u32) -> bool
-        ensures { result ≡ list_any (λ w. w.client == client && has_run w.answer) (table_part self.now.options.pipelined self.now.in_second self.now.second.items self.now.log self.now.in_hand self.now.waiting.items) }
+        ensures { result ≡ list_any (λ w. w.client == client && has_run w.answer) (table_group_in self.now) }
     {
         let start = self.table_start();
         let len = self.table_len();
-        self.waiting
+        self.linked
             .iter()
             .skip(start)
             .take(len)
@@ -170,21 +185,22 @@ impl State {
 
     /// Whether all that have runs in the group in the table are finished.
     fn all_finished(&self) -> bool
-        ensures { result ≡ list_all (λ w. not (has_run w.answer) || is_finished (mark_of self.now.marks.items w.client)) (table_part self.now.options.pipelined self.now.in_second self.now.second.items self.now.log self.now.in_hand self.now.waiting.items) }
+        ensures { result
+            ≡ list_all (λ w. not (has_run w.answer) || is_finished (mark_of self.now.marks.items w.client)) (table_group_in self.now) }
     {
         let start = self.table_start();
         let len = self.table_len();
-        self.waiting.iter().skip(start).take(len).all(|writer| !writer.has_run()
+        self.linked.iter().skip(start).take(len).all(|writer| !writer.has_run()
             || mark_of(&self.marks, writer.client).is_finished())
     }
 
     /// The last sequence of the group in the table.
     fn group_last(&self) -> u64
-        ensures { result ≡ fold (λ n w. last_after n w.answer) self.now.last (table_part self.now.options.pipelined self.now.in_second self.now.second.items self.now.log self.now.in_hand self.now.waiting.items) }
+        ensures { result ≡ fold (λ n w. last_after n w.answer) self.now.last (table_group_in self.now) }
     {
         let start = self.table_start();
         let len = self.table_len();
-        self.waiting
+        self.linked
             .iter()
             .skip(start)
             .take(len)

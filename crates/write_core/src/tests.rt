@@ -1,19 +1,20 @@
 ghost use Rattle.std.specs.Prelude.{◌≡◌};
 
 use super::*;
-use core_model::Event::{self, *};
+use client_calls::Command;
+use core_model::Event::*;
 use std::alloc::Global;
 use std::process::Abort;
 use std::test::Fail;
-use wp_coding::{Bytes, Found};
-use wp_model::{Flag, NoMemory, Refusal, WriteOptions};
+use wp_coding::Bytes;
+use wp_model::{NoMemory, Refusal, WriteOptions};
 
 fn bytes(alloc: Global, text: &[u8]) -> Result<Bytes, NoMemory> {
     Bytes::copy(alloc, text)
 }
 
-fn put(alloc: Global, key: &[u8], value: &[u8]) -> Result<PlanLine, NoMemory> {
-    Ok(PlanLine::Put {
+fn put(alloc: Global, key: &[u8], value: &[u8]) -> Result<Command, NoMemory> {
+    Ok(Command::Put {
         key: bytes(alloc, key)?,
         value: bytes(alloc, value)?,
     })
@@ -38,7 +39,7 @@ fn two_clients(rt: &impl Abort, alloc: Global) -> Result<State, Fail> {
     let mut second = Vec::new(alloc);
     second.push(put(alloc, b"b", b"2")?)?;
     second.push(commit())?;
-    second.push(PlanLine::Get {
+    second.push(Command::Get {
         key: bytes(alloc, b"a")?,
     })?;
     let mut plans = Vec::new(alloc);
@@ -48,8 +49,8 @@ fn two_clients(rt: &impl Abort, alloc: Global) -> Result<State, Fail> {
     Ok(State::new(alloc, plans, options(0))?)
 }
 
-fn commit() -> PlanLine {
-    PlanLine::Commit {
+fn commit() -> Command {
+    Command::Commit {
         options: WriteOptions {
             sync: false,
             no_log: false,
@@ -102,10 +103,6 @@ fn replays_two_groups(rt: HostRuntime) -> Result<(), Fail> {
         CoreReply::ReadAt { at: 2 },
     ];
     assert_eq!(rt; state.replies(2), second.as_slice());
-    let one = Found::Value(bytes(rt.alloc(), b"1")?);
-    assert_eq!(rt; state.value(rt.alloc(), b"a", 2)?, one);
-    assert_eq!(rt; state.value(rt.alloc(), b"b", 1)?, Found::Absent);
-    assert_eq!(rt; state.map(rt.alloc())?.len(), 2);
     assert_eq!(rt; state.logged(), [1, 1].as_slice());
     assert_eq!(rt; state.entries().len(), 2);
     assert_eq!(rt; state.last(), 2);
@@ -195,22 +192,5 @@ fn refuses_a_run_that_passes_the_last_sequence(rt: HostRuntime) -> Result<(), Fa
         last: 72057594037927934,
     };
     assert_eq!(rt; state.replies(2), [accepted].as_slice());
-    Ok(())
-}
-
-#[test]
-fn shows_the_lines_of_a_batch(rt: HostRuntime) -> Result<(), Fail> {
-    let state = two_clients(&rt, rt.alloc())?;
-    assert_eq!(rt; state.plans().len(), 2);
-    assert_eq!(rt; state.map(rt.alloc())?.len(), 0);
-    let entry = CoreEntry {
-        client: 2,
-        ordinal: 1,
-        first: 1,
-        count: 1,
-        flag: Flag::Log,
-        batch: Lines { from: 0, to: 1 },
-    };
-    assert_eq!(rt; state.batch_lines(&entry).len(), 1);
     Ok(())
 }

@@ -1,13 +1,7 @@
 //! Batches on their way, and what becomes of them.
 
-use wp_model::{Flag, Refusal, WriteOptions};
-
-/// The lines of a client's plan from one place on and before another, counted from 0. What they add is a batch.
-#[derive(Clone, Copy, Debug, PartialEq, Eq)]
-pub struct Lines {
-    pub from: usize,
-    pub to: usize,
-}
+use core_plans::Lines;
+use wp_model::{Refusal, WriteOptions};
 
 /// What a client was told of a commit or a read.
 #[derive(Clone, Copy, Debug, PartialEq, Eq)]
@@ -19,24 +13,8 @@ pub enum CoreReply {
     ReadAt { at: u64 },
 }
 
-/// An entry of the history: a batch with its run of sequences.
-#[derive(Clone, Copy, Debug, PartialEq, Eq)]
-pub struct CoreEntry {
-    /// Whose batch it is; clients are numbered from 1.
-    pub client: u32,
-    /// The how many-th accepted batch of that client, from 1.
-    pub ordinal: u64,
-    /// The first sequence of the run.
-    pub first: u64,
-    /// How many sequences the run has.
-    pub count: u64,
-    pub flag: Flag,
-    /// Where the batch stands in its client's plan.
-    pub batch: Lines,
-}
-
 /// The answer that a writer leaves with.
-#[derive(Clone, Copy, Debug, PartialEq, Eq)]
+#[derive(Clone, Copy)]
 pub(crate) enum Answer {
     Accepted { first: u64, last: u64 },
     Refused { why: Refusal },
@@ -44,7 +22,7 @@ pub(crate) enum Answer {
 
 /// A batch that waits: whose, how it is to be written, how many records of it count, and its answer, once it has
 /// one.
-#[derive(Clone, Copy, Debug)]
+#[derive(Clone, Copy)]
 pub(crate) struct Writer {
     pub(crate) client: u32,
     pub(crate) options: WriteOptions,

@@ -1,17 +1,8 @@
-mod Words
-mod Clients
-mod Shown
-mod ShownRecovered
 mod Refusing
 mod Asked
 mod Endings
 mod OneClient
 mod WholeTexts
 mod Recoveries
-mod ReplayedClients
-mod ReplayedHistory
-mod Replayings
-mod ReplayTexts
 mod ReplayEndings
 mod WholeSchedules
-mod SmallPlans

@@ -5,18 +5,20 @@ use Rattle.wp_model.specs.declared.memory.NoMemory.{NoMemory}
 use Rattle.core_model.specs.Schedule.{Schedule, schedule_of, clients_grammar, first_event_words}
 use Rattle.writepath_top.specs.declared.reading.ReadError.{ReadError}
 use Rattle.writepath_top.specs.declared.reading.ReadError.TheVariants as read
-use Rattle.writepath_top.specs.declared.replaying.Replayed.{Replayed}
-use Rattle.writepath_top.specs.declared.replaying.ReplayOptions.{ReplayOptions}
+use Rattle.schedule_run.specs.declared.replaying.Replayed.{Replayed}
+use Rattle.client_calls.specs.declared.options.Options.{Options}
 use Rattle.writepath_top.specs.declared.telling.Status.{Status}
 use Rattle.writepath_top.specs.declared.telling.Status.TheVariants as status
 use Rattle.writepath_top.specs.Reading.{IsScheduleError}
-use Rattle.writepath_top.specs.Replays.{ShowsReplayed, replayed_of, TellsText, Replays, ReplaysFront}
+use Rattle.writepath_top.specs.Replays.{TellsText, Replays, ReplaysFront}
+use Rattle.schedule_run.specs.Replayed.{ShowsReplayed, replayed_of}
 use Rattle.writepath_top.specs.Telling.{code, TellsReadError, TellsReplay}
-use Rattle.writepath_top.specs.Texts.{SaysTo, source_fault}
-use Rattle.one_client.specs.Counts.{IsReached}
+use Rattle.writepath_top.specs.Texts.{SaysTo}
+use Rattle.printed_text.specs.Refusals.{source_fault}
+use Rattle.run_model.specs.Running.{IsReached}
 use Rattle.writepath_top.proofs.Endings.{refused_as}
 
-pub replays_whole : (options : ReplayOptions) (s : Schedule) (found : Result Replayed NoMemory) (kf kfs n : ℕ) (given : Status) (left sold snew : Option (List ℕ)) → n ≡ code given
+pub replays_whole : (options : Options) (s : Schedule) (found : Result Replayed NoMemory) (kf kfs n : ℕ) (given : Status) (left sold snew : Option (List ℕ)) → n ≡ code given
     → IfSome left (λ text. schedule_of clients_grammar first_event_words text ≡ Ok s) → IfOk found (λ shown. ShowsReplayed shown (replayed_of options s)) → TellsReplay sold snew kf kfs found given
     → TellsText left sold snew (λ text before after. n ≡ 0 → Replays options before after text)
 replays_whole options s (Ok shown) kf kfs n status.Done (Some text) (Some before) (Some after) is said shows tells =
@@ -25,7 +27,7 @@ replays_whole options s (Ok shown) kf kfs n given (Some text) (Some before) (Som
 replays_whole options s (Err why) kf kfs n given (Some text) (Some before) (Some after) is said shows tells = λ zero. absurd (let a : n ≡ 6 = is ∙ ap code tells.0 in omega (arith, a, zero))
 replays_whole options s found kf kfs n given left sold snew is said shows tells = tt
 
-pub replays_front : (options : ReplayOptions) (s : Schedule) (found : Result Replayed NoMemory) (kf kfs n : ℕ) (given : Status) (left sold snew : Option (List ℕ)) → n ≡ code given
+pub replays_front : (options : Options) (s : Schedule) (found : Result Replayed NoMemory) (kf kfs n : ℕ) (given : Status) (left sold snew : Option (List ℕ)) → n ≡ code given
     → IfSome left (λ text. schedule_of clients_grammar first_event_words text ≡ Ok s) → IfOk found (λ shown. ShowsReplayed shown (replayed_of options s)) → TellsReplay sold snew kf kfs found given
     → TellsText left sold snew (λ text before after. n ≡ 5 → ReplaysFront options before after text)
 replays_front options s (Ok shown) kf kfs n status.Sink (Some text) (Some before) (Some after) is said shows tells =
@@ -38,6 +40,13 @@ pub replay_silent : (found : Result Replayed NoMemory) (kf kfs n : ℕ) (given :
 replay_silent (Ok shown) kf kfs n status.Memory sold snew is tells six = tells
 replay_silent (Ok shown) kf kfs n given sold snew is tells six = absurd (omega (arith, is, six))
 replay_silent (Err why) kf kfs n given sold snew is tells six = tells.1
+
+pub replay_counted : (found : Result Replayed NoMemory) (kf kfs n : ℕ) (given : Status) (sold snew : Option (List ℕ)) → n ≡ code given → TellsReplay sold snew kf kfs found given → n ≡ 0 → kfs ≡ kf
+replay_counted (Ok shown) kf kfs n status.Done sold snew is tells zero = tells.3
+replay_counted (Ok shown) kf kfs n status.Sink sold snew is tells zero = absurd (omega (arith, is, zero))
+replay_counted (Ok shown) kf kfs n status.Memory sold snew is tells zero = absurd (omega (arith, is, zero))
+replay_counted (Ok shown) kf kfs n other sold snew is tells zero = absurd tells
+replay_counted (Err why) kf kfs n given sold snew is tells zero = absurd (let a : n ≡ 6 = is ∙ ap code tells.0 in omega (arith, a, zero))
 
 -- No schedule was read
 

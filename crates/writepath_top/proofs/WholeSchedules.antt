@@ -6,7 +6,7 @@ use Rattle.core_model.specs.Schedule as model
 use Rattle.core_model.specs.Schedule.{schedule_of, clients_grammar, first_event_words, lines_read, finished}
 use Rattle.client_script.specs.declared.schedule.Schedule.{Schedule}
 use Rattle.client_script.specs.Schedules as parsed
-use Rattle.client_script.specs.Scripts.{FitsBatches, HasShortWords}
+use Rattle.client_script.specs.Scripts.{FitsBatches, HasScriptCommands}
 use Rattle.writepath_top.specs.Reading.{HasRead, HasSchedule}
 
 -- a longer text has a fault
@@ -27,13 +27,13 @@ whole (Some xs) (Some ys) text s has short e =
     ap (schedule_of clients_grammar first_event_words) same ∙ e
 
 pub has_schedule : (old new : Option (List ℕ)) (text : List ℕ) (s : Schedule) → HasRead old new text → schedule_of clients_grammar first_event_words text ≡ Ok (parsed.schedule_of s)
-    → (1 ≤ length s.script.clients.items) × (length s.script.clients.items ≤ 16) → FitsBatches s.script → HasShortWords s.script → HasSchedule old new s
-has_schedule old new text s has e clients fits words =
+    → (1 ≤ length s.script.clients.items) × (length s.script.clients.items ≤ 16) → FitsBatches s.script → HasScriptCommands s.script → HasSchedule old new s
+has_schedule old new text s has e clients fits commands =
     let short = said_len text (parsed.schedule_of s) e in
     record {
       said = whole old new text (parsed.schedule_of s) has short e;
       ended = has.whole short;
       clients = clients;
       fits = fits;
-      words = words;
+      commands = commands;
     }

@@ -7,7 +7,8 @@ use Rattle.wp_model.specs.Script as model
 use Rattle.wp_model.specs.Script.{script_of, run_grammar, lines_read, with_client}
 use Rattle.client_script.specs.declared.script.Script.{Script}
 use Rattle.writepath_top.specs.Reading.{HasRead, HasScript}
-use Rattle.client_script.specs.Scripts.{commands_of, command_of, FitsBatches, HasShortWords}
+use Rattle.client_calls.specs.Commands.{command_of}
+use Rattle.client_script.specs.Scripts.{commands_of, FitsBatches, HasScriptCommands}
 use Rattle.writepath_top.proofs.OneClient.{one_said}
 
 -- a longer text has a fault
@@ -27,14 +28,14 @@ whole (Some xs) (Some ys) text s has short e =
     let same : xs ≡ text = has.consumed ∙ ap (λ r. text ++ r) none ∙ append-nil text in
     ap (script_of run_grammar) same ∙ e
 
-pub has_script : (old new : Option (List ℕ)) (text : List ℕ) (s : Script) → HasRead old new text → script_of run_grammar text ≡ Ok (commands_of s) → FitsBatches s → HasShortWords s
+pub has_script : (old new : Option (List ℕ)) (text : List ℕ) (s : Script) → HasRead old new text → script_of run_grammar text ≡ Ok (commands_of s) → FitsBatches s → HasScriptCommands s
     → HasScript old new s
-has_script old new text s has e fits words =
+has_script old new text s has e fits commands =
     let short = said_len text (commands_of s) e in
     record {
       said = whole old new text (commands_of s) has short e;
       ended = has.whole short;
       one = sym (length-map s.clients.items (λ cs. map command_of cs.items)) ∙ one_said text (commands_of s) e;
       fits = fits;
-      words = words;
+      commands = commands;
     }

@@ -1,8 +1,6 @@
-pub mod ShownText
 pub mod Texts
 pub mod Asking
 pub mod Reading
-pub mod Replaying
 pub mod Replays
 pub mod Telling
 pub mod Outcomes

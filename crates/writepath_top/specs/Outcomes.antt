@@ -1,73 +1,133 @@
 -- What the command `run` promises: every reply that is printed is that of a plain map at its point of one printed history.
-use Rattle.std.specs.Prelude.{◌≡◌, ◌⊎◌, ℕ, List, Option, Some, None, IsSome, ⊤}
+-- Each device tells its bytes, or it doesn't (`None`). What is said of one stands whatever the others tell.
+use Rattle.std.specs.Prelude.{◌≡◌, ◌⊎◌, ℕ, List, Option, Some, None, Ok, IfSome, IsSome, take, slice_get}
 use Rattle.std.specs.List.{AllByRecursion}
-use Rattle.wp_edge.specs.Disk.{Disk, IsImage}
+use Rattle.std.specs.Io.KnownBytes.{Appends}
+use Rattle.wp_edge.specs.Disk.{Disk, Told}
+use Rattle.wp_edge.specs.declared.source.Source as source
+use Rattle.wp_edge.specs.declared.disk.Disk as disk
+use Rattle.wp_edge.specs.declared.sink.Sink as sink
 use Rattle.wp_model.specs.Calls as calls
+use Rattle.wp_model.specs.Script.{Script, script_of, run_grammar}
 use Rattle.wp_model.specs.Text.{outcome_text}
 use Rattle.wp_model.specs.Runs.{NoneWithoutMemory}
-use Rattle.one_client.specs.Running.{Setting, IsLegalOf, LeavesLog}
-use Rattle.one_client.specs.Crashes.{IsCrashSafe}
-use Rattle.one_client.specs.Refusals.{AreRefusedForThemselves}
-use Rattle.writepath_top.specs.Texts.{Prints, PrintsFront, Says, disk_fault, Untouched}
-use Rattle.one_client.specs.Counts.{IsReached}
+use Rattle.client_calls.specs.declared.options.Options.{Options}
+use Rattle.run_model.specs.Crashes.{IsImageSince}
+use Rattle.run_model.specs.Running.{Execution, execution_of, IsLegalOf, LeavesSafeLog, IsReached}
+use Rattle.run_model.specs.Refusals.{AreRefusedForThemselves}
+use Rattle.printed_text.specs.Refusals.{disk_fault}
+use Rattle.writepath_top.specs.Texts.{SaysTo}
 
--- What the devices tell of a call, where they do: the source's bytes, the sink's before and after it, the disk before and after it.
-abbrev pub Tells : Option (List ℕ) → Option (List ℕ) → Option (List ℕ) → Option Disk → Option Disk → (List ℕ → List ℕ → List ℕ → Disk → Disk → Type 0) → Type 0
-Tells (Some text) (Some before) (Some after) (Some opened) (Some ended) P = P text before after opened ended
-Tells text before after opened ended P = ⊤
+-- A legal outcome of a run. Where the disk tells its bytes the run found the log empty and left the batches of this outcome there, and a crash at any
+-- moment of it leaves a prefix of them to recover.
+pub record IsOutcome (execution : Execution) (opened ended : Option Disk) (o : calls.Outcome) : Type 0 where
+  pub legal : IsLegalOf execution o
+  pub log : Told opened ended (LeavesSafeLog execution o)
 
--- A legal outcome of the script, of a run that found the log empty and left its batches there. A crash at any moment of it leaves a prefix of them to
--- recover.
-pub record IsOutcome (setting : Setting) (opened ended : Disk) (o : calls.Outcome) : Type 0 where
-  pub legal : IsLegalOf setting o
-  pub log : LeavesLog o opened ended
-  pub crash : IsCrashSafe legal.handled o log.groups ended.content setting.left (IsImage ended)
+-- a prefix of the text was taken
+abbrev pub TakesPrefix : Option (List ℕ) → Option (List ℕ) → List ℕ → Type 0
+TakesPrefix before after text = (n : ℕ) × Appends before after (take n text)
 
--- status 0: it was printed, no write of the log failed, commits were refused for themselves alone, and no client ran out of memory
-pub record RanWhole (setting : Setting) (before after : List ℕ) (opened ended : Disk) : Type 0 where
-  pub outcome : calls.Outcome
-  pub is_outcome : IsOutcome setting opened ended outcome
-  pub printed : Prints before after (outcome_text outcome)
-  pub no_fault : outcome.fault ≡ None
-  pub taken : AllByRecursion AreRefusedForThemselves outcome.transcripts
-  pub whole : AllByRecursion NoneWithoutMemory outcome.transcripts
+-- where the log has no fault commits were refused for themselves alone
+abbrev pub RefusesForThemselves : calls.Outcome → Type 0
+RefusesForThemselves o = o.fault ≡ None → AllByRecursion AreRefusedForThemselves o.transcripts
 
--- status 3, where the log was opened: it was printed, and a write of the log failed
-pub record RanToFault (setting : Setting) (before after : List ℕ) (opened ended : Disk) : Type 0 where
-  pub outcome : calls.Outcome
-  pub is_outcome : IsOutcome setting opened ended outcome
-  pub printed : Prints before after (outcome_text outcome)
-  pub fault : IsSome outcome.fault
+-- What the devices tell of a call, where they do, and how a script is run there
+pub record Observed : Type 1 where
+  -- what the source had
+  pub text : Option (List ℕ)
+  -- what the sink had taken before the call, and after it
+  pub before : Option (List ℕ)
+  pub after : Option (List ℕ)
+  -- the log's disk before the call, and after it
+  pub opened : Option Disk
+  pub ended : Option Disk
+  pub execution : Script → Execution
 
--- and where it wasn't
-pub record DiskRefused (before after : List ℕ) (opened ended : Disk) (failed fails sink_failed sink_fails : ℕ) : Type 0 where
-  pub count : ℕ
-  pub reached : IsReached failed count fails
-  pub untouched : Untouched opened ended
-  pub said : Says before after (disk_fault count) sink_failed sink_fails
+abbrev pub observed : {S D K : Type 0} → source.Ghosts S → disk.Ghosts D → sink.Ghosts K → Options → S → D → D → K → K → Observed
+observed source disk sink options had opened ended before after = record {
+  text = source.left had;
+  before = sink.taken before;
+  after = sink.taken after;
+  opened = disk.told opened;
+  ended = disk.told ended;
+  execution = λ script. execution_of options script (disk.faults opened) (disk.faults ended) (IsImageSince disk.moment disk.from disk.since opened ended);
+}
 
--- status 5: a front of it was taken
-pub record RanToSinkFault (setting : Setting) (before after : List ℕ) (opened ended : Disk) : Type 0 where
-  pub outcome : calls.Outcome
-  pub is_outcome : IsOutcome setting opened ended outcome
-  pub printed : PrintsFront before after (outcome_text outcome)
-  pub taken : outcome.fault ≡ None → AllByRecursion AreRefusedForThemselves outcome.transcripts
+-- some client's call found no memory
+pub record LacksMemory (o : calls.Outcome) : Type 0 where
+  pub client : ℕ
+  pub transcript : List calls.Call
+  pub of_client : slice_get o.transcripts client ≡ Some transcript
+  pub place : ℕ
+  pub call : calls.Call
+  pub there : slice_get transcript place ≡ Some call
+  pub reply : call.reply ≡ calls.no_memory
 
--- status 6: nothing was taken, and there is an outcome all the same if the log was opened
-pub record RanSilent (setting : Setting) (before after : List ℕ) (opened ended : Disk) : Type 0 where
-  pub outcome : calls.Outcome
-  pub is_outcome : IsOutcome setting opened ended outcome
-  pub nothing : after ≡ before
-  pub taken : outcome.fault ≡ None → AllByRecursion AreRefusedForThemselves outcome.transcripts
+module _ (seen : Observed) where
+  -- the source had this script
+  abbrev pub SaysScript : Script → Type 0
+  SaysScript script = IfSome seen.text (λ t. script_of run_grammar t ≡ Ok script)
 
--- or clients alone ran out of memory
-pub record RanShort (setting : Setting) (before after : List ℕ) (opened ended : Disk) : Type 0 where
-  pub outcome : calls.Outcome
-  pub is_outcome : IsOutcome setting opened ended outcome
-  pub printed : Prints before after (outcome_text outcome)
-  pub no_fault : outcome.fault ≡ None
-  pub taken : AllByRecursion AreRefusedForThemselves outcome.transcripts
+  -- A script was run, and this is its outcome.
+  pub record RanScript (o : calls.Outcome) : Type 0 where
+    pub script : Script
+    pub said : SaysScript script
+    pub is_outcome : IsOutcome (seen.execution script) seen.opened seen.ended o
+    pub refusals : RefusesForThemselves o
 
-abbrev pub RanOutOfMemory : Setting → List ℕ → List ℕ → Disk → Disk → Type 0
-RanOutOfMemory setting before after opened ended =
-    ((after ≡ before) × Untouched opened ended) ⊎ RanSilent setting before after opened ended ⊎ RanShort setting before after opened ended
+  -- status 0: it was printed, no write of the log failed, and no client ran out of memory
+  pub record RanWhole : Type 0 where
+    pub outcome : calls.Outcome
+    pub ran : RanScript outcome
+    pub printed : Appends seen.before seen.after (outcome_text outcome)
+    pub no_fault : outcome.fault ≡ None
+    pub whole : AllByRecursion NoneWithoutMemory outcome.transcripts
+
+  -- status 3, where the log was opened: it was printed, and a write of the log failed
+  pub record RanToFault : Type 0 where
+    pub outcome : calls.Outcome
+    pub ran : RanScript outcome
+    pub printed : Appends seen.before seen.after (outcome_text outcome)
+    pub fault : IsSome outcome.fault
+
+  -- and where it wasn't: the disk tells what it told before
+  pub record DiskRefused (failed fails sink_failed sink_fails : ℕ) : Type 0 where
+    pub script : Script
+    pub said : SaysScript script
+    pub count : ℕ
+    pub reached : IsReached failed count fails
+    pub untouched : seen.ended ≡ seen.opened
+    pub refused : SaysTo seen.before seen.after (disk_fault count) sink_failed sink_fails
+
+  -- status 3
+  abbrev pub DiskFailed : ℕ → ℕ → ℕ → ℕ → Type 0
+  DiskFailed failed fails sink_failed sink_fails = DiskRefused failed fails sink_failed sink_fails ⊎ RanToFault
+
+  -- status 5: a prefix of it was taken
+  pub record RanToSinkFault : Type 0 where
+    pub outcome : calls.Outcome
+    pub ran : RanScript outcome
+    pub printed : TakesPrefix seen.before seen.after (outcome_text outcome)
+
+  -- status 6: nothing was run or printed, and the disk tells what it told before
+  pub record RanNothing : Type 0 where
+    pub untouched : seen.ended ≡ seen.opened
+    pub silent : seen.after ≡ seen.before
+
+  -- or a script was run, and there was no memory for its outcome's text
+  pub record RanSilent : Type 0 where
+    pub outcome : calls.Outcome
+    pub ran : RanScript outcome
+    pub silent : seen.after ≡ seen.before
+
+  -- or its outcome was printed, and a client alone ran out of memory
+  pub record RanShort : Type 0 where
+    pub outcome : calls.Outcome
+    pub ran : RanScript outcome
+    pub printed : Appends seen.before seen.after (outcome_text outcome)
+    pub no_fault : outcome.fault ≡ None
+    pub short : LacksMemory outcome
+
+  abbrev pub RanOutOfMemory : Type 0
+  RanOutOfMemory = RanNothing ⊎ RanSilent ⊎ RanShort

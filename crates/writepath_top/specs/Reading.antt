@@ -8,8 +8,8 @@ use Rattle.client_script.specs.declared.script.Script as script
 use Rattle.client_script.specs.declared.schedule.Schedule.{Schedule}
 use Rattle.client_script.specs.Schedules.{schedule_of}
 use Rattle.core_model.specs.Schedule as schedules
-use Rattle.client_script.specs.Scripts.{commands_of, FitsBatches, HasShortWords}
-use Rattle.one_client.specs.Counts.{IsReached}
+use Rattle.client_script.specs.Scripts.{commands_of, FitsBatches, HasScriptCommands}
+use Rattle.run_model.specs.Running.{IsReached}
 
 -- it was read to its end, or to one byte past the limit of 16,777,216
 pub record HasRead (old new : Option (List ℕ)) (text : List ℕ) : Type 0 where
@@ -29,7 +29,7 @@ pub record HasScript (old new : Option (List ℕ)) (s : script.Script) : Type 0 
   pub ended : IsAtEnd new
   pub one : length s.clients.items ≡ 1
   pub fits : FitsBatches s
-  pub words : HasShortWords s
+  pub commands : HasScriptCommands s
 
 -- no script: a fault of the source, another text, or no memory
 abbrev pub IsScriptError : Option (List ℕ) → ℕ → ℕ → ReadError → Type 0
@@ -43,7 +43,7 @@ pub record HasSchedule (old new : Option (List ℕ)) (s : Schedule) : Type 0 whe
   pub ended : IsAtEnd new
   pub clients : (1 ≤ length s.script.clients.items) × (length s.script.clients.items ≤ 16)
   pub fits : FitsBatches s.script
-  pub words : HasShortWords s.script
+  pub commands : HasScriptCommands s.script
 
 abbrev pub IsScheduleError : Option (List ℕ) → ℕ → ℕ → ReadError → Type 0
 IsScheduleError old before now (Fault count) = IsReached before count now

@@ -3,8 +3,9 @@ use Rattle.std.specs.Prelude.{ℕ, List, Option, Some, None, ⊤}
 use Rattle.wp_edge.specs.Disk.{Disk}
 use Rattle.wp_model.specs.Recovery.{Recovered, IsRecovered}
 use Rattle.wp_model.specs.Text.{recovered_text}
-use Rattle.writepath_top.specs.Texts.{Prints, PrintsFront, Says, disk_fault}
-use Rattle.one_client.specs.Counts.{IsReached}
+use Rattle.writepath_top.specs.Texts.{Prints, PrintsFront, Says}
+use Rattle.printed_text.specs.Refusals.{disk_fault}
+use Rattle.run_model.specs.Running.{IsReached}
 
 -- the sink's bytes before and after a call, and the disk, where they are told
 abbrev pub TellsDisk : Option (List ℕ) → Option (List ℕ) → Option Disk → (List ℕ → List ℕ → Disk → Type 0) → Type 0

@@ -1,15 +1,16 @@
 -- What is printed of each way to end, and the status that it has.
-use Rattle.std.specs.Prelude.{◌≡◌, ◌⊎◌, ℕ, false, List, take, Option, None, IsSome, is_some, if◌then◌else◌, Result, Ok, Err}
+use Rattle.std.specs.Prelude.{◌≡◌, ◌⊎◌, ℕ, true, false, List, take, Option, None, IsSome, is_some, if◌then◌else◌, Result, Ok, Err}
 use Rattle.std.specs.Io.KnownBytes.{Appends}
 use Rattle.wp_model.specs.Counts.{Rose}
 use Rattle.wp_model.specs.Calls as calls
+use Rattle.wp_model.specs.Map.{Pairs}
 use Rattle.wp_model.specs.Text as model
 use Rattle.wp_model.specs.declared.memory.NoMemory.{NoMemory}
 use Rattle.core_model.specs.Step as core
 use Rattle.core_model.specs.ReplayText.{replay_text}
-use Rattle.writepath_top.specs.declared.replaying.Replayed.{Replayed}
-use Rattle.writepath_top.specs.Replays.{ShowsReplayed}
-use Rattle.one_client.specs.declared.outcome.Outcome.{Outcome}
+use Rattle.schedule_run.specs.declared.replaying.Replayed.{Replayed}
+use Rattle.schedule_run.specs.Replayed.{ShowsReplayed}
+use Rattle.client_calls.specs.declared.outcome.Outcome.{Outcome}
 use Rattle.writepath_top.specs.declared.reading.ReadError.{ReadError}
 use Rattle.writepath_top.specs.declared.reading.ReadError.TheVariants as read
 use Rattle.one_client.specs.declared.running.End.{End}
@@ -21,9 +22,9 @@ use Rattle.wal_recover.specs.declared.recovery.RecoverError.{RecoverError}
 use Rattle.wal_recover.specs.declared.recovery.RecoverError.TheVariants as none
 use Rattle.wp_model.specs.Recovery as recovery
 use Rattle.wal_recover.specs.Recovering.{ShowsRecovered}
-use Rattle.one_client.specs.Shows.{ShowsOutcome}
-use Rattle.one_client.specs.Running.{ran_short}
-use Rattle.writepath_top.specs.Texts.{SaysTo, script_fault, source_fault, disk_fault, not_empty}
+use Rattle.client_calls.specs.Shows.{ShowsOutcome, ran_short}
+use Rattle.writepath_top.specs.Texts.{SaysTo}
+use Rattle.printed_text.specs.Refusals.{script_fault, source_fault, disk_fault, not_empty}
 
 -- the refusal's text was printed, or there was no memory for it and nothing was
 abbrev pub Refuses : Option (List ℕ) → Option (List ℕ) → ℕ → ℕ → List ℕ → Status → Status → Type 0
@@ -34,21 +35,21 @@ TellsReadError old new failed fails (read.Fault count) given = Refuses old new f
 TellsReadError old new failed fails (read.Script line kind) given = Refuses old new failed fails (script_fault (record { line = line; kind = kind })) status.Script given
 TellsReadError old new failed fails read.NoMemory given = (given ≡ status.Memory) × (new ≡ old)
 
--- The status of an outcome's text. At 5 the sink failed, and a front of it was taken; at 3 the log has a fault; at 6 there was no memory for the text,
+-- The status of an outcome's text. At 0 the sink counted no fault; at 5 it failed, and a front of it was taken; at 3 the log has a fault; at 6 there was no memory for the text,
 -- or for a client
-abbrev pub EndsSo : Option (List ℕ) → Option (List ℕ) → ℕ → ℕ → Outcome → List ℕ → Status → Type 0
-EndsSo old new failed fails shown text status.Done = Appends old new text × (shown.fault ≡ None) × (ran_short shown ≡ false)
+abbrev pub EndsSo : Option (List ℕ) → Option (List ℕ) → ℕ → ℕ → Outcome Pairs → List ℕ → Status → Type 0
+EndsSo old new failed fails shown text status.Done = Appends old new text × (shown.fault ≡ None) × (ran_short shown ≡ false) × (fails ≡ failed)
 EndsSo old new failed fails shown text status.Disk = Appends old new text × IsSome shown.fault
 EndsSo old new failed fails shown text status.Sink = Rose failed fails × (n : ℕ) × Appends old new (take n text)
-EndsSo old new failed fails shown text status.Memory = (new ≡ old) ⊎ (Appends old new text × (shown.fault ≡ None))
+EndsSo old new failed fails shown text status.Memory = (new ≡ old) ⊎ (Appends old new text × (shown.fault ≡ None) × (ran_short shown ≡ true))
 EndsSo old new failed fails shown text other = ⊥
 
 -- the status of an outcome that was printed whole
-abbrev pub ran_status : Outcome → Status
+abbrev pub ran_status : Outcome Pairs → Status
 ran_status shown = if is_some shown.fault then status.Disk else if ran_short shown then status.Memory else status.Done
 
 -- whatever outcome the values show
-abbrev pub TellsOutcome : Option (List ℕ) → Option (List ℕ) → ℕ → ℕ → Outcome → Status → Type 0
+abbrev pub TellsOutcome : Option (List ℕ) → Option (List ℕ) → ℕ → ℕ → Outcome Pairs → Status → Type 0
 TellsOutcome old new failed fails shown given = (o : calls.Outcome) → ShowsOutcome shown o → EndsSo old new failed fails shown (model.outcome_text o) given
 
 abbrev pub TellsEnd : Option (List ℕ) → Option (List ℕ) → ℕ → ℕ → End → Status → Type 0
@@ -61,9 +62,9 @@ TellsEnd old new failed fails (end.Ran shown) given = TellsOutcome old new faile
 abbrev pub IsTextOf : Recovered → List ℕ → Type 0
 IsTextOf shown text = (r : recovery.Recovered) → ShowsRecovered shown r → text ≡ model.recovered_text r
 
--- The status of a recovery's text. At 5 the sink failed, and a front of it was taken; at 6 there was no memory for it.
+-- The status of a recovery's text. At 0 the sink counted no fault; at 5 it failed, and a front of it was taken; at 6 there was no memory for it.
 abbrev pub ShownEndsSo : Option (List ℕ) → Option (List ℕ) → ℕ → ℕ → Recovered → Status → Type 0
-ShownEndsSo old new failed fails shown status.Done = (text : List ℕ) × IsTextOf shown text × Appends old new text
+ShownEndsSo old new failed fails shown status.Done = (text : List ℕ) × IsTextOf shown text × Appends old new text × (fails ≡ failed)
 ShownEndsSo old new failed fails shown status.Sink = Rose failed fails × (text : List ℕ) × IsTextOf shown text × (n : ℕ) × Appends old new (take n text)
 ShownEndsSo old new failed fails shown status.Memory = new ≡ old
 ShownEndsSo old new failed fails shown other = ⊥
@@ -80,9 +81,9 @@ TellsRecovery old new failed fails (Err why) given = TellsRecoverError old new f
 abbrev pub IsReplayText : Replayed → List ℕ → Type 0
 IsReplayText shown text = (r : core.Replayed) → ShowsReplayed shown r → text ≡ replay_text r
 
--- The status of a schedule's text. At 5 the sink failed, and a front of it was taken; at 6 there was no memory for it.
+-- The status of a schedule's text. At 0 the sink counted no fault; at 5 it failed, and a front of it was taken; at 6 there was no memory for it.
 abbrev pub ReplayEndsSo : Option (List ℕ) → Option (List ℕ) → ℕ → ℕ → Replayed → Status → Type 0
-ReplayEndsSo old new failed fails shown status.Done = (text : List ℕ) × IsReplayText shown text × Appends old new text
+ReplayEndsSo old new failed fails shown status.Done = (text : List ℕ) × IsReplayText shown text × Appends old new text × (fails ≡ failed)
 ReplayEndsSo old new failed fails shown status.Sink = Rose failed fails × (text : List ℕ) × IsReplayText shown text × (n : ℕ) × Appends old new (take n text)
 ReplayEndsSo old new failed fails shown status.Memory = new ≡ old
 ReplayEndsSo old new failed fails shown other = ⊥

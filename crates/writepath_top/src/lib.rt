@@ -2,11 +2,7 @@
 #![tactic(auto)]
 
 mod reading;
-mod replaying;
 mod telling;
-#[cfg(test)]
-mod tests;
-mod text;
 mod top;
 
 pub use top::{Ended, run};

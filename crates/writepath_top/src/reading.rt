@@ -1,6 +1,6 @@
 //! The script from its source.
 
-ghost use Rattle.std.specs.Prelude.{◌≡◌, ◌+◌, ◌-◌, ◌≤◌, ◌<◌, ℕ, [], length, vec_len, Some, None, IfOk, IfErr, IfSome};
+ghost use Rattle.std.specs.Prelude.{◌≡◌, ◌+◌, ◌-◌, ◌≤◌, ◌<◌, ℕ, [], length, vec_len, Some, None, IfOk, IfErr, OnOk, IfSome};
 ghost use Rattle.writepath_top.specs.Reading.{HasRead, IsReadError, HasScript, IsScriptError, HasSchedule, IsScheduleError};
 
 use client_script::{Schedule, Script, ScriptError, TEXT_LIMIT, parse, parse_schedule};
@@ -26,6 +26,7 @@ fn read_text<S: Source>(alloc: Global, source: &mut S) -> Result<Vec<u8>, ReadEr
     ensures text { IfOk result (λ text. HasRead (S.left source.old) (S.left source.new) text.items) }
     ensures error { IfErr result (IsReadError (S.faults source.old) (S.faults source.new)) }
     ensures later { S.faults source.old ≤ S.faults source.new }
+    ensures worked { OnOk result (S.faults source.new ≡ S.faults source.old) }
 {
     let mut text = Vec::new(alloc);
     let mut piece = [0; PIECE];
@@ -51,6 +52,7 @@ pub fn read_script<S: Source>(alloc: Global, source: &mut S) -> Result<Script, R
     ensures script { IfOk result (HasScript (S.left source.old) (S.left source.new)) }
     ensures error { IfErr result (IsScriptError (S.left source.old) (S.faults source.old) (S.faults source.new)) }
     ensures later { S.faults source.old ≤ S.faults source.new }
+    ensures worked { OnOk result (S.faults source.new ≡ S.faults source.old) }
 {
     let text = read_text(alloc, source)?;
     match parse(alloc, &text) {
@@ -65,6 +67,7 @@ pub fn read_schedule<S: Source>(alloc: Global, source: &mut S) -> Result<Schedul
     ensures schedule { IfOk result (HasSchedule (S.left source.old) (S.left source.new)) }
     ensures error { IfErr result (IsScheduleError (S.left source.old) (S.faults source.old) (S.faults source.new)) }
     ensures later { S.faults source.old ≤ S.faults source.new }
+    ensures worked { OnOk result (S.faults source.new ≡ S.faults source.old) }
 {
     let text = read_text(alloc, source)?;
     match parse_schedule(alloc, &text) {

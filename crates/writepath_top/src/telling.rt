@@ -5,15 +5,16 @@ ghost use Rattle.writepath_top.specs.Texts.{SaysTo};
 ghost use Rattle.writepath_top.specs.Telling.{TellsReadError, TellsEnd, TellsOutcome, TellsRecovery, TellsRecoverError, ShownEndsSo, TellsReplay, ReplayEndsSo, ran_status};
 
 use crate::reading::ReadError;
-use crate::replaying::Replayed;
-use crate::text::{
+use client_calls::Outcome;
+use one_client::End;
+use printed_text::{
     disk_fault, log_not_empty, outcome_text, recovered_text, replayed_text, script_fault,
     source_fault,
 };
-use one_client::{End, Outcome};
+use schedule_run::Replayed;
 use std::alloc::Global;
 use wal_recover::{RecoverError, Recovered};
-use wp_coding::Bytes;
+use wp_coding::{Bytes, PairList};
 use wp_edge::{Sink, write_all};
 use wp_model::NoMemory;
 
@@ -80,7 +81,7 @@ pub fn tell_end<K: Sink>(alloc: Global, sink: &mut K, end: &End) -> Status
 }
 
 /// Prints an outcome, whole.
-fn tell_outcome<K: Sink>(alloc: Global, sink: &mut K, outcome: &Outcome) -> Status
+fn tell_outcome<K: Sink>(alloc: Global, sink: &mut K, outcome: &Outcome<PairList>) -> Status
     ensures { TellsOutcome (K.taken sink.old) (K.taken sink.new) (K.faults sink.old) (K.faults sink.new) outcome.now result }
 {
     let Ok(text) = outcome_text(alloc, outcome) else {
@@ -93,7 +94,7 @@ fn tell_outcome<K: Sink>(alloc: Global, sink: &mut K, outcome: &Outcome) -> Stat
 }
 
 /// The status of an outcome that was printed.
-fn status_of(outcome: &Outcome) -> Status
+fn status_of(outcome: &Outcome<PairList>) -> Status
     ensures { result ≡ ran_status outcome.now }
 {
     if outcome.fault.is_some() {

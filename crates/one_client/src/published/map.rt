@@ -1,15 +1,15 @@
 //! What the map of the published state does.
 
-ghost use Rattle.std.specs.Prelude.{◌≡◌, ◌+◌, ◌≤◌, [], map, length, IfOk, IfErr, IsOk, OnOk, MatchOption, Some, None};
+ghost use Rattle.std.specs.Prelude.{◌≡◌, ◌+◌, ◌≤◌, [], length, IfOk, IfErr, IsOk, OnOk, MatchOption, Some, None};
 ghost use Rattle.std.specs.BTreeMap.{insert_entry, is_at};
-ghost use Rattle.std.specs.List.Sorted.{IsStrictlySortedBy};
-ghost use Rattle.std.specs.Map.{keys_of, remove_entry};
+ghost use Rattle.std.specs.Map.{remove_entry};
 ghost use Rattle.wp_model.specs.Map.{byte_order, value_at};
-ghost use Rattle.one_client.specs.Published.{pair_of, pairs_of, room_of};
+ghost use Rattle.one_client.specs.Published.{pairs_of, room_of};
 ghost use Rattle.one_client.specs.Places.{IsFoundAt, IsGapAt};
 
-use crate::published::{Pair, Published};
+use crate::published::Published;
 use std::alloc::Global;
+use wp_coding::{Bytes, PairList};
 use wp_model::NoMemory;
 
 impl Published {
@@ -33,15 +33,15 @@ impl Published {
         Ok(())
     }
 
-    /// Sets a key's value. It takes no memory: the pair goes into the room that was made.
-    pub fn insert(&mut self, pair: Pair)
+    /// Gives a key a value. It takes no memory: the pair goes into the room that was made.
+    pub fn insert(&mut self, key: Bytes, value: Bytes)
         requires { 1 ≤ room_of self.old }
-        ensures pairs { pairs_of self.new ≡ insert_entry byte_order (pairs_of self.old) pair.key pair.value }
+        ensures pairs { pairs_of self.new ≡ insert_entry byte_order (pairs_of self.old) key value }
         ensures room { room_of self.old ≤ room_of self.new + 1 }
     {
-        match self.search(pair.key.as_slice()) {
-            Ok(at) => self.pairs[at].value = pair.value,
-            Err(at) => self.pairs.insert(at, pair).unwrap(),
+        match self.search(key.as_slice()) {
+            Ok(at) => self.pairs[at].1 = value,
+            Err(at) => self.pairs.insert(at, (key, value)).unwrap(),
         }
     }
 
@@ -61,32 +61,24 @@ impl Published {
             value_at (pairs_of self.now) key.now ≡ Some v.now) }
     {
         match self.search(key) {
-            Ok(at) => Some(self.pairs[at].value.as_slice()),
+            Ok(at) => Some(self.pairs[at].1.as_slice()),
             Err(_) => None,
         }
     }
 
-    /// How many keys there are.
-    pub fn len(&self) -> usize
-        ensures { result ≡ length (pairs_of self.now) }
+    /// Its pairs, in byte order of their keys. This takes no memory.
+    pub fn into_pairs(self) -> PairList
+        ensures { result ≡ pairs_of self }
     {
-        self.pairs.len()
+        PairList::from_vec(self.pairs)
     }
 
-    /// The pairs, in byte order of their keys.
-    pub fn pairs(&self) -> &[Pair]
-        ensures all { map pair_of result.now ≡ pairs_of self.now }
-        ensures ascending { IsStrictlySortedBy byte_order (keys_of (pairs_of self.now)) }
-    {
-        &self.pairs
-    }
-
-    // Where a key is, or where it would go.
+    /// Where a key is, or where it would go.
     fn search(&self, key: &[u8]) -> Result<usize, usize>
         ensures found { IfOk result (IsFoundAt key.now (pairs_of self.now)) }
         ensures absent { IfErr result (IsGapAt key.now (pairs_of self.now)) }
     {
         self.pairs
-            .binary_search_by(|pair| pair.key.as_slice().cmp(key))
+            .binary_search_by(|pair| pair.0.as_slice().cmp(key))
     }
 }

@@ -4,7 +4,7 @@ use Rattle.std.specs.Int.Bits.{bit_xor, xor_zero_r}
 use Rattle.std.proofs.lemmas.Nat.{xor_comm, xor_block}
 use lib.Bits.{xor_assoc, xor_shifted}
 use Rattle.wp_model.specs.Checksum.{number_of_bits, add_bits, divisor, less_divisor, remainder}
-use Rattle.wp_coding.proofs.Crc.Register.{low_divisor, lowest, highest, step}
+use Rattle.wp_coding.specs.Register.{low_divisor, lowest, highest, step}
 
 -- a number of k bits is below 2 ^ k
 number_of_bits-lt : (bits : List Bool) → number_of_bits bits < 2 ^ length bits

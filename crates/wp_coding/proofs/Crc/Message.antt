@@ -3,12 +3,9 @@ use Rattle.std.proofs.Common.{◌≡◌, ℕ, ◌+◌, ◌^◌, ◌≤◌, Bool,
 use Rattle.std.specs.Int.{bit_not}
 use Rattle.std.proofs.lemmas.List.Sums.{fold-append}
 use Rattle.wp_model.specs.Checksum.{low_bits, remainder, dividend, crc32c}
-use Rattle.wp_coding.proofs.Crc.Register.{step, shift, take_in, fold_step-turned, shift-fold_step, fold_step-zeros}
+use Rattle.wp_coding.specs.Register.{step, shift, take_in, take_in_byte}
+use Rattle.wp_coding.proofs.Crc.Register.{fold_step-turned, shift-fold_step, fold_step-zeros}
 use Rattle.wp_coding.proofs.Crc.Division.{Mirrors-remainder, number_of_bits-not}
-
--- the register after the bits of a byte, the low one first
-unfoldable pub take_in_byte : ℕ → ℕ → ℕ
-take_in_byte n byte = fold take_in n (low_bits 8 byte)
 
 -- the bits of bytes are taken in byte by byte
 fold_take_in-bits : (bytes : List ℕ) (n : ℕ) → fold take_in n (flat_map (low_bits 8) bytes) ≡ fold take_in_byte n bytes

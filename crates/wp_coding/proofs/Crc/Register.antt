@@ -4,33 +4,7 @@ use Rattle.std.specs.Int.Bits.{bit_xor, xor_self, xor_zero_r}
 use Rattle.std.proofs.lemmas.Nat.{xor_comm, xor_shr, xor_mod}
 use lib.Bits.{xor_assoc}
 use Rattle.wp_model.specs.Checksum.{differ}
-
--- the divisor without its leading coefficient
-abbrev pub low_divisor : ℕ
-low_divisor = 0x82F63B78
-
--- the bit as the lowest of a number
-abbrev pub lowest : Bool → ℕ
-lowest true = 1
-lowest false = 0
-
--- the bit as the highest of 32
-abbrev pub highest : Bool → ℕ
-highest true = 0x80000000
-highest false = 0
-
--- one step of the division: the register without its leading coefficient, less the divisor where that stands, and the next coefficient at the low power
-unfoldable pub step : ℕ → Bool → ℕ
-step n b = bit_xor (bit_xor (n / 2) (n % 2 * low_divisor)) (highest b)
-
--- k steps that take down zeros
-unfoldable pub shift : ℕ → ℕ → ℕ
-shift zero n = n
-shift (suc k) n = shift k (step n false)
-
--- a step that takes the bit in at the high power
-unfoldable pub take_in : ℕ → Bool → ℕ
-take_in n b = step (bit_xor n (lowest b)) false
+use Rattle.wp_coding.specs.Register.{low_divisor, lowest, highest, step, shift, take_in}
 
 -- the sums of two sums, taken the other way
 xor_swap : (a b c d : ℕ) → bit_xor (bit_xor a b) (bit_xor c d) ≡ bit_xor (bit_xor a c) (bit_xor b d)

@@ -7,9 +7,9 @@ use Rattle.std.proofs.lemmas.List.FromFn.{get_or-map-range_with_len}
 use Rattle.std.proofs.lemmas.List.Sums.{fold_more}
 use lib.Bits.{xor_assoc, xor_shifted, shifted_half, shifted_even}
 use Rattle.wp_model.specs.Checksum.{low_bits}
-use Rattle.wp_coding.specs.declared.checksum.TheConstants.{TABLE}
-use Rattle.wp_coding.proofs.Crc.Register.{low_divisor, lowest, step, shift, take_in, step-xor, shift-xor}
-use Rattle.wp_coding.proofs.Crc.Message.{take_in_byte}
+use Rattle.wp_coding.specs.declared.tables.TheConstants.{TABLE_0}
+use Rattle.wp_coding.specs.Register.{low_divisor, lowest, step, shift, take_in, take_in_byte}
+use Rattle.wp_coding.proofs.Crc.Register.{step-xor, shift-xor}
 
 -- the bits from place a + 1 on are those of the half from place a on
 bits_of_half : (n k a : ℕ)
@@ -49,7 +49,7 @@ step-half r n =
     ∙ ap (λ m. bit_xor m (n / 2)) (sym digit)
 
 -- to take in k bits is to add their number and to shift k times
-shift-low_bits : (k r n : ℕ) → n < 2 ^ k → shift k (bit_xor r n) ≡ fold take_in r (low_bits k n)
+pub shift-low_bits : (k r n : ℕ) → n < 2 ^ k → shift k (bit_xor r n) ≡ fold take_in r (low_bits k n)
 unfolding shift
 shift-low_bits zero r n small =
     let none : n ≡ 0 = omega arith in
@@ -67,13 +67,13 @@ step-shifted k a =
     ∙ xor_zero_r (bit_xor (a * 2 ^ k) 0) ∙ xor_zero_r (a * 2 ^ k)
 
 -- a shift by k takes off k zeros
-shift-shifted : (k a : ℕ) → shift k (a * 2 ^ k) ≡ a
+pub shift-shifted : (k a : ℕ) → shift k (a * 2 ^ k) ≡ a
 unfolding shift
 shift-shifted zero a = mul-one a
 shift-shifted (suc k) a = ap (shift k) (step-shifted k a) ∙ shift-shifted k a
 
 -- so a shift by k is that of the low k bits, plus the others
-shift-split : (k n : ℕ) → shift k n ≡ bit_xor (shift k (n % 2 ^ k)) (n / 2 ^ k)
+pub shift-split : (k n : ℕ) → shift k n ≡ bit_xor (shift k (n % 2 ^ k)) (n / 2 ^ k)
 shift-split k n =
     let low = mod-lt n (pow_pos k) in
     ap (shift k) (sym (shr_split n k) ∙ sym (xor_shifted (n / 2 ^ k) k (n % 2 ^ k) low))
@@ -82,18 +82,18 @@ shift-split k n =
     ∙ xor_comm (n / 2 ^ k) (shift k (n % 2 ^ k))
 
 -- the table holds what 8 shifts make of each byte
-table-shift : map (shift 8) (range_with_len 0 256) ≡ TABLE
+table-shift : map (shift 8) (range_with_len 0 256) ≡ TABLE_0
 unfolding shift step
 table-shift = refl
 
 -- so an entry is 8 shifts of its place
-table-at : (i : ℕ) → i < 256 → get_or TABLE i 0 ≡ shift 8 i
+pub table-at : (i : ℕ) → i < 256 → get_or TABLE_0 i 0 ≡ shift 8 i
 table-at i small =
     ap (λ table. get_or table i 0) (sym table-shift) ∙ get_or-map-range_with_len (shift 8) 0 256 i i 0 small (omega arith)
 
 -- what the code computes of a byte
 take_in_byte-table : (r byte : ℕ) → byte < 2 ^ 8
-    → take_in_byte r byte ≡ bit_xor (get_or TABLE (bit_and (bit_xor r byte) 255) 0) (r / 256)
+    → take_in_byte r byte ≡ bit_xor (get_or TABLE_0 (bit_and (bit_xor r byte) 255) 0) (r / 256)
 unfolding take_in_byte
 take_in_byte-table r byte small =
     let none : byte / 256 ≡ 0 = omega arith in
@@ -101,13 +101,13 @@ take_in_byte-table r byte small =
     let low = and_mask (bit_xor r byte) 8 in
     sym (shift-low_bits 8 r byte small)
     ∙ shift-split 8 (bit_xor r byte)
-    ∙ ap₂ bit_xor (sym (table-at (bit_xor r byte % 256) (omega arith)) ∙ ap (λ i. get_or TABLE i 0) (sym low)) high
+    ∙ ap₂ bit_xor (sym (table-at (bit_xor r byte % 256) (omega arith)) ∙ ap (λ i. get_or TABLE_0 i 0) (sym low)) high
 
 -- the loop's step: the register after one byte more
 pub take_in_byte-more : (first register : ℕ) (bytes : List ℕ) (i byte : ℕ)
     → i < length bytes → byte ≡ get_or bytes i 0 → byte < 2 ^ 8
     → register ≡ fold take_in_byte first (take i bytes)
-    → bit_xor (get_or TABLE (bit_and (bit_xor register byte) 255) 0) (register / 256) ≡ fold take_in_byte first (take (i + 1) bytes)
+    → bit_xor (get_or TABLE_0 (bit_and (bit_xor register byte) 255) 0) (register / 256) ≡ fold take_in_byte first (take (i + 1) bytes)
 take_in_byte-more first register bytes i byte inside at small before =
     sym (take_in_byte-table register byte small)
     ∙ ap₂ take_in_byte before at

@@ -1,6 +1,6 @@
 use Rattle.std.proofs.Common.{refl, arith, map}
 use Rattle.std.proofs.lemmas.List.{map_push}
-use Rattle.client_script.specs.Scripts.{command_of}
+use Rattle.client_calls.specs.Commands.{command_of}
 use Rattle.client_script.proofs.ScriptReading.{with_command-set}
 use Rattle.client_script.proofs.parser.add_command.Goals as goal
 

@@ -1,7 +1,7 @@
 use Rattle.std.proofs.Common.{◌≡◌, ◌+◌, ◌≤◌, Ok, fold, length, option_copied}
 use Rattle.std.specs.List.{enumerate_from}
 use Rattle.wp_model.specs.Script.{after_line, run_grammar, lines_read}
-use Rattle.client_script.specs.Scripts.{commands_of, script_len, HasShortWords}
+use Rattle.client_script.specs.Scripts.{commands_of, script_len, HasScriptCommands}
 use Rattle.client_script.specs.ScriptWords.{parts_of, len_behind}
 use Rattle.client_script.proofs.parser.read_lines.Given as goal
 
@@ -10,7 +10,7 @@ invariant-loop-rest l = record {
   goes_on : fold (after_line run_grammar) (Ok (commands_of l.script)) (enumerate_from (l.number + 1) (parts_of 10 (option_copied l.rest))) ≡ lines_read run_grammar l.text;
   counted : l.number + len_behind (option_copied l.rest) ≤ length l.text + 1;
   small : script_len l.script + len_behind (option_copied l.rest) ≤ length l.text + 1;
-  short : HasShortWords l.script;
+  short : HasScriptCommands l.script;
 }
 
 abbrev pub decreases-loop-rest : goal.decreases-loop-rest

@@ -1,6 +1,6 @@
 use Rattle.std.proofs.Common.{refl, arith, map}
 use Rattle.std.proofs.lemmas.List.{length-map}
-use Rattle.client_script.specs.Scripts.{command_of}
+use Rattle.client_calls.specs.Commands.{command_of}
 use Rattle.client_script.specs.Schedules.{draft_of}
 use Rattle.client_script.proofs.ScheduleReading.{with_event_added}
 use Rattle.client_script.proofs.schedule.add_line.Goals as goal

@@ -21,7 +21,7 @@ loop-len-preserved g c =
           c.loop-len.invariant.bytes (subst (λ (told : Option Disk). IfSome told (Gives (start + at) more buf)) c.loop-len.invariant.same c.in-Ok.ensures.bytes)
           (λ d before read. read_more d.content block buf start at more inside buf_len before read);
       small = omega (arith, c.in-Ok.ensures.small, c.if-more-eq0.false);
-      later = omega (arith, c.loop-len.invariant.later, c.in-Ok.ensures.cause.later);
+      worked = c.in-Ok.ensures.cause.worked ∙ c.loop-len.invariant.worked;
       same = c.in-Ok.ensures.same ∙ c.loop-len.invariant.same;
       adds_none = c.in-Ok.ensures.adds_none ∙ c.loop-len.invariant.adds_none;
       time = more_time g.D.Disk.told g.D.Disk.moment g.D.Disk.from g.D.Disk.since _ _ _ c.in-Ok.ensures.same c.loop-len.invariant.time c.in-Ok.ensures.time;

@@ -8,7 +8,7 @@ invariant-loop-len g l = record {
   in_block : l.len ≤ length l.block;
   bytes : IfSome (g.D.Disk.told l.fn.disk) (λ d. take l.len l.block ≡ take l.len (drop l.start d.content));
   small : l.start + l.len < 2 ^ 63;
-  later : g.D.Disk.faults l.fn.disk ≤ g.D.Disk.faults l.disk;
+  worked : g.D.Disk.faults l.disk ≡ g.D.Disk.faults l.fn.disk;
   same : g.D.Disk.told l.disk ≡ g.D.Disk.told l.fn.disk;
   adds_none : g.D.Disk.added l.disk ≡ g.D.Disk.added l.fn.disk;
   time : TimePasses g.D.Disk.told g.D.Disk.moment g.D.Disk.from g.D.Disk.since l.fn.disk l.disk;

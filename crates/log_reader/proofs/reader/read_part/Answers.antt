@@ -7,7 +7,7 @@ use Rattle.log_block.specs.declared.fragments.Seen.TheVariants as seen
 use Rattle.log_reader.specs.declared.window.Window.{Window}
 use Rattle.log_reader.specs.Windows.{IsOn, SeesNext, offset_of, bytes_of}
 use Rattle.log_reader.specs.Records.{Reads}
-use Rattle.log_reader.specs.Steps.{end_of_reading}
+use Rattle.log_reader.specs.Steps.{HasFaultStep, end_of_reading}
 use Rattle.log_reader.proofs.FromDisk.{if_one, if_both}
 use Rattle.log_reader.proofs.OneMore.{ends_in_damage, ends_with_file}
 use Rattle.log_reader.proofs.reader.read_part.Goals as goal
@@ -29,7 +29,9 @@ returns-in-Ok-Fragment-clause-step g c =
     (λ d looks stays place on stood. c.take_part.ensures.step d.content place (offset_of old) (stays on) stood (looks on))
 
 pub returns-in-Ok-Fragment-clause-fault : goal.returns-in-Ok-Fragment-clause-fault
-returns-in-Ok-Fragment-clause-fault g c = c.take_part.ensures.no_fault _ _
+returns-in-Ok-Fragment-clause-fault g c =
+    let before = g.D.Disk.faults c.args.disk.now in
+    subst (λ (now : ℕ). HasFaultStep before now c.take_part.result) (sym c.in-Ok-Fragment.ensures.worked) (c.take_part.ensures.no_fault before)
 
 pub returns-in-Ok-End-clause-step : goal.returns-in-Ok-End-clause-step
 returns-in-Ok-End-clause-step g c =

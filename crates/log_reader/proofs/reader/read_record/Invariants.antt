@@ -10,7 +10,7 @@ invariant-loop-start g l = record {
   sound : IsSound l.window;
   stood : IfSome (g.D.Disk.told l.fn.disk) (λ d. IsOn d.content l.fn.window → IsOn d.content l.window × Stood d.content (offset_of l.fn.window) l.begun l.in_hand.items (offset_of l.window));
   forward : offset_of l.fn.window ≤ offset_of l.window;
-  later : g.D.Disk.faults l.fn.disk ≤ g.D.Disk.faults l.disk;
+  worked : g.D.Disk.faults l.disk ≡ g.D.Disk.faults l.fn.disk;
   same : g.D.Disk.told l.disk ≡ g.D.Disk.told l.fn.disk;
   adds_none : g.D.Disk.added l.disk ≡ g.D.Disk.added l.fn.disk;
   time : TimePasses g.D.Disk.told g.D.Disk.moment g.D.Disk.from g.D.Disk.since l.fn.disk l.disk;

@@ -1,5 +1,6 @@
 use Rattle.log_writer.specs.Words.{disk_of}
 use Rattle.log_writer.proofs.Calls.{synced_later}
+use Rattle.log_writer.proofs.Held.{held_so}
 use Rattle.log_writer.proofs.Surviving.{survives, told_keeps, image_now}
 use Rattle.log_writer.proofs.laws.crashes_between_calls.Goals as goal
 
@@ -10,4 +11,5 @@ returns g c = record {
       (survives (record { is_disk = g.met.D.Disk.is_disk; only_now = g.met.D.Disk.only_now }) old after new wrote).leaves;
   at_end = λ calls log. image_now (g.D.Disk.told (disk_of log)) calls (g.met.D.Disk.is_disk (disk_of log));
   synced = synced_later;
+  held = λ disk calls log is. held_so (record { is_disk = g.met.D.Disk.is_disk; only_now = g.met.D.Disk.only_now }) disk calls log is;
 }

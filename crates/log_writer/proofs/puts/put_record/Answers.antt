@@ -1,7 +1,21 @@
-use Rattle.std.proofs.Common.{ℕ, List, ◌+◌, ap, subst, arith, length-append}
+use Rattle.std.proofs.Common.{ℕ, List, ◌+◌, ◌%◌, refl, sym, ap, subst, arith, length-append}
 use Rattle.log_block.specs.declared.pieces.Piece.{Piece}
-use Rattle.log_writer.proofs.Pieces.{IsSoFar, put_of, may_be_put, put_len, puts_next, goes_on, breaks_off}
+use Rattle.log_block.specs.Pieces.{CoverRecord}
+use Rattle.log_writer.proofs.Pieces.{IsSoFar, starts_so, put_of, may_be_put, put_len, puts_next, goes_on, breaks_off}
 use Rattle.log_writer.proofs.puts.put_record.Goals as goal
+
+pub loop-piece-init : goal.loop-piece-init
+loop-piece-init g c =
+    let bytes = c.args.rest.now in
+    let offset = c.args.offset in
+    let items = c.new-piece-items in
+    let at = offset % 32768 in
+    let P : List Piece → Type 0 = λ pieces. IsSoFar g.D.Disk bytes offset c.args.disk.now c.args.disk.now bytes pieces offset in
+    let cut = subst (λ (n : ℕ). CoverRecord n 0 items.result) c.requires.whole items.ensures.cut in
+    record {
+      so_far = subst P (sym c.into_iter-piece-iterator.ensures.into_iter_gives)
+          (starts_so g.D.Disk bytes offset at c.args.disk.now items.result (g.met.D.Disk.only_now c.args.disk.now) (items.ensures.text offset bytes refl (sym c.requires.whole)) cut items.ensures.laid);
+    }
 
 pub returns-in_err-put_piece-clause-put : goal.returns-in_err-put_piece-clause-put
 returns-in_err-put_piece-clause-put g c =
@@ -26,7 +40,6 @@ pub loop-piece-preserved : goal.loop-piece-preserved
 loop-piece-preserved g c =
     let now = subst (λ (ps : List Piece). IsSoFar g.D.Disk c.args.rest.now c.args.offset c.args.disk.now c.loop-piece.disk c.loop-piece.rest ps c.loop-piece.end) c.in-Some.ensures.steps c.loop-piece.invariant.so_far in
     record {
-      room = c.put_piece.ensures.room;
       so_far = goes_on g.D.Disk c.args.rest.now c.args.offset c.args.disk.now c.loop-piece.disk c.loop-piece.rest c.in-Some.piece c.next.new.self c.loop-piece.end now
           c.put_piece.new.disk c.put_piece.new.rest (c.loop-piece.end + c.piece_len-end.result) c.in_ok-put_piece.field-0 (g.met.D.Disk.is_disk c.args.disk.now) c.in_ok-put_piece.ensures.put c.in_ok-put_piece.ensures.rest
           (ap (λ (n : ℕ). c.loop-piece.end + n) c.piece_len-end.ensures);

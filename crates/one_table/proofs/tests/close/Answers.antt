@@ -5,8 +5,8 @@ use Rattle.table_calls.specs.Account.{IsReady}
 use Rattle.mem_table.specs.declared.tree.Tree.{Tree}
 use Rattle.mem_table.specs.declared.node.Nodes.{Nodes}
 use Rattle.table_steps.specs.declared.seat.TableSeat.{TableSeat}
-use Rattle.table_steps.specs.Accounts.{account, IsOurs}
-use Rattle.one_table.specs.Meaning.{home_of, id_of}
+use Rattle.table_steps.specs.Accounts.{account}
+use Rattle.one_table.specs.Meaning.{IsOurs}
 use Rattle.one_table.proofs.tests.close.Goals as goal
 
 pub close-requires-clause-clients : goal.close-requires-clause-clients
@@ -17,9 +17,9 @@ close-requires-clause-clients c seat i =
     let both : c.in_ok-clients.clients.items ≡ first ∷ second ∷ [] = search rules in
     let j : In seat (first ∷ second ∷ []) = subst (In seat) both i in
     elim j [
-      | inl e ↦ subst (λ (s : TableSeat Tree Nodes). IsOurs (id_of table) (home_of table) s × IsReady (account s)) e c.requires.first
+      | inl e ↦ subst (λ (s : TableSeat Tree Nodes). IsOurs table s × IsReady (account s)) e c.requires.first
       | inr k ↦ elim k [
-        | inl e ↦ subst (λ (s : TableSeat Tree Nodes). IsOurs (id_of table) (home_of table) s × IsReady (account s)) e c.requires.second
+        | inl e ↦ subst (λ (s : TableSeat Tree Nodes). IsOurs table s × IsReady (account s)) e c.requires.second
         | inr none ↦ absurd none
       ]
     ]

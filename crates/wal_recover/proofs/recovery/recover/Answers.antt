@@ -1,4 +1,5 @@
-use Rattle.std.proofs.Common.{IfSome, sym, ◌∙◌, subst, arith}
+use Rattle.std.proofs.Common.{IfSome, sym, ◌∙◌, subst}
+use Rattle.log_reader.proofs.Time.{more_time}
 use Rattle.log_reader.specs.declared.reader.Next.TheVariants as next
 use Rattle.wal_recover.specs.declared.recovery.Recovered.{Recovered}
 use Rattle.wal_recover.specs.Recovering.{HasRecovered}
@@ -20,9 +21,10 @@ loop-start-preserved g c =
       going = now.stopped old.going;
       follows = follows_on before told log c.next.new.self old.same old.follows now.follows;
       front = front_more told c.loop-start.kept c.keep.new.self log.place c.in-Record.start c.in-Record.end c.next.new.self.in_hand bytes old.place c.record.ensures adds old.front says;
-      later = omega (arith, old.later, now.later);
+      worked = now.fault old.going ∙ old.worked;
       same = now.same ∙ old.same;
       adds_none = now.adds_none ∙ old.adds_none;
+      time = more_time g.D.Disk.told g.D.Disk.moment g.D.Disk.from g.D.Disk.since _ _ _ now.same old.time now.time;
     }
 
 pub returns-in-Some-clause-recovered : goal.returns-in-Some-clause-recovered

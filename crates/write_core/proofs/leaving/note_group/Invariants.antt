@@ -1,7 +1,7 @@
 use Rattle.std.proofs.Common.{◌≡◌, ◌++◌, List, length, map, take, vec_len}
 use Rattle.std.specs.List.{AllByRecursion}
 use Rattle.core_model.specs.Core as core
-use Rattle.write_core.specs.declared.plan.ClientPlan.{ClientPlan}
+use Rattle.core_plans.specs.declared.plan.ClientPlan.{ClientPlan}
 use Rattle.write_core.specs.Shown.{shown_writer}
 use Rattle.write_core.specs.Mirrors.{AreDone, IsClientOf}
 use Rattle.write_core.proofs.leaving.note_group.Given as goal
@@ -9,5 +9,5 @@ use Rattle.write_core.proofs.leaving.note_group.Given as goal
 -- those so far have left
 abbrev pub invariant-loop-writer : goal.invariant-loop-writer
 invariant-loop-writer l = (vec_len l.done ≡ vec_len l.initial.done)
-    × ((plans : List ClientPlan) (gone : List core.Writer) → AreDone plans l.initial.done.items gone → AllByRecursion (IsClientOf (length l.initial.done.items)) l.group
-    → AreDone plans l.done.items (gone ++ map (shown_writer plans) (take l.writer-index l.group)))
+    × ((plans : List ClientPlan) (leaving : List core.Writer) → AreDone plans l.initial.done.items leaving → AllByRecursion (IsClientOf (length l.initial.done.items)) l.group
+    → AreDone plans l.done.items (leaving ++ map (shown_writer plans) (take l.writer-index l.group)))

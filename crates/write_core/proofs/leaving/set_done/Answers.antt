@@ -1,4 +1,4 @@
-use Rattle.std.proofs.Common.{◌≡◌, ◌+◌, arith}
+use Rattle.std.proofs.Common.{arith}
 use Rattle.write_core.proofs.LeavingLemmas.{done_set}
 use Rattle.write_core.proofs.leaving.set_done.Goals as goal
 

@@ -1,4 +1,4 @@
-use Rattle.std.proofs.Common.{◌≡◌, ◌+◌, arith}
+use Rattle.std.proofs.Common.{arith}
 use Rattle.write_core.proofs.MarkLemmas.{mark_set}
 use Rattle.write_core.proofs.marks.set_mark.Goals as goal
 

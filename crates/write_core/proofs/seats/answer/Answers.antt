@@ -1,10 +1,12 @@
-use Rattle.std.proofs.Common.{◌≡◌, ℕ, ◌+◌, ◌-◌, ◌<◌, ◌≤◌, Bool, true, false, List, [], ◌∷◌, ◌++◌, length, drop, map, vec_len, refl, sym, ap, ◌∙◌, subst, arith}
+use Rattle.std.proofs.Common.{◌≡◌, ℕ, ◌+◌, ◌-◌, ◌<◌, List, [], ◌∷◌, ◌++◌, length, vec_len, refl, sym, ap, ◌∙◌, subst, arith}
 use Rattle.std.specs.Prelude.{if◌then◌else◌, vec_capacity}
 use Rattle.std.proofs.lemmas.List.{length-drop, length-map}
 use Rattle.wp_model.specs.Calls.{Reply}
 use Rattle.core_model.specs.Core as core
-use Rattle.write_core.specs.Shown.{commands_of, command_of}
-use Rattle.write_core.specs.Mirrors.{AreReplies, answers_of}
+use Rattle.core_plans.specs.Plans.{commands_of}
+use Rattle.client_calls.specs.Commands.{command_of}
+use Rattle.core_plans.specs.Answers.{answers_of}
+use Rattle.write_core.specs.Replies.{AreReplies}
 use Rattle.write_core.specs.declared.writer.CoreReply.{CoreReply}
 use Rattle.write_core.proofs.ClientLemmas.{reply_more}
 use Rattle.write_core.proofs.SmallLemmas.{small_ahead}

@@ -1,4 +1,4 @@
-use Rattle.std.proofs.Common.{◌≡◌, ℕ, refl, sym, ap, ◌∙◌, arith}
+use Rattle.std.proofs.Common.{ℕ, sym, arith}
 use Rattle.write_core.proofs.ClientLemmas.{empty_lines}
 use Rattle.write_core.proofs.SmallLemmas.{small_empty}
 use Rattle.write_core.proofs.seats.empty_batch.Goals as goal

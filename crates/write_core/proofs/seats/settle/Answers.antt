@@ -1,4 +1,4 @@
-use Rattle.std.proofs.Common.{◌≡◌, false, List, [], Some, refl, sym, ap, ◌∙◌, subst}
+use Rattle.std.proofs.Common.{[], refl, sym, subst}
 use Rattle.core_model.specs.Core as core
 use Rattle.core_model.specs.Step as event
 use Rattle.wp_model.specs.Calls.{commit, accepted, refused}

@@ -1,6 +1,7 @@
-use Rattle.std.proofs.Common.{◌≡◌, ℕ, ◌+◌, ◌<◌, Bool, true, false, List, [], ◌∷◌, ◌++◌, length, vec_len, refl, sym, ap, ◌∙◌, subst, arith}
+use Rattle.std.proofs.Common.{◌≡◌, ℕ, ◌<◌, List, [], ◌∷◌, ◌++◌, length, vec_len, refl, sym, ap, subst, arith}
 use Rattle.std.specs.Prelude.{if◌then◌else◌, vec_capacity}
-use Rattle.write_core.specs.Mirrors.{AreReplies, answers_of}
+use Rattle.core_plans.specs.Answers.{answers_of}
+use Rattle.write_core.specs.Replies.{AreReplies}
 use Rattle.write_core.specs.declared.writer.CoreReply.{CoreReply}
 use Rattle.write_core.proofs.ClientLemmas.{reply_more}
 use Rattle.write_core.proofs.seats.told.Goals as goal

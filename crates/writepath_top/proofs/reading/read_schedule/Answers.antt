@@ -8,4 +8,4 @@ returns-in-Ok-clause-schedule g c =
     let old = g.S.Source.left c.args.source.now in
     let new = g.S.Source.left c.read_text.new.source in
     let has = subst (λ t. HasRead old new t) (sym c.deref.ensures.value) c.in_ok-text.ensures.text in
-    has_schedule old new c.deref.result.now c.in-Ok.schedule has c.in-Ok.ensures.schedule c.in-Ok.ensures.clients c.in-Ok.ensures.fits c.in-Ok.ensures.words
+    has_schedule old new c.deref.result.now c.in-Ok.schedule has c.in-Ok.ensures.schedule c.in-Ok.ensures.clients c.in-Ok.ensures.fits c.in-Ok.ensures.commands

@@ -1,4 +1,4 @@
-use Rattle.std.proofs.Common.{◌-◌, ◌≤◌, length}
+use Rattle.std.proofs.Common.{◌≡◌, ◌-◌, ◌≤◌, length}
 use Rattle.std.specs.Io.KnownBytes.{Consumes}
 use Rattle.writepath_top.proofs.reading.read_text.Given as goal
 
@@ -8,6 +8,7 @@ invariant-loop-piece g l = record {
   consumed : Consumes (g.S.Source.left l.fn.source) (g.S.Source.left l.source) l.text.items;
   at_most : length l.text.items ≤ 16777217;
   later : g.S.Source.faults l.fn.source ≤ g.S.Source.faults l.source;
+  worked : g.S.Source.faults l.source ≡ g.S.Source.faults l.fn.source;
 }
 
 abbrev pub decreases-loop-piece : goal.decreases-loop-piece

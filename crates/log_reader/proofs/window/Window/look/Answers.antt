@@ -25,7 +25,7 @@ loop-self-preserved g c =
           (λ d stands. goes_on d old w c.go_on.new.self read full c.go_on.ensures.begins c.go_on.ensures.on stands
           (seen_from d old w c.deref.result.now seen.End c.deref.ensures.value read stands c.in-End.ensures.seen));
       forward = omega (arith, c.loop-self.invariant.forward, c.go_on.ensures.begins, ok.start, ok.at, ok.sound.inside, ok.sound.in_room);
-      later = omega (arith, c.loop-self.invariant.later, ok.later);
+      worked = ok.worked ∙ c.loop-self.invariant.worked;
       same = ok.same ∙ c.loop-self.invariant.same;
       adds_none = ok.adds_none ∙ c.loop-self.invariant.adds_none;
       time = more_time g.D.Disk.told g.D.Disk.moment g.D.Disk.from g.D.Disk.since _ _ _ ok.same c.loop-self.invariant.time ok.time;
@@ -50,8 +50,9 @@ returns-in_default g c =
       on = if_one told (Stands old w) (λ d. IsOn d.content old → IsOn d.content w) on (λ d stands begins. (stands begins).0);
       part = lies w c.deref.result.now c.see.result ok.sound c.deref.ensures.value c.see.ensures.lies;
       forward = omega (arith, c.loop-self.invariant.forward, ok.start, ok.at);
+      worked = ok.worked ∙ c.loop-self.invariant.worked;
       fault = tt;
-      later = omega (arith, c.loop-self.invariant.later, ok.later);
+      later = omega (arith, ok.worked, c.loop-self.invariant.worked);
       same = ok.same ∙ c.loop-self.invariant.same;
       adds_none = ok.adds_none ∙ c.loop-self.invariant.adds_none;
       time = more_time g.D.Disk.told g.D.Disk.moment g.D.Disk.from g.D.Disk.since _ _ _ ok.same c.loop-self.invariant.time ok.time;

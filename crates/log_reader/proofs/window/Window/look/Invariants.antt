@@ -10,7 +10,7 @@ invariant-loop-self g l = record {
   sound : IsSound l.self;
   on : IfSome (g.D.Disk.told l.fn.disk) (λ d. IsOn d.content l.fn.self → IsOn d.content l.self × Reaches d.content (offset_of l.fn.self) (offset_of l.self));
   forward : offset_of l.fn.self ≤ offset_of l.self;
-  later : g.D.Disk.faults l.fn.disk ≤ g.D.Disk.faults l.disk;
+  worked : g.D.Disk.faults l.disk ≡ g.D.Disk.faults l.fn.disk;
   same : g.D.Disk.told l.disk ≡ g.D.Disk.told l.fn.disk;
   adds_none : g.D.Disk.added l.disk ≡ g.D.Disk.added l.fn.disk;
   time : TimePasses g.D.Disk.told g.D.Disk.moment g.D.Disk.from g.D.Disk.since l.fn.disk l.disk;

@@ -8,5 +8,5 @@ use Rattle.one_client.proofs.published.Published.search.Goals as goal
 pub returns : goal.returns
 returns c =
     let facts = c.binary_search_by.ensures in
-    let by_key = facts.position (λ pair. byte_order pair.key c.args.key.now) (always_returns_same _ _ _ (λ a r g called. search rules)) in
+    let by_key = facts.position (λ pair. byte_order pair.0 c.args.key.now) (always_returns_same _ _ _ (λ a r g called. search rules)) in
     rw (← c.deref.ensures.value) (searched _ (rw c.deref.ensures.value c.args.self.now.ascending) c.args.key.now _ facts.bound by_key)

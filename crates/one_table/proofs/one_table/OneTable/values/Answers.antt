@@ -1,26 +1,30 @@
-use Rattle.std.proofs.Common.{◌≡◌, ℕ, List, [], ◌∷◌, ◌++◌, map, get_or, Option, sym, ap, ◌∙◌, arith}
+use Rattle.std.proofs.Common.{◌≡◌, ℕ, List, [], ◌∷◌, ◌++◌, map, get_or, Option, sym, ap, ◌∙◌, subst, arith}
 use Rattle.std.proofs.lemmas.List.{map_more, take_all}
-use Rattle.table_rule.specs.declared.view.Opening.{Opening}
-use Rattle.table_rule.specs.declared.view.Lock.TheVariants.{Free}
-use Rattle.table_rule.specs.Histories.{value_in}
-use Rattle.table_steps.proofs.Keyed.{renamed}
+use Rattle.table_rule.specs.Histories.{value_in, last_of, IsHistory}
+use Rattle.table_calls.specs.Account.{Account}
+use Rattle.table_steps.specs.Accounts.{account}
+use Rattle.one_table.specs.Meaning.{opening_of}
 use Rattle.one_table.proofs.one_table.OneTable.values.Goals as goal
+
+pub value-requires-clause-history : goal.value-requires-clause-history
+value-requires-clause-history g c = let v = c.loop-i.invariant in subst (λ (a : Account). IsHistory (opening_of c.args.self.now).start a.seen) (sym v.1) c.requires.history
+
+pub value-requires-clause-at : goal.value-requires-clause-at
+value-requires-clause-at g c = let v = c.loop-i.invariant in c.requires.at ∙ ap (λ (a : Account). last_of (opening_of c.args.self.now).start a.seen) (sym v.1)
 
 pub loop-i-preserved : goal.loop-i-preserved
 loop-i-preserved g c =
-    let v = c.loop-i.invariant in let f = c.value.ensures.seat in let k : ℕ = c.args.who.now.number in let z : Opening = c.args.self.now.steps.table.shared.key in (
-      f.1 ∙ v.0,
-      f.0 ∙ v.1,
-      f.2 ∙ v.2,
-      λ seen stage at.
-          let of_key : List ℕ → Option (List ℕ) = λ key. value_in key seen in
-          let there = renamed k c.loop-i.who.number z seen Free stage c.loop-i.who.seat.me v.0 (ap (λ m. m.0) v.2 ∙ at) in
-          let found = c.in_ok-found.ensures.value seen stage there in
-          let key_is : c.as_slice.result.now ≡ get_or c.args.keys.now c.loop-i.i c.index-keys-i.result = c.as_slice.ensures ∙ c.index-keys-i.is in
-          c.in_ok-push.ensures.ok ∙ ((λ i. v.3 seen stage at i ++ (found ∙ ap of_key key_is) i ∷ []) ∙ sym (map_more of_key c.args.keys.now c.loop-i.i c.index-keys-i.result c.loop-i-test.true)),
+    let v = c.loop-i.invariant in
+    let of_key : List ℕ → Option (List ℕ) = λ key. value_in key (account c.args.seat.now).seen in
+    let found = c.in_ok-found.ensures.value in
+    let key_is : c.as_slice.result.now ≡ get_or c.args.keys.now c.loop-i.i c.index-keys-i.result = c.as_slice.ensures ∙ c.index-keys-i.is in
+    let read = found ∙ ap (λ (a : Account). value_in c.as_slice.result.now a.seen) v.1 in (
+      c.value.ensures.ours,
+      c.value.ensures.same ∙ v.1,
+      c.in_ok-push.ensures.ok ∙ ((λ i. v.2 i ++ (read ∙ ap of_key key_is) i ∷ []) ∙ sym (map_more of_key c.args.keys.now c.loop-i.i c.index-keys-i.result c.loop-i-test.true)),
     )
 
 pub returns-clause-values : goal.returns-clause-values
-returns-clause-values g c seen stage at =
+returns-clause-values g c =
     let v = c.loop-i.invariant in let stop = c.loop-i-test.false in
-    v.3 seen stage at ∙ ap (map (λ (key : List ℕ). value_in key seen)) (take_all c.loop-i.i c.args.keys.now (omega arith))
+    v.2 ∙ ap (map (λ (key : List ℕ). value_in key (account c.args.seat.now).seen)) (take_all c.loop-i.i c.args.keys.now (omega arith))

@@ -34,6 +34,6 @@ returns-clause-seat g c = let q = c.args.self.now.sized in let z : Opening = c.a
     (c.store.ensures.0 ∙ c.exchange.ensures.0 ∙ c.lock-tree.ensures.seat.0, c.lock-tree.ensures.seat.1, t.1 ∙ ap (λ m. rest m.1) x ∙ ap rest lk.1)
 
 pub returns-clause-added : goal.returns-clause-added
-returns-clause-added g c seen l done more at = let q = c.args.self.now.sized in let z : Opening = c.args.self.now.table.shared.key in let e = shards_of z c.args.self.now.opening q.2 in let cl : z.clients ≡ c.args.self.now.opening.clients = ap (λ (s : Opening). s.clients) q.2 in let x = c.exchange.ensures.3 in let k : ℕ = c.args.who.now.number in
-    let lk = c.lock-tree.ensures.locked seen (Holding (work l done ((g.N.Node.VersionNode.version c.args.node) ∷ more))) at in
-    (c.store.ensures.2 k z seen l done more (g.N.Node.VersionNode.version c.args.node) (g.T.Versioned.versions c.lock-tree.result) (ap (λ m. m.0) x ∙ lk.0)).0
+returns-clause-added g c seen u done more at = let q = c.args.self.now.sized in let z : Opening = c.args.self.now.table.shared.key in let e = shards_of z c.args.self.now.opening q.2 in let cl : z.clients ≡ c.args.self.now.opening.clients = ap (λ (s : Opening). s.clients) q.2 in let x = c.exchange.ensures.3 in let k : ℕ = c.args.who.now.number in
+    let lk = c.lock-tree.ensures.locked seen (Holding (work u done ((g.N.Node.VersionNode.version c.args.node) ∷ more))) at in
+    (c.store.ensures.2 k z seen u done more (g.N.Node.VersionNode.version c.args.node) (g.T.Versioned.versions c.lock-tree.result) (ap (λ m. m.0) x ∙ lk.0)).0

@@ -1,7 +1,7 @@
 use Rattle.std.proofs.Common.{◌≡◌, ℕ, List, [], ◌∷◌, sym, ap, ◌∙◌, subst}
 use Rattle.atomic_table.specs.Table.{rest}
 use Rattle.std.proofs.lemmas.Result.{IfOk-weaker}
-use Rattle.table_rule.specs.declared.content.Part.{Part}
+use Rattle.table_rule.specs.declared.content.MemberVersions.{MemberVersions}
 use Rattle.table_rule.specs.declared.content.Version.{Version}
 use Rattle.table_rule.specs.declared.view.Opening.{Opening}
 use Rattle.table_rule.specs.declared.view.SeatState.{SeatState}
@@ -36,6 +36,6 @@ returns-clause-rows g c =
     let l = c.lock-tree.ensures.locked seen stage at in
     let same : o.0 ≡ seen = ap (λ (v : List SeatState). (own v).seen) (sym o.2 ∙ at) in
     let at_end : c.args.at ≡ last_of z.start seen = o.4 ∙ ap (last_of z.start) same in
-    let runs : Runs z.start (versions_of seen) = subst (λ (s : List (List Part)). Runs z.start (versions_of s)) same o.3 in
+    let runs : Runs z.start (versions_of seen) = subst (λ (s : List (List MemberVersions)). Runs z.start (versions_of s)) same o.3 in
     h (of_shard z.shards j (versions_of seen)) (subst (λ (n : ℕ). IsOrderUpTo n vs (of_shard z.shards j (versions_of seen))) (sym at_end) (seen_order z.shards j z.start seen vs runs l.2)))
     c.range-rows.ensures.rows

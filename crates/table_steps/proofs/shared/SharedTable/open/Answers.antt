@@ -1,4 +1,6 @@
-use Rattle.std.proofs.Common.{ℕ, ◌∙◌, ap, subst}
+use Rattle.std.proofs.Common.{◌≡◌, ℕ, ◌≤◌, [], ◌∙◌, sym, ap, subst}
+use Rattle.table_rule.specs.declared.view.Stage.TheVariants.{Idle}
+use Rattle.table_steps.specs.Accounts.{first_state, launch_of, Keeps}
 use Rattle.table_steps.specs.Ends.{AreSeatsOf}
 use Rattle.table_rule.specs.declared.view.Opening.{Opening}
 use Rattle.table_steps.proofs.Openings.{opens_first}
@@ -12,4 +14,12 @@ new-requires g c =
 pub returns-clause-clients : goal.returns-clause-clients
 returns-clause-clients g c =
     let z : Opening = c.in-Ok.table.shared.key in
-    subst (λ (n : ℕ). AreSeatsOf c.in-Ok.table.shared.table_id z n c.in_ok-seats.seats.clients.items) (ap (λ (y : Opening). y.clients) c.in-Ok.ensures.ok.5) c.in_ok-seats.ensures.clients
+    let count : z.clients ≡ c.args.clients = ap (λ (y : Opening). y.clients) c.in-Ok.ensures.ok.5 in
+    let all = subst (λ (n : ℕ). AreSeatsOf c.in-Ok.table.shared.table_id z n c.in_ok-seats.seats.clients.items) count c.in_ok-seats.ensures.clients in (
+      all.0,
+      λ seat h. let e = all.1 seat h in (
+        ((e.0.0, e.2, subst (λ (n : ℕ). seat.client.number ≤ n) (sym count) e.3, ([], Idle, e.0.2, e.0.1)), subst (Keeps c.in-Ok.table.shared.table_id z) (sym e.1) tt),
+        record { idle = ap (λ l. (first_state l).stage) e.0.2; none_launched = ap launch_of e.1 },
+        ap (λ l. (first_state l).seen) e.0.2,
+      ),
+    )

@@ -1,4 +1,4 @@
-use Rattle.std.proofs.Common.{◌≡◌, ℕ, ◌+◌, ◌&&◌, true, false, List, take, drop, map, refl, sym, ◌∙◌, ap, arith}
+use Rattle.std.proofs.Common.{◌≡◌, ℕ, ◌+◌, true, List, take, drop, map, sym, ◌∙◌, ap, arith}
 use Rattle.std.proofs.lemmas.List.{drop-drop}
 use Rattle.wp_model.specs.Grouping.{group_len}
 use Rattle.core_model.specs.Step as event
@@ -10,13 +10,13 @@ use Rattle.write_core.proofs.Events.{passed_over, taken}
 use Rattle.write_core.proofs.LogEvents.{build_is, led_has_none, led_unanswered, line_of}
 use Rattle.write_core.proofs.state.State.build.Goals as goal
 
-pub returns-then-not-is_led_by : goal.returns-then-not-is_led_by
-returns-then-not-is_led_by c = λ o s m.
+pub returns-then-not-is_led_by-clause-steps : goal.returns-then-not-is_led_by-clause-steps
+returns-then-not-is_led_by-clause-steps c = λ o s is_core m.
     let r = c.args.self.now in
     passed_over _ _ o _ s r (build_is o r s c.args.client m) (sym c.is_led_by.ensures ∙ c.if-not-is_led_by.true) m
 
-pub returns : goal.returns
-returns c = λ o s m.
+pub returns-clause-steps : goal.returns-clause-steps
+returns-clause-steps c = λ o s is_core m.
     let r = c.args.self.now in
     let led : is_led_by c.args.client r.log ≡ true = sym c.is_led_by.ensures ∙ c.if-not-is_led_by.false in
     let empty : r.in_hand ≡ 0 = m.line.no_hand (led_has_none c.args.client r.log led) in
@@ -26,7 +26,7 @@ returns c = λ o s m.
     let at : ℕ = r.in_second + r.in_hand in
     let max : ℕ = r.options.group_bytes in
     let same_max : max ≡ o.group_bytes = ap (λ (p : core.Options). p.group_bytes) m.options in
-    let seen : map core.item_of s.queue ≡ drop at r.items.items = ap (map core.item_of) m.line.queue ∙ items_queue r.plans.items r.waiting.items r.items.items at m.writers.items_are in
+    let seen : map core.item_of s.queue ≡ drop at r.items.items = ap (map core.item_of) m.line.queue ∙ items_queue r.plans.items r.linked.items r.items.items at m.writers.items_are in
     let group : (take n s.queue ≡ take (group_len max (map core.item_of s.queue)) s.queue) × (drop n s.queue ≡ drop (group_len max (map core.item_of s.queue)) s.queue) =
     group_taken max n s.queue (drop at r.items.items) seen c.group_size-self.ensures.rule in
     let start : at ≡ r.in_second = omega (arith, empty) in
@@ -44,14 +44,14 @@ returns c = λ o s m.
       };
       writers = m.writers;
       table = m.table;
-      gone = m.gone;
+      leaving = m.leaving;
       entries = m.entries;
       groups = m.groups;
       assigned = m.assigned;
-      dead = m.dead;
+      log_failed = m.log_failed;
       last = m.last;
       room = record {
-        waiting = m.room.waiting;
+        linked = m.room.linked;
         items = m.room.items;
         second = m.room.second;
         entries = omega (arith, m.room.entries, none);

@@ -1,4 +1,4 @@
-use Rattle.std.proofs.Common.{◌≡◌, ◌⊎◌, ℕ, suc, ◌+◌, ◌-◌, ◌<◌, ◌≤◌, Option, Some, None, false, List, length, vec_len, slice_get, slice_set, refl, sym, ap, ◌∙◌, subst, arith}
+use Rattle.std.proofs.Common.{◌≡◌, ℕ, ◌+◌, ◌-◌, ◌<◌, Option, Some, None, false, List, length, vec_len, slice_get, slice_set, refl, sym, ap, ◌∙◌, subst, arith}
 use Rattle.std.specs.Prelude.{find, filter, not, ◌==◌, option_map}
 use Rattle.std.proofs.lemmas.Option.{slice_get_read}
 use Rattle.wp_model.specs.Batch.{Record}
@@ -8,10 +8,11 @@ use Rattle.core_model.specs.Step as event
 use Rattle.write_core.specs.declared.writer.Answer.{Answer}
 use Rattle.write_core.specs.declared.writer.Answer.TheVariants.{Accepted, Refused}
 use Rattle.write_core.specs.declared.writer.Writer.{Writer}
-use Rattle.write_core.specs.Shown.{shown_writer, shown_answer, shown_reply, records_of}
+use Rattle.core_plans.specs.Plans.{records_of}
+use Rattle.write_core.specs.Shown.{shown_writer, shown_answer, shown_reply}
 use Rattle.write_core.specs.Mirrors.{IsClient, AreClients, done_of, lines_left}
 use Rattle.write_core.proofs.Events.{cannot_come, has_come}
-use Rattle.write_core.proofs.ClientLemmas.{clients_set, get_some, gone_is_busy, done_told, done_past, client_of, lines_kept}
+use Rattle.write_core.proofs.ClientLemmas.{clients_set, get_some, leaving_is_busy, done_told, done_past, client_of, lines_kept}
 use Rattle.write_core.proofs.state.State.complete.Goals as goal
 
 no_answer : (s : core.State) (m : ℕ) (o : Option core.Client) (w : core.Writer) → event.complete_with s m o w None ≡ None
@@ -22,31 +23,31 @@ some_reply : (records : List Record) (x : Answer) → shown_answer records (Some
 some_reply records (Accepted first last) = refl
 some_reply records (Refused why) = refl
 
-pub returns-in_default : goal.returns-in_default
-returns-in_default c = λ o s is m.
+pub returns-in_default-clause-steps : goal.returns-in_default-clause-steps
+returns-in_default-clause-steps c = λ o s is m.
     let r = c.args.self.now in
     let none : done_of r.done.items c.args.client ≡ None = done_past r.done.items (vec_len r.plans) c.args.client (omega (arith, r.one_done_each, r.done.ok.0)) c.in_default.ensures in
-    cannot_come _ o s r (ap (event.complete s c.args.client) (m.gone c.args.client ∙ ap (option_map (shown_writer r.plans.items)) none)) m
+    cannot_come _ o s r (ap (event.complete s c.args.client) (m.leaving c.args.client ∙ ap (option_map (shown_writer r.plans.items)) none)) m
 
-pub returns-in_default-done_of : goal.returns-in_default-done_of
-returns-in_default-done_of c = λ o s is m.
+pub returns-in_default-done_of-clause-steps : goal.returns-in_default-done_of-clause-steps
+returns-in_default-done_of-clause-steps c = λ o s is m.
     let r = c.args.self.now in
     let none : done_of r.done.items c.args.client ≡ None = ap (λ ds. done_of ds c.args.client) (sym c.deref.ensures.value) ∙ sym c.done_of.ensures ∙ c.in_default-done_of.is in
-    cannot_come _ o s r (ap (event.complete s c.args.client) (m.gone c.args.client ∙ ap (option_map (shown_writer r.plans.items)) none)) m
+    cannot_come _ o s r (ap (event.complete s c.args.client) (m.leaving c.args.client ∙ ap (option_map (shown_writer r.plans.items)) none)) m
 
-pub returns-in_default-answer : goal.returns-in_default-answer
-returns-in_default-answer c = λ o s is m.
+pub returns-in_default-answer-clause-steps : goal.returns-in_default-answer-clause-steps
+returns-in_default-answer-clause-steps c = λ o s is m.
     let r = c.args.self.now in
     let d : ℕ = c.args.client in
     let plans = r.plans.items in
     let w : Writer = c.in-Some-done_of.writer in
     let some : done_of r.done.items d ≡ Some w = ap (λ ds. done_of ds d) (sym c.deref.ensures.value) ∙ sym c.done_of.ensures ∙ c.in-Some-done_of.is in
-    let found : find (λ (v : core.Writer). v.client == d) s.gone ≡ Some (shown_writer plans w) = m.gone d ∙ ap (option_map (shown_writer plans)) some in
+    let found : find (λ (v : core.Writer). v.client == d) s.leaving ≡ Some (shown_writer plans w) = m.leaving d ∙ ap (option_map (shown_writer plans)) some in
     let none : shown_answer (records_of plans w.client w.batch) w.answer ≡ None = ap (shown_answer (records_of plans w.client w.batch)) c.in_default-answer.is in
     cannot_come _ o s r (ap (event.complete s d) found ∙ ap (event.complete_with s d (core.client_at s d) (shown_writer plans w)) none ∙ no_answer s d (core.client_at s d) (shown_writer plans w)) m
 
-pub returns : goal.returns
-returns c = λ o s is m.
+pub returns-clause-steps : goal.returns-clause-steps
+returns-clause-steps c = λ o s is m.
     let r = c.args.self.now in
     let d : ℕ = c.args.client in
     let plans = r.plans.items in
@@ -59,16 +60,16 @@ returns c = λ o s is m.
     let back : d - 1 ≡ place = omega (arith, number) in
     let few : place < length plans = omega (arith, c.in-Some.ensures, r.plans.ok.0) in
     let some : done_of r.done.items d ≡ Some w = ap (λ ds. done_of ds d) (sym c.deref.ensures.value) ∙ sym c.done_of.ensures ∙ c.in-Some-done_of.is in
-    let found : find (λ (v : core.Writer). v.client == d) s.gone ≡ Some sw = m.gone d ∙ ap (option_map (shown_writer plans)) some in
+    let found : find (λ (v : core.Writer). v.client == d) s.leaving ≡ Some sw = m.leaving d ∙ ap (option_map (shown_writer plans)) some in
     let answered : sw.answer ≡ Some reply = ap (shown_answer records) c.in-Some-answer.is ∙ some_reply records c.in-Some-answer.answer in
     let known : place < length s.clients = omega (arith, few, m.clients.plan_each) in
     let at = get_some s.clients place known in
     let client : core.Client = at.0 in
     let there : core.client_at s d ≡ Some client = client_of s d place client number at.1 in
-    let busy : client.idle ≡ false = gone_is_busy o s d client sw is there found in
+    let busy : client.idle ≡ false = leaving_is_busy o s d client sw is there found in
     let new : core.Client = event.completed client sw reply in
-    let t : core.State = record (core.with_client s d new) { gone = filter (λ (x : core.Writer). not (x.client == d)) s.gone } in
-    let comes : event.complete s d (find (λ (v : core.Writer). v.client == d) s.gone) ≡ Some t =
+    let t : core.State = record (core.with_client s d new) { leaving = filter (λ (x : core.Writer). not (x.client == d)) s.leaving } in
+    let comes : event.complete s d (find (λ (v : core.Writer). v.client == d) s.leaving) ≡ Some t =
     ap (event.complete s d) found ∙ ap (λ x. event.complete_with s d x sw sw.answer) there ∙ ap (event.complete_with s d (Some client) sw) answered in
     let plan = get_some plans place few in
     let seat_there : slice_get r.seats.items place ≡ Some c.index_mut.result.now = slice_get_read r.seats.items (vec_len r.seats) place c.index_mut.result.now r.seats.ok.0 (omega (arith, c.in-Some.ensures, r.one_seat_each)) c.index_mut.ensures.value in
@@ -83,14 +84,14 @@ returns c = λ o s is m.
       line = record { second_sum = m.line.second_sum; second_groups = m.line.second_groups; hand = m.line.hand; no_hand = m.line.no_hand; queue = m.line.queue };
       writers = m.writers;
       table = m.table;
-      gone = done_told plans r.done.items c.set_done.new.done.items s.gone d m.gone (c.set_done.ensures.set (omega (arith, number)) (omega (arith, number, few, r.one_done_each, r.done.ok.0, r.plans.ok.0)));
+      leaving = done_told plans r.done.items c.set_done.new.done.items s.leaving d m.leaving (c.set_done.ensures.set (omega (arith, number)) (omega (arith, number, few, r.one_done_each, r.done.ok.0, r.plans.ok.0)));
       entries = m.entries;
       groups = m.groups;
       assigned = m.assigned;
-      dead = m.dead;
+      log_failed = m.log_failed;
       last = m.last;
       room = record {
-        waiting = omega (arith, m.room.waiting, left);
+        linked = omega (arith, m.room.linked, left);
         items = omega (arith, m.room.items, left);
         second = omega (arith, m.room.second, left);
         entries = omega (arith, m.room.entries, left);

@@ -1,5 +1,4 @@
-use Rattle.std.proofs.Common.{◌≡◌, ◌+◌, ◌&&◌, true, false, refl, sym, ◌∙◌, arith}
-use Rattle.core_model.specs.Core as core
+use Rattle.std.proofs.Common.{◌≡◌, ◌+◌, true, refl, sym, ◌∙◌, arith}
 use Rattle.write_core.specs.Leads.{leads_at}
 use Rattle.write_core.specs.Phases.{is_free}
 use Rattle.write_core.specs.Mirrors.{answered}
@@ -7,21 +6,21 @@ use Rattle.write_core.proofs.Events.{first_fails, second_fails, both_hold}
 use Rattle.write_core.proofs.LogEvents.{elect_is, free_has_none, free_unanswered}
 use Rattle.write_core.proofs.state.State.elect.Goals as goal
 
-pub returns-then-not-is_free : goal.returns-then-not-is_free
-returns-then-not-is_free c = λ o s m.
+pub returns-then-not-is_free-clause-steps : goal.returns-then-not-is_free-clause-steps
+returns-then-not-is_free-clause-steps c = λ o s is_core m.
     let r = c.args.self.now in
     first_fails _ _ _ o _ s r (elect_is o r s c.args.client m) (sym c.is_free.ensures ∙ c.if-not-is_free.true) m
 
-pub returns-then-not-leads : goal.returns-then-not-leads
-returns-then-not-leads c = λ o s m.
+pub returns-then-not-leads-clause-steps : goal.returns-then-not-leads-clause-steps
+returns-then-not-leads-clause-steps c = λ o s is_core m.
     let r = c.args.self.now in
     second_fails _ _ _ o _ s r (elect_is o r s c.args.client m) (sym c.leads.ensures ∙ c.if-not-leads.true) m
 
-pub returns : goal.returns
-returns c = λ o s m.
+pub returns-clause-steps : goal.returns-clause-steps
+returns-clause-steps c = λ o s is_core m.
     let r = c.args.self.now in
     let free : is_free r.log ≡ true = sym c.is_free.ensures ∙ c.if-not-is_free.false in
-    let first : leads_at c.args.client (r.in_second + r.in_hand) r.waiting.items ≡ true = sym c.leads.ensures ∙ c.if-not-leads.false in
+    let first : leads_at c.args.client (r.in_second + r.in_hand) r.linked.items ≡ true = sym c.leads.ensures ∙ c.if-not-leads.false in
     let none : answered r.log r.in_hand ≡ 0 = free_unanswered r.log r.in_hand free in
     both_hold _ _ _ o _ s _ (elect_is o r s c.args.client m) free first (record {
       options = m.options;
@@ -35,14 +34,14 @@ returns c = λ o s m.
       };
       writers = m.writers;
       table = m.table;
-      gone = m.gone;
+      leaving = m.leaving;
       entries = m.entries;
       groups = m.groups;
       assigned = m.assigned;
-      dead = m.dead;
+      log_failed = m.log_failed;
       last = m.last;
       room = record {
-        waiting = m.room.waiting;
+        linked = m.room.linked;
         items = m.room.items;
         second = m.room.second;
         entries = omega (arith, m.room.entries, none);

@@ -1,22 +1,20 @@
-use Rattle.std.proofs.Common.{◌≡◌, ℕ, ◌≤◌, true, false, not, ◌&&◌, List, [], ◌∷◌, ◌++◌, length, Option, Some, None, refl, sym, ap, ◌∙◌, arith}
-use Rattle.std.specs.List.{list_any, list_all}
+use Rattle.std.proofs.Common.{◌≡◌, ℕ, ◌≤◌, true, false, not, ◌&&◌, List, [], ◌∷◌, ◌++◌, length, Some, sym, ap, ◌∙◌}
 use Rattle.core_model.specs.Core as core
 use Rattle.core_model.specs.Step as event
-use Rattle.write_core.specs.Leads.{has_run, finished_last}
 use Rattle.write_core.specs.Phases.{is_launched, is_inserted, is_finished}
 use Rattle.write_core.specs.Mirrors.{mark_of, IsLaunched}
-use Rattle.write_core.proofs.Events.{cannot_come, first_fails, second_fails, both_hold, first_false, second_false, both_true}
-use Rattle.write_core.proofs.MarkLemmas.{launched_insert, launched_finish, inserted_is_client}
-use Rattle.write_core.proofs.TableEvents.{launched_parts, launched_table, not_launched, members_are, runner_is, runner_is_client, all_finished_is, group_last_is, in_table}
+use Rattle.write_core.proofs.Events.{cannot_come, first_fails, second_fails, both_hold}
+use Rattle.write_core.proofs.MarkLemmas.{launched_finish, inserted_is_client}
+use Rattle.write_core.proofs.TableEvents.{launched_parts, launched_table, not_launched}
 use Rattle.write_core.proofs.state.State.finish.Goals as goal
 
-pub returns-then-not-is_launched : goal.returns-then-not-is_launched
-returns-then-not-is_launched c = λ o s m.
+pub returns-then-not-is_launched-clause-steps : goal.returns-then-not-is_launched-clause-steps
+returns-then-not-is_launched-clause-steps c = λ o s is_core m.
     let r = c.args.self.now in
     cannot_come _ o s r ((not_launched o s c.args.client r.table r.marks.items r.last_finished (sym c.is_launched.ensures ∙ c.if-not-is_launched.true) m.table).1) m
 
-pub returns-then-not-is_inserted : goal.returns-then-not-is_inserted
-returns-then-not-is_inserted c = λ o s m.
+pub returns-then-not-is_inserted-clause-steps : goal.returns-then-not-is_inserted-clause-steps
+returns-then-not-is_inserted-clause-steps c = λ o s is_core m.
     let r = c.args.self.now in
     let d : ℕ = c.args.client in
     let launched : is_launched r.table ≡ true = sym c.is_launched.ensures ∙ c.if-not-is_launched.false in
@@ -27,8 +25,8 @@ returns-then-not-is_inserted c = λ o s m.
     let in_is : core.among d ins ≡ is_inserted c.mark_of-mark.result = parts.3.inserted d ∙ ap (λ ms. is_inserted (mark_of ms d)) (sym c.deref.ensures.value) ∙ ap is_inserted (sym c.mark_of-mark.ensures) in
     first_fails _ _ _ o _ s r comes (in_is ∙ sym c.is_inserted.ensures ∙ c.if-not-is_inserted.true) m
 
-pub returns-then-is_finished : goal.returns-then-is_finished
-returns-then-is_finished c = λ o s m.
+pub returns-then-is_finished-clause-steps : goal.returns-then-is_finished-clause-steps
+returns-then-is_finished-clause-steps c = λ o s is_core m.
     let r = c.args.self.now in
     let d : ℕ = c.args.client in
     let launched : is_launched r.table ≡ true = sym c.is_launched.ensures ∙ c.if-not-is_launched.false in
@@ -40,8 +38,8 @@ returns-then-is_finished c = λ o s m.
     let fin_is : core.among d fin ≡ true = parts.3.finished d ∙ ap (λ ms. is_finished (mark_of ms d)) (sym c.deref.ensures.value) ∙ ap is_finished (sym c.mark_of-mark.ensures) ∙ sym c.is_finished.ensures ∙ c.if-is_finished.true in
     second_fails _ _ _ o _ s r comes (ap not fin_is) m
 
-pub returns : goal.returns
-returns c = λ o s m.
+pub returns-clause-steps : goal.returns-clause-steps
+returns-clause-steps c = λ o s is_core m.
     let r = c.args.self.now in
     let d : ℕ = c.args.client in
     let launched : is_launched r.table ≡ true = sym c.is_launched.ensures ∙ c.if-not-is_launched.false in
@@ -59,14 +57,14 @@ returns c = λ o s m.
       line = record { second_sum = m.line.second_sum; second_groups = m.line.second_groups; hand = m.line.hand; no_hand = m.line.no_hand; queue = m.line.queue };
       writers = m.writers;
       table = launched_table r.table _ (Some d) ins (fin ++ d ∷ []) launched (launched_finish r.marks.items _ r.last_finished ins fin d parts.3 here (c.set_mark.ensures.set client.0 client.1));
-      gone = m.gone;
+      leaving = m.leaving;
       entries = m.entries;
       groups = m.groups;
       assigned = m.assigned;
-      dead = m.dead;
+      log_failed = m.log_failed;
       last = m.last;
       room = record {
-        waiting = m.room.waiting;
+        linked = m.room.linked;
         items = m.room.items;
         second = m.room.second;
         entries = m.room.entries;

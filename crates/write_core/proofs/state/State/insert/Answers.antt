@@ -1,22 +1,20 @@
-use Rattle.std.proofs.Common.{◌≡◌, ℕ, ◌≤◌, true, false, not, ◌&&◌, List, [], ◌∷◌, ◌++◌, length, Option, Some, None, refl, sym, ap, ◌∙◌, arith}
-use Rattle.std.specs.List.{list_any, list_all}
+use Rattle.std.proofs.Common.{◌≡◌, ℕ, ◌≤◌, true, false, not, ◌&&◌, List, [], ◌∷◌, ◌++◌, length, sym, ap, ◌∙◌, arith}
 use Rattle.core_model.specs.Core as core
 use Rattle.core_model.specs.Step as event
-use Rattle.write_core.specs.Leads.{has_run, finished_last}
-use Rattle.write_core.specs.Phases.{is_launched, is_inserted, is_finished}
+use Rattle.write_core.specs.Phases.{is_launched, is_inserted}
 use Rattle.write_core.specs.Mirrors.{mark_of, IsLaunched}
-use Rattle.write_core.proofs.Events.{cannot_come, first_fails, second_fails, both_hold, first_false, second_false, both_true}
-use Rattle.write_core.proofs.MarkLemmas.{launched_insert, launched_finish, inserted_is_client}
-use Rattle.write_core.proofs.TableEvents.{launched_parts, launched_table, not_launched, members_are, runner_is, runner_is_client, all_finished_is, group_last_is, in_table}
+use Rattle.write_core.proofs.Events.{cannot_come, first_fails, second_fails, both_hold}
+use Rattle.write_core.proofs.MarkLemmas.{launched_insert}
+use Rattle.write_core.proofs.TableEvents.{launched_parts, launched_table, not_launched, members_are, runner_is, runner_is_client, in_table}
 use Rattle.write_core.proofs.state.State.insert.Goals as goal
 
-pub returns-then-not-is_launched : goal.returns-then-not-is_launched
-returns-then-not-is_launched c = λ o s m.
+pub returns-then-not-is_launched-clause-steps : goal.returns-then-not-is_launched-clause-steps
+returns-then-not-is_launched-clause-steps c = λ o s is_core m.
     let r = c.args.self.now in
     cannot_come _ o s r ((not_launched o s c.args.client r.table r.marks.items r.last_finished (sym c.is_launched.ensures ∙ c.if-not-is_launched.true) m.table).0) m
 
-pub returns-then-not-has_runner : goal.returns-then-not-has_runner
-returns-then-not-has_runner c = λ o s m.
+pub returns-then-not-has_runner-clause-steps : goal.returns-then-not-has_runner-clause-steps
+returns-then-not-has_runner-clause-steps c = λ o s is_core m.
     let r = c.args.self.now in
     let d : ℕ = c.args.client in
     let launched : is_launched r.table ≡ true = sym c.is_launched.ensures ∙ c.if-not-is_launched.false in
@@ -24,11 +22,11 @@ returns-then-not-has_runner c = λ o s m.
     let ins : List ℕ = parts.0 in
     let fin : List ℕ = parts.1 in
     let comes : event.insert o s d s.table ≡ event.when (core.among d (core.runners (core.table_group o s)) && not (core.among d ins)) (record s { table = core.launched (ins ++ d ∷ []) fin; inserted = s.inserted ++ event.entry_ahead s d }) = ap (event.insert o s d) parts.2 in
-    let runs : core.among d (core.runners (core.table_group o s)) ≡ c.has_runner.result = ap (λ ws. core.among d (core.runners ws)) (members_are o r s m) ∙ runner_is r.plans.items d (in_table r r.waiting.items) ∙ sym c.has_runner.ensures in
+    let runs : core.among d (core.runners (core.table_group o s)) ≡ c.has_runner.result = ap (λ ws. core.among d (core.runners ws)) (members_are o r s m) ∙ runner_is r.plans.items d (in_table r r.linked.items) ∙ sym c.has_runner.ensures in
     first_fails _ _ _ o _ s r comes (runs ∙ c.if-not-has_runner.true) m
 
-pub returns-then-is_inserted : goal.returns-then-is_inserted
-returns-then-is_inserted c = λ o s m.
+pub returns-then-is_inserted-clause-steps : goal.returns-then-is_inserted-clause-steps
+returns-then-is_inserted-clause-steps c = λ o s is_core m.
     let r = c.args.self.now in
     let d : ℕ = c.args.client in
     let launched : is_launched r.table ≡ true = sym c.is_launched.ensures ∙ c.if-not-is_launched.false in
@@ -36,12 +34,12 @@ returns-then-is_inserted c = λ o s m.
     let ins : List ℕ = parts.0 in
     let fin : List ℕ = parts.1 in
     let comes : event.insert o s d s.table ≡ event.when (core.among d (core.runners (core.table_group o s)) && not (core.among d ins)) (record s { table = core.launched (ins ++ d ∷ []) fin; inserted = s.inserted ++ event.entry_ahead s d }) = ap (event.insert o s d) parts.2 in
-    let runs : core.among d (core.runners (core.table_group o s)) ≡ c.has_runner.result = ap (λ ws. core.among d (core.runners ws)) (members_are o r s m) ∙ runner_is r.plans.items d (in_table r r.waiting.items) ∙ sym c.has_runner.ensures in
+    let runs : core.among d (core.runners (core.table_group o s)) ≡ c.has_runner.result = ap (λ ws. core.among d (core.runners ws)) (members_are o r s m) ∙ runner_is r.plans.items d (in_table r r.linked.items) ∙ sym c.has_runner.ensures in
     let in_already : core.among d ins ≡ true = parts.3.inserted d ∙ ap (λ ms. is_inserted (mark_of ms d)) (sym c.deref.ensures.value) ∙ ap is_inserted (sym c.mark_of.ensures) ∙ sym c.is_inserted.ensures ∙ c.if-is_inserted.true in
     second_fails _ _ _ o _ s r comes (ap not in_already) m
 
-pub returns : goal.returns
-returns c = λ o s m.
+pub returns-clause-steps : goal.returns-clause-steps
+returns-clause-steps c = λ o s is_core m.
     let r = c.args.self.now in
     let d : ℕ = c.args.client in
     let launched : is_launched r.table ≡ true = sym c.is_launched.ensures ∙ c.if-not-is_launched.false in
@@ -49,7 +47,7 @@ returns c = λ o s m.
     let ins : List ℕ = parts.0 in
     let fin : List ℕ = parts.1 in
     let comes : event.insert o s d s.table ≡ event.when (core.among d (core.runners (core.table_group o s)) && not (core.among d ins)) (record s { table = core.launched (ins ++ d ∷ []) fin; inserted = s.inserted ++ event.entry_ahead s d }) = ap (event.insert o s d) parts.2 in
-    let runs : core.among d (core.runners (core.table_group o s)) ≡ c.has_runner.result = ap (λ ws. core.among d (core.runners ws)) (members_are o r s m) ∙ runner_is r.plans.items d (in_table r r.waiting.items) ∙ sym c.has_runner.ensures in
+    let runs : core.among d (core.runners (core.table_group o s)) ≡ c.has_runner.result = ap (λ ws. core.among d (core.runners ws)) (members_are o r s m) ∙ runner_is r.plans.items d (in_table r r.linked.items) ∙ sym c.has_runner.ensures in
     let out : is_inserted (mark_of r.marks.items d) ≡ false = ap (λ ms. is_inserted (mark_of ms d)) (sym c.deref.ensures.value) ∙ ap is_inserted (sym c.mark_of.ensures) ∙ sym c.is_inserted.ensures ∙ c.if-is_inserted.false in
     let not_in : core.among d ins ≡ false = parts.3.inserted d ∙ out in
     let client : (1 ≤ d) × (d ≤ length r.plans.items) = runner_is_client o r s d m (sym c.has_runner.ensures ∙ c.if-not-has_runner.false) in
@@ -60,14 +58,14 @@ returns c = λ o s m.
       line = record { second_sum = m.line.second_sum; second_groups = m.line.second_groups; hand = m.line.hand; no_hand = m.line.no_hand; queue = m.line.queue };
       writers = m.writers;
       table = launched_table r.table _ r.last_finished (ins ++ d ∷ []) fin launched (launched_insert r.marks.items _ r.last_finished ins fin d parts.3 out (c.set_mark.ensures.set client.0 few));
-      gone = m.gone;
+      leaving = m.leaving;
       entries = m.entries;
       groups = m.groups;
       assigned = m.assigned;
-      dead = m.dead;
+      log_failed = m.log_failed;
       last = m.last;
       room = record {
-        waiting = m.room.waiting;
+        linked = m.room.linked;
         items = m.room.items;
         second = m.room.second;
         entries = m.room.entries;

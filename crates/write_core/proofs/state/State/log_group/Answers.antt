@@ -14,17 +14,17 @@ use Rattle.write_core.proofs.HandRuns.{log_group_is, hand_got, none_shown, some_
 use Rattle.write_core.proofs.RunLemmas.{append_none}
 use Rattle.write_core.proofs.state.State.log_group.Goals as goal
 
-pub returns-then-not-has_built : goal.returns-then-not-has_built
-returns-then-not-has_built c = λ o s m.
+pub returns-then-not-has_built-clause-steps : goal.returns-then-not-has_built-clause-steps
+returns-then-not-has_built-clause-steps c = λ o s is_core m.
     let r = c.args.self.now in
     first_fails _ _ _ o _ s r (log_group_is o r s c.args.client m) (sym c.has_built.ensures ∙ c.if-not-has_built.true) m
 
-pub returns-then-given-eq0 : goal.returns-then-given-eq0
-returns-then-given-eq0 c = λ o s m.
+pub returns-then-given-eq0-clause-steps : goal.returns-then-given-eq0-clause-steps
+returns-then-given-eq0-clause-steps c = λ o s is_core m.
     let r = c.args.self.now in
     let f = shown_writer r.plans.items in
     let both = sym c.has_built.ensures ∙ c.if-not-has_built.false in
-    let parts = built_parts r.log (leads_front c.args.client r.in_second r.in_hand r.waiting.items) both in
+    let parts = built_parts r.log (leads_front c.args.client r.in_second r.in_hand r.linked.items) both in
     let group : List Writer = c.give_runs-self.new.group in
     let es = c.give_runs-self.new.entries.items in
     let ws : List core.Writer = map f group in
@@ -36,22 +36,22 @@ returns-then-given-eq0 c = λ o s m.
     let front : length s.entries ≡ length r.entries.items = ap length m.entries ∙ length-map r.entries.items (shown_entry r.plans.items) in
     let back : length (s.entries ++ core.entries_of s ws) ≡ length s.entries = sym (ap length got.listed) ∙ length-map es (shown_entry r.plans.items) ∙ same_len ∙ sym front in
     let none : core.entries_of s ws ≡ [] = none_more s.entries (core.entries_of s ws) back in
-    let alive : not r.dead ≡ true = ap not c.if-self.false in
+    let alive : not r.log_failed ≡ true = ap not c.if-self.false in
     let mid : core.State = record s { log = core.built ws } in
-    both_hold _ _ _ o _ s _ (log_group_is o r s c.args.client m) both alive (none_shown o _ s _ ws _ got.shown got.runs none (c.leave_hand.ensures o mid (record {
+    both_hold _ _ _ o _ s _ (log_group_is o r s c.args.client m) both alive (none_shown o _ s _ ws _ got.shown got.runs none (c.leave_hand.ensures.left o mid (record {
       options = m.options;
       clients = m.clients;
       line = got.line mid r.log refl refl (built_shown r.log ws parts.0) (built_has_group r.log parts.0);
       writers = got.writers;
       table = m.table;
-      gone = m.gone;
+      leaving = m.leaving;
       entries = append_none s.entries ∙ ap (λ xs. s.entries ++ xs) (sym none) ∙ sym got.listed;
       groups = m.groups;
       assigned = sym (got.reached ∙ ap (core.last_entry s.assigned) none);
-      dead = m.dead;
+      log_failed = m.log_failed;
       last = m.last;
       room = record {
-        waiting = m.room.waiting;
+        linked = m.room.linked;
         items = m.room.items;
         second = m.room.second;
         entries = omega (arith, m.room.entries, c.give_runs-self.ensures.capacity, old_len, new_len, same_len, built_unanswered r.log r.in_hand parts.0);
@@ -60,12 +60,12 @@ returns-then-given-eq0 c = λ o s m.
       };
     })))
 
-pub returns : goal.returns
-returns c = λ o s m.
+pub returns-clause-steps : goal.returns-clause-steps
+returns-clause-steps c = λ o s is_core m.
     let r = c.args.self.now in
     let f = shown_writer r.plans.items in
     let both = sym c.has_built.ensures ∙ c.if-not-has_built.false in
-    let parts = built_parts r.log (leads_front c.args.client r.in_second r.in_hand r.waiting.items) both in
+    let parts = built_parts r.log (leads_front c.args.client r.in_second r.in_hand r.linked.items) both in
     let group : List Writer = c.give_runs-self.new.group in
     let es = c.give_runs-self.new.entries.items in
     let ws : List core.Writer = map f group in
@@ -78,17 +78,17 @@ returns c = λ o s m.
     let given : ℕ = c.len.result - c.len-before.result in
     let given_is : given ≡ length (core.entries_of s ws) = omega (arith, whole, length-append s.entries (core.entries_of s ws), front, old_len, new_len, c.len.ensures, c.len-before.ensures) in
     let some : 0 < length (core.entries_of s ws) = omega (arith, given_is, c.if-given-eq0.false) in
-    let alive : not r.dead ≡ true = ap not c.if-self.false in
-    let in_group : 0 < r.in_hand = leads_some c.args.client r.in_second r.in_hand r.waiting.items parts.1 in
-    let within : r.in_second < length r.waiting.items = leads_within c.args.client r.in_second r.in_hand r.waiting.items parts.1 in
+    let alive : not r.log_failed ≡ true = ap not c.if-self.false in
+    let in_group : 0 < r.in_hand = leads_some c.args.client r.in_second r.in_hand r.linked.items parts.1 in
+    let within : r.in_second < length r.linked.items = leads_within c.args.client r.in_second r.in_hand r.linked.items parts.1 in
     let unanswered_still = built_unanswered r.log r.in_hand parts.0 in
     let few : vec_len c.give_runs-self.new.entries ≤ vec_len r.entries + r.in_hand = omega (arith, c.give_runs-self.ensures.upper, size_of_group r c.deref_mut.result.now (r.in_second + r.in_hand - r.in_second) c.deref_mut.ensures.value len_is) in
     let free : vec_len r.groups < vec_capacity r.groups = omega (arith, m.room.entries, m.room.groups, m.room.group_room, unanswered_still, in_group, r.groups_wait) in
     let unlogged : event.is_unlogged ws ≡ c.is_unlogged-unlogged.result =
     ap event.is_unlogged got.runs ∙ unlogged_alike s.assigned (hand_of r)
-    ∙ first_at r.plans.items (λ (v : core.Writer). v.options.no_log) event.is_unlogged r.in_second r.in_hand r.waiting.items no_writer (λ v vs. refl) in_group within
+    ∙ first_at r.plans.items (λ (v : core.Writer). v.options.no_log) event.is_unlogged r.in_second r.in_hand r.linked.items no_writer (λ v vs. refl) in_group within
     ∙ sym (c.is_unlogged-unlogged.ensures no_writer) in
-    let entries_room : vec_len c.give_runs-self.new.entries + vec_len r.waiting + lines_left s.clients ≤ vec_capacity c.give_runs-self.new.entries + r.in_second + r.in_hand =
+    let entries_room : vec_len c.give_runs-self.new.entries + vec_len r.linked + lines_left s.clients ≤ vec_capacity c.give_runs-self.new.entries + r.in_second + r.in_hand =
     omega (arith, m.room.entries, c.give_runs-self.ensures.capacity, few, unanswered_still) in
     let few_groups : vec_len c.note_logged.new.groups ≤ vec_len c.give_runs-self.new.entries =
     omega (arith, m.room.groups, c.note_logged.ensures.upper, c.give_runs-self.ensures.lower, c.if-given-eq0.false, c.len.ensures, c.len-before.ensures) in
@@ -101,17 +101,17 @@ returns c = λ o s m.
       line = got.line t InLog refl refl refl refl;
       writers = got.writers;
       table = m.table;
-      gone = m.gone;
+      leaving = m.leaving;
       entries = sym got.listed;
       groups = ap (λ b. if b then s.groups else s.groups ++ length (core.entries_of s ws) ∷ []) unlogged
           ∙ ap (λ gs. if c.is_unlogged-unlogged.result then gs else gs ++ length (core.entries_of s ws) ∷ []) m.groups
           ∙ ap (λ n. if c.is_unlogged-unlogged.result then r.groups.items else r.groups.items ++ n ∷ []) (sym given_is)
           ∙ sym (c.note_logged.ensures.noted free);
       assigned = sym got.reached;
-      dead = m.dead;
+      log_failed = m.log_failed;
       last = m.last;
       room = record {
-        waiting = m.room.waiting;
+        linked = m.room.linked;
         items = m.room.items;
         second = m.room.second;
         entries = entries_room;

@@ -3,17 +3,19 @@ use Rattle.std.specs.List.{AllByRecursion, AllZip}
 use Rattle.write_core.specs.Fresh.{IsFresh}
 use Rattle.wp_model.specs.Batch.{count_of}
 use Rattle.core_model.specs.Core as core
-use Rattle.write_core.specs.declared.plan.ClientPlan.{ClientPlan}
+use Rattle.core_plans.specs.declared.plan.ClientPlan.{ClientPlan}
 use Rattle.write_core.specs.declared.writer.Writer.{Writer}
-use Rattle.write_core.specs.Shown.{plans_of, records_of, shown_writer, shown_entry, cut, total}
+use Rattle.core_plans.specs.Plans.{plans_of, records_of}
+use Rattle.write_core.specs.Shown.{shown_writer, shown_entry, cut, total}
 use Rattle.write_core.specs.Mirrors.{IsClientOf, lines_left}
 use Rattle.write_core.proofs.OpeningLemmas.{fresh_clients, all_left, nobody_done}
+use Rattle.write_core.proofs.ShowsLemmas.{shows}
 use Rattle.write_core.proofs.state.State.new.Goals as goal
 
-pub returns : goal.returns
-returns c =
+pub returns-clause-shows : goal.returns-clause-shows
+returns-clause-shows c =
     let plans : List ClientPlan = c.args.plans.items in
-    let waiting : c.in_ok-waiting.waiting.items ≡ [] = c.in_ok-waiting.ensures.items in
+    let linked : c.in_ok-linked.linked.items ≡ [] = c.in_ok-linked.ensures.items in
     let items : c.in_ok-items.items.items ≡ [] = c.in_ok-items.ensures.items in
     let second : c.in_ok-second.second.items ≡ [] = c.in_ok-second.ensures.items in
     let entries : c.in_ok-entries.entries.items ≡ [] = c.in_ok-entries.ensures.items in
@@ -22,34 +24,34 @@ returns c =
     let left : lines_left (map core.idle_client (plans_of plans)) ≡ sum_by (λ (p : ClientPlan). length p.lines.items) plans = all_left plans in
     let lines : sum_by (λ (p : ClientPlan). length p.lines.items) c.deref.result.now ≡ sum_by (λ (p : ClientPlan). length p.lines.items) plans = ap (sum_by (λ (p : ClientPlan). length p.lines.items)) c.deref.ensures.value in
     let room : c.in_ok-room.room ≡ lines_left (map core.idle_client (plans_of plans)) = c.in_ok-room.ensures ∙ lines ∙ sym left in
-    record {
+    shows _ _ _ (record {
       options = refl;
       clients = fresh_clients plans c.in_ok-seats.seats.items c.requires.small (let P : List ClientPlan → Type 0 = λ xs. AllZip IsFresh xs c.in_ok-seats.seats.items in subst P c.deref-2.ensures.value c.in_ok-seats.ensures.fresh);
       line = record {
         second_sum = sym (ap total second);
-        second_groups = sym (ap (λ ns. cut ns (map (shown_writer plans) c.in_ok-waiting.waiting.items)) second);
+        second_groups = sym (ap (λ ns. cut ns (map (shown_writer plans) c.in_ok-linked.linked.items)) second);
         hand = refl;
         no_hand = λ e. refl;
-        queue = sym (ap (λ ws. drop 0 (map (shown_writer plans) ws)) waiting);
+        queue = sym (ap (λ ws. drop 0 (map (shown_writer plans) ws)) linked);
       };
       writers = record {
-        items_are = items ∙ sym (ap (map (λ w. core.item_of (shown_writer plans w))) waiting);
-        counts_are = ap (map (λ (w : Writer). w.count)) waiting ∙ sym (ap (map (λ (w : Writer). count_of (records_of plans w.client w.batch))) waiting);
-        known = subst Known (sym waiting) tt;
+        items_are = items ∙ sym (ap (map (λ w. core.item_of (shown_writer plans w))) linked);
+        counts_are = ap (map (λ (w : Writer). w.count)) linked ∙ sym (ap (map (λ (w : Writer). count_of (records_of plans w.client w.batch))) linked);
+        known = subst Known (sym linked) tt;
       };
       table = refl;
-      gone = nobody_done plans c.in_ok-done.done.items c.len-2.result c.in_ok-done.ensures.items;
+      leaving = nobody_done plans c.in_ok-done.done.items c.len-2.result c.in_ok-done.ensures.items;
       entries = sym (ap (map (shown_entry plans)) entries);
       groups = sym groups;
       assigned = refl;
-      dead = refl;
+      log_failed = refl;
       last = refl;
       room = record {
-        waiting = omega (arith, c.in_ok-waiting.ensures.len, c.in_ok-waiting.ensures.exact, room);
-        items = omega (arith, c.in_ok-waiting.ensures.len, c.in_ok-items.ensures.exact, room);
-        second = omega (arith, c.in_ok-waiting.ensures.len, c.in_ok-second.ensures.len, c.in_ok-second.ensures.exact, room);
-        entries = omega (arith, c.in_ok-waiting.ensures.len, c.in_ok-entries.ensures.len, c.in_ok-entries.ensures.exact, room);
+        linked = omega (arith, c.in_ok-linked.ensures.len, c.in_ok-linked.ensures.exact, room);
+        items = omega (arith, c.in_ok-linked.ensures.len, c.in_ok-items.ensures.exact, room);
+        second = omega (arith, c.in_ok-linked.ensures.len, c.in_ok-second.ensures.len, c.in_ok-second.ensures.exact, room);
+        entries = omega (arith, c.in_ok-linked.ensures.len, c.in_ok-entries.ensures.len, c.in_ok-entries.ensures.exact, room);
         groups = omega (arith, c.in_ok-groups.ensures.len);
         group_room = omega (arith, c.in_ok-entries.ensures.exact, c.in_ok-groups.ensures.exact);
       };
-    }
+    })

@@ -1,22 +1,20 @@
-use Rattle.std.proofs.Common.{◌≡◌, ℕ, ◌≤◌, true, false, not, ◌&&◌, List, [], ◌∷◌, ◌++◌, length, Option, Some, None, refl, sym, ap, ◌∙◌, arith}
-use Rattle.std.specs.List.{list_any, list_all}
+use Rattle.std.proofs.Common.{◌≡◌, ℕ, true, ◌&&◌, List, refl, sym, ap, ◌∙◌}
+use Rattle.std.specs.List.{list_all}
 use Rattle.core_model.specs.Core as core
 use Rattle.core_model.specs.Step as event
-use Rattle.write_core.specs.Leads.{has_run, finished_last}
-use Rattle.write_core.specs.Phases.{is_launched, is_inserted, is_finished}
-use Rattle.write_core.specs.Mirrors.{mark_of, IsLaunched}
-use Rattle.write_core.proofs.Events.{cannot_come, first_fails, second_fails, both_hold, first_false, second_false, both_true}
-use Rattle.write_core.proofs.MarkLemmas.{launched_insert, launched_finish, inserted_is_client}
-use Rattle.write_core.proofs.TableEvents.{launched_parts, not_launched, members_are, runner_is, runner_is_client, all_finished_is, group_last_is, in_table}
+use Rattle.write_core.specs.Phases.{is_launched}
+use Rattle.write_core.specs.Mirrors.{IsLaunched}
+use Rattle.write_core.proofs.Events.{cannot_come, first_fails, second_fails, both_hold}
+use Rattle.write_core.proofs.TableEvents.{launched_parts, not_launched, members_are, all_finished_is, group_last_is, in_table}
 use Rattle.write_core.proofs.state.State.publish.Goals as goal
 
-pub returns-then-not-is_launched : goal.returns-then-not-is_launched
-returns-then-not-is_launched c = λ o s m.
+pub returns-then-not-is_launched-clause-steps : goal.returns-then-not-is_launched-clause-steps
+returns-then-not-is_launched-clause-steps c = λ o s is_core m.
     let r = c.args.self.now in
     cannot_come _ o s r ((not_launched o s c.args.client r.table r.marks.items r.last_finished (sym c.is_launched.ensures ∙ c.if-not-is_launched.true) m.table).2) m
 
-pub returns-then-not-finished_last : goal.returns-then-not-finished_last
-returns-then-not-finished_last c = λ o s m.
+pub returns-then-not-finished_last-clause-steps : goal.returns-then-not-finished_last-clause-steps
+returns-then-not-finished_last-clause-steps c = λ o s is_core m.
     let r = c.args.self.now in
     let d : ℕ = c.args.client in
     let launched : is_launched r.table ≡ true = sym c.is_launched.ensures ∙ c.if-not-is_launched.false in
@@ -27,8 +25,8 @@ returns-then-not-finished_last c = λ o s m.
     let last_is : event.is_last d fin ≡ c.finished_last.result = parts.3.last d ∙ sym c.finished_last.ensures in
     first_fails _ _ _ o _ s r comes (last_is ∙ c.if-not-finished_last.true) m
 
-pub returns-then-not-all_finished : goal.returns-then-not-all_finished
-returns-then-not-all_finished c = λ o s m.
+pub returns-then-not-all_finished-clause-steps : goal.returns-then-not-all_finished-clause-steps
+returns-then-not-all_finished-clause-steps c = λ o s is_core m.
     let r = c.args.self.now in
     let d : ℕ = c.args.client in
     let launched : is_launched r.table ≡ true = sym c.is_launched.ensures ∙ c.if-not-is_launched.false in
@@ -37,11 +35,11 @@ returns-then-not-all_finished c = λ o s m.
     let fin : List ℕ = parts.1 in
     let comes : event.publish o s d s.table ≡ event.when (event.is_last d fin && list_all (λ k. core.among k fin) (core.runners (core.table_group o s))) (record s { table = core.published; last = event.group_last s.last (core.table_group o s) }) = ap (event.publish o s d) parts.2 in
     let last_is : event.is_last d fin ≡ c.finished_last.result = parts.3.last d ∙ sym c.finished_last.ensures in
-    let all_are : list_all (λ k. core.among k fin) (core.runners (core.table_group o s)) ≡ c.all_finished.result = ap (λ ws. list_all (λ k. core.among k fin) (core.runners ws)) (members_are o r s m) ∙ all_finished_is r.plans.items r.marks.items fin parts.3.finished (in_table r r.waiting.items) ∙ sym c.all_finished.ensures in
+    let all_are : list_all (λ k. core.among k fin) (core.runners (core.table_group o s)) ≡ c.all_finished.result = ap (λ ws. list_all (λ k. core.among k fin) (core.runners ws)) (members_are o r s m) ∙ all_finished_is r.plans.items r.marks.items fin parts.3.finished (in_table r r.linked.items) ∙ sym c.all_finished.ensures in
     second_fails _ _ _ o _ s r comes (all_are ∙ c.if-not-all_finished.true) m
 
-pub returns : goal.returns
-returns c = λ o s m.
+pub returns-clause-steps : goal.returns-clause-steps
+returns-clause-steps c = λ o s is_core m.
     let r = c.args.self.now in
     let d : ℕ = c.args.client in
     let launched : is_launched r.table ≡ true = sym c.is_launched.ensures ∙ c.if-not-is_launched.false in
@@ -50,22 +48,22 @@ returns c = λ o s m.
     let fin : List ℕ = parts.1 in
     let comes : event.publish o s d s.table ≡ event.when (event.is_last d fin && list_all (λ k. core.among k fin) (core.runners (core.table_group o s))) (record s { table = core.published; last = event.group_last s.last (core.table_group o s) }) = ap (event.publish o s d) parts.2 in
     let last_is : event.is_last d fin ≡ c.finished_last.result = parts.3.last d ∙ sym c.finished_last.ensures in
-    let all_are : list_all (λ k. core.among k fin) (core.runners (core.table_group o s)) ≡ c.all_finished.result = ap (λ ws. list_all (λ k. core.among k fin) (core.runners ws)) (members_are o r s m) ∙ all_finished_is r.plans.items r.marks.items fin parts.3.finished (in_table r r.waiting.items) ∙ sym c.all_finished.ensures in
-    let last : event.group_last s.last (core.table_group o s) ≡ c.group_last-self.result = ap (λ n. event.group_last n (core.table_group o s)) m.last ∙ ap (event.group_last r.last) (members_are o r s m) ∙ group_last_is r.plans.items r.last (in_table r r.waiting.items) ∙ sym c.group_last-self.ensures in
+    let all_are : list_all (λ k. core.among k fin) (core.runners (core.table_group o s)) ≡ c.all_finished.result = ap (λ ws. list_all (λ k. core.among k fin) (core.runners ws)) (members_are o r s m) ∙ all_finished_is r.plans.items r.marks.items fin parts.3.finished (in_table r r.linked.items) ∙ sym c.all_finished.ensures in
+    let last : event.group_last s.last (core.table_group o s) ≡ c.group_last-self.result = ap (λ n. event.group_last n (core.table_group o s)) m.last ∙ ap (event.group_last r.last) (members_are o r s m) ∙ group_last_is r.plans.items r.last (in_table r r.linked.items) ∙ sym c.group_last-self.ensures in
     both_hold _ _ _ o _ s _ comes (last_is ∙ c.if-not-finished_last.false) (all_are ∙ c.if-not-all_finished.false) (record {
       options = m.options;
       clients = m.clients;
       line = record { second_sum = m.line.second_sum; second_groups = m.line.second_groups; hand = m.line.hand; no_hand = m.line.no_hand; queue = m.line.queue };
       writers = m.writers;
       table = refl;
-      gone = m.gone;
+      leaving = m.leaving;
       entries = m.entries;
       groups = m.groups;
       assigned = m.assigned;
-      dead = m.dead;
+      log_failed = m.log_failed;
       last = last;
       room = record {
-        waiting = m.room.waiting;
+        linked = m.room.linked;
         items = m.room.items;
         second = m.room.second;
         entries = m.room.entries;

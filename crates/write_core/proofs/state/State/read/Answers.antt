@@ -1,23 +1,23 @@
-use Rattle.std.proofs.Common.{◌≡◌, ◌⊎◌, ℕ, suc, ◌+◌, ◌-◌, ◌<◌, ◌≤◌, true, false, Option, Some, None, List, length, drop, vec_len, slice_get, slice_set, refl, sym, ap, ◌∙◌, subst, arith}
-use Rattle.std.specs.Prelude.{◌==◌, option_map, if◌then◌else◌}
+use Rattle.std.proofs.Common.{◌≡◌, ℕ, ◌+◌, ◌-◌, ◌<◌, ◌≤◌, false, Some, None, length, vec_len, slice_get, slice_set, sym, ap, ◌∙◌, subst, arith}
+use Rattle.std.specs.Prelude.{option_map, if◌then◌else◌}
 use Rattle.std.specs.Option.{option_map_or}
-use Rattle.std.proofs.lemmas.Option.{slice_get_read, slice_get_within}
-use Rattle.std.proofs.lemmas.List.{length-drop, length-map}
+use Rattle.std.proofs.lemmas.Option.{slice_get_read}
 use Rattle.core_model.specs.Core as core
 use Rattle.core_model.specs.Step as event
 use Rattle.write_core.specs.declared.writer.CoreReply.TheVariants.{ReadAt}
-use Rattle.write_core.specs.declared.plan.ClientPlan.{ClientPlan}
+use Rattle.core_plans.specs.declared.plan.ClientPlan.{ClientPlan}
 use Rattle.write_core.specs.declared.state.Seat.{Seat}
-use Rattle.write_core.specs.Shown.{commands_of, command_of}
-use Rattle.write_core.specs.Mirrors.{IsClient, AreClients, IsReply, lines_left}
-use Rattle.write_core.specs.Ahead.{IsAhead, is_read_line}
+use Rattle.client_calls.specs.Commands.{command_of}
+use Rattle.write_core.specs.Mirrors.{IsClient, AreClients, lines_left}
+use Rattle.write_core.specs.Replies.{IsReply}
+use Rattle.core_plans.specs.Ahead.{IsAhead, is_read_line}
 use Rattle.write_core.proofs.Events.{cannot_come, has_come}
-use Rattle.write_core.proofs.ClientLemmas.{clients_set, get_some, client_of, lines_fewer}
+use Rattle.write_core.proofs.ClientLemmas.{clients_set, get_some, client_of}
 use Rattle.write_core.proofs.ReadEvents.{not_read, read_is, IsRead, line_within, fewer_left, lines_after, more_room}
 use Rattle.write_core.proofs.state.State.read.Goals as goal
 
-pub returns-then-not-is_read : goal.returns-then-not-is_read
-returns-then-not-is_read c = λ o s m.
+pub returns-then-not-is_read-clause-steps : goal.returns-then-not-is_read-clause-steps
+returns-then-not-is_read-clause-steps c = λ o s is_core m.
     let r = c.args.self.now in
     let d : ℕ = c.args.client in
     let plans = r.plans.items in
@@ -48,17 +48,17 @@ returns-then-not-is_read c = λ o s m.
       line = m.line;
       writers = m.writers;
       table = m.table;
-      gone = m.gone;
+      leaving = m.leaving;
       entries = m.entries;
       groups = m.groups;
       assigned = m.assigned;
-      dead = m.dead;
+      log_failed = m.log_failed;
       last = m.last;
-      room = record { waiting = m.room.waiting; items = m.room.items; second = m.room.second; entries = m.room.entries; groups = m.room.groups; group_room = m.room.group_room };
+      room = record { linked = m.room.linked; items = m.room.items; second = m.room.second; entries = m.room.entries; groups = m.room.groups; group_room = m.room.group_room };
     })
 
-pub returns : goal.returns
-returns c = λ o s m.
+pub returns-clause-steps : goal.returns-clause-steps
+returns-clause-steps c = λ o s is_core m.
     let r = c.args.self.now in
     let d : ℕ = c.args.client in
     let plans = r.plans.items in
@@ -106,14 +106,14 @@ returns c = λ o s m.
       line = record { second_sum = m.line.second_sum; second_groups = m.line.second_groups; hand = m.line.hand; no_hand = m.line.no_hand; queue = m.line.queue };
       writers = m.writers;
       table = m.table;
-      gone = m.gone;
+      leaving = m.leaving;
       entries = m.entries;
       groups = m.groups;
       assigned = m.assigned;
-      dead = m.dead;
+      log_failed = m.log_failed;
       last = m.last;
       room = record {
-        waiting = more_room _ _ _ _ m.room.waiting left;
+        linked = more_room _ _ _ _ m.room.linked left;
         items = more_room _ _ _ _ m.room.items left;
         second = more_room _ _ _ _ m.room.second left;
         entries = more_room _ _ _ _ m.room.entries left;

@@ -1,4 +1,4 @@
-use Rattle.std.proofs.Common.{◌≡◌, ◌+◌, ◌<◌, ◌&&◌, true, false, List, [], ◌∷◌, ◌++◌, take, drop, vec_len, refl, sym, ◌∙◌, ap, add-zero, arith}
+use Rattle.std.proofs.Common.{◌≡◌, ◌+◌, ◌<◌, true, List, [], ◌∷◌, ◌++◌, take, drop, vec_len, refl, sym, ◌∙◌, ap, add-zero, arith}
 use Rattle.std.specs.Prelude.{vec_capacity}
 use Rattle.core_model.specs.Core as core
 use Rattle.write_core.specs.Leads.{leads_front}
@@ -10,22 +10,22 @@ use Rattle.write_core.specs.Shown.{cut, total}
 use Rattle.write_core.proofs.Line.{cut_push, sum_push}
 use Rattle.write_core.proofs.state.State.to_second.Goals as goal
 
-pub returns-then-not-is_marked : goal.returns-then-not-is_marked
-returns-then-not-is_marked c = λ o s m.
+pub returns-then-not-is_marked-clause-steps : goal.returns-then-not-is_marked-clause-steps
+returns-then-not-is_marked-clause-steps c = λ o s is_core m.
     let r = c.args.self.now in
     first_fails _ _ _ o _ s r (second_is o r s c.args.client m) (sym c.is_marked.ensures ∙ c.if-not-is_marked.true) m
 
-pub returns-then-not-leads_hand : goal.returns-then-not-leads_hand
-returns-then-not-leads_hand c = λ o s m.
+pub returns-then-not-leads_hand-clause-steps : goal.returns-then-not-leads_hand-clause-steps
+returns-then-not-leads_hand-clause-steps c = λ o s is_core m.
     let r = c.args.self.now in
     second_fails _ _ _ o _ s r (second_is o r s c.args.client m) (sym c.leads_hand.ensures ∙ c.if-not-leads_hand.true) m
 
-pub returns : goal.returns
-returns c = λ o s m.
+pub returns-clause-steps : goal.returns-clause-steps
+returns-clause-steps c = λ o s is_core m.
     let r = c.args.self.now in
     let marked : is_marked r.log ≡ true = sym c.is_marked.ensures ∙ c.if-not-is_marked.false in
-    let leads : leads_front c.args.client r.in_second r.in_hand r.waiting.items ≡ true = sym c.leads_hand.ensures ∙ c.if-not-leads_hand.false in
-    let some : 0 < r.in_hand = leads_some c.args.client r.in_second r.in_hand r.waiting.items leads in
+    let leads : leads_front c.args.client r.in_second r.in_hand r.linked.items ≡ true = sym c.leads_hand.ensures ∙ c.if-not-leads_hand.false in
+    let some : 0 < r.in_hand = leads_some c.args.client r.in_second r.in_hand r.linked.items leads in
     let all : answered r.log r.in_hand ≡ r.in_hand = marked_answered r.log r.in_hand marked in
     let space : vec_len r.second < vec_capacity r.second = omega (arith, m.room.second, some, r.groups_wait) in
     let pushed : c.push_within.new.items.items ≡ r.second.items ++ r.in_hand ∷ [] = c.push_within.ensures.pushed space in
@@ -44,14 +44,14 @@ returns c = λ o s m.
       };
       writers = m.writers;
       table = m.table;
-      gone = m.gone;
+      leaving = m.leaving;
       entries = m.entries;
       groups = m.groups;
       assigned = m.assigned;
-      dead = m.dead;
+      log_failed = m.log_failed;
       last = m.last;
       room = record {
-        waiting = m.room.waiting;
+        linked = m.room.linked;
         items = m.room.items;
         second = omega (arith, m.room.second, some, c.push_within.ensures.len space, c.push_within.ensures.capacity);
         entries = omega (arith, m.room.entries, all);

@@ -1,0 +1,273 @@
+-- The groups of an outcome, from what the log's holder knows.
+use Rattle.std.proofs.Common.{◌≡◌, inl, inr, ◌≢◌, ℕ, zero, suc, ◌+◌, ◌-◌, ◌<◌, ◌≤◌, Bool, true, false, cond, Some, List, [], ◌∷◌, ◌++◌, length, map, filter, slice_get, ◌==◌, refl, ap, sym, ◌∙◌, subst, arith, append_assoc, length-append}
+use Rattle.std.specs.List.{AllByRecursion}
+use Rattle.std.proofs.lemmas.Option.{slice_get_cases}
+use Rattle.std.proofs.lemmas.List.{length-map}
+use Rattle.wp_model.specs.Controller.{ControllerCall}
+use Rattle.wp_model.specs.Attempts.{Attempt, slowed, item_of}
+use Rattle.wp_model.specs.Groups.{Member, Group, IsAskedFor, IsCommit, AreOfOthers, AreApart, AreAllApart, AreGroups, Holds, items_of, members_of}
+use Rattle.account_model.specs.Led.{Taken, Led, HaveOwnClients, all_taken, is_of, count_of_client, attempts_of, members_after, groups_after, groups_of, IsLed, AreLed}
+
+-- Lists
+
+filter_append : {A : Type 0} (p : A → Bool) (xs ys : List A) → filter p (xs ++ ys) ≡ filter p xs ++ filter p ys
+filter_append p [] ys = refl
+filter_append {A = A} p (x ∷ xs) ys = by_test (p x) (filter_append p xs ys)
+  where
+    by_test : (b : Bool) → filter p (xs ++ ys) ≡ filter p xs ++ filter p ys → cond b (x ∷ filter p (xs ++ ys)) (filter p (xs ++ ys)) ≡ (cond b (x ∷ filter p xs) (filter p xs)) ++ filter p ys
+    by_test true h = ap (λ zs. x ∷ zs) h
+    by_test false h = h
+
+count_append : (client : ℕ) (xs ys : List Taken) → count_of_client client (xs ++ ys) ≡ count_of_client client xs + count_of_client client ys
+count_append client xs ys = ap length (filter_append (is_of client) xs ys) ∙ length-append (filter (is_of client) xs) (filter (is_of client) ys)
+
+all_append : {A : Type 0} (P : A → Type 0) (xs ys : List A) → AllByRecursion P xs → AllByRecursion P ys → AllByRecursion P (xs ++ ys)
+all_append P [] ys h k = k
+all_append P (x ∷ xs) ys h k = (h.0, all_append P xs ys h.1 k)
+
+-- The members one after another are those of all groups
+members_append : (before ts us : List Taken) → members_after before (ts ++ us) ≡ members_after before ts ++ members_after (before ++ ts) us
+members_append before [] us = ap (λ b. members_after b us) (sym (append_none before))
+  where
+    append_none : (xs : List Taken) → xs ++ [] ≡ xs
+    append_none [] = refl
+    append_none (x ∷ xs) = ap (λ ys. x ∷ ys) (append_none xs)
+members_append before (t ∷ ts) us =
+    ap (λ ms. record { client = t.client; call = count_of_client t.client before; item = item_of t.attempt } ∷ ms)
+    (members_append (before ++ t ∷ []) ts us ∙ ap (λ b. members_after (before ++ t ∷ []) ts ++ members_after b us) (append_assoc before (t ∷ []) ts))
+
+members_of_groups : (before : List Taken) (led : List Led) → members_of (groups_after before led) ≡ members_after before (all_taken led)
+members_of_groups before [] = refl
+members_of_groups before (g ∷ led) = ap (λ ms. members_after before g.commits ++ ms) (members_of_groups (before ++ g.commits) led) ∙ sym (members_append before g.commits (all_taken led))
+
+items_after : (before ts : List Taken) → items_of (members_after before ts) ≡ map (λ (t : Taken). item_of t.attempt) ts
+items_after before [] = refl
+items_after before (t ∷ ts) = ap (λ is. item_of t.attempt ∷ is) (items_after (before ++ t ∷ []) ts)
+
+length_after : (before ts : List Taken) → length (members_after before ts) ≡ length ts
+length_after before [] = refl
+length_after before (t ∷ ts) = let e = length_after (before ++ t ∷ []) ts in omega arith
+
+-- Other clients make other members
+unlike_after : (client : ℕ) (before ts : List Taken) → AllByRecursion (λ (u : Taken). client ≢ u.client) ts → AllByRecursion (λ (n : Member). client ≢ n.client) (members_after before ts)
+unlike_after client before [] h = tt
+unlike_after client before (t ∷ ts) h = (h.0, unlike_after client (before ++ t ∷ []) ts h.1)
+
+others_after : (before ts : List Taken) → HaveOwnClients ts → AreOfOthers (members_after before ts)
+others_after before [] h = tt
+others_after before (t ∷ ts) h = (unlike_after t.client (before ++ t ∷ []) ts h.0, others_after (before ++ t ∷ []) ts h.1)
+
+-- Each group was asked for
+asked_after : (group_bytes : ℕ) (controller_calls : List ControllerCall) (before : List Taken) (led : List Led) → AllByRecursion (IsLed group_bytes controller_calls) led → AllByRecursion (IsAskedFor group_bytes controller_calls) (groups_after before led)
+asked_after group_bytes controller_calls before [] h = tt
+asked_after group_bytes controller_calls before (g ∷ led) h = (
+  record {
+    by = h.0.by;
+    now = h.0.now;
+    told = h.0.told;
+    there = rw (items_after before g.commits) h.0.there;
+    is_group = record { some = (let n = length_after before g.commits in let m = h.0.some in omega arith); whole = rw (items_after before g.commits, length_after before g.commits) h.0.whole; of_others = others_after before g.commits h.0.of_others };
+  },
+  asked_after group_bytes controller_calls (before ++ g.commits) led h.1,
+)
+
+-- No commit stands twice: the later one of a client has the greater number
+own_is : (t : Taken) → is_of t.client t ≡ true
+own_is t = nat_same t.client
+  where
+    nat_same : (n : ℕ) → (n == n) ≡ true
+    nat_same n = grind arith
+
+apart_from : (m : Member) (before ts : List Taken) → m.call < count_of_client m.client before → AllByRecursion (AreApart m) (members_after before ts)
+apart_from m before [] h = tt
+apart_from m before (t ∷ ts) h = (
+  λ same call. (let n = count_of_client m.client before in
+      let less : m.call < count_of_client t.client before = subst (λ c. m.call < count_of_client c before) same h in absurd (omega (arith, call))),
+  apart_from m (before ++ t ∷ []) ts (let e = count_append m.client before (t ∷ []) in omega (arith, e)),
+)
+
+all_apart : (before ts : List Taken) → AreAllApart (members_after before ts)
+all_apart before [] = tt
+all_apart before (t ∷ ts) = (
+  apart_from (record { client = t.client; call = count_of_client t.client before; item = item_of t.attempt }) (before ++ t ∷ []) ts
+      (let e = count_append t.client before (t ∷ []) in let one : count_of_client t.client (t ∷ []) ≡ 1 = rw (own_is t) refl in omega (arith, e, one)),
+  all_apart (before ++ t ∷ []) ts,
+)
+
+-- Each member is a commit of its client
+attempt_at : (before : List Taken) (t : Taken) (after : List Taken) → slice_get (attempts_of t.client (before ++ t ∷ after)) (count_of_client t.client before) ≡ Some t.attempt
+attempt_at [] t after = rw (own_is t) refl
+attempt_at (u ∷ before) t after = by_test (is_of t.client u) refl (attempt_at before t after)
+  where
+    by_test : (b : Bool) → is_of t.client u ≡ b → slice_get (attempts_of t.client (before ++ t ∷ after)) (count_of_client t.client before) ≡ Some t.attempt
+        → slice_get (attempts_of t.client (u ∷ (before ++ t ∷ after))) (count_of_client t.client (u ∷ before)) ≡ Some t.attempt
+    by_test true e h = rw e h
+    by_test false e h = rw e h
+
+module _ (attempts : List (List Attempt)) (all : List Taken) (of_client : (i : ℕ) (own : List Attempt) → slice_get attempts i ≡ Some own → own ≡ attempts_of (i + 1) all) where
+  commits_after : (before ts : List Taken) → before ++ ts ≡ all → AllByRecursion (λ (t : Taken). (1 ≤ t.client) × (t.client ≤ length attempts)) ts → AllByRecursion (IsCommit attempts) (members_after before ts)
+  commits_after before [] split h = tt
+  commits_after before (t ∷ ts) split h = (
+    elim (slice_get_cases attempts (t.client - 1)).1 [
+      | inl there ↦ (
+          let number : t.client ≡ (t.client - 1) + 1 = (let a = h.0.0 in omega arith) in
+          let commits = of_client (t.client - 1) there.0 there.2 in
+          let at : slice_get (attempts_of t.client all) (count_of_client t.client before) ≡ Some t.attempt = rw (← split) (attempt_at before t ts) in
+          record {
+            number = t.client - 1;
+            commits = there.0;
+            attempt = t.attempt;
+            client = number;
+            of_client = there.2;
+            there = ap (λ own. slice_get own (count_of_client t.client before)) (commits ∙ ap (λ c. attempts_of c all) (sym number)) ∙ at;
+            item = refl;
+          })
+      | inr gone ↦ (let a = h.0.0 in let b = h.0.1 in let c = gone.0 in absurd (omega arith))
+    ],
+    commits_after (before ++ t ∷ []) ts (append_assoc before (t ∷ []) ts ∙ split) h.1,
+  )
+
+pub groups_from_led : (group_bytes : ℕ) (controller_calls : List ControllerCall) (led : List Led) (attempts : List (List Attempt)) → AreLed group_bytes controller_calls led attempts → AreGroups group_bytes controller_calls (groups_of led) attempts
+groups_from_led group_bytes controller_calls led attempts a = record {
+  each = asked_after group_bytes controller_calls [] led a.each;
+  all = a.all;
+  places = a.places;
+  commits = rw (members_of_groups [] led) (commits_after attempts (all_taken led) a.of_client [] (all_taken led) refl a.clients);
+  apart = rw (members_of_groups [] led) (all_apart [] (all_taken led));
+}
+
+-- Who was slowed stands in the group whose delay told it so
+
+same_client : (a b : ℕ) → (a == b) ≡ true → a ≡ b
+same_client a b h = grind arith
+
+attempts_append : (client : ℕ) (xs ys : List Taken) → attempts_of client (xs ++ ys) ≡ attempts_of client xs ++ attempts_of client ys
+attempts_append client xs ys = ap (map (λ (t : Taken). t.attempt)) (filter_append (is_of client) xs ys) ∙ map_append (filter (is_of client) xs) (filter (is_of client) ys)
+  where
+    map_append : (ts us : List Taken) → map (λ (t : Taken). t.attempt) (ts ++ us) ≡ map (λ (t : Taken). t.attempt) ts ++ map (λ (t : Taken). t.attempt) us
+    map_append [] us = refl
+    map_append (t ∷ ts) us = ap (λ own. t.attempt ∷ own) (map_append ts us)
+
+attempts_length : (client : ℕ) (ts : List Taken) → length (attempts_of client ts) ≡ count_of_client client ts
+attempts_length client ts = length-map (filter (is_of client) ts) (λ (t : Taken). t.attempt)
+
+get_left : {A : Type 0} (xs ys : List A) (k : ℕ) → k < length xs → slice_get (xs ++ ys) k ≡ slice_get xs k
+get_left [] ys k h = absurd (omega arith)
+get_left (x ∷ xs) ys zero h = refl
+get_left (x ∷ xs) ys (suc k) h = get_left xs ys k (omega arith)
+
+get_right : {A : Type 0} (xs ys : List A) (k : ℕ) → slice_get (xs ++ ys) (length xs + k) ≡ slice_get ys k
+get_right [] ys k = let e : 0 + k ≡ k = omega arith in rw e refl
+get_right (x ∷ xs) ys k = let e : length (x ∷ xs) + k ≡ suc (length xs + k) = omega arith in rw e (get_right xs ys k)
+
+all_at : {A : Type 0} (P : A → Type 0) (xs : List A) (k : ℕ) (x : A) → AllByRecursion P xs → slice_get xs k ≡ Some x → P x
+all_at P [] k x h e = absurd (cc e)
+all_at P (y ∷ xs) zero x h e = let is : y ≡ x = cc e in subst P is h.0
+all_at P (y ∷ xs) (suc k) x h e = all_at P xs k x h.1 e
+
+-- a client's k-th commit among these, and the member that stands for it
+record Stands (client : ℕ) (before ts : List Taken) (k : ℕ) (h : Attempt) : Type 0 where
+  at : ℕ
+  taken : Taken
+  member : Member
+  there : slice_get ts at ≡ Some taken
+  is : taken.attempt ≡ h
+  member_there : slice_get (members_after before ts) at ≡ Some member
+  client_is : member.client ≡ client
+  call_is : member.call ≡ count_of_client client before + k
+
+stands_later : (client : ℕ) (before : List Taken) (t : Taken) (ts : List Taken) (k j : ℕ) (h : Attempt) → count_of_client client (before ++ t ∷ []) + j ≡ count_of_client client before + k
+    → Stands client (before ++ t ∷ []) ts j h → Stands client before (t ∷ ts) k h
+stands_later client before t ts k j h e s = record {
+  at = suc s.at;
+  taken = s.taken;
+  member = s.member;
+  there = s.there;
+  is = s.is;
+  member_there = s.member_there;
+  client_is = s.client_is;
+  call_is = s.call_is ∙ e;
+}
+
+stands : (client : ℕ) (before ts : List Taken) (k : ℕ) (h : Attempt) → slice_get (attempts_of client ts) k ≡ Some h → Stands client before ts k h
+stands client before [] k h e = absurd (cc e)
+stands client before (t ∷ ts) k h e = by_test (is_of client t) refl k e (λ j. stands client (before ++ t ∷ []) ts j h)
+  where
+    by_test : (b : Bool) → is_of client t ≡ b → (k : ℕ) → slice_get (attempts_of client (t ∷ ts)) k ≡ Some h
+        → ((j : ℕ) → slice_get (attempts_of client ts) j ≡ Some h → Stands client (before ++ t ∷ []) ts j h) → Stands client before (t ∷ ts) k h
+    by_test true own zero e later =
+        let first : Some t.attempt ≡ Some h = rw own at e in
+        let same : t.client ≡ client = same_client t.client client own in
+        record {
+          at = 0;
+          taken = t;
+          member = record { client = t.client; call = count_of_client t.client before; item = item_of t.attempt };
+          there = refl;
+          is = cc first;
+          member_there = refl;
+          client_is = same;
+          call_is = ap (λ c. count_of_client c before) same ∙ (let n = count_of_client client before in omega arith);
+        }
+    by_test true own (suc k) e later =
+        let rest : slice_get (attempts_of client ts) k ≡ Some h = rw own at e in
+        let more = count_append client before (t ∷ []) in
+        let one : count_of_client client (t ∷ []) ≡ 1 = rw own refl in
+        stands_later client before t ts (suc k) k h (omega (arith, more, one)) (later k rest)
+    by_test false own k e later =
+        let rest : slice_get (attempts_of client ts) k ≡ Some h = rw own at e in
+        let more = count_append client before (t ∷ []) in
+        let one : count_of_client client (t ∷ []) ≡ 0 = rw own refl in
+        stands_later client before t ts k k h (omega (arith, more, one)) (later k rest)
+
+holds_later : (g : Group) (groups : List Group) (place client k j : ℕ) → j ≡ k → Holds groups place client j → Holds (g ∷ groups) place client k
+holds_later g groups place client k j e s = record {
+  at = suc s.at;
+  group = s.group;
+  of_place = s.of_place;
+  place_is = s.place_is;
+  among = s.among;
+  member = s.member;
+  there = s.there;
+  client_is = s.client_is;
+  call_is = s.call_is ∙ e;
+}
+
+holds_after : (group_bytes : ℕ) (controller_calls : List ControllerCall) (client place : ℕ) (h : Attempt) → h.status ≡ slowed place → (before : List Taken) (led : List Led) (k : ℕ) → AllByRecursion (IsLed group_bytes controller_calls) led
+    → slice_get (attempts_of client (all_taken led)) k ≡ Some h → Holds (groups_after before led) place client (count_of_client client before + k)
+holds_after group_bytes controller_calls client place h status before [] k all e = absurd (cc e)
+holds_after group_bytes controller_calls client place h status before (g ∷ led) k all e = elim (slice_get_cases (attempts_of client g.commits) k).1 [
+  | inl here ↦ (
+      let at : slice_get (attempts_of client g.commits) k ≡ Some h = sym (get_left (attempts_of client g.commits) (attempts_of client (all_taken led)) k here.1) ∙ joined in
+      let s = stands client before g.commits k h at in
+      let slowed_at = all_at _ g.commits s.at s.taken all.0.slowed_here s.there in
+      record {
+        at = 0;
+        group = record { place = g.place; members = members_after before g.commits };
+        of_place = refl;
+        place_is = sym (slowed_at place (ap (λ (x : Attempt). x.status) s.is ∙ status));
+        among = s.at;
+        member = s.member;
+        there = s.member_there;
+        client_is = s.client_is;
+        call_is = s.call_is;
+      })
+  | inr gone ↦ (
+      let n = length (attempts_of client g.commits) in
+      let past = gone.0 in
+      let split : n + (k - n) ≡ k = omega (arith, past) in
+      let at : slice_get (attempts_of client (all_taken led)) (k - n) ≡ Some h =
+      sym (get_right (attempts_of client g.commits) (attempts_of client (all_taken led)) (k - n)) ∙ (ap (slice_get (attempts_of client g.commits ++ attempts_of client (all_taken led))) split ∙ joined) in
+      let many = attempts_length client g.commits in
+      let more = count_append client before g.commits in
+      holds_later _ _ place client _ _ (omega (arith, split, many, more)) (holds_after group_bytes controller_calls client place h status (before ++ g.commits) led (k - n) all.1 at))
+]
+  where
+    joined : slice_get (attempts_of client g.commits ++ attempts_of client (all_taken led)) k ≡ Some h
+    joined = ap (λ own. slice_get own k) (sym (attempts_append client g.commits (all_taken led))) ∙ e
+
+pub slowed_holds : (group_bytes : ℕ) (controller_calls : List ControllerCall) (led : List Led) (attempts : List (List Attempt)) → AreLed group_bytes controller_calls led attempts
+    → (i : ℕ) (own : List Attempt) (k : ℕ) (h : Attempt) (place : ℕ) → slice_get attempts i ≡ Some own → slice_get own k ≡ Some h → h.status ≡ slowed place → Holds (groups_of led) place (i + 1) k
+slowed_holds group_bytes controller_calls led attempts a i own k h place of there status =
+    let e : slice_get (attempts_of (i + 1) (all_taken led)) k ≡ Some h = ap (λ xs. slice_get xs k) (sym (a.of_client i own of)) ∙ there in
+    let zero_more : 0 + k ≡ k = omega arith in
+    subst (λ n. Holds (groups_of led) place (i + 1) n) zero_more (holds_after group_bytes controller_calls (i + 1) place h status [] led k a.each e)

@@ -1,0 +1,11 @@
+pub mod Versions
+pub mod Seeing
+pub mod Goings
+pub mod Passing
+pub mod Ending
+pub mod Visible
+pub mod LostBatches
+pub mod Wholes
+pub mod Leading
+pub mod Logs
+pub mod OneBatch

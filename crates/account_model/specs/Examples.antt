@@ -1,0 +1,60 @@
+-- A client that commits one batch, and what can be seen of it.
+use Rattle.std.specs.Prelude.{false, List, [], ◌∷◌, codes, Some}
+use Rattle.wp_model.specs.declared.history.Flag.TheVariants.{Log}
+use Rattle.wp_model.specs.declared.write.WriteOptions.{WriteOptions}
+use Rattle.wp_model.specs.Batch.{Record, value}
+use Rattle.wp_model.specs.History.{Entry}
+use Rattle.wp_model.specs.Trace.{Trace, Settings}
+use Rattle.wp_model.specs.Attempts.{succeeded}
+use Rattle.wp_model.specs.Calls.{Command, add, commit, Call, quiet, accepted}
+use Rattle.table_rule.specs.declared.content.Version.{Version}
+use Rattle.account_model.specs.Sights.{Sight}
+use Rattle.account_model.specs.Accounts.{Account, newcomer}
+
+abbrev pub settings : Settings
+settings = record { start = 0; clients = 1; group_bytes = 1048576; batch_bytes = 16777216; opened = 0 }
+
+-- `put a 1` and `put b 2`, in one batch
+abbrev pub two_records : List Record
+two_records = value (codes "a") (codes "1") ∷ value (codes "b") (codes "2") ∷ []
+
+abbrev pub plain : WriteOptions
+plain = record { sync = false; no_log = false; no_slowdown = false }
+
+abbrev pub one_entry : Entry
+one_entry = record { client = 1; ordinal = 1; first = 1; count = 2; flag = Log; records = two_records }
+
+abbrev pub one_batch : Trace
+one_batch = record { start = 0; entries = one_entry ∷ []; controller_calls = [] }
+
+-- the versions that it makes
+abbrev pub first_version : Version
+first_version = record { key = codes "a"; value = Some (codes "1"); sequence = 1 }
+
+abbrev pub second_version : Version
+second_version = record { key = codes "b"; value = Some (codes "2"); sequence = 2 }
+
+-- these versions, as a group that was published
+abbrev pub sight_of : List Version → Sight
+sight_of versions = record { start = 0; published = (record { member = 1; versions = versions } ∷ []) ∷ []; controller_calls = [] }
+
+-- the client's account before its commit, and after it
+abbrev pub before : Account
+before = newcomer 0 1
+
+abbrev pub after : Account
+after = record before {
+  mine = one_entry ∷ [];
+  attempts = record { records = two_records; options = plain; status = succeeded } ∷ [];
+  seen = sight_of (first_version ∷ second_version ∷ []);
+}
+
+-- its script and its transcript
+abbrev pub commands : List Command
+commands = add (value (codes "a") (codes "1")) ∷ add (value (codes "b") (codes "2")) ∷ commit plain ∷ []
+
+abbrev pub calls : List Call
+calls =
+    record { command = add (value (codes "a") (codes "1")); reply = quiet }
+    ∷ record { command = add (value (codes "b") (codes "2")); reply = quiet }
+    ∷ record { command = commit plain; reply = accepted 1 2 two_records } ∷ []

@@ -1,0 +1,45 @@
+-- What the closed log was written by: the groups of the history, and none besides but one whose write failed.
+use Rattle.std.specs.Prelude.{◌≡◌, ℕ, ◌+◌, true, List, [], ◌∷◌, ◌++◌, map, flat_map, Option, Some, None, MatchOption}
+use Rattle.std.specs.List.{AllByRecursion, AllZip}
+use Rattle.wp_model.specs.declared.history.Flag.TheVariants.{Sync}
+use Rattle.wp_model.specs.History.{Entry, RunsFollow, last_sequence, logged}
+use Rattle.wp_model.specs.Trace.{Trace}
+use Rattle.wp_model.specs.Attempts.{Attempt}
+use Rattle.wp_model.specs.LogContents.{GroupCall}
+use Rattle.run_model.specs.Lost.{IsLostGroup}
+
+-- the first sequence of entries, where there are any
+abbrev pub first_of : List Entry → Option ℕ
+first_of [] = None
+first_of (e ∷ entries) = Some e.first
+
+-- the call wrote these entries, and synced where one of them was to be synced
+pub record WroteEntries (entries : List Entry) (c : GroupCall) : Type 0 where
+  pub some : first_of entries ≡ Some c.first
+  pub batches : c.batches ≡ map (λ (e : Entry). e.records) entries
+  pub synced : AllByRecursion (λ (e : Entry). e.flag ≡ Sync → c.sync ≡ true) entries
+  pub ok : c.failed ≡ None
+
+-- the one call that failed was to write the batches of a lost group, after the sequence given last
+pub record IsLostCall (group_bytes : ℕ) (attempts : List (List Attempt)) (count last : ℕ) (c : GroupCall) : Type 0 where
+  pub failed : c.failed ≡ Some count
+  pub first : c.first ≡ last + 1
+  pub batches : IsLostGroup group_bytes attempts count last c.batches
+
+-- the calls that failed: one where the log has a fault, and else none
+abbrev pub AreLost : ℕ → List (List Attempt) → Option ℕ → ℕ → List GroupCall → Type 0
+AreLost group_bytes attempts fault last lost =
+    MatchOption fault (lost ≡ [])
+    (λ count. (c : GroupCall) × (lost ≡ c ∷ []) × IsLostCall group_bytes attempts count last c)
+
+-- `wrote` says that a log came to be by these calls. No call's entries have another one's between them, logged or not.
+pub record WritesLog {L : Type 0} (group_bytes : ℕ) (wrote : List GroupCall → L → Type 0) (trace : Trace)
+    (attempts : List (List Attempt)) (fault : Option ℕ) (log : L) : Type 0 where
+  pub parts : List (List Entry)
+  pub calls : List GroupCall
+  pub lost : List GroupCall
+  pub cut : flat_map (λ part. part) parts ≡ logged trace.entries
+  pub runs : AllByRecursion RunsFollow parts
+  pub each : AllZip WroteEntries parts calls
+  pub none_else : AreLost group_bytes attempts fault (last_sequence trace.start trace.entries) lost
+  pub by : wrote (calls ++ lost) log

@@ -1,0 +1,21 @@
+//! Examples: what can be seen of a batch, and a client that commits one.
+
+ghost use Rattle.std.specs.Prelude.{[], ◌∷◌, None};
+ghost use Rattle.account_model.specs.Sights.{Saw};
+ghost use Rattle.account_model.specs.Accounts.{Wrote};
+ghost use Rattle.account_model.specs.Closing.{IsClosing};
+ghost use Rattle.account_model.specs.ClientRuns.{HaveRun};
+ghost use Rattle.account_model.specs.Examples.{settings, two_records, plain, one_batch, first_version, second_version, sight_of, before, after, commands, calls};
+
+/// A batch is seen whole or not at all.
+pub fn whole_batches_alone()
+    ensures whole { Saw (sight_of (first_version ∷ second_version ∷ [])) one_batch }
+    ensures half { Saw (sight_of (first_version ∷ [])) one_batch → ⊥ }
+{}
+
+/// A client that adds two records and commits them: the commit, the client's run, and the closing of a run of this client alone.
+pub fn one_commit()
+    ensures wrote { Wrote settings before two_records plain 1 2 after }
+    ensures run { HaveRun settings (commands ∷ []) (calls ∷ []) (after ∷ []) }
+    ensures closing { IsClosing settings 0 one_batch [] (after ∷ []) 2 None }
+{}

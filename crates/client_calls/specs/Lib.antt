@@ -1,0 +1,5 @@
+pub mod Commands
+pub mod Entries
+pub mod Measures
+pub mod Settings
+pub mod Shows

@@ -1,0 +1,61 @@
+-- The replies, the entries and the outcome that the values of the code show. What no value of a reply holds is the
+-- records of an accepted batch.
+use Rattle.std.specs.Prelude.{◌≡◌, Bool, true, false, List}
+use Rattle.std.specs.List.{AllZip, list_any}
+use Rattle.wp_model.specs.Batch.{Record}
+use Rattle.wp_model.specs.Map.{Pairs}
+use Rattle.wp_model.specs.History as history
+use Rattle.wp_model.specs.Calls as calls
+use Rattle.write_batch.specs.Contents.{Contents}
+use Rattle.client_calls.specs.declared.reply.Reply.{Reply}
+use Rattle.client_calls.specs.declared.reply.Reply.TheVariants.{Quiet, Accepted, Refused, Found, FoundEach, Rows, Done, Held, NotHeld, NoMemory}
+use Rattle.client_calls.specs.declared.entry.Entry.{Entry}
+use Rattle.client_calls.specs.declared.outcome.Outcome.{Outcome}
+
+abbrev pub lacks_memory : Reply → Bool
+lacks_memory NoMemory = true
+lacks_memory Quiet = false
+lacks_memory (Accepted first last) = false
+lacks_memory (Refused why) = false
+lacks_memory (Found at value) = false
+lacks_memory (FoundEach at values) = false
+lacks_memory (Rows at rows) = false
+lacks_memory Done = false
+lacks_memory Held = false
+lacks_memory NotHeld = false
+
+-- a reply, whatever command it is to
+abbrev pub ShowsReply : Reply → calls.Call → Type 0
+ShowsReply Quiet c = c.reply ≡ calls.quiet
+ShowsReply (Accepted first last) c = (records : List Record) × (c.reply ≡ calls.accepted first last records)
+ShowsReply (Refused why) c = c.reply ≡ calls.refused why
+ShowsReply (Found at value) c = c.reply ≡ calls.found at value
+ShowsReply (FoundEach at values) c = c.reply ≡ calls.found_each at values
+ShowsReply (Rows at rows) c = c.reply ≡ calls.rows at rows
+ShowsReply Done c = c.reply ≡ calls.done
+ShowsReply Held c = c.reply ≡ calls.held
+ShowsReply NotHeld c = c.reply ≡ calls.not_held
+ShowsReply NoMemory c = c.reply ≡ calls.no_memory
+
+abbrev pub ShowsReplies : List Reply → List calls.Call → Type 0
+ShowsReplies replies cs = AllZip ShowsReply replies cs
+
+pub record ShowsEntry (shown : Entry Contents) (e : history.Entry) : Type 0 where
+  pub client : e.client ≡ shown.client
+  pub ordinal : e.ordinal ≡ shown.ordinal
+  pub first : e.first ≡ shown.first
+  pub last : history.last_of e ≡ shown.last
+  pub flag : e.flag ≡ shown.flag
+  pub batch : shown.batch ≡ record { sequence = e.first; records = e.records }
+
+pub record ShowsOutcome (shown : Outcome Pairs) (o : calls.Outcome) : Type 0 where
+  pub transcripts : AllZip (λ v. ShowsReplies v.items) shown.transcripts.items o.transcripts
+  pub history : AllZip ShowsEntry shown.history.items o.history
+  pub last : o.last ≡ shown.last
+  pub state : o.state ≡ shown.state
+  pub log_len : o.log_len ≡ shown.log_len
+  pub fault : o.fault ≡ shown.fault
+
+-- a client ran out of memory
+abbrev pub ran_short : {M : Type 0} → Outcome M → Bool
+ran_short shown = list_any (λ v. list_any lacks_memory v.items) shown.transcripts.items

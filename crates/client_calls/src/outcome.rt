@@ -1,0 +1,43 @@
+//! What a run comes to: each client's replies, the one history of batches, and what the log then holds.
+
+ghost use Rattle.std.specs.Prelude.{◌≡◌};
+ghost use Rattle.std.specs.List.{list_any};
+ghost use Rattle.client_calls.specs.Shows.{lacks_memory};
+
+use crate::{Entry, Reply};
+use write_batch::Batch;
+
+/// The outcome of a run. `M` is what holds the map; contracts see it as a list of keys with their values.
+#[derive(Debug, Drop)]
+pub struct Outcome<M> {
+    /// The replies of each client, in order of the clients' numbers.
+    pub transcripts: Vec<Vec<Reply>>,
+    /// The accepted batches, in order of their sequences.
+    pub history: Vec<Entry<Batch>>,
+    /// The published sequence, and the map there.
+    pub last: u64,
+    pub state: M,
+    /// The bytes of the groups that were written whole, and the count of the log's fault.
+    pub log_len: u64,
+    pub fault: Option<u64>,
+}
+
+impl<M> Outcome<M> {
+    ghost use Rattle.std.specs.Prelude.{◌≡◌};
+    ghost use Rattle.client_calls.specs.Shows.{ran_short};
+
+    /// Whether a client ran out of memory.
+    pub fn lacks_memory(&self) -> bool
+        ensures { result ≡ ran_short self.now }
+    {
+        self.transcripts
+            .iter()
+            .any(|replies| any_lacks_memory(replies))
+    }
+}
+
+fn any_lacks_memory(replies: &[Reply]) -> bool
+    ensures { result ≡ list_any lacks_memory replies.now }
+{
+    replies.iter().any(|reply| reply.lacks_memory())
+}

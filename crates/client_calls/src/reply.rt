@@ -1,0 +1,41 @@
+//! What a client is told.
+
+use wp_coding::{Bytes, FoundList, PairList};
+use wp_model::Refusal;
+
+/// The reply to a command.
+#[derive(Debug, Drop)]
+pub enum Reply {
+    /// What adds to the batch or empties it has no reply.
+    Quiet,
+    /// The batch was written under these sequences.
+    Accepted { first: u64, last: u64 },
+    /// The batch was not written.
+    Refused(Refusal),
+    /// What was read at which sequence.
+    Found { at: u64, value: Option<Bytes> },
+    /// What was read of several keys at one sequence, in the order in which they were asked.
+    FoundEach { at: u64, values: FoundList },
+    /// The keys of a range with their values at a sequence, in the byte order of the keys.
+    Rows { at: u64, rows: PairList },
+    /// The token was taken, or given back.
+    Done,
+    /// The client has such a token already.
+    Held,
+    /// The client has no such token.
+    NotHeld,
+    /// There was no memory. It is a client's last reply.
+    NoMemory,
+}
+
+impl Reply {
+    ghost use Rattle.std.specs.Prelude.{◌≡◌};
+    ghost use Rattle.client_calls.specs.Shows.{lacks_memory};
+
+    /// Whether the call found no memory.
+    pub fn lacks_memory(&self) -> bool
+        ensures { result ≡ lacks_memory self.now }
+    {
+        matches!(self, Reply::NoMemory)
+    }
+}

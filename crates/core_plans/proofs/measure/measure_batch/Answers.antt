@@ -1,0 +1,31 @@
+use Rattle.std.proofs.Common.{◌≡◌, ℕ, ◌+◌, ◌<◌, ◌≤◌, ◌^◌, [], ◌++◌, sym, ap, ◌∙◌, arith}
+use Rattle.std.specs.List.{cons_option}
+use Rattle.wp_model.specs.Batch.{count_of, size_of_batch}
+use Rattle.client_calls.specs.Commands.{record_added}
+use Rattle.core_plans.specs.Small.{record_size, record_count}
+use Rattle.core_plans.specs.Ahead.{added_between}
+use Rattle.core_plans.proofs.AheadLemmas.{between_more}
+use Rattle.core_plans.proofs.SizeLemmas.{size_more, count_more, count_below}
+use Rattle.core_plans.proofs.measure.measure_batch.Goals as goal
+
+pub loop-place-preserved : goal.loop-place-preserved
+loop-place-preserved c = λ begun within fits.
+    let lines = c.args.lines.now in
+    let from : ℕ = c.args.batch.from in
+    let place : ℕ = c.loop-place.place in
+    let line = c.index-lines-place.result in
+    let o = record_added line in
+    let more : added_between from (place + 1) lines ≡ added_between from place lines ++ cons_option o [] =
+    between_more from place lines line (omega arith) (omega arith) ∙ ap (λ l. added_between from place lines ++ cons_option (record_added l) []) (sym c.index-lines-place.is) in
+    let size : size_of_batch (added_between from (place + 1) lines) ≡ size_of_batch (added_between from place lines) + record_size o = ap size_of_batch more ∙ size_more (added_between from place lines) o in
+    let count : count_of (added_between from (place + 1) lines) ≡ count_of (added_between from place lines) + record_count o = ap count_of more ∙ count_more (added_between from place lines) o in
+    let old = c.loop-place.invariant begun within (omega (arith, size, fits)) in
+    let below : record_count o ≤ record_size o = count_below o in
+    let room : c.loop-place.measure.size + record_size o < 2 ^ 64 = omega (arith, old.0, size, fits) in
+    let count_room : c.loop-place.measure.count + record_count o < 2 ^ 64 = omega (arith, old.2, room, below) in
+    let new_size = c.with_line-measure.ensures.size room in
+    let new_count = c.with_line-measure.ensures.count count_room in (
+      omega (arith, new_size, old.0, size),
+      omega (arith, new_count, old.1, count),
+      omega (arith, new_size, new_count, old.2, below),
+    )

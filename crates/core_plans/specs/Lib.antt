@@ -1,0 +1,4 @@
+pub mod Ahead
+pub mod Answers
+pub mod Plans
+pub mod Small

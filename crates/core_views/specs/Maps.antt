@@ -1,0 +1,29 @@
+-- The maps that entries of the history make.
+use Rattle.std.specs.Prelude.{◌≡◌, ℕ, ◌≤◌, List, take, take_while, fold, nat_le}
+use Rattle.std.specs.List.{prefix_len}
+use Rattle.std.specs.Option.{option_map_or}
+use Rattle.wp_model.specs.Map.{Pairs, after_record, after_records}
+use Rattle.wp_model.specs.History.{Entry, last_of, map_of}
+use Rattle.client_calls.specs.declared.command.Command.{Command}
+use Rattle.client_calls.specs.Commands.{record_added}
+use Rattle.core_plans.specs.declared.plan.ClientPlan.{ClientPlan}
+use Rattle.core_plans.specs.Plans.{records_of}
+use Rattle.write_core.specs.Shown.{CoreEntry}
+use Rattle.core_views.specs.declared.reading.MapUpTo.{MapUpTo}
+
+-- the map after the entries, from the first on, whose runs end at a sequence or before
+abbrev pub map_up_to : ℕ → List Entry → Pairs
+map_up_to at entries = map_of (take_while (λ (x : Entry). nat_le (last_of x) at) entries)
+
+-- a map after the record that a command adds, if it adds one
+abbrev pub after_line : Pairs → Command → Pairs
+after_line m line = option_map_or (after_record m) (record_added line) m
+
+-- a map after the batches of these entries
+abbrev pub after_entries : List ClientPlan → Pairs → List CoreEntry → Pairs
+after_entries plans m entries = fold (λ (m : Pairs) (e : CoreEntry). after_records m (records_of plans e.client e.batch)) m entries
+
+-- The map has the first entries, so many of them, and none whose run ends after its sequence.
+pub record IsMapOf (entries : List Entry) (m : MapUpTo) : Type 0 where
+  pub some : m.count ≤ prefix_len (λ (x : Entry). nat_le (last_of x) m.at) entries
+  pub map : m.map ≡ map_of (take m.count entries)

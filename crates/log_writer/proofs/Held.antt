@@ -1,0 +1,189 @@
+-- What images hold of the calls that have synced, at any moment since the log was opened.
+use Rattle.std.proofs.Common.{◌≡◌, ◌⊎◌, inl, inr, ⊎_elim, ℕ, zero, suc, ◌+◌, ◌<◌, ◌≤◌, max, true, List, [], ◌∷◌, ◌++◌, length, take, slice_get, Option, Some, None, IfSome, IsSomeAnd, refl, sym, ◌∙◌, ap, subst, arith, length-append, length-take}
+use Rattle.std.proofs.Math.Seq.{take-take}
+use Rattle.std.proofs.lemmas.List.{take-append-le, take_all}
+use Rattle.std.proofs.lemmas.Option.{same_Some, slice_get_within}
+use Rattle.wp_edge.specs.Disk.{Disk, IsDisk, IsImage, Told, LeavesOnly}
+use Rattle.wp_edge.specs.declared.disk.Disk.{Ghosts}
+use Rattle.wp_model.specs.Log.{record_text, text}
+use Rattle.log_writer.specs.declared.writer.LogWriter.{LogWriter}
+use Rattle.log_writer.specs.Crashes.{KeepsSafe, reach_with, MayBeLeft, HoldsUpTo}
+use Rattle.log_writer.specs.Words.{disk_of, len_of, fault_of}
+use Rattle.log_writer.specs.Opening.{HasOpened}
+use Rattle.log_writer.specs.Adding.{GroupCall, record_of_call, Adds}
+use Rattle.log_writer.specs.Written.{Wrote, no_call, one_more, IsWritten, if_worked, first_fault, written_by, begun_by, HaveSynced, HoldsCalls, HoldsSynced, Stands}
+use Rattle.log_writer.proofs.Calls.{written_more, begun_more, begun_written, written_len, none_more}
+use Rattle.log_writer.proofs.Keeping.{text_more, text_front}
+use Rattle.log_writer.proofs.Putting.{leaves_so, leaves_more}
+use Rattle.log_writer.proofs.Standing.{whole_text, stands_first, stands_written}
+use Rattle.log_writer.proofs.Surviving.{Laws, safe_front}
+
+-- Of the calls so far
+
+-- a call that worked and was to sync is among those that have synced
+is_among : (calls : List GroupCall) (n k : ℕ) (c : GroupCall) → HaveSynced calls n → slice_get calls k ≡ Some c → c.failed ≡ None → c.sync ≡ true → k < n
+is_among [] n k c have at worked asked = absurd (cc)
+is_among (d ∷ calls) zero zero c have at worked asked = absurd (subst (λ (x : GroupCall). x.failed ≡ None → x.sync ≡ true → ⊥) (same_Some d c at) have.0 worked asked)
+is_among (d ∷ calls) zero (suc k) c have at worked asked = let before = is_among calls zero k c have.1 at worked asked in omega (arith, before)
+is_among (d ∷ calls) (suc n) zero c have at worked asked = omega arith
+is_among (d ∷ calls) (suc n) (suc k) c have at worked asked = let before = is_among calls n k c have at worked asked in omega (arith, before)
+
+-- so an image that keeps what was safe begins with all up to its record
+pub holds_synced : (reached : ℕ) (d : Disk) (calls : List GroupCall) (safe : ℕ) (image : List ℕ) → IsDisk d → HoldsCalls d calls safe → KeepsSafe d image → HoldsSynced reached calls image
+holds_synced reached d calls safe image is holds keeps = λ k c at worked asked longer past.
+    let among : k < safe = is_among calls safe k c holds.have_synced at worked asked in
+    let all : List (List ℕ) = take safe (written_by calls) in
+    let n : ℕ = length (text None all) in
+    let m : ℕ = length (text None (take (k + 1) all)) in
+    let same : take (k + 1) all ≡ take (k + 1) (written_by calls) = take-take (k + 1) safe (written_by calls) (omega (arith, among)) in
+    let in_front : take m (text None all) ≡ text None (take (k + 1) all) = text_front all (k + 1) in
+    let within : m ≤ n = omega (arith, ap length in_front, length-take m (text None all)) in
+    let there : take m image ≡ text None (take (k + 1) all) = sym (take-take m n image within) ∙ (ap (take m) (safe_front d calls safe image is holds keeps) ∙ in_front) in
+    subst (λ (l : List (List ℕ)). take (length (text None l)) image ≡ text None l) same there
+
+-- With one call more
+
+-- a call of them is one of those before, or the last
+in_more : (calls : List GroupCall) (c : GroupCall) (k : ℕ) (e : GroupCall) → slice_get (calls ++ c ∷ []) k ≡ Some e → (slice_get calls k ≡ Some e) ⊎ ((k ≡ length calls) × (c ≡ e))
+in_more [] c zero e at = inr (refl, same_Some c e at)
+in_more [] c (suc k) e at = absurd (cc)
+in_more (d ∷ calls) c zero e at = inl at
+in_more (d ∷ calls) c (suc k) e at = ⊎_elim (λ before. inl before) (λ last. inr (ap (λ (n : ℕ). suc n) last.0, last.1)) (in_more calls c k e at)
+
+-- how far an image may come: as far as writes could come at first, or to the end of what was begun
+abbrev farthest : ℕ → List GroupCall → ℕ
+farthest reached calls = max reached (length (text None (begun_by calls)))
+
+-- An image that comes no further holds no less.
+held_more : (reached : ℕ) (calls : List GroupCall) (c : GroupCall) (image : List ℕ) → first_fault calls ≡ None → length image ≤ farthest reached (calls ++ c ∷ []) → HoldsSynced reached calls image → HoldsSynced reached (calls ++ c ∷ []) image
+held_more reached calls c image none within holds = λ k e at worked asked longer past. ⊎_elim
+    (λ before.
+    let some : k + 1 ≤ length (written_by calls) = let k_within = slice_get_within calls k e before in omega (arith, k_within, written_len calls none) in
+    let same : take (k + 1) (written_by (calls ++ c ∷ [])) ≡ take (k + 1) (written_by calls) =
+    ap (take (k + 1)) (written_more calls c none) ∙ take-append-le (k + 1) (written_by calls) (if_worked c.failed (record_of_call c ∷ []) []) some in
+    subst (λ (l : List (List ℕ)). HoldsUpTo reached (text None l) image) (sym same) (holds k e before worked asked) longer past)
+    (λ last.
+    let written : written_by (calls ++ c ∷ []) ≡ begun_by (calls ++ c ∷ []) =
+    written_more calls c none ∙ (ap (λ (f : Option ℕ). written_by calls ++ if_worked f (record_of_call c ∷ []) []) (ap (λ (x : GroupCall). x.failed) last.1 ∙ worked) ∙ sym (begun_more calls c none)) in
+    let many : length (begun_by (calls ++ c ∷ [])) ≡ k + 1 =
+    omega (arith, ap length (begun_more calls c none), length-append (written_by calls) (record_of_call c ∷ []), written_len calls none, last.0) in
+    let all : take (k + 1) (written_by (calls ++ c ∷ [])) ≡ begun_by (calls ++ c ∷ []) = ap (take (k + 1)) written ∙ take_all (k + 1) (begun_by (calls ++ c ∷ [])) (omega (arith, many)) in
+    absurd (omega (arith, within, longer, past, ap (λ (l : List (List ℕ)). length (text None l)) all)))
+    (in_more calls c k e at)
+
+-- After a fault there is nothing more to hold.
+held_dead : (reached : ℕ) (calls : List GroupCall) (c : GroupCall) (count : ℕ) (image : List ℕ) → first_fault calls ≡ Some count → c.failed ≡ Some count → HoldsSynced reached calls image → HoldsSynced reached (calls ++ c ∷ []) image
+held_dead reached calls c count image dead failed holds = λ k e at worked asked. ⊎_elim
+    (λ before. subst (λ (l : List (List ℕ)). HoldsUpTo reached (text None (take (k + 1) l)) image) (sym (none_more calls (c ∷ []) count dead).written) (holds k e before worked asked))
+    (λ last. let wrong : ◌≡◌ {A = Option ℕ} None (Some count) = sym worked ∙ (ap (λ (x : GroupCall). x.failed) (sym last.1) ∙ failed) in absurd (cc))
+    (in_more calls c k e at)
+
+-- what is said of an image, to be carried from call to call
+record IsHeld (reached : ℕ) (calls : List GroupCall) (image : List ℕ) : Type 0 where
+  holds : HoldsSynced reached calls image
+  within : length image ≤ farthest reached calls
+
+-- A call that puts its record behind those of calls that worked
+module _ (reached : ℕ) (calls : List GroupCall) (c : GroupCall) (len : ℕ) (none : first_fault calls ≡ None) (len_is : len ≡ length (text None (written_by calls))) where
+  abbrev bytes : List ℕ
+  bytes = record_text None len (record_of_call c)
+
+  -- where it ends
+  begun_len : length (text None (begun_by (calls ++ c ∷ []))) ≡ length (text None (begun_by calls)) + length bytes
+  begun_len =
+      let front : List ℕ = text None (written_by calls) in
+      let text_is : text None (begun_by (calls ++ c ∷ [])) ≡ front ++ bytes =
+      ap (text None) (begun_more calls c none) ∙ (text_more (written_by calls) (record_of_call c) ∙ ap (λ (n : ℕ). front ++ record_text None n (record_of_call c)) (sym len_is)) in
+      omega (arith, ap length text_is, length-append front bytes, ap (λ (l : List (List ℕ)). length (text None l)) (begun_written calls none))
+
+  held_before : (image : List ℕ) → IsHeld reached calls image → IsHeld reached (calls ++ c ∷ []) image
+  held_before image held =
+      let within : length image ≤ farthest reached (calls ++ c ∷ []) = omega (arith, held.within, begun_len) in
+      record { holds = held_more reached calls c image none within held.holds; within = within }
+
+  -- where the content ends before it
+  content_len : (x : Disk) (safe : ℕ) → HoldsCalls x calls safe → length x.content ≡ length (text None (begun_by calls))
+  content_len x safe holds = ap length (whole_text x calls safe none holds) ∙ ap (λ (l : List (List ℕ)). length (text None l)) (sym (begun_written calls none))
+
+  held_in : (a : Option Disk) (image : List ℕ) → IfSome a IsDisk → IfSome a (λ d. (safe : ℕ) × HoldsCalls d calls safe) → IsSomeAnd a (λ d. d.reach ≤ farthest reached calls) → MayBeLeft a (length bytes) image → IsHeld reached (calls ++ c ∷ []) image
+  held_in None image is holds reach left = absurd reach
+  held_in (Some x) image is holds reach left =
+      let within : length image ≤ farthest reached (calls ++ c ∷ []) = omega (arith, left.no_longer, reach, content_len x holds.0 holds.1, begun_len) in
+      record { holds = held_more reached calls c image none within (holds_synced reached x calls holds.0 image is holds.1 left.safe); within = within }
+
+  reach_in : (a b : Option Disk) → IfSome a (λ d. (safe : ℕ) × HoldsCalls d calls safe) → IsSomeAnd a (λ d. d.reach ≤ farthest reached calls) → Told a b (λ x y. y.reach ≤ reach_with x (length bytes)) → IsSomeAnd b (λ d. d.reach ≤ farthest reached (calls ++ c ∷ []))
+  reach_in None b holds reach told = absurd reach
+  reach_in (Some x) None holds reach told = absurd told
+  reach_in (Some x) (Some y) holds reach told = omega (arith, told, reach, content_len x holds.0 holds.1, begun_len)
+
+-- From the opening on
+
+module _ {D : Type 0} {ghosts : Ghosts D} (laws : Laws ghosts) (disk : D) (first : Disk) (first_is : ghosts.told disk ≡ Some first) where
+  record Held (calls : List GroupCall) (log : LogWriter D ghosts) : Type 0 where
+    reach : IsSomeAnd (ghosts.told (disk_of log)) (λ d. d.reach ≤ farthest first.reach calls)
+    leaves : LeavesOnly ghosts.moment ghosts.from ghosts.since disk (disk_of log) (IsHeld first.reach calls)
+
+  held_image : (a : Option Disk) (image : List ℕ) → a ≡ Some first → IfSome a (λ d. IsImage d image) → IsHeld first.reach [] image
+  held_image a image e is =
+      let of_first : IsImage first image = subst (λ (told : Option Disk). IfSome told (λ d. IsImage d image)) e is in
+      record { holds = λ k c at worked asked. absurd (cc); within = omega (arith, of_first.no_longer) }
+
+  held_first : (opened : LogWriter D ghosts) → HasOpened disk opened → Held [] opened
+  held_first opened has =
+      let time = has.looked_at.time in
+      let same : ghosts.told (disk_of opened) ≡ Some first = has.looked_at.same ∙ first_is in
+      record {
+        reach = subst (λ (a : Option Disk). IsSomeAnd a (λ d. d.reach ≤ farthest first.reach [])) (sym same) (omega arith);
+        leaves = record {
+          later = time.later;
+          forgets = time.forgets;
+          each = λ image known s. ⊎_elim (λ past. held_image (ghosts.told disk) image first_is (laws.only_now disk image (omega (arith, known, time.forgets)) past))
+              (λ is. held_image (ghosts.told (disk_of opened)) image same is) (time.nothing_else (ghosts.moment disk) image known (omega arith) s);
+          before = λ t image known le s. ⊎_elim (λ past. inl past) (λ is. inr (held_image (ghosts.told (disk_of opened)) image same is)) (time.nothing_else t image known le s);
+        };
+      }
+
+  held_call : (calls : List GroupCall) (c : GroupCall) (now new : LogWriter D ghosts) → Stands calls now → Held calls now → Adds c now new → Held (calls ++ c ∷ []) new
+  held_call calls c now new stands held adds = by_fault (fault_of now) refl adds.dead
+    where
+      by_fault : (f : Option ℕ) → fault_of now ≡ f → IfSome f (λ count. (c.failed ≡ Some count) × (new ≡ now)) → Held (calls ++ c ∷ []) new
+      by_fault None is_none kept =
+          let none : first_fault calls ≡ None = sym stands.fault ∙ is_none in
+          let put = adds.put is_none in
+          let a : Option Disk = ghosts.told (disk_of now) in
+          let P : List ℕ → Type 0 = IsHeld first.reach (calls ++ c ∷ []) in
+          let Q : List ℕ → Type 0 = MayBeLeft a (length (record_text None (len_of now) (record_of_call c))) in
+          let earlier : LeavesOnly ghosts.moment ghosts.from ghosts.since disk (disk_of now) P =
+          leaves_so ghosts.moment ghosts.from ghosts.since (IsHeld first.reach calls) P disk (disk_of now) held.leaves (held_before first.reach calls c (len_of now) none stands.len) in
+          record {
+            reach = reach_in first.reach calls c (len_of now) none stands.len a (ghosts.told (disk_of new)) stands.told held.reach put.reached;
+            leaves = leaves_more ghosts.moment ghosts.from ghosts.since P Q disk (disk_of now) (disk_of new) earlier put.crash
+                (λ image left. held_in first.reach calls c (len_of now) none stands.len a image (laws.is_disk (disk_of now)) stands.told held.reach left);
+          }
+      by_fault (Some count) is_some kept =
+          let dead : first_fault calls ≡ Some count = sym stands.fault ∙ is_some in
+          let same : begun_by (calls ++ c ∷ []) ≡ begun_by calls = (none_more calls (c ∷ []) count dead).begun in
+          let len : length (text None (begun_by (calls ++ c ∷ []))) ≡ length (text None (begun_by calls)) = ap (λ (l : List (List ℕ)). length (text None l)) same in
+          subst (λ (log : LogWriter D ghosts). Held (calls ++ c ∷ []) log) (sym kept.1) (record {
+            reach = subst (λ (l : List (List ℕ)). IsSomeAnd (ghosts.told (disk_of now)) (λ d. d.reach ≤ max first.reach (length (text None l)))) (sym same) held.reach;
+            leaves = leaves_so ghosts.moment ghosts.from ghosts.since (IsHeld first.reach calls) (IsHeld first.reach (calls ++ c ∷ [])) disk (disk_of now) held.leaves
+                (λ image h. record { holds = held_dead first.reach calls c count image dead kept.0 h.holds; within = let h_within = h.within in omega (arith, h_within, len) });
+          })
+
+  held_calls : (opened : LogWriter D ghosts) (calls : List GroupCall) (new : LogWriter D ghosts) → HasOpened disk opened → Wrote opened calls new → Held calls new
+  held_calls opened calls new has no_call = held_first opened has
+  held_calls opened calls new has (one_more {calls = before} {now = now} c wrote adds) =
+      held_call before c now new (stands_written opened before now (stands_first disk opened has) wrote) (held_calls opened before now has wrote) adds
+
+  held_all : (calls : List GroupCall) (log : LogWriter D ghosts) → IsWritten disk calls log → LeavesOnly ghosts.moment ghosts.from ghosts.since disk (disk_of log) (HoldsSynced first.reach calls)
+  held_all calls log is =
+      leaves_so ghosts.moment ghosts.from ghosts.since (IsHeld first.reach calls) (HoldsSynced first.reach calls) disk (disk_of log) (held_calls is.opened calls log is.has_opened is.wrote).leaves (λ image held. held.holds)
+
+-- where the disk tells
+pub held_so : {D : Type 0} {ghosts : Ghosts D} (laws : Laws ghosts) (disk : D) (calls : List GroupCall) (log : LogWriter D ghosts) → IsWritten disk calls log
+    → IfSome (ghosts.told disk) (λ d. LeavesOnly ghosts.moment ghosts.from ghosts.since disk (disk_of log) (HoldsSynced d.reach calls))
+held_so {ghosts = ghosts} laws disk calls log is = by_told (ghosts.told disk) refl
+  where
+    by_told : (told : Option Disk) → ghosts.told disk ≡ told → IfSome told (λ d. LeavesOnly ghosts.moment ghosts.from ghosts.since disk (disk_of log) (HoldsSynced d.reach calls))
+    by_told None e = tt
+    by_told (Some d) e = held_all laws disk d e calls log is

@@ -1,0 +1,5 @@
+mod Words
+mod Clients
+mod Shown
+mod ShownRecovered
+mod ReplayTexts

@@ -1,0 +1,16 @@
+//! What a call prints: the outcome of a run, what a log recovers, what a schedule came to, or why the call was refused.
+#![tactic(auto)]
+
+mod lines;
+mod parts;
+mod reads;
+mod recovered;
+mod replayed;
+mod states;
+#[cfg(test)]
+mod tests;
+mod texts;
+
+pub use recovered::recovered_text;
+pub use replayed::replayed_text;
+pub use texts::{disk_fault, log_not_empty, outcome_text, script_fault, source_fault, usage};

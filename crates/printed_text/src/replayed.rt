@@ -1,0 +1,39 @@
+//! The text of a schedule that was run on the core.
+
+ghost use Rattle.std.specs.Prelude.{◌≡◌, ◌++◌, OnOk, IfOk};
+ghost use Rattle.core_model.specs.Step as machine;
+ghost use Rattle.core_model.specs.ReplayText.{replay_text};
+ghost use Rattle.schedule_run.specs.Replayed.{ShowsReplayed};
+ghost use Rattle.printed_text.specs.ShownText.{counts_line};
+
+use crate::lines::{put_line, put_numbers};
+use crate::parts::{put_clients, put_history};
+use crate::states::{Form, put_map};
+use schedule_run::Replayed;
+use std::alloc::Global;
+use wp_coding::Bytes;
+use wp_model::NoMemory;
+use write_core::Counts;
+
+/// The text of a replayed schedule: how many events came, each client's replies, the history, the published state, and how many
+/// groups were logged.
+pub fn replayed_text(alloc: Global, replayed: &Replayed) -> Result<Bytes, NoMemory>
+    ensures { IfOk result (λ t. (r : machine.Replayed) → ShowsReplayed replayed.now r → t ≡ replay_text r) }
+{
+    let mut text = Bytes::new(alloc);
+    put_counts(&mut text, replayed.counts)?;
+    put_clients(&mut text, &replayed.transcripts)?;
+    put_history(alloc, &mut text, &replayed.history)?;
+    put_map(alloc, &mut text, Form::Plain, replayed.last, &replayed.map)?;
+    put_line(&mut text, b"groups", &[replayed.groups])?;
+    Ok(text)
+}
+
+/// Puts the line of the events behind the text.
+fn put_counts(text: &mut Bytes, counts: Counts) -> Result<(), NoMemory>
+    ensures { OnOk result (text.new ≡ text.old ++ counts_line counts) }
+{
+    text.append(b"events")?;
+    put_numbers(text, &[counts.taken])?;
+    put_line(text, b" skipped", &[counts.skipped])
+}

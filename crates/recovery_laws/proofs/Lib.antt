@@ -1,0 +1,14 @@
+pub mod Bytes
+pub mod SeenFragment
+pub mod NextFragment
+pub mod Deciding
+pub mod Reading
+pub mod OneReading
+pub mod Spelled
+pub mod AllRecords
+pub mod Varints
+pub mod Records
+pub mod Batches
+pub mod Kept
+pub mod Recovering
+pub mod OneRecovery

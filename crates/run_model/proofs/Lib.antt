@@ -1,0 +1,2 @@
+pub mod SyncedGroups
+pub mod TwoGroups

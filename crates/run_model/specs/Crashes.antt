@@ -1,0 +1,89 @@
+-- What a run leaves in its log, and what a crash at any moment of the run leaves to recover.
+use Rattle.std.specs.Prelude.{◌≡◌, ℕ, ◌+◌, ◌<◌, ◌≤◌, ⊤, Bool, true, false, IsTrue, List, [], ◌∷◌, ◌++◌, length, take, drop, Option, Some, None, slice_get, IfSome, MatchOption}
+use Rattle.std.specs.List.{AllByRecursion, list_any}
+use Rattle.wp_model.specs.declared.history.Flag.{Flag}
+use Rattle.wp_model.specs.declared.history.Flag.TheVariants.{Log, NoLog, Sync}
+use Rattle.wp_model.specs.Batch.{Record, group_record}
+use Rattle.wp_model.specs.Log.{text, text_from}
+use Rattle.wp_model.specs.History.{Entry}
+use Rattle.wp_model.specs.Trace.{Trace, Settings}
+use Rattle.wp_model.specs.Attempts.{Attempt}
+use Rattle.wp_model.specs.Calls.{Command, Outcome}
+use Rattle.wp_model.specs.Outcomes.{IsLegalIn}
+use Rattle.wp_model.specs.LogContents.{records_of, IsLogOf}
+pub use Rattle.wp_model.specs.LogContents.{HoldsUpTo}
+use Rattle.wp_model.specs.Recovery.{NoChance}
+use Rattle.log_laws.specs.Prefixes.{RecoversPrefix}
+use Rattle.run_model.specs.Lost.{IsLostGroup}
+
+-- a crash at some moment from old to now might have left this image, and the disk still tells of it
+abbrev pub IsImageSince : {D : Type 0} → (D → ℕ) → (D → ℕ) → (D → ℕ → List ℕ → Type 0) → D → D → List ℕ → Type 0
+IsImageSince moment from since old now image = (from now ≤ moment old) × since now (moment old) image
+
+-- all that was to be in the log: the groups' records, and perhaps the one whose write failed
+abbrev pub begun : List (List ℕ) → Option (List ℕ) → List (List ℕ)
+begun records None = records
+begun records (Some x) = records ++ x ∷ []
+
+-- After the text of these records the content has what the failed write left of one more: a prefix of it, or nothing.
+pub record IsRest (records : List (List ℕ)) (content x : List ℕ) : Type 0 where
+  pub some : ℕ
+  pub content_is : content ≡ text None records ++ take some (text_from None (length (text None records)) (x ∷ []))
+
+abbrev pub is_sync : Flag → Bool
+is_sync Sync = true
+is_sync Log = false
+is_sync NoLog = false
+
+-- a group with an entry that was to be synced
+abbrev pub HasSync : List Entry → Type 0
+HasSync group = IsTrue (list_any (λ (e : Entry). is_sync e.flag) group)
+
+-- each such group is among the first n
+abbrev pub HaveSynced : List (List Entry) → ℕ → Type 0
+HaveSynced groups n = AllByRecursion (λ group. HasSync group → ⊥) (drop n groups)
+
+-- the text of the log up to the end of a group, by the number of groups before it
+abbrev pub text_through : List (List Entry) → ℕ → List ℕ
+text_through groups k = text None (records_of (take (k + 1) groups))
+
+-- Nothing is written after a group that is to be synced until it is safe. So where any of an image stands after such a group's text, all of the
+-- text up to there stands before it. What could be reached before the run tells nothing.
+abbrev pub HoldsSynced : List (List Entry) → ℕ → List ℕ → Type 0
+HoldsSynced groups reached image = (k : ℕ) (group : List Entry) → slice_get groups k ≡ Some group → HasSync group
+    → HoldsUpTo reached (text_through groups k) image
+
+module _ (group_bytes : ℕ) (attempts : List (List Attempt)) (o : Outcome) (groups : List (List Entry))
+    (content : List ℕ) where
+  -- this may be the record of the one group whose log write failed
+  pub record IsFailedWrite (x : List ℕ) : Type 0 where
+    pub count : ℕ
+    pub fault : o.fault ≡ Some count
+    pub batches : List (List Record)
+    pub lost : IsLostGroup group_bytes attempts count o.last batches
+    pub same : x ≡ group_record (o.last + 1) batches
+    pub rest : IsRest (records_of groups) content x
+
+  -- these records, and perhaps the failed one, are what a crash leaves a prefix of, in any such image, unless by chance
+  abbrev pub LeavesPrefix : (List ℕ → Type 0) → (ℕ → Type 0) → Type 0
+  LeavesPrefix left enough = (x : Option (List ℕ)) → IfSome x IsFailedWrite → (image : List ℕ) → left image
+      → NoChance None image (text None (begun (records_of groups) x))
+      → RecoversPrefix (begun (records_of groups) x) image enough
+
+  -- What the log holds at the end, and what a crash leaves: at some moment of the run (any), and at its end (now), when all that was synced is among it.
+  -- It holds for each record that may be the failed one, so nobody can choose the one whose premise excludes an image.
+  pub record IsCrashSafe (reached : ℕ) (any now : List ℕ → Type 0) : Type 0 where
+    pub failed : MatchOption o.fault (content ≡ text None (records_of groups)) (λ count. (x : List ℕ) × IsFailedWrite x)
+    pub any_moment : LeavesPrefix any (λ n. ⊤)
+    pub held : (image : List ℕ) → any image → HoldsSynced groups reached image
+    pub at_end : LeavesPrefix now (HaveSynced groups)
+
+-- An outcome of a trace; and, of the same trace with the same commits in its leaders' hands, what the log holds and what a crash leaves of it
+pub record IsSafe (settings : Settings) (ended : ℕ) (script : List (List Command)) (o : Outcome) (content : List ℕ)
+    (reached : ℕ) (any now : List ℕ → Type 0) : Type 0 where
+  pub trace : Trace
+  pub attempts : List (List Attempt)
+  pub legal : IsLegalIn settings ended script trace attempts o
+  pub groups : List (List Entry)
+  pub log : IsLogOf o content groups
+  pub crash : IsCrashSafe settings.group_bytes attempts o groups content reached any now

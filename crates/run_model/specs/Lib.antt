@@ -1,0 +1,5 @@
+pub mod Lost
+pub mod Crashes
+pub mod Examples
+pub mod Refusals
+pub mod Running

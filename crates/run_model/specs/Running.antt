@@ -1,0 +1,59 @@
+-- What a run of a script comes to: an outcome, and the log that it leaves.
+use Rattle.std.specs.Prelude.{◌≡◌, ℕ, ◌≤◌, List, [], length, Option, None}
+use Rattle.std.specs.List.{AllByRecursion}
+use Rattle.wp_edge.specs.Disk.{Disk, Told, IsImage}
+use Rattle.wp_model.specs.Counts.{Rose}
+use Rattle.wp_model.specs.Map.{Pairs}
+use Rattle.wp_model.specs.Trace.{Settings}
+use Rattle.wp_model.specs.Calls as calls
+use Rattle.wp_model.specs.Outcomes.{IsLegal}
+use Rattle.client_calls.specs.declared.options.Options.{Options}
+use Rattle.client_calls.specs.declared.outcome.Outcome.{Outcome}
+use Rattle.client_calls.specs.Settings.{settings_of}
+use Rattle.client_calls.specs.Shows.{ShowsOutcome}
+use Rattle.run_model.specs.Refusals.{AreRefusedForThemselves}
+use Rattle.run_model.specs.Crashes.{IsSafe}
+
+-- How a run was set up, what its clients were to do, the count of faults of the log's disk at its end, and what a crash
+-- at some moment of it might have left
+pub record Execution : Type 1 where
+  pub settings : Settings
+  pub script : List (List calls.Command)
+  pub ended : ℕ
+  pub images : List ℕ → Type 0
+
+-- a run with these options, from one count of faults to another
+abbrev pub execution_of : Options → List (List calls.Command) → ℕ → ℕ → (List ℕ → Type 0) → Execution
+execution_of options script opened ended images = record {
+  settings = settings_of options (length script) opened;
+  script = script;
+  ended = ended;
+  images = images;
+}
+
+abbrev pub IsLegalOf : Execution → calls.Outcome → Type 0
+IsLegalOf execution o = IsLegal execution.settings execution.ended execution.script o
+
+-- The log was found empty. It holds the logged batches of the outcome, and a crash leaves a prefix of them.
+pub record LeavesSafeLog (execution : Execution) (o : calls.Outcome) (opened ended : Disk) : Type 0 where
+  pub found_empty : opened.content ≡ []
+  pub safe : IsSafe execution.settings execution.ended execution.script o ended.content opened.reach execution.images (IsImage ended)
+
+-- The values show a legal outcome, and the log is left so where the disk tells it. Where the log has no fault the disk
+-- has counted none, and commits were refused for themselves alone.
+pub record HasRun (execution : Execution) (old new : Option Disk) (shown : Outcome Pairs) : Type 0 where
+  pub outcome : calls.Outcome
+  pub shows : ShowsOutcome shown outcome
+  pub legal : IsLegalOf execution outcome
+  pub refusals : shown.fault ≡ None → AllByRecursion AreRefusedForThemselves outcome.transcripts
+  pub counted : shown.fault ≡ None → execution.ended ≡ execution.settings.opened
+  pub log : Told old new (LeavesSafeLog execution outcome)
+
+-- a count of faults that was reached in a call
+abbrev pub IsReached : ℕ → ℕ → ℕ → Type 0
+IsReached before count now = Rose before count × (count ≤ now)
+
+-- The disk's time goes on: its moments don't turn back, and what it has forgotten isn't told again.
+pub record GoesOn {D : Type 0} (moment from : D → ℕ) (old new : D) : Type 0 where
+  pub later : moment old ≤ moment new
+  pub forgets : from old ≤ from new

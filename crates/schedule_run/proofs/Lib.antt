@@ -1,0 +1,4 @@
+mod SmallPlans
+mod ReplayedClients
+mod ReplayedHistory
+mod Replayings

@@ -1,0 +1,54 @@
+-- The history of the core is that of the machine.
+use Rattle.std.proofs.Common.{◌≡◌, ℕ, ◌+◌, ◌-◌, ◌<◌, ◌≤◌, List, [], ◌∷◌, ◌++◌, length, map, take, get_or, refl, ap, sym, ◌∙◌, subst, arith, append-nil}
+use Rattle.std.specs.Prelude.{filter_map}
+use Rattle.std.specs.List.{AllByRecursion, AllZip}
+use Rattle.std.specs.Option.{option_map_or}
+use Rattle.std.proofs.lemmas.List.{take_more}
+use Rattle.std.proofs.lemmas.List.Elements.{filter_map-append}
+use Rattle.wp_model.specs.Batch.{Record}
+use Rattle.wp_model.specs.History as history
+use Rattle.write_batch.specs.Contents.{Contents, added}
+use Rattle.client_calls.specs.declared.command.Command.{Command}
+use Rattle.client_calls.specs.declared.command.Command.TheVariants.{Put, Delete, SingleDelete, Note, Clear, Commit, Get, Many, Scan, Stop, Unstop, Slow, Unslow}
+use Rattle.client_calls.specs.Commands.{record_added}
+use Rattle.core_plans.specs.declared.plan.ClientPlan.{ClientPlan}
+use Rattle.write_core.specs.Shown.{CoreEntry, shown_entry}
+use Rattle.write_core.specs.Within.{IsWithinPlans}
+use Rattle.client_calls.specs.Shows.{ShowsEntry}
+use Rattle.schedule_run.specs.Replaying.{entry_by}
+
+-- the last sequence of a run that isn't empty
+run_end : (first last : ℕ) → first ≤ last → first + (last + 1 - first) - 1 ≡ last
+run_end first last some = omega (arith, some)
+
+entries_shown : (plans : List ClientPlan) (es : List CoreEntry) → AllByRecursion (IsWithinPlans plans) es → AllZip ShowsEntry (map (entry_by plans) es) (map (shown_entry plans) es)
+entries_shown plans [] within = tt
+entries_shown plans (e ∷ es) within = (record { client = refl; ordinal = refl; first = refl; last = run_end e.first e.last within.0.some; flag = refl; batch = refl }, entries_shown plans es within.1)
+
+pub history_shown : (plans : List ClientPlan) (es : List CoreEntry) (entries : List history.Entry) → AllByRecursion (IsWithinPlans plans) es → map (shown_entry plans) es ≡ entries
+    → AllZip ShowsEntry (map (entry_by plans) es) entries
+history_shown plans es entries within are = subst (AllZip ShowsEntry (map (entry_by plans) es)) are (entries_shown plans es within)
+
+-- what a line adds stands after the others
+line_added : (old : Contents) (x : Command) → (option_map_or (added old) (record_added x) old).records ≡ old.records ++ filter_map record_added (x ∷ [])
+line_added old (Put key v) = refl
+line_added old (Delete key) = refl
+line_added old (SingleDelete key) = refl
+line_added old (Note text) = refl
+line_added old Clear = sym (append-nil old.records)
+line_added old (Commit options) = sym (append-nil old.records)
+line_added old (Get key) = sym (append-nil old.records)
+line_added old (Many keys) = sym (append-nil old.records)
+line_added old (Scan lo hi) = sym (append-nil old.records)
+line_added old Stop = sym (append-nil old.records)
+line_added old Unstop = sym (append-nil old.records)
+line_added old (Slow rate) = sym (append-nil old.records)
+line_added old Unslow = sym (append-nil old.records)
+
+-- a line more
+pub line_more : (lines : List Command) (i : ℕ) (x : Command) (old new : Contents) → i < length lines → x ≡ get_or lines i x → old.records ≡ filter_map record_added (take i lines)
+    → new ≡ option_map_or (added old) (record_added x) old → new.records ≡ filter_map record_added (take (i + 1) lines)
+line_more lines i x old new here is so_far e =
+    let more : filter_map record_added (take (i + 1) lines) ≡ filter_map record_added (take i lines) ++ filter_map record_added (x ∷ []) =
+    ap (filter_map record_added) (take_more lines i x here ∙ ap (λ y. take i lines ++ y ∷ []) (sym is)) ∙ filter_map-append record_added (take i lines) (x ∷ []) in
+    ap (λ (b : Contents). b.records) e ∙ line_added old x ∙ ap (λ (rs : List Record). rs ++ filter_map record_added (x ∷ [])) so_far ∙ sym more

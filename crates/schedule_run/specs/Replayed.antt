@@ -1,0 +1,37 @@
+-- What a schedule of events comes to on the core of its script's clients.
+use Rattle.std.specs.Prelude.{◌≡◌, Bool, true, false, not, List, length, map, filter}
+use Rattle.std.specs.List.{AllZip}
+use Rattle.wp_model.specs.Calls as calls
+use Rattle.core_model.specs.Core as machine
+use Rattle.core_model.specs.Core.{Client, opened, published_map}
+use Rattle.core_model.specs.Step as core
+use Rattle.core_model.specs.Schedule.{Schedule}
+use Rattle.client_calls.specs.declared.options.Options.{Options}
+use Rattle.schedule_run.specs.declared.replaying.Replayed.{Replayed}
+use Rattle.client_calls.specs.Shows.{ShowsReply, ShowsEntry}
+
+-- the core of a single stage with these options
+abbrev pub core_options : Options → machine.Options
+core_options o = record { pipelined = false; group_bytes = o.group_bytes; batch_bytes = o.batch_bytes; start = o.last }
+
+-- the schedule, run on it from its opening
+abbrev pub replayed_of : Options → Schedule → core.Replayed
+replayed_of o s = core.replay (core_options o) (opened (core_options o) s.script) s.events
+
+-- a call that has a reply line: a commit or a read
+abbrev pub is_quiet : calls.Reply → Bool
+is_quiet calls.quiet = true
+is_quiet other = false
+
+abbrev pub with_lines : List calls.Call → List calls.Call
+with_lines told = filter (λ (c : calls.Call). not (is_quiet c.reply)) told
+
+-- The values show what the schedule came to: of a client's calls those that have a reply line.
+pub record ShowsReplayed (shown : Replayed) (r : core.Replayed) : Type 0 where
+  pub taken : r.taken ≡ shown.counts.taken
+  pub skipped : r.skipped ≡ shown.counts.skipped
+  pub transcripts : AllZip (λ v told. AllZip ShowsReply v.items told) shown.transcripts.items (map (λ (c : Client). with_lines c.calls) r.state.clients)
+  pub history : AllZip ShowsEntry shown.history.items r.state.entries
+  pub last : r.state.last ≡ shown.last
+  pub pairs : published_map r.state ≡ shown.map
+  pub groups : length r.state.groups ≡ shown.groups

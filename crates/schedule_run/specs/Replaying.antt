@@ -1,0 +1,80 @@
+-- What a schedule's clients were told, and the history of their batches, from what the core shows.
+use Rattle.std.specs.Prelude.{◌≡◌, ℕ, suc, List, [], ◌∷◌, ◌++◌, length, drop, Some, slice_get, MatchOption, Vec}
+use Rattle.std.specs.declared.alloc.Global.{Global}
+use Rattle.wp_model.specs.Map.{value_at}
+use Rattle.wp_model.specs.History as history
+use Rattle.core_model.specs.Core as machine
+use Rattle.core_model.specs.Core.{client_at}
+use Rattle.core_model.specs.CoreLaw.{IsCore}
+use Rattle.client_calls.specs.declared.command.Command.{Command}
+use Rattle.client_calls.specs.declared.command.Command.TheVariants.{Commit, Get}
+use Rattle.client_calls.specs.declared.reply.Reply.{Reply}
+use Rattle.client_calls.specs.declared.reply.Reply.TheVariants as reply
+use Rattle.client_calls.specs.declared.entry.Entry.{Entry}
+use Rattle.write_batch.specs.Contents.{Contents}
+use Rattle.core_plans.specs.declared.plan.ClientPlan.{ClientPlan}
+use Rattle.write_core.specs.declared.state.State.{State}
+use Rattle.write_core.specs.declared.writer.CoreReply.{CoreReply}
+use Rattle.write_core.specs.declared.writer.CoreReply.TheVariants.{Accepted, Refused, ReadAt}
+use Rattle.core_plans.specs.Answers.{answers_of}
+use Rattle.write_core.specs.Replies.{AreReplies}
+use Rattle.core_plans.specs.Plans.{records_of}
+use Rattle.write_core.specs.Shown.{CoreEntry}
+use Rattle.write_core.specs.Shows.{Shows}
+use Rattle.core_views.specs.Maps.{map_up_to}
+
+-- it is so in each state of the machine of events that the core shows
+abbrev pub InEachShown : State → (machine.State → Type 0) → Type 0
+InEachShown core is = (o : machine.Options) (s : machine.State) → IsCore o s → Shows core o s → is s
+
+-- Replies
+
+-- a read is answered by the map at its sequence
+abbrev pub read_by : List history.Entry → ℕ → Command → Reply
+read_by entries at (Get key) = reply.Found at (value_at (map_up_to at entries) key)
+read_by entries at other = reply.Quiet
+
+abbrev pub reply_by : List history.Entry → Command → CoreReply → Reply
+reply_by entries command (Accepted first last) = reply.Accepted first last
+reply_by entries command (Refused why) = reply.Refused why
+reply_by entries command (ReadAt at) = read_by entries at command
+
+abbrev pub first_reply : List history.Entry → Command → List CoreReply → List Reply
+first_reply entries command [] = []
+first_reply entries command (r ∷ rs) = reply_by entries command r ∷ []
+
+-- the reply to the next command, if that has one by now: commits and reads alone have one, the first of those that are left
+abbrev pub next_reply : List history.Entry → List CoreReply → Command → List Reply
+next_reply entries told (Commit options) = first_reply entries (Commit options) told
+next_reply entries told (Get key) = first_reply entries (Get key) told
+next_reply entries told other = []
+
+-- commits and reads have these replies, in order
+abbrev pub replies_by : List history.Entry → List Command → List CoreReply → List Reply
+replies_by entries [] told = []
+replies_by entries (c ∷ cs) told = next_reply entries told c ++ replies_by entries cs (drop (length (next_reply entries told c)) told)
+
+-- what a client was told of its commands, by its number
+pub record IsTranscript (s : machine.State) (client : ℕ) (commands : List Command) (replies : List Reply) : Type 0 where
+  pub told : List CoreReply
+  pub is_told : MatchOption (client_at s client) (told ≡ []) (λ c. AreReplies told (answers_of c.calls))
+  pub replies_are : replies ≡ replies_by s.entries commands told
+
+-- what so many clients were told, from the first on
+pub record AreTranscripts (s : machine.State) (plans : List ClientPlan) (count : ℕ) (transcripts : List (Vec Reply Global)) : Type 0 where
+  pub each : length transcripts ≡ count
+  pub right : (i : ℕ) (plan : ClientPlan) (replies : Vec Reply Global) → slice_get plans i ≡ Some plan → slice_get transcripts i ≡ Some replies
+      → IsTranscript s (suc i) plan.lines.items replies.items
+
+-- The history
+
+-- an entry of the core, with its batch
+abbrev pub entry_by : List ClientPlan → CoreEntry → Entry Contents
+entry_by plans e = record {
+  client = e.client;
+  ordinal = e.ordinal;
+  first = e.first;
+  last = e.last;
+  flag = e.flag;
+  batch = record { sequence = e.first; records = records_of plans e.client e.batch };
+}

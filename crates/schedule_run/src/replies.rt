@@ -1,0 +1,149 @@
+//! What the clients of a script were told on the core.
+
+ghost use Rattle.std.specs.Prelude.{◌≡◌, ◌++◌, ◌≤◌, length, drop, slice_get, IfOk, OnOk};
+ghost use Rattle.wp_coding.specs.Answers.{found_value};
+ghost use Rattle.write_core.specs.Shown.{plans_in};
+ghost use Rattle.core_views.specs.Maps.{IsMapOf};
+ghost use Rattle.schedule_run.specs.Replaying.{InEachShown, read_by, reply_by, first_reply, next_reply, replies_by, AreTranscripts};
+
+use client_calls::{Command, Reply};
+use core_views::MapUpTo;
+use std::alloc::Global;
+use wp_coding::{Bytes, Found};
+use wp_model::NoMemory;
+use write_core::{CoreReply, State};
+
+/// What each client was told.
+pub fn transcripts_of(alloc: Global, core: &State) -> Result<Vec<Vec<Reply>>, NoMemory>
+    requires { length (plans_in core.now) ≤ 16 }
+    ensures { InEachShown core.now (λ s. IfOk result (λ t.
+        AreTranscripts s (plans_in core.now) (length (plans_in core.now)) t.items)) }
+{
+    let plans = core.plans();
+    let mut transcripts = Vec::with_capacity(alloc, plans.len())?;
+    for (before, plan) in plans.iter().enumerate() {
+        let told = core.replies(before as u32 + 1);
+        transcripts.push(replies_of(alloc, &plan.lines, told, core)?)?;
+    }
+    Ok(transcripts)
+}
+
+/// What a client was told of its commands: these replies to its commits and reads, in order.
+fn replies_of(
+    alloc: Global,
+    commands: &[Command],
+    told: &[CoreReply],
+    core: &State,
+) -> Result<Vec<Reply>, NoMemory>
+    ensures { InEachShown core.now (λ s. IfOk result (λ replies.
+        replies.items ≡ replies_by s.entries commands.now told.now)) }
+{
+    let mut reads = MapUpTo::new(alloc);
+    let mut replies = Vec::with_capacity(alloc, told.len())?;
+    for command in commands {
+        add_reply(&mut replies, &mut reads, command, told, core)?;
+    }
+    Ok(replies)
+}
+
+/// Adds the reply to a client's next command, if that has one by now.
+fn add_reply(
+    replies: &mut Vec<Reply>,
+    reads: &mut MapUpTo,
+    command: &Command,
+    told: &[CoreReply],
+    core: &State,
+) -> Result<(), NoMemory>
+    ensures reads { InEachShown core.now (λ s. IsMapOf s.entries reads.old → IsMapOf s.entries reads.new) }
+    ensures replies { InEachShown core.now (λ s. IsMapOf s.entries reads.old → OnOk result (replies.new.items
+        ≡ replies.old.items ++ next_reply s.entries (drop (length replies.old.items) told.now) command.now)) }
+{
+    match command {
+        Command::Put { .. }
+        | Command::Delete { .. }
+        | Command::SingleDelete { .. }
+        | Command::Note { .. }
+        | Command::Clear => Ok(()),
+        // No script with a schedule says these yet.
+        Command::Many { .. }
+        | Command::Scan { .. }
+        | Command::Stop
+        | Command::Unstop
+        | Command::Slow { .. }
+        | Command::Unslow => Ok(()),
+        Command::Commit { .. } | Command::Get { .. } => {
+            add_next(replies, reads, command, told, core)
+        }
+    }
+}
+
+/// Adds the first of the replies that are left, to a commit or a read.
+fn add_next(
+    replies: &mut Vec<Reply>,
+    reads: &mut MapUpTo,
+    command: &Command,
+    told: &[CoreReply],
+    core: &State,
+) -> Result<(), NoMemory>
+    ensures reads { InEachShown core.now (λ s. IsMapOf s.entries reads.old → IsMapOf s.entries reads.new) }
+    ensures replies { InEachShown core.now (λ s. IsMapOf s.entries reads.old → OnOk result (replies.new.items
+        ≡ replies.old.items ++ first_reply s.entries command.now (drop (length replies.old.items) told.now))) }
+{
+    let Some(next) = reply_at(told, replies.len()) else {
+        return Ok(());
+    };
+    replies.push(reply_of(reads, command, next, core)?)?;
+    Ok(())
+}
+
+fn reply_at(told: &[CoreReply], at: usize) -> Option<CoreReply>
+    ensures { result ≡ slice_get told.now at }
+{
+    if at < told.len() {
+        Some(told[at])
+    } else {
+        None
+    }
+}
+
+/// The reply to a command, of which the core tells all but a value that was read.
+fn reply_of(
+    reads: &mut MapUpTo,
+    command: &Command,
+    told: CoreReply,
+    core: &State,
+) -> Result<Reply, NoMemory>
+    ensures reads { InEachShown core.now (λ s. IsMapOf s.entries reads.old → IsMapOf s.entries reads.new) }
+    ensures reply { InEachShown core.now (λ s. IsMapOf s.entries reads.old
+        → IfOk result (λ reply. reply ≡ reply_by s.entries command.now told)) }
+{
+    match told {
+        CoreReply::Accepted { first, last } => Ok(Reply::Accepted { first, last }),
+        CoreReply::Refused { why } => Ok(Reply::Refused(why)),
+        CoreReply::ReadAt { at } => read_of(reads, command, at, core),
+    }
+}
+
+/// The reply to a command that was read at a sequence.
+fn read_of(reads: &mut MapUpTo, command: &Command, at: u64, core: &State) -> Result<Reply, NoMemory>
+    ensures reads { InEachShown core.now (λ s. IsMapOf s.entries reads.old → IsMapOf s.entries reads.new) }
+    ensures reply { InEachShown core.now (λ s. IsMapOf s.entries reads.old
+        → IfOk result (λ reply. reply ≡ read_by s.entries at command.now)) }
+{
+    let Command::Get { key } = command else {
+        return Ok(Reply::Quiet);
+    };
+    Ok(Reply::Found {
+        at,
+        value: found(reads.value(core, key.as_slice(), at)?),
+    })
+}
+
+fn found(answer: Found) -> Option<Bytes>
+    ensures { result ≡ found_value answer }
+{
+    match answer {
+        Found::Value(bytes) => Some(bytes),
+        Found::Absent => None,
+    }
+}
