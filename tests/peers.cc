@@ -1,0 +1,82 @@
+// Runs a script on RocksDB itself, and prints each reply as the program would, a refusal by its first word alone. The log of
+// the database at PATH is left as it was written.
+//
+//     peers script PATH < SCRIPT
+//
+// Or lets several threads write at once, so that RocksDB makes groups of their batches.
+//
+//     peers threads PATH
+
+#include <rocksdb/db.h>
+#include <rocksdb/write_batch.h>
+
+#include <iostream>
+#include <memory>
+#include <sstream>
+#include <string>
+#include <thread>
+#include <vector>
+
+static void run_script(rocksdb::DB& db) {
+    rocksdb::WriteBatch batch;
+    std::string line;
+    while (std::getline(std::cin, line)) {
+        std::istringstream words(line);
+        std::string command, key, value;
+        words >> command >> key >> value;
+        if (command == "put") batch.Put(key, value);
+        if (command == "del") batch.Delete(key);
+        if (command == "sdel") batch.SingleDelete(key);
+        if (command == "note") batch.PutLogData(key);
+        if (command == "clear") batch.Clear();
+        if (command == "get") {
+            std::string found;
+            bool there = db.Get(rocksdb::ReadOptions(), key, &found).ok();
+            std::cout << (there ? "val " : "nil ") << db.GetLatestSequenceNumber() << (there ? " " + found : "") << "\n";
+        }
+        if (command == "commit") {
+            rocksdb::WriteOptions how;
+            how.sync = key == "sync";
+            how.disableWAL = key == "nolog" || value == "nolog";
+            // RocksDB writes an empty batch too, which takes no sequence.
+            if (batch.Count() > 0 && db.Write(how, &batch).ok()) {
+                auto last = db.GetLatestSequenceNumber();
+                std::cout << "ok " << last - batch.Count() + 1 << " " << last << "\n";
+                batch.Clear();
+            } else {
+                std::cout << "no\n";
+            }
+        }
+    }
+}
+
+static void run_threads(rocksdb::DB& db) {
+    std::vector<std::thread> threads;
+    for (int client = 0; client < 8; client++) {
+        threads.emplace_back([&db, client] {
+            rocksdb::WriteOptions how;
+            how.sync = true;
+            for (int turn = 0; turn < 50; turn++) {
+                rocksdb::WriteBatch batch;
+                batch.Put("key" + std::to_string(turn % 7), std::to_string(100 * client + turn));
+                batch.PutLogData("by " + std::to_string(client));
+                batch.Delete("key" + std::to_string((turn + client) % 11));
+                db.Write(how, &batch);
+            }
+        });
+    }
+    for (auto& thread : threads) thread.join();
+}
+
+int main(int count, char** words) {
+    rocksdb::Options options;
+    options.create_if_missing = true;
+    // What stays out of the log would be flushed to a table at the end.
+    options.avoid_flush_during_shutdown = true;
+    rocksdb::DB* opened = nullptr;
+    if (count != 3 || !rocksdb::DB::Open(options, words[2], &opened).ok()) return 1;
+    std::unique_ptr<rocksdb::DB> db(opened);
+    if (words[1] == std::string("script")) run_script(*db);
+    if (words[1] == std::string("threads")) run_threads(*db);
+    return db->Close().ok() ? 0 : 1;
+}
