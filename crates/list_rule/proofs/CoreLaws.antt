@@ -1,0 +1,55 @@
+-- The events of the list are events of the core.
+use Rattle.std.proofs.Common.{◌≡◌, inr, List, [], ◌∷◌, ◌++◌, length, map, reverse, take, drop, refl, sym, ap, ◌∙◌}
+use Rattle.std.proofs.lemmas.List.{reverse-append, map-append, length-map, length-reverse}
+use Rattle.std.proofs.Math.Seq.{take-append_seam, drop-append_seam}
+use Rattle.wp_model.specs.Grouping.{group_len}
+use Rattle.core_model.specs.declared.event.Event.TheVariants as core
+use Rattle.core_model.specs.Core.{Options, Writer, led, built as in_hand, State, item_of as item_of_writer}
+use Rattle.core_model.specs.Halves.{ListHalf, list_half_of}
+use Rattle.core_model.specs.Step.{group_size}
+use Rattle.list_rule.specs.declared.view.Entry.{Entry}
+use Rattle.list_rule.specs.CoreEvents.{IsSame, core_queue, core_log, IsCoreOf, IsEvent}
+use Rattle.list_rule.specs.Events.{Core, comes, elects, builds, after, Enabled}
+use Rattle.list_rule.specs.Grouping.{item_of, codes, items}
+
+module _ {Q P : Type 0} (writer_of : Entry Q → Writer) (o : Options) (s : State) (k : Core Q P) (same : IsSame writer_of) (is : IsCoreOf writer_of k (list_half_of s)) where
+  queue_more : (a b : List (Entry Q)) → core_queue writer_of (a ++ b) ≡ core_queue writer_of b ++ core_queue writer_of a
+  queue_more a b = ap (map writer_of) (reverse-append a b) ∙ map-append writer_of (reverse b) (reverse a)
+
+  length-queue : (a : List (Entry Q)) → length (core_queue writer_of a) ≡ length a
+  length-queue a = length-map (reverse a) writer_of ∙ length-reverse a
+
+  pub links_core : (e : Entry Q) → IsEvent writer_of o (core.Link e.by) s (after k (comes e))
+  links_core e =
+      let new : ListHalf = record (list_half_of s) { queue = s.queue ++ writer_of e ∷ [] } in
+      (new, inr (writer_of e, (same e).0, refl), (ap (λ q. q ++ writer_of e ∷ []) is.0 ∙ sym (queue_more (e ∷ []) k.0), is.1))
+
+  pub elects_core : (e : Entry Q) → Enabled k (elects e) → IsEvent writer_of o (core.Elect e.by) s (after k (elects e))
+  elects_core e may = (record (list_half_of s) { log = led e.by }, (is.1 ∙ ap (core_log writer_of) may.0, refl), (is.0, refl))
+
+  reverse_codes : (q : List (Entry Q)) → reverse (codes q) ≡ map (λ (e : Entry Q). e.code) (reverse q)
+  reverse_codes [] = refl
+  reverse_codes (e ∷ es) = reverse-append (e.code ∷ []) (codes es) ∙ (ap (λ l. l ++ e.code ∷ []) (reverse_codes es)
+      ∙ sym (ap (map (λ (e : Entry Q). e.code)) (reverse-append (e ∷ []) es) ∙ map-append (λ (e : Entry Q). e.code) (reverse es) (e ∷ [])))
+
+  items_core : (es : List (Entry Q)) → map item_of_writer (map writer_of es) ≡ map item_of (map (λ (e : Entry Q). e.code) es)
+  items_core [] = refl
+  items_core (e ∷ es) = λ i. (same e).1 i ∷ items_core es i
+
+  same_items : (q : List (Entry Q)) → map item_of_writer (core_queue writer_of q) ≡ items q
+  same_items q = items_core (reverse q) ∙ ap (map item_of) (sym (reverse_codes q))
+
+  pub builds_core : (own : Entry Q) (group left : List (Entry Q)) → Enabled k (builds o.group_bytes own group left) → IsEvent writer_of o (core.Build own.by) s (after k (builds o.group_bytes own group left))
+  builds_core own group left may =
+      let whole : List (Entry Q) = group ++ own ∷ [] in
+      let size : group_size o s ≡ length (core_queue writer_of whole) =
+      ap (λ q. group_len o.group_bytes (map item_of_writer q)) is.0 ∙ (ap (group_len o.group_bytes) (same_items k.0 ∙ ap items may.1) ∙ (sym may.2 ∙ sym (length-queue whole))) in
+      let parts : s.queue ≡ core_queue writer_of whole ++ core_queue writer_of left = is.0 ∙ (ap (core_queue writer_of) may.1 ∙ queue_more left whole) in
+      let new : ListHalf = record (list_half_of s) { log = in_hand (take (group_size o s) s.queue); queue = drop (group_size o s) s.queue } in (
+        new,
+        (is.1 ∙ ap (core_log writer_of) may.0, refl),
+        (
+          (λ i. drop (size i) (parts i)) ∙ drop-append_seam (core_queue writer_of whole) (core_queue writer_of left),
+          ap in_hand ((λ i. take (size i) (parts i)) ∙ take-append_seam (core_queue writer_of whole) (core_queue writer_of left)),
+        ),
+      )

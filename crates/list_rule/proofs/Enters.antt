@@ -1,0 +1,525 @@
+-- The steps of `link` and of `await_role` keep the rule.
+use Rattle.std.proofs.Common.{◌≡◌, ◌≢◌, ℕ, ◌+◌, ◌*◌, ◌<◌, ◌≤◌, eqb, List, [], ◌∷◌, ◌++◌, length, get_or, set, refl, sym, ap, ◌∙◌, subst, inr, arith, length-set, append-nil, append_assoc, get_or-set_other, get_or-set_same}
+use mathlib.Core.Logic.{dite}
+use mathlib.Core.Path.{Path}
+use mathlib.Core.Option.{Option, none, some}
+use native.Mathlib.Decide.{ℕ_discrete}
+use lib.ListN.{get_elem?}
+use lib.Seq.{set-get_or}
+use prog.Atomic.{either}
+use Rattle.atomic_table.specs.Table.{step, Act, keeps, takes, gives, chain as both_acts, Valid, carried_after, stepped, Allows}
+use Rattle.atomic_table.proofs.Lists.{set_here, set_else, set_again, exchanged}
+use Rattle.list_rule.specs.declared.view.Entry.{Entry}
+use Rattle.list_rule.specs.declared.view.Handling.{Handling}
+use Rattle.list_rule.specs.declared.view.Hold.{Hold}
+use Rattle.list_rule.specs.declared.view.Back.TheVariants.{Away}
+use Rattle.list_rule.specs.declared.content.Content.{Content}
+use Rattle.list_rule.specs.declared.content.Content.TheVariants.{Empty, Asked, Told, Log, Right}
+use Rattle.list_rule.specs.declared.view.Stage.{Stage}
+use Rattle.list_rule.specs.declared.view.Stage.TheVariants.{Idle, Preparing, Waiting, Fresh, Leading, Cutting, Marking, Settling, Collecting}
+use Rattle.list_rule.specs.Chain.{state_at, older_at, pack, newest_from, LinksFrom, of}
+use Rattle.list_rule.specs.Rule.{Phase, idle, preparing, linked, chosen, leads, taken, completed, collecting, Mode, open_, waits, led, built, cut, marked, base_of, InChain, Waits, Knows, hold, InPhase, LogHome, InMode, Account, Laws, Listed, Holds, InSecond, KnowsBack, Place}
+use Rattle.list_rule.specs.Plays.{Sat, entry, At, begun, peeked, aimed, Elected, entered, looked, rested}
+use Rattle.list_rule.proofs.Chains.{put, put_at, put_here, put_else, links_stay, links_same, ends_same, nobody, newest_small, stand_absent, stand_change, linked_change, taken_change}
+use Rattle.list_rule.proofs.Accounts.{comes_more, comes_first, leads_now}
+use Rattle.list_rule.proofs.Moves.{St, row_stays, mode_stays, knows_else, moved}
+use Rattle.list_rule.proofs.Keeps.{second_row, second_same}
+
+module _ {Q P : Type 0} where
+  abbrev pub own : List (Hold Q P) → Hold Q P
+  own [] = hold 0 Idle []
+  own (h ∷ hs) = h
+
+  pub one_hold : (c c' : ℕ) (st st' : Stage Q P) (a b : List (Q × P)) (v : List (Hold Q P)) → v ≡ hold c st a ∷ [] → v ≡ hold c' st' b ∷ [] → (c ≡ c') × (st ≡ st') × (a ≡ b)
+  one_hold c c' st st' a b v x y = let e = sym x ∙ y in (ap (λ l. (own l).client) e, ap (λ l. (own l).stage) e, ap (λ l. (own l).mine) e)
+
+abbrev asked_in : {Q P L M : Type 0} → Q → Content Q P L M → Q
+asked_in d Empty = d
+asked_in d (Asked q) = q
+asked_in d (Told p) = d
+asked_in d (Log l) = d
+asked_in d (Right r) = d
+
+abbrev asked_of : {Q P L M : Type 0} → Q → List (ℕ × Content Q P L M) → Q
+asked_of d [] = d
+asked_of d (x ∷ xs) = asked_in d x.1
+
+one_asked : {Q P L M : Type 0} (c c' : ℕ) (q q' : Q) (v : List (ℕ × Content Q P L M)) → v ≡ (c, Asked q) ∷ [] → v ≡ (c', Asked q') ∷ [] → q ≡ q'
+one_asked c c' q q' v x y = ap (asked_of q) (sym x ∙ y)
+
+abbrev waits_in : {Q P : Type 0} → Q → Stage Q P → Q
+waits_in d Idle = d
+waits_in d (Preparing w) = d
+waits_in d (Waiting q) = q
+waits_in d (Fresh o s) = d
+waits_in d (Leading l) = d
+waits_in d (Cutting l e) = d
+waits_in d (Marking l) = d
+waits_in d (Settling b) = d
+waits_in d Collecting = d
+
+one_waits : {Q P : Type 0} (q q' : Q) → Path (Stage Q P) (Waiting q) (Waiting q') → q ≡ q'
+one_waits {P = P} q q' e = ap (waits_in {P = P} q) e
+
+one_chosen_entry : {Q P : Type 0} (e f : Entry Q) → Path (Phase Q P) (chosen e) (chosen f) → e ≡ f
+one_chosen_entry e f is = cc
+
+waits_one : {Q : Type 0} (a b : ℕ) → Path (Mode Q) (waits a) (waits b) → a ≡ b
+waits_one a b is = cc
+
+not_snoc : {A : Type 0} (l : List A) (x : A) → [] ≡ l ++ x ∷ [] → ⊥
+not_snoc [] x e = absurd (cc)
+not_snoc (y ∷ ys) x e = absurd (cc)
+
+-- the client is not in the list
+abbrev IsOut : {Q P : Type 0} → Phase Q P → Type 0
+IsOut idle = Unit {0}
+IsOut (preparing w) = Unit {0}
+IsOut (linked e) = ⊥
+IsOut (chosen e) = ⊥
+IsOut (leads e) = ⊥
+IsOut (taken l e) = ⊥
+IsOut (completed q p) = Unit {0}
+IsOut collecting = Unit {0}
+
+out_chain : {Q P : Type 0} (e : Entry Q) (ph : Phase Q P) → IsOut ph → InChain e ph → ⊥
+out_chain e idle a b = b
+out_chain e (preparing w) a b = b
+out_chain e (linked f) a b = a
+out_chain e (chosen f) a b = a
+out_chain e (leads f) a b = a
+out_chain e (taken l f) a b = a
+out_chain e (completed q p) a b = b
+out_chain e collecting a b = b
+
+out_second : {Q P : Type 0} (place : ℕ → Place Q) (k : ℕ) (ph : Phase Q P) → IsOut ph → InSecond place k ph → ⊥
+out_second place k idle a b = b
+out_second place k (preparing w) a b = b
+out_second place k (linked f) a b = a
+out_second place k (chosen f) a b = a
+out_second place k (leads f) a b = a
+out_second place k (taken l f) a b = a
+out_second place k (completed q p) a b = b
+out_second place k collecting a b = b
+
+module _ {Q P L M : Type 0} (stands : Laws Q P L M) (n : ℕ) where
+  abbrev pub Goes : St stands n → ℕ → ℕ → Sat Q P L M → (ℕ → Sat Q P L M → Type 0) → ℕ → Type 0
+  Goes s k id me then x = (w : List (Hold Q P)) × (a : Act (Content Q P L M)) × Valid s.homes me.1 a × Listed stands n (stepped s k x id me.1 w a) × then (get_or s.words k 0) (w, carried_after me.1 a)
+
+  -- a step of a client that is not in the list and does not come into it
+  aside : (s : St stands n) (r : Listed stands n s) (c id : ℕ) (ws : List ℕ) (hs : List (Option (Content Q P L M))) (h : Hold Q P) (st : Stage Q P) (mine : List (Q × P)) (ph ph' : Phase Q P) (due told : ℕ → List (Q × P))
+      → get_elem? s.views id ≡ some (h ∷ []) → h.client ≡ c → r.phase c ≡ ph → IsOut ph → IsOut ph'
+      → length ws ≡ length s.words → length hs ≡ length s.homes
+      → ((j : ℕ) → j ≢ state_at c → j ≢ older_at c → get_or ws j 0 ≡ get_or s.words j 0) → ((j : ℕ) → j ≢ c → get_elem? hs j ≡ get_elem? s.homes j)
+      → h.back ≡ Away → (get_or ws (state_at c) 0 ≡ 4 → get_or s.words (state_at c) 0 ≡ 4) → InPhase stands ws hs c (due c) ph' → ((j : ℕ) → j ≢ c → due j ≡ r.due j) → ((j : ℕ) → j ≢ c → told j ≡ r.told j) → r.told c ++ r.due c ≡ told c ++ due c
+      → mine ≡ told c → ((j : ℕ) → r.due j ≡ [] → due j ≡ []) → ((phase : ℕ → Phase Q P) → phase c ≡ ph' → Knows r.line r.hand r.handled r.mode phase due c st)
+      → Listed stands n (record { words = ws; homes = hs; views = set s.views id (hold c st mine ∷ []) })
+  aside s r c id ws hs h st mine ph ph' due told at client now out out' long_w long_h same_w same_h is_away to4 row due_else told_else shares is_mine nil knows =
+      let fit = (r.seats id (h ∷ []) at).0 in
+      let lo : 0 < c = subst (λ (k : ℕ). 0 < k) client fit.1 in
+      let left : (e : Entry Q) → InChain e (r.phase c) → ⊥ = λ e here. out_chain e ph out (subst (InChain e) now here) in
+      let absent = stand_absent r.phase c r.line left r.stand in
+      let no_chosen : (e : Entry Q) → ph' ≡ chosen e → ⊥ = λ e bad. subst IsOut bad out' in
+      let was_chosen : (e : Entry Q) → r.phase c ≡ chosen e → ph' ≡ chosen e = λ e bad. absurd (subst IsOut (sym now ∙ bad) out) in
+      let was_leads : (j : ℕ) (e : Entry Q) → j ≡ c → r.phase c ≡ leads e → r.due j ≡ [] → ph' ≡ leads e = λ j e _ bad _. absurd (subst IsOut (sym now ∙ bad) out) in
+      let was_linked : (e : Entry Q) → r.phase c ≡ linked e → ph' ≡ linked e = λ e bad. absurd (subst IsOut (sym now ∙ bad) out) in
+      let was_taken : (l : ℕ) (e : Entry Q) → r.phase c ≡ taken l e → (ph' ≡ taken l e) × (due c ≡ r.due c) = λ l e bad. absurd (subst IsOut (sym now ∙ bad) out) in
+      moved stands n s r c id ws hs h (hold c st mine) r.line r.hand r.handled r.mode ph' due told r.two record {
+        at = at;
+        same_client = sym client;
+        wide = long_w;
+        many = long_h;
+        newest_is = same_w 0 (λ e. omega arith) (λ e. omega arith) ∙ r.newest_is;
+        links = links_stay (base_of r.mode) s.words ws c r.line (λ j ne. same_w (older_at j) (λ e. omega arith) (λ e. ne (omega arith))) absent r.links;
+        distinct = r.distinct;
+        within = r.within;
+        stand = stand_change r.phase c ph' r.line (λ e here. absurd (left e here)) r.stand;
+        other_rows = λ j ne _ _ ok. row_stays stands n s.words ws s.homes hs j (due j) (same_w (state_at j) (λ e. ne (omega arith)) (λ e. omega arith)) (same_w (older_at j) (λ e. omega arith) (λ e. ne (omega arith))) (same_h j ne) (r.phase j)
+            (subst (λ (d : List (Q × P)). InPhase stands s.words s.homes j d (r.phase j)) (sym (due_else j ne)) ok);
+        row = row;
+        log_is = mode_stays stands n s.homes hs r.line r.hand r.handled r.phase r.due due c ph' (same_h 0 (λ e. omega arith)) was_chosen was_leads was_linked (λ l. taken_change r.phase r.due due c ph' l r.hand (was_taken l) due_else) nil r.mode r.log_is;
+        one_chosen = λ j e. put_at r.phase c ph' (λ i f. f ≡ chosen e → r.mode ≡ waits i) j (λ _ bad. absurd (no_chosen e bad)) (λ _ ok. r.one_chosen j e ok);
+        account = r.account;
+        second = second_row stands n s.words ws s.homes hs r.phase c ph' r.mode (stands.last r.handled) r.two (λ there. out_second r.two.place c ph out (subst (InSecond r.two.place c) now there)) (same_w 1 (λ e. omega arith) (λ e. omega arith)) (λ j ne. same_w (older_at j) (λ e. omega arith) (λ e. ne (omega arith))) (λ j ne. same_w (state_at j) (λ e. ne (omega arith)) (λ e. omega arith)) to4 (same_h (n + 1) (λ e. let small = fit.2 in omega (arith, client))) r.second;
+        back = subst (KnowsBack r.two h.client) is_away fit.5;
+        else_back = λ _ _ _ ok. ok;
+        kept = r.kept;
+        coded = λ e is. absurd (out_chain e ph' out' is);
+        shared_out = λ j. dite (ℕ_discrete j c)
+            (λ e. subst (λ (i : ℕ). of i r.handled ≡ told i ++ due i) (sym e) (r.shared_out c ∙ shares))
+            (λ ne. r.shared_out j ∙ (ap (λ (l : List (Q × P)). l ++ r.due j) (sym (told_else j ne)) ∙ ap (λ (l : List (Q × P)). told j ++ l) (sym (due_else j ne))));
+        told_else = λ j ne. told_else j (λ e. ne (e ∙ sym client));
+        mine = is_mine ∙ ap told (sym client);
+        knows = subst (λ (i : ℕ). Knows r.line r.hand r.handled r.mode (put r.phase c ph') due i st) (sym client) (knows (put r.phase c ph') (put_here r.phase c ph'));
+        others = λ j ne. knows_else stands n r.line r.line r.hand r.handled r.mode r.mode r.phase r.due due c ph' j (λ e. ne (e ∙ sym client)) (ends_same r.line) (λ _. refl) was_linked (was_taken j) due_else;
+      }
+
+  pub begins : (slots id : ℕ) (me : Sat Q P L M) (c k : ℕ) (mine : List (Q × P)) → k ≡ state_at c → At c Idle mine me → me.1 ≡ [] → Allows (Listed stands n) slots id me k (λ _. 1) (λ _. begun (step slots k 1 0 none) me 1)
+  begins slots id me c k mine is mid empty s r long at fits =
+      let h : Hold Q P = hold c Idle mine in
+      let at' : get_elem? s.views id ≡ some (h ∷ []) = at ∙ ap some mid in
+      let fit = (r.seats id (h ∷ []) at').0 in
+      let w : ℕ = get_or s.words (older_at c) 0 in
+      let h' : Hold Q P = hold c (Preparing w) mine in
+      let row = subst (InPhase stands s.words s.homes c (r.due c)) fit.4 (r.rows c fit.1 fit.2) in
+      let ws : List ℕ = set s.words k 1 in
+      let hi : c ≤ n = fit.2 in
+      let wide : length s.words ≡ 2 * n + 4 = r.wide in
+      let same : (j : ℕ) → j ≢ k → get_or ws j 0 ≡ get_or s.words j 0 = λ j ne. get_or-set_other s.words k j 1 0 (λ e. ne (omega arith)) in (
+        h' ∷ [],
+        takes c Empty,
+        row.0,
+        aside s r c id ws (set s.homes c none) h (Preparing w) mine idle (preparing w) r.due r.told at' refl fit.4 tt tt (length-set s.words k 1) (length-set s.homes c none)
+            (λ j a b. same j (λ e. a (e ∙ is))) (λ j ne. set_else s.homes c j none ne) refl
+            (λ four. let one : get_or ws (state_at c) 0 ≡ 1 = ap (λ (i : ℕ). get_or ws i 0) (sym is) ∙ get_or-set_same s.words k 1 0 (omega arith) in absurd (omega arith))
+            (ap (λ (i : ℕ). get_or ws i 0) (sym is) ∙ get_or-set_same s.words k 1 0 (omega arith), same (older_at c) (λ e. omega arith), row.1)
+            (λ _ _. refl) (λ _ _. refl) refl fit.3 (λ _ e. e) (λ phase here. here),
+        λ c' mine' mid'. let e = one_hold c c' Idle Idle mine mine' me.0 mid mid' in
+            subst (λ (z : ℕ × List (Q × P)). (v : ℕ) × At z.0 (Preparing v) z.1 (h' ∷ [], (c, Empty) ∷ me.1) × ((c, Empty) ∷ me.1 ≡ (z.0, Empty) ∷ [])) (λ i. (e.0 i, e.2 i)) (w, refl, ap (λ l. (c, Empty) ∷ l) empty),
+      )
+
+  pub aims : (slots id : ℕ) (me : Sat Q P L M) (c k w new : ℕ) (mine : List (Q × P)) → k ≡ older_at c → At c (Preparing w) mine me → Allows (Listed stands n) slots id me k (λ _. new) (λ _. aimed (step slots k new 0 none) me new)
+  aims slots id me c k w new mine is mid s r long at fits =
+      let h : Hold Q P = hold c (Preparing w) mine in
+      let at' : get_elem? s.views id ≡ some (h ∷ []) = at ∙ ap some mid in
+      let fit = (r.seats id (h ∷ []) at').0 in
+      let h' : Hold Q P = hold c (Preparing new) mine in
+      let row = subst (InPhase stands s.words s.homes c (r.due c)) fit.4 (r.rows c fit.1 fit.2) in
+      let ws : List ℕ = set s.words k new in
+      let hi : c ≤ n = fit.2 in
+      let wide : length s.words ≡ 2 * n + 4 = r.wide in
+      let same : (j : ℕ) → j ≢ k → get_or ws j 0 ≡ get_or s.words j 0 = λ j ne. get_or-set_other s.words k j new 0 (λ e. ne (omega arith)) in (
+        h' ∷ [],
+        keeps,
+        tt,
+        aside s r c id ws s.homes h (Preparing new) mine (preparing w) (preparing new) r.due r.told at' refl fit.4 tt tt (length-set s.words k new) refl
+            (λ j a b. same j (λ e. b (e ∙ is))) (λ j ne. refl) refl (λ four. sym (same (state_at c) (λ e. omega arith)) ∙ four)
+            (same (state_at c) (λ e. omega arith) ∙ row.0, ap (λ (i : ℕ). get_or ws i 0) (sym is) ∙ get_or-set_same s.words k new 0 (omega arith), row.2)
+            (λ _ _. refl) (λ _ _. refl) refl fit.3 (λ _ e. e) (λ phase here. here),
+        λ c' w' mine' mid'. let e = one_hold c c' (Preparing w) (Preparing w') mine mine' me.0 mid mid' in
+            (λ i. hold (e.0 i) (Preparing new) (e.2 i) ∷ [], refl),
+      )
+
+  pub rests : (slots id : ℕ) (me : Sat Q P L M) (c k : ℕ) (mine : List (Q × P)) → At c Collecting mine me → me.1 ≡ (c, Empty) ∷ [] → Allows (Listed stands n) slots id me k (λ y. y) (rested (step slots k 0 0 none) me)
+  rests slots id me c k mine mid mine_out s r long at fits =
+      let h : Hold Q P = hold c Collecting mine in
+      let at' : get_elem? s.views id ≡ some (h ∷ []) = at ∙ ap some mid in
+      let fit = (r.seats id (h ∷ []) at').0 in
+      let h' : Hold Q P = hold c Idle mine in
+      let row = subst (InPhase stands s.words s.homes c (r.due c)) fit.4 (r.rows c fit.1 fit.2) in
+      let ws : List ℕ = set s.words k (get_or s.words k 0) in
+      let hi : c ≤ n = fit.2 in
+      let many : length s.homes ≡ n + 2 = r.many in
+      let hs = set s.homes c (some Empty) in
+      let same : (j : ℕ) → get_or ws j 0 ≡ get_or s.words j 0 = λ j. ap (λ (l : List ℕ). get_or l j 0) (set-get_or s.words k 0) in
+      let after : Listed stands n (record { words = ws; homes = hs; views = set s.views id (h' ∷ []) }) =
+      aside s r c id ws hs h Idle mine collecting idle r.due r.told at' refl fit.4 tt tt (length-set s.words k (get_or s.words k 0)) (length-set s.homes c (some Empty))
+      (λ j _ _. same j) (λ j ne. set_else s.homes c j (some Empty) ne) refl (λ four. sym (same (state_at c)) ∙ four)
+      (set_here s.homes c (some Empty) (omega arith), row)
+      (λ _ _. refl) (λ _ _. refl) refl fit.3 (λ _ e. e) (λ phase here. here) in (
+        h' ∷ [],
+        gives,
+        tt,
+        subst (λ (l : List (ℕ × Content Q P L M)). Listed stands n (stepped s k (get_or s.words k 0) id l (h' ∷ []) gives)) (sym mine_out) after,
+        λ c' mine' mid'. let e = one_hold c c' Collecting Collecting mine mine' me.0 mid mid' in
+            ((λ i. hold (e.0 i) Idle (e.2 i) ∷ []), ap (λ l. carried_after l gives) mine_out),
+      )
+
+  -- a step that changes nothing
+  pub unmoved : (s : St stands n) (k id : ℕ) (cs : List (ℕ × Content Q P L M)) (v : List (Hold Q P)) → get_elem? s.views id ≡ some v → Listed stands n s → Listed stands n (stepped s k (get_or s.words k 0) id cs v keeps)
+  unmoved s k id cs v at r = subst (λ (z : List ℕ × List (List (Hold Q P))). Listed stands n (record { words = z.0; homes = s.homes; views = z.1 })) (λ i. (sym (set-get_or s.words k 0) i, sym (set_again s.views id v at) i)) r
+
+  base_small : (m : Mode Q) → base_of m < 256
+  base_small open_ = omega arith
+  base_small (waits c) = omega arith
+  base_small (led c) = omega arith
+  base_small (built c g) = omega arith
+  base_small (cut c w) = omega arith
+  base_small (marked c) = omega arith
+
+  pub peeks : (slots id : ℕ) (me : Sat Q P L M) → Allows (Listed stands n) slots id me 0 (λ y. y) (peeked (step slots 0 0 0 none) me)
+  peeks slots id me s r long at fits = let few = r.few in let small = newest_small n (base_of r.mode) r.line (omega arith) (base_small r.mode) r.within in (me.0, keeps, tt, unmoved s 0 id me.1 me.0 at r, (refl, omega (arith, r.newest_is)))
+
+  log_free : (homes : List (Option (Content Q P L M))) (line hand : List (Entry Q)) (handled : List (Handling Q P)) (phase : ℕ → Phase Q P) (due : ℕ → List (Q × P)) → line ≡ [] → (mode : Mode Q) → base_of mode ≡ 0 → InMode stands n homes line hand handled phase due mode → (mode ≡ open_) × (hand ≡ []) × LogHome stands homes handled
+  log_free homes line hand handled phase due nil open_ zero_base ok = (refl, ok.1, ok.2)
+  log_free homes line hand handled phase due nil (waits c) zero_base ok = absurd (not_snoc ok.0.0 ok.0.1 (sym nil ∙ ok.0.2))
+  log_free homes line hand handled phase due nil (led c) zero_base ok = absurd (not_snoc ok.0.0 ok.0.1 (sym nil ∙ ok.0.2))
+  log_free homes line hand handled phase due nil (built c g) zero_base ok = absurd (not_snoc (ok.0.0 ++ hand) ok.0.1 (sym nil ∙ (ok.0.2 ∙ sym (append_assoc ok.0.0 hand (ok.0.1 ∷ [])))))
+  log_free homes line hand handled phase due nil (cut c w) zero_base ok = absurd (not_snoc ok.0.0 ok.0.1 (sym nil ∙ ok.0.2))
+  log_free homes line hand handled phase due nil (marked c) zero_base ok = absurd (omega arith)
+
+  -- a writer comes to the newer end
+  grown : (homes : List (Option (Content Q P L M))) (line hand : List (Entry Q)) (handled : List (Handling Q P)) (phase : ℕ → Phase Q P) (due : ℕ → List (Q × P)) (e0 : Entry Q) → phase e0.by ≡ linked e0 → (mode : Mode Q) → (mode ≡ open_ → ⊥)
+      → InMode stands n homes line hand handled phase due mode → InMode stands n homes (e0 ∷ line) hand handled phase due mode
+  grown homes line hand handled phase due e0 here open_ ne ok = absurd (ne refl)
+  grown homes line hand handled phase due e0 here (waits c) ne ok = ((e0 ∷ ok.0.0, ok.0.1, ap (λ l. e0 ∷ l) ok.0.2, (here, ok.0.3), ok.0.4, ok.0.5), ok.1, ok.2)
+  grown homes line hand handled phase due e0 here (led c) ne ok = ((e0 ∷ ok.0.0, ok.0.1, ap (λ l. e0 ∷ l) ok.0.2, (here, ok.0.3), ok.0.4, ok.0.5), ok.1, ok.2)
+  grown homes line hand handled phase due e0 here (built c g) ne ok = ((e0 ∷ ok.0.0, ok.0.1, ap (λ l. e0 ∷ l) ok.0.2, (here, ok.0.3), ok.0.4, ok.0.5), ok.1, ok.2)
+  grown homes line hand handled phase due e0 here (marked c) ne ok = ((here, ok.0), ok.1, ok.2, ok.3, ok.4)
+  grown homes line hand handled phase due e0 here (cut c w) ne ok = ((e0 ∷ ok.0.0, ok.0.1, ap (λ l. e0 ∷ l) ok.0.2, (here, ok.0.3), ok.0.4, ok.0.5), ok.1, ok.2, ok.3)
+
+  module _ (slots id : ℕ) (me : Sat Q P L M) (c w old code : ℕ) (q : Q) (mine : List (Q × P)) (said : Option (Content Q P L M)) (packs : w ≡ pack old code) (mid : At c (Preparing w) mine me) (slot : me.1 ≡ (c, Asked q) ∷ []) (is_code : code ≡ stands.code_of q)
+      (s : St stands n) (r : Listed stands n s) (at : get_elem? s.views id ≡ some me.0) (hit : get_or s.words 0 0 ≡ old) where
+    abbrev e0 : Entry Q
+    e0 = entry c code q
+
+    abbrev told_of : ℕ → Sat Q P L M → Type 0
+    told_of = entered stands.logs (step slots 0 old c said) me
+
+    abbrev h : Hold Q P
+    h = hold c (Preparing w) mine
+
+    enters_first : old ≡ 0 → Goes s 0 id me told_of c
+    enters_first z =
+        let at' : get_elem? s.views id ≡ some (h ∷ []) = at ∙ ap some mid in
+        let fit = (r.seats id (h ∷ []) at').0 in
+        let now : r.phase c ≡ preparing w = fit.4 in
+        let row = subst (InPhase stands s.words s.homes c (r.due c)) now (r.rows c fit.1 fit.2) in
+        let lo : 0 < c = fit.1 in
+        let hi : c ≤ n = fit.2 in
+        let wide : length s.words ≡ 2 * n + 4 = r.wide in
+        let none_there = nobody n (base_of r.mode) r.line r.within (sym r.newest_is ∙ (hit ∙ z)) in
+        let empty : r.line ≡ [] = none_there.0 in
+        let free = log_free s.homes r.line r.hand r.handled r.phase r.due empty r.mode none_there.1 r.log_is in
+        let l : L = free.2.0 in
+        let opened : r.mode ≡ open_ = free.0 in
+        let ws : List ℕ = set s.words 0 c in
+        let hs = set s.homes 0 none in
+        let h' : Hold Q P = hold c (Fresh e0 r.handled) mine in
+        let same : (j : ℕ) → j ≢ 0 → get_or ws j 0 ≡ get_or s.words j 0 = λ j ne. get_or-set_other s.words 0 j c 0 (λ e. ne (omega arith)) in
+        let ph : Phase Q P = leads e0 in
+        let here : put r.phase c ph c ≡ ph = put_here r.phase c ph in
+        let m' : Sat Q P L M = (h' ∷ [], (0, Log l) ∷ me.1) in (
+          h' ∷ [],
+          takes 0 (Log l),
+          free.2.1,
+          moved stands n s r c id ws hs h h' (e0 ∷ []) r.hand r.handled (led c) ph r.due r.told r.two record {
+            at = at';
+            same_client = refl;
+            wide = length-set s.words 0 c;
+            many = length-set s.homes 0 none;
+            newest_is = get_or-set_same s.words 0 c 0 (omega arith);
+            links = (same (older_at c) (λ e. omega arith) ∙ (row.1 ∙ (packs ∙ ap (λ (o : ℕ). pack o code) z)), tt);
+            distinct = (tt, tt);
+            within = (lo, hi, tt);
+            stand = (subst (InChain e0) (sym here) refl, tt);
+            other_rows = λ j ne lo' _. row_stays stands n s.words ws s.homes hs j (r.due j) (same (state_at j) (λ e. omega arith)) (same (older_at j) (λ e. omega arith)) (set_else s.homes 0 j none (λ e. omega arith)) (r.phase j);
+            row = refl;
+            log_is = (([], e0, refl, tt, here, refl), free.1, row.2);
+            one_chosen = λ j e. put_at r.phase c ph (λ i f. f ≡ chosen e → Path (Mode Q) (led c) (waits i)) j (λ _ bad. absurd (cc)) (λ _ ok. let was : r.mode ≡ waits j = r.one_chosen j e ok in absurd (cc));
+            second = second_same stands n s.words ws s.homes hs r.phase c ph r.mode (led c) (stands.last r.handled) (stands.last r.handled) r.two (inr (λ there. subst (InSecond r.two.place c) now there)) same (set_else s.homes 0 (n + 1) none (λ e. omega arith)) (λ k h. inr (ap r.two.place (sym h) ∙ fit.5.0)) (λ k h. inr (λ four. let one : get_or s.words (state_at k) 0 ≡ 1 = ap (λ (j : ℕ). get_or s.words (state_at j) 0) (sym h) ∙ row.0 in let four' = sym (same (state_at k) (λ e. omega arith)) ∙ four in absurd (omega arith))) (λ k _ h. absurd (subst (Holds k) opened h)) (λ v. v) r.second;
+            back = fit.5;
+            else_back = λ _ _ _ ok. ok;
+            kept = r.kept;
+            coded = λ e is. subst (λ (z : Entry Q). z.code ≡ stands.code_of z.asked) is is_code;
+            account = comes_first r.line r.handled e0 empty (subst (Account r.line r.handled) opened r.account);
+            shared_out = r.shared_out;
+            told_else = λ _ _. refl;
+            mine = fit.3;
+            knows = (refl, here, refl);
+            others = λ j ne. knows_else stands n r.line (e0 ∷ []) r.hand r.handled r.mode (led c) r.phase r.due r.due c ph j ne (e0 ∷ [], ap (λ t. e0 ∷ t) (sym empty)) (λ h. absurd (subst (Holds j) opened h)) (λ e bad. absurd (cc)) (λ e bad. absurd (cc)) (λ _ _. refl);
+          },
+          λ c' w' q' mine' mid' slot'.
+              let e = one_hold c c' (Preparing w) (Preparing w') mine mine' me.0 mid mid' in
+              let same_q : q ≡ q' = one_asked c c' q q' me.1 slot slot' in
+              let told : Elected stands.logs c q mine m' = (e0, r.handled, l, refl, refl, refl, free.2.2, ap (λ t. (0, Log l) ∷ t) slot, r.shared_out c ∙ ((λ i. sym fit.3 i ++ row.2 i) ∙ append-nil mine)) in (
+                (λ _ _. subst (λ (t : ℕ × Q × List (Q × P)). Elected stands.logs t.0 t.1 t.2 m') (λ i. (e.0 i, same_q i, e.2 i)) told),
+                (λ _ nz. absurd (nz (hit ∙ z))),
+                λ miss. absurd (miss hit),
+              ),
+        )
+
+    enters_later : old ≢ 0 → Goes s 0 id me told_of c
+    enters_later nz =
+        let at' : get_elem? s.views id ≡ some (h ∷ []) = at ∙ ap some mid in
+        let fit = (r.seats id (h ∷ []) at').0 in
+        let now : r.phase c ≡ preparing w = fit.4 in
+        let row = subst (InPhase stands s.words s.homes c (r.due c)) now (r.rows c fit.1 fit.2) in
+        let lo : 0 < c = fit.1 in
+        let hi : c ≤ n = fit.2 in
+        let wide : length s.words ≡ 2 * n + 4 = r.wide in
+        let many : length s.homes ≡ n + 2 = r.many in
+        let some_one : r.mode ≡ open_ → ⊥ = λ is_open. let none_there = (subst (InMode stands n s.homes r.line r.hand r.handled r.phase r.due) is_open r.log_is).0 in nz (sym hit ∙ (r.newest_is ∙ (λ i. newest_from (base_of (is_open i)) (none_there i)))) in
+        let ws : List ℕ = set s.words 0 c in
+        let hs = set s.homes c (some (Asked q)) in
+        let h' : Hold Q P = hold c (Waiting q) mine in
+        let same : (j : ℕ) → j ≢ 0 → get_or ws j 0 ≡ get_or s.words j 0 = λ j ne. get_or-set_other s.words 0 j c 0 (λ e. ne (omega arith)) in
+        let ph : Phase Q P = linked e0 in
+        let here : put r.phase c ph c ≡ ph = put_here r.phase c ph in
+        let away : (e : Entry Q) → InChain e (r.phase c) → ⊥ = λ e is. subst (InChain e) now is in
+        let after : Listed stands n (record { words = ws; homes = hs; views = set s.views id (h' ∷ []) }) =
+        moved stands n s r c id ws hs h h' (e0 ∷ r.line) r.hand r.handled r.mode ph r.due r.told r.two record {
+          at = at';
+          same_client = refl;
+          wide = length-set s.words 0 c;
+          many = length-set s.homes c (some (Asked q));
+          newest_is = get_or-set_same s.words 0 c 0 (omega arith);
+          links = (same (older_at c) (λ e. omega arith) ∙ (row.1 ∙ (packs ∙ ap (λ (o : ℕ). pack o code) (sym hit ∙ r.newest_is))), links_same (base_of r.mode) s.words ws r.line (λ j. same (older_at j) (λ e. omega arith)) r.links);
+          distinct = (stand_absent r.phase c r.line away r.stand, r.distinct);
+          within = (lo, hi, r.within);
+          stand = (subst (InChain e0) (sym here) refl, stand_change r.phase c ph r.line (λ e is. absurd (away e is)) r.stand);
+          other_rows = λ j ne lo' _. row_stays stands n s.words ws s.homes hs j (r.due j) (same (state_at j) (λ e. omega arith)) (same (older_at j) (λ e. omega arith)) (set_else s.homes c j (some (Asked q)) ne) (r.phase j);
+          row = (refl, same (state_at c) (λ e. omega arith) ∙ row.0, set_here s.homes c (some (Asked q)) (omega arith), row.2);
+          log_is = grown hs r.line r.hand r.handled (put r.phase c ph) r.due e0 here r.mode some_one (mode_stays stands n s.homes hs r.line r.hand r.handled r.phase r.due r.due c ph (set_else s.homes c 0 (some (Asked q)) (λ e. omega arith)) (λ e bad. absurd (cc)) (λ j e _ bad _. absurd (cc)) (λ e bad. absurd (cc)) (λ l. taken_change r.phase r.due r.due c ph l r.hand (λ e bad. absurd (cc)) (λ _ _. refl)) (λ _ e. e) r.mode r.log_is);
+          one_chosen = λ j e. put_at r.phase c ph (λ i f. f ≡ chosen e → r.mode ≡ waits i) j (λ _ bad. absurd (cc)) (λ _ ok. r.one_chosen j e ok);
+          kept = r.kept;
+          coded = λ e is. subst (λ (z : Entry Q). z.code ≡ stands.code_of z.asked) is is_code;
+          account = comes_more r.line r.handled e0 r.mode some_one r.account;
+          second = second_row stands n s.words ws s.homes hs r.phase c ph r.mode (stands.last r.handled) r.two (λ there. subst (InSecond r.two.place c) now there) (same 1 (λ e. omega arith)) (λ j _. same (older_at j) (λ e. omega arith)) (λ j _. same (state_at j) (λ e. omega arith)) (λ four. sym (same (state_at c) (λ e. omega arith)) ∙ four) (set_else s.homes c (n + 1) (some (Asked q)) (λ e. omega arith)) r.second;
+          back = fit.5;
+          else_back = λ _ _ _ ok. ok;
+          shared_out = r.shared_out;
+          told_else = λ _ _. refl;
+          mine = fit.3;
+          knows = subst (Waits q) (sym here) refl;
+          others = λ j ne. knows_else stands n r.line (e0 ∷ r.line) r.hand r.handled r.mode r.mode r.phase r.due r.due c ph j ne (e0 ∷ [], refl) (λ _. refl) (λ e bad. absurd (cc)) (λ e bad. absurd (cc)) (λ _ _. refl);
+        } in (
+          h' ∷ [],
+          gives,
+          tt,
+          subst (λ (l : List (ℕ × Content Q P L M)). Listed stands n (stepped s 0 c id l (h' ∷ []) gives)) (sym slot) after,
+          λ c' w' q' mine' mid' slot'.
+              let e = one_hold c c' (Preparing w) (Preparing w') mine mine' me.0 mid mid' in
+              let same_q : q ≡ q' = one_asked c c' q q' me.1 slot slot' in (
+                (λ _ zero_now. absurd (nz (sym hit ∙ zero_now))),
+                (λ _ _. ((λ i. hold (e.0 i) (Waiting (same_q i)) (e.2 i) ∷ []), ap (λ l. carried_after l gives) slot)),
+                λ miss. absurd (miss hit),
+              ),
+        )
+
+  pub enters : (slots id : ℕ) (me : Sat Q P L M) (c w old code : ℕ) (q : Q) (mine : List (Q × P)) (said : Option (Content Q P L M)) → w ≡ pack old code → At c (Preparing w) mine me → me.1 ≡ (c, Asked q) ∷ [] → code ≡ stands.code_of q
+      → Allows (Listed stands n) slots id me 0 (λ y. either (eqb y old) c y) (entered stands.logs (step slots 0 old c said) me)
+  enters slots id me c w old code q mine said packs mid slot is_code s r long at fits = exchanged (get_or s.words 0 0) old c (Goes s 0 id me (entered stands.logs (step slots 0 old c said) me))
+      (λ hit. dite (ℕ_discrete old 0) (enters_first slots id me c w old code q mine said packs mid slot is_code s r at hit) (enters_later slots id me c w old code q mine said packs mid slot is_code s r at hit))
+      (λ miss. (me.0, keeps, tt, unmoved s 0 id me.1 me.0 at r, λ _ _ _ _ _ _. ((λ hit _. absurd (miss hit)), (λ hit _. absurd (miss hit)), λ _. refl)))
+
+  module _ (slots id : ℕ) (me : Sat Q P L M) (c k : ℕ) (q : Q) (mine : List (Q × P)) (is : k ≡ state_at c) (mid : At c (Waiting q) mine me) (empty : me.1 ≡ [])
+      (s : St stands n) (r : Listed stands n s) (at : get_elem? s.views id ≡ some me.0) where
+    abbrev saw : ℕ → Sat Q P L M → Type 0
+    saw = looked stands.logs stands.kept (step slots k 0 0 none) me
+
+    abbrev hw : Hold Q P
+    hw = hold c (Waiting q) mine
+
+    abbrev x : ℕ
+    x = get_or s.words k 0
+
+    looks_on : x ≢ 2 → x ≢ 16 → Goes s k id me saw x
+    looks_on n2 n16 = (me.0, keeps, tt, unmoved s k id me.1 me.0 at r, λ _ _ _ _. ((λ y. absurd (n2 y)), (λ y. absurd (n16 y)), λ _ _. refl))
+
+    looks_elected : (e : Entry Q) → r.phase c ≡ chosen e → e.asked ≡ q → Goes s k id me saw x
+    looks_elected e now asks =
+        let at' : get_elem? s.views id ≡ some (hw ∷ []) = at ∙ ap some mid in
+        let fit = (r.seats id (hw ∷ []) at').0 in
+        let row = subst (InPhase stands s.words s.homes c (r.due c)) now (r.rows c fit.1 fit.2) in
+        let lo : 0 < c = fit.1 in
+        let hi : c ≤ n = fit.2 in
+        let mode_was : r.mode ≡ waits c = r.one_chosen c e now in
+        let log = subst (InMode stands n s.homes r.line r.hand r.handled r.phase r.due) mode_was r.log_is in
+        let l : L = log.2.0 in
+        let e1 : Entry Q = log.0.1 in
+        let e1_now : r.phase c ≡ chosen e1 = log.0.4 in
+        let same_e : e1 ≡ e = one_chosen_entry e1 e (sym e1_now ∙ now) in
+        let parts : r.line ≡ log.0.0 ++ e ∷ [] = log.0.2 ∙ (λ i. log.0.0 ++ same_e i ∷ []) in
+        let ws : List ℕ = set s.words k x in
+        let hs = set (set s.homes c none) 0 none in
+        let h' : Hold Q P = hold c (Fresh e r.handled) mine in
+        let same : (j : ℕ) → get_or ws j 0 ≡ get_or s.words j 0 = λ j. ap (λ (t : List ℕ). get_or t j 0) (set-get_or s.words k 0) in
+        let ph : Phase Q P = leads e in
+        let here : put r.phase c ph c ≡ ph = put_here r.phase c ph in
+        let m' : Sat Q P L M = (h' ∷ [], (0, Log l) ∷ (c, Asked e.asked) ∷ me.1) in
+        let two : x ≡ 2 = ap (λ (j : ℕ). get_or s.words j 0) is ∙ row.1 in (
+          h' ∷ [],
+          both_acts (takes c (Asked e.asked)) (takes 0 (Log l)),
+          (row.2, set_else s.homes c 0 none (λ e. omega arith) ∙ log.2.1),
+          moved stands n s r c id ws hs hw h' r.line r.hand r.handled (led c) ph r.due r.told r.two record {
+            at = at';
+            same_client = refl;
+            wide = length-set s.words k x;
+            many = length-set (set s.homes c none) 0 none ∙ length-set s.homes c none;
+            newest_is = same 0 ∙ (r.newest_is ∙ ap (λ b. newest_from b r.line) (ap base_of mode_was));
+            links = links_same 0 s.words ws r.line (λ j. same (older_at j)) (subst (λ b. LinksFrom b s.words r.line) (ap base_of mode_was) r.links);
+            distinct = r.distinct;
+            within = r.within;
+            stand = stand_change r.phase c ph r.line (λ f is_in. subst (InChain f) now is_in) r.stand;
+            other_rows = λ j ne lo' _. row_stays stands n s.words ws s.homes hs j (r.due j) (same (state_at j)) (same (older_at j)) (set_else (set s.homes c none) 0 j none (λ e. omega arith) ∙ set_else s.homes c j none ne) (r.phase j);
+            row = row.0;
+            log_is = ((log.0.0, e, parts, linked_change r.phase c ph log.0.0 (λ f bad. absurd (cc)) log.0.3, here, row.0), log.1, row.3);
+            one_chosen = λ j f. put_at r.phase c ph (λ i g. g ≡ chosen f → Path (Mode Q) (led c) (waits i)) j (λ _ bad. absurd (cc)) (λ ne ok. let was : r.mode ≡ waits j = r.one_chosen j f ok in absurd (ne (waits_one j c (sym was ∙ mode_was))));
+            kept = r.kept;
+            coded = λ f is. r.coded c f (subst (InChain f) (sym now) is);
+            account = subst (λ (i : ℕ). Account r.line r.handled (led i)) row.0 (leads_now r.line r.handled e log.0.0 parts (subst (λ (i : ℕ). Account r.line r.handled (waits i)) (sym row.0) (subst (Account r.line r.handled) mode_was r.account)));
+            shared_out = r.shared_out;
+            told_else = λ _ _. refl;
+            mine = fit.3;
+            second = second_same stands n s.words ws s.homes hs r.phase c ph r.mode (led c) (stands.last r.handled) (stands.last r.handled) r.two (inr (λ there. subst (InSecond r.two.place c) now there)) (λ j _. same j) (set_else (set s.homes c none) 0 (n + 1) none (λ e. omega arith) ∙ set_else s.homes c (n + 1) none (λ e. omega arith)) (λ k h. inr (ap r.two.place (sym h) ∙ fit.5.0)) (λ k h. inr (λ four. let here2 : get_or s.words (state_at k) 0 ≡ 2 = ap (λ (j : ℕ). get_or s.words (state_at j) 0) (sym h) ∙ row.1 in let four' = sym (same (state_at k)) ∙ four in absurd (omega arith))) (λ k _ h. absurd (subst (Holds k) mode_was h)) (λ v. v) r.second;
+            back = fit.5;
+            else_back = λ _ _ _ ok. ok;
+            knows = (refl, here, refl);
+            others = λ j ne. knows_else stands n r.line r.line r.hand r.handled r.mode (led c) r.phase r.due r.due c ph j ne (ends_same r.line) (λ h. absurd (subst (Holds j) mode_was h)) (λ f bad. absurd (cc)) (λ f bad. absurd (cc)) (λ _ _. refl);
+          },
+          λ c' q' mine' mid'.
+              let o = one_hold c c' (Waiting q) (Waiting q') mine mine' me.0 mid mid' in
+              let same_q : q ≡ q' = one_waits q q' o.1 in
+              let told : Elected stands.logs c q mine m' = (e, r.handled, l, refl, row.0, asks, log.2.2, (λ i. (0, Log l) ∷ (c, Asked (asks i)) ∷ empty i), r.shared_out c ∙ ((λ i. sym fit.3 i ++ row.3 i) ∙ append-nil mine)) in (
+                (λ _. subst (λ (t : ℕ × Q × List (Q × P)). Elected stands.logs t.0 t.1 t.2 m') (λ i. (o.0 i, same_q i, o.2 i)) told),
+                (λ y. absurd (omega arith)),
+                λ y. absurd (y two),
+              ),
+        )
+
+    looks_done : (q0 : Q) (p : P) → r.phase c ≡ completed q0 p → q0 ≡ q → Goes s k id me saw x
+    looks_done q0 p now asks =
+        let at' : get_elem? s.views id ≡ some (hw ∷ []) = at ∙ ap some mid in
+        let fit = (r.seats id (hw ∷ []) at').0 in
+        let row = subst (InPhase stands s.words s.homes c (r.due c)) now (r.rows c fit.1 fit.2) in
+        let ws : List ℕ = set s.words k x in
+        let hs = set s.homes c none in
+        let got : List (Q × P) = mine ++ (q, p) ∷ [] in
+        let h' : Hold Q P = hold c Collecting got in
+        let same : (j : ℕ) → get_or ws j 0 ≡ get_or s.words j 0 = λ j. ap (λ (t : List ℕ). get_or t j 0) (set-get_or s.words k 0) in
+        let due : ℕ → List (Q × P) = put r.due c [] in
+        let told : ℕ → List (Q × P) = put r.told c got in
+        let none_due : due c ≡ [] = put_here r.due c [] in
+        let told_is : told c ≡ got = put_here r.told c got in
+        let sixteen : x ≡ 16 = ap (λ (j : ℕ). get_or s.words j 0) is ∙ row.0 in
+        let m' : Sat Q P L M = (h' ∷ [], (c, Told p) ∷ me.1) in
+        let shares : r.told c ++ r.due c ≡ told c ++ due c =
+        (λ i. sym fit.3 i ++ row.2 i) ∙ ((λ i. mine ++ (asks i, p) ∷ []) ∙ (sym (append-nil got) ∙ (λ i. sym told_is i ++ sym none_due i))) in (
+          h' ∷ [],
+          takes c (Told p),
+          row.1,
+          aside s r c id ws hs hw Collecting got (completed q0 p) collecting due told at' refl now tt tt (length-set s.words k x) (length-set s.homes c none)
+              (λ j _ _. same j) (λ j ne. set_else s.homes c j none ne) refl (λ four. sym (same (state_at c)) ∙ four) none_due (λ j ne. put_else r.due c [] j ne) (λ j ne. put_else r.told c got j ne) shares (sym told_is) (λ j e. put_at r.due c [] (λ i d. r.due i ≡ [] → d ≡ []) j (λ _ _. refl) (λ _ here. here) e) (λ phase here. here),
+          λ c' q' mine' mid'.
+              let o = one_hold c c' (Waiting q) (Waiting q') mine mine' me.0 mid mid' in
+              let same_q : q ≡ q' = one_waits q q' o.1 in (
+                (λ y. absurd (omega arith)),
+                (λ _. subst (λ (t : ℕ × Q × List (Q × P)). (p' : P) × At t.0 Collecting (t.2 ++ (t.1, p') ∷ []) m' × (m'.1 ≡ (t.0, Told p') ∷ []) × ((handled : List (Handling Q P)) × stands.kept handled × (of t.0 handled ≡ t.2 ++ (t.1, p') ∷ []))) (λ i. (o.0 i, same_q i, o.2 i)) (p, refl, ap (λ t. (c, Told p) ∷ t) empty, (r.handled, r.kept, r.shared_out c ∙ (λ i. sym fit.3 i ++ (row.2 ∙ (λ j. (asks j, p) ∷ [])) i)))),
+                λ _ y. absurd (y sixteen),
+              ),
+        )
+
+    looks_at : (ph : Phase Q P) → r.phase c ≡ ph → Waits q ph → InPhase stands s.words s.homes c (r.due c) ph → Goes s k id me saw x
+    looks_at idle now w ok = absurd w
+    looks_at (preparing v) now w ok = absurd w
+    looks_at (linked e) now w ok = let one : x ≡ 1 = ap (λ (j : ℕ). get_or s.words j 0) is ∙ ok.1 in looks_on (λ y. omega arith) (λ y. omega arith)
+    looks_at (chosen e) now w ok = looks_elected e now w
+    looks_at (leads e) now w ok = absurd w
+    looks_at (taken l e) now w ok = let at_c : x ≡ get_or s.words (state_at c) 0 = ap (λ (j : ℕ). get_or s.words j 0) is in looks_on (λ y. ok.1 (sym at_c ∙ y)) (λ y. ok.2 (sym at_c ∙ y))
+    looks_at (completed q0 p) now w ok = looks_done q0 p now w
+    looks_at collecting now w ok = absurd w
+
+    looks_all : Goes s k id me saw x
+    looks_all = let fit = (r.seats id (hw ∷ []) (at ∙ ap some mid)).0 in looks_at (r.phase c) refl fit.4 (r.rows c fit.1 fit.2)
+
+  pub looks : (slots id : ℕ) (me : Sat Q P L M) (c k : ℕ) (q : Q) (mine : List (Q × P)) → k ≡ state_at c → At c (Waiting q) mine me → me.1 ≡ [] → Allows (Listed stands n) slots id me k (λ y. y) (looked stands.logs stands.kept (step slots k 0 0 none) me)
+  looks slots id me c k q mine is mid empty s r long at fits = looks_all slots id me c k q mine is mid empty s r at
+
+  pub enters_as : (stood : L → List (Handling Q P) → Type 0) → stands.logs ≡ stood → (slots id : ℕ) (me : Sat Q P L M) (c w old code : ℕ) (q : Q) (mine : List (Q × P)) (said : Option (Content Q P L M)) → w ≡ pack old code → At c (Preparing w) mine me → me.1 ≡ (c, Asked q) ∷ [] → code ≡ stands.code_of q
+      → Allows (Listed stands n) slots id me 0 (λ y. either (eqb y old) c y) (entered stood (step slots 0 old c said) me)
+  enters_as stood is slots id me c w old code q mine said packs mid slot is_code = subst (λ z. Allows (Listed stands n) slots id me 0 (λ y. either (eqb y old) c y) (entered z (step slots 0 old c said) me)) is (enters slots id me c w old code q mine said packs mid slot is_code)
+
+  pub looks_as : (stood : L → List (Handling Q P) → Type 0) (kept : List (Handling Q P) → Type 0) → stands.logs ≡ stood → stands.kept ≡ kept → (slots id : ℕ) (me : Sat Q P L M) (c k : ℕ) (q : Q) (mine : List (Q × P)) → k ≡ state_at c → At c (Waiting q) mine me → me.1 ≡ []
+      → Allows (Listed stands n) slots id me k (λ y. y) (looked stood kept (step slots k 0 0 none) me)
+  looks_as stood kept is is_kept slots id me c k q mine at mid empty = subst (λ z. Allows (Listed stands n) slots id me k (λ y. y) (looked z kept (step slots k 0 0 none) me)) is (subst (λ z. Allows (Listed stands n) slots id me k (λ y. y) (looked stands.logs z (step slots k 0 0 none) me)) is_kept (looks slots id me c k q mine at mid empty))

@@ -1,0 +1,565 @@
+-- The steps of a leader keep the rule.
+use Rattle.std.proofs.Common.{true, ◌≡◌, ◌≢◌, ℕ, suc, ◌+◌, ◌*◌, ◌/◌, ◌<◌, ◌≤◌, eqb, List, [], ◌∷◌, ◌++◌, length, get_or, set, refl, sym, ap, ◌∙◌, subst, inl, inr, ⊎_elim, arith, length-set, reverse, true, append-nil, append_assoc, get_or-set_other, get_or-set_same}
+use mathlib.Core.Logic.{dite}
+use mathlib.Core.Path.{Path}
+use mathlib.Core.Option.{Option, none, some}
+use native.Mathlib.Decide.{ℕ_discrete}
+use lib.ListN.{get_elem?}
+use lib.Seq.{set-get_or}
+use prog.Atomic.{either}
+use Rattle.atomic_table.specs.Table.{step, keeps, takes, gives, carried_after, stepped, Allows}
+use Rattle.atomic_table.proofs.Lists.{at_set, set_here, set_else, exchanged}
+use Rattle.list_rule.specs.declared.view.Entry.{Entry}
+use Rattle.list_rule.specs.declared.view.Handling.{Handling}
+use Rattle.list_rule.specs.declared.view.Lead.{Lead}
+use Rattle.list_rule.specs.declared.view.Debt.{Debt}
+use Rattle.list_rule.specs.declared.view.Hold.{Hold}
+use Rattle.list_rule.specs.declared.content.Content.{Content}
+use Rattle.list_rule.specs.declared.content.Content.TheVariants.{Empty, Asked, Told, Log, Right}
+use Rattle.list_rule.specs.declared.view.Stage.{Stage}
+use Rattle.list_rule.specs.declared.view.Stage.TheVariants.{Idle, Preparing, Waiting, Fresh, Leading, Cutting, Marking, Settling, Collecting}
+use Rattle.list_rule.specs.Chain.{AllCoded, state_at, older_at, newest, newest_from, Links, LinksFrom, Absent, Distinct, Within, of, heads, handling, answers, all_answers}
+use Rattle.list_rule.specs.Rule.{Phase, idle, preparing, linked, chosen, leads, taken, completed, collecting, Mode, open_, waits, led, built, base_of, InChain, Stand, Waits, AllLinked, AllTaken, AllOwed, Knows, AllFit, hold, InPhase, InMode, Account, Laws, Listed, Holds, InSecond, ahead, hold_at}
+use Rattle.list_rule.specs.Grouping.{codes, IsGroup}
+use Rattle.list_rule.proofs.Fitting.{fitting, fitting_small, length-codes, is_group}
+use Rattle.list_rule.specs.Plays.{Sat, building, At, walking, taking, in_hand, debt, slots_of, AllBelow, Walks, Builds, read_once, traced, fetched, left}
+use Rattle.list_rule.proofs.Chains.{put, put_at, put_here, put_else, links_same, ends_same, stand_change, linked_change, taken_change, owed_change}
+use Rattle.list_rule.proofs.Accounts.{builds_now, leaves_now}
+use Rattle.list_rule.proofs.Moves.{St, row_stays, knows_stays, knows_else, moved}
+use Rattle.list_rule.proofs.Keeps.{second_same, level_same}
+use Rattle.std.proofs.lemmas.List.{append_cancel_right, length-reverse}
+use Rattle.list_rule.proofs.Groups.{links_at, walk_bound, distinct_apart, distinct_front, distinct_back, within_at, linked_at, linked_front, linked_absent, taken_absent, of-append, of_other, new_none, new_own, owes, none_before_group}
+use Rattle.list_rule.proofs.Enters.{own, one_hold, Goes, unmoved}
+
+last_or : {A : Type 0} → A → List A → A
+last_or d [] = d
+last_or d (x ∷ xs) = last_or x xs
+
+last_or-snoc : {A : Type 0} (d : A) (xs : List A) (x : A) → last_or d (xs ++ x ∷ []) ≡ x
+unfolding last_or
+last_or-snoc d [] x = refl
+last_or-snoc d (y ∷ ys) x = last_or-snoc y ys x
+
+pub same_last : {A : Type 0} (a b : List A) (x y : A) → a ++ x ∷ [] ≡ b ++ y ∷ [] → x ≡ y
+same_last a b x y e = sym (last_or-snoc x a x) ∙ (ap (last_or x) e ∙ last_or-snoc x b y)
+
+pub middle : {A : Type 0} (a b : List A) (x : A) (c : List A) → (a ++ b) ++ x ∷ c ≡ a ++ (b ++ x ∷ c)
+middle a b x c = append_assoc a b (x ∷ c)
+
+pub snoc : {A : Type 0} (a : List A) (x : A) (c : List A) → (a ++ x ∷ []) ++ c ≡ a ++ x ∷ c
+snoc a x c = append_assoc a (x ∷ []) c
+
+pub one_leads : {Q P : Type 0} (e f : Entry Q) → Path (Phase Q P) (leads e) (leads f) → e ≡ f
+one_leads e f is = cc
+
+module _ {Q P : Type 0} where
+  -- a client whose request is in the list or in hand waits
+  abbrev pub IsQueued : Phase Q P → Type 0
+  IsQueued idle = ⊥
+  IsQueued (preparing w) = ⊥
+  IsQueued (linked e) = Unit {0}
+  IsQueued (chosen e) = ⊥
+  IsQueued (leads e) = ⊥
+  IsQueued (taken l e) = Unit {0}
+  IsQueued (completed q p) = ⊥
+  IsQueued collecting = ⊥
+
+  pub still_waits : (line line' hand hand' : List (Entry Q)) (handled handled' : List (Handling Q P)) (mode mode' : Mode Q) (phase phase' : ℕ → Phase Q P) (due due' : ℕ → List (Q × P)) (k : ℕ) (ph : Phase Q P) → phase k ≡ ph → IsQueued ph
+      → ((q : Q) → Waits q ph → Waits q (phase' k)) → (st : Stage Q P) → Knows line hand handled mode phase due k st → Knows line' hand' handled' mode' phase' due' k st
+  still_waits line line' hand hand' handled handled' mode mode' phase phase' due due' k ph now queued to Idle ok = absurd (subst IsQueued (sym now ∙ ok) queued)
+  still_waits line line' hand hand' handled handled' mode mode' phase phase' due due' k ph now queued to (Preparing w) ok = absurd (subst IsQueued (sym now ∙ ok) queued)
+  still_waits line line' hand hand' handled handled' mode mode' phase phase' due due' k ph now queued to (Waiting q) ok = to q (subst (Waits q) now ok)
+  still_waits line line' hand hand' handled handled' mode mode' phase phase' due due' k ph now queued to (Fresh o n) ok = absurd (subst IsQueued (sym now ∙ ok.1) queued)
+  still_waits line line' hand hand' handled handled' mode mode' phase phase' due due' k ph now queued to (Leading lead) ok = absurd (subst IsQueued (sym now ∙ ok.1) queued)
+  still_waits line line' hand hand' handled handled' mode mode' phase phase' due due' k ph now queued to (Cutting lead e) ok = absurd (subst IsQueued (sym now ∙ ok.1) queued)
+  still_waits line line' hand hand' handled handled' mode mode' phase phase' due due' k ph now queued to (Marking lead) ok = absurd (subst IsQueued (sym now ∙ ok.1) queued)
+  still_waits line line' hand hand' handled handled' mode mode' phase phase' due due' k ph now queued to (Settling d) ok = absurd (subst IsQueued (sym now ∙ ok.1) queued)
+  still_waits line line' hand hand' handled handled' mode mode' phase phase' due due' k ph now queued to Collecting ok = absurd (subst IsQueued (sym now ∙ ok) queued)
+
+  abbrev pub lead_in : Lead Q P → Stage Q P → Lead Q P
+  lead_in d Idle = d
+  lead_in d (Preparing w) = d
+  lead_in d (Waiting q) = d
+  lead_in d (Fresh o n) = d
+  lead_in d (Leading l) = l
+  lead_in d (Cutting l e) = l
+  lead_in d (Marking l) = l
+  lead_in d (Settling b) = d
+  lead_in d Collecting = d
+
+  pub one_lead : (a b : Lead Q P) → Path (Stage Q P) (Leading a) (Leading b) → a ≡ b
+  one_lead a b e = ap (lead_in a) e
+
+module _ {Q P : Type 0} where
+  abbrev fresh_entry : Entry Q → Stage Q P → Entry Q
+  fresh_entry d Idle = d
+  fresh_entry d (Preparing w) = d
+  fresh_entry d (Waiting q) = d
+  fresh_entry d (Fresh o s) = o
+  fresh_entry d (Leading l) = d
+  fresh_entry d (Cutting l e) = d
+  fresh_entry d (Marking l) = d
+  fresh_entry d (Settling b) = d
+  fresh_entry d Collecting = d
+
+  abbrev fresh_seen : List (Handling Q P) → Stage Q P → List (Handling Q P)
+  fresh_seen d Idle = d
+  fresh_seen d (Preparing w) = d
+  fresh_seen d (Waiting q) = d
+  fresh_seen d (Fresh o s) = s
+  fresh_seen d (Leading l) = d
+  fresh_seen d (Cutting l e) = d
+  fresh_seen d (Marking l) = d
+  fresh_seen d (Settling b) = d
+  fresh_seen d Collecting = d
+
+  pub one_fresh : (a b : Entry Q) (s t : List (Handling Q P)) → Path (Stage Q P) (Fresh a s) (Fresh b t) → (a ≡ b) × (s ≡ t)
+  one_fresh a b s t e = (ap (fresh_entry a) e, ap (fresh_seen s) e)
+
+-- a list cut at its older end
+pub cut_at : {A : Type 0} (l : List A) (k : ℕ) → k ≤ length l → (left : List A) × (group : List A) × (l ≡ left ++ group) × (length group ≡ k)
+cut_at [] k small = ([], [], refl, omega arith)
+cut_at (x ∷ xs) k small = dite (ℕ_discrete k (suc (length xs)))
+    (λ e. ([], x ∷ xs, refl, sym e))
+    (λ ne. let t = cut_at xs k (omega arith) in (x ∷ t.0, t.1, ap (λ l. x ∷ l) t.2, t.3))
+
+-- the group that a leader takes of the queue
+pub split_group : {Q : Type 0} (max : ℕ) (own : Entry Q) (queue : List (Entry Q)) → (left : List (Entry Q)) × (group : List (Entry Q)) × (queue ≡ left ++ group) × IsGroup max own group left
+split_group max own queue =
+    let k : ℕ = fitting max own.code (own.code / 8) (reverse (codes queue)) in
+    let small : k ≤ length queue = let f = fitting_small max own.code (own.code / 8) (reverse (codes queue)) in let a = length-reverse (codes queue) in let b = length-codes queue in omega arith in
+    let t = cut_at queue k small in (t.0, t.1, t.2, is_group max own t.1 t.0 (t.3 ∙ ap (λ l. fitting max own.code (own.code / 8) (reverse (codes l))) t.2))
+
+module _ {Q P L M : Type 0} (stands : Laws Q P L M) (n : ℕ) where
+  -- what the rule says of who leads
+  pub record Leads (s : St stands n) (r : Listed stands n s) (c : ℕ) (lead : Lead Q P) : Type 0 where
+    pub queue : List (Entry Q)
+    pub parts : r.line ≡ queue ++ in_hand lead
+    pub queued : AllLinked r.phase queue
+    pub members : AllTaken r.phase r.due c lead.taken
+    pub own_due : r.due c ≡ []
+    pub own_by : lead.own.by ≡ c
+    pub base : base_of r.mode ≡ 0
+
+  pub leader : (s : St stands n) (r : Listed stands n s) (c : ℕ) (lead : Lead Q P) → 0 < c → c ≤ n → Knows r.line r.hand r.handled r.mode r.phase r.due c (Leading lead) → Leads s r c lead
+  leader s r c lead lo hi ok =
+      let m = subst (InMode stands n s.homes r.line r.hand r.handled r.phase r.due) ok.0 r.log_is in
+      let same : m.0.1 ≡ lead.own = one_leads m.0.1 lead.own (sym m.0.4 ∙ ok.1) in
+      record {
+        queue = m.0.0;
+        parts = m.0.2 ∙ (λ i. m.0.0 ++ (sym ok.4 i ++ same i ∷ []));
+        queued = m.0.3;
+        members = subst (AllTaken r.phase r.due c) (sym ok.4) m.1;
+        own_due = m.2;
+        base = ap base_of ok.0;
+        own_by = subst (InPhase stands s.words s.homes c (r.due c)) ok.1 (r.rows c lo hi);
+      }
+
+  -- the seat alone moves
+  pub reviewed : (s : St stands n) (r : Listed stands n s) (id : ℕ) (h : Hold Q P) (st : Stage Q P) → get_elem? s.views id ≡ some (h ∷ []) → Knows r.line r.hand r.handled r.mode r.phase r.due h.client st
+      → Listed stands n (record { words = s.words; homes = s.homes; views = set s.views id (hold_at h.client st h.mine h.back ∷ []) })
+  reviewed s r id h st at knows =
+      let mine = (r.seats id (h ∷ []) at).0 in
+      record {
+        line = r.line;
+        hand = r.hand;
+        handled = r.handled;
+        mode = r.mode;
+        phase = r.phase;
+        due = r.due;
+        told = r.told;
+        seat = r.seat;
+        few = r.few;
+        wide = r.wide;
+        many = r.many;
+        newest_is = r.newest_is;
+        links = r.links;
+        distinct = r.distinct;
+        within = r.within;
+        stand = r.stand;
+        rows = r.rows;
+        log_is = r.log_is;
+        one_chosen = r.one_chosen;
+        account = r.account;
+        second = r.second;
+        two = r.two;
+        kept = r.kept;
+        coded = r.coded;
+        shared_out = r.shared_out;
+        seats = λ j x e. ⊎_elim
+            (λ (t : (j ≡ id) × (hold_at h.client st h.mine h.back ∷ [] ≡ x)). subst (λ (z : ℕ × List (Hold Q P)). AllFit n r.line r.hand r.handled r.mode r.phase r.due r.told r.two r.seat z.0 z.1) (λ i. (sym t.0 i, t.1 i)) ((mine.0, mine.1, mine.2, mine.3, knows, mine.5), tt))
+            (λ (t : (j ≢ id) × (get_elem? s.views j ≡ some x)). r.seats j x t.1)
+            (at_set s.views id j (hold_at h.client st h.mine h.back ∷ []) x e);
+      }
+
+  pub all_below : (slots : ℕ) (es : List (Entry Q)) → suc n < slots → Within n es → AllBelow slots es
+  all_below slots [] h ok = tt
+  all_below slots (e ∷ es) h ok = let a = ok.1 in (ok.0, omega arith, all_below slots es h ok.2)
+
+  -- a load by a leader that reads the list anew
+  pub walks_now : (slots id : ℕ) (me : Sat Q P L M) (c : ℕ) (lead : Lead Q P) (mine : List (Q × P)) → At c (Leading lead) mine me → (s : St stands n) (r : Listed stands n s) → get_elem? s.views id ≡ some me.0
+      → length s.homes ≡ slots → (w : List (Hold Q P)) × Listed stands n (stepped s 0 (get_or s.words 0 0) id me.1 w keeps) × Walks slots c lead mine (get_or s.words 0 0) me (w, me.1)
+  walks_now slots id me c lead mine mid s r at long =
+      let h : Hold Q P = hold c (Leading lead) mine in
+      let at' : get_elem? s.views id ≡ some (h ∷ []) = at ∙ ap some mid in
+      let fit = (r.seats id (h ∷ []) at').0 in
+      let k = leader s r c lead fit.1 fit.2 fit.4 in
+      let now : List (Entry Q) = k.queue ++ in_hand lead in
+      let w : List (Hold Q P) = hold c (Leading (walking lead now)) mine ∷ [] in (
+        w,
+        subst (λ (z : List ℕ). Listed stands n (record { words = z; homes = s.homes; views = set s.views id w })) (sym (set-get_or s.words 0 0))
+            (reviewed s r id h (Leading (walking lead now)) at' (fit.4.0, fit.4.1, ([], k.parts), fit.4.3, fit.4.4)),
+        (
+          k.queue,
+          refl,
+          refl,
+          r.newest_is ∙ (λ i. newest_from (k.base i) (k.parts i)),
+          (let b = walk_bound n now (subst (Within n) k.parts r.within) (subst Distinct k.parts r.distinct) in let m = r.many in omega arith),
+          all_below slots now (let m = r.many in omega arith) (subst (Within n) k.parts r.within),
+        ),
+      )
+
+  coded_in : (s : St stands n) (r : Listed stands n s) (es : List (Entry Q)) → Stand r.phase es → AllCoded stands.code_of es
+  coded_in s r [] ok = tt
+  coded_in s r (e ∷ es) ok = (r.coded e.by e ok.0, coded_in s r es ok.1)
+
+  all_coded : (s : St stands n) (r : Listed stands n s) (front es : List (Entry Q)) → Stand r.phase (front ++ es) → AllCoded stands.code_of es
+  all_coded s r [] es ok = coded_in s r es ok
+  all_coded s r (f ∷ front) es ok = all_coded s r front es ok.1
+
+  -- the leader reads the queue, and so builds its group
+  pub reads : (slots id : ℕ) (me : Sat Q P L M) (max c : ℕ) (own0 : Entry Q) (seen : List (Handling Q P)) (mine : List (Q × P)) → At c (Fresh own0 seen) mine me → Allows (Listed stands n) slots id me 0 (λ y. y) (read_once stands.code_of max (step slots 0 0 0 none) me)
+  reads slots id me max c o seen mine mid s r long at fits =
+      let h : Hold Q P = hold c (Fresh o seen) mine in
+      let at' : get_elem? s.views id ≡ some (h ∷ []) = at ∙ ap some mid in
+      let fit = (r.seats id (h ∷ []) at').0 in
+      let led_c : r.mode ≡ led c = fit.4.0 in
+      let m = subst (InMode stands n s.homes r.line r.hand r.handled r.phase r.due) led_c r.log_is in
+      let same_o : m.0.1 ≡ o = one_leads m.0.1 o (sym m.0.4 ∙ fit.4.1) in
+      let queue : List (Entry Q) = m.0.0 in
+      let cuts = split_group max o queue in
+      let left : List (Entry Q) = cuts.0 in
+      let group : List (Entry Q) = cuts.1 in
+      let now : List (Entry Q) = left ++ (group ++ o ∷ []) in
+      let parts : r.line ≡ now = m.0.2 ∙ ((λ i. cuts.2 i ++ same_o i ∷ []) ∙ append_assoc left group (o ∷ [])) in
+      let lead : Lead Q P = building o seen now group in
+      let w : List (Hold Q P) = hold c (Leading lead) mine ∷ [] in
+      let by_c : o.by ≡ c = ap (λ (e : Entry Q). e.by) (sym same_o) ∙ m.0.5 in
+      let base : base_of r.mode ≡ 0 = ap base_of led_c in
+      let ph : Phase Q P = leads o in
+      let here : put r.phase c ph c ≡ ph = put_here r.phase c ph in
+      let ws : List ℕ = set s.words 0 (get_or s.words 0 0) in
+      let same : (j : ℕ) → get_or ws j 0 ≡ get_or s.words j 0 = λ j. ap (λ (l : List ℕ). get_or l j 0) (set-get_or s.words 0 0) in (
+        w,
+        keeps,
+        tt,
+        moved stands n s r c id ws s.homes h (hold c (Leading lead) mine) r.line r.hand r.handled (built c group) ph r.due r.told r.two record {
+          at = at';
+          same_client = refl;
+          wide = length-set s.words 0 (get_or s.words 0 0);
+          many = refl;
+          newest_is = same 0 ∙ (r.newest_is ∙ ap (λ b. newest_from b r.line) base);
+          links = links_same 0 s.words ws r.line (λ j. same (older_at j)) (subst (λ b. LinksFrom b s.words r.line) base r.links);
+          distinct = r.distinct;
+          within = r.within;
+          stand = stand_change r.phase c ph r.line (λ e is_in. subst (InChain e) fit.4.1 is_in) r.stand;
+          other_rows = λ j ne _ _. row_stays stands n s.words ws s.homes s.homes j (r.due j) (same (state_at j)) (same (older_at j)) refl (r.phase j);
+          row = by_c;
+          log_is = (
+            (queue, o, m.0.2 ∙ (λ i. queue ++ (sym m.1 i ++ same_o i ∷ [])), linked_change r.phase c ph queue (λ e bad. absurd (cc)) m.0.3, here, by_c),
+            subst (AllTaken (put r.phase c ph) r.due c) (sym m.1) tt,
+            m.2,
+          );
+          one_chosen = λ j e. put_at r.phase c ph (λ i g. g ≡ chosen e → Path (Mode Q) (built c group) (waits i)) j (λ _ bad. absurd (cc)) (λ _ ok. let was : r.mode ≡ waits j = r.one_chosen j e ok in absurd (cc));
+          kept = r.kept;
+          coded = λ e is. r.coded c e (subst (InChain e) (sym fit.4.1) is);
+          account = subst (λ (i : ℕ). Account r.line r.handled (built i group)) by_c (builds_now r.line r.handled max o group left parts cuts.3 (subst (Account r.line r.handled) (led_c ∙ ap led (sym by_c)) r.account));
+          second = second_same stands n s.words ws s.homes s.homes r.phase c ph r.mode (built c group) (stands.last r.handled) (stands.last r.handled) r.two (inl fit.4.1) (λ j _. same j) refl (λ k h. inr (ap r.two.place (sym h) ∙ fit.5.0)) (λ k h. inl (subst (Holds k) (sym led_c) h)) (λ k _ h. subst (Holds k) led_c h) (λ v. v) r.second;
+          back = fit.5;
+          else_back = λ _ _ _ ok. ok;
+          shared_out = r.shared_out;
+          told_else = λ _ _. refl;
+          mine = fit.3;
+          knows = (refl, here, ([], parts), fit.4.2, sym m.1);
+          others = λ j ne. knows_else stands n r.line r.line r.hand r.handled r.mode (built c group) r.phase r.due r.due c ph j ne (ends_same r.line) (λ h. absurd (ne (sym (subst (Holds j) led_c h)))) (λ e bad. absurd (cc)) (λ e bad. absurd (cc)) (λ _ _. refl);
+        },
+        λ c' o' seen' mine' mid'. let e = one_hold c c' (Fresh o seen) (Fresh o' seen') mine mine' me.0 mid mid' in
+            let f = one_fresh o o' seen seen' e.1 in
+            subst (λ (z : ℕ × Entry Q × List (Handling Q P) × List (Q × P)). Builds stands.code_of slots max z.0 z.1 z.2 z.3 (get_or s.words 0 0) me (w, me.1)) (λ i. (e.0 i, f.0 i, f.1 i, e.2 i)) (
+              left,
+              group,
+              refl,
+              refl,
+              (cuts.3, distinct_back left (group ++ o ∷ []) (subst Distinct parts r.distinct), all_coded s r left (group ++ o ∷ []) (subst (Stand r.phase) parts r.stand)),
+              r.newest_is ∙ (λ i. newest_from (base i) (parts i)),
+              (let b = walk_bound n now (subst (Within n) parts r.within) (subst Distinct parts r.distinct) in let m = r.many in omega arith),
+              all_below slots now (let m = r.many in omega arith) (subst (Within n) parts r.within),
+            ),
+      )
+
+  pub traces : (slots id : ℕ) (me : Sat Q P L M) (k : ℕ) → Allows (Listed stands n) slots id me k (λ y. y) (traced (step slots k 0 0 none) me)
+  traces slots id me k s r long at fits = (
+    me.0,
+    keeps,
+    tt,
+    unmoved stands n s k id me.1 me.0 at r,
+    (
+      refl,
+      λ c lead mine pre x post mid is_walk is_word.
+          let fit = (r.seats id (hold c (Leading lead) mine ∷ []) (at ∙ ap some mid)).0 in
+          let ends = fit.4.2 in
+          let parts : r.line ≡ (ends.0 ++ pre) ++ x ∷ post = ends.1 ∙ (ap (λ l. ends.0 ++ l) is_walk ∙ sym (middle ends.0 pre x post)) in
+          ap (λ (j : ℕ). get_or s.words j 0) is_word ∙ links_at s.words (ends.0 ++ pre) x post (subst (Links s.words) parts (subst (λ b. LinksFrom b s.words r.line) (ap base_of fit.4.0) r.links)),
+    ),
+  )
+
+  pub fetches : (slots id : ℕ) (me : Sat Q P L M) (c k : ℕ) (lead : Lead Q P) (mine : List (Q × P)) (pre : List (Entry Q)) (x : Entry Q) → At c (Leading lead) mine me → lead.walk ≡ pre ++ x ∷ in_hand lead → k ≡ older_at x.by
+      → Allows (Listed stands n) slots id me k (λ y. y) (fetched (step slots k 0 0 none) me)
+  fetches slots id me c k lead mine pre x mid is_walk is_word s r long at fits =
+      let h : Hold Q P = hold c (Leading lead) mine in
+      let at' : get_elem? s.views id ≡ some (h ∷ []) = at ∙ ap some mid in
+      let fit = (r.seats id (h ∷ []) at').0 in
+      let f = leader s r c lead fit.1 fit.2 fit.4 in
+      let H : List (Entry Q) = in_hand lead in
+      let ends = fit.4.2 in
+      let q : List (Entry Q) = ends.0 ++ pre in
+      let parts : r.line ≡ q ++ x ∷ H = ends.1 ∙ (ap (λ l. ends.0 ++ l) is_walk ∙ sym (middle ends.0 pre x H)) in
+      let is_queue : f.queue ≡ q ++ x ∷ [] = append_cancel_right f.queue (q ++ x ∷ []) H (sym f.parts ∙ (parts ∙ sym (snoc q x H))) in
+      let queued : AllLinked r.phase (q ++ x ∷ []) = subst (AllLinked r.phase) is_queue f.queued in
+      let now : r.phase x.by ≡ linked x = linked_at r.phase q x [] queued in
+      let range = within_at n q x H (subst (Within n) parts r.within) in
+      let lo : 0 < x.by = range.0 in
+      let hi : x.by ≤ n = range.1 in
+      let row = subst (InPhase stands s.words s.homes x.by (r.due x.by)) now (r.rows x.by lo hi) in
+      let apart : Absent x.by q = distinct_apart q x H (subst Distinct parts r.distinct) in
+      let led_c : r.mode ≡ built c lead.group = fit.4.0 in
+      let mine_now : r.phase c ≡ leads lead.own = fit.4.1 in
+      let other : c ≢ x.by = λ e. let bad : leads lead.own ≡ linked x = sym mine_now ∙ (ap r.phase e ∙ now) in absurd (cc) in
+      let ws : List ℕ = set s.words k (get_or s.words k 0) in
+      let hs = set s.homes x.by none in
+      let same : (j : ℕ) → get_or ws j 0 ≡ get_or s.words j 0 = λ j. ap (λ (l : List ℕ). get_or l j 0) (set-get_or s.words k 0) in
+      let ph : Phase Q P = taken c x in
+      let here : put r.phase x.by ph x.by ≡ ph = put_here r.phase x.by ph in
+      let h' : Hold Q P = hold c (Leading (taking lead x)) mine in
+      let no_taken : (l : ℕ) (e : Entry Q) → r.phase x.by ≡ taken l e → ⊥ = λ l e bad. absurd (cc) in
+      let m' : Sat Q P L M = (h' ∷ [], (x.by, Asked x.asked) ∷ me.1) in (
+        h' ∷ [],
+        takes x.by (Asked x.asked),
+        row.2,
+        moved stands n s r x.by id ws hs h h' r.line (x ∷ r.hand) r.handled (built c lead.group) ph r.due r.told r.two record {
+          at = at';
+          same_client = refl;
+          wide = length-set s.words k (get_or s.words k 0);
+          many = length-set s.homes x.by none;
+          newest_is = same 0 ∙ (r.newest_is ∙ ap (λ b. newest_from b r.line) f.base);
+          links = links_same 0 s.words ws r.line (λ j. same (older_at j)) (subst (λ b. LinksFrom b s.words r.line) f.base r.links);
+          distinct = r.distinct;
+          within = r.within;
+          stand = stand_change r.phase x.by ph r.line (λ e is_in. subst (InChain e) now is_in) r.stand;
+          other_rows = λ j ne lo' _. row_stays stands n s.words ws s.homes hs j (r.due j) (same (state_at j)) (same (older_at j)) (set_else s.homes x.by j none ne) (r.phase j);
+          row = (row.0, (λ e. let one : get_or s.words (state_at x.by) 0 ≡ 1 = row.1 in let e' = sym (same (state_at x.by)) ∙ e in absurd (omega arith)), (λ e. let one : get_or s.words (state_at x.by) 0 ≡ 1 = row.1 in let e' = sym (same (state_at x.by)) ∙ e in absurd (omega arith)));
+          log_is = (
+            (q, lead.own, parts ∙ (λ i. q ++ x ∷ (fit.4.4 i ++ lead.own ∷ [])), linked_absent r.phase x.by ph q apart (linked_front r.phase q (x ∷ []) queued), put_else r.phase x.by ph c other ∙ mine_now, f.own_by),
+            (here, row.3, taken_change r.phase r.due r.due x.by ph c r.hand (λ e bad. absurd (no_taken c e bad)) (λ _ _. refl) (subst (AllTaken r.phase r.due c) fit.4.4 f.members)),
+            f.own_due,
+          );
+          one_chosen = λ j e. put_at r.phase x.by ph (λ i g. g ≡ chosen e → Path (Mode Q) (built c lead.group) (waits i)) j (λ _ bad. absurd (cc)) (λ _ ok. sym led_c ∙ r.one_chosen j e ok);
+          kept = r.kept;
+          coded = λ e is. r.coded x.by e (subst (InChain e) (sym now) is);
+          account = subst (Account r.line r.handled) led_c r.account;
+          second = second_same stands n s.words ws s.homes hs r.phase x.by ph r.mode (built c lead.group) (stands.last r.handled) (stands.last r.handled) r.two (inr (λ there. subst (InSecond r.two.place x.by) now there)) (λ j _. same j) (set_else s.homes x.by (n + 1) none (λ e. omega arith)) (λ k h. inr (ap r.two.place (sym h) ∙ fit.5.0)) (λ k h. inl (subst (Holds k) (sym led_c) h)) (λ k _ h. subst (Holds k) led_c h) (λ v. v) r.second;
+          back = fit.5;
+          else_back = λ _ _ _ ok. ok;
+          shared_out = r.shared_out;
+          told_else = λ _ _. refl;
+          mine = fit.3;
+          knows = (refl, put_else r.phase x.by ph c other ∙ mine_now, ends, fit.4.3, ap (λ l. x ∷ l) fit.4.4);
+          others = λ j ne. dite (ℕ_discrete j x.by)
+              (λ e. subst (λ (i : ℕ). (st : Stage Q P) → Knows r.line r.hand r.handled r.mode r.phase r.due i st → Knows r.line (x ∷ r.hand) r.handled (built c lead.group) (put r.phase x.by ph) r.due i st) (sym e)
+              (still_waits r.line r.line r.hand (x ∷ r.hand) r.handled r.handled r.mode (built c lead.group) r.phase (put r.phase x.by ph) r.due r.due x.by (linked x) now tt (λ u is. subst (Waits u) (sym here) is)))
+              (λ away. knows_stays stands n r.line r.line r.hand (x ∷ r.hand) r.handled r.handled r.mode (built c lead.group) r.phase (put r.phase x.by ph) r.due r.due j (put_else r.phase x.by ph j away)
+              (λ h. absurd (ne (sym (subst (Holds j) led_c h))))
+              (λ e y is_taken owed. (put_at r.phase x.by ph (λ i g. r.phase i ≡ taken j e → g ≡ taken j e) e.by (λ is t. absurd (no_taken j e (ap r.phase (sym is) ∙ t))) (λ _ t. t) is_taken, owed))
+              (λ e y _ owed. owed));
+        },
+        λ c' lead' mine' pre' x' mid' is_walk' is_word'.
+            let e = one_hold c c' (Leading lead) (Leading lead') mine mine' me.0 mid mid' in
+            let le : lead ≡ lead' = one_lead lead lead' e.1 in
+            let two : pre ++ x ∷ H ≡ pre' ++ x' ∷ H = sym is_walk ∙ (ap (λ (l : Lead Q P). l.walk) le ∙ (is_walk' ∙ ap (λ (l : Lead Q P). pre' ++ x' ∷ in_hand l) (sym le))) in
+            let same_x : x ≡ x' = same_last pre pre' x x' (append_cancel_right (pre ++ x ∷ []) (pre' ++ x' ∷ []) H (snoc pre x H ∙ (two ∙ sym (snoc pre' x' H)))) in
+            ((λ i. hold (e.0 i) (Leading (taking (le i) (same_x i))) (e.2 i) ∷ []), (λ i. ((same_x i).by, Asked (same_x i).asked) ∷ me.1)),
+      )
+
+abbrev pub told_in : {Q P L M : Type 0} → P → Content Q P L M → P
+told_in d Empty = d
+told_in d (Asked q) = d
+told_in d (Told p) = p
+told_in d (Log l) = d
+told_in d (Right r) = d
+
+abbrev pub told_at : {Q P L M : Type 0} → P → List (ℕ × Content Q P L M) → P
+told_at d [] = d
+told_at d (x ∷ xs) = told_in d x.1
+
+abbrev pub first_or : {A : Type 0} → A → List A → A
+first_or d [] = d
+first_or d (x ∷ xs) = x
+
+abbrev pub others_of : {A : Type 0} → List A → List A
+others_of [] = []
+others_of (x ∷ xs) = xs
+
+-- the replies are those in the slots
+pub same_group : {Q P L M : Type 0} (c c' : ℕ) (p p' : P) (gs gs' : List (Entry Q × P)) (t t' : List (ℕ × Content Q P L M)) → heads gs ≡ heads gs' → Path (List (ℕ × Content Q P L M)) (slots_of gs ((c, Told p) ∷ t)) (slots_of gs' ((c', Told p') ∷ t')) → (gs ≡ gs') × (p ≡ p')
+same_group {Q} {P} {L} {M} c c' p p' [] [] t t' hd e = (refl, ap (told_at {Q = Q} {L = L} {M = M} p) e)
+same_group c c' p p' [] (g ∷ gs) t t' hd e = absurd (cc)
+same_group c c' p p' (g ∷ gs) [] t t' hd e = absurd (cc)
+same_group {Q} {P} {L} {M} c c' p p' (g ∷ gs) (h ∷ hs) t t' hd e =
+    let r = same_group c c' p p' gs hs t t' (ap others_of hd) (ap others_of e) in
+    let a : g.0 ≡ h.0 = ap (first_or g.0) hd in
+    let b : g.1 ≡ h.1 = ap (told_at {Q = Q} {L = L} {M = M} g.1) e in
+    ((λ i. (a i, b i) ∷ r.0 i), r.1)
+
+module _ {Q P L M : Type 0} (stands : Laws Q P L M) (n : ℕ) where
+  -- a row whose due grows, which is nobody's in the group
+  pub row_due : (ws : List ℕ) (hs : List (Option (Content Q P L M))) (k : ℕ) (d d' : List (Q × P)) (ph : Phase Q P) → (((c : ℕ) (e : Entry Q) → ph ≡ taken c e → ⊥) → ((e : Entry Q) → ph ≡ leads e → ⊥) → d' ≡ d) → InPhase stands ws hs k d ph → InPhase stands ws hs k d' ph
+  row_due ws hs k d d' idle to ok = (ok.0, to (λ c e b. absurd (cc)) (λ e b. absurd (cc)) ∙ ok.1)
+  row_due ws hs k d d' (preparing w) to ok = (ok.0, ok.1, to (λ c e b. absurd (cc)) (λ e b. absurd (cc)) ∙ ok.2)
+  row_due ws hs k d d' (linked f) to ok = (ok.0, ok.1, ok.2, to (λ c e b. absurd (cc)) (λ e b. absurd (cc)) ∙ ok.3)
+  row_due ws hs k d d' (chosen f) to ok = (ok.0, ok.1, ok.2, to (λ c e b. absurd (cc)) (λ e b. absurd (cc)) ∙ ok.3)
+  row_due ws hs k d d' (leads f) to ok = ok
+  row_due ws hs k d d' (taken l f) to ok = ok
+  row_due ws hs k d d' (completed q p) to ok = (ok.0, ok.1, to (λ c e b. absurd (cc)) (λ e b. absurd (cc)) ∙ ok.2)
+  row_due ws hs k d d' collecting to ok = to (λ c e b. absurd (cc)) (λ e b. absurd (cc)) ∙ ok
+
+  -- what follows where the leader c has handled its group
+  module _ (s : St stands n) (r : Listed stands n s) (c : ℕ) (o : Entry Q) (gs : List (Entry Q × P)) (p : P) (by_c : o.by ≡ c) (now : r.phase c ≡ leads o) (members : AllTaken r.phase r.due c (heads gs)) (own_due : r.due c ≡ []) (apart : Distinct (heads gs)) where
+    abbrev pub new : List (Handling Q P)
+    new = all_answers o p gs
+
+    abbrev pub due' : ℕ → List (Q × P)
+    due' k = r.due k ++ of k new
+
+    pub group_out : (k : ℕ) → ((e : Entry Q) → r.phase k ≡ taken c e → r.due k ≡ [] → ⊥) → Absent k (heads gs)
+    group_out k un = taken_absent r.phase r.due c k (heads gs) un members
+
+    pub due_same : (k : ℕ) → k ≢ c → ((e : Entry Q) → r.phase k ≡ taken c e → r.due k ≡ [] → ⊥) → due' k ≡ r.due k
+    due_same k ne un = ap (λ l. r.due k ++ l) (new_none k o p gs (λ e. ne (sym e ∙ by_c)) (group_out k un)) ∙ append-nil (r.due k)
+
+    pub shared_more : (k : ℕ) → of k (r.handled ++ new) ≡ r.told k ++ due' k
+    shared_more k = of-append k r.handled new ∙ (ap (λ l. l ++ of k new) (r.shared_out k) ∙ append_assoc (r.told k) (r.due k) (of k new))
+
+    pub own_out : Absent o.by (heads gs)
+    own_out = group_out o.by (λ e bad _. let is : r.phase o.by ≡ leads o = ap r.phase by_c ∙ now in absurd (cc))
+
+    pub own_owed : due' c ≡ (o.asked, p) ∷ []
+    own_owed = (λ i. own_due i ++ of (sym by_c i) new) ∙ new_own o p gs own_out
+
+    pub all_owed : AllOwed r.phase due' c gs
+    all_owed = owed_change r.phase r.phase (λ k. r.due k ++ of k ((handling o p ∷ [] ++ answers gs) ++ [])) due' c gs (λ e x here owed. (here, ap (λ l. r.due e.by ++ of e.by l) (sym (append-nil new)) ∙ owed))
+        (owes r.phase r.due c gs (handling o p ∷ []) [] apart (λ k there. (of_other k (handling o p) [] (λ e. there (subst (λ j. Absent j (heads gs)) e own_out)), refl)) members)
+
+    -- what another client knows of its own stays
+    pub else_owed : (j : ℕ) → j ≢ c → (e : Entry Q) (x : Q × P) → r.phase e.by ≡ taken j e → r.due e.by ≡ x ∷ [] → due' e.by ≡ x ∷ []
+    else_owed j ne e x here owed = due_same e.by (λ is. let bad : r.phase e.by ≡ leads o = ap r.phase is ∙ now in absurd (cc)) (λ f _ none_due. absurd (cc)) ∙ owed
+
+    pub else_due : (j : ℕ) → j ≢ c → (e : Entry Q) (x : Q × P) → r.phase j ≡ leads e → r.due j ≡ x ∷ [] → due' j ≡ x ∷ []
+    else_due j ne e x here owed = due_same j ne (λ f bad _. absurd (cc)) ∙ owed
+
+    pub else_row : (ws : List ℕ) (hs : List (Option (Content Q P L M))) (k : ℕ) → k ≢ c → InPhase stands ws hs k (r.due k) (r.phase k) → InPhase stands ws hs k (due' k) (r.phase k)
+    else_row ws hs k ne ok = row_due ws hs k (r.due k) (due' k) (r.phase k) (λ no _. due_same k ne (λ e bad _. no c e bad)) ok
+
+  module _ (slots id : ℕ) (me : Sat Q P L M) (c old : ℕ) (lead : Lead Q P) (mine : List (Q × P)) (gs : List (Entry Q × P)) (p : P) (l : L) (said : Option (Content Q P L M)) (mid : At c (Leading lead) mine me) (group : heads gs ≡ lead.taken)
+      (slot : me.1 ≡ (0, Log l) ∷ slots_of gs ((c, Told p) ∷ [])) (is_old : old ≡ newest (in_hand lead)) (all : lead.taken ≡ lead.group) (stood : stands.logs l (lead.seen ++ all_answers lead.own p gs)) (unnumbered : stands.piped ≡ true → stands.last (lead.seen ++ all_answers lead.own p gs) ≡ stands.last lead.seen)
+      (s : St stands n) (r : Listed stands n s) (at : get_elem? s.views id ≡ some me.0) (hit : get_or s.words 0 0 ≡ old) where
+    leaves_last : Goes stands n s 0 id me (left (step slots 0 old 0 said) me) 0
+    leaves_last =
+        let h : Hold Q P = hold c (Leading lead) mine in
+        let at' : get_elem? s.views id ≡ some (h ∷ []) = at ∙ ap some mid in
+        let fit = (r.seats id (h ∷ []) at').0 in
+        let f = leader stands n s r c lead fit.1 fit.2 fit.4 in
+        let lo : 0 < c = fit.1 in
+        let led_c : r.mode ≡ built c lead.group = fit.4.0 in
+        let now : r.phase c ≡ leads lead.own = fit.4.1 in
+        let wide : length s.words ≡ 2 * n + 4 = r.wide in
+        let many : length s.homes ≡ n + 2 = r.many in
+        let whole : Distinct (f.queue ++ in_hand lead) = subst Distinct f.parts r.distinct in
+        let none_newer : f.queue ≡ [] = none_before_group f.queue lead.taken lead.own whole ((λ i. newest_from (sym f.base i) (sym f.parts i)) ∙ (sym r.newest_is ∙ (hit ∙ is_old))) in
+        let members : AllTaken r.phase r.due c (heads gs) = subst (AllTaken r.phase r.due c) (sym group) f.members in
+        let apart : Distinct (heads gs) = subst Distinct (sym group) (distinct_front lead.taken (lead.own ∷ []) (distinct_back f.queue (in_hand lead) whole)) in
+        let ws : List ℕ = set s.words 0 0 in
+        let hs = set s.homes 0 (some (Log l)) in
+        let d : Debt Q P = debt gs lead.own p in
+        let h' : Hold Q P = hold c (Settling d) mine in
+        let same : (j : ℕ) → j ≢ 0 → get_or ws j 0 ≡ get_or s.words j 0 = λ j ne. get_or-set_other s.words 0 j 0 0 (λ e. ne (omega arith)) in
+        let ph : Phase Q P = leads lead.own in
+        let phase' : ℕ → Phase Q P = put r.phase c ph in
+        let here : phase' c ≡ ph = put_here r.phase c ph in
+        let more : List (Handling Q P) = all_answers lead.own p gs in
+        let owe : ℕ → List (Q × P) = λ k. r.due k ++ of k more in
+        let moved_to : Listed stands n (record { words = ws; homes = hs; views = set s.views id (h' ∷ []) }) =
+        moved stands n s r c id ws hs h h' [] [] (r.handled ++ more) open_ ph owe r.told r.two record {
+          at = at';
+          same_client = refl;
+          wide = length-set s.words 0 0;
+          many = length-set s.homes 0 (some (Log l));
+          newest_is = get_or-set_same s.words 0 0 0 (omega arith);
+          links = tt;
+          distinct = tt;
+          within = tt;
+          stand = tt;
+          other_rows = λ j ne lo' _ ok. row_stays stands n s.words ws s.homes hs j (owe j) (same (state_at j) (λ e. omega arith)) (same (older_at j) (λ e. omega arith)) (set_else s.homes 0 j (some (Log l)) (λ e. omega arith)) (r.phase j)
+              (else_row s r c lead.own gs p f.own_by now members f.own_due apart s.words s.homes j ne ok);
+          row = f.own_by;
+          log_is = (refl, refl, (l, set_here s.homes 0 (some (Log l)) (omega arith), subst (λ z. stands.logs l (z ++ more)) fit.4.3 stood));
+          one_chosen = λ j e. put_at r.phase c ph (λ i g. g ≡ chosen e → Path (Mode Q) (open_) (waits i)) j (λ _ bad. absurd (cc)) (λ _ ok. let was : r.mode ≡ waits j = r.one_chosen j e ok in absurd (cc));
+          kept = stands.keeps l (r.handled ++ more) (subst (λ z. stands.logs l (z ++ more)) fit.4.3 stood);
+          coded = λ e is. r.coded c e (subst (InChain e) (sym now) is);
+          account = leaves_now r.line r.handled c lead.group lead.own more (f.parts ∙ (λ i. none_newer i ++ (all i ++ lead.own ∷ []))) (subst (Account r.line r.handled) led_c r.account);
+          second = second_same stands n s.words ws s.homes hs r.phase c ph r.mode open_ (stands.last r.handled) (stands.last (r.handled ++ more)) r.two (inl now) same (set_else s.homes 0 (n + 1) (some (Log l)) (λ e. omega arith)) (λ k h. absurd h) (λ k h. absurd h) (λ k is h. absurd (fit.5.1 (is ∙ ap ahead (sym (subst (Holds k) led_c h))))) (level_same stands n stands.piped r.two (stands.last r.handled) (stands.last (r.handled ++ more)) (subst (λ (z : List (Handling Q P)). stands.piped ≡ true → stands.last (z ++ more) ≡ stands.last z) fit.4.3 unnumbered)) r.second;
+          back = fit.5;
+          else_back = λ _ _ _ ok. ok;
+          shared_out = shared_more s r c lead.own gs p f.own_by now members f.own_due apart;
+          told_else = λ _ _. refl;
+          mine = fit.3;
+          knows = (
+            owed_change r.phase phase' owe owe c gs (λ e x is owed. (put_at r.phase c ph (λ i g. r.phase i ≡ taken c e → g ≡ taken c e) e.by (λ w t. let bad : r.phase e.by ≡ leads lead.own = ap r.phase w ∙ now in absurd (cc)) (λ _ t. t) is, owed))
+                (all_owed s r c lead.own gs p f.own_by now members f.own_due apart),
+            here,
+            own_owed s r c lead.own gs p f.own_by now members f.own_due apart,
+            apart,
+          );
+          others = λ j ne. knows_stays stands n r.line [] r.hand [] r.handled (r.handled ++ more) r.mode open_ r.phase phase' r.due owe j (put_else r.phase c ph j ne)
+              (λ h. absurd (ne (sym (subst (Holds j) led_c h))))
+              (λ e x is owed. (put_at r.phase c ph (λ i g. r.phase i ≡ taken j e → g ≡ taken j e) e.by (λ w t. let bad : r.phase e.by ≡ leads lead.own = ap r.phase w ∙ now in absurd (cc)) (λ _ t. t) is, else_owed s r c lead.own gs p f.own_by now members f.own_due apart j ne e x is owed))
+              (λ e x is owed. else_due s r c lead.own gs p f.own_by now members f.own_due apart j ne e x is owed);
+        } in (
+          h' ∷ [],
+          gives,
+          tt,
+          subst (λ (t : List (ℕ × Content Q P L M)). Listed stands n (stepped s 0 0 id t (h' ∷ []) gives)) (sym slot) moved_to,
+          λ c' lead' mine' gs' p' l' mid' group' slot'.
+              let e = one_hold c c' (Leading lead) (Leading lead') mine mine' me.0 mid mid' in
+              let le : lead ≡ lead' = one_lead lead lead' e.1 in
+              let t = same_group c c' p p' gs gs' [] [] (group ∙ (ap (λ (z : Lead Q P). z.taken) le ∙ sym group')) (ap others_of (sym slot ∙ slot')) in (
+                (λ _. ((λ i. hold (e.0 i) (Settling (debt (t.0 i) (le i).own (t.1 i))) (e.2 i) ∷ []), ap (λ z. carried_after z gives) slot')),
+                λ miss. absurd (miss hit),
+              ),
+        )
+
+  pub leaves : (slots id : ℕ) (me : Sat Q P L M) (c old : ℕ) (lead : Lead Q P) (mine : List (Q × P)) (gs : List (Entry Q × P)) (p : P) (l : L) (said : Option (Content Q P L M)) → At c (Leading lead) mine me → heads gs ≡ lead.taken
+      → me.1 ≡ (0, Log l) ∷ slots_of gs ((c, Told p) ∷ []) → old ≡ newest (in_hand lead) → lead.taken ≡ lead.group → stands.logs l (lead.seen ++ all_answers lead.own p gs) → (stands.piped ≡ true → stands.last (lead.seen ++ all_answers lead.own p gs) ≡ stands.last lead.seen)
+      → Allows (Listed stands n) slots id me 0 (λ y. either (eqb y old) 0 y) (left (step slots 0 old 0 said) me)
+  leaves slots id me c old lead mine gs p l said mid group slot is_old all stood unnumbered s r long at fits = exchanged (get_or s.words 0 0) old 0 (Goes stands n s 0 id me (left (step slots 0 old 0 said) me))
+      (λ hit. leaves_last slots id me c old lead mine gs p l said mid group slot is_old all stood unnumbered s r at hit)
+      (λ miss.
+      let t = walks_now stands n slots id me c lead mine mid s r at long in (
+        t.0,
+        keeps,
+        tt,
+        t.1,
+        λ c' lead' mine' gs' p' l' mid' group' slot'. let e = one_hold c c' (Leading lead) (Leading lead') mine mine' me.0 mid mid' in (
+          (λ hit. absurd (miss hit)),
+          λ _. subst (λ (z : ℕ × Lead Q P × List (Q × P)). Walks slots z.0 z.1 z.2 (get_or s.words 0 0) me (t.0, me.1)) (λ i. (e.0 i, one_lead lead lead' e.1 i, e.2 i)) t.2,
+        ),
+      ))

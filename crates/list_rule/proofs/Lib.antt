@@ -1,0 +1,16 @@
+pub mod Chains
+pub mod Keeps
+pub mod Moves
+pub mod Accounts
+pub mod Enters
+pub mod Groups
+pub mod Fitting
+pub mod Leads
+pub mod Seconds
+pub mod Onward
+pub mod Passes
+pub mod Settles
+pub mod Marks
+pub mod Opens
+pub mod Holding
+pub mod CoreLaws

@@ -1,0 +1,7 @@
+pub mod Chain
+pub mod Grouping
+pub mod Events
+pub mod Rule
+pub mod Plays
+pub mod Between
+pub mod CoreEvents

@@ -1,0 +1,422 @@
+-- The rule of the list.
+-- Word 0 is the newest writer of the first list, and word 1 that of the second. Client i has word 2 i + 2, its state, and word 2 i + 3, its link. Slot 0 is the log's, slot i is client i's, and the last one is the right's.
+use Rattle.std.specs.Prelude.{Bool, true, false, ◌≡◌, ◌≢◌, ℕ, zero, suc, ◌+◌, ◌*◌, ◌-◌, ◌==◌, cond, ◌<◌, ◌≤◌, ◌⊎◌, List, [], ◌∷◌, ◌++◌, length, slice_index}
+use Rattle.std.specs.Prelude.{Option as Picked, None, Some}
+use mathlib.Core.Option.{Option, some}
+use lib.ListN.{get_elem?}
+use Rattle.atomic_table.specs.Table.{State}
+use Rattle.wp_model.specs.declared.group.Item.{Item}
+use Rattle.list_rule.specs.declared.content.Start.{Start}
+use Rattle.list_rule.specs.declared.view.Entry.{Entry}
+use Rattle.list_rule.specs.Grouping.{code_by}
+use Rattle.list_rule.specs.declared.view.Handling.{Handling}
+use Rattle.list_rule.specs.declared.view.Hold.{Hold}
+use Rattle.list_rule.specs.declared.view.Squad.{Squad}
+use Rattle.list_rule.specs.declared.view.Back.{Back}
+use Rattle.list_rule.specs.declared.view.Back.TheVariants.{Away, Parting, Joining, Holding, Queued, Serving, Passing}
+use Rattle.list_rule.specs.declared.content.Content.{Content}
+use Rattle.list_rule.specs.declared.content.Content.TheVariants.{Empty, Asked, Told, Log, Right}
+use Rattle.list_rule.specs.declared.view.Stage.{Stage}
+use Rattle.list_rule.specs.declared.view.Stage.TheVariants.{Idle, Preparing, Waiting, Fresh, Leading, Cutting, Marking, Settling, Collecting}
+use Rattle.list_rule.specs.Events.{Event, Held, free, elected, grouped, core_of, Legal}
+use Rattle.list_rule.specs.Chain.{state_at, older_at, newest, newest_from, Links, LinksFrom, Distinct, Within, EndsWith, of, heads}
+
+-- where a client stands
+pub data Phase (Q P : Type 0) : Type 0 where
+  idle : Phase Q P
+  preparing : ℕ → Phase Q P
+  linked : Entry Q → Phase Q P
+  chosen : Entry Q → Phase Q P
+  leads : Entry Q → Phase Q P
+  taken : ℕ → Entry Q → Phase Q P
+  completed : Q → P → Phase Q P
+  collecting : Phase Q P
+
+-- where the log is: at home with nobody in the list, at home for the oldest writer, out with a leader in the list, or with one that has cut its group off and has yet to wake the oldest writer
+pub data Mode (Q : Type 0) : Type 0 where
+  open_ : Mode Q
+  waits : ℕ → Mode Q
+  led : ℕ → Mode Q
+  built : ℕ → List (Entry Q) → Mode Q
+  cut : ℕ → ℕ → Mode Q
+  marked : ℕ → Mode Q
+
+-- where the walk ends: at nobody, or at the marker
+abbrev pub base_of : {Q : Type 0} → Mode Q → ℕ
+base_of open_ = 0
+base_of (waits c) = 0
+base_of (led c) = 0
+base_of (built c g) = 0
+base_of (cut c w) = 0
+base_of (marked c) = 255
+
+-- the client has the log
+abbrev pub Holds : {Q : Type 0} → ℕ → Mode Q → Type 0
+Holds k open_ = ⊥
+Holds k (waits c) = ⊥
+Holds k (led c) = c ≡ k
+Holds k (built c g) = c ≡ k
+Holds k (cut c w) = c ≡ k
+Holds k (marked c) = c ≡ k
+
+-- the client has the log, and its own entry is still in the list
+abbrev pub InFront : {Q : Type 0} → ℕ → Mode Q → Type 0
+InFront k open_ = ⊥
+InFront k (waits c) = ⊥
+InFront k (led c) = c ≡ k
+InFront k (built c g) = c ≡ k
+InFront k (cut c w) = ⊥
+InFront k (marked c) = ⊥
+
+-- where the group of a leader stands: in no list but the first, cut off from that one with this end of its links, behind others in the second, first there and told so, or first with the right
+pub data Place (Q : Type 0) : Type 0 where
+  away : Place Q
+  parted : Squad Q → ℕ → Place Q
+  queued : Squad Q → Place Q
+  called : Squad Q → Place Q
+  serves : Squad Q → Place Q
+
+-- where the right is: at home with no group, at home for the first group, out with its leader, or with one that has cut its group off and has yet to wake the next
+pub data Turn : Type 0 where
+  still : Turn
+  calls : ℕ → Turn
+  held_by : ℕ → Turn
+  passes : ℕ → ℕ → Turn
+
+-- whether the newest group of the second list is that of a client that still has the log
+pub data Lead2 : Type 0 where
+  level : Lead2
+  ahead : ℕ → Lead2
+
+-- the second list: its groups, newest first, and the right's number
+pub record Two (Q : Type 0) : Type 0 where
+  pub groups : List (Squad Q)
+  pub place : ℕ → Place Q
+  pub turn : Turn
+  pub lead : Lead2
+  pub done : ℕ
+
+module _ {Q : Type 0} where
+  abbrev pub line_of : Squad Q → List (Entry Q)
+  line_of g = g.rest ++ g.own ∷ []
+
+  -- the walk from the newest group
+  abbrev pub flat : List (Squad Q) → List (Entry Q)
+  flat [] = []
+  flat (g ∷ gs) = line_of g ++ flat gs
+
+  -- the group is the one in the second list that the place names
+  abbrev pub In : Squad Q → Place Q → Type 0
+  In g away = ⊥
+  In g (parted f b) = ⊥
+  In g (queued f) = f ≡ g
+  In g (called f) = f ≡ g
+  In g (serves f) = f ≡ g
+
+  -- and has not the right
+  abbrev pub Behind : Squad Q → Place Q → Type 0
+  Behind g away = ⊥
+  Behind g (parted f b) = ⊥
+  Behind g (queued f) = f ≡ g
+  Behind g (called f) = f ≡ g
+  Behind g (serves f) = ⊥
+
+  -- not yet in the second list, or not any more
+  abbrev pub Apart : Place Q → Type 0
+  Apart away = Unit {0}
+  Apart (parted g b) = Unit {0}
+  Apart (queued f) = ⊥
+  Apart (called f) = ⊥
+  Apart (serves f) = ⊥
+
+  -- each group begins with the number at which the older one ends, the oldest with the right's, and the newest one ends with this one
+  abbrev pub Chained : ℕ → List (Squad Q) → ℕ → Type 0
+  Chained done [] last = done ≡ last
+  Chained done (g ∷ gs) last = (g.to ≡ last) × Chained done gs g.from
+
+  abbrev pub InStep : ℕ → List (Squad Q) → ℕ → Lead2 → Type 0
+  InStep done groups last level = Chained done groups last
+  InStep done groups last (ahead c) = (g : Squad Q) × (gs : List (Squad Q)) × (groups ≡ g ∷ gs) × (g.from ≡ last) × (g.own.by ≡ c) × Chained done gs last
+
+  -- what a client knows of its group in the second list
+  abbrev pub KnowsBack : Two Q → ℕ → Back Q → Type 0
+  KnowsBack two c Away = (two.place c ≡ away) × (two.lead ≢ ahead c)
+  KnowsBack two c (Parting g b) = (two.place c ≡ parted g b) × (two.lead ≢ ahead c)
+  KnowsBack two c (Joining g) = Behind g (two.place c) × (two.lead ≡ ahead c)
+  KnowsBack two c (Holding g) = (two.turn ≡ held_by c) × (two.place c ≡ serves g) × (two.lead ≡ ahead c)
+  KnowsBack two c (Queued g) = Behind g (two.place c) × (two.lead ≢ ahead c)
+  KnowsBack two c (Serving g walk) = (two.turn ≡ held_by c) × (two.place c ≡ serves g) × (two.lead ≢ ahead c) × EndsWith (flat two.groups) walk
+  KnowsBack two c (Passing g x) = (two.turn ≡ passes c x.by) × (two.place c ≡ away) × (two.lead ≢ ahead c) × (two.done ≡ g.to)
+
+module _ {Q P : Type 0} where
+  -- the writer e stands in the list
+  abbrev pub InChain : Entry Q → Phase Q P → Type 0
+  InChain e idle = ⊥
+  InChain e (preparing w) = ⊥
+  InChain e (linked f) = f ≡ e
+  InChain e (chosen f) = f ≡ e
+  InChain e (leads f) = f ≡ e
+  InChain e (taken c f) = f ≡ e
+  InChain e (completed q p) = ⊥
+  InChain e collecting = ⊥
+
+  abbrev pub Stand : (ℕ → Phase Q P) → List (Entry Q) → Type 0
+  Stand phase [] = Unit {0}
+  Stand phase (e ∷ es) = InChain e (phase e.by) × Stand phase es
+
+  -- the client's entry is one of a group that has left the first list for the second
+  abbrev pub InSecond : (ℕ → Place Q) → ℕ → Phase Q P → Type 0
+  InSecond place k idle = ⊥
+  InSecond place k (preparing w) = ⊥
+  InSecond place k (linked e) = ⊥
+  InSecond place k (chosen e) = ⊥
+  InSecond place k (leads e) = place k ≢ away
+  InSecond place k (taken c e) = place c ≢ away
+  InSecond place k (completed q p) = ⊥
+  InSecond place k collecting = ⊥
+
+  abbrev pub AllWith : (ℕ → Phase Q P) → ℕ → List (Entry Q) → Type 0
+  AllWith phase c [] = Unit {0}
+  AllWith phase c (e ∷ es) = (phase e.by ≡ taken c e) × AllWith phase c es
+
+  -- each group's members are its leader's
+  abbrev pub AllGroups : (ℕ → Phase Q P) → (ℕ → Place Q) → List (Squad Q) → Type 0
+  AllGroups phase place [] = Unit {0}
+  AllGroups phase place (g ∷ gs) = (phase g.own.by ≡ leads g.own) × In g (place g.own.by) × AllWith phase g.own.by g.rest × AllGroups phase place gs
+
+  -- the client has put q, and has not had the reply
+  abbrev pub Waits : Q → Phase Q P → Type 0
+  Waits q idle = ⊥
+  Waits q (preparing w) = ⊥
+  Waits q (linked e) = e.asked ≡ q
+  Waits q (chosen e) = e.asked ≡ q
+  Waits q (leads e) = ⊥
+  Waits q (taken c e) = e.asked ≡ q
+  Waits q (completed r p) = r ≡ q
+  Waits q collecting = ⊥
+
+  abbrev pub AllLinked : (ℕ → Phase Q P) → List (Entry Q) → Type 0
+  AllLinked phase [] = Unit {0}
+  AllLinked phase (e ∷ es) = (phase e.by ≡ linked e) × AllLinked phase es
+
+  -- the leader c has their requests, and has handled none of them
+  abbrev pub AllTaken : (ℕ → Phase Q P) → (ℕ → List (Q × P)) → ℕ → List (Entry Q) → Type 0
+  AllTaken phase due c [] = Unit {0}
+  AllTaken phase due c (e ∷ es) = (phase e.by ≡ taken c e) × (due e.by ≡ []) × AllTaken phase due c es
+
+  -- their requests are handled by c, and they haven't been told
+  abbrev pub AllOwed : (ℕ → Phase Q P) → (ℕ → List (Q × P)) → ℕ → List (Entry Q × P) → Type 0
+  AllOwed phase due c [] = Unit {0}
+  AllOwed phase due c (g ∷ gs) = (phase g.0.by ≡ taken c g.0) × (due g.0.by ≡ (g.0.asked, g.1) ∷ []) × AllOwed phase due c gs
+
+  module _ (line hand : List (Entry Q)) (handled : List (Handling Q P)) (mode : Mode Q) (phase : ℕ → Phase Q P) (due : ℕ → List (Q × P)) (c : ℕ) where
+    abbrev pub Knows : Stage Q P → Type 0
+    Knows Idle = phase c ≡ idle
+    Knows (Preparing w) = phase c ≡ preparing w
+    Knows (Waiting q) = Waits q (phase c)
+    Knows (Fresh own seen) = (mode ≡ led c) × (phase c ≡ leads own) × (seen ≡ handled)
+    Knows (Leading lead) = (mode ≡ built c lead.group) × (phase c ≡ leads lead.own) × EndsWith line lead.walk × (lead.seen ≡ handled) × (lead.taken ≡ hand)
+    Knows (Cutting lead e) = (mode ≡ cut c e.by) × (phase c ≡ leads lead.own) × (phase e.by ≡ linked e) × (lead.seen ≡ handled) × (lead.taken ≡ hand)
+    Knows (Marking lead) = (mode ≡ marked c) × (phase c ≡ leads lead.own) × EndsWith line lead.walk × (lead.seen ≡ handled) × (lead.taken ≡ hand)
+    Knows (Settling debt) = AllOwed phase due c debt.rest × (phase c ≡ leads debt.own) × (due c ≡ (debt.own.asked, debt.reply) ∷ []) × Distinct (heads debt.rest)
+    Knows Collecting = phase c ≡ collecting
+
+  module _ (n : ℕ) (line hand : List (Entry Q)) (handled : List (Handling Q P)) (mode : Mode Q) (phase : ℕ → Phase Q P) (due told : ℕ → List (Q × P)) (two : Two Q) (seat : ℕ → ℕ) (j : ℕ) where
+    abbrev pub Fits : Hold Q P → Type 0
+    Fits h = (seat h.client ≡ j) × (0 < h.client) × (h.client ≤ n) × (h.mine ≡ told h.client) × Knows line hand handled mode phase due h.client h.stage × KnowsBack two h.client h.back
+
+    abbrev pub AllFit : List (Hold Q P) → Type 0
+    AllFit [] = Unit {0}
+    AllFit (h ∷ hs) = Fits h × AllFit hs
+
+  -- the holds of n clients that have done nothing
+  abbrev pub hold : ℕ → Stage Q P → List (Q × P) → Hold Q P
+  hold c st m = record { client = c; stage = st; mine = m; back = Away }
+
+  abbrev pub hold_at : ℕ → Stage Q P → List (Q × P) → Back Q → Hold Q P
+  hold_at c st m b = record { client = c; stage = st; mine = m; back = b }
+
+  abbrev pub newcomers : ℕ → List (Hold Q P)
+  newcomers zero = []
+  newcomers (suc n) = hold (suc n) Idle [] ∷ newcomers n
+
+-- some legal events led here, and what the words show is the state after them
+module _ {Q : Type 0} (line queue : List (Entry Q)) (log : Held Q) where
+  abbrev pub Shows : Mode Q → Type 0
+  Shows open_ = (line ≡ queue) × (log ≡ free)
+  Shows (waits c) = (line ≡ queue) × (log ≡ free)
+  Shows (led c) = (line ≡ queue) × (log ≡ elected c)
+  Shows (built c g) = (x : (own : Entry Q) × (line ≡ queue ++ (g ++ own ∷ []))) × (log ≡ grouped x.0 g)
+  Shows (cut c w) = (line ≡ queue) × ((own : Entry Q) × (g : List (Entry Q)) × (log ≡ grouped own g))
+  Shows (marked c) = (line ≡ queue) × ((own : Entry Q) × (g : List (Entry Q)) × (log ≡ grouped own g))
+
+pub record Account {Q P : Type 0} (line : List (Entry Q)) (handled : List (Handling Q P)) (mode : Mode Q) : Type 0 where
+  pub events : List (Event Q P)
+  pub queue : List (Entry Q)
+  pub log : Held Q
+  pub legal : Legal events
+  pub ran : core_of events ≡ (queue, log, handled)
+  pub shows : Shows line queue log mode
+
+-- where there is a second list, nothing between the two gives a number
+abbrev pub Unnumbered : {Q P : Type 0} → Bool → (List (Handling Q P) → ℕ) → List (Handling Q P) → List (Handling Q P) → Type 0
+Unnumbered piped last seen now = piped ≡ true → last now ≡ last seen
+
+-- what the log stands for, and the right's number; the last number after what was handled; the right's number at opening; whether there is a second list
+pub record Laws (Q P L M : Type 0) : Type 1 where
+  pub logs : L → List (Handling Q P) → Type 0
+  pub rights : M → ℕ → Type 0
+  pub last : List (Handling Q P) → ℕ
+  pub opened : ℕ
+  pub piped : Bool
+  -- what holds of what was handled, wherever the log is
+  pub kept : List (Handling Q P) → Type 0
+  pub keeps : (l : L) (hs : List (Handling Q P)) → logs l hs → kept hs
+  pub code_of : Q → ℕ
+
+-- the last number of the runs given, from this one on: a run is its first number and its count, and one with the count 0 is none
+abbrev pub last_run : {Q P : Type 0} → (P → ℕ × ℕ) → ℕ → List (Handling Q P) → ℕ
+last_run run start [] = start
+last_run run start (h ∷ hs) = last_run run (cond ((run h.reply).1 == 0) start ((run h.reply).0 + (run h.reply).1 - 1)) hs
+
+abbrev pub logs_from : {Q P L : Type 0} → (L → List (Handling Q P) → Type 0) → (List (Handling Q P) → Type 0) → (L → ℕ) → (P → ℕ × ℕ) → ℕ → L → List (Handling Q P) → Type 0
+logs_from stands kept number run start l hs = stands l hs × kept hs × (number l ≡ last_run run start hs)
+
+-- the same where what the law is about was picked
+abbrev pub logs_picked : {Q P L K : Type 0} → (K → L → List (Handling Q P) → Type 0) → (K → List (Handling Q P) → Type 0) → (L → ℕ) → (P → ℕ × ℕ) → ℕ → Picked K → L → List (Handling Q P) → Type 0
+logs_picked stands kept number run start None = λ l hs. Unit {0}
+logs_picked stands kept number run start (Some about) = logs_from (stands about) (kept about) number run start
+
+abbrev pub kept_picked : {Q P K : Type 0} → (K → List (Handling Q P) → Type 0) → Picked K → List (Handling Q P) → Type 0
+kept_picked kept None = λ hs. Unit {0}
+kept_picked kept (Some about) = kept about
+
+abbrev pub laws : {Q P L M : Type 0} → (Q → ℕ) → (L → List (Handling Q P) → Type 0) → (List (Handling Q P) → Type 0) → (L → ℕ) → (P → ℕ × ℕ) → (M → ℕ) → ℕ → ℕ → Bool → Laws Q P L M
+laws code_of stands kept number run right_number start right_start piped = record {
+  logs = logs_from stands kept number run start;
+  rights = λ m k. right_number m ≡ k;
+  last = last_run run start;
+  opened = right_start;
+  piped = piped;
+  kept = kept;
+  keeps = λ l hs h. h.1;
+  code_of = code_of;
+}
+
+-- the laws of a list that is opened so
+abbrev pub laws_for : {Q P L M K : Type 0} → (Q → Item) → (K → L → List (Handling Q P) → Type 0) → (K → List (Handling Q P) → Type 0)
+    → (L → ℕ) → (P → ℕ × ℕ) → (M → ℕ) → Start K → Laws Q P L M
+laws_for item_of stands kept number run right_number k =
+    laws (code_by item_of) (stands k.about) (kept k.about) number run right_number k.log k.right k.pipelined
+
+module _ {Q P L M : Type 0} (stands : Laws Q P L M) where
+  module _ (words : List ℕ) (homes : List (Option (Content Q P L M))) (i : ℕ) (due : List (Q × P)) where
+    abbrev pub InPhase : Phase Q P → Type 0
+    InPhase idle = (get_elem? homes i ≡ some (some Empty)) × (due ≡ [])
+    InPhase (preparing w) = (slice_index words (state_at i) ≡ 1) × (slice_index words (older_at i) ≡ w) × (due ≡ [])
+    InPhase (linked e) = (e.by ≡ i) × (slice_index words (state_at i) ≡ 1) × (get_elem? homes i ≡ some (some (Asked e.asked))) × (due ≡ [])
+    InPhase (chosen e) = (e.by ≡ i) × (slice_index words (state_at i) ≡ 2) × (get_elem? homes i ≡ some (some (Asked e.asked))) × (due ≡ [])
+    InPhase (leads e) = e.by ≡ i
+    InPhase (taken c e) = (e.by ≡ i) × (slice_index words (state_at i) ≢ 2) × (slice_index words (state_at i) ≢ 16)
+    InPhase (completed q p) = (slice_index words (state_at i) ≡ 16) × (get_elem? homes i ≡ some (some (Told p))) × (due ≡ (q, p) ∷ [])
+    InPhase collecting = due ≡ []
+
+  abbrev pub LogHome : List (Option (Content Q P L M)) → List (Handling Q P) → Type 0
+  LogHome homes handled = (l : L) × (get_elem? homes 0 ≡ some (some (Log l))) × stands.logs l handled
+
+  -- the right is at home, at the last slot, with this number
+  abbrev pub RightHome : ℕ → List (Option (Content Q P L M)) → ℕ → Type 0
+  RightHome n homes k = (r : M) × (get_elem? homes (n + 1) ≡ some (some (Right r))) × stands.rights r k
+
+  -- the right's number and the log's go together in a list with a second one, and the right has its first number in others
+  abbrev pub Level : Bool → Two Q → ℕ → Type 0
+  Level true two last = InStep two.done two.groups last two.lead
+  Level false two last = two.done ≡ stands.opened
+
+  module _ (n : ℕ) (words : List ℕ) (homes : List (Option (Content Q P L M))) (phase : ℕ → Phase Q P) where
+    abbrev pub InTurn : Two Q → Turn → Type 0
+    InTurn two still = (two.groups ≡ []) × RightHome n homes two.done
+    InTurn two (calls c) = ((newer : List (Squad Q)) × (g : Squad Q) × (two.groups ≡ newer ++ g ∷ []) × (two.place c ≡ called g) × (g.own.by ≡ c) × (slice_index words (state_at c) ≡ 4)) × RightHome n homes two.done
+    InTurn two (held_by c) = (newer : List (Squad Q)) × (g : Squad Q) × (two.groups ≡ newer ++ g ∷ []) × (two.place c ≡ serves g) × (g.own.by ≡ c)
+    InTurn two (passes c w) = (newer : List (Squad Q)) × (g : Squad Q) × (two.groups ≡ newer ++ g ∷ []) × (g.own.by ≡ w)
+
+    -- a group that is cut off from the first list
+    abbrev pub Parts : ℕ → Squad Q → ℕ → Type 0
+    Parts c g b = (g.own.by ≡ c) × (phase c ≡ leads g.own) × AllWith phase c g.rest × LinksFrom b words (line_of g) × Distinct (line_of g) × Within n (line_of g)
+
+    -- what the words and slots show of the second list
+    pub record Second (mode : Mode Q) (last : ℕ) (two : Two Q) : Type 0 where
+      pub newest_is : slice_index words 1 ≡ newest (flat two.groups)
+      pub links : Links words (flat two.groups)
+      pub distinct : Distinct (flat two.groups)
+      pub within : Within n (flat two.groups)
+      pub members : AllGroups phase two.place two.groups
+      pub parts : (c : ℕ) (g : Squad Q) (b : ℕ) → two.place c ≡ parted g b → Parts c g b
+      pub turn_is : InTurn two two.turn
+      pub in_front : (c : ℕ) → InFront c mode → two.place c ≡ away
+      pub quiet : (c : ℕ) → Holds c mode → Apart (two.place c) → slice_index words (state_at c) ≢ 4
+      pub quiet_queued : (c : ℕ) (g : Squad Q) → two.place c ≡ queued g → slice_index words (state_at c) ≢ 4
+      pub called_turn : (c : ℕ) (g : Squad Q) → two.place c ≡ called g → two.turn ≡ calls c
+      pub ahead_holds : (c : ℕ) → two.lead ≡ ahead c → Holds c mode
+      pub in_level : Level stands.piped two last
+
+  module _ (n : ℕ) (homes : List (Option (Content Q P L M))) (line hand : List (Entry Q)) (handled : List (Handling Q P)) (phase : ℕ → Phase Q P) (due : ℕ → List (Q × P)) where
+    abbrev pub InMode : Mode Q → Type 0
+    InMode open_ = (line ≡ []) × (hand ≡ []) × LogHome homes handled
+    InMode (waits c) = ((queue : List (Entry Q)) × (e : Entry Q) × (line ≡ queue ++ e ∷ []) × AllLinked phase queue × (phase c ≡ chosen e) × (e.by ≡ c)) × (hand ≡ []) × LogHome homes handled
+    InMode (led c) = ((queue : List (Entry Q)) × (own : Entry Q) × (line ≡ queue ++ own ∷ []) × AllLinked phase queue × (phase c ≡ leads own) × (own.by ≡ c)) × (hand ≡ []) × (due c ≡ [])
+    InMode (built c g) = ((queue : List (Entry Q)) × (own : Entry Q) × (line ≡ queue ++ (hand ++ own ∷ [])) × AllLinked phase queue × (phase c ≡ leads own) × (own.by ≡ c)) × AllTaken phase due c hand × (due c ≡ [])
+    InMode (cut c w) = ((queue : List (Entry Q)) × (e : Entry Q) × (line ≡ queue ++ e ∷ []) × AllLinked phase queue × (phase w ≡ linked e) × (e.by ≡ w)) × AllTaken phase due c hand × (due c ≡ []) × Distinct hand
+    InMode (marked c) = AllLinked phase line × ((own : Entry Q) × (phase c ≡ leads own) × (own.by ≡ c) × (0 < c) × (c ≤ n)) × AllTaken phase due c hand × (due c ≡ []) × Distinct hand
+
+  pub record Listed (n : ℕ) (s : State (Content Q P L M) (List (Hold Q P))) : Type 0 where
+    -- the walk from the newest writer, and the requests in hand, without the leader's own: newest first
+    pub line : List (Entry Q)
+    pub hand : List (Entry Q)
+    pub handled : List (Handling Q P)
+    pub mode : Mode Q
+    pub phase : ℕ → Phase Q P
+    -- what was handled for a client and not yet told it, and what it was told
+    pub due : ℕ → List (Q × P)
+    pub told : ℕ → List (Q × P)
+    pub two : Two Q
+    pub seat : ℕ → ℕ
+    pub few : n < 255
+    pub wide : length s.words ≡ 2 * n + 4
+    pub many : length s.homes ≡ n + 2
+    pub newest_is : slice_index s.words 0 ≡ newest_from (base_of mode) line
+    pub links : LinksFrom (base_of mode) s.words line
+    pub distinct : Distinct line
+    pub within : Within n line
+    pub stand : Stand phase line
+    pub rows : (i : ℕ) → 0 < i → i ≤ n → InPhase s.words s.homes i (due i) (phase i)
+    pub log_is : InMode n s.homes line hand handled phase due mode
+    pub one_chosen : (i : ℕ) (e : Entry Q) → phase i ≡ chosen e → mode ≡ waits i
+    pub shared_out : (i : ℕ) → of i handled ≡ told i ++ due i
+    pub account : Account line handled mode
+    pub second : Second n s.words s.homes phase mode (stands.last handled) two
+    pub kept : stands.kept handled
+    pub coded : (i : ℕ) (e : Entry Q) → InChain e (phase i) → e.code ≡ stands.code_of e.asked
+    pub seats : (j : ℕ) (v : List (Hold Q P)) → get_elem? s.views j ≡ some v → AllFit n line hand handled mode phase due told two seat j v
+
+abbrev pub all_but_first : {A : Type 0} → List A → List A
+all_but_first [] = []
+all_but_first (x ∷ xs) = xs
+
+abbrev pub first_only : {A : Type 0} → List A → List A
+first_only [] = []
+first_only (x ∷ xs) = x ∷ []
+
+-- what `close` says
+module _ {Q P : Type 0} where
+  abbrev pub Has : Hold Q P → List (Hold Q P) → Type 0
+  Has h [] = ⊥
+  Has h (x ∷ xs) = (x ≡ h) ⊎ Has h xs
+
+  -- all n clients are in the view, and idle
+  abbrev pub AllIdle : ℕ → List (Hold Q P) → Type 0
+  AllIdle n v = (i : ℕ) → 0 < i → i ≤ n → (m : List (Q × P)) × Has (hold i Idle m) v
+
+  -- what was handled, in which each client's handlings are those that it was told, in its order
+  abbrev pub Merges : List (Handling Q P) → List (Hold Q P) → Type 0
+  Merges handled v = (h : Hold Q P) → Has h v → of h.client handled ≡ h.mine

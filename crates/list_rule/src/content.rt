@@ -1,0 +1,21 @@
+// What the slots hold, and what a list is made for.
+
+/// What a slot holds: a client's slot its request or its reply, the first slot the log, and the last one the right.
+#[derive(Drop)]
+pub enum Content<Q, P, L, M> {
+    Empty,
+    Asked(Q),
+    Told(P),
+    Log(L),
+    Right(M),
+}
+
+/// What a list of writers is made for: how many clients, the numbers of the log and of the right at opening, whether it has the second list, and what else the log's law is about.
+#[derive(Drop)]
+pub struct Start<K> {
+    pub clients: u32,
+    pub log: u64,
+    pub right: u64,
+    pub pipelined: bool,
+    pub about: K,
+}

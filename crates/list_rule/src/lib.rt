@@ -1,0 +1,76 @@
+//! The rule of a lock-free list of writers with leaders: which words and slots it has, what each seat knows, and what each atomic step does. The oldest writer of the list leads. It takes the requests of a group, handles them while it has the log, and gives the log back, or on to the next leader. A second list, of groups whose leaders wait for a right in the order of the log, is for pipelined writes; lists without it keep the right at home.
+//!
+//! # Words
+//!
+//! `n` is the number of clients, and clients are numbered from 1. The words of client `i` begin at `2 i + 2`.
+//!
+//! | Word | Name | What it holds |
+//! |---|---|---|
+//! | 0 | NEWEST | the newest writer's number, 0 where there is none, or 255, a leader's mark |
+//! | 1 | NEWEST of the second list | the newest writer of its newest group, or 0 |
+//! | `2 i + 2` | STATE `i` | 1 in the list, 2 leads, 4 leads in the second list, 8 works beside its leader, 16 has its reply |
+//! | `2 i + 3` | OLDER `i` | the number of the next older writer (0: none, 255: the mark), and 256 times the code of its own item |
+//!
+//! # Slots
+//!
+//! | Slot | What it holds |
+//! |---|---|
+//! | 0 | the log |
+//! | `i` | client `i`'s request, and later its reply |
+//! | `n + 1` | the right |
+//!
+//! # Steps
+//!
+//! A seat is a client's. Who leads has the log, and the slots of its group.
+//!
+//! | Step | Who makes it | What it does | Event of the write path |
+//! |---|---|---|---|
+//! | store of 1 to STATE `i` ([`Begin`]) | client `i` | takes its empty slot | |
+//! | load of NEWEST ([`ReadNewest`]) | anybody | sees a client's number | |
+//! | store of OLDER `i` ([`NameOlder`]) | client `i` | names the writer that it saw, and its own code | |
+//! | compare-exchange of NEWEST from that writer to `i` ([`Link`]) | client `i` | gives its slot with the request; where it replaced 0 it takes the log, and leads | link, and elect where it replaced 0 |
+//! | load of STATE `i` ([`ReadState`]) | client `i` | where it finds 2 it takes the log and its own slot, and leads; where it finds 16 it takes its slot with the reply | elect, where it finds 2 |
+//! | load of STATE `i` ([`Rest`]) | client `i` | gives its empty slot back | |
+//! | load of NEWEST ([`Build`]) | the leader | its group is the grouping rule's of the walk from there | build |
+//! | load of OLDER `k` ([`ReadOlder`]) | the leader | sees a link of its walk | |
+//! | load of OLDER `k` ([`Fetch`]) | the leader | takes the slot of the next member | |
+//! | compare-exchange of NEWEST from its newest member to 0 ([`Leave`]) | the leader | gives the log back, which stands for the group's handlings too | exit of the single stage; else it only reads anew |
+//! | store of OLDER `k` ([`CutOff`], and [`CutAway`] where the list is pipelined) | the leader | clears the link of the oldest writer after its group | boundary, where the list is pipelined |
+//! | store of 2 to STATE `k` ([`Wake`]) | the leader | gives the log on to that writer | exit of the single stage; next, where the list is pipelined |
+//! | store of 16 to STATE `k` ([`Complete`]) | who led | gives a member's slot with its reply | complete |
+//! | store of 16 to STATE `i` ([`Retire`]) | who led | gives its own empty slot back | complete |
+//! | compare-exchange of NEWEST from its newest member to 255 ([`Mark`]) | the leader | puts its mark in place of its group | boundary |
+//! | store of OLDER `i` ([`AimSecond`]) | who cut its group off | names the newest writer of the second list | |
+//! | compare-exchange of the second NEWEST ([`JoinSecond`]) | who cut its group off | its group comes into the second list; where it replaced 0 it takes the right | second |
+//! | compare-exchange of NEWEST from 255 to 0 ([`Free`]) | who put the mark | gives the log back | next |
+//! | load of OLDER `k` ([`ReadOlderMarked`]) | who put the mark | sees a link of its walk | |
+//! | store of OLDER `k` ([`CutBehindMark`]) | who put the mark | clears the link of the oldest writer after the mark | |
+//! | load of STATE `i` ([`Summon`]) | a leader in the second list | takes the right, where it finds 4 | |
+//! | store of 8 to STATE `k` ([`MakeParallel`]) | a leader in the second list | a member may work beside it | |
+//! | compare-exchange of the second NEWEST to 0 ([`LeaveSecond`]) | who has the right | gives the right back | exit of the pipelined stage |
+//! | load of OLDER `k` ([`ReadOlderSecond`]) | who has the right | sees a link of the second list | |
+//! | store of OLDER `k` ([`ClearSecond`]) | who has the right | clears the link of the next group's oldest writer | |
+//! | store of 4 to STATE `k` ([`CallNext`]) | who had it | gives the right on to that writer | exit of the pipelined stage |
+//!
+//! A compare-exchange that fails is a load. A seat is made and joined at opening and closing alone.
+#![tactic(auto)]
+
+mod code;
+mod content;
+mod core_events;
+mod law;
+mod rule;
+mod steps;
+mod view;
+
+pub use code::{code_of, codes_stand_for_items, item_of};
+pub use content::{Content, Start};
+pub use core_events::list_and_core;
+pub use law::between_steps;
+pub use rule::{Both, First, Given, Itemized, Ledger, Numbered, Order, Picked, PickedAbout};
+pub use steps::{
+    AimSecond, Begin, Build, CallNext, ClearSecond, Complete, CutAway, CutBehindMark, CutOff,
+    Fetch, Free, JoinSecond, Leave, LeaveSecond, Link, MakeParallel, Mark, NameOlder, ReadNewest,
+    ReadOlder, ReadOlderMarked, ReadOlderSecond, ReadState, Rest, Retire, Summon, Wake,
+};
+pub use view::{Back, Debt, Entry, Handling, Hold, Lead, Squad, Stage, View};

@@ -1,0 +1,109 @@
+// The rule of the list, and what it asks of requests, replies, log and right.
+ghost use Rattle.std.specs.Prelude.{◌≡◌, ℕ, List, [], ◌++◌};
+ghost use Rattle.list_rule.specs.Rule.{Listed, newcomers, laws_for, all_but_first, first_only};
+
+use crate::content::{Content, Start};
+use crate::view::{Handling, View};
+use atomic_table::{Join, Split, TableRule};
+use std::marker::Brand;
+
+/// What a log says that was handled, where it had this number at first, and its number now.
+pub trait Ledger<Q, P> {
+    /// What the law is about, besides the log.
+    type About;
+
+    ghost use Rattle.std.specs.Prelude.{ℕ, List};
+    ghost use Rattle.list_rule.specs.declared.view.Handling.{Handling};
+
+    ghost stands: { Self.About → Self → List (Handling Q P) → Type 0 };
+
+    /// What holds of what was handled, wherever the log is.
+    ghost kept: { Self.About → List (Handling Q P) → Type 0 };
+
+    ghost number_of: { Self → ℕ };
+
+    fn number(&self) -> u64
+        ensures { result ≡ Self.number_of self.now };
+}
+
+/// The right to the memtable, with its number.
+pub trait Numbered {
+    ghost use Rattle.std.specs.Prelude.{ℕ};
+
+    ghost number_of: { Self → ℕ };
+
+    fn number(&self) -> u64
+        ensures { result ≡ Self.number_of self.now };
+}
+
+/// The first number and the count that a reply gives; the count 0 where it gives none.
+pub trait Given {
+    ghost use Rattle.std.specs.Prelude.{ℕ};
+
+    ghost run_of: { Self → ℕ × ℕ };
+}
+
+/// What grouping sees of a request.
+pub trait Itemized {
+    ghost use Rattle.wp_model.specs.declared.group.Item.{Item};
+
+    ghost item_of: { Self → Item };
+}
+
+/// What the law of the log is about, and the number at opening, which the caller picks.
+pub trait PickedAbout<K> {
+    ghost use Rattle.std.specs.Prelude.{ℕ, Option};
+
+    ghost number: { ℕ };
+
+    ghost about: { Option K };
+}
+
+impl<K> PickedAbout<K> for Brand {
+    ghost use Rattle.std.specs.Prelude.{None};
+
+    ghost number = { 0 };
+
+    ghost about = { None };
+}
+
+/// A number that the caller picks.
+pub trait Picked {
+    ghost use Rattle.std.specs.Prelude.{ℕ};
+
+    ghost number: { ℕ };
+}
+
+impl Picked for Brand {
+    ghost number = { 0 };
+}
+
+pub struct Order;
+
+impl<Q: Itemized, P: Given, L: Ledger<Q, P>, M: Numbered> TableRule<
+    Content<Q, P, L, M>,
+    View<Q, P>,
+    Start<L::About>,
+> for Order {
+    ghost holds = { λ k. Listed (laws_for Q.item_of L.stands L.kept L.number_of P.run_of M.number_of k) k.clients };
+
+    ghost first = { λ k. newcomers k.clients };
+}
+
+/// Cuts the first client off.
+pub struct First;
+
+impl<Q, P> Split<View<Q, P>> for First {
+    ghost left = { λ v. all_but_first v };
+
+    ghost right = { λ v. first_only v };
+}
+
+/// Takes another's clients in.
+pub struct Both;
+
+impl<Q, P> Join<View<Q, P>> for Both {
+    ghost both = { λ v w. v ++ w };
+
+    ghost spent = { [] };
+}

@@ -1,0 +1,77 @@
+// What a seat knows.
+ghost use Rattle.std.specs.Prelude.{ℕ, List};
+
+use std::collections::LinkedList;
+
+/// A writer in the list: its client, its code (flags and size) and its request. No value of it is made.
+pub struct Entry<Q> {
+    pub by: u64,
+    pub code: u64,
+    pub asked: Q,
+}
+
+/// A request that was handled, and the reply to it. No value of it is made.
+pub struct Handling<Q, P> {
+    pub by: u64,
+    pub asked: Q,
+    pub reply: P,
+}
+
+/// What a leader knows. No value of it is made.
+pub struct Lead<Q, P> {
+    pub own: Entry<Q>,
+    pub walk: LinkedList<Entry<Q>>,
+    pub group: LinkedList<Entry<Q>>,
+    pub taken: LinkedList<Entry<Q>>,
+    pub seen: LinkedList<Handling<Q, P>>,
+}
+
+/// What a leader knows that has given the log back: the members that are to have their replies, newest first. No value of it is made.
+pub struct Debt<Q, P> {
+    pub rest: LinkedList<(Entry<Q>, P)>,
+    pub own: Entry<Q>,
+    pub reply: P,
+}
+
+/// Where a client stands. No value of it is made.
+pub enum Stage<Q, P> {
+    Idle,
+    Preparing(u64),
+    Waiting(Q),
+    Fresh(Entry<Q>, LinkedList<Handling<Q, P>>),
+    Leading(Lead<Q, P>),
+    Cutting(Lead<Q, P>, Entry<Q>),
+    Marking(Lead<Q, P>),
+    Settling(Debt<Q, P>),
+    Collecting,
+}
+
+/// A group of the second list: its leader, its other members, newest first, and the log's numbers before and after it. No value of it is made.
+pub struct Squad<Q> {
+    pub own: Entry<Q>,
+    pub rest: LinkedList<Entry<Q>>,
+    pub from: u64,
+    pub to: u64,
+}
+
+/// Where a leader's group stands with respect to the second list. No value of it is made.
+pub enum Back<Q> {
+    Away,
+    Parting(Squad<Q>, u64),
+    Joining(Squad<Q>),
+    Holding(Squad<Q>),
+    Queued(Squad<Q>),
+    Serving(Squad<Q>, LinkedList<Entry<Q>>),
+    Passing(Squad<Q>, Entry<Q>),
+}
+
+/// What a seat knows of one client. No value of it is made.
+pub struct Hold<Q, P> {
+    pub client: u64,
+    pub stage: Stage<Q, P>,
+    pub mine: LinkedList<(Q, P)>,
+    pub back: Back<Q>,
+}
+
+/// What a seat knows. No value of it is made.
+pub type View<Q, P> = LinkedList<Hold<Q, P>>;

@@ -1,0 +1,120 @@
+-- What the calls say of a writer.
+use Rattle.std.specs.Prelude.{Bool, ◌≡◌, ℕ, ◌<◌, ◌≤◌, ◌⊎◌, List, [], ◌∷◌}
+use Rattle.atomic_table.specs.Seated.{TableId}
+use Rattle.list_rule.specs.declared.view.Hold.{Hold}
+use Rattle.list_rule.specs.declared.view.Entry.{Entry}
+use Rattle.list_rule.specs.declared.view.Handling.{Handling}
+use Rattle.list_rule.specs.declared.view.Stage.TheVariants.{Idle}
+use Rattle.list_rule.specs.Chain.{of}
+use Rattle.list_rule.specs.declared.content.Start.{Start}
+use Rattle.list_rule.specs.Grouping.{code_by}
+use Rattle.list_rule.specs.Rule.{hold, logs_from, last_run, Unnumbered}
+use Rattle.list_rule.specs.Plays.{At}
+use Rattle.wp_model.specs.declared.group.Item.{Item}
+use Rattle.writer_list.specs.declared.writer.Writer.{Writer}
+use Rattle.writer_list.specs.declared.writer_list.WriterList.{WriterList}
+use Rattle.writer_list.specs.declared.writer.Role.{Role}
+use Rattle.writer_list.specs.Roles.{IsLinked, Becomes, Chosen, Grouped, AreNew}
+
+abbrev pub told_in_first : {Q P : Type 0} → List (Hold Q P) → List (Q × P)
+told_in_first [] = []
+told_in_first (h ∷ hs) = h.mine
+
+module _ {Q P L M : Type 0} where
+  -- what the client put, and what came back, in order
+  abbrev pub told : Writer Q P L M → List (Q × P)
+  told w = told_in_first w.seat.me.0
+
+  -- the writer is the same client's, at the same list
+  abbrev pub Stays : Writer Q P L M → Writer Q P L M → Type 0
+  Stays new old = (new.seat.table_id ≡ old.seat.table_id) × (new.client ≡ old.client)
+
+module _ {Q P L M K : Type 0} where
+  abbrev pub table_of : WriterList Q P L M K → TableId
+  table_of list = list.table.shared.table_id
+
+  abbrev pub clients_of : WriterList Q P L M K → ℕ
+  clients_of list = list.clients
+
+  -- what the log's law is about
+  abbrev pub about_of : WriterList Q P L M K → K
+  about_of list = list.table.shared.key.about
+
+  -- the numbers of log and right at opening
+  abbrev pub start_of : WriterList Q P L M K → ℕ
+  start_of list = list.table.shared.key.log
+
+  abbrev pub right_start_of : WriterList Q P L M K → ℕ
+  right_start_of list = list.table.shared.key.right
+
+  -- whether it has the second list
+  abbrev pub piped_of : WriterList Q P L M K → Bool
+  piped_of list = list.table.shared.key.pipelined
+
+  -- what the log of this list stands for, with its number
+  abbrev pub law_of : (K → L → List (Handling Q P) → Type 0) → (K → List (Handling Q P) → Type 0) → (L → ℕ) → (P → ℕ × ℕ)
+      → WriterList Q P L M K → L → List (Handling Q P) → Type 0
+  law_of stands kept number run list = logs_from (stands (about_of list)) (kept (about_of list)) number run (start_of list)
+
+  -- what holds of all that this list's leaders handle, wherever the log is
+  abbrev pub kept_of : (K → List (Handling Q P) → Type 0) → WriterList Q P L M K → List (Handling Q P) → Type 0
+  kept_of kept list = kept (about_of list)
+
+  -- where there is a second list, no reply of a group that is refused gives a number
+  abbrev pub flat_of : (P → ℕ × ℕ) → WriterList Q P L M K → List (Handling Q P) → List (Handling Q P) → Type 0
+  flat_of run list = Unnumbered (piped_of list) (last_run run (start_of list))
+
+  abbrev pub AllNew : WriterList Q P L M K → List (Writer Q P L M) → Type 0
+  AllNew list ws = AreNew list.table.shared.table_id list.clients ws
+
+  -- it is the list that was asked for, and these are its writers, of whom none has done anything
+  abbrev pub HasOpened : Start K → WriterList Q P L M K → List (Writer Q P L M) → Type 0
+  HasOpened start list ws = (clients_of list ≡ start.clients) × (start_of list ≡ start.log) × (about_of list ≡ start.about)
+      × (right_start_of list ≡ start.right) × (piped_of list ≡ start.pipelined) × AllNew list ws
+
+  -- it is a writer of this list
+  abbrev pub Belongs : WriterList Q P L M K → Writer Q P L M → Type 0
+  Belongs list w = (w.seat.table_id ≡ table_of list) × (0 < w.client) × (w.client ≤ clients_of list)
+
+module _ {Q P L M : Type 0} where
+  -- it is in no list
+  abbrev pub IsOut : Writer Q P L M → Type 0
+  IsOut w = At w.client Idle (told w) w.seat.me × (w.seat.me.1 ≡ [])
+
+  -- it is in the list with q
+  abbrev pub IsIn : (L → List (Handling Q P) → Type 0) → Q → List (Q × P) → Writer Q P L M → Type 0
+  IsIn stood q mine w = IsLinked stood w.client w.leads q mine w.seat.me
+
+  abbrev pub HasRole : (L → List (Handling Q P) → Type 0) → (List (Handling Q P) → Type 0) → Q → List (Q × P) → Role L P → Writer Q P L M → Type 0
+  HasRole stood kept q mine role w = Becomes stood kept w.client q mine role w.seat.me
+
+  -- it leads as this writer, and all that was handled before is this
+  abbrev pub IsChosen : Entry Q → List (Handling Q P) → List (Q × P) → Writer Q P L M → Type 0
+  IsChosen own seen mine w = Chosen w.client own seen mine w.seat.me
+
+  -- it has the group that the bound gives it, and the requests; these writers were left
+  abbrev pub HasGroup : (Q → Item) → ℕ → ℕ → Entry Q → List (Entry Q) → List (Entry Q) → List (Handling Q P) → List (Q × P)
+      → Writer Q P L M → Type 0
+  HasGroup item_of n max own group left seen mine w =
+      Grouped (code_by item_of) n max w.client own group left seen mine w.seat.me
+
+  abbrev pub AllOut : TableId → List (Writer Q P L M) → Type 0
+  AllOut table [] = Unit {0}
+  AllOut table (w ∷ ws) = (w.seat.table_id ≡ table) × IsOut w × AllOut table ws
+
+  abbrev pub HasClient : ℕ → List (Writer Q P L M) → Type 0
+  HasClient i [] = ⊥
+  HasClient i (w ∷ ws) = (w.client ≡ i) ⊎ HasClient i ws
+
+  -- each client's writer is here
+  abbrev pub AllThere : ℕ → List (Writer Q P L M) → Type 0
+  AllThere n ws = (i : ℕ) → 0 < i → i ≤ n → HasClient i ws
+
+  -- of what was handled, each writer's own is what it was told, in its order
+  abbrev pub Merged : List (Handling Q P) → List (Writer Q P L M) → Type 0
+  Merged handled [] = Unit {0}
+  Merged handled (w ∷ ws) = (of w.client handled ≡ told w) × Merged handled ws
+
+  abbrev pub holds_of : List (Writer Q P L M) → List (Hold Q P)
+  holds_of [] = []
+  holds_of (w ∷ ws) = hold w.client Idle (told w) ∷ holds_of ws

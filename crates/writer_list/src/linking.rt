@@ -1,0 +1,178 @@
+// How a writer links itself, and waits for its role.
+ghost use Rattle.std.specs.Prelude.{◌≡◌, ℕ, ◌+◌, ◌*◌, ◌^◌, ◌<◌, ◌≤◌, List, [], ◌∷◌, Some};
+ghost use Rattle.list_rule.specs.declared.content.Content.{Content};
+ghost use Rattle.list_rule.specs.declared.content.Content.TheVariants.{Empty, Asked, Told, Log};
+ghost use Rattle.list_rule.specs.declared.view.Stage.TheVariants.{Idle, Collecting};
+ghost use Rattle.list_rule.specs.Grouping.{code_by};
+ghost use Rattle.list_rule.specs.Rule.{logs_picked, kept_picked};
+ghost use Rattle.list_rule.specs.Plays.{At, Elected};
+ghost use Rattle.writer_list.specs.Roles.{IsLinked, Becomes};
+ghost use Rattle.writer_list.specs.Seats.{about_of, law_of, kept_of, Belongs, IsOut, IsIn, HasRole, Stays, told};
+
+use crate::bells::pause;
+use crate::writer::{Role, Writer};
+use crate::writer_list::WriterList;
+use crossbeam_utils::Backoff;
+use list_rule::{
+    Begin, Content, Given, Itemized, Ledger, Link, NameOlder, Numbered, PickedAbout, ReadNewest,
+    ReadState, Rest, code_of,
+};
+use std::marker::Brand;
+use std::sync::Wait;
+use wp_model::Item;
+
+impl<Q: Itemized, P: Given, L: Ledger<Q, P>, M: Numbered> WriterList<Q, P, L, M> {
+    /// Puts the writer, which is in no list, at the newest end, with a request of which grouping sees this item.
+    pub fn link<R: Wait>(&self, rt: &R, writer: &mut Writer<Q, P, L, M>, item: Item, request: Q)
+        requires out { Belongs self.now writer.old × IsOut writer.old }
+        requires item { (item ≡ Q.item_of request) × (item.size ≤ 16777216) }
+        ensures client { writer.new.client ≡ writer.old.client }
+        ensures linked { Belongs self.now writer.new
+            × IsIn (law_of L.stands L.kept L.number_of P.run_of self.now) request (told writer.old) writer.new }
+    {
+        self.link_from::<Brand, R>(rt, writer, code_of(item), request);
+    }
+
+    /// Waits until the writer, which is in the list, leads, or its request is done.
+    pub fn await_role<R: Wait>(&self, rt: &R, writer: &mut Writer<Q, P, L, M>) -> Role<L, P>
+        requires { Belongs self.now writer.old
+            × ((q : Q) × IsIn (law_of L.stands L.kept L.number_of P.run_of self.now) q (told writer.old) writer.old) }
+        ensures client { writer.new.client ≡ writer.old.client }
+        ensures role { Belongs self.now writer.new × ((q : Q)
+            → IsIn (law_of L.stands L.kept L.number_of P.run_of self.now) q (told writer.old) writer.old
+            → HasRole (law_of L.stands L.kept L.number_of P.run_of self.now) (kept_of L.kept self.now)
+            q (told writer.old) result writer.new) }
+    {
+        self.await_from::<Brand, R>(rt, writer)
+    }
+
+    // The number and what the law is about are picked, since a step of the table knows neither.
+    fn link_from<B: PickedAbout<L::About>, R: Wait>(
+        &self,
+        rt: &R,
+        writer: &mut Writer<Q, P, L, M>,
+        code: u64,
+        request: Q,
+    )
+        requires start { B.number ≡ self.now.table.shared.key.log }
+        requires about { B.about ≡ Some self.now.table.shared.key.about }
+        requires seat { (writer.old.seat.table_id ≡ self.now.table.shared.table_id)
+            × (0 < writer.old.client) × (writer.old.client ≤ self.now.clients) × (code < 2 ^ 40) }
+        requires code { code ≡ code_by Q.item_of request }
+        requires idle { (mine : List (Q × P))
+            × At writer.old.client Idle mine writer.old.seat.me × (writer.old.seat.me.1 ≡ []) }
+        ensures seat { Stays writer.new writer.old }
+        ensures linked { (mine : List (Q × P)) → At writer.old.client Idle mine writer.old.seat.me
+            → IsLinked (logs_picked L.stands L.kept L.number_of P.run_of B.number B.about)
+            writer.old.client writer.new.leads request mine writer.new.seat.me }
+    {
+        let shared = &self.table.shared;
+        let c = writer.client;
+        shared.store::<Begin>(&mut writer.seat, 2 * c as usize + 2, 1);
+        match shared.exchange(&mut writer.seat, c as usize, Content::Asked(request)) {
+            Content::Empty => {}
+            _ => unreachable!(),
+        }
+        let backoff = Backoff::new();
+        for _ in rt.forever() {
+            let newest = shared.load::<ReadNewest>(&mut writer.seat, 0);
+            shared.store::<NameOlder>(&mut writer.seat, 2 * c as usize + 3, newest + 256 * code);
+            let found = shared.compare_exchange::<Link<B>>(&mut writer.seat, 0, newest, c as u64);
+            if found == newest {
+                writer.leads = newest == 0;
+                return;
+            }
+            backoff.snooze();
+        }
+        unreachable!()
+    }
+
+    fn await_from<B: PickedAbout<L::About>, R: Wait>(
+        &self,
+        rt: &R,
+        writer: &mut Writer<Q, P, L, M>,
+    ) -> Role<L, P>
+        requires start { B.number ≡ self.now.table.shared.key.log }
+        requires about { B.about ≡ Some self.now.table.shared.key.about }
+        requires seat { (writer.old.seat.table_id ≡ self.now.table.shared.table_id)
+            × (0 < writer.old.client) × (writer.old.client ≤ self.now.clients) }
+        requires linked { (q : Q) × (mine : List (Q × P))
+            × IsLinked (logs_picked L.stands L.kept L.number_of P.run_of B.number B.about)
+            writer.old.client writer.old.leads q mine writer.old.seat.me }
+        ensures seat { Stays writer.new writer.old }
+        ensures role { (q : Q) (mine : List (Q × P))
+            → IsLinked (logs_picked L.stands L.kept L.number_of P.run_of B.number B.about)
+            writer.old.client writer.old.leads q mine writer.old.seat.me
+            → Becomes (logs_picked L.stands L.kept L.number_of P.run_of B.number B.about)
+            (kept_picked L.kept B.about) writer.old.client q mine result writer.new.seat.me }
+    {
+        if writer.leads {
+            writer.leads = false;
+            return Role::LogLeader(self.claim::<B>(writer));
+        }
+        let c = writer.client;
+        let backoff = Backoff::new();
+        for _ in rt.forever() {
+            let state = self
+                .table
+                .shared
+                .load::<ReadState<B>>(&mut writer.seat, 2 * c as usize + 2);
+            if state == 16 {
+                return Role::Done(self.collect(writer));
+            }
+            if state == 2 {
+                return Role::LogLeader(self.claim::<B>(writer));
+            }
+            pause(rt, &backoff, &self.bells, c);
+        }
+        unreachable!()
+    }
+
+    // Takes the log out of its slot.
+    fn claim<B: PickedAbout<L::About>>(&self, writer: &mut Writer<Q, P, L, M>) -> L
+        requires seat { writer.old.seat.table_id ≡ self.now.table.shared.table_id }
+        requires elected { (q : Q) × (mine : List (Q × P))
+            × Elected (logs_picked L.stands L.kept L.number_of P.run_of B.number B.about)
+            writer.old.client q mine writer.old.seat.me }
+        ensures seat { Stays writer.new writer.old }
+        ensures leads { (q : Q) (mine : List (Q × P))
+            → Elected (logs_picked L.stands L.kept L.number_of P.run_of B.number B.about)
+            writer.old.client q mine writer.old.seat.me
+            → Becomes (logs_picked L.stands L.kept L.number_of P.run_of B.number B.about)
+            (kept_picked L.kept B.about) writer.old.client q mine (Role.LogLeader result) writer.new.seat.me }
+    {
+        match self
+            .table
+            .shared
+            .exchange(&mut writer.seat, 0, Content::Empty)
+        {
+            Content::Log(log) => {
+                writer.seat.turn();
+                log
+            }
+            _ => unreachable!(),
+        }
+    }
+
+    // Takes the reply out of the writer's own slot, and gives the slot back.
+    fn collect(&self, writer: &mut Writer<Q, P, L, M>) -> P
+        requires seat { (writer.old.seat.table_id ≡ self.now.table.shared.table_id)
+            × (writer.old.client ≤ self.now.clients) }
+        requires told { (p : P) × (mine : List (Q × P)) × At writer.old.client Collecting mine writer.old.seat.me
+            × (writer.old.seat.me.1 ≡ (writer.old.client, Told p) ∷ []) }
+        ensures seat { Stays writer.new writer.old }
+        ensures reply { writer.old.seat.me.1 ≡ (writer.old.client, Told result) ∷ [] }
+        ensures idle { (mine : List (Q × P)) → At writer.old.client Collecting mine writer.old.seat.me
+            → At writer.old.client Idle mine writer.new.seat.me × (writer.new.seat.me.1 ≡ []) }
+    {
+        let shared = &self.table.shared;
+        let c = writer.client;
+        match shared.exchange(&mut writer.seat, c as usize, Content::Empty) {
+            Content::Told(reply) => {
+                shared.load::<Rest>(&mut writer.seat, 2 * c as usize + 2);
+                reply
+            }
+            _ => unreachable!(),
+        }
+    }
+}
