@@ -1,9 +1,11 @@
--- The time that calls take which change nothing.
-use Rattle.std.proofs.Common.{◌≡◌, inl, inr, ⊎_elim, ℕ, List, Option, IfSome, sym, subst, arith}
+-- Calls that only read, one after another.
+use Rattle.std.proofs.Common.{◌≡◌, inl, inr, ⊎_elim, ℕ, List, Option, IfSome, sym, ◌∙◌, subst, arith}
 use Rattle.wp_edge.specs.Disk.{Disk, IsImage, TimePasses}
+use Rattle.wp_edge.specs.declared.disk.Disk.{Ghosts}
+use Rattle.log_reader.specs.OnlyReads.{OnlyReads}
 
--- one stretch of time behind another
-pub more_time : {D : Type 0} (told : D → Option Disk) (moment from : D → ℕ) (since : D → ℕ → List ℕ → Type 0) (old mid new : D) → told new ≡ told mid
+-- one stretch of time after another
+more_time : {D : Type 0} (told : D → Option Disk) (moment from : D → ℕ) (since : D → ℕ → List ℕ → Type 0) (old mid new : D) → told new ≡ told mid
     → TimePasses told moment from since old mid → TimePasses told moment from since mid new → TimePasses told moment from since old new
 more_time told moment from since old mid new same first second =
     let later_first = first.later in
@@ -17,4 +19,16 @@ more_time told moment from since old mid new same first second =
           (λ h. ⊎_elim (λ a. inl a) (λ b. inr (subst (λ (d : Option Disk). IfSome d (λ e. IsImage e image)) (sym same) b)) (first.nothing_else t image (omega (arith, known, forgets_second)) before h))
           (λ b. inr b) (second.nothing_else t image known (omega (arith, before, later_first)) has);
       keeps = λ t image known before has. second.keeps t image known (omega (arith, before, later_first)) (first.keeps t image (omega (arith, known, forgets_second)) before has);
+    }
+
+-- one stretch of reading after another
+pub more_read : {D : Type 0} (ghosts : Ghosts D) (old mid new : D) → OnlyReads ghosts old mid → OnlyReads ghosts mid new → OnlyReads ghosts old new
+more_read ghosts old mid new first second =
+    let later_first = first.later in
+    let later_second = second.later in
+    record {
+      later = omega (arith, later_first, later_second);
+      same = second.same ∙ first.same;
+      adds_none = second.adds_none ∙ first.adds_none;
+      time = more_time ghosts.told ghosts.moment ghosts.from ghosts.since old mid new second.same first.time second.time;
     }

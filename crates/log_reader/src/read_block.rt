@@ -1,9 +1,9 @@
 //! A block, from the disk.
 
 ghost use Rattle.std.specs.Prelude.{◌≡◌, ◌+◌, ◌^◌, ◌<◌, ◌≤◌, length, IfOk, IfErr, IfSome, OnOk};
-ghost use Rattle.wp_edge.specs.Disk.{TimePasses};
 ghost use Rattle.wp_edge.specs.Faults.{Rose};
 ghost use Rattle.log_reader.specs.Blocks.{ReadsBlock};
+ghost use Rattle.log_reader.specs.OnlyReads.{OnlyReads};
 
 use log_block::BLOCK_LEN;
 use wp_edge::Disk;
@@ -18,10 +18,7 @@ pub fn read_block<D: Disk>(disk: &mut D, start: u64, block: &mut [u8]) -> Result
     ensures in_file { IfOk result (λ len. start + len < 2 ^ 63) }
     ensures worked { OnOk result (D.faults disk.new ≡ D.faults disk.old) }
     ensures fault { IfErr result (λ count. Rose (D.faults disk.old) count × (count ≤ D.faults disk.new)) }
-    ensures later { D.faults disk.old ≤ D.faults disk.new }
-    ensures same { D.told disk.new ≡ D.told disk.old }
-    ensures adds_none { D.added disk.new ≡ D.added disk.old }
-    ensures time { TimePasses D.told D.moment D.from D.since disk.old disk.new }
+    ensures disk { OnlyReads ⟦<D as Disk>⟧ disk.old disk.new }
 {
     let mut len = 0;
     while len < block.len() {

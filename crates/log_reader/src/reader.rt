@@ -1,7 +1,6 @@
 //! The records of a log, one after another.
 
 ghost use Rattle.std.specs.Prelude.{◌≡◌, ◌+◌, ◌^◌, ◌<◌, ◌≤◌, ℕ, List, [], ◌++◌, slice_range, None, IfOk, IfSome, OnOk};
-ghost use Rattle.wp_edge.specs.Disk.{TimePasses};
 ghost use Rattle.wp_model.specs.Log.{Kind, kind_code};
 ghost use Rattle.log_reader.specs.Blocks.{IsNext};
 ghost use Rattle.log_reader.specs.Windows.{IsSound, IsOn, offset_of, bytes_of};
@@ -9,6 +8,7 @@ ghost use Rattle.log_reader.specs.Records.{Reads, HasFault, stopped_by};
 ghost use Rattle.log_reader.specs.Steps as steps;
 ghost use Rattle.log_reader.specs.Steps.{Stood, StepIs, EndsAt, Moves, HasFaultStep, end_of_reading};
 ghost use Rattle.log_reader.specs.Reader.{Follows, PlaceAfter, GoesForward};
+ghost use Rattle.log_reader.specs.OnlyReads.{OnlyReads};
 
 use crate::window::Window;
 use log_block::{FIRST, FULL, LAST, MIDDLE, Seen};
@@ -85,10 +85,7 @@ impl LogReader {
         ensures stopped { self.old.stopped ≡ None → self.new.stopped ≡ stopped_by result }
         ensures again { IfSome self.old.stopped (λ answer. (result ≡ answer) × (self.new ≡ self.old)) }
         ensures untouched { IfSome self.old.stopped (λ _. disk.new ≡ disk.old) }
-        ensures later { D.faults disk.old ≤ D.faults disk.new }
-        ensures same { D.told disk.new ≡ D.told disk.old }
-        ensures adds_none { D.added disk.new ≡ D.added disk.old }
-        ensures time { TimePasses D.told D.moment D.from D.since disk.old disk.new }
+        ensures disk { OnlyReads ⟦<D as Disk>⟧ disk.old disk.new }
     {
         if let Some(answer) = self.stopped {
             return answer;
@@ -135,10 +132,7 @@ fn read_record<D: Disk>(window: &mut Window, in_hand: &mut Vec<u8>, disk: &mut D
     ensures on { IfSome (D.told disk.old) (λ d. IsOn d.content window.old → IsOn d.content window.new) }
     ensures end { EndsAt (offset_of window.old) (offset_of window.new) result }
     ensures fault { HasFault (D.faults disk.old) (D.faults disk.new) result }
-    ensures later { D.faults disk.old ≤ D.faults disk.new }
-    ensures same { D.told disk.new ≡ D.told disk.old }
-    ensures adds_none { D.added disk.new ≡ D.added disk.old }
-    ensures time { TimePasses D.told D.moment D.from D.since disk.old disk.new }
+    ensures disk { OnlyReads ⟦<D as Disk>⟧ disk.old disk.new }
 {
     in_hand.clear();
     let mut begun = None;
@@ -165,10 +159,7 @@ fn read_part<D: Disk>(
     ensures on { IfSome (D.told disk.old) (λ d. IsOn d.content window.old → IsOn d.content window.new) }
     ensures moves { Moves (offset_of window.old) (offset_of window.new) result }
     ensures fault { HasFaultStep (D.faults disk.old) (D.faults disk.new) result }
-    ensures later { D.faults disk.old ≤ D.faults disk.new }
-    ensures same { D.told disk.new ≡ D.told disk.old }
-    ensures adds_none { D.added disk.new ≡ D.added disk.old }
-    ensures time { TimePasses D.told D.moment D.from D.since disk.old disk.new }
+    ensures disk { OnlyReads ⟦<D as Disk>⟧ disk.old disk.new }
 {
     match window.look(disk) {
         Ok(Seen::Fragment { kind, start, end }) => take_part(

@@ -1,9 +1,9 @@
 //! The block of a log in which a reader stands.
 
 ghost use Rattle.std.specs.Prelude.{◌≡◌, ◌+◌, ◌^◌, ◌<◌, ◌≤◌, ℕ, List, length, slice_range, IfOk, IfErr, IfSome, OnOk, true};
-ghost use Rattle.wp_edge.specs.Disk.{TimePasses};
 ghost use Rattle.wp_edge.specs.Faults.{Rose};
 ghost use Rattle.log_reader.specs.Windows.{IsSound, IsOn, offset_of, SeesNext, PartLies, bytes_of};
+ghost use Rattle.log_reader.specs.OnlyReads.{OnlyReads};
 
 use crate::read_block::read_block;
 use crate::see::see;
@@ -54,10 +54,7 @@ impl Window {
         ensures forward { offset_of self.old ≤ offset_of self.new }
         ensures worked { OnOk result (D.faults disk.new ≡ D.faults disk.old) }
         ensures fault { IfErr result (λ count. Rose (D.faults disk.old) count × (count ≤ D.faults disk.new)) }
-        ensures later { D.faults disk.old ≤ D.faults disk.new }
-        ensures same { D.told disk.new ≡ D.told disk.old }
-        ensures adds_none { D.added disk.new ≡ D.added disk.old }
-        ensures time { TimePasses D.told D.moment D.from D.since disk.old disk.new }
+        ensures disk { OnlyReads ⟦<D as Disk>⟧ disk.old disk.new }
     {
         loop {
             self.fill(disk)?;
@@ -83,10 +80,7 @@ impl Window {
         ensures at { self.new.at ≡ self.old.at }
         ensures worked { OnOk result (D.faults disk.new ≡ D.faults disk.old) }
         ensures fault { IfErr result (λ count. Rose (D.faults disk.old) count × (count ≤ D.faults disk.new)) }
-        ensures later { D.faults disk.old ≤ D.faults disk.new }
-        ensures same { D.told disk.new ≡ D.told disk.old }
-        ensures adds_none { D.added disk.new ≡ D.added disk.old }
-        ensures time { TimePasses D.told D.moment D.from D.since disk.old disk.new }
+        ensures disk { OnlyReads ⟦<D as Disk>⟧ disk.old disk.new }
     {
         if !self.is_read {
             self.len = read_block(disk, self.start, &mut self.room)?;

@@ -1,7 +1,7 @@
 //! Recovery, record by record.
 
 ghost use Rattle.std.specs.Prelude.{◌≡◌, ◌≤◌, IfOk, IfErr, IfSome, OnOk};
-ghost use Rattle.wp_edge.specs.Disk.{TimePasses};
+ghost use Rattle.log_reader.specs.OnlyReads.{OnlyReads};
 ghost use Rattle.wal_recover.specs.Recovering.{HasRecovered, IsRecoverError};
 
 use crate::kept::{GroupNote, Kept};
@@ -58,10 +58,7 @@ pub fn recover<D: Disk>(alloc: Global, disk: &mut D) -> Result<Recovered, Recove
     ensures recovered { IfSome (D.told disk.old) (λ d. IfOk result (HasRecovered d.content)) }
     ensures worked { OnOk result (D.faults disk.new ≡ D.faults disk.old) }
     ensures error { IfErr result (IsRecoverError (D.faults disk.old) (D.faults disk.new)) }
-    ensures later { D.faults disk.old ≤ D.faults disk.new }
-    ensures same { D.told disk.new ≡ D.told disk.old }
-    ensures adds_none { D.added disk.new ≡ D.added disk.old }
-    ensures time { TimePasses D.told D.moment D.from D.since disk.old disk.new }
+    ensures disk { OnlyReads ⟦<D as Disk>⟧ disk.old disk.new }
 {
     let mut log = LogReader::open(alloc)?;
     let mut kept = Kept::new(alloc);

@@ -1,6 +1,6 @@
 use Rattle.std.proofs.Common.{◌≡◌, ◌+◌, ◌-◌, ◌≤◌, length, drop, Option, IfSome, ◌∙◌, subst, arith, length-take, length-drop}
 use Rattle.wp_edge.specs.Disk.{Disk}
-use Rattle.log_reader.proofs.Time.{more_time}
+use Rattle.log_reader.proofs.Time.{more_read}
 use Rattle.log_reader.proofs.FromDisk.{if_both, if_one, Before, Gives, read_more, read_none, read_whole, read_to_end, length-put}
 use borrow.Rule.Slice.PartMut.{put_mid}
 use Rattle.log_reader.proofs.read_block.read_block.Goals as goal
@@ -18,13 +18,12 @@ loop-len-preserved g c =
     record {
       in_block = omega (arith, length-put block buf at inside buf_len, some, buf_len);
       bytes = if_both (g.D.Disk.told c.args.disk.now) (Before start at block) (Gives (start + at) more buf) _
-          c.loop-len.invariant.bytes (subst (λ (told : Option Disk). IfSome told (Gives (start + at) more buf)) c.loop-len.invariant.same c.in-Ok.ensures.bytes)
+          c.loop-len.invariant.bytes (subst (λ (told : Option Disk). IfSome told (Gives (start + at) more buf)) c.loop-len.invariant.disk.same c.in-Ok.ensures.bytes)
           (λ d before read. read_more d.content block buf start at more inside buf_len before read);
       small = omega (arith, c.in-Ok.ensures.small, c.if-more-eq0.false);
       worked = c.in-Ok.ensures.cause.worked ∙ c.loop-len.invariant.worked;
-      same = c.in-Ok.ensures.same ∙ c.loop-len.invariant.same;
-      adds_none = c.in-Ok.ensures.adds_none ∙ c.loop-len.invariant.adds_none;
-      time = more_time g.D.Disk.told g.D.Disk.moment g.D.Disk.from g.D.Disk.since _ _ _ c.in-Ok.ensures.same c.loop-len.invariant.time c.in-Ok.ensures.time;
+      disk = more_read g.D.Disk _ _ _ c.loop-len.invariant.disk
+          (record { later = c.in-Ok.ensures.cause.later; same = c.in-Ok.ensures.same; adds_none = c.in-Ok.ensures.adds_none; time = c.in-Ok.ensures.time });
     }
 
 pub returns-after-loop-len-clause-bytes : goal.returns-after-loop-len-clause-bytes
@@ -46,6 +45,6 @@ returns-then-more-eq0-clause-bytes g c =
     let buf_len : length buf ≡ length block - at = omega (arith, c.read.auto.buf, length-take (length block - at) (drop at block), length-drop at block) in
     let put_len = length-put block buf at inside buf_len in
     if_both (g.D.Disk.told c.args.disk.now) (Before start at block) (Gives (start + at) more buf) _
-    c.loop-len.invariant.bytes (subst (λ (told : Option Disk). IfSome told (Gives (start + at) more buf)) c.loop-len.invariant.same c.in-Ok.ensures.bytes)
+    c.loop-len.invariant.bytes (subst (λ (told : Option Disk). IfSome told (Gives (start + at) more buf)) c.loop-len.invariant.disk.same c.in-Ok.ensures.bytes)
     (λ d before read. read_to_end d.content (put_mid at (length block - at) block buf) start at more (length buf) (omega (arith, buf_len, put_len)) (put_len ∙ is) (omega (arith, put_len, c.loop-len-test.true)) c.if-more-eq0.true read.0
     (read_none d.content block buf start at more inside buf_len c.if-more-eq0.true before read))

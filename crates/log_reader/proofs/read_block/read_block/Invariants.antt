@@ -1,5 +1,5 @@
 use Rattle.std.proofs.Common.{◌≡◌, ◌+◌, ◌-◌, ◌^◌, ◌<◌, ◌≤◌, length, take, drop, IfSome}
-use Rattle.wp_edge.specs.Disk.{TimePasses}
+use Rattle.log_reader.specs.OnlyReads.{OnlyReads}
 use Rattle.log_reader.proofs.read_block.read_block.Given as goal
 
 -- the first bytes of the block are read
@@ -9,9 +9,7 @@ invariant-loop-len g l = record {
   bytes : IfSome (g.D.Disk.told l.fn.disk) (λ d. take l.len l.block ≡ take l.len (drop l.start d.content));
   small : l.start + l.len < 2 ^ 63;
   worked : g.D.Disk.faults l.disk ≡ g.D.Disk.faults l.fn.disk;
-  same : g.D.Disk.told l.disk ≡ g.D.Disk.told l.fn.disk;
-  adds_none : g.D.Disk.added l.disk ≡ g.D.Disk.added l.fn.disk;
-  time : TimePasses g.D.Disk.told g.D.Disk.moment g.D.Disk.from g.D.Disk.since l.fn.disk l.disk;
+  disk : OnlyReads g.D.Disk l.fn.disk l.disk;
 }
 
 abbrev pub decreases-loop-len : goal.decreases-loop-len

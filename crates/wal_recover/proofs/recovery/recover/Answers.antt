@@ -1,5 +1,5 @@
 use Rattle.std.proofs.Common.{IfSome, sym, ◌∙◌, subst}
-use Rattle.log_reader.proofs.Time.{more_time}
+use Rattle.log_reader.proofs.Time.{more_read}
 use Rattle.log_reader.specs.declared.reader.Next.TheVariants as next
 use Rattle.wal_recover.specs.declared.recovery.Recovered.{Recovered}
 use Rattle.wal_recover.specs.Recovering.{HasRecovered}
@@ -15,16 +15,14 @@ loop-start-preserved g c =
     let log = c.loop-start.log in
     let bytes = c.record.result.now in
     let adds = kept_adds c.loop-start.kept c.keep.new.self bytes c.in-Record.end c.in_ok-why-in-Record.field-0 (c.in_ok-why-in-Record.ensures {u = tt}) c.in_default.is in
-    let says = reads before told log c.next.new.self.in_hand (next.Record c.in-Record.start c.in-Record.end) old.same old.going old.follows now.reads in
+    let says = reads before told log c.next.new.self.in_hand (next.Record c.in-Record.start c.in-Record.end) old.disk.same old.going old.follows now.reads in
     record {
       place = adds.end_is ∙ sym (now.place old.going);
       going = now.stopped old.going;
-      follows = follows_on before told log c.next.new.self old.same old.follows now.follows;
+      follows = follows_on before told log c.next.new.self old.disk.same old.follows now.follows;
       front = front_more told c.loop-start.kept c.keep.new.self log.place c.in-Record.start c.in-Record.end c.next.new.self.in_hand bytes old.place c.record.ensures adds old.front says;
       worked = now.fault old.going ∙ old.worked;
-      same = now.same ∙ old.same;
-      adds_none = now.adds_none ∙ old.adds_none;
-      time = more_time g.D.Disk.told g.D.Disk.moment g.D.Disk.from g.D.Disk.since _ _ _ now.same old.time now.time;
+      disk = more_read g.D.Disk _ _ _ old.disk now.disk;
     }
 
 pub returns-in-Some-clause-recovered : goal.returns-in-Some-clause-recovered
@@ -35,7 +33,7 @@ returns-in-Some-clause-recovered g c =
     let log = c.loop-start.log in
     let bytes = c.record.result.now in
     let refuses = kept_refuses c.loop-start.kept c.keep.new.self bytes c.in-Record.end c.in_ok-why-in-Record.field-0 c.in-Some.why (c.in_ok-why-in-Record.ensures {u = tt}) c.in-Some.is in
-    let says = reads before told log c.next.new.self.in_hand (next.Record c.in-Record.start c.in-Record.end) old.same old.going old.follows c.in-Record.ensures.reads in
+    let says = reads before told log c.next.new.self.in_hand (next.Record c.in-Record.start c.in-Record.end) old.disk.same old.going old.follows c.in-Record.ensures.reads in
     subst (λ (r : Recovered). IfSome told (λ d. HasRecovered d.content r)) (sym c.answer_of.ensures)
     (refused told c.loop-start.kept c.keep.new.self log.place c.in-Record.start c.in-Record.end c.next.new.self.in_hand bytes c.in-Some.why old.place c.record.ensures refuses old.front says)
 
@@ -45,6 +43,6 @@ returns-in-End-clause-recovered g c =
     let before = g.D.Disk.told c.loop-start.disk in
     let old = c.loop-start.invariant in
     let log = c.loop-start.log in
-    let says = reads before told log c.next.new.self.in_hand (next.End c.in-End.at c.in-End.why) old.same old.going old.follows c.in-End.ensures.reads in
+    let says = reads before told log c.next.new.self.in_hand (next.End c.in-End.at c.in-End.why) old.disk.same old.going old.follows c.in-End.ensures.reads in
     subst (λ (r : Recovered). IfSome told (λ d. HasRecovered d.content r)) (sym c.answer_of-in-End.ensures)
     (ended told c.loop-start.kept log.place c.in-End.at c.next.new.self.in_hand c.in-End.why old.place old.front says)

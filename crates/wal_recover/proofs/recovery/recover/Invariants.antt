@@ -1,5 +1,5 @@
 use Rattle.std.proofs.Common.{◌≡◌, ◌-◌, ◌^◌, None, IfSome}
-use Rattle.wp_edge.specs.Disk.{TimePasses}
+use Rattle.log_reader.specs.OnlyReads.{OnlyReads}
 use Rattle.log_reader.specs.Reader.{Follows}
 use Rattle.wal_recover.specs.Keeping.{KeepsFront}
 use Rattle.wal_recover.proofs.recovery.recover.Given as goal
@@ -12,9 +12,7 @@ invariant-loop-start g l = record {
   follows : IfSome (g.D.Disk.told l.fn.disk) (λ d. Follows d.content l.log);
   front : IfSome (g.D.Disk.told l.fn.disk) (λ d. KeepsFront d.content l.kept);
   worked : g.D.Disk.faults l.disk ≡ g.D.Disk.faults l.fn.disk;
-  same : g.D.Disk.told l.disk ≡ g.D.Disk.told l.fn.disk;
-  adds_none : g.D.Disk.added l.disk ≡ g.D.Disk.added l.fn.disk;
-  time : TimePasses g.D.Disk.told g.D.Disk.moment g.D.Disk.from g.D.Disk.since l.fn.disk l.disk;
+  disk : OnlyReads g.D.Disk l.fn.disk l.disk;
 }
 
 abbrev pub decreases-loop-start : goal.decreases-loop-start

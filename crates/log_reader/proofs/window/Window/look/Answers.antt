@@ -1,7 +1,7 @@
 use Rattle.std.proofs.Common.{◌≡◌, length, Option, IfSome, subst, ◌∙◌, arith}
 use Rattle.wp_edge.specs.Disk.{Disk}
 use Rattle.log_block.specs.declared.fragments.Seen.TheVariants as seen
-use Rattle.log_reader.proofs.Time.{more_time}
+use Rattle.log_reader.proofs.Time.{more_read}
 use Rattle.log_reader.specs.Windows.{IsOn, offset_of, SeesNext, bytes_of}
 use Rattle.log_reader.proofs.FromDisk.{if_one, if_both}
 use Rattle.log_reader.proofs.Looking.{Stands, filled, seen_from, not_end, goes_on, length-bytes, lies}
@@ -16,7 +16,7 @@ loop-self-preserved g c =
     let told = g.D.Disk.told c.args.disk.now in
     let read = ok.read in
     let on = if_both told (Stands old mid) (λ d. IsOn d.content mid → IsOn d.content w) (Stands old w) c.loop-self.invariant.on
-    (subst (λ (t : Option Disk). IfSome t (λ d. IsOn d.content mid → IsOn d.content w)) c.loop-self.invariant.same ok.on)
+    (subst (λ (t : Option Disk). IfSome t (λ d. IsOn d.content mid → IsOn d.content w)) c.loop-self.invariant.disk.same ok.on)
     (λ d stands fills. filled d old mid w ok.start ok.at stands fills) in
     let full : length (bytes_of w) ≡ 32768 = omega (arith, length-bytes w ok.sound, ok.sound.in_room, c.if-self-lt-BLOCK_LEN.false) in
     record {
@@ -26,9 +26,7 @@ loop-self-preserved g c =
           (seen_from d old w c.deref.result.now seen.End c.deref.ensures.value read stands c.in-End.ensures.seen));
       forward = omega (arith, c.loop-self.invariant.forward, c.go_on.ensures.begins, ok.start, ok.at, ok.sound.inside, ok.sound.in_room);
       worked = ok.worked ∙ c.loop-self.invariant.worked;
-      same = ok.same ∙ c.loop-self.invariant.same;
-      adds_none = ok.adds_none ∙ c.loop-self.invariant.adds_none;
-      time = more_time g.D.Disk.told g.D.Disk.moment g.D.Disk.from g.D.Disk.since _ _ _ ok.same c.loop-self.invariant.time ok.time;
+      disk = more_read g.D.Disk _ _ _ c.loop-self.invariant.disk ok.disk;
     }
 
 pub returns-in_default : goal.returns-in_default
@@ -40,7 +38,7 @@ returns-in_default g c =
     let told = g.D.Disk.told c.args.disk.now in
     let read = ok.read in
     let on = if_both told (Stands old mid) (λ d. IsOn d.content mid → IsOn d.content w) (Stands old w) c.loop-self.invariant.on
-    (subst (λ (t : Option Disk). IfSome t (λ d. IsOn d.content mid → IsOn d.content w)) c.loop-self.invariant.same ok.on)
+    (subst (λ (t : Option Disk). IfSome t (λ d. IsOn d.content mid → IsOn d.content w)) c.loop-self.invariant.disk.same ok.on)
     (λ d stands fills. filled d old mid w ok.start ok.at stands fills) in
     record {
       sound = ok.sound;
@@ -52,8 +50,5 @@ returns-in_default g c =
       forward = omega (arith, c.loop-self.invariant.forward, ok.start, ok.at);
       worked = ok.worked ∙ c.loop-self.invariant.worked;
       fault = tt;
-      later = omega (arith, ok.worked, c.loop-self.invariant.worked);
-      same = ok.same ∙ c.loop-self.invariant.same;
-      adds_none = ok.adds_none ∙ c.loop-self.invariant.adds_none;
-      time = more_time g.D.Disk.told g.D.Disk.moment g.D.Disk.from g.D.Disk.since _ _ _ ok.same c.loop-self.invariant.time ok.time;
+      disk = more_read g.D.Disk _ _ _ c.loop-self.invariant.disk ok.disk;
     }

@@ -1,5 +1,5 @@
 use Rattle.std.proofs.Common.{◌≡◌, ◌-◌, ◌^◌, ◌≤◌, IfSome}
-use Rattle.wp_edge.specs.Disk.{TimePasses}
+use Rattle.log_reader.specs.OnlyReads.{OnlyReads}
 use Rattle.log_reader.specs.Blocks.{Reaches}
 use Rattle.log_reader.specs.Windows.{IsSound, IsOn, offset_of}
 use Rattle.log_reader.proofs.window.Window.look.Given as goal
@@ -11,9 +11,7 @@ invariant-loop-self g l = record {
   on : IfSome (g.D.Disk.told l.fn.disk) (λ d. IsOn d.content l.fn.self → IsOn d.content l.self × Reaches d.content (offset_of l.fn.self) (offset_of l.self));
   forward : offset_of l.fn.self ≤ offset_of l.self;
   worked : g.D.Disk.faults l.disk ≡ g.D.Disk.faults l.fn.disk;
-  same : g.D.Disk.told l.disk ≡ g.D.Disk.told l.fn.disk;
-  adds_none : g.D.Disk.added l.disk ≡ g.D.Disk.added l.fn.disk;
-  time : TimePasses g.D.Disk.told g.D.Disk.moment g.D.Disk.from g.D.Disk.since l.fn.disk l.disk;
+  disk : OnlyReads g.D.Disk l.fn.disk l.disk;
 }
 
 abbrev pub decreases-loop-self : goal.decreases-loop-self

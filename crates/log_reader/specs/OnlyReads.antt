@@ -1,0 +1,11 @@
+-- What reading does to a disk: it changes nothing of it.
+use Rattle.std.specs.Prelude.{◌≡◌, ◌≤◌}
+use Rattle.wp_edge.specs.Disk.{TimePasses}
+use Rattle.wp_edge.specs.declared.disk.Disk.{Ghosts}
+
+-- the disk tells what it told, its time went on, and its count of faults hasn't fallen
+pub record OnlyReads {D : Type 0} (ghosts : Ghosts D) (old new : D) : Type 0 where
+  pub later : ghosts.faults old ≤ ghosts.faults new
+  pub same : ghosts.told new ≡ ghosts.told old
+  pub adds_none : ghosts.added new ≡ ghosts.added old
+  pub time : TimePasses ghosts.told ghosts.moment ghosts.from ghosts.since old new
