@@ -262,7 +262,7 @@ drop_none zero (x ∷ xs) e = absurd (omega (arith, e))
 drop_none (suc n) (x ∷ xs) e = drop_none n xs (omega (arith, e))
 
 -- a vector's items, written over by as many
-written_over : {A : Type 0} (n : ℕ) (xs ys : List A) → length xs ≡ n → length ys ≡ n → xs ≡ take n (xs ++ drop (length xs) ys)
+pub written_over : {A : Type 0} (n : ℕ) (xs ys : List A) → length xs ≡ n → length ys ≡ n → xs ≡ take n (xs ++ drop (length xs) ys)
 written_over n xs ys e k =
     let over : xs ≡ xs ++ drop (length xs) ys = append_none xs ∙ ap (λ zs. xs ++ zs) (sym (drop_none (length xs) ys (k ∙ sym e))) in
     sym (take-length xs) ∙ ap (λ j. take j xs) e ∙ ap (take n) over

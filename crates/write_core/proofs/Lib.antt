@@ -7,6 +7,7 @@ pub mod LinkEvents
 pub mod LogEvents
 pub mod MarkLemmas
 pub mod OpeningLemmas
+pub mod OrdinalLemmas
 pub mod ReadEvents
 pub mod Removing
 pub mod ReplayLemmas

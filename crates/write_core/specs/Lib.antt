@@ -2,6 +2,7 @@ pub mod Counted
 pub mod Fresh
 pub mod Leads
 pub mod Mirrors
+pub mod Ordinals
 pub mod Phases
 pub mod Replay
 pub mod Replies

@@ -17,6 +17,7 @@ mod leaving;
 mod log;
 mod marks;
 mod opening;
+mod ordinals;
 mod phases;
 mod room;
 mod runs;

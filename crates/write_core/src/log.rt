@@ -3,6 +3,7 @@
 ghost use Rattle.std.specs.Prelude.{◌≡◌, ◌<◌, ◌≤◌, ◌+◌, ◌++◌, ◌∷◌, [], if◌then◌else◌, vec_len, vec_capacity};
 
 use crate::leaving::{note_group, note_refused, remove_range};
+use crate::ordinals::count_entries;
 use crate::phases::LogPhase;
 use crate::room::push_within;
 use crate::runs::give_runs;
@@ -89,8 +90,10 @@ impl State {
         self.assigned = give_runs(
             &mut self.linked[start..end],
             &mut self.entries,
+            &self.accepted,
             self.assigned,
         );
+        count_entries(&mut self.accepted, &self.entries[before..]);
         let given = self.entries.len() - before;
         if given == 0 {
             self.leave_hand();

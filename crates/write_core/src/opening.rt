@@ -43,6 +43,7 @@ impl State {
         let second = Vec::with_capacity(alloc, room)?;
         let groups = Vec::with_capacity(alloc, room)?;
         let entries = Vec::with_capacity(alloc, room)?;
+        let accepted = repeated(alloc, 0, plans.len())?;
         Ok(State {
             options,
             plans,
@@ -59,6 +60,7 @@ impl State {
             last_finished: None,
             groups,
             entries,
+            accepted,
             assigned: options.last,
             log_failed: false,
             last: options.last,

@@ -6,6 +6,7 @@ ghost use Rattle.std.specs.Prelude.{◌≡◌, ◌<◌, ◌≤◌, ◌+◌, ◌+
 pub(crate) fn push_within<T: Copy>(items: &mut Vec<T>, item: T)
     ensures pushed { vec_len items.old < vec_capacity items.old → items.new.items ≡ items.old.items ++ item ∷ [] }
     ensures len { vec_len items.old < vec_capacity items.old → vec_len items.new ≡ vec_len items.old + 1 }
+    ensures full { vec_capacity items.old ≤ vec_len items.old → items.new.items ≡ items.old.items }
     ensures lower { vec_len items.old ≤ vec_len items.new }
     ensures upper { vec_len items.new ≤ vec_len items.old + 1 }
     ensures capacity { vec_capacity items.new ≡ vec_capacity items.old }

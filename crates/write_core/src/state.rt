@@ -1,6 +1,7 @@
 //! The state between two events.
 
 ghost use Rattle.std.specs.Prelude.{◌≡◌, ◌+◌, ◌-◌, ◌^◌, ◌<◌, ◌≤◌, ◌⊎◌, MatchOption, vec_len};
+ghost use Rattle.write_core.specs.Ordinals.{AreCounts};
 
 use crate::phases::{LogPhase, Mark, TablePhase};
 use crate::writer::{CoreReply, Writer};
@@ -61,6 +62,8 @@ pub struct State {
     /// How many entries each logged group has.
     pub(crate) groups: Vec<u64>,
     pub(crate) entries: Vec<Entry<Lines>>,
+    /// How many of them each client has.
+    pub(crate) accepted: Vec<u64>,
     /// The sequence given last.
     pub(crate) assigned: u64,
     /// Whether the log has failed.
@@ -73,6 +76,7 @@ pub struct State {
     ghost one_mark_each: { vec_len marks ≡ vec_len plans },
     ghost one_done_each: { vec_len done ≡ vec_len plans },
     ghost assigned_fits: { assigned ≤ 2 ^ 56 - 1 },
+    ghost entries_counted: { AreCounts accepted.items entries.items },
 }
 
 impl State {

@@ -1,5 +1,5 @@
-use Rattle.std.proofs.Common.{◌≡◌, ◌+◌, ◌≤◌, ◌^◌, ◌-◌, ◌==◌, ◌++◌, ◌∷◌, [], ℕ, List, Some, map, take, sym, ap, ◌∙◌, subst, arith}
-use Rattle.std.specs.Prelude.{count_by}
+use Rattle.std.proofs.Common.{◌≡◌, ◌+◌, ◌≤◌, ◌^◌, ◌-◌, ◌==◌, ◌++◌, ◌∷◌, [], ℕ, List, Some, map, take, vec_len, sym, ap, ◌∙◌, subst, arith}
+use Rattle.std.specs.Prelude.{count_by, vec_capacity}
 use Rattle.wp_model.specs.declared.write.Refusal.{Refusal}
 use Rattle.core_model.specs.Core as core
 use Rattle.write_core.specs.declared.writer.Writer.{Writer}
@@ -7,6 +7,7 @@ use Rattle.write_core.specs.declared.writer.Answer.TheVariants.{Accepted, Refuse
 use Rattle.write_core.specs.Runs.{GotRuns}
 use Rattle.write_core.specs.Shown.{CoreEntry, shown_entry}
 use Rattle.write_core.proofs.RunLemmas.{got_run, got_refusal, ordinal_is, new_entry}
+use Rattle.write_core.proofs.OrdinalLemmas.{prefix_push}
 use Rattle.write_core.proofs.runs.give_run.Goals as goal
 
 pub returns-clause-got : goal.returns-clause-got
@@ -34,6 +35,11 @@ returns-clause-got c = λ plans s counted e room.
     let Q : ℕ → Type 0 = λ a. G new a (last + w.count) in
     let R : ℕ → Type 0 = λ b. G new run.first b in
     subst R (sym end) (subst Q (sym first) (subst P (sym pushed) (got_run plans s last (n + 1) w front counted fits nth)))
+
+pub returns-clause-front : goal.returns-clause-front
+returns-clause-front c =
+    let old = c.args.entries.now in
+    prefix_push c.args.before (vec_len old) (vec_capacity old) old.items c.push_within.new.items.items _ (omega (arith, c.requires.known, old.ok.0)) c.push_within.ensures.pushed c.push_within.ensures.full
 
 pub returns-in-Err-clause-got : goal.returns-in-Err-clause-got
 returns-in-Err-clause-got c = λ plans s counted e room.

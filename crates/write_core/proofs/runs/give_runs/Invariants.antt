@@ -17,6 +17,7 @@ invariant-loop-writer l = record {
   writers : map unanswered l.group ≡ map unanswered l.initial.group;
   same_len : length l.group ≡ length l.initial.group;
   fits : l.given ≤ 2 ^ 56 - 1;
+  front : take (vec_len l.initial.entries) l.entries.items ≡ l.initial.entries.items;
   lower : vec_len l.initial.entries ≤ vec_len l.entries;
   upper : vec_len l.entries ≤ vec_len l.initial.entries + l.writer-index;
   capacity : vec_capacity l.entries ≡ vec_capacity l.initial.entries;

@@ -11,6 +11,7 @@ use Rattle.write_core.specs.Leads.{leads_front}
 use Rattle.write_core.proofs.Events.{first_fails, both_hold}
 use Rattle.write_core.proofs.LogEvents.{hand_of, leads_within, leads_some, built_parts, first_at, no_writer}
 use Rattle.write_core.proofs.HandRuns.{log_group_is, hand_got, none_shown, some_shown, unlogged_alike, none_more, built_unanswered, built_shown, built_has_group, size_of_group}
+use Rattle.write_core.proofs.OrdinalLemmas.{counts_after, rest_is}
 use Rattle.write_core.proofs.RunLemmas.{append_none}
 use Rattle.write_core.proofs.state.State.log_group.Goals as goal
 
@@ -119,3 +120,19 @@ returns-clause-steps c = λ o s is_core m.
         group_room = group_room;
       };
     }))
+
+pub invariant_of-self-clause-entries_counted : goal.invariant_of-self-clause-entries_counted
+invariant_of-self-clause-entries_counted c =
+    let r = c.args.self.now in
+    let es = c.give_runs-self.new.entries in
+    counts_after r.accepted.items (vec_len r.accepted) c.count_entries.new.counts c.deref_mut-2.result.now r.entries.items es.items _ (vec_len r.entries) c.len-before.result
+    r.accepted.ok.0 c.deref_mut-2.ensures.value (omega (arith, c.count_entries.auto.counts)) c.give_runs-self.ensures.front (rest_is c.deref-2.result.now es.items c.len-before.result c.deref-2.ensures.value) c.len-before.ensures
+    r.entries_counted (omega (arith, es.ok.0, c.len.ensures)) c.count_entries.ensures
+
+pub invariant_of-self-2-clause-entries_counted : goal.invariant_of-self-2-clause-entries_counted
+invariant_of-self-2-clause-entries_counted c =
+    let r = c.args.self.now in
+    let es = c.give_runs-self.new.entries in
+    counts_after r.accepted.items (vec_len r.accepted) c.count_entries.new.counts c.deref_mut-2.result.now r.entries.items es.items _ (vec_len r.entries) c.len-before.result
+    r.accepted.ok.0 c.deref_mut-2.ensures.value (omega (arith, c.count_entries.auto.counts)) c.give_runs-self.ensures.front (rest_is c.deref-2.result.now es.items c.len-before.result c.deref-2.ensures.value) c.len-before.ensures
+    r.entries_counted (omega (arith, es.ok.0, c.len.ensures)) c.count_entries.ensures
