@@ -20,14 +20,16 @@ use write_core::State;
 
 /// The map at the sequence that was published last.
 pub fn map(state: &State, alloc: Global) -> Result<PairMap, NoMemory>
-    ensures { (o : core.Options) (s : core.State) → IsCore o s → Shows state.now o s → IfOk result (λ m. m ≡ core.published_map s) }
+    ensures { (o : core.Options) (s : core.State) → IsCore o s → Shows state.now o s
+        → IfOk result (λ m. m ≡ core.published_map s) }
 {
     map_at(state, alloc, state.last())
 }
 
 /// The map after the entries whose runs end at a sequence or before, as a read at that sequence sees it.
 pub fn map_at(state: &State, alloc: Global, at: u64) -> Result<PairMap, NoMemory>
-    ensures { (o : core.Options) (s : core.State) → IsCore o s → Shows state.now o s → IfOk result (λ m. m ≡ map_up_to at s.entries) }
+    ensures { (o : core.Options) (s : core.State) → IsCore o s → Shows state.now o s
+        → IfOk result (λ m. m ≡ map_up_to at s.entries) }
 {
     let mut read = MapUpTo::new(alloc);
     read.move_to(state, at)?;

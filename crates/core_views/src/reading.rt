@@ -46,9 +46,11 @@ impl MapUpTo {
     /// The value of a key after the entries whose runs end at a sequence or before. The map moves there. Without memory
     /// it begins anew before the first entry.
     pub fn value(&mut self, state: &State, key: &[u8], at: u64) -> Result<Found, NoMemory>
-        ensures value { (o : core.Options) (s : core.State) → IsCore o s → Shows state.now o s → IsMapOf s.entries self.old
+        ensures value { (o : core.Options) (s : core.State) → IsCore o s → Shows state.now o s
+            → IsMapOf s.entries self.old
             → IfOk result (λ found. found_value found ≡ value_at (map_up_to at s.entries) key.now) }
-        ensures kept { (o : core.Options) (s : core.State) → IsCore o s → Shows state.now o s → IsMapOf s.entries self.old
+        ensures kept { (o : core.Options) (s : core.State) → IsCore o s → Shows state.now o s
+            → IsMapOf s.entries self.old
             → IsMapOf s.entries self.new }
     {
         self.move_to(state, at)?;
@@ -67,9 +69,11 @@ impl MapUpTo {
 
     /// Moves the map to a sequence. Without memory it begins anew.
     pub(crate) fn move_to(&mut self, state: &State, at: u64) -> Result<(), NoMemory>
-        ensures map { (o : core.Options) (s : core.State) → IsCore o s → Shows state.now o s → IsMapOf s.entries self.old
+        ensures map { (o : core.Options) (s : core.State) → IsCore o s → Shows state.now o s
+            → IsMapOf s.entries self.old
             → OnOk result (self.new.map ≡ map_up_to at s.entries) }
-        ensures kept { (o : core.Options) (s : core.State) → IsCore o s → Shows state.now o s → IsMapOf s.entries self.old
+        ensures kept { (o : core.Options) (s : core.State) → IsCore o s → Shows state.now o s
+            → IsMapOf s.entries self.old
             → IsMapOf s.entries self.new }
     {
         self.move_back(at);
@@ -94,9 +98,11 @@ impl MapUpTo {
 
     /// Moves the map on to a sequence, which isn't before its own. After an error it isn't used.
     fn move_on(&mut self, state: &State, at: u64) -> Result<(), NoMemory>
-        ensures map { (o : core.Options) (s : core.State) → IsCore o s → Shows state.now o s → IsMapOf s.entries self.old → self.old.at ≤ at
+        ensures map { (o : core.Options) (s : core.State) → IsCore o s → Shows state.now o s
+            → IsMapOf s.entries self.old → self.old.at ≤ at
             → OnOk result (self.new.map ≡ map_up_to at s.entries) }
-        ensures kept { (o : core.Options) (s : core.State) → IsCore o s → Shows state.now o s → IsMapOf s.entries self.old → self.old.at ≤ at
+        ensures kept { (o : core.Options) (s : core.State) → IsCore o s → Shows state.now o s
+            → IsMapOf s.entries self.old → self.old.at ≤ at
             → OnOk result (IsMapOf s.entries self.new) }
     {
         let entries = state.entries();

@@ -24,7 +24,8 @@ fn put_found(text: &mut Bytes, found: &Found) -> Result<(), NoMemory>
 
 /// Puts the reply to a read of several keys behind the text.
 pub fn put_found_each(text: &mut Bytes, at: u64, values: &FoundList) -> Result<(), NoMemory>
-    ensures { OnOk result (text.new ≡ text.old ++ line (codes "many" ∷ decimal at ∷ decimal (length values.now) ∷ map found_word values.now)) }
+    ensures { OnOk result (text.new ≡ text.old ++ line (codes "many" ∷ decimal at ∷ decimal (length values.now)
+        ∷ map found_word values.now)) }
 {
     text.append(b"many")?;
     put_numbers(text, &[at, values.len() as u64])?;
@@ -46,7 +47,8 @@ fn put_row(text: &mut Bytes, key: &[u8], value: &[u8]) -> Result<(), NoMemory>
 
 /// Puts the reply to a scan behind the text.
 pub fn put_rows(text: &mut Bytes, at: u64, rows: &PairList) -> Result<(), NoMemory>
-    ensures { OnOk result (text.new ≡ text.old ++ line (codes "scan" ∷ decimal at ∷ decimal (length rows.now) ∷ flat_map pair_words rows.now)) }
+    ensures { OnOk result (text.new ≡ text.old ++ line (codes "scan" ∷ decimal at ∷ decimal (length rows.now)
+        ∷ flat_map pair_words rows.now)) }
 {
     text.append(b"scan")?;
     put_numbers(text, &[at, rows.len() as u64])?;

@@ -17,7 +17,8 @@ use wp_model::{Damage, EndReason, NoMemory};
 /// The text of what a log recovers: a line for each group, the map at the last sequence in hexadecimal digits, and where and
 /// why recovery ended.
 pub fn recovered_text(alloc: Global, recovered: &Recovered) -> Result<Bytes, NoMemory>
-    ensures { IfOk result (λ t. (r : recovery.Recovered) → ShowsRecovered recovered.now r → t ≡ model.recovered_text r) }
+    ensures { IfOk result (λ t. (r : recovery.Recovered) → ShowsRecovered recovered.now r
+        → t ≡ model.recovered_text r) }
 {
     let mut text = Bytes::new(alloc);
     put_groups(&mut text, &recovered.groups)?;

@@ -27,7 +27,8 @@ impl State {
     /// What a client was told so far, in order; nothing for a number that no client has.
     pub fn replies(&self, client: u32) -> &[CoreReply]
         ensures { (o : core.Options) (s : core.State) → Shows self.now o s
-            → MatchOption (core.client_at s client) (result.now ≡ []) (λ c. AreReplies result.now (answers_of c.calls)) }
+            → MatchOption (core.client_at s client) (result.now ≡ [])
+            (λ c. AreReplies result.now (answers_of c.calls)) }
     {
         let Some(place) = self.place_of(client) else {
             return &[];

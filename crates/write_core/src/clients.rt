@@ -57,7 +57,8 @@ impl State {
     /// The client's writer has left with its answer. The client is told, and is idle again. After an accepted commit its
     /// batch is empty.
     pub(crate) fn complete(&mut self, client: u32) -> bool
-        ensures steps { Steps (λ o s. event.complete s client (find (λ (w : core.Writer). w.client == client) s.leaving))
+        ensures steps { Steps (λ o s. event.complete s client
+            (find (λ (w : core.Writer). w.client == client) s.leaving))
             self.old result self.new }
         ensures unchanged { result ≡ false → self.new ≡ self.old }
         ensures plans { plans_in self.new ≡ plans_in self.old }
@@ -115,7 +116,13 @@ fn new_writer(client: u32, options: WriteOptions, batch: Lines, count: u64) -> W
 
 /// What grouping sees of a writer.
 fn item_of(options: WriteOptions, size: u64) -> Item
-    ensures { result ≡ record { size = size; sync = options.sync; no_log = options.no_log; no_slowdown = options.no_slowdown } }
+    ensures { result ≡ record {
+      size = size;
+      sync = options.sync;
+      no_log = options.no_log;
+      no_slowdown =
+          options.no_slowdown;
+    } }
 {
     Item {
         size,

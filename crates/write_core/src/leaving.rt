@@ -66,7 +66,8 @@ pub(crate) fn note_refused(done: &mut Vec<Option<Writer>>, group: &[Writer], why
     ensures len { vec_len done.new ≡ vec_len done.old }
     ensures noted { (plans : List ClientPlan) (leaving : List core.Writer) → AreDone plans done.old.items leaving
         → AllByRecursion (IsClientOf (length done.old.items)) group.now
-        → AreDone plans done.new.items (leaving ++ core.all_answered (refused why) (map (shown_writer plans) group.now)) }
+        → AreDone plans done.new.items (leaving ++ core.all_answered (refused why)
+        (map (shown_writer plans) group.now)) }
 {
     for writer in group {
         note_done(

@@ -59,7 +59,8 @@ impl State {
     /// How many writers of the queue the next group takes.
     fn group_size(&self) -> usize
         ensures rule { 0 < length (drop (self.now.in_second + self.now.in_hand) self.now.items.items)
-            → result ≡ group_len self.now.options.group_bytes (drop (self.now.in_second + self.now.in_hand) self.now.items.items) }
+            → result ≡ group_len self.now.options.group_bytes
+            (drop (self.now.in_second + self.now.in_hand) self.now.items.items) }
         ensures within { self.now.in_second + self.now.in_hand + result ≤ vec_len self.now.linked }
     {
         let queue = self.in_second + self.in_hand;
@@ -232,7 +233,8 @@ impl State {
 
     /// Whether the client leads a group that is built.
     fn has_built(&self, client: u32) -> bool
-        ensures { result ≡ (is_built self.now.log && leads_front client self.now.in_second self.now.in_hand self.now.linked.items) }
+        ensures { result ≡ (is_built self.now.log && leads_front client self.now.in_second self.now.in_hand
+            self.now.linked.items) }
     {
         self.log.is_built() && self.leads_hand(client)
     }

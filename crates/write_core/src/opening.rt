@@ -31,7 +31,8 @@ impl State {
         requires few { vec_len plans ≤ 16 }
         requires small { AllByRecursion IsSmallPlan plans.items }
         requires last_fits { options.last ≤ 2 ^ 56 - 1 }
-        ensures shows { IfOk result (λ r. Shows r (options_of options) (core.opened (options_of options) (plans_of plans.items))) }
+        ensures shows { IfOk result (λ r. Shows r (options_of options)
+            (core.opened (options_of options) (plans_of plans.items))) }
         ensures plans { IfOk result (λ r. plans_in r ≡ plans.items) }
     {
         let room = total_lines(&plans)?;

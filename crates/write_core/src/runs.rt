@@ -59,7 +59,8 @@ fn give_run(
     ensures got { (plans : List ClientPlan) (s : core.State) → IsCounted plans writer.old
         → s.entries ≡ map (shown_entry plans) (take before entries.old.items)
         → vec_len entries.old < vec_capacity entries.old
-        → GotRuns plans s (map (shown_entry plans) entries.old.items) last (writer.old ∷ []) (writer.new ∷ []) entries.new.items result }
+        → GotRuns plans s (map (shown_entry plans) entries.old.items) last (writer.old ∷ [])
+        (writer.new ∷ []) entries.new.items result }
     ensures writer { unanswered writer.new ≡ unanswered writer.old }
     ensures fits { result ≤ 2 ^ 56 - 1 }
     ensures front { take before entries.new.items ≡ take before entries.old.items }

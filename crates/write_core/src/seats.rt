@@ -53,7 +53,8 @@ pub(crate) fn settle(seat: &mut Seat, answer: Answer)
 /// Where the next call of a client is, if the client is idle.
 pub(crate) fn next_call(plan: &ClientPlan, seat: &Seat) -> Option<Ahead>
     ensures { (client : core.Client) → IsClient plan.now seat.now client
-        → MatchOption result (client.idle ≡ false) (λ a. (client.idle ≡ true) × IsAhead plan.now.lines.items seat.now.next a client.calls client (core.next_call client)) }
+        → MatchOption result (client.idle ≡ false) (λ a. (client.idle ≡ true)
+        × IsAhead plan.now.lines.items seat.now.next a client.calls client (core.next_call client)) }
 {
     if !seat.idle {
         return None;

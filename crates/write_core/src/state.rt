@@ -82,7 +82,8 @@ pub struct State {
 impl State {
     /// Where the plan and the seat of a client are.
     pub(crate) fn place_of(&self, client: u32) -> Option<usize>
-        ensures { MatchOption result ((client ≡ 0) ⊎ (vec_len self.now.plans < client)) (λ place. (client ≡ place + 1) × (place < vec_len self.now.plans)) }
+        ensures { MatchOption result ((client ≡ 0) ⊎ (vec_len self.now.plans < client)) (λ place. (client ≡ place + 1)
+            × (place < vec_len self.now.plans)) }
     {
         let place = (client as usize).checked_sub(1)?;
         if place < self.plans.len() {

@@ -186,7 +186,8 @@ impl State {
     /// Whether all that have runs in the group in the table are finished.
     fn all_finished(&self) -> bool
         ensures { result
-            ≡ list_all (λ w. not (has_run w.answer) || is_finished (mark_of self.now.marks.items w.client)) (table_group_in self.now) }
+            ≡ list_all (λ w. not (has_run w.answer) || is_finished (mark_of self.now.marks.items w.client))
+            (table_group_in self.now) }
     {
         let start = self.table_start();
         let len = self.table_len();

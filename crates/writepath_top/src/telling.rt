@@ -41,7 +41,8 @@ pub fn refuse<K: Sink>(sink: &mut K, text: &[u8])
 
 /// Prints a refusal whose text was made, if there was memory for it.
 fn refuse_with<K: Sink>(sink: &mut K, text: Result<Bytes, NoMemory>, status: Status) -> Status
-    ensures made { IfOk text (λ t. (result ≡ status) × SaysTo (K.taken sink.old) (K.taken sink.new) t (K.faults sink.old) (K.faults sink.new)) }
+    ensures made { IfOk text (λ t. (result ≡ status) × SaysTo (K.taken sink.old) (K.taken sink.new) t
+        (K.faults sink.old) (K.faults sink.new)) }
     ensures none { OnErr text ((result ≡ Status.Memory) × (K.taken sink.new ≡ K.taken sink.old)) }
 {
     match text {
@@ -82,7 +83,8 @@ pub fn tell_end<K: Sink>(alloc: Global, sink: &mut K, end: &End) -> Status
 
 /// Prints an outcome, whole.
 fn tell_outcome<K: Sink>(alloc: Global, sink: &mut K, outcome: &Outcome<PairList>) -> Status
-    ensures { TellsOutcome (K.taken sink.old) (K.taken sink.new) (K.faults sink.old) (K.faults sink.new) outcome.now result }
+    ensures { TellsOutcome (K.taken sink.old) (K.taken sink.new) (K.faults sink.old)
+        (K.faults sink.new) outcome.now result }
 {
     let Ok(text) = outcome_text(alloc, outcome) else {
         return Status::Memory;
@@ -112,7 +114,8 @@ pub fn tell_recovery<K: Sink>(
     sink: &mut K,
     found: &Result<Recovered, RecoverError>,
 ) -> Status
-    ensures { TellsRecovery (K.taken sink.old) (K.taken sink.new) (K.faults sink.old) (K.faults sink.new) found.now result }
+    ensures { TellsRecovery (K.taken sink.old) (K.taken sink.new) (K.faults sink.old)
+        (K.faults sink.new) found.now result }
 {
     match found {
         Ok(recovered) => tell_recovered(alloc, sink, recovered),
@@ -121,7 +124,8 @@ pub fn tell_recovery<K: Sink>(
 }
 
 fn tell_recover_error<K: Sink>(alloc: Global, sink: &mut K, why: RecoverError) -> Status
-    ensures { TellsRecoverError (K.taken sink.old) (K.taken sink.new) (K.faults sink.old) (K.faults sink.new) why result }
+    ensures { TellsRecoverError (K.taken sink.old) (K.taken sink.new) (K.faults sink.old)
+        (K.faults sink.new) why result }
 {
     match why {
         RecoverError::Fault { count } => refuse_with(sink, disk_fault(alloc, count), Status::Disk),
@@ -130,7 +134,8 @@ fn tell_recover_error<K: Sink>(alloc: Global, sink: &mut K, why: RecoverError) -
 }
 
 fn tell_recovered<K: Sink>(alloc: Global, sink: &mut K, recovered: &Recovered) -> Status
-    ensures { ShownEndsSo (K.taken sink.old) (K.taken sink.new) (K.faults sink.old) (K.faults sink.new) recovered.now result }
+    ensures { ShownEndsSo (K.taken sink.old) (K.taken sink.new) (K.faults sink.old)
+        (K.faults sink.new) recovered.now result }
 {
     let Ok(text) = recovered_text(alloc, recovered) else {
         return Status::Memory;
@@ -147,7 +152,8 @@ pub fn tell_replay<K: Sink>(
     sink: &mut K,
     replayed: &Result<Replayed, NoMemory>,
 ) -> Status
-    ensures { TellsReplay (K.taken sink.old) (K.taken sink.new) (K.faults sink.old) (K.faults sink.new) replayed.now result }
+    ensures { TellsReplay (K.taken sink.old) (K.taken sink.new) (K.faults sink.old)
+        (K.faults sink.new) replayed.now result }
 {
     match replayed {
         Ok(replayed) => tell_replayed(alloc, sink, replayed),
@@ -156,7 +162,8 @@ pub fn tell_replay<K: Sink>(
 }
 
 fn tell_replayed<K: Sink>(alloc: Global, sink: &mut K, replayed: &Replayed) -> Status
-    ensures { ReplayEndsSo (K.taken sink.old) (K.taken sink.new) (K.faults sink.old) (K.faults sink.new) replayed.now result }
+    ensures { ReplayEndsSo (K.taken sink.old) (K.taken sink.new) (K.faults sink.old)
+        (K.faults sink.new) replayed.now result }
 {
     let Ok(text) = replayed_text(alloc, replayed) else {
         return Status::Memory;
