@@ -18,15 +18,18 @@ ghost use Rattle.account_model.specs.ClientRuns.{Goes, Lacks};
 pub fn commits_are_steps()
     ensures added { (settings : Settings) (v : Account) (pending : List Record) (r : Record)
         → Goes settings v pending (add r) quiet v (pending ++ r ∷ []) }
-    ensures cleared { (settings : Settings) (v : Account) (pending : List Record) → Goes settings v pending clear quiet v [] }
+    ensures cleared { (settings : Settings) (v : Account) (pending : List Record)
+        → Goes settings v pending clear quiet v [] }
     ensures accepted { (settings : Settings) (v : Account) (pending : List Record) (how : WriteOptions)
         (first last group_last : ℕ) (w : Account)
         → last + 1 ≡ first + count_of pending → Wrote settings v pending how first group_last w
         → Goes settings v pending (commit how) (accepted first last pending) w [] }
-    ensures refused { (settings : Settings) (v : Account) (pending : List Record) (how : WriteOptions) (why : Refusal) (w : Account)
+    ensures refused { (settings : Settings) (v : Account) (pending : List Record) (how : WriteOptions) (why : Refusal)
+        (w : Account)
         → (why ≡ NoMemory → ⊥) → Refuses settings v pending how why w
         → Goes settings v pending (commit how) (refused why) w pending }
-    ensures out_of_memory { (settings : Settings) (v : Account) (pending : List Record) (how : WriteOptions) (w : Account)
+    ensures out_of_memory { (settings : Settings) (v : Account) (pending : List Record) (how : WriteOptions)
+        (w : Account)
         → Refuses settings v pending how NoMemory w → Lacks settings v pending (commit how) w }
 {}
 

@@ -40,10 +40,12 @@ pub fn led_groups()
     ensures whole { (group_bytes : ℕ) (queue : List Item) → 0 < length queue
         → group_len group_bytes (take (group_len group_bytes queue) queue)
         ≡ length (take (group_len group_bytes queue) queue) }
-    ensures groups { (group_bytes : ℕ) (controller_calls : List ControllerCall) (led : List Led) (attempts : List (List Attempt))
+    ensures groups { (group_bytes : ℕ) (controller_calls : List ControllerCall) (led : List Led)
+        (attempts : List (List Attempt))
         → AreLed group_bytes controller_calls led attempts
         → AreGroups group_bytes controller_calls (groups_of led) attempts }
-    ensures slowed { (group_bytes : ℕ) (controller_calls : List ControllerCall) (led : List Led) (attempts : List (List Attempt))
+    ensures slowed { (group_bytes : ℕ) (controller_calls : List ControllerCall) (led : List Led)
+        (attempts : List (List Attempt))
         → AreLed group_bytes controller_calls led attempts
         → (i : ℕ) (own : List Attempt) (k : ℕ) (attempt : Attempt) (place : ℕ) → slice_get attempts i ≡ Some own
         → slice_get own k ≡ Some attempt → attempt.status ≡ slowed place → Holds (groups_of led) place (i + 1) k }

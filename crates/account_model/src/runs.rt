@@ -11,7 +11,8 @@ ghost use Rattle.account_model.specs.ClientRuns.{Goes, Lacks, Went, HasRun, with
 /// A client starts with nothing, and each step brings it on.
 pub fn calls_one_after_another()
     ensures no_call { (settings : Settings) (start number : ℕ) → Went settings [] (newcomer start number) [] }
-    ensures one_more { (settings : Settings) (calls : List Call) (v : Account) (before : List Record) (c : Command) (r : Reply)
+    ensures one_more { (settings : Settings) (calls : List Call) (v : Account) (before : List Record) (c : Command)
+        (r : Reply)
         (w : Account) (after : List Record)
         → Went settings calls v before → Goes settings v before c r w after
         → Went settings (with_call calls c r) w after }

@@ -19,7 +19,8 @@ pub fn earlier_sights()
 
 /// Who has seen the first of all groups that were published has seen some of each trace whose entries made those groups.
 pub fn sights_of_the_table()
-    ensures saw { (trace : Trace) (history : List (List MemberVersions)) → Images versions_of_entry trace.entries history
+    ensures saw { (trace : Trace) (history : List (List MemberVersions))
+        → Images versions_of_entry trace.entries history
         → (sight : Sight) → sight.start ≡ trace.start → Begins sight.published history
         → IsPrefix sight.controller_calls trace.controller_calls → Saw sight trace }
 {}

@@ -7,10 +7,10 @@ ghost use Rattle.wp_model.specs.Progress.{early_refusal};
 ghost use Rattle.client_calls.specs.Measures.{measure_of};
 
 use wp_model::{Flag, Refusal, WriteOptions};
-use write_batch::{Batch, MAX_SIZE};
+use write_batch::{Batch, HEADER_LEN, MAX_SIZE};
 
 /// The bytes of a batch's header, before its records.
-pub const BATCH_HEADER_LEN: u64 = 12;
+pub const BATCH_HEADER_LEN: u64 = HEADER_LEN as u64;
 
 /// What the checks see of a batch: the bytes that it has, and how many of its records count.
 #[derive(Clone, Copy, Debug, PartialEq, Eq)]

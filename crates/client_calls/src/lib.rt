@@ -16,7 +16,8 @@ pub use entry::Entry;
 pub use options::Options;
 pub use outcome::Outcome;
 pub use reply::Reply;
-pub use run::{MAX_SEQUENCE, Run, next_run};
+pub use run::{Run, next_run};
+pub use write_batch::MAX_SEQUENCE;
 
 #[cfg(test)]
 mod tests;

@@ -4,9 +4,7 @@ ghost use Rattle.std.specs.Prelude.{◌≡◌, ◌+◌, ◌<◌, ◌≤◌, IfOk
 ghost use Rattle.wp_model.specs.History.{max_sequence};
 
 use wp_model::Refusal;
-
-/// The greatest sequence, `kMaxSequenceNumber` of RocksDB's db/dbformat.h.
-pub const MAX_SEQUENCE: u64 = (1 << 56) - 1;
+use write_batch::MAX_SEQUENCE;
 
 /// The sequences of a batch, from the first to the last.
 #[derive(Clone, Copy, Debug, PartialEq, Eq)]

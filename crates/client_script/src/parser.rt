@@ -108,7 +108,8 @@ pub fn add_said(
     requires { client_limit < 2 ^ 64 - 1 }
     ensures script { Reads (λ _. commands_of script.new)
         (said_added client_limit (commands_of script.old) line.now) result }
-    ensures few { length script.old.clients.items ≤ client_limit → OnOk result (length script.new.clients.items ≤ client_limit) }
+    ensures few { length script.old.clients.items ≤ client_limit
+        → OnOk result (length script.new.clients.items ≤ client_limit) }
     ensures len { OnOk result
         (script_len script.new ≤ script_len script.old + length line.now + 1) }
     ensures commands { HasScriptCommands script.old → OnOk result (HasScriptCommands script.new) }
@@ -129,7 +130,8 @@ fn add_section(
     requires { client_limit < 2 ^ 64 - 1 }
     ensures script { Reads (λ _. commands_of script.new)
         (model.with_section client_limit (commands_of script.old) number) result }
-    ensures few { length script.old.clients.items ≤ client_limit → OnOk result (length script.new.clients.items ≤ client_limit) }
+    ensures few { length script.old.clients.items ≤ client_limit
+        → OnOk result (length script.new.clients.items ≤ client_limit) }
     ensures len { OnOk result (script_len script.new ≡ script_len script.old) }
     ensures commands { HasScriptCommands script.old → OnOk result (HasScriptCommands script.new) }
 {

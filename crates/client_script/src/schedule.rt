@@ -50,7 +50,8 @@ pub fn parse_schedule(alloc: Global, text: &[u8]) -> Result<Schedule, ScriptErro
 
     // It has a client at least, all that each adds fits one batch, whatever becomes of its commits,
     // and no command is of another form than a script's.
-    ensures clients { IfOk result (λ s. (1 ≤ length s.script.clients.items) × (length s.script.clients.items ≤ CLIENT_LIMIT)) }
+    ensures clients { IfOk result (λ s. (1 ≤ length s.script.clients.items)
+        × (length s.script.clients.items ≤ CLIENT_LIMIT)) }
     ensures fits { IfOk result (λ s. FitsBatches s.script) }
     ensures commands { IfOk result (λ s. HasScriptCommands s.script) }
 {

@@ -9,16 +9,20 @@ ghost use Rattle.command_line.specs.Meaning.{asked_in, asked_of};
 
 /// Lawful words ask for what they say.
 pub fn lawful_words()
-    ensures { (words : List (String Global)) (asked : Asked) → lawful_of words ≡ Some asked → asked_of words ≡ Some asked }
+    ensures { (words : List (String Global)) (asked : Asked) → lawful_of words ≡ Some asked
+        → asked_of words ≡ Some asked }
 {}
 
 /// Words that ask for something, in lawful form and in another that is read too.
 pub fn words_that_ask()
     ensures run { asked_in (codes "writepath" ∷ codes "run" ∷ []) ≡ Some (Run 16777216 0) }
     ensures recover { asked_in (codes "writepath" ∷ codes "recover" ∷ []) ≡ Some Recover }
-    ensures replay { asked_in (codes "writepath" ∷ codes "replay" ∷ codes "--last" ∷ codes "7" ∷ codes "--group-bytes" ∷ codes "1" ∷ []) ≡ Some (Replay 1 16777216 7) }
-    ensures with_equals_sign { asked_in (codes "writepath" ∷ codes "run" ∷ codes "--last=4" ∷ []) ≡ Some (Run 16777216 4) }
-    ensures with_leading_zero { asked_in (codes "writepath" ∷ codes "run" ∷ codes "--last" ∷ codes "04" ∷ []) ≡ Some (Run 16777216 4) }
+    ensures replay { asked_in (codes "writepath" ∷ codes "replay" ∷ codes "--last" ∷ codes "7" ∷ codes "--group-bytes"
+        ∷ codes "1" ∷ []) ≡ Some (Replay 1 16777216 7) }
+    ensures with_equals_sign { asked_in (codes "writepath" ∷ codes "run" ∷ codes "--last=4" ∷ [])
+        ≡ Some (Run 16777216 4) }
+    ensures with_leading_zero { asked_in (codes "writepath" ∷ codes "run" ∷ codes "--last" ∷ codes "04" ∷ [])
+        ≡ Some (Run 16777216 4) }
 {}
 
 /// Words that ask for nothing.
@@ -26,11 +30,14 @@ pub fn words_that_do_not_ask()
     ensures no_command { asked_in (codes "writepath" ∷ []) ≡ None }
     ensures unknown_command { asked_in (codes "writepath" ∷ codes "walk" ∷ []) ≡ None }
     ensures unknown_word { asked_in (codes "writepath" ∷ codes "run" ∷ codes "x" ∷ []) ≡ None }
-    ensures option_of_another_command { asked_in (codes "writepath" ∷ codes "recover" ∷ codes "--last" ∷ codes "1" ∷ []) ≡ None }
+    ensures option_of_another_command { asked_in (codes "writepath" ∷ codes "recover" ∷ codes "--last" ∷ codes "1" ∷ [])
+        ≡ None }
     ensures option_without_value { asked_in (codes "writepath" ∷ codes "run" ∷ codes "--last" ∷ []) ≡ None }
-    ensures option_twice { asked_in (codes "writepath" ∷ codes "run" ∷ codes "--last" ∷ codes "1" ∷ codes "--last" ∷ codes "2" ∷ []) ≡ None }
+    ensures option_twice { asked_in (codes "writepath" ∷ codes "run" ∷ codes "--last" ∷ codes "1" ∷ codes "--last"
+        ∷ codes "2" ∷ []) ≡ None }
     ensures below_range { asked_in (codes "writepath" ∷ codes "run" ∷ codes "--batch-bytes" ∷ codes "11" ∷ []) ≡ None }
-    ensures above_range { asked_in (codes "writepath" ∷ codes "run" ∷ codes "--last" ∷ codes "72057594037927936" ∷ []) ≡ None }
+    ensures above_range { asked_in (codes "writepath" ∷ codes "run" ∷ codes "--last" ∷ codes "72057594037927936" ∷ [])
+        ≡ None }
     ensures help_of_command { asked_in (codes "writepath" ∷ codes "run" ∷ codes "--help" ∷ []) ≡ None }
     ensures help { asked_in (codes "writepath" ∷ codes "help" ∷ codes "run" ∷ []) ≡ None }
     ensures version { asked_in (codes "writepath" ∷ codes "--version" ∷ []) ≡ None }

@@ -24,7 +24,8 @@ pub struct Ahead {
 /// or empties it is passed on the way.
 pub fn look_ahead(lines: &[Command], at: usize, from: usize) -> Ahead
     ensures { (calls : List Call) (client : core.Client) → from ≤ at → at ≤ length lines.now
-        → IsAhead lines.now at result calls client (core.ahead calls (added_between from at lines.now) (drop at (map command_of lines.now)) client) }
+        → IsAhead lines.now at result calls client (core.ahead calls (added_between from at lines.now)
+        (drop at (map command_of lines.now)) client) }
 {
     let mut begin = from;
     for place in at..lines.len() {

@@ -43,7 +43,8 @@ fn cap(max: u64, leader: Item) -> u64
 
 /// Whether a writer joins a leader's group, of whose cap so much is left.
 fn joins(leader: Item, writer: Item, room: u64) -> bool
-    ensures { result ≡ ((not writer.sync || leader.sync) && same_bool writer.no_slowdown leader.no_slowdown && same_bool writer.no_log leader.no_log && nat_le writer.size room) }
+    ensures { result ≡ ((not writer.sync || leader.sync) && same_bool writer.no_slowdown leader.no_slowdown && same_bool
+        writer.no_log leader.no_log && nat_le writer.size room) }
 {
     (!writer.sync || leader.sync)
         && writer.no_slowdown == leader.no_slowdown
@@ -54,5 +55,6 @@ fn joins(leader: Item, writer: Item, room: u64) -> bool
 /// The group is the longest that the rule allows: each writer in it may join, and the next one, if there is one,
 /// may not.
 pub fn group_is_longest()
-    ensures { (max : ℕ) (leader : Item) (behind : List Item) → IsLongestGroup max leader behind (group_len max (leader ∷ behind)) }
+    ensures { (max : ℕ) (leader : Item) (behind : List Item)
+        → IsLongestGroup max leader behind (group_len max (leader ∷ behind)) }
 {}

@@ -7,5 +7,6 @@ use crate::headers::BLOCK_LEN;
 
 /// What is written of a record depends on the log's length by the place in its block alone.
 pub fn text_by_place()
-    ensures { (m n : ℕ) (bytes : List ℕ) → m % BLOCK_LEN ≡ n % BLOCK_LEN → log.record_text None m bytes ≡ log.record_text None n bytes }
+    ensures { (m n : ℕ) (bytes : List ℕ) → m % BLOCK_LEN ≡ n % BLOCK_LEN
+        → log.record_text None m bytes ≡ log.record_text None n bytes }
 {}

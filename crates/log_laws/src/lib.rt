@@ -25,28 +25,35 @@ pub fn number_spelling()
 /// The text of records spells them, and bytes spell one list of records at most.
 pub fn text_and_spelling()
     ensures spelled { (number : Option ℕ) (records : List (List ℕ)) → SpellsWhole number (text number records) records }
-    ensures one { (number : Option ℕ) (bytes : List ℕ) (some others : List (List ℕ)) → SpellsWhole number bytes some → SpellsWhole number bytes others → some ≡ others }
+    ensures one { (number : Option ℕ) (bytes : List ℕ) (some others : List (List ℕ)) → SpellsWhole number bytes some
+        → SpellsWhole number bytes others → some ≡ others }
 {}
 
 /// What is read or recovered of an image is a front of what was written, none left out and none in part.
 pub fn a_front()
-    ensures read { (number : Option ℕ) (image : List ℕ) (kept : ℕ) (records written : List (List ℕ)) → kept ≤ length image → SpellsWhole number (take kept image) records
+    ensures read { (number : Option ℕ) (image : List ℕ) (kept : ℕ) (records written : List (List ℕ))
+        → kept ≤ length image → SpellsWhole number (take kept image) records
         → NoChanceForReader number image (text number written) → records ≡ take (length records) written }
-    ensures recovered { (number : Option ℕ) (image : List ℕ) (written : List (List ℕ)) (r : Recovered) → IsRecovered number image r → NoChance number image (text number written)
+    ensures recovered { (number : Option ℕ) (image : List ℕ) (written : List (List ℕ)) (r : Recovered)
+        → IsRecovered number image r → NoChance number image (text number written)
         → map logged_bytes r.batches ≡ take (length r.batches) written }
 {}
 
 /// So each image recovers a prefix of all that was to be written, and is read as one, unless by chance.
 pub fn a_prefix()
-    ensures recovered { (image : List ℕ) (records : List (List ℕ)) → NoChance None image (text None records) → RecoversPrefix records image (λ n. ⊤) }
-    ensures read { (image : List ℕ) (records : List (List ℕ)) → NoChanceForReader None image (text None records) → ReadsPrefix records image (λ n. ⊤) }
+    ensures recovered { (image : List ℕ) (records : List (List ℕ)) → NoChance None image (text None records)
+        → RecoversPrefix records image (λ n. ⊤) }
+    ensures read { (image : List ℕ) (records : List (List ℕ)) → NoChanceForReader None image (text None records)
+        → ReadsPrefix records image (λ n. ⊤) }
 {}
 
 /// What stands in the synced bytes is among it. Recovery keeps it where it is batches whose runs rise.
 pub fn the_synced()
-    ensures recovered { (number : Option ℕ) (image : List ℕ) (synced : List (List ℕ)) (batches : List Logged) (r : Recovered) → IsRecovered number image r
+    ensures recovered { (number : Option ℕ) (image : List ℕ) (synced : List (List ℕ)) (batches : List Logged)
+        (r : Recovered) → IsRecovered number image r
         → length (text number synced) ≤ length image → take (length (text number synced)) image ≡ text number synced
-        → map logged_bytes batches ≡ synced → AllByRecursion (λ b. IsBatch (logged_bytes b) b.first b.records) batches → AreInOrder 0 batches
+        → map logged_bytes batches ≡ synced → AllByRecursion (λ b. IsBatch (logged_bytes b) b.first b.records) batches
+        → AreInOrder 0 batches
         → length batches ≤ length r.batches }
     ensures read { (number : Option ℕ) (image : List ℕ) (synced found : List (List ℕ)) → IsRead number image found
         → length (text number synced) ≤ length image → take (length (text number synced)) image ≡ text number synced

@@ -5,10 +5,7 @@ ghost use Rattle.wp_model.specs.Batch as model;
 ghost use Rattle.log_writer.specs.Groups.{counts_of, body_lens_of, bodies_of};
 
 use std::marker::Model;
-use write_batch::Batch;
-
-/// The bytes of a batch's header: its sequence and its count.
-pub(crate) const BATCH_HEADER_LEN: usize = 12;
+use write_batch::{Batch, HEADER_LEN};
 
 /// The bytes of a group's record that are still to be written: the rest of its header or of a member, and the members
 /// after it. Contracts see the bytes.
@@ -65,7 +62,7 @@ impl<'a> GroupBytes<'a> {
 fn body_of(member: &Batch) -> &[u8]
     ensures { result.now ≡ model.body member.now.records }
 {
-    &member.bytes()[BATCH_HEADER_LEN..]
+    &member.bytes()[HEADER_LEN..]
 }
 
 /// How many sequences a group takes.

@@ -44,7 +44,8 @@ impl Nodes {
 
     /// Takes the first one out.
     pub fn pop(&mut self) -> Option<Box<Node>>
-        ensures { MatchOption result ((self.old ≡ []) × (self.new ≡ [])) (λ node. self.old ≡ version_of node.value ∷ self.new) }
+        ensures { MatchOption result ((self.old ≡ []) × (self.new ≡ []))
+            (λ node. self.old ≡ version_of node.value ∷ self.new) }
     {
         let mut node = self.first.take()?;
         *self = mem::replace(&mut node.next, Nodes::new());
@@ -113,7 +114,8 @@ impl Node {
         key: &[u8],
         value: Option<&[u8]>,
     ) -> Result<Box<Node>, NoMemory>
-        ensures { IfOk result (λ node. version_of node.value ≡ record { key = key.now; value = option_copied value.entry; sequence = 0 }) }
+        ensures { IfOk result (λ node. version_of node.value
+            ≡ record { key = key.now; value = option_copied value.entry; sequence = 0 }) }
     {
         let value = match value {
             Some(value) => Some(Bytes::copy(alloc, value)?),
@@ -135,7 +137,8 @@ impl Node {
 
     /// The node of a record, if it counts. A single deletion is one like a deletion.
     fn of_record(alloc: Global, view: RecordView<'_>) -> Result<Option<Box<Node>>, NoMemory>
-        ensures { IfOk result (λ node. option_to_list (option_map (λ n. version_of n.value) node) ≡ made (record_of view.entry ∷ [])) }
+        ensures { IfOk result (λ node. option_to_list (option_map (λ n. version_of n.value) node)
+            ≡ made (record_of view.entry ∷ [])) }
     {
         match view {
             RecordView::Value { key, value } => Ok(Some(Node::new(alloc, key, Some(value))?)),

@@ -60,7 +60,8 @@ impl Parts {
 
     /// Takes the first part out.
     pub fn pop(&mut self) -> Option<MemberNodes>
-        ensures parts { MatchOption result ((self.old.parts ≡ []) × (self.new.parts ≡ [])) (λ part. self.old.parts ≡ part ∷ self.new.parts) }
+        ensures parts { MatchOption result ((self.old.parts ≡ [])
+            × (self.new.parts ≡ [])) (λ part. self.old.parts ≡ part ∷ self.new.parts) }
         ensures clients { self.new.clients ≡ self.old.clients }
     {
         if self.parts.is_empty() {

@@ -32,8 +32,10 @@ impl Node {
         last: Option<&'a [u8]>,
         rows: &mut PairList,
     ) -> Result<Option<&'a [u8]>, NoMemory>
-        ensures rows { IfOk result (λ _. rows.new ≡ rows.old ++ row_at at (option_copied last.entry) (version_of self.now)) }
-        ensures seen { IfOk result (λ seen. option_copied seen ≡ seen_at at (option_copied last.entry) (version_of self.now)) }
+        ensures rows { IfOk result (λ _. rows.new ≡ rows.old
+            ++ row_at at (option_copied last.entry) (version_of self.now)) }
+        ensures seen { IfOk result (λ seen. option_copied seen
+            ≡ seen_at at (option_copied last.entry) (version_of self.now)) }
     {
         let key = self.key.as_slice();
         if self.sequence > at || is_last(last, key) {
@@ -78,7 +80,8 @@ impl Subtree {
         ensures rows { IfOk result (λ _. rows.new ≡ rows.old
             ++ rows_from range.entry.at (option_copied last.entry) (between range.entry.lo.now range.entry.hi.now (versions_in self.now))) }
         ensures seen { IfOk result (λ seen. option_copied seen
-            ≡ seen_from range.entry.at (option_copied last.entry) (between range.entry.lo.now range.entry.hi.now (versions_in self.now))) }
+            ≡ seen_from range.entry.at (option_copied last.entry)
+            (between range.entry.lo.now range.entry.hi.now (versions_in self.now))) }
     {
         let Some(node) = &self.root else {
             return Ok(last);

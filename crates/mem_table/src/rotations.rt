@@ -93,7 +93,8 @@ impl Subtree {
         right: Subtree,
     ) -> Subtree
         requires { (height middle ≡ height left + 1) × (height right ≡ height left) }
-        ensures versions { versions_in result ≡ versions_in left ++ version_of lower.value ∷ versions_in middle ++ version_of upper.value ∷ versions_in right }
+        ensures versions { versions_in result ≡ versions_in left ++ version_of lower.value ∷ versions_in middle
+            ++ version_of upper.value ∷ versions_in right }
         ensures height { height result ≡ height left + 2 }
     {
         let Some(mut top) = middle.root else {

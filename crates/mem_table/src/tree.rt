@@ -59,7 +59,8 @@ impl Tree {
     /// The value of a key at a sequence, if it has one there: what the key's newest version up to the
     /// sequence says.
     pub fn lookup(&self, key: &[u8], at: u64) -> Option<&[u8]>
-        ensures { (history : List Version) → IsOrderUpTo at (versions_in self.now) history → option_copied result ≡ value_at (map_of history) key.now }
+        ensures { (history : List Version) → IsOrderUpTo at (versions_in self.now) history
+            → option_copied result ≡ value_at (map_of history) key.now }
     {
         match self.root.newest(key, at) {
             Some(Some(value)) => Some(value.as_slice()),

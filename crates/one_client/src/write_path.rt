@@ -114,8 +114,10 @@ impl<D: Disk> WritePath<D> {
     /// Makes all the room that a write takes, so that nothing lacks memory once it is in the log.
     fn make_room(&mut self, alloc: Global, batch: &Batch) -> Result<Room, NoMemory>
         ensures fresh { IfOk result (λ room. room.fresh.records ≡ []) }
-        ensures changes { IfOk result (λ room. (m : Pairs) → after_changes m room.changes.items ≡ after_records m batch.now.records) }
-        ensures room { IfOk result (λ room. (vec_len room.changes ≤ room_of self.new.published) × (vec_len self.new.history < vec_capacity self.new.history)) }
+        ensures changes { IfOk result (λ room. (m : Pairs)
+            → after_changes m room.changes.items ≡ after_records m batch.now.records) }
+        ensures room { IfOk result (λ room. (vec_len room.changes ≤ room_of self.new.published)
+            × (vec_len self.new.history < vec_capacity self.new.history)) }
         ensures pairs { pairs_of self.new.published ≡ pairs_of self.old.published }
         ensures history { self.new.history.items ≡ self.old.history.items }
         ensures last { self.new.last ≡ self.old.last }
@@ -134,7 +136,8 @@ impl<D: Disk> WritePath<D> {
         requires counted { 1 ≤ count_of batch.old.records }
         requires small { size_of_batch batch.old.records ≤ 16777216 }
         ensures ok { IfOk result (λ run. Writes self.old self.new batch.old.records how run) }
-        ensures numbered { IfOk result (λ run. batch.new ≡ record { sequence = run.first; records = batch.old.records }) }
+        ensures numbered { IfOk result (λ run. batch.new
+            ≡ record { sequence = run.first; records = batch.old.records }) }
         ensures err { IfErr result (λ why. IsLateRefusal self.old self.new batch.old.records how why) }
         ensures same { batch.new.records ≡ batch.old.records }
         ensures published { self.new.published ≡ self.old.published }
@@ -166,7 +169,8 @@ impl<D: Disk> WritePath<D> {
         requires room { vec_len self.old.history < vec_capacity self.old.history }
         requires last { run.last < 2 ^ 56 }
         ensures pairs { pairs_of self.new.published ≡ after_changes (pairs_of self.old.published) changes.items }
-        ensures history { self.new.history.items ≡ self.old.history.items ++ next_entry (length self.old.history.items) batch how run ∷ [] }
+        ensures history { self.new.history.items ≡ self.old.history.items
+            ++ next_entry (length self.old.history.items) batch how run ∷ [] }
         ensures last { self.new.last ≡ run.last }
         ensures log { self.new.log ≡ self.old.log }
         ensures limit { self.new.batch_bytes ≡ self.old.batch_bytes }

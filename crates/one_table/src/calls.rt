@@ -113,8 +113,10 @@ impl<T: VersionTree<N::Node> + Drop, N: VersionNodes + Drop, P: GroupParts<N>> T
 
     fn close(self, seats: Seats<TableSeat<T, N>, Turn<T, N>>)
         requires turn { MayLaunch self seats.turn }
-        requires clients { (seat : TableSeat T N) → In seat seats.clients.items → IsOurs self seat × IsReady (account seat) }
-        ensures { IsClosing (opening_of self).start (history_of seats.turn) (map (λ (seat : TableSeat T N). account seat) seats.clients.items) }
+        requires clients { (seat : TableSeat T N) → In seat seats.clients.items
+            → IsOurs self seat × IsReady (account seat) }
+        ensures { IsClosing (opening_of self).start (history_of seats.turn)
+            (map (λ (seat : TableSeat T N). account seat) seats.clients.items) }
     {
         self.steps.close(seats);
     }

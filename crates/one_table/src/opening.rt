@@ -15,7 +15,8 @@ impl<T: VersionTree<N::Node> + Drop, N: VersionNodes + Drop> OneTable<T, N> {
         clients: u32,
         last: u64,
     ) -> Result<(OneTable<T, N>, Seats<TableSeat<T, N>, Turn<T, N>>), NoMemory>
-        ensures table { IfOk result (λ opened. opening_of opened.0 ≡ record { clients = clients; shards = 1; start = last }) }
+        ensures table { IfOk result (λ opened. opening_of opened.0
+            ≡ record { clients = clients; shards = 1; start = last }) }
         ensures turn { IfOk result (λ opened. IsTurnAtStart opened.0 opened.1.turn) }
         ensures clients { IfOk result (λ opened. AreSeatsAtStart opened.0 clients opened.1.clients.items) }
     {

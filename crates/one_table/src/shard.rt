@@ -89,7 +89,8 @@ impl<T: VersionTree<N::Node> + Drop, N: VersionNodes + Drop> OneTable<T, N> {
         requires ours { IsOurs self.now seat.old }
         requires taken { (u : Launched) × ((account seat.old).stage ≡ Holding (work u [] (N.versions nodes))) }
         ensures ours { IsOurs self.now seat.new }
-        ensures added { (u : Launched) → (account seat.old).stage ≡ Holding (work u [] (N.versions nodes)) → (done : List Version) × Steps (account seat.old) (Holding (work u done [])) (account seat.new) }
+        ensures added { (u : Launched) → (account seat.old).stage ≡ Holding (work u [] (N.versions nodes))
+            → (done : List Version) × Steps (account seat.old) (Holding (work u done [])) (account seat.new) }
     {
         while let Some(node) = nodes.pop() {
             seat.add(&self.steps, rt, 0, node);

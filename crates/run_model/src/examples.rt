@@ -18,5 +18,6 @@ pub fn synced_before_the_next_group()
     ensures reached_before { HoldsSynced two_groups 25 (zeros 25) }
     // So a run that may leave such an image isn't safe, though at its end all is synced: it synced at its end alone.
     ensures synced_at_the_end { (group_bytes : ℕ) (attempts : List (List Attempt)) (o : Outcome)
-        → IsCrashSafe group_bytes attempts o two_groups text_of_both 0 (λ image. image ≡ zeros 25) (λ image. image ≡ text_of_both) → ⊥ }
+        → IsCrashSafe group_bytes attempts o two_groups text_of_both 0 (λ image. image ≡ zeros 25)
+        (λ image. image ≡ text_of_both) → ⊥ }
 {}

@@ -26,5 +26,7 @@ pub trait GroupParts<N: Versioned> {
     /// Takes the first member out, with its nodes.
     fn pop(&mut self) -> Option<(u64, N)>
         ensures room { Self.room self.new ≡ Self.room self.old }
-        ensures first { MatchOption result ((Self.parts self.old ≡ []) × (Self.parts self.new ≡ [])) (λ taken. Self.parts self.old ≡ (record { member = taken.0; versions = N.versions taken.1 }) ∷ Self.parts self.new) };
+        ensures first { MatchOption result ((Self.parts self.old ≡ [])
+            × (Self.parts self.new ≡ [])) (λ taken. Self.parts self.old
+            ≡ (record { member = taken.0; versions = N.versions taken.1 }) ∷ Self.parts self.new) };
 }

@@ -93,7 +93,8 @@ pub trait Table<N: Versioned, P: GroupParts<N>> {
         ensures ours { ours self.now seat.new }
         ensures seen { Learns (opening self.now).start (account seat.old) (account seat.new) }
         ensures at { IfOk result (λ reads. reads.at ≡ last_of (opening self.now).start (account seat.new).seen) }
-        ensures values { IfOk result (λ reads. reads.values ≡ map (λ key. value_in key (account seat.new).seen) keys.now) };
+        ensures values { IfOk result (λ reads. reads.values
+            ≡ map (λ key. value_in key (account seat.new).seen) keys.now) };
 
     /// The keys from `lo` on and below `hi` with their values, all of one published sequence, in byte order.
     fn scan<R: Wait>(
@@ -108,7 +109,8 @@ pub trait Table<N: Versioned, P: GroupParts<N>> {
         ensures ours { ours self.now seat.new }
         ensures seen { Learns (opening self.now).start (account seat.old) (account seat.new) }
         ensures at { IfOk result (λ rows. rows.at ≡ last_of (opening self.now).start (account seat.new).seen) }
-        ensures rows { IfOk result (λ rows. rows.rows ≡ rows_within lo.now hi.now (map_after (account seat.new).seen)) };
+        ensures rows { IfOk result (λ rows. rows.rows ≡ rows_within lo.now hi.now
+            (map_after (account seat.new).seen)) };
 
     /// Launches a group and hands each member its nodes. So far a group has one member, the client that launches it, which is to take its part next. The seat keeps the turn until `await_published`.
     fn launch(&self, seat: &mut Self::Seat, turn: Self::Turn, parts: &mut P)
@@ -116,9 +118,11 @@ pub trait Table<N: Versioned, P: GroupParts<N>> {
         requires ready { IsReady (account seat.old) }
         requires next { IsNext (opening self.now) (history turn) (P.parts parts.old) }
         requires fits { end_of (last_of (opening self.now).start (history turn)) (P.parts parts.old) < 2 ^ 64 }
-        requires alone { (part : MemberVersions) × (P.parts parts.old ≡ part ∷ []) × (part.member ≡ (account seat.old).number) }
+        requires alone { (part : MemberVersions) × (P.parts parts.old ≡ part ∷ [])
+            × (part.member ≡ (account seat.old).number) }
         ensures ours { ours self.now seat.new }
-        ensures launched { Launches (opening self.now).start (account seat.old) (history turn) (P.parts parts.old) (account seat.new) }
+        ensures launched { Launches (opening self.now).start (account seat.old) (history turn) (P.parts parts.old)
+            (account seat.new) }
         ensures emptied { P.parts parts.new ≡ [] }
         ensures room { P.room parts.new ≡ P.room parts.old };
 
@@ -134,22 +138,26 @@ pub trait Table<N: Versioned, P: GroupParts<N>> {
         requires ours { ours self.now seat.old }
         requires taken { (u : Launched) × ((account seat.old).stage ≡ Holding (work u [] (versions part))) }
         ensures ours { ours self.now seat.new }
-        ensures stored { (u : Launched) → (account seat.old).stage ≡ Holding (work u [] (versions part)) → Steps (account seat.old) (Stored u) (account seat.new) };
+        ensures stored { (u : Launched) → (account seat.old).stage ≡ Holding (work u [] (versions part))
+            → Steps (account seat.old) (Stored u) (account seat.new) };
 
     /// The client's part is finished. A group's only member is the last to finish.
     fn finish(&self, seat: &mut Self::Seat) -> Finished
         requires ours { ours self.now seat.old }
         requires stored { (u : Launched) × ((account seat.old).stage ≡ Stored u) }
         ensures ours { ours self.now seat.new }
-        ensures counted { (u : Launched) → (account seat.old).stage ≡ Stored u → Counts (account seat.old) u result (account seat.new) }
-        ensures only_member { (u : Launched) → (account seat.old).stage ≡ Stored u → length u.group ≡ 1 → result ≡ Last };
+        ensures counted { (u : Launched) → (account seat.old).stage ≡ Stored u
+            → Counts (account seat.old) u result (account seat.new) }
+        ensures only_member { (u : Launched) → (account seat.old).stage ≡ Stored u → length u.group ≡ 1
+            → result ≡ Last };
 
     /// Publishes the group, of which this client finished last. The client has then seen it.
     fn publish(&self, seat: &mut Self::Seat)
         requires ours { ours self.now seat.old }
         requires last_one { (u : Launched) × ((account seat.old).stage ≡ Publishing u) }
         ensures ours { ours self.now seat.new }
-        ensures published { (u : Launched) → (account seat.old).stage ≡ Publishing u → Publishes (opening self.now).start (account seat.old) u (account seat.new) };
+        ensures published { (u : Launched) → (account seat.old).stage ≡ Publishing u
+            → Publishes (opening self.now).start (account seat.old) u (account seat.new) };
 
     /// Waits until the group that this client launched is published, and takes the turn back. `last` is the group's last sequence.
     fn await_published<R: Wait>(&self, rt: &R, seat: &mut Self::Seat, last: u64) -> Self::Turn
@@ -157,8 +165,10 @@ pub trait Table<N: Versioned, P: GroupParts<N>> {
         requires idle { (account seat.old).stage ≡ Idle }
         requires launched { (u : Launched) × ((account seat.old).launched ≡ Some u) × (last ≡ u.last) }
         ensures ours { ours self.now seat.new × our_turn self.now result }
-        ensures published { (u : Launched) → (account seat.old).launched ≡ Some u → history result ≡ u.before ++ u.group ∷ [] }
-        ensures seen { Learns (opening self.now).start (record (account seat.old) { launched = None }) (account seat.new) }
+        ensures published { (u : Launched) → (account seat.old).launched ≡ Some u
+            → history result ≡ u.before ++ u.group ∷ [] }
+        ensures seen { Learns (opening self.now).start (record (account seat.old) { launched = None })
+            (account seat.new) }
         ensures reached { last ≤ last_of (opening self.now).start (account seat.new).seen };
 
     /// Gives the table up, with all seats.

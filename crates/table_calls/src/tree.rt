@@ -28,7 +28,9 @@ pub trait VersionNodes: Versioned {
 
     /// Takes the first node out.
     fn pop(&mut self) -> Option<Self::Node>
-        ensures { MatchOption result ((Self.versions self.old ≡ []) × (Self.versions self.new ≡ [])) (λ node. Self.versions self.old ≡ Self.Node.version node ∷ Self.versions self.new) };
+        ensures { MatchOption result ((Self.versions self.old ≡ [])
+            × (Self.versions self.new ≡ [])) (λ node. Self.versions self.old ≡ Self.Node.version node
+            ∷ Self.versions self.new) };
 }
 
 /// An ordered tree of versions.
@@ -44,10 +46,12 @@ pub trait VersionTree<B: VersionNode>: Versioned {
 
     /// The key's value as of a sequence: what the map has that the versions make up to it.
     fn lookup(&self, key: &[u8], at: u64) -> Option<&[u8]>
-        ensures { (order : List Version) → IsOrderUpTo at (Self.versions self.now) order → option_copied result ≡ value_at (map_of order) key.now };
+        ensures { (order : List Version) → IsOrderUpTo at (Self.versions self.now) order
+            → option_copied result ≡ value_at (map_of order) key.now };
 
     /// The keys from `lo` on and below `hi` with their values as of a sequence, in byte order.
     fn range(&self, alloc: Global, lo: &[u8], hi: &[u8], at: u64) -> Result<Rows, NoMemory>
         ensures at { IfOk result (λ rows. rows.at ≡ at) }
-        ensures rows { IfOk result (λ rows. (order : List Version) → IsOrderUpTo at (Self.versions self.now) order → rows.rows ≡ rows_within lo.now hi.now (map_of order)) };
+        ensures rows { IfOk result (λ rows. (order : List Version) → IsOrderUpTo at (Self.versions self.now) order
+            → rows.rows ≡ rows_within lo.now hi.now (map_of order)) };
 }

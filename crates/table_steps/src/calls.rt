@@ -57,7 +57,9 @@ impl<T: VersionTree<N::Node> + Drop, N: VersionNodes + Drop> TableSeat<T, N> {
         requires at { at ≡ last_of (opening_of table.now).start (account self.old).seen }
         ensures ours { IsOurs table.now self.new }
         ensures same { account self.new ≡ account self.old }
-        ensures value { IfOk result (λ found. found_value found ≡ value_at (map_of (of_shard (opening_of table.now).shards shard (versions_of (account self.old).seen))) key.now) }
+        ensures value { IfOk result (λ found. found_value found
+            ≡ value_at (map_of (of_shard (opening_of table.now).shards shard (versions_of (account self.old).seen)))
+            key.now) }
     {
         table.find(alloc, rt, &mut self.client, shard, key, at)
     }
@@ -80,7 +82,8 @@ impl<T: VersionTree<N::Node> + Drop, N: VersionNodes + Drop> TableSeat<T, N> {
         ensures ours { IsOurs table.now self.new }
         ensures same { account self.new ≡ account self.old }
         ensures at { IfOk result (λ rows. rows.at ≡ at) }
-        ensures rows { IfOk result (λ rows. rows.rows ≡ rows_within lo.now hi.now (map_of (of_shard (opening_of table.now).shards shard (versions_of (account self.old).seen)))) }
+        ensures rows { IfOk result (λ rows. rows.rows ≡ rows_within lo.now hi.now
+            (map_of (of_shard (opening_of table.now).shards shard (versions_of (account self.old).seen)))) }
     {
         table.find_rows(alloc, rt, &mut self.client, shard, lo, hi, at)
     }
@@ -98,7 +101,8 @@ impl<T: VersionTree<N::Node> + Drop, N: VersionNodes + Drop> TableSeat<T, N> {
         requires fits { end_of (last_of (opening_of table.now).start (history_of turn)) (P.parts parts.old) < 2 ^ 64 }
         requires member { (p : MemberVersions) × In p (P.parts parts.old) × (p.member ≡ (account self.old).number) }
         ensures ours { IsOurs table.now self.new }
-        ensures launched { Launches (opening_of table.now).start (account self.old) (history_of turn) (P.parts parts.old) (account self.new) }
+        ensures launched { Launches (opening_of table.now).start (account self.old) (history_of turn)
+            (P.parts parts.old) (account self.new) }
         ensures emptied { P.parts parts.new ≡ [] }
         ensures room { P.room parts.new ≡ P.room parts.old }
     {
@@ -122,10 +126,14 @@ impl<T: VersionTree<N::Node> + Drop, N: VersionNodes + Drop> TableSeat<T, N> {
     /// Puts the next node of the client's part into the tree of its shard.
     pub fn add<R: Wait>(&mut self, table: &SharedTable<T, N>, rt: &R, shard: u64, node: N::Node)
         requires ours { IsOurs table.now self.old }
-        requires shard { (shard < (opening_of table.now).shards) × (shard_of (opening_of table.now).shards (N.Node.version node) ≡ shard) }
-        requires next { (u : Launched) × (done : List Version) × (more : List Version) × ((account self.old).stage ≡ Holding (work u done (N.Node.version node ∷ more))) }
+        requires shard { (shard < (opening_of table.now).shards)
+            × (shard_of (opening_of table.now).shards (N.Node.version node) ≡ shard) }
+        requires next { (u : Launched) × (done : List Version) × (more : List Version)
+            × ((account self.old).stage ≡ Holding (work u done (N.Node.version node ∷ more))) }
         ensures ours { IsOurs table.now self.new }
-        ensures added { (u : Launched) (done more : List Version) → (account self.old).stage ≡ Holding (work u done (N.Node.version node ∷ more)) → Steps (account self.old) (Holding (work u (done ++ N.Node.version node ∷ []) more)) (account self.new) }
+        ensures added { (u : Launched) (done more : List Version)
+            → (account self.old).stage ≡ Holding (work u done (N.Node.version node ∷ more))
+            → Steps (account self.old) (Holding (work u (done ++ N.Node.version node ∷ []) more)) (account self.new) }
     {
         table.add(rt, &mut self.client, shard, node);
     }
@@ -133,9 +141,11 @@ impl<T: VersionTree<N::Node> + Drop, N: VersionNodes + Drop> TableSeat<T, N> {
     /// All nodes of the client's part are in their trees.
     pub fn settle(&mut self, table: &SharedTable<T, N>)
         requires ours { IsOurs table.now self.old }
-        requires added { (u : Launched) × (done : List Version) × ((account self.old).stage ≡ Holding (work u done [])) }
+        requires added { (u : Launched) × (done : List Version)
+            × ((account self.old).stage ≡ Holding (work u done [])) }
         ensures ours { IsOurs table.now self.new }
-        ensures stored { (u : Launched) (done : List Version) → (account self.old).stage ≡ Holding (work u done []) → Steps (account self.old) (Stored u) (account self.new) }
+        ensures stored { (u : Launched) (done : List Version) → (account self.old).stage ≡ Holding (work u done [])
+            → Steps (account self.old) (Stored u) (account self.new) }
     {
         table.settle(&mut self.client);
     }
@@ -145,8 +155,10 @@ impl<T: VersionTree<N::Node> + Drop, N: VersionNodes + Drop> TableSeat<T, N> {
         requires ours { IsOurs table.now self.old }
         requires stored { (u : Launched) × ((account self.old).stage ≡ Stored u) }
         ensures ours { IsOurs table.now self.new }
-        ensures counted { (u : Launched) → (account self.old).stage ≡ Stored u → Counts (account self.old) u result (account self.new) }
-        ensures only_member { (u : Launched) → (account self.old).stage ≡ Stored u → length u.group ≡ 1 → result ≡ Last }
+        ensures counted { (u : Launched) → (account self.old).stage ≡ Stored u
+            → Counts (account self.old) u result (account self.new) }
+        ensures only_member { (u : Launched) → (account self.old).stage ≡ Stored u → length u.group ≡ 1
+            → result ≡ Last }
     {
         table.finish(&mut self.client)
     }
@@ -156,7 +168,8 @@ impl<T: VersionTree<N::Node> + Drop, N: VersionNodes + Drop> TableSeat<T, N> {
         requires ours { IsOurs table.now self.old }
         requires last_one { (u : Launched) × ((account self.old).stage ≡ Publishing u) }
         ensures ours { IsOurs table.now self.new }
-        ensures published { (u : Launched) → (account self.old).stage ≡ Publishing u → Publishes (opening_of table.now).start (account self.old) u (account self.new) }
+        ensures published { (u : Launched) → (account self.old).stage ≡ Publishing u
+            → Publishes (opening_of table.now).start (account self.old) u (account self.new) }
     {
         table.publish(&mut self.client, self.last);
     }
@@ -172,8 +185,10 @@ impl<T: VersionTree<N::Node> + Drop, N: VersionNodes + Drop> TableSeat<T, N> {
         requires idle { (account self.old).stage ≡ Idle }
         requires launched { (u : Launched) × ((account self.old).launched ≡ Some u) × (last ≡ u.last) }
         ensures ours { IsOurs table.now self.new × MayLaunch table.now result }
-        ensures published { (u : Launched) → (account self.old).launched ≡ Some u → history_of result ≡ u.before ++ u.group ∷ [] }
-        ensures seen { Learns (opening_of table.now).start (record (account self.old) { launched = None }) (account self.new) }
+        ensures published { (u : Launched) → (account self.old).launched ≡ Some u
+            → history_of result ≡ u.before ++ u.group ∷ [] }
+        ensures seen { Learns (opening_of table.now).start (record (account self.old) { launched = None })
+            (account self.new) }
         ensures reached { last ≤ last_of (opening_of table.now).start (account self.new).seen }
     {
         let Some(mut turn) = self.turn.take() else {

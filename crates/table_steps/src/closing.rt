@@ -16,9 +16,13 @@ use table_rule::{Both, Close};
 impl<T: VersionTree<N::Node> + Drop, N: VersionNodes + Drop> SharedTable<T, N> {
     // Joins all seats. What the turn knows is then what is published, and each client has seen a beginning of it.
     fn gather(&self, mut turn: Turn<T, N>, mut clients: Vec<TableSeat<T, N>>)
-        requires turn { (history : List (List MemberVersions)) × IsTurnOf self.now.table.shared.table_id self.now.table.shared.key history turn }
+        requires turn { (history : List (List MemberVersions))
+            × IsTurnOf self.now.table.shared.table_id self.now.table.shared.key history turn }
         requires idle { AreIdle self.now.table.shared.table_id self.now.table.shared.key clients.items }
-        ensures { (history : List (List MemberVersions)) → IsTurnOf self.now.table.shared.table_id self.now.table.shared.key history turn → IsHistory self.now.table.shared.key.start history × HaveSeen self.now.table.shared.key history clients.items }
+        ensures { (history : List (List MemberVersions))
+            → IsTurnOf self.now.table.shared.table_id self.now.table.shared.key history turn
+            → IsHistory self.now.table.shared.key.start history
+            × HaveSeen self.now.table.shared.key history clients.items }
     {
         while let Some(seat) = clients.pop() {
             self.table
@@ -34,8 +38,10 @@ impl<T: VersionTree<N::Node> + Drop, N: VersionNodes + Drop> SharedTable<T, N> {
     /// Gives the table up, with all seats. What was published is one history, and each client has seen a beginning of it.
     pub fn close(self, seats: Seats<TableSeat<T, N>, Turn<T, N>>)
         requires turn { MayLaunch self seats.turn }
-        requires clients { (seat : TableSeat T N) → In seat seats.clients.items → IsOurs self seat × IsReady (account seat) }
-        ensures { IsClosing (opening_of self).start (history_of seats.turn) (map (λ (seat : TableSeat T N). account seat) seats.clients.items) }
+        requires clients { (seat : TableSeat T N) → In seat seats.clients.items
+            → IsOurs self seat × IsReady (account seat) }
+        ensures { IsClosing (opening_of self).start (history_of seats.turn)
+            (map (λ (seat : TableSeat T N). account seat) seats.clients.items) }
     {
         self.gather(seats.turn, seats.clients);
     }

@@ -31,14 +31,27 @@ impl<T: VersionTree<N::Node>, N: VersionNodes> SharedTable<T, N> {
         turn: Turn<T, N>,
         parts: &P,
     ) -> Turn<T, N>
-        requires seat { (who.old.seat.table_id ≡ self.now.table.shared.table_id) × (turn.seat.table_id ≡ self.now.table.shared.table_id) × (turn.seat.me.1 ≡ []) × (0 < who.old.number) }
-        requires next { (own : List (List MemberVersions)) × (seen : List (List MemberVersions)) × IsAt who.old.number self.now.table.shared.key own Free Idle who.old.seat.me × IsAt 0 self.now.table.shared.key seen Free Resting turn.seat.me × IsNext self.now.table.shared.key seen G.group }
+        requires seat { (who.old.seat.table_id ≡ self.now.table.shared.table_id)
+            × (turn.seat.table_id ≡ self.now.table.shared.table_id) × (turn.seat.me.1 ≡ []) × (0 < who.old.number) }
+        requires next { (own : List (List MemberVersions)) × (seen : List (List MemberVersions))
+            × IsAt who.old.number self.now.table.shared.key own Free Idle who.old.seat.me
+            × IsAt 0 self.now.table.shared.key seen Free Resting turn.seat.me
+            × IsNext self.now.table.shared.key seen G.group }
         requires member { (p : MemberVersions) × In p G.group × (p.member ≡ who.old.number) }
         requires group { P.parts parts.now ≡ G.group }
-        ensures client { (who.new.seat.table_id ≡ who.old.seat.table_id) × (who.new.number ≡ who.old.number) × (who.new.seat.me.1 ≡ who.old.seat.me.1) }
-        ensures turn { (result.seat.table_id ≡ turn.seat.table_id) × (result.seat.me.1 ≡ []) × (result.last ≡ turn.last) }
-        ensures waiting { (own seen : List (List MemberVersions)) → IsAt who.old.number self.now.table.shared.key own Free Idle who.old.seat.me → IsAt 0 self.now.table.shared.key seen Free Resting turn.seat.me → IsAt who.old.number self.now.table.shared.key own Free (Waiting (launched_behind self.now.table.shared.key.start seen G.group)) who.new.seat.me }
-        ensures handing { (own seen : List (List MemberVersions)) → IsAt who.old.number self.now.table.shared.key own Free Idle who.old.seat.me → IsAt 0 self.now.table.shared.key seen Free Resting turn.seat.me → IsAt 0 self.now.table.shared.key seen Free (Handing G.group G.group) result.seat.me }
+        ensures client { (who.new.seat.table_id ≡ who.old.seat.table_id) × (who.new.number ≡ who.old.number)
+            × (who.new.seat.me.1 ≡ who.old.seat.me.1) }
+        ensures turn { (result.seat.table_id ≡ turn.seat.table_id) × (result.seat.me.1 ≡ [])
+            × (result.last ≡ turn.last) }
+        ensures waiting { (own seen : List (List MemberVersions))
+            → IsAt who.old.number self.now.table.shared.key own Free Idle who.old.seat.me
+            → IsAt 0 self.now.table.shared.key seen Free Resting turn.seat.me
+            → IsAt who.old.number self.now.table.shared.key own Free
+            (Waiting (launched_behind self.now.table.shared.key.start seen G.group)) who.new.seat.me }
+        ensures handing { (own seen : List (List MemberVersions))
+            → IsAt who.old.number self.now.table.shared.key own Free Idle who.old.seat.me
+            → IsAt 0 self.now.table.shared.key seen Free Resting turn.seat.me
+            → IsAt 0 self.now.table.shared.key seen Free (Handing G.group G.group) result.seat.me }
     {
         let shared = &self.table.shared;
         shared.join_seat::<Both>(&mut who.seat, turn.seat);
@@ -56,10 +69,18 @@ impl<T: VersionTree<N::Node>, N: VersionNodes> SharedTable<T, N> {
 
     // Hands one member its nodes.
     fn offer(&self, turn: &mut Turn<T, N>, member: u64, nodes: N, last: u64)
-        requires seat { (turn.old.seat.table_id ≡ self.now.table.shared.table_id) × (0 < member) × (member ≤ self.now.table.shared.key.clients) }
-        requires next { (seen : List (List MemberVersions)) × (g : List MemberVersions) × (p : MemberVersions) × (ps : List MemberVersions) × IsAt 0 self.now.table.shared.key seen Free (Handing g (p ∷ ps)) turn.old.seat.me × (p.member ≡ member) × (N.versions nodes ≡ p.versions) × (last ≡ end_of (last_of self.now.table.shared.key.start seen) g) }
-        ensures seat { (turn.new.seat.table_id ≡ turn.old.seat.table_id) × (turn.new.seat.me.1 ≡ turn.old.seat.me.1) × (turn.new.last ≡ turn.old.last) }
-        ensures given { (seen : List (List MemberVersions)) (g : List MemberVersions) (p : MemberVersions) (ps : List MemberVersions) → IsAt 0 self.now.table.shared.key seen Free (Handing g (p ∷ ps)) turn.old.seat.me → IsAt 0 self.now.table.shared.key seen Free (Handing g ps) turn.new.seat.me }
+        requires seat { (turn.old.seat.table_id ≡ self.now.table.shared.table_id) × (0 < member)
+            × (member ≤ self.now.table.shared.key.clients) }
+        requires next { (seen : List (List MemberVersions)) × (g : List MemberVersions) × (p : MemberVersions)
+            × (ps : List MemberVersions) × IsAt 0 self.now.table.shared.key seen Free
+            (Handing g (p ∷ ps)) turn.old.seat.me × (p.member ≡ member) × (N.versions nodes ≡ p.versions)
+            × (last ≡ end_of (last_of self.now.table.shared.key.start seen) g) }
+        ensures seat { (turn.new.seat.table_id ≡ turn.old.seat.table_id) × (turn.new.seat.me.1 ≡ turn.old.seat.me.1)
+            × (turn.new.last ≡ turn.old.last) }
+        ensures given { (seen : List (List MemberVersions)) (g : List MemberVersions) (p : MemberVersions)
+            (ps : List MemberVersions) → IsAt 0 self.now.table.shared.key seen Free
+            (Handing g (p ∷ ps)) turn.old.seat.me → IsAt 0 self.now.table.shared.key seen Free
+            (Handing g ps) turn.new.seat.me }
     {
         let shared = &self.table.shared;
         let word = self.opening.shards as usize + 1 + member as usize;
@@ -80,13 +101,27 @@ impl<T: VersionTree<N::Node>, N: VersionNodes> SharedTable<T, N> {
         parts: &mut P,
         last: u64,
     ) -> Turn<T, N>
-        requires seat { (who.old.seat.table_id ≡ self.now.table.shared.table_id) × (turn.seat.table_id ≡ self.now.table.shared.table_id) × (turn.seat.me.1 ≡ []) × (0 < who.old.number) }
-        requires next { (own : List (List MemberVersions)) × (seen : List (List MemberVersions)) × IsAt who.old.number self.now.table.shared.key own Free Idle who.old.seat.me × IsAt 0 self.now.table.shared.key seen Free Resting turn.seat.me × IsNext self.now.table.shared.key seen (P.parts parts.old) × (last ≡ end_of (last_of self.now.table.shared.key.start seen) (P.parts parts.old)) }
+        requires seat { (who.old.seat.table_id ≡ self.now.table.shared.table_id)
+            × (turn.seat.table_id ≡ self.now.table.shared.table_id) × (turn.seat.me.1 ≡ []) × (0 < who.old.number) }
+        requires next { (own : List (List MemberVersions)) × (seen : List (List MemberVersions))
+            × IsAt who.old.number self.now.table.shared.key own Free Idle who.old.seat.me
+            × IsAt 0 self.now.table.shared.key seen Free Resting turn.seat.me
+            × IsNext self.now.table.shared.key seen (P.parts parts.old)
+            × (last ≡ end_of (last_of self.now.table.shared.key.start seen) (P.parts parts.old)) }
         requires member { (p : MemberVersions) × In p (P.parts parts.old) × (p.member ≡ who.old.number) }
-        ensures client { (who.new.seat.table_id ≡ who.old.seat.table_id) × (who.new.number ≡ who.old.number) × (who.new.seat.me.1 ≡ who.old.seat.me.1) }
-        ensures turn { (result.seat.table_id ≡ turn.seat.table_id) × (result.seat.me.1 ≡ []) × (result.last ≡ turn.last) }
-        ensures waiting { (own seen : List (List MemberVersions)) → IsAt who.old.number self.now.table.shared.key own Free Idle who.old.seat.me → IsAt 0 self.now.table.shared.key seen Free Resting turn.seat.me → IsAt who.old.number self.now.table.shared.key own Free (Waiting (launched_behind self.now.table.shared.key.start seen (P.parts parts.old))) who.new.seat.me }
-        ensures handed { (own seen : List (List MemberVersions)) → IsAt who.old.number self.now.table.shared.key own Free Idle who.old.seat.me → IsAt 0 self.now.table.shared.key seen Free Resting turn.seat.me → IsAt 0 self.now.table.shared.key seen Free (Handing (P.parts parts.old) []) result.seat.me }
+        ensures client { (who.new.seat.table_id ≡ who.old.seat.table_id) × (who.new.number ≡ who.old.number)
+            × (who.new.seat.me.1 ≡ who.old.seat.me.1) }
+        ensures turn { (result.seat.table_id ≡ turn.seat.table_id) × (result.seat.me.1 ≡ [])
+            × (result.last ≡ turn.last) }
+        ensures waiting { (own seen : List (List MemberVersions))
+            → IsAt who.old.number self.now.table.shared.key own Free Idle who.old.seat.me
+            → IsAt 0 self.now.table.shared.key seen Free Resting turn.seat.me
+            → IsAt who.old.number self.now.table.shared.key own Free
+            (Waiting (launched_behind self.now.table.shared.key.start seen (P.parts parts.old))) who.new.seat.me }
+        ensures handed { (own seen : List (List MemberVersions))
+            → IsAt who.old.number self.now.table.shared.key own Free Idle who.old.seat.me
+            → IsAt 0 self.now.table.shared.key seen Free Resting turn.seat.me
+            → IsAt 0 self.now.table.shared.key seen Free (Handing (P.parts parts.old) []) result.seat.me }
         ensures emptied { P.parts parts.new ≡ [] }
         ensures room { P.room parts.new ≡ P.room parts.old }
     {
@@ -100,9 +135,14 @@ impl<T: VersionTree<N::Node>, N: VersionNodes> SharedTable<T, N> {
     /// Waits until the launched group, whose last sequence is `last`, is published. The turn is free again. It spins a few turns, and then yields.
     pub(crate) fn await_published<R: Wait>(&self, rt: &R, turn: &mut Turn<T, N>, last: u64)
         requires seat { turn.old.seat.table_id ≡ self.now.table.shared.table_id }
-        requires launched { (seen : List (List MemberVersions)) × (g : List MemberVersions) × IsAt 0 self.now.table.shared.key seen Free (Handing g []) turn.old.seat.me × (last ≡ end_of (last_of self.now.table.shared.key.start seen) g) }
-        ensures seat { (turn.new.seat.table_id ≡ turn.old.seat.table_id) × (turn.new.seat.me.1 ≡ turn.old.seat.me.1) × (turn.new.last ≡ turn.old.last) }
-        ensures published { (seen : List (List MemberVersions)) (g : List MemberVersions) → IsAt 0 self.now.table.shared.key seen Free (Handing g []) turn.old.seat.me → IsAt 0 self.now.table.shared.key (seen ++ g ∷ []) Free Resting turn.new.seat.me }
+        requires launched { (seen : List (List MemberVersions)) × (g : List MemberVersions)
+            × IsAt 0 self.now.table.shared.key seen Free (Handing g []) turn.old.seat.me
+            × (last ≡ end_of (last_of self.now.table.shared.key.start seen) g) }
+        ensures seat { (turn.new.seat.table_id ≡ turn.old.seat.table_id) × (turn.new.seat.me.1 ≡ turn.old.seat.me.1)
+            × (turn.new.last ≡ turn.old.last) }
+        ensures published { (seen : List (List MemberVersions)) (g : List MemberVersions)
+            → IsAt 0 self.now.table.shared.key seen Free (Handing g []) turn.old.seat.me
+            → IsAt 0 self.now.table.shared.key (seen ++ g ∷ []) Free Resting turn.new.seat.me }
     {
         let backoff = Backoff::new();
         for _ in rt.forever() {

@@ -30,11 +30,17 @@ pub(crate) struct Handed<N> {
 impl<T: VersionTree<N::Node>, N: VersionNodes> SharedTable<T, N> {
     /// Waits for the member's nodes. It spins a few turns, and then yields.
     pub(crate) fn take<R: Wait>(&self, rt: &R, who: &mut Client<T, N>) -> Handed<N>
-        requires seat { (who.old.seat.table_id ≡ self.now.table.shared.table_id) × (0 < who.old.number) × (who.old.number ≤ self.now.table.shared.key.clients) }
-        requires free { (seen : List (List MemberVersions)) × (stage : Stage) × IsAt who.old.number self.now.table.shared.key seen Free stage who.old.seat.me × MayTake stage }
+        requires seat { (who.old.seat.table_id ≡ self.now.table.shared.table_id) × (0 < who.old.number)
+            × (who.old.number ≤ self.now.table.shared.key.clients) }
+        requires free { (seen : List (List MemberVersions)) × (stage : Stage)
+            × IsAt who.old.number self.now.table.shared.key seen Free stage who.old.seat.me × MayTake stage }
         ensures seat { (who.new.seat.table_id ≡ who.old.seat.table_id) × (who.new.number ≡ who.old.number) }
-        ensures slot { who.new.seat.me.1 ≡ (self.now.table.shared.key.shards + who.old.number, Blank) ∷ who.old.seat.me.1 }
-        ensures taken { (seen : List (List MemberVersions)) (stage : Stage) → IsAt who.old.number self.now.table.shared.key seen Free stage who.old.seat.me → MayTake stage → Took who.old.number self.now.table.shared.key seen stage result.last (N.versions result.nodes) who.new.seat.me }
+        ensures slot { who.new.seat.me.1 ≡ (self.now.table.shared.key.shards + who.old.number, Blank)
+            ∷ who.old.seat.me.1 }
+        ensures taken { (seen : List (List MemberVersions)) (stage : Stage)
+            → IsAt who.old.number self.now.table.shared.key seen Free stage who.old.seat.me → MayTake stage
+            → Took who.old.number self.now.table.shared.key seen stage result.last
+            (N.versions result.nodes) who.new.seat.me }
     {
         let shared = &self.table.shared;
         let word = self.opening.shards as usize + 1 + who.number as usize;
@@ -55,10 +61,19 @@ impl<T: VersionTree<N::Node>, N: VersionNodes> SharedTable<T, N> {
 
     /// Puts one node into the tree of its shard.
     pub(crate) fn add<R: Wait>(&self, rt: &R, who: &mut Client<T, N>, shard: u64, node: N::Node)
-        requires seat { (who.old.seat.table_id ≡ self.now.table.shared.table_id) × (shard < self.now.table.shared.key.shards) × (shard_of self.now.table.shared.key.shards (N.Node.version node) ≡ shard) }
-        requires next { (seen : List (List MemberVersions)) × (u : Launched) × (done : List Version) × (more : List Version) × IsAt who.old.number self.now.table.shared.key seen Free (Holding (work u done (N.Node.version node ∷ more))) who.old.seat.me }
-        ensures seat { (who.new.seat.table_id ≡ who.old.seat.table_id) × (who.new.number ≡ who.old.number) × (who.new.seat.me.1 ≡ who.old.seat.me.1) }
-        ensures added { (seen : List (List MemberVersions)) (u : Launched) (done more : List Version) → IsAt who.old.number self.now.table.shared.key seen Free (Holding (work u done (N.Node.version node ∷ more))) who.old.seat.me → IsAt who.old.number self.now.table.shared.key seen Free (Holding (work u (done ++ N.Node.version node ∷ []) more)) who.new.seat.me }
+        requires seat { (who.old.seat.table_id ≡ self.now.table.shared.table_id)
+            × (shard < self.now.table.shared.key.shards)
+            × (shard_of self.now.table.shared.key.shards (N.Node.version node) ≡ shard) }
+        requires next { (seen : List (List MemberVersions)) × (u : Launched) × (done : List Version)
+            × (more : List Version) × IsAt who.old.number self.now.table.shared.key seen Free
+            (Holding (work u done (N.Node.version node ∷ more))) who.old.seat.me }
+        ensures seat { (who.new.seat.table_id ≡ who.old.seat.table_id) × (who.new.number ≡ who.old.number)
+            × (who.new.seat.me.1 ≡ who.old.seat.me.1) }
+        ensures added { (seen : List (List MemberVersions)) (u : Launched) (done more : List Version)
+            → IsAt who.old.number self.now.table.shared.key seen Free
+            (Holding (work u done (N.Node.version node ∷ more))) who.old.seat.me
+            → IsAt who.old.number self.now.table.shared.key seen Free
+            (Holding (work u (done ++ N.Node.version node ∷ []) more)) who.new.seat.me }
     {
         let shared = &self.table.shared;
         let mut tree = self.lock(rt, who, shard);
@@ -72,10 +87,17 @@ impl<T: VersionTree<N::Node>, N: VersionNodes> SharedTable<T, N> {
 
     /// All nodes of the member's part are in their trees.
     pub(crate) fn settle(&self, who: &mut Client<T, N>)
-        requires seat { (who.old.seat.table_id ≡ self.now.table.shared.table_id) × (0 < who.old.number) × (who.old.number ≤ self.now.table.shared.key.clients) }
-        requires added { (seen : List (List MemberVersions)) × (u : Launched) × (done : List Version) × (more : List (ℕ × Content T N)) × IsAt who.old.number self.now.table.shared.key seen Free (Holding (work u done [])) who.old.seat.me × (who.old.seat.me.1 ≡ (self.now.table.shared.key.shards + who.old.number, Blank) ∷ more) }
-        ensures seat { (who.new.seat.table_id ≡ who.old.seat.table_id) × (who.new.number ≡ who.old.number) × (who.new.seat.me.1 ≡ rest who.old.seat.me.1) }
-        ensures stored { (seen : List (List MemberVersions)) (u : Launched) (done : List Version) → IsAt who.old.number self.now.table.shared.key seen Free (Holding (work u done [])) who.old.seat.me → IsAt who.old.number self.now.table.shared.key seen Free (Stored u) who.new.seat.me }
+        requires seat { (who.old.seat.table_id ≡ self.now.table.shared.table_id) × (0 < who.old.number)
+            × (who.old.number ≤ self.now.table.shared.key.clients) }
+        requires added { (seen : List (List MemberVersions)) × (u : Launched) × (done : List Version)
+            × (more : List (ℕ × Content T N)) × IsAt who.old.number self.now.table.shared.key seen Free
+            (Holding (work u done [])) who.old.seat.me ×
+            (who.old.seat.me.1 ≡ (self.now.table.shared.key.shards + who.old.number, Blank) ∷ more) }
+        ensures seat { (who.new.seat.table_id ≡ who.old.seat.table_id) × (who.new.number ≡ who.old.number)
+            × (who.new.seat.me.1 ≡ rest who.old.seat.me.1) }
+        ensures stored { (seen : List (List MemberVersions)) (u : Launched) (done : List Version)
+            → IsAt who.old.number self.now.table.shared.key seen Free (Holding (work u done [])) who.old.seat.me
+            → IsAt who.old.number self.now.table.shared.key seen Free (Stored u) who.new.seat.me }
     {
         let word = self.opening.shards as usize + 1 + who.number as usize;
         self.table.shared.store::<Settle>(&mut who.seat, word, 0);
@@ -84,10 +106,16 @@ impl<T: VersionTree<N::Node>, N: VersionNodes> SharedTable<T, N> {
     /// Counts the member's part down.
     pub(crate) fn finish(&self, who: &mut Client<T, N>) -> Finished
         requires seat { who.old.seat.table_id ≡ self.now.table.shared.table_id }
-        requires stored { (seen : List (List MemberVersions)) × (u : Launched) × IsAt who.old.number self.now.table.shared.key seen Free (Stored u) who.old.seat.me }
-        ensures seat { (who.new.seat.table_id ≡ who.old.seat.table_id) × (who.new.number ≡ who.old.number) × (who.new.seat.me.1 ≡ who.old.seat.me.1) }
-        ensures only_member { (seen : List (List MemberVersions)) (u : Launched) → IsAt who.old.number self.now.table.shared.key seen Free (Stored u) who.old.seat.me → length u.group ≡ 1 → result ≡ Last }
-        ensures ended { (seen : List (List MemberVersions)) (u : Launched) → IsAt who.old.number self.now.table.shared.key seen Free (Stored u) who.old.seat.me → Ended who.old.number self.now.table.shared.key seen u result who.new.seat.me }
+        requires stored { (seen : List (List MemberVersions)) × (u : Launched)
+            × IsAt who.old.number self.now.table.shared.key seen Free (Stored u) who.old.seat.me }
+        ensures seat { (who.new.seat.table_id ≡ who.old.seat.table_id) × (who.new.number ≡ who.old.number)
+            × (who.new.seat.me.1 ≡ who.old.seat.me.1) }
+        ensures only_member { (seen : List (List MemberVersions)) (u : Launched)
+            → IsAt who.old.number self.now.table.shared.key seen Free (Stored u) who.old.seat.me → length u.group ≡ 1
+            → result ≡ Last }
+        ensures ended { (seen : List (List MemberVersions)) (u : Launched)
+            → IsAt who.old.number self.now.table.shared.key seen Free (Stored u) who.old.seat.me
+            → Ended who.old.number self.now.table.shared.key seen u result who.new.seat.me }
     {
         let running = self.opening.shards as usize + 1;
         let unfinished = self
@@ -104,9 +132,13 @@ impl<T: VersionTree<N::Node>, N: VersionNodes> SharedTable<T, N> {
     /// Publishes the group, whose last sequence is `last`.
     pub(crate) fn publish(&self, who: &mut Client<T, N>, last: u64)
         requires seat { who.old.seat.table_id ≡ self.now.table.shared.table_id }
-        requires last_one { (seen : List (List MemberVersions)) × (u : Launched) × IsAt who.old.number self.now.table.shared.key seen Free (Publishing u) who.old.seat.me × (last ≡ u.last) }
-        ensures seat { (who.new.seat.table_id ≡ who.old.seat.table_id) × (who.new.number ≡ who.old.number) × (who.new.seat.me.1 ≡ who.old.seat.me.1) }
-        ensures published { (seen : List (List MemberVersions)) (u : Launched) → IsAt who.old.number self.now.table.shared.key seen Free (Publishing u) who.old.seat.me → Published who.old.number self.now.table.shared.key seen u who.new.seat.me }
+        requires last_one { (seen : List (List MemberVersions)) × (u : Launched)
+            × IsAt who.old.number self.now.table.shared.key seen Free (Publishing u) who.old.seat.me × (last ≡ u.last) }
+        ensures seat { (who.new.seat.table_id ≡ who.old.seat.table_id) × (who.new.number ≡ who.old.number)
+            × (who.new.seat.me.1 ≡ who.old.seat.me.1) }
+        ensures published { (seen : List (List MemberVersions)) (u : Launched)
+            → IsAt who.old.number self.now.table.shared.key seen Free (Publishing u) who.old.seat.me
+            → Published who.old.number self.now.table.shared.key seen u who.new.seat.me }
     {
         self.table
             .shared

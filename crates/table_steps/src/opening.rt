@@ -20,7 +20,8 @@ use wp_model::NoMemory;
 /// The words where no lock is taken and no group is launched.
 fn first_words(alloc: Global, opening: &Opening) -> Result<Vec<u64>, NoMemory>
     requires { (opening.now.shards < 2 ^ 32) × (opening.now.clients < 2 ^ 32) }
-    ensures { IfOk result (λ words. words.items ≡ replicate opening.now.shards 0 ++ opening.now.start ∷ replicate (opening.now.clients + 1) 0) }
+    ensures { IfOk result (λ words. words.items ≡ replicate opening.now.shards 0 ++ opening.now.start
+        ∷ replicate (opening.now.clients + 1) 0) }
 {
     let mut words = vec![in alloc; 0u64; opening.shards as usize]?;
     words.push(opening.start)?;
@@ -61,9 +62,12 @@ impl<T: VersionTree<N::Node> + Drop, N: VersionNodes + Drop> SharedTable<T, N> {
         alloc: Global,
         mut seat: Seat<Content<T, N>, View>,
     ) -> Result<Seats<TableSeat<T, N>, Turn<T, N>>, NoMemory>
-        requires { (seat.table_id ≡ self.now.table.shared.table_id) × (seat.me ≡ (newcomers self.now.table.shared.key 1 self.now.table.shared.key.clients, [])) }
-        ensures turn { IfOk result (λ seats. IsTurnOf self.now.table.shared.table_id self.now.table.shared.key [] seats.turn) }
-        ensures clients { IfOk result (λ seats. AreSeatsOf self.now.table.shared.table_id self.now.table.shared.key self.now.table.shared.key.clients seats.clients.items) }
+        requires { (seat.table_id ≡ self.now.table.shared.table_id)
+            × (seat.me ≡ (newcomers self.now.table.shared.key 1 self.now.table.shared.key.clients, [])) }
+        ensures turn { IfOk result (λ seats. IsTurnOf self.now.table.shared.table_id self.now.table.shared.key []
+            seats.turn) }
+        ensures clients { IfOk result (λ seats. AreSeatsOf self.now.table.shared.table_id self.now.table.shared.key
+            self.now.table.shared.key.clients seats.clients.items) }
     {
         let mut clients = Vec::new(alloc);
         for seated in 0..self.opening.clients {
@@ -99,7 +103,8 @@ impl<T: VersionTree<N::Node> + Drop, N: VersionNodes + Drop> SharedTable<T, N> {
         last: u64,
     ) -> Result<(SharedTable<T, N>, Seats<TableSeat<T, N>, Turn<T, N>>), NoMemory>
         requires { 0 < shards }
-        ensures table { IfOk result (λ opened. opening_of opened.0 ≡ record { clients = clients; shards = shards; start = last }) }
+        ensures table { IfOk result (λ opened. opening_of opened.0
+            ≡ record { clients = clients; shards = shards; start = last }) }
         ensures turn { IfOk result (λ opened. IsTurnAtStart opened.0 opened.1.turn) }
         ensures clients { IfOk result (λ opened. AreSeatsAtStart opened.0 clients opened.1.clients.items) }
     {

@@ -23,7 +23,8 @@ fn copied<B: VersionNode, T: VersionTree<B>>(
     key: &[u8],
     at: u64,
 ) -> Result<Found, NoMemory>
-    ensures { IfOk result (λ found. (order : List Version) → IsOrderUpTo at (T.versions tree.now) order → found_value found ≡ value_at (map_of order) key.now) }
+    ensures { IfOk result (λ found. (order : List Version) → IsOrderUpTo at (T.versions tree.now) order
+        → found_value found ≡ value_at (map_of order) key.now) }
 {
     match tree.lookup(key, at) {
         Some(value) => Ok(Found::Value(Bytes::copy(alloc, value)?)),
@@ -42,10 +43,18 @@ impl<T: VersionTree<N::Node>, N: VersionNodes> SharedTable<T, N> {
         key: &[u8],
         at: u64,
     ) -> Result<Found, NoMemory>
-        requires seat { (who.old.seat.table_id ≡ self.now.table.shared.table_id) × (shard < self.now.table.shared.key.shards) }
-        requires seen { (seen : List (List MemberVersions)) × (stage : Stage) × IsAt who.old.number self.now.table.shared.key seen Free stage who.old.seat.me × Runs self.now.table.shared.key.start (versions_of seen) × (at ≡ last_of self.now.table.shared.key.start seen) }
-        ensures seat { (who.new.seat.table_id ≡ who.old.seat.table_id) × (who.new.number ≡ who.old.number) × (who.new.seat.me ≡ who.old.seat.me) }
-        ensures value { IfOk result (λ found. (seen : List (List MemberVersions)) (stage : Stage) → IsAt who.old.number self.now.table.shared.key seen Free stage who.old.seat.me → found_value found ≡ value_at (map_of (of_shard self.now.table.shared.key.shards shard (versions_of seen))) key.now) }
+        requires seat { (who.old.seat.table_id ≡ self.now.table.shared.table_id)
+            × (shard < self.now.table.shared.key.shards) }
+        requires seen { (seen : List (List MemberVersions)) × (stage : Stage)
+            × IsAt who.old.number self.now.table.shared.key seen Free stage who.old.seat.me
+            × Runs self.now.table.shared.key.start (versions_of seen)
+            × (at ≡ last_of self.now.table.shared.key.start seen) }
+        ensures seat { (who.new.seat.table_id ≡ who.old.seat.table_id) × (who.new.number ≡ who.old.number)
+            × (who.new.seat.me ≡ who.old.seat.me) }
+        ensures value { IfOk result (λ found. (seen : List (List MemberVersions)) (stage : Stage)
+            → IsAt who.old.number self.now.table.shared.key seen Free stage who.old.seat.me
+            → found_value found ≡ value_at (map_of (of_shard self.now.table.shared.key.shards shard (versions_of seen)))
+            key.now) }
     {
         let tree = self.lock(rt, who, shard);
         let found = copied::<N::Node, T>(alloc, &tree, key, at);
@@ -64,11 +73,19 @@ impl<T: VersionTree<N::Node>, N: VersionNodes> SharedTable<T, N> {
         hi: &[u8],
         at: u64,
     ) -> Result<Rows, NoMemory>
-        requires seat { (who.old.seat.table_id ≡ self.now.table.shared.table_id) × (shard < self.now.table.shared.key.shards) }
-        requires seen { (seen : List (List MemberVersions)) × (stage : Stage) × IsAt who.old.number self.now.table.shared.key seen Free stage who.old.seat.me × Runs self.now.table.shared.key.start (versions_of seen) × (at ≡ last_of self.now.table.shared.key.start seen) }
-        ensures seat { (who.new.seat.table_id ≡ who.old.seat.table_id) × (who.new.number ≡ who.old.number) × (who.new.seat.me ≡ who.old.seat.me) }
+        requires seat { (who.old.seat.table_id ≡ self.now.table.shared.table_id)
+            × (shard < self.now.table.shared.key.shards) }
+        requires seen { (seen : List (List MemberVersions)) × (stage : Stage)
+            × IsAt who.old.number self.now.table.shared.key seen Free stage who.old.seat.me
+            × Runs self.now.table.shared.key.start (versions_of seen)
+            × (at ≡ last_of self.now.table.shared.key.start seen) }
+        ensures seat { (who.new.seat.table_id ≡ who.old.seat.table_id) × (who.new.number ≡ who.old.number)
+            × (who.new.seat.me ≡ who.old.seat.me) }
         ensures at { IfOk result (λ rows. rows.at ≡ at) }
-        ensures rows { IfOk result (λ rows. (seen : List (List MemberVersions)) (stage : Stage) → IsAt who.old.number self.now.table.shared.key seen Free stage who.old.seat.me → rows.rows ≡ rows_within lo.now hi.now (map_of (of_shard self.now.table.shared.key.shards shard (versions_of seen)))) }
+        ensures rows { IfOk result (λ rows. (seen : List (List MemberVersions)) (stage : Stage)
+            → IsAt who.old.number self.now.table.shared.key seen Free stage who.old.seat.me
+            → rows.rows ≡ rows_within lo.now hi.now (map_of
+            (of_shard self.now.table.shared.key.shards shard (versions_of seen)))) }
     {
         let tree = self.lock(rt, who, shard);
         let rows = tree.range(alloc, lo, hi, at);

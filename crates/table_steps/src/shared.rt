@@ -36,9 +36,13 @@ impl<T: VersionTree<N::Node>, N: VersionNodes> SharedTable<T, N> {
     /// The published sequence.
     pub(crate) fn last(&self, who: &mut Client<T, N>) -> u64
         requires seat { who.old.seat.table_id ≡ self.now.table.shared.table_id }
-        requires free { (seen : List (List MemberVersions)) × (stage : Stage) × IsAt who.old.number self.now.table.shared.key seen Free stage who.old.seat.me × IsClient stage }
-        ensures seat { (who.new.seat.table_id ≡ who.old.seat.table_id) × (who.new.number ≡ who.old.number) × (who.new.seat.me.1 ≡ who.old.seat.me.1) }
-        ensures seen { (seen : List (List MemberVersions)) (stage : Stage) → IsAt who.old.number self.now.table.shared.key seen Free stage who.old.seat.me → Sees who.old.number self.now.table.shared.key seen stage result who.new.seat.me }
+        requires free { (seen : List (List MemberVersions)) × (stage : Stage)
+            × IsAt who.old.number self.now.table.shared.key seen Free stage who.old.seat.me × IsClient stage }
+        ensures seat { (who.new.seat.table_id ≡ who.old.seat.table_id) × (who.new.number ≡ who.old.number)
+            × (who.new.seat.me.1 ≡ who.old.seat.me.1) }
+        ensures seen { (seen : List (List MemberVersions)) (stage : Stage)
+            → IsAt who.old.number self.now.table.shared.key seen Free stage who.old.seat.me
+            → Sees who.old.number self.now.table.shared.key seen stage result who.new.seat.me }
     {
         self.table
             .shared
@@ -48,9 +52,13 @@ impl<T: VersionTree<N::Node>, N: VersionNodes> SharedTable<T, N> {
     /// Waits until the seat has seen the sequence `at_least`, and gives the published sequence that it has then seen.
     pub(crate) fn await_seen<R: Wait>(&self, rt: &R, who: &mut Client<T, N>, at_least: u64) -> u64
         requires seat { who.old.seat.table_id ≡ self.now.table.shared.table_id }
-        requires free { (seen : List (List MemberVersions)) × IsAt who.old.number self.now.table.shared.key seen Free Idle who.old.seat.me }
-        ensures seat { (who.new.seat.table_id ≡ who.old.seat.table_id) × (who.new.number ≡ who.old.number) × (who.new.seat.me.1 ≡ who.old.seat.me.1) × (at_least ≤ result) }
-        ensures seen { (seen : List (List MemberVersions)) → IsAt who.old.number self.now.table.shared.key seen Free Idle who.old.seat.me → Sees who.old.number self.now.table.shared.key seen Idle result who.new.seat.me }
+        requires free { (seen : List (List MemberVersions))
+            × IsAt who.old.number self.now.table.shared.key seen Free Idle who.old.seat.me }
+        ensures seat { (who.new.seat.table_id ≡ who.old.seat.table_id) × (who.new.number ≡ who.old.number)
+            × (who.new.seat.me.1 ≡ who.old.seat.me.1) × (at_least ≤ result) }
+        ensures seen { (seen : List (List MemberVersions))
+            → IsAt who.old.number self.now.table.shared.key seen Free Idle who.old.seat.me
+            → Sees who.old.number self.now.table.shared.key seen Idle result who.new.seat.me }
     {
         let backoff = Backoff::new();
         for _ in rt.forever() {
@@ -65,10 +73,15 @@ impl<T: VersionTree<N::Node>, N: VersionNodes> SharedTable<T, N> {
 
     /// Waits for a shard's lock, and takes its tree. It spins a few turns, and then yields.
     pub(crate) fn lock<R: Wait>(&self, rt: &R, who: &mut Client<T, N>, shard: u64) -> T
-        requires seat { (who.old.seat.table_id ≡ self.now.table.shared.table_id) × (shard < self.now.table.shared.key.shards) }
-        requires free { (seen : List (List MemberVersions)) × (stage : Stage) × IsAt who.old.number self.now.table.shared.key seen Free stage who.old.seat.me }
+        requires seat { (who.old.seat.table_id ≡ self.now.table.shared.table_id)
+            × (shard < self.now.table.shared.key.shards) }
+        requires free { (seen : List (List MemberVersions)) × (stage : Stage)
+            × IsAt who.old.number self.now.table.shared.key seen Free stage who.old.seat.me }
         ensures seat { (who.new.seat.table_id ≡ who.old.seat.table_id) × (who.new.number ≡ who.old.number) }
-        ensures locked { (seen : List (List MemberVersions)) (stage : Stage) → IsAt who.old.number self.now.table.shared.key seen Free stage who.old.seat.me → Locked who.old.number self.now.table.shared.key shard seen stage (T.versions result) who.old.seat.me who.new.seat.me }
+        ensures locked { (seen : List (List MemberVersions)) (stage : Stage)
+            → IsAt who.old.number self.now.table.shared.key seen Free stage who.old.seat.me
+            → Locked who.old.number self.now.table.shared.key shard seen stage
+            (T.versions result) who.old.seat.me who.new.seat.me }
     {
         let shared = &self.table.shared;
         let backoff = Backoff::new();
@@ -87,10 +100,16 @@ impl<T: VersionTree<N::Node>, N: VersionNodes> SharedTable<T, N> {
 
     /// Gives a shard's tree back as it was.
     pub(crate) fn unlock(&self, who: &mut Client<T, N>, shard: u64, tree: T)
-        requires seat { (who.old.seat.table_id ≡ self.now.table.shared.table_id) × (shard < self.now.table.shared.key.shards) }
-        requires held { (seen : List (List MemberVersions)) × (stage : Stage) × (more : List (ℕ × Content T N)) × IsAt who.old.number self.now.table.shared.key seen (Held shard (T.versions tree)) stage who.old.seat.me × (who.old.seat.me.1 ≡ (shard, Blank) ∷ more) }
-        ensures seat { (who.new.seat.table_id ≡ who.old.seat.table_id) × (who.new.number ≡ who.old.number) × (who.new.seat.me.1 ≡ rest who.old.seat.me.1) }
-        ensures free { (seen : List (List MemberVersions)) (stage : Stage) → IsAt who.old.number self.now.table.shared.key seen (Held shard (T.versions tree)) stage who.old.seat.me → IsAt who.old.number self.now.table.shared.key seen Free stage who.new.seat.me }
+        requires seat { (who.old.seat.table_id ≡ self.now.table.shared.table_id)
+            × (shard < self.now.table.shared.key.shards) }
+        requires held { (seen : List (List MemberVersions)) × (stage : Stage) × (more : List (ℕ × Content T N))
+            × IsAt who.old.number self.now.table.shared.key seen (Held shard (T.versions tree)) stage who.old.seat.me
+            × (who.old.seat.me.1 ≡ (shard, Blank) ∷ more) }
+        ensures seat { (who.new.seat.table_id ≡ who.old.seat.table_id) × (who.new.number ≡ who.old.number)
+            × (who.new.seat.me.1 ≡ rest who.old.seat.me.1) }
+        ensures free { (seen : List (List MemberVersions)) (stage : Stage)
+            → IsAt who.old.number self.now.table.shared.key seen (Held shard (T.versions tree)) stage who.old.seat.me
+            → IsAt who.old.number self.now.table.shared.key seen Free stage who.new.seat.me }
     {
         let shared = &self.table.shared;
         match shared.exchange(&mut who.seat, shard as usize, Content::Tree(tree)) {

@@ -9,10 +9,7 @@ ghost use Rattle.wal_recover.specs.Keeping.{Adds, Refuses, MayRun, IsRunEnd};
 use std::alloc::Global;
 use wp_coding::PairMap;
 use wp_model::{BatchError, EndReason, NoMemory};
-use write_batch::{RecordView, Records, read_batch};
-
-/// The greatest sequence, `kMaxSequenceNumber` of RocksDB's db/dbformat.h.
-const MAX_SEQUENCE: u64 = 72_057_594_037_927_935;
+use write_batch::{MAX_SEQUENCE, RecordView, Records, read_batch};
 
 /// What is noted of a record that is kept: the first sequence that its header says, how many sequences it
 /// takes, and its bytes.

@@ -74,7 +74,8 @@ impl Sink for MemSink {
         ensures count { IfOk result (λ n. n ≡ takes_of self.old (length piece.now)) }
         ensures capacity { sink_capacity self.new ≡ sink_capacity self.old }
         ensures piece { sink_piece self.new ≡ sink_piece self.old }
-        ensures listed { FailsAsListed (sink_calls self.old) (sink_calls self.new) (is_full_for self.old (length piece.now)) result }
+        ensures listed { FailsAsListed (sink_calls self.old) (sink_calls self.new)
+            (is_full_for self.old (length piece.now)) result }
         ensures cause { HasCause (sink_calls self.old).faults (sink_calls self.new).faults result }
     {
         self.calls.begin()?;

@@ -18,10 +18,14 @@ pub fn varints()
 
 /// Batches: the sequence in eight bytes and the count in four, the low ones first, and then the records. A note isn't counted.
 pub fn batches()
-    ensures one_value { batch 1 (put_a1 ∷ []) ≡ 1 ∷ 0 ∷ 0 ∷ 0 ∷ 0 ∷ 0 ∷ 0 ∷ 0 ∷ 1 ∷ 0 ∷ 0 ∷ 0 ∷ 1 ∷ 1 ∷ 0x61 ∷ 1 ∷ 0x31 ∷ [] }
-    ensures three_records { hex (batch 1 (put_a1 ∷ put_a2 ∷ deletion (codes "a") ∷ [])) ≡ codes "01000000000000000300000001016101310101610132000161" }
-    ensures noted { hex (batch 1 (log_data (codes "x") ∷ put_a1 ∷ [])) ≡ codes "0100000000000000010000000301780101610131" }
-    ensures single_deletion { hex (batch 3 (single_deletion (codes "a") ∷ [])) ≡ codes "030000000000000001000000070161" }
+    ensures one_value { batch 1 (put_a1 ∷ []) ≡ 1 ∷ 0 ∷ 0 ∷ 0 ∷ 0 ∷ 0 ∷ 0 ∷ 0 ∷ 1 ∷ 0 ∷ 0 ∷ 0 ∷ 1 ∷ 1 ∷ 0x61 ∷ 1 ∷ 0x31
+        ∷ [] }
+    ensures three_records { hex (batch 1 (put_a1 ∷ put_a2 ∷ deletion (codes "a") ∷ []))
+        ≡ codes "01000000000000000300000001016101310101610132000161" }
+    ensures noted { hex (batch 1 (log_data (codes "x") ∷ put_a1 ∷ []))
+        ≡ codes "0100000000000000010000000301780101610131" }
+    ensures single_deletion { hex (batch 3 (single_deletion (codes "a") ∷ []))
+        ≡ codes "030000000000000001000000070161" }
 {}
 
 /// A record with a tag that isn't read. The bytes are refused by its number.
@@ -38,5 +42,6 @@ pub fn sizes_of_batches()
 
 /// The log record of a group of two batches is one batch of both.
 pub fn group_of_two_batches()
-    ensures one_batch { hex (group_record 1 ((put_a1 ∷ []) ∷ (put_b2 ∷ []) ∷ [])) ≡ codes "01000000000000000200000001016101310101620132" }
+    ensures one_batch { hex (group_record 1 ((put_a1 ∷ []) ∷ (put_b2 ∷ []) ∷ []))
+        ≡ codes "01000000000000000200000001016101310101620132" }
 {}

@@ -9,12 +9,14 @@ ghost use Rattle.wp_rows.specs.Examples.{put_a1, put_b2, plain};
 
 /// The first draws of client 1 of the seed 1.
 pub fn first_draws()
-    ensures client_1_of_seed_1 { numbers_from 10 (first_state 1 1) ≡ 908 ∷ 22817 ∷ 10239 ∷ 12914 ∷ 25837 ∷ 27095 ∷ 29976 ∷ 27865 ∷ 20302 ∷ 32531 ∷ [] }
+    ensures client_1_of_seed_1 { numbers_from 10 (first_state 1 1) ≡ 908 ∷ 22817 ∷ 10239 ∷ 12914 ∷ 25837 ∷ 27095 ∷ 29976
+        ∷ 27865 ∷ 20302 ∷ 32531 ∷ [] }
 {}
 
 /// Its first batch has one record, a value: 908 gives the count, 22817 the key, 10239 the kind, and 12914 the value.
 pub fn first_batch()
-    ensures client_1_of_seed_1 { generated 1 1 1 ≡ (add (value (codes "c1k17") (codes "914")) ∷ commit plain ∷ []) ∷ [] }
+    ensures client_1_of_seed_1 { generated 1 1 1 ≡ (add (value (codes "c1k17") (codes "914")) ∷ commit plain ∷ [])
+        ∷ [] }
 {}
 
 /// The summary of a run of one client that wrote two records in one batch.

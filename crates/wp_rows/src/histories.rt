@@ -14,9 +14,11 @@ ghost use Rattle.wp_rows.specs.Runs.{one_commit, entry_at};
 pub fn maps_of_batches()
     ensures later_value { after_records [] (put_a1 ∷ put_a2 ∷ []) ≡ (codes "a", codes "2") ∷ [] }
     ensures deleted { after_records [] (put_a1 ∷ put_a2 ∷ deletion (codes "a") ∷ []) ≡ [] }
-    ensures single_deleted { after_records [] (put_a1 ∷ put_b2 ∷ single_deletion (codes "a") ∷ []) ≡ (codes "b", codes "2") ∷ [] }
+    ensures single_deleted { after_records [] (put_a1 ∷ put_b2 ∷ single_deletion (codes "a") ∷ [])
+        ≡ (codes "b", codes "2") ∷ [] }
     ensures noted { after_records [] (log_data (codes "x") ∷ put_a1 ∷ []) ≡ (codes "a", codes "1") ∷ [] }
-    ensures in_order { after_records [] (put_b2 ∷ put_a1 ∷ value (codes "ab") (codes "3") ∷ []) ≡ (codes "a", codes "1") ∷ (codes "ab", codes "3") ∷ (codes "b", codes "2") ∷ [] }
+    ensures in_order { after_records [] (put_b2 ∷ put_a1 ∷ value (codes "ab") (codes "3") ∷ []) ≡ (codes "a", codes "1")
+        ∷ (codes "ab", codes "3") ∷ (codes "b", codes "2") ∷ [] }
     ensures there { value_at (after_records [] (put_a1 ∷ put_a2 ∷ [])) (codes "a") ≡ Some (codes "2") }
     ensures not_there { value_at (after_records [] (put_a1 ∷ [])) (codes "b") ≡ None }
 {}
@@ -30,6 +32,7 @@ pub fn flags_of_commits()
 
 /// Two commits of one group have one log record. The log of a run of one commit has its batch.
 pub fn logs_of_histories()
-    ensures one_group { record_of_entries (entry_at 1 1 put_a1 ∷ entry_at 2 2 put_b2 ∷ []) ≡ batch 1 (put_a1 ∷ put_b2 ∷ []) }
+    ensures one_group { record_of_entries (entry_at 1 1 put_a1 ∷ entry_at 2 2 put_b2 ∷ [])
+        ≡ batch 1 (put_a1 ∷ put_b2 ∷ []) }
     ensures one_commit { IsLogOf one_commit (text None (batch 1 (put_a1 ∷ []) ∷ [])) ((entry_at 1 1 put_a1 ∷ []) ∷ []) }
 {}

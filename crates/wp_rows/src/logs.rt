@@ -8,7 +8,8 @@ ghost use Rattle.wp_rows.specs.Examples.{put_a1};
 
 /// The log of the batch of `put a 1`: a header of seven bytes, in which the length 17 and the type 1 stand behind the checksum, and the batch.
 pub fn log_of_one_batch()
-    ensures bytes { hex (text None (batch 1 (put_a1 ∷ []) ∷ [])) ≡ codes "e99f78191100010100000000000000010000000101610131" }
+    ensures bytes { hex (text None (batch 1 (put_a1 ∷ []) ∷ []))
+        ≡ codes "e99f78191100010100000000000000010000000101610131" }
     ensures len { length (text None (batch 1 (put_a1 ∷ []) ∷ [])) ≡ 24 }
     ensures length_and_type { take 3 (drop 4 (text None (batch 1 (put_a1 ∷ []) ∷ []))) ≡ 0x11 ∷ 0x00 ∷ 0x01 ∷ [] }
     ensures batch { drop 7 (text None (batch 1 (put_a1 ∷ []) ∷ [])) ≡ batch 1 (put_a1 ∷ []) }
@@ -34,7 +35,8 @@ pub fn end_of_block()
 pub fn long_records()
     ensures first_record { map length (parts_of None 0 (replicate 1000 0)) ≡ 1000 ∷ [] }
     ensures parts_of_second { map length (parts_of None 1007 (replicate 97270 0)) ≡ 31754 ∷ 32761 ∷ 32755 ∷ [] }
-    ensures kinds_of_second { kinds_of (as_fragments (parts_of None 1007 (replicate 97270 0))) ≡ first ∷ middle ∷ last ∷ [] }
+    ensures kinds_of_second { kinds_of (as_fragments (parts_of None 1007 (replicate 97270 0))) ≡ first ∷ middle ∷ last
+        ∷ [] }
     ensures zeros_behind_second { trailer None 98298 ≡ 6 }
     ensures third_record { map length (parts_of None 98298 (replicate 8000 0)) ≡ 8000 ∷ [] }
 {}

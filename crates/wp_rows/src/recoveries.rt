@@ -7,10 +7,12 @@ ghost use Rattle.wp_rows.specs.TwoBatches.{log_of_two, both_recovered, none_reco
 
 /// The log of `put a 1` and `put b 2`, each in a record of its own, recovers both to its end.
 pub fn two_batches_recovered()
-    ensures bytes { hex log_of_two ≡ codes "e99f781911000101000000000000000100000001016101318f72bc7a1100010200000000000000010000000101620132" }
+    ensures bytes { hex log_of_two ≡ codes
+        "e99f781911000101000000000000000100000001016101318f72bc7a1100010200000000000000010000000101620132" }
     ensures recovered { IsRecovered None log_of_two both_recovered }
     ensures map { recovered_map both_recovered ≡ (codes "a", codes "1") ∷ (codes "b", codes "2") ∷ [] }
-    ensures text { recovered_text both_recovered ≡ codes "groups 2\n1 1 17\n2 1 17\nstate 2 2\n61 31\n62 32\nend 48 clean\n" }
+    ensures text { recovered_text both_recovered ≡ codes
+        "groups 2\n1 1 17\n2 1 17\nstate 2 2\n61 31\n62 32\nend 48 clean\n" }
 {}
 
 /// An empty log recovers nothing, and ends well.

@@ -10,19 +10,26 @@ ghost use Rattle.wp_rows.specs.Examples.{put_a1, plain, fault_at};
 
 /// A script of one batch and one read. Its last line feed may lack.
 pub fn one_script()
-    ensures whole { script_of run_grammar (codes "client 1\nput a 1\ncommit\nget a\n") ≡ Ok ((add put_a1 ∷ commit plain ∷ get (codes "a") ∷ []) ∷ []) }
-    ensures without_last_line_feed { script_of run_grammar (codes "client 1\nput a 1\ncommit\nget a") ≡ Ok ((add put_a1 ∷ commit plain ∷ get (codes "a") ∷ []) ∷ []) }
+    ensures whole { script_of run_grammar (codes "client 1\nput a 1\ncommit\nget a\n")
+        ≡ Ok ((add put_a1 ∷ commit plain ∷ get (codes "a") ∷ []) ∷ []) }
+    ensures without_last_line_feed { script_of run_grammar (codes "client 1\nput a 1\ncommit\nget a")
+        ≡ Ok ((add put_a1 ∷ commit plain ∷ get (codes "a") ∷ []) ∷ []) }
 {}
 
 /// Each kind of record, and each way to commit.
 pub fn records_and_flags()
-    ensures records { script_of run_grammar (codes "client 1\ndel a\nsdel b\nnote c\nclear") ≡ Ok ((add (deletion (codes "a")) ∷ add (single_deletion (codes "b")) ∷ add (log_data (codes "c")) ∷ clear ∷ []) ∷ []) }
-    ensures flags { script_of run_grammar (codes "client 1\ncommit sync\ncommit nolog\ncommit sync nolog") ≡ Ok ((commit (record plain { sync = true }) ∷ commit (record plain { no_log = true }) ∷ commit (record plain { sync = true; no_log = true }) ∷ []) ∷ []) }
+    ensures records { script_of run_grammar (codes "client 1\ndel a\nsdel b\nnote c\nclear")
+        ≡ Ok ((add (deletion (codes "a")) ∷ add (single_deletion (codes "b")) ∷ add (log_data (codes "c")) ∷ clear ∷ [])
+        ∷ []) }
+    ensures flags { script_of run_grammar (codes "client 1\ncommit sync\ncommit nolog\ncommit sync nolog")
+        ≡ Ok ((commit (record plain { sync = true }) ∷ commit (record plain { no_log = true })
+        ∷ commit (record plain { sync = true; no_log = true }) ∷ []) ∷ []) }
 {}
 
 /// Comments and empty lines are passed over. Where there is nothing else there is no client.
 pub fn passed_over_lines()
-    ensures commented { script_of run_grammar (codes "# x\nclient 1\n\nput a 1\ncommit\nget a\n") ≡ Ok ((add put_a1 ∷ commit plain ∷ get (codes "a") ∷ []) ∷ []) }
+    ensures commented { script_of run_grammar (codes "# x\nclient 1\n\nput a 1\ncommit\nget a\n")
+        ≡ Ok ((add put_a1 ∷ commit plain ∷ get (codes "a") ∷ []) ∷ []) }
     ensures nothing_else { script_of run_grammar (codes "# x\n\n") ≡ fault_at 0 NoClient }
 {}
 
@@ -48,12 +55,18 @@ pub fn faults_of_scripts()
 
 /// The whole grammar: reads of several keys, the controller's tokens, every flag, and more than one client.
 pub fn whole_scripts()
-    ensures reads { script_of whole_grammar (codes "client 1\nmany a b\nscan a c") ≡ Ok ((many (codes "a" ∷ codes "b" ∷ []) ∷ scan (codes "a") (codes "c") ∷ []) ∷ []) }
-    ensures tokens { script_of whole_grammar (codes "client 1\nstop\nunstop\nslow 7\nunslow") ≡ Ok ((stop ∷ unstop ∷ slow 7 ∷ unslow ∷ []) ∷ []) }
-    ensures flags { script_of whole_grammar (codes "client 1\ncommit noslow\ncommit sync noslow\ncommit sync nolog noslow")
-        ≡ Ok ((commit (record plain { no_slowdown = true }) ∷ commit (record plain { sync = true; no_slowdown = true }) ∷ commit (record { sync = true; no_log = true; no_slowdown = true }) ∷ []) ∷ []) }
-    ensures two_clients { script_of whole_grammar (codes "client 1\nget a\nclient 2\nput a 1") ≡ Ok ((get (codes "a") ∷ []) ∷ (add put_a1 ∷ []) ∷ []) }
-    ensures too_many_clients { script_of whole_grammar (flat_map (λ n. codes "client " ++ decimal n ++ codes "\n") (range_with_len 1 17)) ≡ fault_at 17 Clients }
+    ensures reads { script_of whole_grammar (codes "client 1\nmany a b\nscan a c")
+        ≡ Ok ((many (codes "a" ∷ codes "b" ∷ []) ∷ scan (codes "a") (codes "c") ∷ []) ∷ []) }
+    ensures tokens { script_of whole_grammar (codes "client 1\nstop\nunstop\nslow 7\nunslow")
+        ≡ Ok ((stop ∷ unstop ∷ slow 7 ∷ unslow ∷ []) ∷ []) }
+    ensures flags { script_of whole_grammar (codes
+        "client 1\ncommit noslow\ncommit sync noslow\ncommit sync nolog noslow")
+        ≡ Ok ((commit (record plain { no_slowdown = true }) ∷ commit (record plain { sync = true; no_slowdown = true })
+        ∷ commit (record { sync = true; no_log = true; no_slowdown = true }) ∷ []) ∷ []) }
+    ensures two_clients { script_of whole_grammar (codes "client 1\nget a\nclient 2\nput a 1")
+        ≡ Ok ((get (codes "a") ∷ []) ∷ (add put_a1 ∷ []) ∷ []) }
+    ensures too_many_clients { script_of whole_grammar (flat_map (λ n. codes "client " ++ decimal n ++ codes "\n")
+        (range_with_len 1 17)) ≡ fault_at 17 Clients }
     ensures no_key { script_of whole_grammar (codes "client 1\nmany") ≡ fault_at 2 Form }
     ensures flags_turned { script_of whole_grammar (codes "client 1\ncommit noslow sync") ≡ fault_at 2 Form }
     ensures no_rate { script_of whole_grammar (codes "client 1\nslow") ≡ fault_at 2 Form }

@@ -11,10 +11,12 @@ pub fn digits_of_bytes()
 
 /// The text of a run of `put a 1`, `commit` and `get a`.
 pub fn text_of_one_commit()
-    ensures text { outcome_text one_commit ≡ codes "client 1\nok 1 1\nval 1 1\nhistory 1\n1 1 1 1 log 0100000000000000010000000101610131\nstate 1 1\na 1\nlog 24\n" }
+    ensures text { outcome_text one_commit ≡ codes
+        "client 1\nok 1 1\nval 1 1\nhistory 1\n1 1 1 1 log 0100000000000000010000000101610131\nstate 1 1\na 1\nlog 24\n" }
 {}
 
 /// The text of the same run where the log's first write fails.
 pub fn text_of_refused_commit()
-    ensures text { outcome_text refused_commit ≡ codes "client 1\nno logfault 1\nnil 0\nhistory 0\nstate 0 0\nlog 0 fault 1\n" }
+    ensures text { outcome_text refused_commit ≡ codes
+        "client 1\nno logfault 1\nnil 0\nhistory 0\nstate 0 0\nlog 0 fault 1\n" }
 {}

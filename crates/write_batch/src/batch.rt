@@ -17,9 +17,13 @@ use wp_model::NoMemory;
 /// The most bytes that a batch has.
 pub const MAX_SIZE: u64 = 16_777_216;
 
-/// How many bytes the header has, and where the count stands in it.
+/// The greatest sequence, `kMaxSequenceNumber` of RocksDB's db/dbformat.h.
+pub const MAX_SEQUENCE: u64 = (1 << 56) - 1;
+
+/// How many bytes the header of a batch has: its sequence and its count.
 pub const HEADER_LEN: usize = 12;
 
+/// Where the count stands in it.
 pub const COUNT_AT: usize = 8;
 
 /// A batch of additions. Contracts see its sequence and the additions in order.
@@ -64,7 +68,8 @@ impl Batch {
         ensures err { OnErr result (self.new ≡ self.old) }
         ensures too_large { let size = size_with self.old (model.value key.now value.now) in
             MAX_SIZE < size → result ≡ Err (AddError.TooLarge (min size (2 ^ 64 - 1))) }
-        ensures fits { size_with self.old (model.value key.now value.now) ≤ MAX_SIZE → IsOkUnless result AddError.NoMemory }
+        ensures fits { size_with self.old (model.value key.now value.now) ≤ MAX_SIZE
+            → IsOkUnless result AddError.NoMemory }
     {
         self.add(RecordView::Value { key, value })
     }
@@ -86,7 +91,8 @@ impl Batch {
         ensures err { OnErr result (self.new ≡ self.old) }
         ensures too_large { let size = size_with self.old (model.single_deletion key.now) in
             MAX_SIZE < size → result ≡ Err (AddError.TooLarge (min size (2 ^ 64 - 1))) }
-        ensures fits { size_with self.old (model.single_deletion key.now) ≤ MAX_SIZE → IsOkUnless result AddError.NoMemory }
+        ensures fits { size_with self.old (model.single_deletion key.now) ≤ MAX_SIZE
+            → IsOkUnless result AddError.NoMemory }
     {
         self.add(RecordView::SingleDeletion { key })
     }

@@ -10,7 +10,7 @@ mod split;
 mod view;
 
 pub use add_error::AddError;
-pub use batch::{Batch, MAX_SIZE};
+pub use batch::{Batch, HEADER_LEN, MAX_SEQUENCE, MAX_SIZE};
 pub use record_view::RecordView;
 pub use records::Records;
 pub use view::{BatchView, read_batch};
