@@ -15,7 +15,8 @@ use Rattle.wp_model.specs.Replies.{IsLater, MayRefuse}
 use Rattle.table_rule.specs.Histories.{map_after}
 use Rattle.account_model.specs.Sights.{Sight, unseen, last_seen, Sees}
 
--- One client: its accepted batches, its calls of the controller that were done, its commits that a leader took in hand, and what it has seen of the run
+-- One client: its accepted batches, its calls of the controller that were done, its commits that a leader took in hand,
+-- and what it has seen of the run
 pub record Account : Type 0 where
   pub number : ℕ
   pub mine : List Entry

@@ -10,7 +10,8 @@ use Rattle.wp_model.specs.Calls.{Command, Reply, Call}
 use Rattle.account_model.specs.Sights.{last_seen, Sees, InEachTrace}
 use Rattle.account_model.specs.Accounts.{Account, Keeps}
 
--- where a client stands that has this account, this batch in the making, and was shown what is published up to `seen_up_to`
+-- where a client stands that has this account, this batch in the making, and was shown what is published up to
+-- `seen_up_to`
 abbrev pub standing : Account → List Record → ℕ → Progress
 standing a pending seen_up_to = record {
   pending = pending;
@@ -21,7 +22,8 @@ standing a pending seen_up_to = record {
   known = length a.seen.controller_calls;
 }
 
--- Whatever it was shown before, it goes on by this command and reply, in each trace of which it may have seen what it now has seen.
+-- Whatever it was shown before, it goes on by this command and reply, in each trace of which it may have seen what it
+-- now has seen.
 pub record Goes (settings : Settings) (v : Account) (before : List Record) (command : Command) (reply : Reply)
     (w : Account) (after : List Record) : Type 0 where
   pub number : w.number ≡ v.number
@@ -46,7 +48,8 @@ pub record Went (settings : Settings) (calls : List Call) (a : Account) (pending
   pub shown : seen_up_to ≤ last_seen a.seen
   pub run : InEachTrace a.seen (λ trace. Run settings trace a.number fresh calls (standing a pending seen_up_to))
 
--- All its calls, as far as it alone can tell: a transcript in each trace of which it may have seen what it has seen, that leaves what it has done
+-- All its calls, as far as it alone can tell: a transcript in each trace of which it may have seen what it has seen,
+-- that leaves what it has done
 pub record HasRun (settings : Settings) (client : ℕ) (commands : List Command) (calls : List Call)
     (a : Account) : Type 0 where
   pub end : Progress

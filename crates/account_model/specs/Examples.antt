@@ -36,7 +36,11 @@ second_version = record { key = codes "b"; value = Some (codes "2"); sequence = 
 
 -- these versions, as a group that was published
 abbrev pub sight_of : List Version → Sight
-sight_of versions = record { start = 0; published = (record { member = 1; versions = versions } ∷ []) ∷ []; controller_calls = [] }
+sight_of versions = record {
+  start = 0;
+  published = (record { member = 1; versions = versions } ∷ []) ∷ [];
+  controller_calls = [];
+}
 
 -- the client's account before its commit, and after it
 abbrev pub before : Account

@@ -1,5 +1,5 @@
--- What the log's one holder at a time knows: the groups that were taken in hand, one after another, each with the place of its delay. From this the
--- groups of an outcome are had at its closing.
+-- What the log's one holder at a time knows: the groups that were taken in hand, one after another, each with the place
+-- of its delay. From this the groups of an outcome are had at its closing.
 use Rattle.std.specs.Prelude.{◌≡◌, ◌≢◌, ℕ, ◌+◌, ◌≤◌, ⊤, Bool, List, [], ◌∷◌, ◌++◌, length, map, filter, flat_map, slice_get, ◌==◌, Option, Some}
 use Rattle.std.specs.List.{AllByRecursion}
 use Rattle.wp_model.specs.declared.group.Item.{Item}

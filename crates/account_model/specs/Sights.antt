@@ -8,8 +8,8 @@ use Rattle.table_rule.specs.declared.content.MemberVersions.{MemberVersions}
 use Rattle.table_rule.specs.Histories.{Begins, Images, last_of}
 use Rattle.account_model.specs.Versions.{versions_of_entry}
 
--- The groups that were published, by its reads, and the controller's calls, by its pass. A published group has versions: they tell neither whose they
--- are nor how they were committed. So this is no trace.
+-- The groups that were published, by its reads, and the controller's calls, by its pass. A published group has
+-- versions: they tell neither whose they are nor how they were committed. So this is no trace.
 pub record Sight : Type 0 where
   -- the sequence before the first batch
   pub start : ℕ
@@ -29,7 +29,8 @@ pub record Sees (v w : Sight) : Type 0 where
   pub published : Begins v.published w.published
   pub controller_calls : IsPrefix v.controller_calls w.controller_calls
 
--- It was seen of this trace: the entries with which the trace begins made the published groups, each group some of them, whole.
+-- It was seen of this trace: the entries with which the trace begins made the published groups, each group some of
+-- them, whole.
 pub record Saw (sight : Sight) (trace : Trace) : Type 0 where
   pub start : sight.start ≡ trace.start
   pub entries : List Entry

@@ -24,7 +24,8 @@ ghost use Rattle.account_model.specs.Led.{Led, groups_of, AreLed};
 ghost use Rattle.account_model.specs.Written.{WroteEntries, AreLost};
 ghost use Rattle.account_model.specs.Answered.{IsAmong};
 
-/// Where each client has run its part of the script, and the closing says that their accounts are parts of one trace, that is a legal outcome.
+/// Where each client has run its part of the script, and the closing says that their accounts are parts of one trace,
+/// that is a legal outcome.
 pub fn closed_runs_are_legal()
     ensures legal { (settings : Settings) (ended : ℕ) (script : List (List Command)) (transcripts : List (List Call))
         (accounts : List Account) (trace : Trace) (groups : List Group) (last log_len : ℕ) (fault : Option ℕ)
@@ -51,7 +52,8 @@ pub fn led_groups()
         → slice_get own k ≡ Some attempt → attempt.status ≡ slowed place → Holds (groups_of led) place (i + 1) k }
 {}
 
-/// Each commit that a leader took in hand stands in its client's transcript, with its batch and the reply of its status.
+/// Each commit that a leader took in hand stands in its client's transcript, with its batch and the reply of its
+/// status.
 pub fn attempts_are_shown()
     ensures shown { (settings : Settings) (trace : Trace) (client : ℕ) (commands : List Command) (calls : List Call)
         (end : Progress) → IsTranscript settings trace client commands calls end

@@ -13,7 +13,8 @@ pub fn whole_batches_alone()
     ensures half { Saw (sight_of (first_version ∷ [])) one_batch → ⊥ }
 {}
 
-/// A client that adds two records and commits them: the commit, the client's run, and the closing of a run of this client alone.
+/// A client that adds two records and commits them: the commit, the client's run, and the closing of a run of this
+/// client alone.
 pub fn one_commit()
     ensures wrote { Wrote settings before two_records plain 1 2 after }
     ensures run { HaveRun settings (commands ∷ []) (calls ∷ []) (after ∷ []) }

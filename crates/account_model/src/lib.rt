@@ -1,10 +1,12 @@
 //! What the clients of a write path can say of it, each of itself, and what follows once it is closed.
 //!
-//! Each client calls the write path in a thread of its own, and no one sees the whole run while it goes on. So each client has an account of what it
-//! did and saw. A call says how it changes its client's account, the closing says that all accounts are parts of one trace, and the laws of this
-//! crate say that the clients' replies are then a legal outcome. They hold of any write path.
+//! Each client calls the write path in a thread of its own, and no one sees the whole run while it goes on. So each
+//! client has an account of what it did and saw. A call says how it changes its client's account, the closing says that
+//! all accounts are parts of one trace, and the laws of this crate say that the clients' replies are then a legal
+//! outcome. They hold of any write path.
 //!
-//! - `specs/Sights`: what a client sees while a run goes on, and of which traces that may have been seen. `specs/Versions` has the versions of entries.
+//! - `specs/Sights`: what a client sees while a run goes on, and of which traces that may have been seen.
+//! `specs/Versions` has the versions of entries.
 //! - `specs/Accounts`: a client's account, and what each kind of call does to it.
 //! - `specs/Closing`: what the closing says of all accounts.
 //! - `specs/ClientRuns`: a client's calls one after another, and its whole run.
@@ -12,7 +14,8 @@
 //! - `specs/Written`: the calls of the log writer that wrote the closed log.
 //! - `specs/Answered`: where a transcript shows a commit that a leader took in hand.
 //!
-//! Each law is a clause of a function that does nothing, in [`sights`], [`calls`], [`runs`] and [`closings`]. Who needs one calls the function.
+//! Each law is a clause of a function that does nothing, in [`sights`], [`calls`], [`runs`] and [`closings`]. Who needs
+//! one calls the function.
 #![tactic(auto)]
 
 mod calls;

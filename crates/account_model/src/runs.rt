@@ -18,7 +18,8 @@ pub fn calls_one_after_another()
         → Went settings (with_call calls c r) w after }
 {}
 
-/// A client's run ends where all its commands were answered, or where one found no memory. By then it has given back what it held.
+/// A client's run ends where all its commands were answered, or where one found no memory. By then it has given back
+/// what it held.
 pub fn runs_end()
     ensures whole { (settings : Settings) (calls : List Call) (v : Account) (pending : List Record) (w : Account)
         → Went settings calls v pending → GivesBack v w → HasRun settings v.number (commands_of calls) calls w }

@@ -17,7 +17,8 @@ pub fn earlier_sights()
     ensures saw { (v w : Sight) → Sees v w → (trace : Trace) → Saw w trace → Saw v trace }
 {}
 
-/// Who has seen the first of all groups that were published has seen some of each trace whose entries made those groups.
+/// Who has seen the first of all groups that were published has seen some of each trace whose entries made those
+/// groups.
 pub fn sights_of_the_table()
     ensures saw { (trace : Trace) (history : List (List MemberVersions))
         → Images versions_of_entry trace.entries history
@@ -25,7 +26,8 @@ pub fn sights_of_the_table()
         → IsPrefix sight.controller_calls trace.controller_calls → Saw sight trace }
 {}
 
-/// What was seen published is what the first entries of the trace made: it ends at a batch's end, and its map is theirs.
+/// What was seen published is what the first entries of the trace made: it ends at a batch's end, and its map is
+/// theirs.
 pub fn sights_of_traces()
     ensures ends { (sight : Sight) (trace : Trace) → IsHistory trace.start trace.entries → (saw : Saw sight trace)
         → last_seen sight ≡ last_sequence trace.start saw.entries }

@@ -12,8 +12,8 @@ const SCRIPT: &[u8] = b"client 1\nput a 1\ncommit\nget a\n";
 const OUTCOME: &[u8] =
     b"client 1\nok 1 1\nval 1 1\nhistory 1\n1 1 1 1 log 0100000000000000010000000101610131\nstate 1 1\na 1\nlog 24\n";
 
-/// The log's bytes: the record's masked CRC-32C, length and kind, as the RocksDB wiki's "Write Ahead Log File Format" lays them out, and the batch.
-/// The checksums here and below were reckoned by another program.
+/// The log's bytes: the record's masked CRC-32C, length and kind, as the RocksDB wiki's "Write Ahead Log File Format"
+/// lays them out, and the batch. The checksums here and below were reckoned by another program.
 const RECORD: &[u8] =
     b"\xe9\x9f\x78\x19\x11\x00\x01\x01\x00\x00\x00\x00\x00\x00\x00\x01\x00\x00\x00\x01\x01a\x011";
 

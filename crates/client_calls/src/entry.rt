@@ -2,8 +2,8 @@
 
 use wp_model::Flag;
 
-/// An accepted batch with its run of sequences. `B` is what stands for the batch: the batch itself with its sequence set,
-/// or where it is to be found.
+/// An accepted batch with its run of sequences. `B` is what stands for the batch: the batch itself with its sequence
+/// set, or where it is to be found.
 #[derive(Clone, Copy, Debug, PartialEq, Eq, Drop)]
 pub struct Entry<B> {
     /// Whose batch it is. Clients are numbered from 1.

@@ -1,5 +1,5 @@
-//! What every layer above the log speaks in: the commands of clients, the replies that they are told, the entries of the
-//! history, and the checks that a commit passes before it is written.
+//! What every layer above the log speaks in: the commands of clients, the replies that they are told, the entries of
+//! the history, and the checks that a commit passes before it is written.
 #![tactic(auto)]
 
 mod checks;

@@ -5,7 +5,8 @@ use Rattle.clap.specs.declared.builder.value_parser.ValueParser.TheVariants.{Uns
 
 -- an option `--name` that takes a whole number from `least` to `most`, and is `default` unless it is given
 abbrev pub number_option : Text → ℕ → ℕ → Text → Rule
-number_option name least most default = record (new_rule name) { long = Some name; parser = Some (Unsigned least most); defaults = default ∷ [] }
+number_option name least most default =
+    record (new_rule name) { long = Some name; parser = Some (Unsigned least most); defaults = default ∷ [] }
 
 -- the most bytes of a batch
 abbrev pub batch_bytes : Rule
@@ -32,7 +33,13 @@ replay = with_rule (with_rule (with_rule (new_app (codes "replay")) group_bytes)
 
 -- the program, which wants a command, and has no help
 abbrev pub program : App
-program = record (new_app (codes "writepath")) { top = record (new_app (codes "writepath")).top { subcommand_required = true; disable_help_flag = true; disable_help_subcommand = true } }
+program = record (new_app (codes "writepath")) {
+  top = record (new_app (codes "writepath")).top {
+    subcommand_required = true;
+    disable_help_flag = true;
+    disable_help_subcommand = true;
+  };
+}
 
 abbrev pub writepath : App
 writepath = with_subcommand (with_subcommand (with_subcommand program run.top) recover.top) replay.top

@@ -1,4 +1,5 @@
--- The lawful words of a call, in plain words: the program's name, a command, and its options in any order, each at most once and with its value in a word of its own.
+-- The lawful words of a call, in plain words: the program's name, a command, and its options in any order, each at most
+-- once and with its value in a word of its own.
 use Rattle.std.specs.Prelude.{ℕ, ◌-◌, ◌^◌, ◌&&◌, Bool, true, false, List, [], ◌∷◌, Option, Some, None, String, string_bytes, map, codes, bytes_eq, nat_le, if◌then◌else◌, unwrap_or, is_none, option_and_then, option_map}
 use Rattle.std.specs.declared.alloc.Global.{Global}
 use Rattle.wp_model.specs.Script.{number_of}
@@ -13,25 +14,31 @@ pub record Options : Type 0 where
 
 -- a number in its shortest decimal digits, and within its range
 abbrev pub within : ℕ → ℕ → List ℕ → Option ℕ
-within least most word = option_and_then (λ n. if nat_le least n && nat_le n most then Some n else None) (number_of word)
+within least most word = option_and_then
+    (λ n. if nat_le least n && nat_le n most then Some n else None) (number_of word)
 
 -- an option and its value, where it has not come before; only `replay` has `--group-bytes`
 abbrev pub with_option : Bool → Options → List ℕ → List ℕ → Option Options
 with_option is_replay o name value =
-    if bytes_eq name (codes "--last") && is_none o.last then option_map (λ n. record o { last = Some n }) (within 0 (2 ^ 56 - 1) value)
-    else if bytes_eq name (codes "--batch-bytes") && is_none o.batch_bytes then option_map (λ n. record o { batch_bytes = Some n }) (within 12 16777216 value)
-    else if is_replay && (bytes_eq name (codes "--group-bytes") && is_none o.group_bytes) then option_map (λ n. record o { group_bytes = Some n }) (within 1 16777216 value)
+    if bytes_eq name (codes "--last") && is_none o.last
+    then option_map (λ n. record o { last = Some n }) (within 0 (2 ^ 56 - 1) value)
+    else if bytes_eq name (codes "--batch-bytes") && is_none o.batch_bytes
+    then option_map (λ n. record o { batch_bytes = Some n }) (within 12 16777216 value)
+    else if is_replay && (bytes_eq name (codes "--group-bytes") && is_none o.group_bytes)
+    then option_map (λ n. record o { group_bytes = Some n }) (within 1 16777216 value)
     else None
 
 -- the words are options with their values, and nothing else
 abbrev pub with_options : Bool → List (List ℕ) → Options → Option Options
 with_options is_replay [] o = Some o
 with_options is_replay (name ∷ []) o = None
-with_options is_replay (name ∷ value ∷ words) o = option_and_then (with_options is_replay words) (with_option is_replay o name value)
+with_options is_replay (name ∷ value ∷ words) o =
+    option_and_then (with_options is_replay words) (with_option is_replay o name value)
 
 -- the options behind a command
 abbrev pub options_of : Bool → List (List ℕ) → Option Options
-options_of is_replay words = with_options is_replay words (record { group_bytes = None; batch_bytes = None; last = None })
+options_of is_replay words = with_options is_replay words
+    (record { group_bytes = None; batch_bytes = None; last = None })
 
 -- an option that is not given has its default
 abbrev pub run_with : Options → Asked

@@ -34,7 +34,9 @@ run_by rows = option_and_then (λ batch_bytes. option_map (λ last. Run batch_by
 
 -- and `replay`
 abbrev pub replay_by : List Row → Option Asked
-replay_by rows = option_and_then (λ group_bytes. option_and_then (λ batch_bytes. option_map (λ last. Replay group_bytes batch_bytes last)
+replay_by rows =
+    option_and_then (λ group_bytes. option_and_then
+    (λ batch_bytes. option_map (λ last. Replay group_bytes batch_bytes last)
     (number_in (codes "last") rows)) (number_in (codes "batch-bytes") rows)) (number_in (codes "group-bytes") rows)
 
 -- what a command and its matches ask for

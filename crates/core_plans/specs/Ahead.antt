@@ -16,7 +16,8 @@ abbrev pub added_between : ℕ → ℕ → List Line → List Record
 added_between from to lines = filter_map record_added (between from to lines)
 
 -- from a line on, for a client with these calls so far
-pub record IsAhead (lines : List Line) (at : ℕ) (a : Ahead) (calls : List Call) (client : core.Client) (v : core.Ahead) : Type 0 where
+pub record IsAhead (lines : List Line) (at : ℕ) (a : Ahead) (calls : List Call) (client : core.Client)
+    (v : core.Ahead) : Type 0 where
   pub call : v.call ≡ option_map command_of (slice_get lines a.call)
   pub left : v.client.left ≡ drop a.next (map command_of lines)
   pub added : v.client.added ≡ added_between a.from a.call lines

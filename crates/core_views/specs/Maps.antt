@@ -21,7 +21,8 @@ after_line m line = option_map_or (after_record m) (record_added line) m
 
 -- a map after the batches of these entries
 abbrev pub after_entries : List ClientPlan → Pairs → List CoreEntry → Pairs
-after_entries plans m entries = fold (λ (m : Pairs) (e : CoreEntry). after_records m (records_of plans e.client e.batch)) m entries
+after_entries plans m entries = fold
+    (λ (m : Pairs) (e : CoreEntry). after_records m (records_of plans e.client e.batch)) m entries
 
 -- The map has the first entries, so many of them, and none whose run ends after its sequence.
 pub record IsMapOf (entries : List Entry) (m : MapUpTo) : Type 0 where

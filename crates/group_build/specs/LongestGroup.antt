@@ -1,4 +1,5 @@
--- The rule of grouping in plain words: a group is the longest front of the queue whose writers behind the leader may all join it.
+-- The rule of grouping in plain words: a group is the longest front of the queue whose writers behind the leader may
+-- all join it.
 use Rattle.std.specs.Prelude.{◌≡◌, ℕ, ◌+◌, ◌<◌, ◌≤◌, true, List, ◌∷◌, length, take, slice_get, Some}
 use Rattle.wp_model.specs.declared.group.Item.{Item}
 use Rattle.wp_model.specs.Grouping.{cap, size_of}
@@ -18,5 +19,6 @@ MayJoinAt max leader behind place i = MayJoin max leader (size_of (take (place +
 pub record IsLongestGroup (max : ℕ) (leader : Item) (behind : List Item) (n : ℕ) : Type 0 where
   pub leader_in : 1 ≤ n
   pub within : n ≤ length (leader ∷ behind)
-  pub joined : (place : ℕ) (i : Item) → 1 ≤ place → place < n → slice_get (leader ∷ behind) place ≡ Some i → MayJoinAt max leader behind place i
+  pub joined : (place : ℕ) (i : Item) → 1 ≤ place → place < n → slice_get (leader ∷ behind) place ≡ Some i
+      → MayJoinAt max leader behind place i
   pub refused : (i : Item) → slice_get (leader ∷ behind) n ≡ Some i → MayJoinAt max leader behind n i → ⊥

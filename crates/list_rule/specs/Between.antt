@@ -11,7 +11,8 @@ use Rattle.list_rule.specs.Events.{Event, Held, Legal, core_of}
 use Rattle.list_rule.specs.Rule.{Mode, open_, waits, led, built, cut, marked, base_of, Laws, LogHome, Shows}
 
 -- the log is in its slot where nobody leads, and else the leader has it
-module _ {Q P L M : Type 0} (stands : Laws Q P L M) (homes : List (Option (Content Q P L M))) (handled : List (Handling Q P)) where
+module _ {Q P L M : Type 0} (stands : Laws Q P L M) (homes : List (Option (Content Q P L M)))
+    (handled : List (Handling Q P)) where
   abbrev pub LogAtHome : Mode Q → Type 0
   LogAtHome open_ = LogHome stands homes handled
   LogAtHome (waits c) = LogHome stands homes handled
@@ -21,7 +22,8 @@ module _ {Q P L M : Type 0} (stands : Laws Q P L M) (homes : List (Option (Conte
   LogAtHome (marked c) = Unit {0}
 
 module _ {Q P L M : Type 0} (stands : Laws Q P L M) where
-  -- the walk from the newest writer, and the events that led here, the latest first: the state after them is the queue, where the log is, and what was handled
+  -- the walk from the newest writer, and the events that led here, the latest first: the state after them is the queue,
+  -- where the log is, and what was handled
   pub record Between (n : ℕ) (s : State (Content Q P L M) (List (Hold Q P))) : Type 0 where
     pub walk : List (Entry Q)
     pub queue : List (Entry Q)

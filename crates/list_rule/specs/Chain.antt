@@ -26,7 +26,8 @@ module _ {Q : Type 0} where
   -- each writer's link names the next older one, and the oldest one's names b
   abbrev pub LinksFrom : ℕ → List ℕ → List (Entry Q) → Type 0
   LinksFrom b words [] = Unit {0}
-  LinksFrom b words (e ∷ es) = (slice_index words (older_at e.by) ≡ pack (newest_from b es) e.code) × LinksFrom b words es
+  LinksFrom b words (e ∷ es) = (slice_index words (older_at e.by) ≡ pack (newest_from b es) e.code)
+      × LinksFrom b words es
 
   abbrev pub Links : List ℕ → List (Entry Q) → Type 0
   Links words l = LinksFrom 0 words l

@@ -4,7 +4,8 @@ use Rattle.list_rule.specs.declared.view.Entry.{Entry}
 use Rattle.list_rule.specs.declared.view.Handling.{Handling}
 use Rattle.list_rule.specs.Grouping.{IsGroup}
 
--- a writer comes; the oldest one leads; it builds its group, under this bound, and these are left; the group leaves with what was handled
+-- a writer comes; the oldest one leads; it builds its group, under this bound, and these are left; the group leaves
+-- with what was handled
 pub data Event (Q P : Type 0) : Type 0 where
   comes : Entry Q → Event Q P
   elects : Entry Q → Event Q P
@@ -31,7 +32,8 @@ module _ {Q P : Type 0} where
   abbrev pub Enabled : Core Q P → Event Q P → Type 0
   Enabled k (comes e) = Unit {0}
   Enabled k (elects e) = (k.1 ≡ free) × ((q : List (Entry Q)) × (k.0 ≡ q ++ e ∷ []))
-  Enabled k (builds max own group left) = (k.1 ≡ elected own.by) × (k.0 ≡ left ++ (group ++ own ∷ [])) × IsGroup max own group left
+  Enabled k (builds max own group left) = (k.1 ≡ elected own.by) × (k.0 ≡ left ++ (group ++ own ∷ []))
+      × IsGroup max own group left
   Enabled k (exits new) = (own : Entry Q) × (group : List (Entry Q)) × (k.1 ≡ grouped own group)
 
   -- after the events, the latest first

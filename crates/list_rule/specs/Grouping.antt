@@ -1,4 +1,5 @@
--- Which writers of the queue a leader takes: those of the grouping rule, where each word holds the code of a writer's item.
+-- Which writers of the queue a leader takes: those of the grouping rule, where each word holds the code of a writer's
+-- item.
 use Rattle.std.specs.Prelude.{◌≡◌, ℕ, ◌+◌, ◌*◌, ◌/◌, ◌%◌, ◌==◌, Bool, true, false, List, [], ◌∷◌, ◌++◌, length, reverse, map}
 use Rattle.wp_model.specs.declared.group.Item.{Item}
 use Rattle.wp_model.specs.Grouping.{group_len}
@@ -41,4 +42,5 @@ module _ {Q : Type 0} where
 
   -- the same, of writers of different clients, whose codes are those of their requests
   abbrev pub IsWhole : (Q → ℕ) → ℕ → Entry Q → List (Entry Q) → List (Entry Q) → Type 0
-  IsWhole code_of max own group left = IsGroup max own group left × Distinct (group ++ own ∷ []) × AllCoded code_of (group ++ own ∷ [])
+  IsWhole code_of max own group left = IsGroup max own group left × Distinct (group ++ own ∷ [])
+      × AllCoded code_of (group ++ own ∷ [])

@@ -34,7 +34,13 @@ walking lead w = record { own = lead.own; walk = w; group = lead.group; taken = 
 
 -- and has taken one request more
 abbrev pub taking : {Q P : Type 0} → Lead Q P → Entry Q → Lead Q P
-taking lead e = record { own = lead.own; walk = lead.walk; group = lead.group; taken = e ∷ lead.taken; seen = lead.seen }
+taking lead e = record {
+  own = lead.own;
+  walk = lead.walk;
+  group = lead.group;
+  taken = e ∷ lead.taken;
+  seen = lead.seen;
+}
 
 -- the writers whose requests the leader has, newest first
 abbrev pub in_hand : {Q P : Type 0} → Lead Q P → List (Entry Q)
@@ -62,8 +68,10 @@ onward (Queued g) = Queued g
 onward (Serving g walk) = Serving g walk
 onward (Passing g x) = Passing g x
 
--- what a leader needs that gives the log on: a group that is in the second list gives the numbers that it said, one that is not gives none
-abbrev pub HandsOn : {Q P : Type 0} → Bool → (List (Handling Q P) → ℕ) → Back Q → List (Handling Q P) → List (Handling Q P) → Type 0
+-- what a leader needs that gives the log on: a group that is in the second list gives the numbers that it said, one
+-- that is not gives none
+abbrev pub HandsOn : {Q P : Type 0} → Bool → (List (Handling Q P) → ℕ) → Back Q → List (Handling Q P)
+    → List (Handling Q P) → Type 0
 HandsOn piped last Away seen now = piped ≡ true → last now ≡ last seen
 HandsOn piped last (Parting g d) seen now = ⊥
 HandsOn piped last (Joining g) seen now = (piped ≡ true) × (g.to ≡ last now)
@@ -107,28 +115,38 @@ module _ {Q P L M : Type 0} where
 
   -- the client takes its slot, to put a request into it
   abbrev pub begun : Step (Content Q P L M) → Sat Q P L M → ℕ → Sat Q P L M → Type 0
-  begun st m r m' = (c : ℕ) (mine : List (Q × P)) → At c Idle mine m → (w : ℕ) × At c (Preparing w) mine m' × (m'.1 ≡ (c, Empty) ∷ [])
+  begun st m r m' = (c : ℕ) (mine : List (Q × P)) → At c Idle mine m
+      → (w : ℕ) × At c (Preparing w) mine m' × (m'.1 ≡ (c, Empty) ∷ [])
 
   abbrev pub peeked : Step (Content Q P L M) → Sat Q P L M → ℕ → Sat Q P L M → Type 0
   peeked st m r m' = (m' ≡ m) × (r < 256)
 
   -- the client's own link is stored
   abbrev pub aimed : Step (Content Q P L M) → Sat Q P L M → ℕ → Sat Q P L M → Type 0
-  aimed st m r m' = (c w : ℕ) (mine : List (Q × P)) → At c (Preparing w) mine m → At c (Preparing st.first) mine m' × (m'.1 ≡ m.1)
+  aimed st m r m' = (c w : ℕ) (mine : List (Q × P)) → At c (Preparing w) mine m
+      → At c (Preparing st.first) mine m' × (m'.1 ≡ m.1)
 
   -- the client has taken the log, and has its own slot
   abbrev pub Elected : (L → List (Handling Q P) → Type 0) → ℕ → Q → List (Q × P) → Sat Q P L M → Type 0
-  Elected stood c q mine m' = (own : Entry Q) × (seen : List (Handling Q P)) × (l : L) × At c (Fresh own seen) mine m' × (own.by ≡ c) × (own.asked ≡ q) × stood l seen × (m'.1 ≡ (0, Log l) ∷ (c, Asked q) ∷ []) × (of c seen ≡ mine)
+  Elected stood c q mine m' = (own : Entry Q) × (seen : List (Handling Q P)) × (l : L) × At c (Fresh own seen) mine m'
+      × (own.by ≡ c) × (own.asked ≡ q) × stood l seen × (m'.1 ≡ (0, Log l) ∷ (c, Asked q) ∷ []) × (of c seen ≡ mine)
 
   -- the compare-exchange that links: it leads where it found 0, and else waits
-  abbrev pub entered : (L → List (Handling Q P) → Type 0) → Step (Content Q P L M) → Sat Q P L M → ℕ → Sat Q P L M → Type 0
-  entered stood st m r m' = (c w : ℕ) (q : Q) (mine : List (Q × P)) → At c (Preparing w) mine m → m.1 ≡ (c, Asked q) ∷ []
-      → (r ≡ st.first → r ≡ 0 → Elected stood c q mine m') × (r ≡ st.first → r ≢ 0 → At c (Waiting q) mine m' × (m'.1 ≡ [])) × (r ≢ st.first → m' ≡ m)
+  abbrev pub entered : (L → List (Handling Q P) → Type 0) → Step (Content Q P L M) → Sat Q P L M → ℕ → Sat Q P L M
+      → Type 0
+  entered stood st m r m' = (c w : ℕ) (q : Q) (mine : List (Q × P)) → At c (Preparing w) mine m
+      → m.1 ≡ (c, Asked q) ∷ []
+      → (r ≡ st.first → r ≡ 0 → Elected stood c q mine m')
+      × (r ≡ st.first → r ≢ 0 → At c (Waiting q) mine m' × (m'.1 ≡ [])) × (r ≢ st.first → m' ≡ m)
 
   -- a load of the client's own state
-  abbrev pub looked : (L → List (Handling Q P) → Type 0) → (List (Handling Q P) → Type 0) → Step (Content Q P L M) → Sat Q P L M → ℕ → Sat Q P L M → Type 0
+  abbrev pub looked : (L → List (Handling Q P) → Type 0) → (List (Handling Q P) → Type 0) → Step (Content Q P L M)
+      → Sat Q P L M → ℕ → Sat Q P L M → Type 0
   looked stood kept st m r m' = (c : ℕ) (q : Q) (mine : List (Q × P)) → At c (Waiting q) mine m
-      → (r ≡ 2 → Elected stood c q mine m') × (r ≡ 16 → (p : P) × At c Collecting (mine ++ (q, p) ∷ []) m' × (m'.1 ≡ (c, Told p) ∷ []) × ((handled : List (Handling Q P)) × kept handled × (of c handled ≡ mine ++ (q, p) ∷ []))) × (r ≢ 2 → r ≢ 16 → m' ≡ m)
+      → (r ≡ 2 → Elected stood c q mine m')
+      × (r ≡ 16 → (p : P) × At c Collecting (mine ++ (q, p) ∷ []) m' × (m'.1 ≡ (c, Told p) ∷ [])
+      × ((handled : List (Handling Q P)) × kept handled × (of c handled ≡ mine ++ (q, p) ∷ [])))
+      × (r ≢ 2 → r ≢ 16 → m' ≡ m)
 
   -- the client gives its empty slot back
   abbrev pub rested : Step (Content Q P L M) → Sat Q P L M → ℕ → Sat Q P L M → Type 0
@@ -136,108 +154,156 @@ module _ {Q P L M : Type 0} where
 
   -- the newest writer, and those from there on, of whom there are fewer than slots
   abbrev pub Walks : ℕ → ℕ → Lead Q P → List (Q × P) → ℕ → Sat Q P L M → Sat Q P L M → Type 0
-  Walks slots c lead mine r m m' = (queue : List (Entry Q)) × At c (Leading (walking lead (queue ++ in_hand lead))) mine m' × (m'.1 ≡ m.1) × (r ≡ newest (queue ++ in_hand lead)) × (length (queue ++ in_hand lead) + 1 < slots) × AllBelow slots (queue ++ in_hand lead)
+  Walks slots c lead mine r m m' = (queue : List (Entry Q))
+      × At c (Leading (walking lead (queue ++ in_hand lead))) mine m' × (m'.1 ≡ m.1)
+      × (r ≡ newest (queue ++ in_hand lead)) × (length (queue ++ in_hand lead) + 1 < slots)
+      × AllBelow slots (queue ++ in_hand lead)
 
   -- the leader has read the queue: it has built its group, and these are left
-  abbrev pub Builds : (Q → ℕ) → ℕ → ℕ → ℕ → Entry Q → List (Handling Q P) → List (Q × P) → ℕ → Sat Q P L M → Sat Q P L M → Type 0
-  Builds code_of slots max c own seen mine r m m' = (left group : List (Entry Q)) × At c (Leading (building own seen (left ++ (group ++ own ∷ [])) group)) mine m' × (m'.1 ≡ m.1) × IsWhole code_of max own group left
-      × (r ≡ newest (left ++ (group ++ own ∷ []))) × (length (left ++ (group ++ own ∷ [])) + 1 < slots) × AllBelow slots (left ++ (group ++ own ∷ []))
+  abbrev pub Builds : (Q → ℕ) → ℕ → ℕ → ℕ → Entry Q → List (Handling Q P) → List (Q × P) → ℕ → Sat Q P L M → Sat Q P L M
+      → Type 0
+  Builds code_of slots max c own seen mine r m m' = (left group : List (Entry Q))
+      × At c (Leading (building own seen (left ++ (group ++ own ∷ [])) group)) mine m' × (m'.1 ≡ m.1)
+      × IsWhole code_of max own group left
+      × (r ≡ newest (left ++ (group ++ own ∷ []))) × (length (left ++ (group ++ own ∷ [])) + 1 < slots)
+      × AllBelow slots (left ++ (group ++ own ∷ []))
 
   abbrev pub read_once : (Q → ℕ) → ℕ → Step (Content Q P L M) → Sat Q P L M → ℕ → Sat Q P L M → Type 0
-  read_once code_of max st m r m' = (c : ℕ) (own : Entry Q) (seen : List (Handling Q P)) (mine : List (Q × P)) → At c (Fresh own seen) mine m → Builds code_of st.slots max c own seen mine r m m'
+  read_once code_of max st m r m' = (c : ℕ) (own : Entry Q) (seen : List (Handling Q P)) (mine : List (Q × P))
+      → At c (Fresh own seen) mine m → Builds code_of st.slots max c own seen mine r m m'
 
   -- a link of the walk
   abbrev pub traced : Step (Content Q P L M) → Sat Q P L M → ℕ → Sat Q P L M → Type 0
-  traced st m r m' = (m' ≡ m) × ((c : ℕ) (lead : Lead Q P) (mine : List (Q × P)) (pre : List (Entry Q)) (x : Entry Q) (post : List (Entry Q)) → At c (Leading lead) mine m → lead.walk ≡ pre ++ x ∷ post → st.word ≡ older_at x.by → r ≡ pack (newest post) x.code)
+  traced st m r m' = (m' ≡ m)
+      × ((c : ℕ) (lead : Lead Q P) (mine : List (Q × P)) (pre : List (Entry Q)) (x : Entry Q) (post : List (Entry Q))
+      → At c (Leading lead) mine m → lead.walk ≡ pre ++ x ∷ post → st.word ≡ older_at x.by
+      → r ≡ pack (newest post) x.code)
 
   -- the request of the oldest writer that is not in hand
   abbrev pub fetched : Step (Content Q P L M) → Sat Q P L M → ℕ → Sat Q P L M → Type 0
-  fetched st m r m' = (c : ℕ) (lead : Lead Q P) (mine : List (Q × P)) (pre : List (Entry Q)) (x : Entry Q) → At c (Leading lead) mine m → lead.walk ≡ pre ++ x ∷ in_hand lead → st.word ≡ older_at x.by
+  fetched st m r m' = (c : ℕ) (lead : Lead Q P) (mine : List (Q × P)) (pre : List (Entry Q)) (x : Entry Q)
+      → At c (Leading lead) mine m → lead.walk ≡ pre ++ x ∷ in_hand lead → st.word ≡ older_at x.by
       → At c (Leading (taking lead x)) mine m' × (m'.1 ≡ (x.by, Asked x.asked) ∷ m.1)
 
   -- the log is given back with all that was handled, where nobody came after the group
   abbrev pub left : Step (Content Q P L M) → Sat Q P L M → ℕ → Sat Q P L M → Type 0
-  left st m r m' = (c : ℕ) (lead : Lead Q P) (mine : List (Q × P)) (gs : List (Entry Q × P)) (p : P) (l : L) → At c (Leading lead) mine m → heads gs ≡ lead.taken → m.1 ≡ (0, Log l) ∷ slots_of gs ((c, Told p) ∷ [])
-      → (r ≡ st.first → At c (Settling (debt gs lead.own p)) mine m' × (m'.1 ≡ slots_of gs ((c, Told p) ∷ []))) × (r ≢ st.first → Walks st.slots c lead mine r m m')
+  left st m r m' = (c : ℕ) (lead : Lead Q P) (mine : List (Q × P)) (gs : List (Entry Q × P)) (p : P) (l : L)
+      → At c (Leading lead) mine m → heads gs ≡ lead.taken → m.1 ≡ (0, Log l) ∷ slots_of gs ((c, Told p) ∷ [])
+      → (r ≡ st.first → At c (Settling (debt gs lead.own p)) mine m' × (m'.1 ≡ slots_of gs ((c, Told p) ∷ [])))
+      × (r ≢ st.first → Walks st.slots c lead mine r m m')
 
   -- a member is told its reply
   abbrev pub told_one : Step (Content Q P L M) → Sat Q P L M → ℕ → Sat Q P L M → Type 0
-  told_one st m r m' = (c : ℕ) (g : Entry Q × P) (gs : List (Entry Q × P)) (own : Entry Q) (p : P) (mine : List (Q × P)) → At c (Settling (debt (g ∷ gs) own p)) mine m → At c (Settling (debt gs own p)) mine m' × (m'.1 ≡ rest m.1)
+  told_one st m r m' = (c : ℕ) (g : Entry Q × P) (gs : List (Entry Q × P)) (own : Entry Q) (p : P) (mine : List (Q × P))
+      → At c (Settling (debt (g ∷ gs) own p)) mine m → At c (Settling (debt gs own p)) mine m' × (m'.1 ≡ rest m.1)
 
   -- the leader's own last step
   abbrev pub retired : Step (Content Q P L M) → Sat Q P L M → ℕ → Sat Q P L M → Type 0
-  retired st m r m' = (c : ℕ) (own : Entry Q) (p : P) (mine : List (Q × P)) → At c (Settling (debt [] own p)) mine m → At c Idle (mine ++ (own.asked, p) ∷ []) m' × (m'.1 ≡ rest m.1)
+  retired st m r m' = (c : ℕ) (own : Entry Q) (p : P) (mine : List (Q × P)) → At c (Settling (debt [] own p)) mine m
+      → At c Idle (mine ++ (own.asked, p) ∷ []) m' × (m'.1 ≡ rest m.1)
 
   -- the link of the oldest writer behind the group is cleared
   abbrev pub cut_as : Option ℕ → Step (Content Q P L M) → Sat Q P L M → ℕ → Sat Q P L M → Type 0
-  cut_as ch st m r m' = (c : ℕ) (lead : Lead Q P) (mine : List (Q × P)) (pre : List (Entry Q)) (x : Entry Q) → At c (Leading lead) mine m → lead.walk ≡ pre ++ x ∷ in_hand lead → st.word ≡ older_at x.by → AtWith c (Cutting lead x) mine (after_cut ch lead) m' × (m'.1 ≡ m.1)
+  cut_as ch st m r m' = (c : ℕ) (lead : Lead Q P) (mine : List (Q × P)) (pre : List (Entry Q)) (x : Entry Q)
+      → At c (Leading lead) mine m → lead.walk ≡ pre ++ x ∷ in_hand lead → st.word ≡ older_at x.by
+      → AtWith c (Cutting lead x) mine (after_cut ch lead) m' × (m'.1 ≡ m.1)
 
   abbrev pub cut_off : Step (Content Q P L M) → Sat Q P L M → ℕ → Sat Q P L M → Type 0
   cut_off st m r m' = cut_as none st m r m'
 
   -- that writer has the log now, with all that was handled
   abbrev pub woken_on : Step (Content Q P L M) → Sat Q P L M → ℕ → Sat Q P L M → Type 0
-  woken_on st m r m' = (c : ℕ) (lead : Lead Q P) (x : Entry Q) (mine : List (Q × P)) (b : Back Q) (gs : List (Entry Q × P)) (p : P) (l : L) (t : List (ℕ × Content Q P L M)) → AtWith c (Cutting lead x) mine b m → heads gs ≡ lead.taken → m.1 ≡ (0, Log l) ∷ slots_of gs ((c, Told p) ∷ t)
+  woken_on st m r m' = (c : ℕ) (lead : Lead Q P) (x : Entry Q) (mine : List (Q × P)) (b : Back Q)
+      (gs : List (Entry Q × P)) (p : P) (l : L) (t : List (ℕ × Content Q P L M)) → AtWith c (Cutting lead x) mine b m
+      → heads gs ≡ lead.taken → m.1 ≡ (0, Log l) ∷ slots_of gs ((c, Told p) ∷ t)
       → AtWith c (Settling (debt gs lead.own p)) mine (onward b) m' × (m'.1 ≡ slots_of gs ((c, Told p) ∷ t))
 
   -- the marker is put where nobody came after the group
   abbrev pub marked_off : ℕ → Step (Content Q P L M) → Sat Q P L M → ℕ → Sat Q P L M → Type 0
-  marked_off from st m r m' = (c : ℕ) (lead : Lead Q P) (mine : List (Q × P)) → At c (Leading lead) mine m → (r ≡ st.first → AtWith c (Marking (walking lead [])) mine (Parting (parting lead from) 0) m' × (m'.1 ≡ m.1)) × (r ≢ st.first → Walks st.slots c lead mine r m m')
+  marked_off from st m r m' = (c : ℕ) (lead : Lead Q P) (mine : List (Q × P)) → At c (Leading lead) mine m
+      → (r ≡ st.first → AtWith c (Marking (walking lead [])) mine (Parting (parting lead from) 0) m' × (m'.1 ≡ m.1))
+      × (r ≢ st.first → Walks st.slots c lead mine r m m')
 
   -- the writers behind the marker, from the newest one on
   abbrev pub WalksMarked : ℕ → ℕ → Lead Q P → List (Q × P) → Back Q → ℕ → Sat Q P L M → Sat Q P L M → Type 0
-  WalksMarked slots c lead mine b r m m' = (walk : List (Entry Q)) × AtWith c (Marking (walking lead walk)) mine b m' × (m'.1 ≡ m.1) × (r ≡ newest_from 255 walk) × (length walk + 1 < slots) × AllBelow slots walk
+  WalksMarked slots c lead mine b r m m' = (walk : List (Entry Q)) × AtWith c (Marking (walking lead walk)) mine b m'
+      × (m'.1 ≡ m.1) × (r ≡ newest_from 255 walk) × (length walk + 1 < slots) × AllBelow slots walk
 
   -- the marker is taken away where nobody came behind it, and the log is given back
   abbrev pub freed : Step (Content Q P L M) → Sat Q P L M → ℕ → Sat Q P L M → Type 0
-  freed st m r m' = (c : ℕ) (lead : Lead Q P) (mine : List (Q × P)) (b : Back Q) (gs : List (Entry Q × P)) (p : P) (l : L) (t : List (ℕ × Content Q P L M)) → AtWith c (Marking lead) mine b m → heads gs ≡ lead.taken → m.1 ≡ (0, Log l) ∷ slots_of gs ((c, Told p) ∷ t)
-      → (r ≡ st.first → AtWith c (Settling (debt gs lead.own p)) mine (onward b) m' × (m'.1 ≡ slots_of gs ((c, Told p) ∷ t))) × (r ≢ st.first → WalksMarked st.slots c lead mine b r m m')
+  freed st m r m' = (c : ℕ) (lead : Lead Q P) (mine : List (Q × P)) (b : Back Q) (gs : List (Entry Q × P)) (p : P)
+      (l : L) (t : List (ℕ × Content Q P L M)) → AtWith c (Marking lead) mine b m → heads gs ≡ lead.taken
+      → m.1 ≡ (0, Log l) ∷ slots_of gs ((c, Told p) ∷ t)
+      → (r ≡ st.first → AtWith c (Settling (debt gs lead.own p)) mine (onward b) m'
+      × (m'.1 ≡ slots_of gs ((c, Told p) ∷ t))) × (r ≢ st.first → WalksMarked st.slots c lead mine b r m m')
 
   -- a link of the walk behind the marker
   abbrev pub traced_marked : Step (Content Q P L M) → Sat Q P L M → ℕ → Sat Q P L M → Type 0
-  traced_marked st m r m' = (m' ≡ m) × ((c : ℕ) (lead : Lead Q P) (mine : List (Q × P)) (b : Back Q) (pre : List (Entry Q)) (x : Entry Q) (post : List (Entry Q)) → AtWith c (Marking lead) mine b m → lead.walk ≡ pre ++ x ∷ post → st.word ≡ older_at x.by → r ≡ pack (newest_from 255 post) x.code)
+  traced_marked st m r m' = (m' ≡ m)
+      × ((c : ℕ) (lead : Lead Q P) (mine : List (Q × P)) (b : Back Q) (pre : List (Entry Q)) (x : Entry Q)
+      (post : List (Entry Q)) → AtWith c (Marking lead) mine b m → lead.walk ≡ pre ++ x ∷ post → st.word ≡ older_at x.by
+      → r ≡ pack (newest_from 255 post) x.code)
 
   -- the link of the oldest writer behind the marker is cleared
   abbrev pub cut_marked : Step (Content Q P L M) → Sat Q P L M → ℕ → Sat Q P L M → Type 0
-  cut_marked st m r m' = (c : ℕ) (lead : Lead Q P) (mine : List (Q × P)) (b : Back Q) (pre : List (Entry Q)) (x : Entry Q) → AtWith c (Marking lead) mine b m → lead.walk ≡ pre ++ x ∷ [] → st.word ≡ older_at x.by → AtWith c (Cutting lead x) mine b m' × (m'.1 ≡ m.1)
+  cut_marked st m r m' = (c : ℕ) (lead : Lead Q P) (mine : List (Q × P)) (b : Back Q) (pre : List (Entry Q))
+      (x : Entry Q) → AtWith c (Marking lead) mine b m → lead.walk ≡ pre ++ x ∷ [] → st.word ≡ older_at x.by
+      → AtWith c (Cutting lead x) mine b m' × (m'.1 ≡ m.1)
 
   -- the leader of a group that is cut off names the newest writer of the second list
   abbrev pub aimed_second : Step (Content Q P L M) → Sat Q P L M → ℕ → Sat Q P L M → Type 0
-  aimed_second st m r m' = (c : ℕ) (stage : Stage Q P) (mine : List (Q × P)) (g : Squad Q) (b0 b : ℕ) → AtWith c stage mine (Parting g b0) m → st.first ≡ pack b g.own.code → AtWith c stage mine (Parting g b) m' × (m'.1 ≡ m.1)
+  aimed_second st m r m' = (c : ℕ) (stage : Stage Q P) (mine : List (Q × P)) (g : Squad Q) (b0 b : ℕ)
+      → AtWith c stage mine (Parting g b0) m → st.first ≡ pack b g.own.code
+      → AtWith c stage mine (Parting g b) m' × (m'.1 ≡ m.1)
 
   -- the group comes into the second list, and its leader takes the right where there was none
   abbrev pub joined : (M → ℕ → Type 0) → ℕ → Step (Content Q P L M) → Sat Q P L M → ℕ → Sat Q P L M → Type 0
-  joined rights to st m r m' = (c : ℕ) (stage : Stage Q P) (mine : List (Q × P)) (g : Squad Q) (b : ℕ) → AtWith c stage mine (Parting g b) m
+  joined rights to st m r m' = (c : ℕ) (stage : Stage Q P) (mine : List (Q × P)) (g : Squad Q) (b : ℕ)
+      → AtWith c stage mine (Parting g b) m
       → (r ≡ st.first → r ≢ 0 → AtWith c stage mine (Joining (ending g to)) m' × (m'.1 ≡ m.1))
-      × (r ≡ st.first → r ≡ 0 → (right : M) × (k : ℕ) × rights right g.from × AtWith c stage mine (Holding (ending g to)) m' × (m'.1 ≡ (k, Right right) ∷ m.1) × (k + 1 ≡ st.slots))
+      × (r ≡ st.first → r ≡ 0 → (right : M) × (k : ℕ) × rights right g.from
+      × AtWith c stage mine (Holding (ending g to)) m' × (m'.1 ≡ (k, Right right) ∷ m.1) × (k + 1 ≡ st.slots))
       × (r ≢ st.first → m' ≡ m)
 
   -- a load of the state of a leader whose group is in the second list, behind others at first
   abbrev pub summoned : (M → ℕ → Type 0) → Step (Content Q P L M) → Sat Q P L M → ℕ → Sat Q P L M → Type 0
-  summoned rights st m r m' = (c : ℕ) (d : Debt Q P) (mine : List (Q × P)) (g : Squad Q) → AtWith c (Settling d) mine (Queued g) m
-      → (r ≡ 4 → (right : M) × (k : ℕ) × rights right g.from × AtWith c (Settling d) mine (Serving g []) m' × (m'.1 ≡ (k, Right right) ∷ m.1) × (k + 1 ≡ st.slots)) × (r ≢ 4 → m' ≡ m)
+  summoned rights st m r m' = (c : ℕ) (d : Debt Q P) (mine : List (Q × P)) (g : Squad Q)
+      → AtWith c (Settling d) mine (Queued g) m
+      → (r ≡ 4 → (right : M) × (k : ℕ) × rights right g.from × AtWith c (Settling d) mine (Serving g []) m'
+      × (m'.1 ≡ (k, Right right) ∷ m.1) × (k + 1 ≡ st.slots)) × (r ≢ 4 → m' ≡ m)
 
   -- the newest writer of the second list, and those from there on
   abbrev pub WalksSecond : ℕ → ℕ → Debt Q P → List (Q × P) → Squad Q → ℕ → Sat Q P L M → Sat Q P L M → Type 0
-  WalksSecond slots c d mine g r m m' = (newer : List (Entry Q)) × AtWith c (Settling d) mine (Serving g (newer ++ line_of g)) m' × (m'.1 ≡ m.1) × (r ≡ newest (newer ++ line_of g)) × (length (newer ++ line_of g) + 1 < slots) × AllBelow slots (newer ++ line_of g)
+  WalksSecond slots c d mine g r m m' = (newer : List (Entry Q))
+      × AtWith c (Settling d) mine (Serving g (newer ++ line_of g)) m' × (m'.1 ≡ m.1)
+      × (r ≡ newest (newer ++ line_of g)) × (length (newer ++ line_of g) + 1 < slots)
+      × AllBelow slots (newer ++ line_of g)
 
   -- the right is given back where no group came after the leader's own
   abbrev pub left_second : Step (Content Q P L M) → Sat Q P L M → ℕ → Sat Q P L M → Type 0
-  left_second st m r m' = (c : ℕ) (d : Debt Q P) (mine : List (Q × P)) (g : Squad Q) (walk : List (Entry Q)) → AtWith c (Settling d) mine (Serving g walk) m
-      → (r ≡ st.first → At c (Settling d) mine m' × (m'.1 ≡ rest m.1)) × (r ≢ st.first → WalksSecond st.slots c d mine g r m m')
+  left_second st m r m' = (c : ℕ) (d : Debt Q P) (mine : List (Q × P)) (g : Squad Q) (walk : List (Entry Q))
+      → AtWith c (Settling d) mine (Serving g walk) m
+      → (r ≡ st.first → At c (Settling d) mine m' × (m'.1 ≡ rest m.1))
+      × (r ≢ st.first → WalksSecond st.slots c d mine g r m m')
 
   -- a link of the walk of the second list
   abbrev pub traced_second : Step (Content Q P L M) → Sat Q P L M → ℕ → Sat Q P L M → Type 0
-  traced_second st m r m' = (m' ≡ m) × ((c : ℕ) (stage : Stage Q P) (mine : List (Q × P)) (g : Squad Q) (walk pre : List (Entry Q)) (x : Entry Q) (post : List (Entry Q)) → AtWith c stage mine (Serving g walk) m → walk ≡ pre ++ x ∷ post → st.word ≡ older_at x.by → r ≡ pack (newest post) x.code)
+  traced_second st m r m' = (m' ≡ m)
+      × ((c : ℕ) (stage : Stage Q P) (mine : List (Q × P)) (g : Squad Q) (walk pre : List (Entry Q)) (x : Entry Q)
+      (post : List (Entry Q)) → AtWith c stage mine (Serving g walk) m → walk ≡ pre ++ x ∷ post
+      → st.word ≡ older_at x.by → r ≡ pack (newest post) x.code)
 
   -- the link of the next group's leader is cleared
   abbrev pub cleared_second : Step (Content Q P L M) → Sat Q P L M → ℕ → Sat Q P L M → Type 0
-  cleared_second st m r m' = (c : ℕ) (d : Debt Q P) (mine : List (Q × P)) (g : Squad Q) (walk pre : List (Entry Q)) (x : Entry Q) → AtWith c (Settling d) mine (Serving g walk) m → walk ≡ pre ++ x ∷ line_of g → st.word ≡ older_at x.by
+  cleared_second st m r m' = (c : ℕ) (d : Debt Q P) (mine : List (Q × P)) (g : Squad Q) (walk pre : List (Entry Q))
+      (x : Entry Q) → AtWith c (Settling d) mine (Serving g walk) m → walk ≡ pre ++ x ∷ line_of g
+      → st.word ≡ older_at x.by
       → AtWith c (Settling d) mine (Passing g x) m' × (m'.1 ≡ m.1)
 
   -- that leader is told, and has the right
   abbrev pub called_next : Step (Content Q P L M) → Sat Q P L M → ℕ → Sat Q P L M → Type 0
-  called_next st m r m' = (c : ℕ) (stage : Stage Q P) (mine : List (Q × P)) (g : Squad Q) (x : Entry Q) → AtWith c stage mine (Passing g x) m → At c stage mine m' × (m'.1 ≡ rest m.1)
+  called_next st m r m' = (c : ℕ) (stage : Stage Q P) (mine : List (Q × P)) (g : Squad Q) (x : Entry Q)
+      → AtWith c stage mine (Passing g x) m → At c stage mine m' × (m'.1 ≡ rest m.1)
 
   -- a member is told to work beside its leader
   abbrev pub kept : Step (Content Q P L M) → Sat Q P L M → ℕ → Sat Q P L M → Type 0

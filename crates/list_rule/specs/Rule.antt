@@ -1,5 +1,6 @@
--- The rule of the list.
--- Word 0 is the newest writer of the first list, and word 1 that of the second. Client i has word 2 i + 2, its state, and word 2 i + 3, its link. Slot 0 is the log's, slot i is client i's, and the last one is the right's.
+-- The rule of the list. Word 0 is the newest writer of the first list, and word 1 that of the second. Client i has word
+-- 2 i + 2, its state, and word 2 i + 3, its link. Slot 0 is the log's, slot i is client i's, and the last one is the
+-- right's.
 use Rattle.std.specs.Prelude.{Bool, true, false, ◌≡◌, ◌≢◌, ℕ, zero, suc, ◌+◌, ◌*◌, ◌-◌, ◌==◌, cond, ◌<◌, ◌≤◌, ◌⊎◌, List, [], ◌∷◌, ◌++◌, length, slice_index}
 use Rattle.std.specs.Prelude.{Option as Picked, None, Some}
 use mathlib.Core.Option.{Option, some}
@@ -32,7 +33,8 @@ pub data Phase (Q P : Type 0) : Type 0 where
   completed : Q → P → Phase Q P
   collecting : Phase Q P
 
--- where the log is: at home with nobody in the list, at home for the oldest writer, out with a leader in the list, or with one that has cut its group off and has yet to wake the oldest writer
+-- where the log is: at home with nobody in the list, at home for the oldest writer, out with a leader in the list, or
+-- with one that has cut its group off and has yet to wake the oldest writer
 pub data Mode (Q : Type 0) : Type 0 where
   open_ : Mode Q
   waits : ℕ → Mode Q
@@ -68,7 +70,8 @@ InFront k (built c g) = c ≡ k
 InFront k (cut c w) = ⊥
 InFront k (marked c) = ⊥
 
--- where the group of a leader stands: in no list but the first, cut off from that one with this end of its links, behind others in the second, first there and told so, or first with the right
+-- where the group of a leader stands: in no list but the first, cut off from that one with this end of its links,
+-- behind others in the second, first there and told so, or first with the right
 pub data Place (Q : Type 0) : Type 0 where
   away : Place Q
   parted : Squad Q → ℕ → Place Q
@@ -76,7 +79,8 @@ pub data Place (Q : Type 0) : Type 0 where
   called : Squad Q → Place Q
   serves : Squad Q → Place Q
 
--- where the right is: at home with no group, at home for the first group, out with its leader, or with one that has cut its group off and has yet to wake the next
+-- where the right is: at home with no group, at home for the first group, out with its leader, or with one that has cut
+-- its group off and has yet to wake the next
 pub data Turn : Type 0 where
   still : Turn
   calls : ℕ → Turn
@@ -129,14 +133,16 @@ module _ {Q : Type 0} where
   Apart (called f) = ⊥
   Apart (serves f) = ⊥
 
-  -- each group begins with the number at which the older one ends, the oldest with the right's, and the newest one ends with this one
+  -- each group begins with the number at which the older one ends, the oldest with the right's, and the newest one ends
+  -- with this one
   abbrev pub Chained : ℕ → List (Squad Q) → ℕ → Type 0
   Chained done [] last = done ≡ last
   Chained done (g ∷ gs) last = (g.to ≡ last) × Chained done gs g.from
 
   abbrev pub InStep : ℕ → List (Squad Q) → ℕ → Lead2 → Type 0
   InStep done groups last level = Chained done groups last
-  InStep done groups last (ahead c) = (g : Squad Q) × (gs : List (Squad Q)) × (groups ≡ g ∷ gs) × (g.from ≡ last) × (g.own.by ≡ c) × Chained done gs last
+  InStep done groups last (ahead c) = (g : Squad Q) × (gs : List (Squad Q)) × (groups ≡ g ∷ gs) × (g.from ≡ last)
+      × (g.own.by ≡ c) × Chained done gs last
 
   -- what a client knows of its group in the second list
   abbrev pub KnowsBack : Two Q → ℕ → Back Q → Type 0
@@ -145,8 +151,10 @@ module _ {Q : Type 0} where
   KnowsBack two c (Joining g) = Behind g (two.place c) × (two.lead ≡ ahead c)
   KnowsBack two c (Holding g) = (two.turn ≡ held_by c) × (two.place c ≡ serves g) × (two.lead ≡ ahead c)
   KnowsBack two c (Queued g) = Behind g (two.place c) × (two.lead ≢ ahead c)
-  KnowsBack two c (Serving g walk) = (two.turn ≡ held_by c) × (two.place c ≡ serves g) × (two.lead ≢ ahead c) × EndsWith (flat two.groups) walk
-  KnowsBack two c (Passing g x) = (two.turn ≡ passes c x.by) × (two.place c ≡ away) × (two.lead ≢ ahead c) × (two.done ≡ g.to)
+  KnowsBack two c (Serving g walk) = (two.turn ≡ held_by c) × (two.place c ≡ serves g) × (two.lead ≢ ahead c)
+      × EndsWith (flat two.groups) walk
+  KnowsBack two c (Passing g x) = (two.turn ≡ passes c x.by) × (two.place c ≡ away) × (two.lead ≢ ahead c)
+      × (two.done ≡ g.to)
 
 module _ {Q P : Type 0} where
   -- the writer e stands in the list
@@ -182,7 +190,8 @@ module _ {Q P : Type 0} where
   -- each group's members are its leader's
   abbrev pub AllGroups : (ℕ → Phase Q P) → (ℕ → Place Q) → List (Squad Q) → Type 0
   AllGroups phase place [] = Unit {0}
-  AllGroups phase place (g ∷ gs) = (phase g.own.by ≡ leads g.own) × In g (place g.own.by) × AllWith phase g.own.by g.rest × AllGroups phase place gs
+  AllGroups phase place (g ∷ gs) = (phase g.own.by ≡ leads g.own) × In g (place g.own.by)
+      × AllWith phase g.own.by g.rest × AllGroups phase place gs
 
   -- the client has put q, and has not had the reply
   abbrev pub Waits : Q → Phase Q P → Type 0
@@ -207,23 +216,31 @@ module _ {Q P : Type 0} where
   -- their requests are handled by c, and they haven't been told
   abbrev pub AllOwed : (ℕ → Phase Q P) → (ℕ → List (Q × P)) → ℕ → List (Entry Q × P) → Type 0
   AllOwed phase due c [] = Unit {0}
-  AllOwed phase due c (g ∷ gs) = (phase g.0.by ≡ taken c g.0) × (due g.0.by ≡ (g.0.asked, g.1) ∷ []) × AllOwed phase due c gs
+  AllOwed phase due c (g ∷ gs) = (phase g.0.by ≡ taken c g.0) × (due g.0.by ≡ (g.0.asked, g.1) ∷ [])
+      × AllOwed phase due c gs
 
-  module _ (line hand : List (Entry Q)) (handled : List (Handling Q P)) (mode : Mode Q) (phase : ℕ → Phase Q P) (due : ℕ → List (Q × P)) (c : ℕ) where
+  module _ (line hand : List (Entry Q)) (handled : List (Handling Q P)) (mode : Mode Q) (phase : ℕ → Phase Q P) (due : ℕ
+      → List (Q × P)) (c : ℕ) where
     abbrev pub Knows : Stage Q P → Type 0
     Knows Idle = phase c ≡ idle
     Knows (Preparing w) = phase c ≡ preparing w
     Knows (Waiting q) = Waits q (phase c)
     Knows (Fresh own seen) = (mode ≡ led c) × (phase c ≡ leads own) × (seen ≡ handled)
-    Knows (Leading lead) = (mode ≡ built c lead.group) × (phase c ≡ leads lead.own) × EndsWith line lead.walk × (lead.seen ≡ handled) × (lead.taken ≡ hand)
-    Knows (Cutting lead e) = (mode ≡ cut c e.by) × (phase c ≡ leads lead.own) × (phase e.by ≡ linked e) × (lead.seen ≡ handled) × (lead.taken ≡ hand)
-    Knows (Marking lead) = (mode ≡ marked c) × (phase c ≡ leads lead.own) × EndsWith line lead.walk × (lead.seen ≡ handled) × (lead.taken ≡ hand)
-    Knows (Settling debt) = AllOwed phase due c debt.rest × (phase c ≡ leads debt.own) × (due c ≡ (debt.own.asked, debt.reply) ∷ []) × Distinct (heads debt.rest)
+    Knows (Leading lead) = (mode ≡ built c lead.group) × (phase c ≡ leads lead.own) × EndsWith line lead.walk
+        × (lead.seen ≡ handled) × (lead.taken ≡ hand)
+    Knows (Cutting lead e) = (mode ≡ cut c e.by) × (phase c ≡ leads lead.own) × (phase e.by ≡ linked e)
+        × (lead.seen ≡ handled) × (lead.taken ≡ hand)
+    Knows (Marking lead) = (mode ≡ marked c) × (phase c ≡ leads lead.own) × EndsWith line lead.walk
+        × (lead.seen ≡ handled) × (lead.taken ≡ hand)
+    Knows (Settling debt) = AllOwed phase due c debt.rest × (phase c ≡ leads debt.own)
+        × (due c ≡ (debt.own.asked, debt.reply) ∷ []) × Distinct (heads debt.rest)
     Knows Collecting = phase c ≡ collecting
 
-  module _ (n : ℕ) (line hand : List (Entry Q)) (handled : List (Handling Q P)) (mode : Mode Q) (phase : ℕ → Phase Q P) (due told : ℕ → List (Q × P)) (two : Two Q) (seat : ℕ → ℕ) (j : ℕ) where
+  module _ (n : ℕ) (line hand : List (Entry Q)) (handled : List (Handling Q P)) (mode : Mode Q) (phase : ℕ
+      → Phase Q P) (due told : ℕ → List (Q × P)) (two : Two Q) (seat : ℕ → ℕ) (j : ℕ) where
     abbrev pub Fits : Hold Q P → Type 0
-    Fits h = (seat h.client ≡ j) × (0 < h.client) × (h.client ≤ n) × (h.mine ≡ told h.client) × Knows line hand handled mode phase due h.client h.stage × KnowsBack two h.client h.back
+    Fits h = (seat h.client ≡ j) × (0 < h.client) × (h.client ≤ n) × (h.mine ≡ told h.client)
+        × Knows line hand handled mode phase due h.client h.stage × KnowsBack two h.client h.back
 
     abbrev pub AllFit : List (Hold Q P) → Type 0
     AllFit [] = Unit {0}
@@ -259,10 +276,12 @@ pub record Account {Q P : Type 0} (line : List (Entry Q)) (handled : List (Handl
   pub shows : Shows line queue log mode
 
 -- where there is a second list, nothing between the two gives a number
-abbrev pub Unnumbered : {Q P : Type 0} → Bool → (List (Handling Q P) → ℕ) → List (Handling Q P) → List (Handling Q P) → Type 0
+abbrev pub Unnumbered : {Q P : Type 0} → Bool → (List (Handling Q P) → ℕ) → List (Handling Q P) → List (Handling Q P)
+    → Type 0
 Unnumbered piped last seen now = piped ≡ true → last now ≡ last seen
 
--- what the log stands for, and the right's number; the last number after what was handled; the right's number at opening; whether there is a second list
+-- what the log stands for, and the right's number; the last number after what was handled; the right's number at
+-- opening; whether there is a second list
 pub record Laws (Q P L M : Type 0) : Type 1 where
   pub logs : L → List (Handling Q P) → Type 0
   pub rights : M → ℕ → Type 0
@@ -274,16 +293,20 @@ pub record Laws (Q P L M : Type 0) : Type 1 where
   pub keeps : (l : L) (hs : List (Handling Q P)) → logs l hs → kept hs
   pub code_of : Q → ℕ
 
--- the last number of the runs given, from this one on: a run is its first number and its count, and one with the count 0 is none
+-- the last number of the runs given, from this one on: a run is its first number and its count, and one with the count
+-- 0 is none
 abbrev pub last_run : {Q P : Type 0} → (P → ℕ × ℕ) → ℕ → List (Handling Q P) → ℕ
 last_run run start [] = start
-last_run run start (h ∷ hs) = last_run run (cond ((run h.reply).1 == 0) start ((run h.reply).0 + (run h.reply).1 - 1)) hs
+last_run run start (h ∷ hs) = last_run run
+    (cond ((run h.reply).1 == 0) start ((run h.reply).0 + (run h.reply).1 - 1)) hs
 
-abbrev pub logs_from : {Q P L : Type 0} → (L → List (Handling Q P) → Type 0) → (List (Handling Q P) → Type 0) → (L → ℕ) → (P → ℕ × ℕ) → ℕ → L → List (Handling Q P) → Type 0
+abbrev pub logs_from : {Q P L : Type 0} → (L → List (Handling Q P) → Type 0) → (List (Handling Q P) → Type 0) → (L → ℕ)
+    → (P → ℕ × ℕ) → ℕ → L → List (Handling Q P) → Type 0
 logs_from stands kept number run start l hs = stands l hs × kept hs × (number l ≡ last_run run start hs)
 
 -- the same where what the law is about was picked
-abbrev pub logs_picked : {Q P L K : Type 0} → (K → L → List (Handling Q P) → Type 0) → (K → List (Handling Q P) → Type 0) → (L → ℕ) → (P → ℕ × ℕ) → ℕ → Picked K → L → List (Handling Q P) → Type 0
+abbrev pub logs_picked : {Q P L K : Type 0} → (K → L → List (Handling Q P) → Type 0)
+    → (K → List (Handling Q P) → Type 0) → (L → ℕ) → (P → ℕ × ℕ) → ℕ → Picked K → L → List (Handling Q P) → Type 0
 logs_picked stands kept number run start None = λ l hs. Unit {0}
 logs_picked stands kept number run start (Some about) = logs_from (stands about) (kept about) number run start
 
@@ -291,7 +314,8 @@ abbrev pub kept_picked : {Q P K : Type 0} → (K → List (Handling Q P) → Typ
 kept_picked kept None = λ hs. Unit {0}
 kept_picked kept (Some about) = kept about
 
-abbrev pub laws : {Q P L M : Type 0} → (Q → ℕ) → (L → List (Handling Q P) → Type 0) → (List (Handling Q P) → Type 0) → (L → ℕ) → (P → ℕ × ℕ) → (M → ℕ) → ℕ → ℕ → Bool → Laws Q P L M
+abbrev pub laws : {Q P L M : Type 0} → (Q → ℕ) → (L → List (Handling Q P) → Type 0) → (List (Handling Q P) → Type 0)
+    → (L → ℕ) → (P → ℕ × ℕ) → (M → ℕ) → ℕ → ℕ → Bool → Laws Q P L M
 laws code_of stands kept number run right_number start right_start piped = record {
   logs = logs_from stands kept number run start;
   rights = λ m k. right_number m ≡ k;
@@ -304,7 +328,8 @@ laws code_of stands kept number run right_number start right_start piped = recor
 }
 
 -- the laws of a list that is opened so
-abbrev pub laws_for : {Q P L M K : Type 0} → (Q → Item) → (K → L → List (Handling Q P) → Type 0) → (K → List (Handling Q P) → Type 0)
+abbrev pub laws_for : {Q P L M K : Type 0} → (Q → Item) → (K → L → List (Handling Q P) → Type 0)
+    → (K → List (Handling Q P) → Type 0)
     → (L → ℕ) → (P → ℕ × ℕ) → (M → ℕ) → Start K → Laws Q P L M
 laws_for item_of stands kept number run right_number k =
     laws (code_by item_of) (stands k.about) (kept k.about) number run right_number k.log k.right k.pipelined
@@ -314,11 +339,14 @@ module _ {Q P L M : Type 0} (stands : Laws Q P L M) where
     abbrev pub InPhase : Phase Q P → Type 0
     InPhase idle = (get_elem? homes i ≡ some (some Empty)) × (due ≡ [])
     InPhase (preparing w) = (slice_index words (state_at i) ≡ 1) × (slice_index words (older_at i) ≡ w) × (due ≡ [])
-    InPhase (linked e) = (e.by ≡ i) × (slice_index words (state_at i) ≡ 1) × (get_elem? homes i ≡ some (some (Asked e.asked))) × (due ≡ [])
-    InPhase (chosen e) = (e.by ≡ i) × (slice_index words (state_at i) ≡ 2) × (get_elem? homes i ≡ some (some (Asked e.asked))) × (due ≡ [])
+    InPhase (linked e) = (e.by ≡ i) × (slice_index words (state_at i) ≡ 1)
+        × (get_elem? homes i ≡ some (some (Asked e.asked))) × (due ≡ [])
+    InPhase (chosen e) = (e.by ≡ i) × (slice_index words (state_at i) ≡ 2)
+        × (get_elem? homes i ≡ some (some (Asked e.asked))) × (due ≡ [])
     InPhase (leads e) = e.by ≡ i
     InPhase (taken c e) = (e.by ≡ i) × (slice_index words (state_at i) ≢ 2) × (slice_index words (state_at i) ≢ 16)
-    InPhase (completed q p) = (slice_index words (state_at i) ≡ 16) × (get_elem? homes i ≡ some (some (Told p))) × (due ≡ (q, p) ∷ [])
+    InPhase (completed q p) = (slice_index words (state_at i) ≡ 16) × (get_elem? homes i ≡ some (some (Told p)))
+        × (due ≡ (q, p) ∷ [])
     InPhase collecting = due ≡ []
 
   abbrev pub LogHome : List (Option (Content Q P L M)) → List (Handling Q P) → Type 0
@@ -328,7 +356,8 @@ module _ {Q P L M : Type 0} (stands : Laws Q P L M) where
   abbrev pub RightHome : ℕ → List (Option (Content Q P L M)) → ℕ → Type 0
   RightHome n homes k = (r : M) × (get_elem? homes (n + 1) ≡ some (some (Right r))) × stands.rights r k
 
-  -- the right's number and the log's go together in a list with a second one, and the right has its first number in others
+  -- the right's number and the log's go together in a list with a second one, and the right has its first number in
+  -- others
   abbrev pub Level : Bool → Two Q → ℕ → Type 0
   Level true two last = InStep two.done two.groups last two.lead
   Level false two last = two.done ≡ stands.opened
@@ -336,13 +365,16 @@ module _ {Q P L M : Type 0} (stands : Laws Q P L M) where
   module _ (n : ℕ) (words : List ℕ) (homes : List (Option (Content Q P L M))) (phase : ℕ → Phase Q P) where
     abbrev pub InTurn : Two Q → Turn → Type 0
     InTurn two still = (two.groups ≡ []) × RightHome n homes two.done
-    InTurn two (calls c) = ((newer : List (Squad Q)) × (g : Squad Q) × (two.groups ≡ newer ++ g ∷ []) × (two.place c ≡ called g) × (g.own.by ≡ c) × (slice_index words (state_at c) ≡ 4)) × RightHome n homes two.done
-    InTurn two (held_by c) = (newer : List (Squad Q)) × (g : Squad Q) × (two.groups ≡ newer ++ g ∷ []) × (two.place c ≡ serves g) × (g.own.by ≡ c)
+    InTurn two (calls c) = ((newer : List (Squad Q)) × (g : Squad Q) × (two.groups ≡ newer ++ g ∷ [])
+        × (two.place c ≡ called g) × (g.own.by ≡ c) × (slice_index words (state_at c) ≡ 4)) × RightHome n homes two.done
+    InTurn two (held_by c) = (newer : List (Squad Q)) × (g : Squad Q) × (two.groups ≡ newer ++ g ∷ [])
+        × (two.place c ≡ serves g) × (g.own.by ≡ c)
     InTurn two (passes c w) = (newer : List (Squad Q)) × (g : Squad Q) × (two.groups ≡ newer ++ g ∷ []) × (g.own.by ≡ w)
 
     -- a group that is cut off from the first list
     abbrev pub Parts : ℕ → Squad Q → ℕ → Type 0
-    Parts c g b = (g.own.by ≡ c) × (phase c ≡ leads g.own) × AllWith phase c g.rest × LinksFrom b words (line_of g) × Distinct (line_of g) × Within n (line_of g)
+    Parts c g b = (g.own.by ≡ c) × (phase c ≡ leads g.own) × AllWith phase c g.rest × LinksFrom b words (line_of g)
+        × Distinct (line_of g) × Within n (line_of g)
 
     -- what the words and slots show of the second list
     pub record Second (mode : Mode Q) (last : ℕ) (two : Two Q) : Type 0 where
@@ -360,14 +392,21 @@ module _ {Q P L M : Type 0} (stands : Laws Q P L M) where
       pub ahead_holds : (c : ℕ) → two.lead ≡ ahead c → Holds c mode
       pub in_level : Level stands.piped two last
 
-  module _ (n : ℕ) (homes : List (Option (Content Q P L M))) (line hand : List (Entry Q)) (handled : List (Handling Q P)) (phase : ℕ → Phase Q P) (due : ℕ → List (Q × P)) where
+  module _ (n : ℕ) (homes : List (Option (Content Q P L M))) (line hand : List (Entry Q))
+      (handled : List (Handling Q P)) (phase : ℕ → Phase Q P) (due : ℕ → List (Q × P)) where
     abbrev pub InMode : Mode Q → Type 0
     InMode open_ = (line ≡ []) × (hand ≡ []) × LogHome homes handled
-    InMode (waits c) = ((queue : List (Entry Q)) × (e : Entry Q) × (line ≡ queue ++ e ∷ []) × AllLinked phase queue × (phase c ≡ chosen e) × (e.by ≡ c)) × (hand ≡ []) × LogHome homes handled
-    InMode (led c) = ((queue : List (Entry Q)) × (own : Entry Q) × (line ≡ queue ++ own ∷ []) × AllLinked phase queue × (phase c ≡ leads own) × (own.by ≡ c)) × (hand ≡ []) × (due c ≡ [])
-    InMode (built c g) = ((queue : List (Entry Q)) × (own : Entry Q) × (line ≡ queue ++ (hand ++ own ∷ [])) × AllLinked phase queue × (phase c ≡ leads own) × (own.by ≡ c)) × AllTaken phase due c hand × (due c ≡ [])
-    InMode (cut c w) = ((queue : List (Entry Q)) × (e : Entry Q) × (line ≡ queue ++ e ∷ []) × AllLinked phase queue × (phase w ≡ linked e) × (e.by ≡ w)) × AllTaken phase due c hand × (due c ≡ []) × Distinct hand
-    InMode (marked c) = AllLinked phase line × ((own : Entry Q) × (phase c ≡ leads own) × (own.by ≡ c) × (0 < c) × (c ≤ n)) × AllTaken phase due c hand × (due c ≡ []) × Distinct hand
+    InMode (waits c) = ((queue : List (Entry Q)) × (e : Entry Q) × (line ≡ queue ++ e ∷ []) × AllLinked phase queue
+        × (phase c ≡ chosen e) × (e.by ≡ c)) × (hand ≡ []) × LogHome homes handled
+    InMode (led c) = ((queue : List (Entry Q)) × (own : Entry Q) × (line ≡ queue ++ own ∷ []) × AllLinked phase queue
+        × (phase c ≡ leads own) × (own.by ≡ c)) × (hand ≡ []) × (due c ≡ [])
+    InMode (built c g) = ((queue : List (Entry Q)) × (own : Entry Q) × (line ≡ queue ++ (hand ++ own ∷ []))
+        × AllLinked phase queue × (phase c ≡ leads own) × (own.by ≡ c)) × AllTaken phase due c hand × (due c ≡ [])
+    InMode (cut c w) = ((queue : List (Entry Q)) × (e : Entry Q) × (line ≡ queue ++ e ∷ []) × AllLinked phase queue
+        × (phase w ≡ linked e) × (e.by ≡ w)) × AllTaken phase due c hand × (due c ≡ []) × Distinct hand
+    InMode (marked c) = AllLinked phase line
+        × ((own : Entry Q) × (phase c ≡ leads own) × (own.by ≡ c) × (0 < c) × (c ≤ n)) × AllTaken phase due c hand
+        × (due c ≡ []) × Distinct hand
 
   pub record Listed (n : ℕ) (s : State (Content Q P L M) (List (Hold Q P))) : Type 0 where
     -- the walk from the newest writer, and the requests in hand, without the leader's own: newest first
@@ -397,7 +436,8 @@ module _ {Q P L M : Type 0} (stands : Laws Q P L M) where
     pub second : Second n s.words s.homes phase mode (stands.last handled) two
     pub kept : stands.kept handled
     pub coded : (i : ℕ) (e : Entry Q) → InChain e (phase i) → e.code ≡ stands.code_of e.asked
-    pub seats : (j : ℕ) (v : List (Hold Q P)) → get_elem? s.views j ≡ some v → AllFit n line hand handled mode phase due told two seat j v
+    pub seats : (j : ℕ) (v : List (Hold Q P)) → get_elem? s.views j ≡ some v
+        → AllFit n line hand handled mode phase due told two seat j v
 
 abbrev pub all_but_first : {A : Type 0} → List A → List A
 all_but_first [] = []

@@ -10,7 +10,8 @@ pub enum Content<Q, P, L, M> {
     Right(M),
 }
 
-/// What a list of writers is made for: how many clients, the numbers of the log and of the right at opening, whether it has the second list, and what else the log's law is about.
+/// What a list of writers is made for: how many clients, the numbers of the log and of the right at opening, whether it
+/// has the second list, and what else the log's law is about.
 #[derive(Drop)]
 pub struct Start<K> {
     pub clients: u32,

@@ -1,4 +1,7 @@
-//! The rule of a lock-free list of writers with leaders: which words and slots it has, what each seat knows, and what each atomic step does. The oldest writer of the list leads. It takes the requests of a group, handles them while it has the log, and gives the log back, or on to the next leader. A second list, of groups whose leaders wait for a right in the order of the log, is for pipelined writes; lists without it keep the right at home.
+//! The rule of a lock-free list of writers with leaders: which words and slots it has, what each seat knows, and what
+//! each atomic step does. The oldest writer of the list leads. It takes the requests of a group, handles them while it
+//! has the log, and gives the log back, or on to the next leader. A second list, of groups whose leaders wait for a
+//! right in the order of the log, is for pipelined writes; lists without it keep the right at home.
 //!
 //! # Words
 //!

@@ -49,7 +49,8 @@ impl<Q, P: Given, L: Ledger<Q, P>, M, B: PickedAbout<L::About>> Play<
     Content<Q, P, L, M>,
     View<Q, P>,
 > for ReadState<B> {
-    ghost then = { looked (logs_picked L.stands L.kept L.number_of P.run_of B.number B.about) (kept_picked L.kept B.about) };
+    ghost then = { looked (logs_picked L.stands L.kept L.number_of P.run_of B.number B.about)
+        (kept_picked L.kept B.about) };
 }
 
 /// A writer that took its reply gives its empty slot back.

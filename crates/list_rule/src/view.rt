@@ -26,7 +26,8 @@ pub struct Lead<Q, P> {
     pub seen: LinkedList<Handling<Q, P>>,
 }
 
-/// What a leader knows that has given the log back: the members that are to have their replies, newest first. No value of it is made.
+/// What a leader knows that has given the log back: the members that are to have their replies, newest first. No value
+/// of it is made.
 pub struct Debt<Q, P> {
     pub rest: LinkedList<(Entry<Q>, P)>,
     pub own: Entry<Q>,
@@ -46,7 +47,8 @@ pub enum Stage<Q, P> {
     Collecting,
 }
 
-/// A group of the second list: its leader, its other members, newest first, and the log's numbers before and after it. No value of it is made.
+/// A group of the second list: its leader, its other members, newest first, and the log's numbers before and after it.
+/// No value of it is made.
 pub struct Squad<Q> {
     pub own: Entry<Q>,
     pub rest: LinkedList<Entry<Q>>,

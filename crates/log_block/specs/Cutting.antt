@@ -13,7 +13,12 @@ first_piece at len =
 
 -- the one that begins at this place of the record, and of a block
 abbrev pub later_piece : ℕ → ℕ → Piece
-later_piece start len = let end = start + min 32761 (len - start) in record { zeros = 0; kind = if end == len then 4 else 3; start = start; end = end }
+later_piece start len = let end = start + min 32761 (len - start) in record {
+  zeros = 0;
+  kind = if end == len then 4 else 3;
+  start = start;
+  end = end;
+}
 
 -- so many of them, one after another
 unfoldable pub later_pieces : ℕ → ℕ → ℕ → List Piece

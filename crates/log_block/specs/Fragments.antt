@@ -5,7 +5,8 @@ use Rattle.wp_model.specs.Reading as reading
 use Rattle.log_block.specs.declared.fragments.Seen.{Seen}
 use Rattle.log_block.specs.declared.fragments.Seen.TheVariants.{Fragment, End, Damage}
 
--- A fragment is seen at that place of the block, with this type. Its part stands behind its header, from `start` to `end`.
+-- A fragment is seen at that place of the block, with this type. Its part stands behind its header, from `start` to
+-- `end`.
 pub record StandsThere (block : List ℕ) (at kind start end : ℕ) (seen : reading.Seen) : Type 0 where
   pub of_kind : Kind
   pub code : kind ≡ kind_code None of_kind

@@ -3,7 +3,8 @@ use Rattle.std.specs.Prelude.{◌≡◌, ℕ, ◌+◌, ◌-◌, ◌%◌, ◌≤�
 use Rattle.wp_model.specs.Log.{Fragment, kind_code, header, trailer, next_place}
 use Rattle.log_block.specs.declared.pieces.Piece.{Piece}
 
--- A piece of the record is this fragment, which is written at that offset of the log, and begins at that place of the record.
+-- A piece of the record is this fragment, which is written at that offset of the log, and begins at that place of the
+-- record.
 pub record IsPiece (bytes : List ℕ) (offset start : ℕ) (piece : Piece) (f : Fragment) : Type 0 where
   pub zeros : piece.zeros ≡ trailer None offset
   pub kind : piece.kind ≡ kind_code None f.kind
@@ -17,11 +18,13 @@ abbrev pub ArePieces : List ℕ → ℕ → ℕ → List Piece → List Fragment
 ArePieces bytes offset start [] [] = ⊤
 ArePieces bytes offset start [] (f ∷ fs) = ⊥
 ArePieces bytes offset start (p ∷ ps) [] = ⊥
-ArePieces bytes offset start (p ∷ ps) (f ∷ fs) = IsPiece bytes offset start p f × ArePieces bytes (next_place None offset + 7 + length f.part) p.end ps fs
+ArePieces bytes offset start (p ∷ ps) (f ∷ fs) = IsPiece bytes offset start p f
+    × ArePieces bytes (next_place None offset + 7 + length f.part) p.end ps fs
 
 -- what is written of a piece: its zeros, its header and its part
 abbrev pub piece_text : List ℕ → Piece → List ℕ
-piece_text bytes piece = let part = slice_range bytes piece.start piece.end in replicate piece.zeros 0 ++ (header None piece.kind part ++ part)
+piece_text bytes piece = let part =
+    slice_range bytes piece.start piece.end in replicate piece.zeros 0 ++ (header None piece.kind part ++ part)
 
 abbrev pub pieces_text : List ℕ → List Piece → List ℕ
 pieces_text bytes pieces = flat_map (λ p. piece_text bytes p) pieces
@@ -44,4 +47,5 @@ pub record StandsInBlock (at : ℕ) (piece : Piece) : Type 0 where
 -- so does each of these pieces, and each but the last fills its block, so that the next one begins at a block's start
 abbrev pub StandInBlocks : ℕ → List Piece → Type 0
 StandInBlocks at [] = ⊤
-StandInBlocks at (p ∷ ps) = StandsInBlock at p × (ps ≢ [] → end_in_block at p ≡ 32768) × StandInBlocks (end_in_block at p % 32768) ps
+StandInBlocks at (p ∷ ps) = StandsInBlock at p × (ps ≢ [] → end_in_block at p ≡ 32768)
+    × StandInBlocks (end_in_block at p % 32768) ps

@@ -22,11 +22,11 @@ pub struct Piece {
     pub end: usize,
 }
 
-/// Cuts a record into the fragments that stand in the log, from the first on. It takes no memory. Contracts see the pieces
-/// that are still to come.
+/// Cuts a record into the fragments that stand in the log, from the first on. It takes no memory. Contracts see the
+/// pieces that are still to come.
 ///
-/// As `log::Writer::AddRecord` of LevelDB's db/log_writer.cc does it: one FULL fragment where the record fits into what is
-/// left of the block, and else a FIRST, any MIDDLE and a LAST, of which each but the last fills its block.
+/// As `log::Writer::AddRecord` of LevelDB's db/log_writer.cc does it: one FULL fragment where the record fits into what
+/// is left of the block, and else a FIRST, any MIDDLE and a LAST, of which each but the last fills its block.
 #[derive(Debug, Drop)]
 pub struct Fragmenter {
     /// The next piece.

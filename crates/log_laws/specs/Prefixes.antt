@@ -11,7 +11,8 @@ pub record IsPrefix (found records : List (List ℕ)) (P : ℕ → Type 0) : Typ
 
 -- what the file recovers is a prefix of these records
 abbrev pub RecoversPrefix : List (List ℕ) → List ℕ → (ℕ → Type 0) → Type 0
-RecoversPrefix records file P = (r : Recovered) → IsRecovered None file r → IsPrefix (map logged_bytes r.batches) records P
+RecoversPrefix records file P = (r : Recovered) → IsRecovered None file r
+    → IsPrefix (map logged_bytes r.batches) records P
 
 -- what a reader of records gets of the file is one
 abbrev pub ReadsPrefix : List (List ℕ) → List ℕ → (ℕ → Type 0) → Type 0

@@ -24,7 +24,8 @@ Reaches file offset place = next_seen None file offset ≡ next_seen None file p
 pub record IsNext (file : List ℕ) (offset start : ℕ) (block : List ℕ) (at code from to : ℕ) : Type 0 where
   pub kind : Kind
   pub code_is : code ≡ kind_code None kind
-  pub seen : next_seen None file offset ≡ record { at = start + at; seen = reading.fragment (record { kind = kind; part = slice_range block from to }) }
+  pub seen : next_seen None file offset
+      ≡ record { at = start + at; seen = reading.fragment (record { kind = kind; part = slice_range block from to }) }
   pub place : start + at ≡ next_place None offset
   pub stands : Stand None file offset (record { kind = kind; part = slice_range block from to } ∷ [])
   pub end : end_of None offset (record { kind = kind; part = slice_range block from to } ∷ []) ≡ start + to
@@ -33,13 +34,17 @@ pub record IsNext (file : List ℕ) (offset start : ℕ) (block : List ℕ) (at 
 -- what a reader sees next from an offset, in the block
 abbrev pub SeenNext : List ℕ → ℕ → ℕ → List ℕ → ℕ → Seen → Type 0
 SeenNext file offset start block at (seen.Fragment code from to) = IsNext file offset start block at code from to
-SeenNext file offset start block at seen.End = (reading.Next.seen (next_seen None file offset) ≡ reading.nothing) × (length file ≡ start + length block)
-SeenNext file offset start block at (seen.Damage d) = next_seen None file offset ≡ record { at = start + at; seen = reading.damage d }
+SeenNext file offset start block at seen.End = (reading.Next.seen (next_seen None file offset) ≡ reading.nothing)
+    × (length file ≡ start + length block)
+SeenNext file offset start block at (seen.Damage d) =
+    next_seen None file offset ≡ record { at = start + at; seen = reading.damage d }
 
 -- the same, but at the end of a whole block the reader goes on
 abbrev pub SeenThere : List ℕ → ℕ → ℕ → List ℕ → ℕ → Seen → Type 0
-SeenThere file offset start block at (seen.Fragment code from to) = SeenNext file offset start block at (seen.Fragment code from to)
-SeenThere file offset start block at seen.End = (length block ≡ 32768 → Reaches file offset (start + 32768)) × (length block < 32768 → SeenNext file offset start block at seen.End)
+SeenThere file offset start block at (seen.Fragment code from to) =
+    SeenNext file offset start block at (seen.Fragment code from to)
+SeenThere file offset start block at seen.End = (length block ≡ 32768 → Reaches file offset (start + 32768))
+    × (length block < 32768 → SeenNext file offset start block at seen.End)
 SeenThere file offset start block at (seen.Damage d) = SeenNext file offset start block at (seen.Damage d)
 
 -- a fragment's part lies in the block, of which the file has so many bytes, after the place where its header begins

@@ -30,8 +30,8 @@ pub enum Next {
     NoMemory,
 }
 
-/// Reads the records of a log, from the first on. Contracts see up to which place it has read records, the record in hand,
-/// whether it has stopped and with which answer, and where it stands.
+/// Reads the records of a log, from the first on. Contracts see up to which place it has read records, the record in
+/// hand, whether it has stopped and with which answer, and where it stands.
 ///
 /// The disk is passed to each call and isn't kept: of a disk that is borrowed by a value which owns memory, no contract
 /// could say what it is afterwards.

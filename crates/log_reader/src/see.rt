@@ -5,8 +5,8 @@ ghost use Rattle.log_reader.specs.Blocks.{IsBlock, Reaches, SeenThere, PartIn};
 
 use log_block::{BLOCK_LEN, Seen, read_fragment};
 
-/// What stands at the place `at` of a block, of which the file has these bytes. For a reader who stands there it is what it
-/// sees next, but where a whole block ends: there it goes on in the next one.
+/// What stands at the place `at` of a block, of which the file has these bytes. For a reader who stands there it is
+/// what it sees next, but where a whole block ends: there it goes on in the next one.
 pub fn see(block: &[u8], at: usize) -> Seen
     requires in_block { length block.now ≤ BLOCK_LEN }
     requires in_file { at ≤ length block.now }

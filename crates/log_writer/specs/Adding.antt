@@ -48,5 +48,6 @@ module _ {D : Type 0} {ghosts : Ghosts D} where
   -- done.
   pub record Adds (c : GroupCall) (old new : LogWriter D ghosts) : Type 0 where
     pub dead : IfSome (fault_of old) (λ count. (c.failed ≡ Some count) × (new ≡ old))
-    pub put : fault_of old ≡ None → Puts ghosts (disk_of old) (disk_of new) (text_at_end c old) c.sync (answer_of c.failed)
+    pub put : fault_of old ≡ None
+        → Puts ghosts (disk_of old) (disk_of new) (text_at_end c old) c.sync (answer_of c.failed)
     pub kept : fault_of old ≡ None → MatchOption c.failed (Grows (text_at_end c old) old new) (Stops old new)

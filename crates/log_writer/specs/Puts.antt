@@ -35,6 +35,6 @@ pub record Puts {D T E : Type 0} (ghosts : Ghosts D) (old new : D) (bytes : List
   pub cause : HasCause (ghosts.faults old) (ghosts.faults new) result
   pub reached : Told (ghosts.told old) (ghosts.told new)
       (λ before after. after.reach ≤ reach_with before (length bytes))
-  -- a crash at any moment of it leaves what was safe before, and nothing past where these bytes end or writes could come
-  -- before
+  -- a crash at any moment of it leaves what was safe before, and nothing past where these bytes end or writes could
+  -- come before
   pub crash : LeavesOnly ghosts.moment ghosts.from ghosts.since old new (MayBeLeft (ghosts.told old) (length bytes))

@@ -22,8 +22,8 @@ pub fn written_by_calls<D: Disk>()
         → IsWritten disk calls log → HasCauseSince disk log }
 {}
 
-/// What a crash leaves of such a log is a prefix of what was written and of the record that was begun, with all that was
-/// safe.
+/// What a crash leaves of such a log is a prefix of what was written and of the record that was begun, with all that
+/// was safe.
 pub fn crashes_between_calls<D: Disk>()
     // It is so at any moment of later calls, for what earlier calls had made safe.
     ensures any_moment { (before after : List GroupCall) (old new : Log D ⟦<D as Disk>⟧) → Wrote old after new

@@ -7,16 +7,16 @@
 //!     +--------------+-----------+--- ... ---+--- ... ---+
 //!
 //! The sequence is that of the group's first addition that counts, and the count is the sum of the members' counts. Of
-//! each member there stands what follows its own header. The record is cut into fragments (see the crate `log_block`), and
-//! each is put together in a buffer of one block and handed to the disk by one append.
+//! each member there stands what follows its own header. The record is cut into fragments (see the crate `log_block`),
+//! and each is put together in a buffer of one block and handed to the disk by one append.
 //!
 //! For example `put a 1` and `put b 2`, as one group from sequence 1 on, are a record of 22 bytes, which is
 //! `010000000000000002000000`, `0101610131` and `0101620132`, and 29 bytes of log.
 //!
 //! A crash may come at any moment. What it leaves of the log is a prefix of the records, each of them whole, with all
-//! that a sync had made safe, unless a torn fragment's checksum matches by chance. That is proved of each call, and of all
-//! calls since the log was opened. What it leaves is longer than what calls had written only where writes could come so
-//! far before the log was opened: so an image that is longer than a call's text holds it, if that call synced.
+//! that a sync had made safe, unless a torn fragment's checksum matches by chance. That is proved of each call, and of
+//! all calls since the log was opened. What it leaves is longer than what calls had written only where writes could
+//! come so far before the log was opened: so an image that is longer than a call's text holds it, if that call synced.
 #![tactic(auto)]
 
 mod errors;

@@ -1,5 +1,5 @@
-//! Groups on a disk in memory: the bytes of a small one and the sizes of large ones, each call of the disk failing in turn,
-//! and what crashes leave.
+//! Groups on a disk in memory: the bytes of a small one and the sizes of large ones, each call of the disk failing in
+//! turn, and what crashes leave.
 
 ghost use Rattle.std.specs.Prelude.{◌<◌, ◌≤◌, ◌^◌, length};
 
@@ -26,7 +26,8 @@ fn put(alloc: Global, key: &[u8], value: &[u8]) -> Result<Batch, Fail> {
     Ok(batch)
 }
 
-// A batch whose record in the log has 17 bytes more than the value, or 18 or 19 where the value has 128 or 16384 of them.
+// A batch whose record in the log has 17 bytes more than the value, or 18 or 19 where the value has 128 or 16384 of
+// them.
 fn put_zeros(alloc: Global, len: usize) -> Result<Batch, Fail> {
     let value = vec![in alloc; 0u8; len]?;
     put(alloc, b"k", &value)
@@ -101,8 +102,8 @@ fn three_groups(
     Ok((log.into_disk(), answers, len))
 }
 
-// The disk's calls are a look at its length, an append and a sync, an append for each of three blocks and a sync, and the
-// zeros that end the third block, an append and a sync.
+// The disk's calls are a look at its length, an append and a sync, an append for each of three blocks and a sync, and
+// the zeros that end the third block, an append and a sync.
 #[test]
 fn ends_at_the_first_fault(rt: HostRuntime) -> Result<(), Fail> {
     for call in 2..12 {

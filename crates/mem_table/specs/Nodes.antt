@@ -25,7 +25,8 @@ shape_of (Some n) = fork n.value.left (version_of n.value) n.value.right
 -- both sides are balanced, and the root says which of them is higher; it is in no chain
 abbrev pub IsKept : Option (Box Node Global) → Type 0
 IsKept None = Unit {0}
-IsKept (Some n) = IsBalanced n.value.left × IsBalanced n.value.right × HasBalance n.value.balance (height n.value.left) (height n.value.right) × (n.value.next ≡ [])
+IsKept (Some n) = IsBalanced n.value.left × IsBalanced n.value.right
+    × HasBalance n.value.balance (height n.value.left) (height n.value.right) × (n.value.next ≡ [])
 
 -- the versions of a chain, from its first node on
 abbrev pub chain_of : Option (Box Node Global) → List Version

@@ -15,7 +15,8 @@ pub record Members : Type 0 where
 abbrev pub with_part : List MemberNodes → ℕ → List Version → List MemberNodes
 with_part [] member versions = record { member = member; nodes = versions } ∷ []
 with_part (part ∷ parts) member versions =
-    if part.member == member then record part { nodes = part.nodes ++ versions } ∷ parts else part ∷ with_part parts member versions
+    if part.member == member then record part { nodes = part.nodes ++ versions } ∷ parts
+    else part ∷ with_part parts member versions
 
 abbrev pub members_of : List MemberNodes → List ℕ
 members_of parts = map (λ (part : MemberNodes). part.member) parts

@@ -13,7 +13,8 @@ Saying = Option (List ℕ) × ℕ
 abbrev pub version_code : Coded Version
 version_code =
     code_by (List ℕ × Saying) (coded× (coded_list coded_ℕ) (coded× (coded_option (coded_list coded_ℕ)) coded_ℕ))
-    (λ (v : Version). (v.key, (v.value, v.sequence))) (λ p. record { key = p.0; value = p.1.0; sequence = p.1.1 }) (λ _. refl)
+    (λ (v : Version). (v.key, (v.value, v.sequence))) (λ p. record { key = p.0; value = p.1.0; sequence = p.1.1 })
+    (λ _. refl)
 
 abbrev pub versions_code : Coded (List Version)
 versions_code = coded_list version_code
@@ -35,7 +36,8 @@ abbrev pub first_shape : List Shape → Shape
 first_shape [] = leaf
 first_shape (s ∷ rest) = s
 
-pub taken-told : (s : Shape) (rest : List (Option Version)) (open_shapes : List Shape) → taken (told s ++ rest) open_shapes ≡ taken rest (s ∷ open_shapes)
+pub taken-told : (s : Shape) (rest : List (Option Version)) (open_shapes : List Shape)
+    → taken (told s ++ rest) open_shapes ≡ taken rest (s ∷ open_shapes)
 taken-told leaf rest open_shapes = refl
 taken-told (fork left v right) rest open_shapes =
     ap (λ l. taken l open_shapes) (append_assoc (told left) (told right ++ Some v ∷ []) rest)
@@ -44,7 +46,9 @@ taken-told (fork left v right) rest open_shapes =
     ∙ taken-told right (Some v ∷ rest) (left ∷ open_shapes)
 
 pub shape_again : (s : Shape) → first_shape (taken (told s) []) ≡ s
-shape_again s = ap (λ (l : List (Option Version)). first_shape (taken l [])) (sym (append-nil (told s))) ∙ ap first_shape (taken-told s [] [])
+shape_again s = ap (λ (l : List (Option Version)). first_shape (taken l []))
+    (sym (append-nil (told s))) ∙ ap first_shape (taken-told s [] [])
 
 abbrev pub shape_code : Coded Shape
-shape_code = code_by (List (Option Version)) (coded_list (coded_option version_code)) told (λ l. first_shape (taken l [])) shape_again
+shape_code = code_by (List (Option Version)) (coded_list (coded_option version_code)) told
+    (λ l. first_shape (taken l [])) shape_again

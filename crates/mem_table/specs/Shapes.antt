@@ -18,4 +18,5 @@ height (fork left v right) = max (height left) (height right) + 1
 -- At each version the heights of the two sides differ by at most one (Adelson-Velsky and Landis, 1962).
 abbrev pub IsBalanced : Shape → Type 0
 IsBalanced leaf = Unit {0}
-IsBalanced (fork left v right) = IsBalanced left × IsBalanced right × (height left ≤ height right + 1) × (height right ≤ height left + 1)
+IsBalanced (fork left v right) = IsBalanced left × IsBalanced right × (height left ≤ height right + 1)
+    × (height right ≤ height left + 1)

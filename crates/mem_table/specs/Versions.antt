@@ -1,4 +1,5 @@
--- The order in which a memtable keeps versions of keys: an older one stays when a newer one comes (RocksDB wiki, "MemTable").
+-- The order in which a memtable keeps versions of keys: an older one stays when a newer one comes (RocksDB wiki,
+-- "MemTable").
 use Rattle.std.specs.Prelude.{◌≢◌, ◌<◌, ℕ, List}
 use Rattle.std.specs.List.{AllByRecursion}
 use Rattle.std.specs.List.Sorted.{IsStrictlySortedBy}

@@ -78,7 +78,8 @@ impl Subtree {
     ) -> Result<Option<&'a [u8]>, NoMemory>
         requires { AreOrdered (versions_in self.now) }
         ensures rows { IfOk result (λ _. rows.new ≡ rows.old
-            ++ rows_from range.entry.at (option_copied last.entry) (between range.entry.lo.now range.entry.hi.now (versions_in self.now))) }
+            ++ rows_from range.entry.at (option_copied last.entry)
+            (between range.entry.lo.now range.entry.hi.now (versions_in self.now))) }
         ensures seen { IfOk result (λ seen. option_copied seen
             ≡ seen_from range.entry.at (option_copied last.entry)
             (between range.entry.lo.now range.entry.hi.now (versions_in self.now))) }

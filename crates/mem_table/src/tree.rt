@@ -83,7 +83,8 @@ impl Tree {
     }
 }
 
-/// The versions of any tree up to a sequence have an order in which they may have come, so that `lookup` and `range` say what they answer for each tree.
+/// The versions of any tree up to a sequence have an order in which they may have come, so that `lookup` and `range`
+/// say what they answer for each tree.
 pub fn orders_of_versions()
     ensures { (versions : List Version) (at : ℕ) → (order : List Version) × IsOrderUpTo at versions order }
 {}

@@ -50,14 +50,16 @@ module _ {D : Type 0} {ghosts : Ghosts D} (old new : WritePath D ghosts) (before
 
   -- the batch was accepted and is empty then, or it was refused and stays
   abbrev pub AnswersCommit : WriteOptions → Reply → Type 0
-  AnswersCommit how (reply.Accepted first last) = Accepts old new before how (record { first = first; last = last }) × (after ≡ [])
+  AnswersCommit how (reply.Accepted first last) = Accepts old new before how (record { first = first; last = last })
+      × (after ≡ [])
   AnswersCommit how (reply.Refused why) = Refuses old new before how why × (why ≢ NoMemory) × (after ≡ before)
   AnswersCommit how reply.NoMemory = Refuses old new before how NoMemory
   AnswersCommit how other = ⊥
 
   -- what the published map has there, at the sequence given last
   abbrev pub AnswersGet : List ℕ → Reply → Type 0
-  AnswersGet key (reply.Found at v) = (new ≡ old) × (after ≡ before) × (at ≡ old.last) × (v ≡ value_at (pairs_of old.published) key)
+  AnswersGet key (reply.Found at v) = (new ≡ old) × (after ≡ before) × (at ≡ old.last)
+      × (v ≡ value_at (pairs_of old.published) key)
   AnswersGet key reply.NoMemory = new ≡ old
   AnswersGet key other = ⊥
 
@@ -76,7 +78,8 @@ abbrev pub AreSmall : List history.Entry → Type 0
 AreSmall entries = AllByRecursion (λ (e : history.Entry). size_of_batch e.records ≤ 16777216) entries
 
 -- The write path holds this history: of the one client, behind the sequence `start`, published to its end.
-pub record Holds {D : Type 0} {ghosts : Ghosts D} (start : ℕ) (path : WritePath D ghosts) (entries : List history.Entry) : Type 0 where
+pub record Holds {D : Type 0} {ghosts : Ghosts D} (start : ℕ) (path : WritePath D ghosts)
+    (entries : List history.Entry) : Type 0 where
   pub is_history : IsHistory start entries
   pub ours : AllByRecursion (λ (e : history.Entry). e.client ≡ 1) entries
   pub small : AreSmall entries
@@ -96,14 +99,16 @@ trace_of start entries = record { start = start; entries = entries; controller_c
 abbrev pub settings_of : Options → ℕ → Settings
 settings_of options opened = calls_model.settings_of options 1 opened
 
--- The client's replies are a transcript of its commands, over the history that the write path then holds. The log writer's calls were those of the
--- logged entries.
-pub record Ran {D : Type 0} {ghosts : Ghosts D} (options : Options) (old new : WritePath D ghosts) (commands : List calls.Command) (replies : List Reply) : Type 0 where
+-- The client's replies are a transcript of its commands, over the history that the write path then holds. The log
+-- writer's calls were those of the logged entries.
+pub record Ran {D : Type 0} {ghosts : Ghosts D} (options : Options) (old new : WritePath D ghosts)
+    (commands : List calls.Command) (replies : List Reply) : Type 0 where
   pub entries : List history.Entry
   pub holds : Holds options.last new entries
   pub calls : List calls.Call
   pub end : Progress
-  pub transcript : (opened : ℕ) → IsTranscript (settings_of options opened) (trace_of options.last entries) 1 commands calls end
+  pub transcript : (opened : ℕ)
+      → IsTranscript (settings_of options opened) (trace_of options.last entries) 1 commands calls end
   pub shown : AllZip ShowsReply replies calls
   pub mine : end.mine ≡ entries
   pub asked : end.asked ≡ []
@@ -112,6 +117,7 @@ pub record Ran {D : Type 0} {ghosts : Ghosts D} (options : Options) (old new : W
   pub wrote : Wrote old.log groups new.log
   pub are_calls : AreCalls entries end.attempts (last_sequence options.last entries) (fault_of new.log) groups
   pub refusals : fault_of new.log ≡ None → AreRefusedForThemselves calls
-  pub fault : IfSome (fault_of new.log) (λ count. IsReached (ghosts.faults (disk_of old.log)) count (ghosts.faults (disk_of new.log)))
+  pub fault : IfSome (fault_of new.log)
+      (λ count. IsReached (ghosts.faults (disk_of old.log)) count (ghosts.faults (disk_of new.log)))
   pub later : ghosts.faults (disk_of old.log) ≤ ghosts.faults (disk_of new.log)
   pub tells_on : TellsOn (ghosts.told (disk_of old.log)) (ghosts.told (disk_of new.log))

@@ -24,14 +24,18 @@ end_of (why.NotEmpty len) = end.NotEmpty len
 end_of why.NoMemory = end.NoMemory
 
 -- A refusal leaves the disk as it was. Else there is an outcome.
-abbrev pub IsEnd : Options → List (List calls.Command) → Option Disk → Option Disk → ℕ → ℕ → (List ℕ → Type 0) → End → Type 0
+abbrev pub IsEnd : Options → List (List calls.Command) → Option Disk → Option Disk → ℕ → ℕ → (List ℕ → Type 0) → End
+    → Type 0
 IsEnd options script old new opened ended images (end.DiskFault count) = (new ≡ old) × IsReached opened count ended
-IsEnd options script old new opened ended images (end.NotEmpty len) = (new ≡ old) × (0 < len) × IfSome old (λ d. length d.content ≡ len)
+IsEnd options script old new opened ended images (end.NotEmpty len) = (new ≡ old) × (0 < len)
+    × IfSome old (λ d. length d.content ≡ len)
 IsEnd options script old new opened ended images end.NoMemory = new ≡ old
-IsEnd options script old new opened ended images (end.Ran shown) = HasRun (execution_of options script opened ended images) old new shown
+IsEnd options script old new opened ended images (end.Ran shown) =
+    HasRun (execution_of options script opened ended images) old new shown
 
 -- what stands at the end of a run
-abbrev pub outcome_of : {D : Type 0} {ghosts : Ghosts D} → WritePath D ghosts → Vec (Vec Reply Global) Global → Outcome Pairs
+abbrev pub outcome_of : {D : Type 0} {ghosts : Ghosts D} → WritePath D ghosts → Vec (Vec Reply Global) Global
+    → Outcome Pairs
 outcome_of path transcripts = record {
   transcripts = transcripts;
   history = path.history;

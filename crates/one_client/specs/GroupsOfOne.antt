@@ -21,7 +21,8 @@ call_of_entry e = record { first = e.first; batches = e.records ∷ []; sync = i
 abbrev pub calls_of : List Entry → List GroupCall
 calls_of entries = map call_of_entry (logged entries)
 
--- One of the commits was to be logged and was answered the log's fault: the call for it, after the sequence given last, failed.
+-- One of the commits was to be logged and was answered the log's fault: the call for it, after the sequence given last,
+-- failed.
 pub record IsLostCall (commits : List Attempt) (count last : ℕ) (c : GroupCall) : Type 0 where
   pub before : List Attempt
   pub commit : Attempt
@@ -37,4 +38,5 @@ pub record IsLostCall (commits : List Attempt) (count last : ℕ) (c : GroupCall
 -- All calls of the log writer: one for each logged entry, and after them the one that failed, if the log has a fault
 abbrev pub AreCalls : List Entry → List Attempt → ℕ → Option ℕ → List GroupCall → Type 0
 AreCalls entries commits last None calls = calls ≡ calls_of entries
-AreCalls entries commits last (Some count) calls = (c : GroupCall) × IsLostCall commits count last c × (calls ≡ calls_of entries ++ c ∷ [])
+AreCalls entries commits last (Some count) calls = (c : GroupCall) × IsLostCall commits count last c
+    × (calls ≡ calls_of entries ++ c ∷ [])

@@ -17,4 +17,5 @@ pub record IsFoundAt (key : List ℕ) (m : Pairs) (at : ℕ) : Type 0 where
 pub record IsGapAt (key : List ℕ) (m : Pairs) (at : ℕ) : Type 0 where
   pub in_range : at ≤ length m
   pub before : AreBelow key m at
-  pub after : (j : ℕ) (d : List ℕ × List ℕ) → at ≤ j → j < length m → let p = slice_index_or m j d in byte_order p.0 key ≡ Greater
+  pub after : (j : ℕ) (d : List ℕ × List ℕ) → at ≤ j → j < length m
+      → let p = slice_index_or m j d in byte_order p.0 key ≡ Greater

@@ -17,8 +17,9 @@ use wp_edge::Disk;
 use wp_model::{NoMemory, Refusal, WriteOptions};
 use write_batch::{AddError, Batch};
 
-/// Runs the commands of the one client, and gives its replies. A call that finds no memory is the client's last. No memory for the replies themselves
-/// is found before the first command. All that the client adds fits one batch, so no addition is too large.
+/// Runs the commands of the one client, and gives its replies. A call that finds no memory is the client's last. No
+/// memory for the replies themselves is found before the first command. All that the client adds fits one batch, so no
+/// addition is too large.
 pub fn run_client<D: Disk>(
     alloc: Global,
     path: &mut WritePath<D>,

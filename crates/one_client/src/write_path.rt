@@ -1,4 +1,5 @@
-//! The write path of one client: batches go to the log, unless they are not to be logged, and then into the published map.
+//! The write path of one client: batches go to the log, unless they are not to be logged, and then into the published
+//! map.
 
 ghost use Rattle.std.specs.Prelude.{◌≡◌, ◌+◌, ◌^◌, ◌<◌, ◌≤◌, ℕ, [], ◌∷◌, ◌++◌, length, IfOk, IfErr, OnOk, OnErr, vec_len, vec_capacity};
 ghost use Rattle.wp_model.specs.Batch.{size_of_batch, count_of};
@@ -131,7 +132,8 @@ impl<D: Disk> WritePath<D> {
         Ok(Room { changes, fresh })
     }
 
-    /// Gives a batch the next run, and writes it to the log as a group of its own, synced if that is asked. One that is not to be logged has its run alone.
+    /// Gives a batch the next run, and writes it to the log as a group of its own, synced if that is asked. One that is
+    /// not to be logged has its run alone.
     fn write(&mut self, batch: &mut Batch, how: WriteOptions) -> Result<Run, Refusal>
         requires counted { 1 ≤ count_of batch.old.records }
         requires small { size_of_batch batch.old.records ≤ 16777216 }

@@ -9,7 +9,8 @@ use table_steps::{SharedTable, TableSeat, Turn};
 use wp_model::NoMemory;
 
 impl<T: VersionTree<N::Node> + Drop, N: VersionNodes + Drop> OneTable<T, N> {
-    /// A table of no versions for so many clients, with the published sequence `last`; the turn, and a seat for each client.
+    /// A table of no versions for so many clients, with the published sequence `last`; the turn, and a seat for each
+    /// client.
     pub fn open(
         alloc: Global,
         clients: u32,

@@ -31,8 +31,10 @@ fn complete<R: Wait>(rt: &R, table: &MemTable, seat: &mut MemSeat)
     requires waiting { (u : Launched) × ((account seat.old).stage ≡ Waiting u) × (length u.group ≡ 1) }
     ensures ours { IsOurs table.now seat.new }
     ensures idle { (account seat.new).stage ≡ Idle }
-    ensures same { ((account seat.new).launched ≡ (account seat.old).launched) × ((account seat.new).number ≡ (account seat.old).number) }
-    ensures seen { (u : Launched) → (account seat.old).stage ≡ Waiting u → (account seat.new).seen ≡ u.before ++ u.group ∷ [] }
+    ensures same { ((account seat.new).launched ≡ (account seat.old).launched)
+        × ((account seat.new).number ≡ (account seat.old).number) }
+    ensures seen { (u : Launched) → (account seat.old).stage ≡ Waiting u
+        → (account seat.new).seen ≡ u.before ++ u.group ∷ [] }
 {
     let part = Table::<Nodes, Parts>::take(table, rt, seat);
     Table::<Nodes, Parts>::insert(table, rt, seat, part);
@@ -45,7 +47,8 @@ fn complete<R: Wait>(rt: &R, table: &MemTable, seat: &mut MemSeat)
 // A node of this sequence, which gives the key a value or deletes it.
 fn nodes_of(alloc: Global, key: &[u8], value: Option<&[u8]>, sequence: u64) -> Result<Nodes, Fail>
     requires { sequence < 2 ^ 56 }
-    ensures { IfOk result (λ nodes. nodes ≡ record { key = key.now; value = option_copied value.entry; sequence = sequence } ∷ []) }
+    ensures { IfOk result (λ nodes. nodes
+        ≡ record { key = key.now; value = option_copied value.entry; sequence = sequence } ∷ []) }
 {
     let mut batch = Batch::new(alloc)?;
     match value {
@@ -71,8 +74,10 @@ fn write<R: Wait>(
     requires seat { IsOurs table.now seat.old × IsReady (account seat.old) × ((account seat.old).number ≡ 1) }
     requires turn { MayLaunch table.now turn }
     requires last { (last ≡ last_of (opening_of table.now).start (history_of turn)) × (last + 1 < 2 ^ 56) }
-    ensures seat { IfOk result (λ _. IsOurs table.now seat.new × IsReady (account seat.new) × ((account seat.new).number ≡ 1)) }
-    ensures turn { IfOk result (λ next. MayLaunch table.now next × (last_of (opening_of table.now).start (history_of next) ≡ last + 1)) }
+    ensures seat { IfOk result (λ _. IsOurs table.now seat.new × IsReady (account seat.new)
+        × ((account seat.new).number ≡ 1)) }
+    ensures turn { IfOk result (λ next. MayLaunch table.now next
+        × (last_of (opening_of table.now).start (history_of next) ≡ last + 1)) }
 {
     let mut parts = Parts::new(alloc, 1)?;
     parts.add(1, nodes_of(alloc, key, value, last + 1)?);
@@ -83,7 +88,8 @@ fn write<R: Wait>(
 
 // A table of two clients, with its turn and their seats, from the first on.
 fn open_for_two(alloc: Global) -> Result<(MemTable, MemTurn, MemSeat, MemSeat), Fail>
-    ensures turn { IfOk result (λ opened. MayLaunch opened.0 opened.1 × (last_of (opening_of opened.0).start (history_of opened.1) ≡ 0)) }
+    ensures turn { IfOk result (λ opened. MayLaunch opened.0 opened.1
+        × (last_of (opening_of opened.0).start (history_of opened.1) ≡ 0)) }
     ensures first { IfOk result (λ opened. IsOurs opened.0 opened.2 × IsReady (account opened.2)) }
     ensures second { IfOk result (λ opened. IsOurs opened.0 opened.3 × IsReady (account opened.3)) }
 {

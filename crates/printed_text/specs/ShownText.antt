@@ -54,13 +54,16 @@ abbrev pub clients_lines : List (Vec Reply Global) → List ℕ
 clients_lines transcripts = flat_map client_lines (enumerate_from 1 transcripts)
 
 abbrev pub entry_line : Entry Contents → List ℕ
-entry_line e = line (decimal e.first ∷ decimal e.last ∷ decimal e.client ∷ decimal e.ordinal ∷ flag_word e.flag ∷ hex (batch e.batch.sequence e.batch.records) ∷ [])
+entry_line e =
+    line (decimal e.first ∷ decimal e.last ∷ decimal e.client ∷ decimal e.ordinal ∷ flag_word e.flag
+    ∷ hex (batch e.batch.sequence e.batch.records) ∷ [])
 
 abbrev pub history_lines : List (Entry Contents) → List ℕ
 history_lines entries = line (codes "history" ∷ decimal (length entries) ∷ []) ++ flat_map entry_line entries
 
 abbrev pub shown_text : Outcome Pairs → List ℕ
-shown_text v = clients_lines v.transcripts.items ++ history_lines v.history.items ++ state_text (word_in Plain) v.last v.state ++ log_text v.log_len v.fault
+shown_text v = clients_lines v.transcripts.items ++ history_lines v.history.items
+    ++ state_text (word_in Plain) v.last v.state ++ log_text v.log_len v.fault
 
 abbrev pub group_line : GroupNote → List ℕ
 group_line g = line (decimal g.first ∷ decimal g.count ∷ decimal g.size ∷ [])
@@ -73,7 +76,8 @@ abbrev pub end_line : ℕ → EndReason → List ℕ
 end_line at why = line (codes "end" ∷ decimal at ∷ end_words why)
 
 abbrev pub shown_recovered_text : Recovered → List ℕ
-shown_recovered_text v = groups_lines v.groups.items ++ state_text (word_in Digits) v.last v.map ++ end_line v.end.at v.end.why
+shown_recovered_text v = groups_lines v.groups.items ++ state_text (word_in Digits) v.last v.map
+    ++ end_line v.end.at v.end.why
 
 -- how many events came, and how many were passed over
 abbrev pub counts_line : Counts → List ℕ

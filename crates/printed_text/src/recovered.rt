@@ -14,8 +14,8 @@ use wal_recover::{GroupNote, Recovered};
 use wp_coding::Bytes;
 use wp_model::{Damage, EndReason, NoMemory};
 
-/// The text of what a log recovers: a line for each group, the map at the last sequence in hexadecimal digits, and where and
-/// why recovery ended.
+/// The text of what a log recovers: a line for each group, the map at the last sequence in hexadecimal digits, and
+/// where and why recovery ended.
 pub fn recovered_text(alloc: Global, recovered: &Recovered) -> Result<Bytes, NoMemory>
     ensures { IfOk result (λ t. (r : recovery.Recovered) → ShowsRecovered recovered.now r
         → t ≡ model.recovered_text r) }

@@ -15,8 +15,8 @@ use wp_coding::Bytes;
 use wp_model::NoMemory;
 use write_core::Counts;
 
-/// The text of a replayed schedule: how many events came, each client's replies, the history, the published state, and how many
-/// groups were logged.
+/// The text of a replayed schedule: how many events came, each client's replies, the history, the published state, and
+/// how many groups were logged.
 pub fn replayed_text(alloc: Global, replayed: &Replayed) -> Result<Bytes, NoMemory>
     ensures { IfOk result (λ t. (r : machine.Replayed) → ShowsReplayed replayed.now r → t ≡ replay_text r) }
 {

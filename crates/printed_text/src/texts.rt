@@ -1,4 +1,5 @@
-//! What a call prints: the outcome of a run, or why it refused. Numbers are decimal, and each line ends with a line feed.
+//! What a call prints: the outcome of a run, or why it refused. Numbers are decimal, and each line ends with a line
+//! feed.
 
 ghost use Rattle.std.specs.Prelude.{◌≡◌, IfOk};
 ghost use Rattle.wp_model.specs.Calls as calls;

@@ -51,7 +51,8 @@ pub fn a_batch_or_one_error()
         → IsBatch bytes first records → IsBatchError bytes error → ⊥ }
 {}
 
-/// Any file recovers something, and none recovers two things: its batches, how far they reach, and where and why they end.
+/// Any file recovers something, and none recovers two things: its batches, how far they reach, and where and why they
+/// end.
 pub fn recovery_is_a_function()
     ensures some { (number : Option ℕ) (file : List ℕ) → AreBytes file
         → (r : Recovered) × IsRecovered number file r }

@@ -47,8 +47,8 @@ HaveSynced groups n = AllByRecursion (λ group. HasSync group → ⊥) (drop n g
 abbrev pub text_through : List (List Entry) → ℕ → List ℕ
 text_through groups k = text None (records_of (take (k + 1) groups))
 
--- Nothing is written after a group that is to be synced until it is safe. So where any of an image stands after such a group's text, all of the
--- text up to there stands before it. What could be reached before the run tells nothing.
+-- Nothing is written after a group that is to be synced until it is safe. So where any of an image stands after such a
+-- group's text, all of the text up to there stands before it. What could be reached before the run tells nothing.
 abbrev pub HoldsSynced : List (List Entry) → ℕ → List ℕ → Type 0
 HoldsSynced groups reached image = (k : ℕ) (group : List Entry) → slice_get groups k ≡ Some group → HasSync group
     → HoldsUpTo reached (text_through groups k) image
@@ -70,15 +70,17 @@ module _ (group_bytes : ℕ) (attempts : List (List Attempt)) (o : Outcome) (gro
       → NoChance None image (text None (begun (records_of groups) x))
       → RecoversPrefix (begun (records_of groups) x) image enough
 
-  -- What the log holds at the end, and what a crash leaves: at some moment of the run (any), and at its end (now), when all that was synced is among it.
-  -- It holds for each record that may be the failed one, so nobody can choose the one whose premise excludes an image.
+  -- What the log holds at the end, and what a crash leaves: at some moment of the run (any), and at its end (now), when
+  -- all that was synced is among it. It holds for each record that may be the failed one, so nobody can choose the one
+  -- whose premise excludes an image.
   pub record IsCrashSafe (reached : ℕ) (any now : List ℕ → Type 0) : Type 0 where
     pub failed : MatchOption o.fault (content ≡ text None (records_of groups)) (λ count. (x : List ℕ) × IsFailedWrite x)
     pub any_moment : LeavesPrefix any (λ n. ⊤)
     pub held : (image : List ℕ) → any image → HoldsSynced groups reached image
     pub at_end : LeavesPrefix now (HaveSynced groups)
 
--- An outcome of a trace; and, of the same trace with the same commits in its leaders' hands, what the log holds and what a crash leaves of it
+-- An outcome of a trace; and, of the same trace with the same commits in its leaders' hands, what the log holds and
+-- what a crash leaves of it
 pub record IsSafe (settings : Settings) (ended : ℕ) (script : List (List Command)) (o : Outcome) (content : List ℕ)
     (reached : ℕ) (any now : List ℕ → Type 0) : Type 0 where
   pub trace : Trace

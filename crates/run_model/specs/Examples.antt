@@ -14,7 +14,8 @@ entry_of n flag r = record { client = 1; ordinal = n; first = n; count = 1; flag
 
 -- `put a 1` with `commit sync`, and then `put b 2` with `commit`
 abbrev pub two_groups : List (List Entry)
-two_groups = (entry_of 1 Sync (value (codes "a") (codes "1")) ∷ []) ∷ (entry_of 2 Log (value (codes "b") (codes "2")) ∷ []) ∷ []
+two_groups = (entry_of 1 Sync (value (codes "a") (codes "1")) ∷ [])
+    ∷ (entry_of 2 Log (value (codes "b") (codes "2")) ∷ []) ∷ []
 
 -- the text of both, and of the first, which has 24 bytes
 abbrev pub text_of_both : List ℕ

@@ -23,7 +23,8 @@ pub record IsLost (attempts : List (List Attempt)) (count : ℕ) (m : Member) (r
   pub to_log : stands.attempt.options.no_log ≡ false
   pub status : stands.attempt.status ≡ faulted count
 
--- One whole group was answered the log's fault, and these are its batches whose runs fit after the sequence given last. No run was given after it.
+-- One whole group was answered the log's fault, and these are its batches whose runs fit after the sequence given last.
+-- No run was given after it.
 pub record IsLostGroup (group_bytes : ℕ) (attempts : List (List Attempt)) (count last : ℕ)
     (batches : List (List Record)) : Type 0 where
   pub members : List Member
@@ -33,7 +34,8 @@ pub record IsLostGroup (group_bytes : ℕ) (attempts : List (List Attempt)) (cou
   pub batches_are : batches ≡ fitting last all
   pub some : 0 < length batches
 
--- What is seen of it in the transcripts: a commit that was to be logged had these records, and was answered the log's fault
+-- What is seen of it in the transcripts: a commit that was to be logged had these records, and was answered the log's
+-- fault
 pub record IsFaultedBatch (o : Outcome) (count : ℕ) (records : List Record) : Type 0 where
   pub client : ℕ
   pub calls : List Call

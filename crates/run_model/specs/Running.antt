@@ -37,7 +37,8 @@ IsLegalOf execution o = IsLegal execution.settings execution.ended execution.scr
 -- The log was found empty. It holds the logged batches of the outcome, and a crash leaves a prefix of them.
 pub record LeavesSafeLog (execution : Execution) (o : calls.Outcome) (opened ended : Disk) : Type 0 where
   pub found_empty : opened.content ≡ []
-  pub safe : IsSafe execution.settings execution.ended execution.script o ended.content opened.reach execution.images (IsImage ended)
+  pub safe : IsSafe execution.settings execution.ended execution.script o ended.content opened.reach execution.images
+      (IsImage ended)
 
 -- The values show a legal outcome, and the log is left so where the disk tells it. Where the log has no fault the disk
 -- has counted none, and commits were refused for themselves alone.

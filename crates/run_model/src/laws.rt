@@ -8,8 +8,8 @@ ghost use Rattle.wp_model.specs.LogContents.{records_of};
 ghost use Rattle.wp_model.specs.Recovery.{Logged, logged_bytes, AreInOrder, Recovered, IsRecovered};
 ghost use Rattle.run_model.specs.Crashes.{HasSync, HoldsSynced, text_through};
 
-/// Where anything of an image stands after a group that was to be synced, recovery finds that group and all before it, if those are batches whose
-/// runs rise. No premise is needed of what torn fragments are.
+/// Where anything of an image stands after a group that was to be synced, recovery finds that group and all before it,
+/// if those are batches whose runs rise. No premise is needed of what torn fragments are.
 pub fn synced_groups_are_recovered()
     ensures recovered { (groups : List (List Entry)) (reached : ℕ) (image : List ℕ) → HoldsSynced groups reached image
         → (k : ℕ) (group : List Entry) → slice_get groups k ≡ Some group → HasSync group

@@ -1,7 +1,8 @@
 //! What a run of several clients leaves in its log, and what a crash at any moment of it leaves to recover.
 //!
 //! - `specs/Lost`: the one group of commits whose log write failed, by what became of the clients' commits.
-//! - `specs/Crashes`: the log at the run's end, each image that a crash may leave, and an outcome with both by one trace (`IsSafe`).
+//! - `specs/Crashes`: the log at the run's end, each image that a crash may leave, and an outcome with both by one
+//! trace (`IsSafe`).
 //! - `specs/Running`: what a run of a script comes to.
 //! - `specs/Refusals`: which refusals are left where the log has no fault.
 //!

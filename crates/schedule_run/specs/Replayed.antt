@@ -30,7 +30,8 @@ with_lines told = filter (λ (c : calls.Call). not (is_quiet c.reply)) told
 pub record ShowsReplayed (shown : Replayed) (r : core.Replayed) : Type 0 where
   pub taken : r.taken ≡ shown.counts.taken
   pub skipped : r.skipped ≡ shown.counts.skipped
-  pub transcripts : AllZip (λ v told. AllZip ShowsReply v.items told) shown.transcripts.items (map (λ (c : Client). with_lines c.calls) r.state.clients)
+  pub transcripts : AllZip (λ v told. AllZip ShowsReply v.items told) shown.transcripts.items
+      (map (λ (c : Client). with_lines c.calls) r.state.clients)
   pub history : AllZip ShowsEntry shown.history.items r.state.entries
   pub last : r.state.last ≡ shown.last
   pub pairs : published_map r.state ≡ shown.map

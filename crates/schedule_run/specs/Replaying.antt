@@ -43,7 +43,8 @@ abbrev pub first_reply : List history.Entry → Command → List CoreReply → L
 first_reply entries command [] = []
 first_reply entries command (r ∷ rs) = reply_by entries command r ∷ []
 
--- the reply to the next command, if that has one by now: commits and reads alone have one, the first of those that are left
+-- the reply to the next command, if that has one by now: commits and reads alone have one, the first of those that are
+-- left
 abbrev pub next_reply : List history.Entry → List CoreReply → Command → List Reply
 next_reply entries told (Commit options) = first_reply entries (Commit options) told
 next_reply entries told (Get key) = first_reply entries (Get key) told
@@ -52,7 +53,8 @@ next_reply entries told other = []
 -- commits and reads have these replies, in order
 abbrev pub replies_by : List history.Entry → List Command → List CoreReply → List Reply
 replies_by entries [] told = []
-replies_by entries (c ∷ cs) told = next_reply entries told c ++ replies_by entries cs (drop (length (next_reply entries told c)) told)
+replies_by entries (c ∷ cs) told = next_reply entries told c
+    ++ replies_by entries cs (drop (length (next_reply entries told c)) told)
 
 -- what a client was told of its commands, by its number
 pub record IsTranscript (s : machine.State) (client : ℕ) (commands : List Command) (replies : List Reply) : Type 0 where
@@ -61,9 +63,11 @@ pub record IsTranscript (s : machine.State) (client : ℕ) (commands : List Comm
   pub replies_are : replies ≡ replies_by s.entries commands told
 
 -- what so many clients were told, from the first on
-pub record AreTranscripts (s : machine.State) (plans : List ClientPlan) (count : ℕ) (transcripts : List (Vec Reply Global)) : Type 0 where
+pub record AreTranscripts (s : machine.State) (plans : List ClientPlan) (count : ℕ)
+    (transcripts : List (Vec Reply Global)) : Type 0 where
   pub each : length transcripts ≡ count
-  pub right : (i : ℕ) (plan : ClientPlan) (replies : Vec Reply Global) → slice_get plans i ≡ Some plan → slice_get transcripts i ≡ Some replies
+  pub right : (i : ℕ) (plan : ClientPlan) (replies : Vec Reply Global) → slice_get plans i ≡ Some plan
+      → slice_get transcripts i ≡ Some replies
       → IsTranscript s (suc i) plan.lines.items replies.items
 
 -- The history

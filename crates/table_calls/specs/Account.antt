@@ -37,7 +37,8 @@ pub record Steps (before : Account) (stage : Stage) (after : Account) : Type 0 w
   pub launched : after.launched ≡ before.launched
 
 -- It launched a group behind a history, and is to take its own part of it.
-pub record Launches (start : ℕ) (before : Account) (history : List (List MemberVersions)) (group : List MemberVersions) (after : Account) : Type 0 where
+pub record Launches (start : ℕ) (before : Account) (history : List (List MemberVersions)) (group : List MemberVersions)
+    (after : Account) : Type 0 where
   pub number : after.number ≡ before.number
   pub seen : after.seen ≡ before.seen
   pub stage_is : after.stage ≡ Waiting (launched_behind start history group)

@@ -22,7 +22,9 @@ use wp_model::NoMemory;
 
 /// A table of versions, which groups are published to. `P` is a list of a group's members with their nodes.
 ///
-/// Each client has one seat. A group is launched by the client that has the turn. Each member takes its part, inserts it and finishes. Who finishes last publishes the group. The client that launched it waits for that, and has the turn again.
+/// Each client has one seat. A group is launched by the client that has the turn. Each member takes its part, inserts
+/// it and finishes. Who finishes last publishes the group. The client that launched it waits for that, and has the turn
+/// again.
 pub trait Table<N: Versioned, P: GroupParts<N>> {
     /// A client's seat.
     type Seat;
@@ -112,7 +114,8 @@ pub trait Table<N: Versioned, P: GroupParts<N>> {
         ensures rows { IfOk result (λ rows. rows.rows ≡ rows_within lo.now hi.now
             (map_after (account seat.new).seen)) };
 
-    /// Launches a group and hands each member its nodes. So far a group has one member, the client that launches it, which is to take its part next. The seat keeps the turn until `await_published`.
+    /// Launches a group and hands each member its nodes. So far a group has one member, the client that launches it,
+    /// which is to take its part next. The seat keeps the turn until `await_published`.
     fn launch(&self, seat: &mut Self::Seat, turn: Self::Turn, parts: &mut P)
         requires ours { ours self.now seat.old × our_turn self.now turn }
         requires ready { IsReady (account seat.old) }
@@ -159,7 +162,8 @@ pub trait Table<N: Versioned, P: GroupParts<N>> {
         ensures published { (u : Launched) → (account seat.old).stage ≡ Publishing u
             → Publishes (opening self.now).start (account seat.old) u (account seat.new) };
 
-    /// Waits until the group that this client launched is published, and takes the turn back. `last` is the group's last sequence.
+    /// Waits until the group that this client launched is published, and takes the turn back. `last` is the group's
+    /// last sequence.
     fn await_published<R: Wait>(&self, rt: &R, seat: &mut Self::Seat, last: u64) -> Self::Turn
         requires ours { ours self.now seat.old }
         requires idle { (account seat.old).stage ≡ Idle }

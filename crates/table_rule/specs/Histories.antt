@@ -1,4 +1,5 @@
--- Versions, groups and histories as plain lists. A published group is a write group whose batches have been put into the memtable (RocksDB wiki, "MemTable").
+-- Versions, groups and histories as plain lists. A published group is a write group whose batches have been put into
+-- the memtable (RocksDB wiki, "MemTable").
 use Rattle.std.specs.Prelude.{◌≡◌, ◌≢◌, ◌⊎◌, ◌↔◌, ℕ, suc, ◌+◌, ◌%◌, ◌<◌, ◌≤◌, Option, Some, None, List, [], ◌∷◌, ◌++◌, ◌==◌, length, map, filter}
 use Rattle.wp_model.specs.Batch.{Record}
 use Rattle.wp_model.specs.Batch as model
@@ -100,4 +101,5 @@ module _ {H : Type 0} (made : H → List Version) where
 
   abbrev pub Images : List H → List (List MemberVersions) → Type 0
   Images hs [] = made_by hs ≡ []
-  Images hs (g ∷ gs) = (front : List H) × (rest : List H) × (hs ≡ front ++ rest) × (made_by front ≡ versions_in g) × Images rest gs
+  Images hs (g ∷ gs) = (front : List H) × (rest : List H) × (hs ≡ front ++ rest) × (made_by front ≡ versions_in g)
+      × Images rest gs

@@ -1,5 +1,5 @@
--- The rule of the table.
--- Words: shard j's lock is word j, LAST is word k, RUNNING is word k + 1, RUN_i is word k + 1 + i. Slots: shard j's tree is slot j, member i's nodes are slot k + i, and slot k is never used.
+-- The rule of the table. Words: shard j's lock is word j, LAST is word k, RUNNING is word k + 1, RUN_i is word k + 1 +
+-- i. Slots: shard j's tree is slot j, member i's nodes are slot k + i, and slot k is never used.
 use Rattle.std.specs.Prelude.{◌≡◌, ℕ, zero, suc, ◌+◌, ◌<◌, ◌≤◌, ◌⊎◌, List, [], ◌∷◌, ◌++◌, length, slice_index}
 use mathlib.Core.Option.{Option, none, some}
 use lib.ListN.{get_elem?}
@@ -115,14 +115,16 @@ end_of last g = last + length (versions_in g)
 module _ (n : ℕ) (word : ℕ) (place : ℕ → Place) (last : ℕ) where
   -- a group that may be published behind `last`
   abbrev pub IsLaunched : List MemberVersions → Type 0
-  IsLaunched g = Runs last (versions_in g) × (0 < length (versions_in g)) × Members n g × ((i : ℕ) → Apart i g → place i ≡ out)
+  IsLaunched g = Runs last (versions_in g) × (0 < length (versions_in g)) × Members n g
+      × ((i : ℕ) → Apart i g → place i ≡ out)
 
   abbrev pub InMode : Mode → Type 0
   InMode still = (word ≡ 0) × ((i : ℕ) → place i ≡ out)
   InMode (running g) = (word ≡ unfinished place g) × (0 < word) × AllParts place (end_of last g) g × IsLaunched g
   InMode (ended m g) = (word ≡ 0) × AllFinished place (end_of last g) g × IsLaunched g
 
-module _ (k start : ℕ) (published : List (List MemberVersions)) (mode : Mode) (place : ℕ → Place) (lock : ℕ → ShardState) (c : ℕ) where
+module _ (k start : ℕ) (published : List (List MemberVersions)) (mode : Mode) (place : ℕ → Place) (lock : ℕ
+    → ShardState) (c : ℕ) where
   abbrev pub KnowsLock : Lock → Type 0
   KnowsLock Free = Unit {0}
   KnowsLock (Held j vs) = (j < k) × (lock j ≡ held c vs)
@@ -143,13 +145,20 @@ module _ (k start : ℕ) (published : List (List MemberVersions)) (mode : Mode) 
     Knows (Stored u) = ((vs : List Version) × (place c ≡ inserted u.last vs)) × IsRunning u
     Knows (Publishing u) = NotTaken (place c) × (mode ≡ ended c u.group) × IsBehind u
     Knows Resting = (c ≡ 0) × (mode ≡ still) × (published ≡ seen)
-    Knows (Handing g []) = (c ≡ 0) × (((mode ≡ running g) × (published ≡ seen)) ⊎ ((m : ℕ) × (mode ≡ ended m g) × (published ≡ seen)) ⊎ ((mode ≡ still) × (published ≡ seen ++ g ∷ [])))
-    Knows (Handing g (p ∷ ps)) = (c ≡ 0) × (mode ≡ running g) × (published ≡ seen) × AllComing place (end_of (last_of start published) g) (p ∷ ps)
-    Knows (Filling g p ps) = (c ≡ 0) × (mode ≡ running g) × (published ≡ seen) × (place p.member ≡ filling (end_of (last_of start published) g) p.versions) × AllComing place (end_of (last_of start published) g) ps
+    Knows (Handing g []) = (c ≡ 0) × (((mode ≡ running g) × (published ≡ seen))
+        ⊎ ((m : ℕ) × (mode ≡ ended m g) × (published ≡ seen)) ⊎ ((mode ≡ still) × (published ≡ seen ++ g ∷ [])))
+    Knows (Handing g (p ∷ ps)) = (c ≡ 0) × (mode ≡ running g) × (published ≡ seen)
+        × AllComing place (end_of (last_of start published) g) (p ∷ ps)
+    Knows (Filling g p ps) = (c ≡ 0) × (mode ≡ running g) × (published ≡ seen)
+        × (place p.member ≡ filling (end_of (last_of start published) g) p.versions)
+        × AllComing place (end_of (last_of start published) g) ps
 
-module _ (z : Opening) (published : List (List MemberVersions)) (mode : Mode) (place : ℕ → Place) (lock : ℕ → ShardState) (seat : ℕ → ℕ) (j : ℕ) where
+module _ (z : Opening) (published : List (List MemberVersions)) (mode : Mode) (place : ℕ → Place) (lock : ℕ
+    → ShardState) (seat : ℕ → ℕ) (j : ℕ) where
   abbrev pub Fits : SeatState → Type 0
-  Fits h = (seat h.client ≡ j) × (h.client ≤ z.clients) × (h.opening ≡ z) × Begins h.seen published × KnowsLock z.shards z.start published mode place lock h.client h.lock × Knows z.shards z.start published mode place lock h.client h.seen h.stage
+  Fits h = (seat h.client ≡ j) × (h.client ≤ z.clients) × (h.opening ≡ z) × Begins h.seen published
+      × KnowsLock z.shards z.start published mode place lock h.client h.lock
+      × Knows z.shards z.start published mode place lock h.client h.seen h.stage
 
   abbrev pub AllFit : List SeatState → Type 0
   AllFit [] = Unit {0}
@@ -166,14 +175,16 @@ newcomers z c (suc m) = seat_state c z [] Free Idle ∷ newcomers z (suc c) m
 module _ {T N : Type 0} (held_by : T → List Version) (nodes_of : N → List Version) where
   module _ (k : ℕ) (words : List ℕ) (homes : List (Option (Content T N))) where
     abbrev pub InShard : ℕ → ShardState → Type 0
-    InShard j (opened vs) = (slice_index words j ≡ 0) × ((t : T) × (get_elem? homes j ≡ some (some (Tree t))) × (held_by t ≡ vs))
+    InShard j (opened vs) = (slice_index words j ≡ 0)
+        × ((t : T) × (get_elem? homes j ≡ some (some (Tree t))) × (held_by t ≡ vs))
     InShard j (held c vs) = (slice_index words j ≡ 1) × (get_elem? homes j ≡ some none)
 
     abbrev pub InPlace : ℕ → Place → Type 0
     InPlace i out = (slice_index words (k + 1 + i) ≡ 0) × (get_elem? homes (k + i) ≡ some (some Blank))
     InPlace i (coming l vs) = (slice_index words (k + 1 + i) ≡ 0) × (get_elem? homes (k + i) ≡ some (some Blank))
     InPlace i (filling l vs) = slice_index words (k + 1 + i) ≡ 0
-    InPlace i (handed l vs) = (slice_index words (k + 1 + i) ≡ 1) × ((x : N) × (get_elem? homes (k + i) ≡ some (some (Nodes x l))) × (nodes_of x ≡ vs))
+    InPlace i (handed l vs) = (slice_index words (k + 1 + i) ≡ 1)
+        × ((x : N) × (get_elem? homes (k + i) ≡ some (some (Nodes x l))) × (nodes_of x ≡ vs))
     InPlace i (busy l done more) = slice_index words (k + 1 + i) ≡ 1
     InPlace i (inserted l vs) = (slice_index words (k + 1 + i) ≡ 0) × (get_elem? homes (k + i) ≡ some (some Blank))
     InPlace i (finished l vs) = (slice_index words (k + 1 + i) ≡ 0) × (get_elem? homes (k + i) ≡ some (some Blank))
@@ -194,7 +205,9 @@ module _ {T N : Type 0} (held_by : T → List Version) (nodes_of : N → List Ve
     pub rows : (i : ℕ) → 0 < i → i ≤ z.clients → InPlace z.shards s.words s.homes i (place i)
     pub mode_is : InMode z.clients (slice_index s.words (z.shards + 1)) place (last_of z.start published) mode
     -- each version in a tree is published, or one of a part's that are in
-    pub sound : (j : ℕ) (v : Version) → j < z.shards → In v (contents (lock j)) → (shard_of z.shards v ≡ j) × (In v (versions_of published) ⊎ ((i : ℕ) × In v (stored_in (place i))))
+    pub sound : (j : ℕ) (v : Version) → j < z.shards → In v (contents (lock j))
+        → (shard_of z.shards v ≡ j) × (In v (versions_of published) ⊎ ((i : ℕ) × In v (stored_in (place i))))
     pub complete : (v : Version) → In v (versions_of published) → In v (contents (lock (shard_of z.shards v)))
     pub stored : (i : ℕ) (v : Version) → In v (stored_in (place i)) → In v (contents (lock (shard_of z.shards v)))
-    pub seats : (j : ℕ) (v : List SeatState) → get_elem? s.views j ≡ some v → AllFit z published mode place lock seat j v
+    pub seats : (j : ℕ) (v : List SeatState) → get_elem? s.views j ≡ some v
+        → AllFit z published mode place lock seat j v

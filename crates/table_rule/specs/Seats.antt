@@ -23,6 +23,8 @@ first_only (x ∷ xs) = x ∷ []
 abbrev pub Closes : Opening → List SeatState → List (List MemberVersions) → Type 0
 Closes z v history = IsHistory z.start history × ((h : SeatState) → In h v → Begins h.seen history)
 
--- a load of LAST by a seat that has the turn's seat_state, which is free: all that it holds has seen beginnings of the turn's history
+-- a load of LAST by a seat that has the turn's seat_state, which is free: all that it holds has seen beginnings of the
+-- turn's history
 abbrev pub closing : {T N : Type 0} → Step (Content T N) → SeatNow T N → ℕ → SeatNow T N → Type 0
-closing st m r m' = (z : Opening) (history : List (List MemberVersions)) → In (seat_state 0 z history Free Resting) m.0 → Closes z m.0 history × (r ≡ last_of z.start history)
+closing st m r m' = (z : Opening) (history : List (List MemberVersions)) → In (seat_state 0 z history Free Resting) m.0
+    → Closes z m.0 history × (r ≡ last_of z.start history)

@@ -95,7 +95,8 @@ abbrev pub IsNext : Opening → List (List MemberVersions) → List MemberVersio
 IsNext z seen g = Runs (last_of z.start seen) (versions_in g) × (0 < length (versions_in g)) × Members z.clients g
 
 -- The versions are client c's part of a launched group, which goes behind all that c has seen.
-pub record IsPartOf (z : Opening) (c : ℕ) (seen : List (List MemberVersions)) (u : Launched) (vs : List Version) : Type 0 where
+pub record IsPartOf (z : Opening) (c : ℕ) (seen : List (List MemberVersions)) (u : Launched) (vs : List Version) :
+    Type 0 where
   pub part : In (part_of c vs) u.group
   pub next : IsNext z u.before u.group
   pub last_is : u.last ≡ end_of (last_of z.start u.before) u.group
@@ -109,46 +110,60 @@ module _ {T N : Type 0} where
 
   -- a client's load of LAST: it has seen the history up to the number found
   abbrev pub learned : Step (Content T N) → SeatNow T N → ℕ → SeatNow T N → Type 0
-  learned st m r m' = (c : ℕ) (z : Opening) (seen : List (List MemberVersions)) (stage : Stage) → IsAt c z seen Free stage m → (now : List (List MemberVersions)) × IsAt c z now Free stage m' × Begins seen now × IsHistory z.start now × (r ≡ last_of z.start now) × (m'.1 ≡ m.1)
+  learned st m r m' = (c : ℕ) (z : Opening) (seen : List (List MemberVersions)) (stage : Stage)
+      → IsAt c z seen Free stage m → (now : List (List MemberVersions)) × IsAt c z now Free stage m' × Begins seen now
+      × IsHistory z.start now × (r ≡ last_of z.start now) × (m'.1 ≡ m.1)
 
   -- the compare-exchange of a lock from 0 to 1
   module _ (held_by : T → List Version) where
     abbrev pub locked : Step (Content T N) → SeatNow T N → ℕ → SeatNow T N → Type 0
-    locked st m r m' = (c : ℕ) (z : Opening) (seen : List (List MemberVersions)) (stage : Stage) → IsAt c z seen Free stage m
-        → (r ≡ 0 → (t : T) × IsAt c z seen (Held st.word (held_by t)) stage m' × (m'.1 ≡ (st.word, Tree t) ∷ m.1) × Shows z.shards st.word z.start seen (held_by t) × IsFresh stage (held_by t))
+    locked st m r m' = (c : ℕ) (z : Opening) (seen : List (List MemberVersions)) (stage : Stage)
+        → IsAt c z seen Free stage m
+        → (r ≡ 0 → (t : T) × IsAt c z seen (Held st.word (held_by t)) stage m' × (m'.1 ≡ (st.word, Tree t) ∷ m.1)
+        × Shows z.shards st.word z.start seen (held_by t) × IsFresh stage (held_by t))
         × (r ≢ 0 → m' ≡ m)
 
   -- the unlocking store: the tree is as it was, or it has one version more
   abbrev pub unlocked : Step (Content T N) → SeatNow T N → ℕ → SeatNow T N → Type 0
-  unlocked st m r m' = (c : ℕ) (z : Opening) (seen : List (List MemberVersions)) (stage : Stage) (vs : List Version) → IsAt c z seen (Held st.word vs) stage m → IsAt c z seen Free stage m' × (m'.1 ≡ rest m.1)
+  unlocked st m r m' = (c : ℕ) (z : Opening) (seen : List (List MemberVersions)) (stage : Stage) (vs : List Version)
+      → IsAt c z seen (Held st.word vs) stage m → IsAt c z seen Free stage m' × (m'.1 ≡ rest m.1)
 
   abbrev pub added : Step (Content T N) → SeatNow T N → ℕ → SeatNow T N → Type 0
-  added st m r m' = (c : ℕ) (z : Opening) (seen : List (List MemberVersions)) (u : Launched) (done more : List Version) (v : Version) (vs : List Version)
-      → IsAt c z seen (Held st.word vs) (Holding (work u done (v ∷ more))) m → IsAt c z seen Free (Holding (work u (done ++ v ∷ []) more)) m' × (m'.1 ≡ rest m.1)
+  added st m r m' = (c : ℕ) (z : Opening) (seen : List (List MemberVersions)) (u : Launched) (done more : List Version)
+      (v : Version) (vs : List Version)
+      → IsAt c z seen (Held st.word vs) (Holding (work u done (v ∷ more))) m
+      → IsAt c z seen Free (Holding (work u (done ++ v ∷ []) more)) m' × (m'.1 ≡ rest m.1)
 
   -- the seat has the views of client c, who has seen `own`, and of the turn
-  abbrev pub IsWithTurn : ℕ → Opening → List (List MemberVersions) → Stage → List (List MemberVersions) → Stage → SeatNow T N → Type 0
+  abbrev pub IsWithTurn : ℕ → Opening → List (List MemberVersions) → Stage → List (List MemberVersions) → Stage
+      → SeatNow T N → Type 0
   IsWithTurn c z own stage seen turn m = m.0 ≡ seat_state c z own Free stage ∷ seat_state 0 z seen Free turn ∷ []
 
   -- the store of RUNNING, by a member that has the turn
   abbrev pub launched : List MemberVersions → Step (Content T N) → SeatNow T N → ℕ → SeatNow T N → Type 0
-  launched g st m r m' = (c : ℕ) (z : Opening) (own seen : List (List MemberVersions)) → IsWithTurn c z own Idle seen Resting m
+  launched g st m r m' = (c : ℕ) (z : Opening) (own seen : List (List MemberVersions))
+      → IsWithTurn c z own Idle seen Resting m
       → IsWithTurn c z own (Waiting (launched_behind z.start seen g)) seen (Handing g g) m' × (m'.1 ≡ m.1)
 
   -- the turn's load of RUN_i
   abbrev pub emptied : Step (Content T N) → SeatNow T N → ℕ → SeatNow T N → Type 0
-  emptied st m r m' = (z : Opening) (seen : List (List MemberVersions)) (g : List MemberVersions) (p : MemberVersions) (ps : List MemberVersions) → IsAt 0 z seen Free (Handing g (p ∷ ps)) m → st.word ≡ z.shards + 1 + p.member
+  emptied st m r m' = (z : Opening) (seen : List (List MemberVersions)) (g : List MemberVersions) (p : MemberVersions)
+      (ps : List MemberVersions) → IsAt 0 z seen Free (Handing g (p ∷ ps)) m → st.word ≡ z.shards + 1 + p.member
       → IsAt 0 z seen Free (Filling g p ps) m' × (r ≡ 0) × (m'.1 ≡ (z.shards + p.member, Blank) ∷ m.1)
 
   -- the turn's store of RUN_i
   abbrev pub given : Step (Content T N) → SeatNow T N → ℕ → SeatNow T N → Type 0
-  given st m r m' = (z : Opening) (seen : List (List MemberVersions)) (g : List MemberVersions) (p : MemberVersions) (ps : List MemberVersions) → IsAt 0 z seen Free (Filling g p ps) m → IsAt 0 z seen Free (Handing g ps) m' × (m'.1 ≡ rest m.1)
+  given st m r m' = (z : Opening) (seen : List (List MemberVersions)) (g : List MemberVersions) (p : MemberVersions)
+      (ps : List MemberVersions) → IsAt 0 z seen Free (Filling g p ps) m
+      → IsAt 0 z seen Free (Handing g ps) m' × (m'.1 ≡ rest m.1)
 
   -- a client's load of its RUN
   module _ (nodes_of : N → List Version) where
     abbrev pub took : Step (Content T N) → SeatNow T N → ℕ → SeatNow T N → Type 0
-    took st m r m' = (c : ℕ) (z : Opening) (seen : List (List MemberVersions)) (stage : Stage) → IsAt c z seen Free stage m → MayTake stage
-        → (r ≡ 1 → (x : N) × (u : Launched) × IsAt c z seen Free (Holding (work u [] (nodes_of x))) m' × (m'.1 ≡ (z.shards + c, Nodes x u.last) ∷ m.1)
+    took st m r m' = (c : ℕ) (z : Opening) (seen : List (List MemberVersions)) (stage : Stage)
+        → IsAt c z seen Free stage m → MayTake stage
+        → (r ≡ 1 → (x : N) × (u : Launched) × IsAt c z seen Free (Holding (work u [] (nodes_of x))) m'
+        × (m'.1 ≡ (z.shards + c, Nodes x u.last) ∷ m.1)
         × IsPartOf z c seen u (nodes_of x) × IsAwaited stage u)
         × (r ≢ 1 → m' ≡ m)
 
@@ -160,15 +175,19 @@ module _ {T N : Type 0} where
   -- the fetch-sub of RUNNING: a group's only member finds 1
   abbrev pub counted : Step (Content T N) → SeatNow T N → ℕ → SeatNow T N → Type 0
   counted st m r m' = (c : ℕ) (z : Opening) (seen : List (List MemberVersions)) (u : Launched)
-      → IsAt c z seen Free (Stored u) m → IsAt c z seen Free (ending u r) m' × (m'.1 ≡ m.1) × (length u.group ≡ 1 → r ≡ 1)
+      → IsAt c z seen Free (Stored u) m → IsAt c z seen Free (ending u r) m' × (m'.1 ≡ m.1)
+      × (length u.group ≡ 1 → r ≡ 1)
 
   -- the store of LAST: it has seen the history with the group
   abbrev pub publishes : Step (Content T N) → SeatNow T N → ℕ → SeatNow T N → Type 0
   publishes st m r m' = (c : ℕ) (z : Opening) (seen : List (List MemberVersions)) (u : Launched)
-      → IsAt c z seen Free (Publishing u) m → IsAt c z (u.before ++ u.group ∷ []) Free Idle m' × Begins seen u.before × IsHistory z.start (u.before ++ u.group ∷ []) × (m'.1 ≡ m.1)
+      → IsAt c z seen Free (Publishing u) m
+      → IsAt c z (u.before ++ u.group ∷ []) Free Idle m' × Begins seen u.before
+      × IsHistory z.start (u.before ++ u.group ∷ []) × (m'.1 ≡ m.1)
 
   -- the turn's load of LAST, with no part left to hand over
   abbrev pub awaited : Step (Content T N) → SeatNow T N → ℕ → SeatNow T N → Type 0
-  awaited st m r m' = (z : Opening) (seen : List (List MemberVersions)) (g : List MemberVersions) → IsAt 0 z seen Free (Handing g []) m
+  awaited st m r m' = (z : Opening) (seen : List (List MemberVersions)) (g : List MemberVersions)
+      → IsAt 0 z seen Free (Handing g []) m
       → (r ≡ end_of (last_of z.start seen) g → IsAt 0 z (seen ++ g ∷ []) Free Resting m' × (m'.1 ≡ m.1))
       × (r ≢ end_of (last_of z.start seen) g → m' ≡ m)

@@ -13,14 +13,16 @@ pub enum Content<T, N> {
     Nodes(N, u64),
 }
 
-/// What a key says from a sequence on: a value, or none where it is deleted. Contracts speak of versions, and no value of this type is made.
+/// What a key says from a sequence on: a value, or none where it is deleted. Contracts speak of versions, and no value
+/// of this type is made.
 pub struct Version {
     pub key: LinkedList<u8>,
     pub value: Option<LinkedList<u8>>,
     pub sequence: u64,
 }
 
-/// A member's part of a group, in the order of its sequences. A group is a list of parts. No value of this type is made.
+/// A member's part of a group, in the order of its sequences. A group is a list of parts. No value of this type is
+/// made.
 pub struct MemberVersions {
     pub member: u64,
     pub versions: LinkedList<Version>,

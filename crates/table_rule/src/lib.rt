@@ -1,4 +1,5 @@
-//! The rule of the published table over atomic words: which words and slots it has, what each seat knows, and what each atomic step does. The table under one lock is the case of one shard.
+//! The rule of the published table over atomic words: which words and slots it has, what each seat knows, and what each
+//! atomic step does. The table under one lock is the case of one shard.
 //!
 //! # Words
 //!
@@ -21,7 +22,8 @@
 //!
 //! # Steps
 //!
-//! The turn is a seat of its own, of which a table has one. A client that keeps it may launch a group of which it is a member. A reader's seat is a client's. What each step is of the write path says [`steps_and_events`].
+//! The turn is a seat of its own, of which a table has one. A client that keeps it may launch a group of which it is a
+//! member. A reader's seat is a client's. What each step is of the write path says [`steps_and_events`].
 //!
 //! | Step | Who makes it | What it does | Event of the write path |
 //! |---|---|---|---|
@@ -39,7 +41,8 @@
 //! | load of LAST ([`Await`]) | the turn | the group is published, where it finds the group's last sequence | |
 //! | load of LAST ([`Close`]) | the turn's seat, joined with the clients' | the one history of the table is known | |
 //!
-//! A compare-exchange that fails is a load that tells nothing. Seats are made at opening and joined at closing; for the store of RUNNING the turn is joined to the seat of the client that launches, and split off again.
+//! A compare-exchange that fails is a load that tells nothing. Seats are made at opening and joined at closing; for the
+//! store of RUNNING the turn is joined to the seat of the client that launches, and split off again.
 #![tactic(auto)]
 
 mod content;

@@ -1,4 +1,5 @@
-//! What a seat knows of the table. Of the types here a program makes only `Opening`: the others are what contracts speak of.
+//! What a seat knows of the table. Of the types here a program makes only `Opening`: the others are what contracts
+//! speak of.
 
 use crate::content::{MemberVersions, Version};
 use std::collections::LinkedList;
@@ -11,7 +12,8 @@ pub struct Opening {
     pub start: u64,
 }
 
-/// A group that was launched: what was published before, oldest first, its members with their versions, and its last sequence.
+/// A group that was launched: what was published before, oldest first, its members with their versions, and its last
+/// sequence.
 pub struct Launched {
     pub before: LinkedList<LinkedList<MemberVersions>>,
     pub group: LinkedList<MemberVersions>,

@@ -51,7 +51,12 @@ module _ {T N : Type 0} where
   launch_of (Some u) = launch_at (first_state u.seat.me.0)
 
   abbrev pub account_of : ℕ → SeatNow T N → Option (Turn T N) → Account
-  account_of c m t = record { number = c; seen = (first_state m.0).seen; stage = (first_state m.0).stage; launched = launch_of t }
+  account_of c m t = record {
+    number = c;
+    seen = (first_state m.0).seen;
+    stage = (first_state m.0).stage;
+    launched = launch_of t;
+  }
 
   abbrev pub account : TableSeat T N → Account
   account s = account_of s.client.number s.client.seat.me s.turn
@@ -60,7 +65,8 @@ module _ {T N : Type 0} where
   abbrev pub history_of : Turn T N → List (List MemberVersions)
   history_of u = (first_state u.seat.me.0).seen
 
-  -- the slots that a seat holds between calls: a part that was taken leaves its empty slot. `last` is that of the group whose part was taken last.
+  -- the slots that a seat holds between calls: a part that was taken leaves its empty slot. `last` is that of the group
+  -- whose part was taken last.
   abbrev pub Carries : ℕ → ℕ → Stage → List (ℕ × Content T N) → Type 0
   Carries slot last Idle l = l ≡ []
   Carries slot last (Waiting u) l = l ≡ []
@@ -74,15 +80,19 @@ module _ {T N : Type 0} where
   -- the turn is kept where a group is launched
   abbrev pub Keeps : TableId → Opening → Option (Turn T N) → Type 0
   Keeps id z None = Unit {0}
-  Keeps id z (Some u) = (u.seat.table_id ≡ id) × (u.seat.me.1 ≡ []) × ((seen : List (List MemberVersions)) × (g : List MemberVersions) × IsAt 0 z seen Free (Handing g []) u.seat.me)
+  Keeps id z (Some u) = (u.seat.table_id ≡ id) × (u.seat.me.1 ≡ [])
+      × ((seen : List (List MemberVersions)) × (g : List MemberVersions) × IsAt 0 z seen Free (Handing g []) u.seat.me)
 
   -- client c's seat is of this table, and stands between two calls
   abbrev pub Sits : TableId → Opening → ℕ → TableId → ℕ → SeatNow T N → Type 0
-  Sits id z c table last m = (table ≡ id) × (0 < c) × (c ≤ z.clients) × ((seen : List (List MemberVersions)) × (stage : Stage) × IsAt c z seen Free stage m × Carries (z.shards + c) last stage m.1)
+  Sits id z c table last m = (table ≡ id) × (0 < c) × (c ≤ z.clients)
+      × ((seen : List (List MemberVersions)) × (stage : Stage) × IsAt c z seen Free stage m
+      × Carries (z.shards + c) last stage m.1)
 
   -- the seat is of this table, and stands between two calls
   abbrev pub IsOurs : SharedTable T N → TableSeat T N → Type 0
-  IsOurs t s = Sits (id_of t) (opening_of t) s.client.number s.client.seat.table_id s.last s.client.seat.me × Keeps (id_of t) (opening_of t) s.turn
+  IsOurs t s = Sits (id_of t) (opening_of t) s.client.number s.client.seat.table_id s.last s.client.seat.me
+      × Keeps (id_of t) (opening_of t) s.turn
 
   -- the turn is of this table, and no group is launched
   abbrev pub MayLaunch : SharedTable T N → Turn T N → Type 0

@@ -16,15 +16,19 @@ use Rattle.table_calls.specs.declared.finished.Finished.TheVariants.{Last, Other
 module _ {T N : Type 0} where
   -- the seat has seen the history up to the number found
   abbrev pub Sees : ℕ → Opening → List (List MemberVersions) → Stage → ℕ → SeatNow T N → Type 0
-  Sees c z seen stage r m = (now : List (List MemberVersions)) × IsAt c z now Free stage m × Begins seen now × IsHistory z.start now × (r ≡ last_of z.start now)
+  Sees c z seen stage r m = (now : List (List MemberVersions)) × IsAt c z now Free stage m × Begins seen now
+      × IsHistory z.start now × (r ≡ last_of z.start now)
 
   -- the seat has the shard's tree, which shows what it has seen
-  abbrev pub Locked : ℕ → Opening → ℕ → List (List MemberVersions) → Stage → List Version → SeatNow T N → SeatNow T N → Type 0
-  Locked c z shard seen stage vs m m' = IsAt c z seen (Held shard vs) stage m' × (m'.1 ≡ (shard, Blank) ∷ m.1) × Shows z.shards shard z.start seen vs × IsFresh stage vs
+  abbrev pub Locked : ℕ → Opening → ℕ → List (List MemberVersions) → Stage → List Version → SeatNow T N → SeatNow T N
+      → Type 0
+  Locked c z shard seen stage vs m m' = IsAt c z seen (Held shard vs) stage m' × (m'.1 ≡ (shard, Blank) ∷ m.1)
+      × Shows z.shards shard z.start seen vs × IsFresh stage vs
 
   -- the seat has its part of a group whose last sequence is `last`, and it is the group that it waited for
   abbrev pub Took : ℕ → Opening → List (List MemberVersions) → Stage → ℕ → List Version → SeatNow T N → Type 0
-  Took c z seen stage last vs m = (u : Launched) × IsAt c z seen Free (Holding (work u [] vs)) m × (last ≡ u.last) × IsPartOf z c seen u vs × IsAwaited stage u
+  Took c z seen stage last vs m = (u : Launched) × IsAt c z seen Free (Holding (work u [] vs)) m × (last ≡ u.last)
+      × IsPartOf z c seen u vs × IsAwaited stage u
 
   -- the last one to finish may publish
   abbrev pub Ended : ℕ → Opening → List (List MemberVersions) → Launched → Finished → SeatNow T N → Type 0
@@ -33,4 +37,5 @@ module _ {T N : Type 0} where
 
   -- the seat has seen the group that it published
   abbrev pub Published : ℕ → Opening → List (List MemberVersions) → Launched → SeatNow T N → Type 0
-  Published c z seen u m = IsAt c z (u.before ++ u.group ∷ []) Free Idle m × Begins seen u.before × IsHistory z.start (u.before ++ u.group ∷ [])
+  Published c z seen u m = IsAt c z (u.before ++ u.group ∷ []) Free Idle m × Begins seen u.before
+      × IsHistory z.start (u.before ++ u.group ∷ [])

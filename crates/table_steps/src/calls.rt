@@ -64,7 +64,8 @@ impl<T: VersionTree<N::Node> + Drop, N: VersionNodes + Drop> TableSeat<T, N> {
         table.find(alloc, rt, &mut self.client, shard, key, at)
     }
 
-    /// The keys of a shard from `lo` on and below `hi` with their values, as of `at`, the end of what the seat has seen.
+    /// The keys of a shard from `lo` on and below `hi` with their values, as of `at`, the end of what the seat has
+    /// seen.
     pub fn find_rows<R: Wait>(
         &mut self,
         table: &SharedTable<T, N>,
@@ -88,7 +89,8 @@ impl<T: VersionTree<N::Node> + Drop, N: VersionNodes + Drop> TableSeat<T, N> {
         table.find_rows(alloc, rt, &mut self.client, shard, lo, hi, at)
     }
 
-    /// Launches a group of which the client is a member, and hands each member its nodes. The seat keeps the turn until `await_published`.
+    /// Launches a group of which the client is a member, and hands each member its nodes. The seat keeps the turn until
+    /// `await_published`.
     pub fn launch<P: GroupParts<N>>(
         &mut self,
         table: &SharedTable<T, N>,
@@ -174,7 +176,8 @@ impl<T: VersionTree<N::Node> + Drop, N: VersionNodes + Drop> TableSeat<T, N> {
         table.publish(&mut self.client, self.last);
     }
 
-    /// Waits until the group that this client launched is published, and takes the turn back. `last` is the group's last sequence.
+    /// Waits until the group that this client launched is published, and takes the turn back. `last` is the group's
+    /// last sequence.
     pub fn await_published<R: Wait>(
         &mut self,
         table: &SharedTable<T, N>,

@@ -35,7 +35,8 @@ impl<T: VersionTree<N::Node> + Drop, N: VersionNodes + Drop> SharedTable<T, N> {
             .load::<Close>(&mut turn.seat, self.opening.shards as usize);
     }
 
-    /// Gives the table up, with all seats. What was published is one history, and each client has seen a beginning of it.
+    /// Gives the table up, with all seats. What was published is one history, and each client has seen a beginning of
+    /// it.
     pub fn close(self, seats: Seats<TableSeat<T, N>, Turn<T, N>>)
         requires turn { MayLaunch self seats.turn }
         requires clients { (seat : TableSeat T N) → In seat seats.clients.items

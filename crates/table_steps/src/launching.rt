@@ -24,7 +24,8 @@ pub struct Turn<T, N> {
 }
 
 impl<T: VersionTree<N::Node>, N: VersionNodes> SharedTable<T, N> {
-    // Sets the running count to the number of members. The client's seat and the turn's are one meanwhile, so that the client knows of the group.
+    // Sets the running count to the number of members. The client's seat and the turn's are one meanwhile, so that the
+    // client knows of the group.
     fn set_running<G: GroupPlan, P: GroupParts<N>>(
         &self,
         who: &mut Client<T, N>,
@@ -93,7 +94,8 @@ impl<T: VersionTree<N::Node>, N: VersionNodes> SharedTable<T, N> {
         shared.store::<Give>(&mut turn.seat, word, 1);
     }
 
-    /// Launches a group whose last sequence is `last`, and of which the client is a member, and hands each member its nodes.
+    /// Launches a group whose last sequence is `last`, and of which the client is a member, and hands each member its
+    /// nodes.
     pub(crate) fn launch<P: GroupParts<N>>(
         &self,
         who: &mut Client<T, N>,
@@ -132,7 +134,8 @@ impl<T: VersionTree<N::Node>, N: VersionNodes> SharedTable<T, N> {
         turn
     }
 
-    /// Waits until the launched group, whose last sequence is `last`, is published. The turn is free again. It spins a few turns, and then yields.
+    /// Waits until the launched group, whose last sequence is `last`, is published. The turn is free again. It spins a
+    /// few turns, and then yields.
     pub(crate) fn await_published<R: Wait>(&self, rt: &R, turn: &mut Turn<T, N>, last: u64)
         requires seat { turn.old.seat.table_id ≡ self.now.table.shared.table_id }
         requires launched { (seen : List (List MemberVersions)) × (g : List MemberVersions)

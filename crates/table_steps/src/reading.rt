@@ -62,7 +62,8 @@ impl<T: VersionTree<N::Node>, N: VersionNodes> SharedTable<T, N> {
         found
     }
 
-    /// The keys of a shard from `lo` on and below `hi` with their values, as of `at`, the end of what the seat has seen.
+    /// The keys of a shard from `lo` on and below `hi` with their values, as of `at`, the end of what the seat has
+    /// seen.
     pub(crate) fn find_rows<R: Wait>(
         &self,
         alloc: Global,

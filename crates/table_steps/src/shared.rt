@@ -22,7 +22,9 @@ use table_rule::{Content, Learn, LockShard, Opening, TableLaw, UnlockShard, Vers
 pub struct SharedTable<T: Versioned, N: Versioned> {
     pub(crate) table: Table<Content<T, N>, View, Opening, TableLaw, Global>,
     pub(crate) opening: Opening,
-    ghost sized: { (table.shared.table_id.words ≡ opening.shards + 2 + opening.clients) × (table.shared.table_id.slots ≡ opening.shards + 1 + opening.clients) × (table.shared.key ≡ opening) × (0 < opening.shards) × (opening.shards < 2 ^ 32) × (opening.clients < 2 ^ 32) },
+    ghost sized: { (table.shared.table_id.words ≡ opening.shards + 2 + opening.clients)
+        × (table.shared.table_id.slots ≡ opening.shards + 1 + opening.clients) × (table.shared.key ≡ opening)
+        × (0 < opening.shards) × (opening.shards < 2 ^ 32) × (opening.clients < 2 ^ 32) },
 }
 
 /// A client's seat.

@@ -52,7 +52,8 @@ MayRun last first count = count ≢ 0 → (last < first) × (first + count - 1 �
 -- why it may not
 abbrev pub IsRunEnd : ℕ → ℕ → ℕ → EndReason → Type 0
 IsRunEnd last first count (ends.Order f l) = (f ≡ first) × (l ≡ last) × (count ≢ 0) × (first ≤ last)
-IsRunEnd last first count (ends.High f n) = (f ≡ first) × (n ≡ count) × (count ≢ 0) × (last < first) × (max_sequence < first + count - 1)
+IsRunEnd last first count (ends.High f n) = (f ≡ first) × (n ≡ count) × (count ≢ 0) × (last < first)
+    × (max_sequence < first + count - 1)
 IsRunEnd last first count ends.Clean = ⊥
 IsRunEnd last first count (ends.Broken d) = ⊥
 IsRunEnd last first count ends.BadOrder = ⊥

@@ -7,7 +7,8 @@ use Rattle.wal_recover.specs.declared.recovery.RecoverError.{RecoverError}
 use Rattle.wal_recover.specs.declared.recovery.RecoverError.TheVariants.{Fault, NoMemory}
 use Rattle.wal_recover.specs.Keeping.{note_of}
 
--- what a caller sees of what is recovered: a note of each group, the map, the last sequence, what is kept, and why no more
+-- what a caller sees of what is recovered: a note of each group, the map, the last sequence, what is kept, and why no
+-- more
 pub record ShowsRecovered (shown : Recovered) (r : recovery.Recovered) : Type 0 where
   pub groups : shown.groups.items ≡ map note_of r.batches
   pub map_is : shown.map ≡ recovery.recovered_map r

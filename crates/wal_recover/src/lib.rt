@@ -1,8 +1,8 @@
 //! Point-in-time recovery of a log (RocksDB wiki, "WAL Recovery Modes", kPointInTimeRecovery): the records before the
 //! first place that doesn't read, or before the first record that is no batch or whose run of sequences doesn't rise.
 //!
-//! Any bytes recover something. What follows damage is not looked at: a log is a history, and what stands after a gap would
-//! be another one.
+//! Any bytes recover something. What follows damage is not looked at: a log is a history, and what stands after a gap
+//! would be another one.
 #![tactic(auto)]
 
 mod kept;

@@ -52,8 +52,8 @@ impl From<NoMemory> for RecoverError {
 /// It reads from the start on and never asks the disk for its length, so that a disk on which nothing can be read is a
 /// fault and not an empty log. No read that failed is tried again.
 ///
-/// It is `Fault` where a read failed, and `NoMemory` where there was no memory for a block, a record, a note, a key or a
-/// value.
+/// It is `Fault` where a read failed, and `NoMemory` where there was no memory for a block, a record, a note, a key or
+/// a value.
 pub fn recover<D: Disk>(alloc: Global, disk: &mut D) -> Result<Recovered, RecoverError>
     ensures recovered { IfSome (D.told disk.old) (λ d. IfOk result (HasRecovered d.content)) }
     ensures worked { OnOk result (D.faults disk.new ≡ D.faults disk.old) }

@@ -1,4 +1,5 @@
--- The register in which a CRC-32C is computed: the remainder of the long division as a number, whose lowest bit is the coefficient of the highest power.
+-- The register in which a CRC-32C is computed: the remainder of the long division as a number, whose lowest bit is the
+-- coefficient of the highest power.
 use Rattle.std.specs.Prelude.{ℕ, zero, suc, ◌*◌, ◌/◌, ◌%◌, Bool, true, false, fold}
 use Rattle.std.specs.Int.Bits.{bit_xor}
 use Rattle.wp_model.specs.Checksum.{low_bits}
@@ -17,7 +18,8 @@ abbrev pub highest : Bool → ℕ
 highest true = 0x80000000
 highest false = 0
 
--- one step of the division: the register without its leading coefficient, less the divisor where that stands, and the next coefficient at the low power
+-- one step of the division: the register without its leading coefficient, less the divisor where that stands, and the
+-- next coefficient at the low power
 unfoldable pub step : ℕ → Bool → ℕ
 step n b = bit_xor (bit_xor (n / 2) (n % 2 * low_divisor)) (highest b)
 

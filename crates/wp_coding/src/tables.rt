@@ -1,8 +1,8 @@
 //! The tables of CRC-32C for each byte with none up to seven more after it.
 //!
-//! `TABLE_k` has what eight steps of the division make of each byte at the low end of the register, and eight steps more
-//! for each of the k bytes after it. The register has the coefficient of the highest power as its lowest bit, so the
-//! divisor stands in it as 0x82F63B78.
+//! `TABLE_k` has what eight steps of the division make of each byte at the low end of the register, and eight steps
+//! more for each of the k bytes after it. The register has the coefficient of the highest power as its lowest bit, so
+//! the divisor stands in it as 0x82F63B78.
 
 pub static TABLE_0: [u32; 256] = [
     0x00000000, 0xf26b8303, 0xe13b70f7, 0x1350f3f4, 0xc79a971f, 0x35f1141c, 0x26a1e7e8, 0xd4ca64eb,

@@ -1,8 +1,8 @@
 -- What a disk in memory tells of the times before its last sync.
 --
 -- An era is the time between two syncs that changed something. In it some bytes were safe, and writes came so far; what
--- a crash might have left at its end covers what it might have left earlier in it. Content is only added to, so the safe
--- bytes of each era are a prefix of the content now.
+-- a crash might have left at its end covers what it might have left earlier in it. Content is only added to, so the
+-- safe bytes of each era are a prefix of the content now.
 use Rattle.std.specs.Prelude.{◌⊎◌, ℕ, ◌+◌, Bool, true, false, List, [], ◌∷◌, length}
 use Rattle.wp_edge.specs.Disk.{Disk, IsImage}
 use Rattle.wp_edge.specs.declared.mem_disk.Era.{Era}

@@ -12,23 +12,23 @@ use std::rt::Files;
 
 /// A file of the system as a disk. It tells nothing of its content. Each error of the system is a fault.
 ///
-/// Making one touches nothing. The first `len`, `read` or `sync` opens the file for reading, and the first `append` opens
-/// it for writing, and makes it where there is none. So a file that may only be read can be read, and no file is made
-/// before something is appended. Where there is no file `len` answers 0, `sync` has nothing to do, and `read` fails. A call
-/// that couldn't open it fails, and the next one tries again.
+/// Making one touches nothing. The first `len`, `read` or `sync` opens the file for reading, and the first `append`
+/// opens it for writing, and makes it where there is none. So a file that may only be read can be read, and no file is
+/// made before something is appended. Where there is no file `len` answers 0, `sync` has nothing to do, and `read`
+/// fails. A call that couldn't open it fails, and the next one tries again.
 ///
 /// It relies on being the only one that writes to the file, and keeps count of its length from the first call on. As it
 /// opens the file for writing it takes the exclusive lock of `flock`, which it keeps until it is dropped, and it fails
-/// where another one has the lock, or where the file hasn't the length any more that was told. A program that doesn't ask
-/// for the lock isn't kept out. An append writes where the content ends, over what a failed one may have left there, in
-/// one call of the system unless that takes a part only.
+/// where another one has the lock, or where the file hasn't the length any more that was told. A program that doesn't
+/// ask for the lock isn't kept out. An append writes where the content ends, over what a failed one may have left
+/// there, in one call of the system unless that takes a part only.
 ///
-/// `sync` is the system's `fdatasync`: it makes the file's bytes and its length safe. The first one also syncs the folder
-/// that the path names, since the file's entry there may be new. Once a sync of the bytes has failed each later one fails
-/// too: the system may have dropped what it couldn't write, and then a sync that works shows nothing.
+/// `sync` is the system's `fdatasync`: it makes the file's bytes and its length safe. The first one also syncs the
+/// folder that the path names, since the file's entry there may be new. Once a sync of the bytes has failed each later
+/// one fails too: the system may have dropped what it couldn't write, and then a sync that works shows nothing.
 ///
-/// It never has the number of a standard stream, also where the caller has closed one: what is meant for the stream can't
-/// come to the file.
+/// It never has the number of a standard stream, also where the caller has closed one: what is meant for the stream
+/// can't come to the file.
 #[derive(Drop)]
 pub struct FileDisk<R: Drop> {
     file: SystemFile<R>,

@@ -21,12 +21,18 @@ pub record Attempt : Type 0 where
 
 -- what grouping sees of it
 abbrev pub item_of : Attempt → Item
-item_of h = record { size = size_of_batch h.records; sync = h.options.sync; no_log = h.options.no_log; no_slowdown = h.options.no_slowdown }
+item_of h = record {
+  size = size_of_batch h.records;
+  sync = h.options.sync;
+  no_log = h.options.no_log;
+  no_slowdown = h.options.no_slowdown;
+}
 
 -- a client's commits, with one more where it came to a leader's hand
 abbrev pub with_attempt : List Attempt → List Record → WriteOptions → Option WriteStatus → List Attempt
 with_attempt attempts records how None = attempts
-with_attempt attempts records how (Some status) = attempts ++ record { records = records; options = how; status = status } ∷ []
+with_attempt attempts records how (Some status) =
+    attempts ++ record { records = records; options = how; status = status } ∷ []
 
 abbrev pub is_faulted : WriteStatus → Bool
 is_faulted (faulted count) = true

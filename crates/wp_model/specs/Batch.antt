@@ -83,34 +83,40 @@ pub record IsBatch (bytes : List ℕ) (sequence : ℕ) (records : List Record) :
 abbrev pub size_of_batch : List Record → ℕ
 size_of_batch records = length (batch 0 records)
 
--- The bytes of a group's one log record, a batch too: a header of the first sequence and the sum of the counts, then the members' bodies.
+-- The bytes of a group's one log record, a batch too: a header of the first sequence and the sum of the counts, then
+-- the members' bodies.
 abbrev pub group_record : ℕ → List (List Record) → List ℕ
 group_record first members = batch first (flat_map (λ records. records) members)
 
 -- no varstring stands in front of these bytes, and why: its length doesn't read, or passes the end
 abbrev pub NoVarstring : List ℕ → BatchError → Type 0
-NoVarstring bytes Short = IsCodeError bytes code.Short ⊎ ((n : ℕ) × (used : ℕ) × BeginsVarint bytes n used × (length bytes < used + n))
+NoVarstring bytes Short = IsCodeError bytes code.Short
+    ⊎ ((n : ℕ) × (used : ℕ) × BeginsVarint bytes n used × (length bytes < used + n))
 NoVarstring bytes BadVarint = IsCodeError bytes code.NotShortest ⊎ IsCodeError bytes code.TooLong
 NoVarstring bytes (Tag t) = ⊥
 NoVarstring bytes (Count said found) = ⊥
 
 -- of the n varstrings that should stand in front of these bytes, some do, and the next doesn't
 abbrev pub StringsBreak : ℕ → List ℕ → BatchError → Type 0
-StringsBreak n bytes error = (whole : List (List ℕ)) × (rest : List ℕ) × (length whole < n) × AllByRecursion (λ s. length s < 2 ^ 32) whole
+StringsBreak n bytes error = (whole : List (List ℕ)) × (rest : List ℕ) × (length whole < n)
+    × AllByRecursion (λ s. length s < 2 ^ 32) whole
     × (bytes ≡ flat_map varstring whole ++ rest) × NoVarstring rest error
 
 -- no record stands in front of these bytes, and why
 abbrev pub NoRecord : List ℕ → BatchError → Type 0
 NoRecord [] error = ⊥
-NoRecord (t ∷ bytes) error = (IsTrue (is_tag t) × StringsBreak (strings_after t) bytes error) ⊎ ((is_tag t ≡ false) × (error ≡ Tag t))
+NoRecord (t ∷ bytes) error = (IsTrue (is_tag t) × StringsBreak (strings_after t) bytes error)
+    ⊎ ((is_tag t ≡ false) × (error ≡ Tag t))
 
 -- why bytes are no batch
 pub data IsBatchError (bytes : List ℕ) : BatchError → Type 0 where
   -- fewer bytes than a header
   no_header : length bytes < 12 → IsBatchError bytes Short
   -- records, and then none
-  no_record : {error : BatchError} (records : List Record) (rest : List ℕ) → 12 ≤ length bytes → AllByRecursion IsReadable records
+  no_record : {error : BatchError} (records : List Record) (rest : List ℕ) → 12 ≤ length bytes
+      → AllByRecursion IsReadable records
       → drop 12 bytes ≡ body records ++ rest → NoRecord rest error → IsBatchError bytes error
   -- another count than the header says
   wrong_count : {said : ℕ} (records : List Record) → 12 ≤ length bytes → AllByRecursion IsReadable records
-      → drop 12 bytes ≡ body records → said ≡ from_le_bytes w32 (take 4 (drop 8 bytes)) → said ≢ count_of records → IsBatchError bytes (Count said (count_of records))
+      → drop 12 bytes ≡ body records → said ≡ from_le_bytes w32 (take 4 (drop 8 bytes)) → said ≢ count_of records
+      → IsBatchError bytes (Count said (count_of records))

@@ -71,8 +71,8 @@ generated seed clients batches =
 abbrev pub number_line : List ℕ → ℕ → List ℕ
 number_line word n = line (word ∷ decimal n ∷ [])
 
--- What is printed of its outcome: clients, accepted batches, counted records, the last sequence, the keys, and the sum of their values as numbers.
--- Since no key is of two clients, it is the same for every order of their batches.
+-- What is printed of its outcome: clients, accepted batches, counted records, the last sequence, the keys, and the sum
+-- of their values as numbers. Since no key is of two clients, it is the same for every order of their batches.
 abbrev pub summary_text : Outcome → List ℕ
 summary_text o =
     number_line (codes "clients") (length o.transcripts) ++ number_line (codes "batches") (length o.history)

@@ -10,7 +10,8 @@ use Rattle.wp_model.specs.Map.{Pairs, after_records}
 abbrev pub max_sequence : ℕ
 max_sequence = 2 ^ 56 - 1
 
--- an accepted batch: whose it is, the how many-th of that client's (from 1), its run, how it was committed, and its records
+-- an accepted batch: whose it is, the how many-th of that client's (from 1), its run, how it was committed, and its
+-- records
 pub record Entry : Type 0 where
   pub client : ℕ
   pub ordinal : ℕ

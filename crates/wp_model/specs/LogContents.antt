@@ -37,6 +37,7 @@ pub record GroupCall : Type 0 where
 abbrev pub record_of_call : GroupCall → List ℕ
 record_of_call c = group_record c.first c.batches
 
--- An image that is longer than this text, and than what could be reached before the text was written, begins with the text.
+-- An image that is longer than this text, and than what could be reached before the text was written, begins with the
+-- text.
 abbrev pub HoldsUpTo : ℕ → List ℕ → List ℕ → Type 0
 HoldsUpTo reached t image = length t < length image → reached < length image → take (length t) image ≡ t

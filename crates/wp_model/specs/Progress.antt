@@ -28,7 +28,15 @@ fresh = record { pending = []; mine = []; asked = []; attempts = []; seen_up_to 
 
 -- a client's next entry
 abbrev pub next_entry : ℕ → List Entry → WriteOptions → ℕ → List Record → Entry
-next_entry client mine how first records = record { client = client; ordinal = 1 + length mine; first = first; count = count_of records; flag = flag_of how; records = records }
+next_entry client mine how first records =
+    record {
+      client = client;
+      ordinal = 1 + length mine;
+      first = first;
+      count = count_of records;
+      flag = flag_of how;
+      records = records;
+    }
 
 -- Which refusal stands before a batch is linked, if one does: the checks in their order
 abbrev pub early_refusal : ℕ → Bool → List Record → WriteOptions → Option Refusal

@@ -155,10 +155,12 @@ client_forms =
 abbrev pub whole_forms : List CommandForm
 whole_forms = client_forms ++ token_forms
 
--- the words of a line, by the form whose word stands first; a first word that is no command is found before the others are looked at
+-- the words of a line, by the form whose word stands first; a first word that is no command is found before the others
+-- are looked at
 abbrev pub by_form : List CommandForm → List ℕ → List (List ℕ) → Read Line
 by_form [] w ws = Err Word
-by_form (f ∷ fs) w ws = if bytes_eq w f.word then (if list_all is_word ws then f.rest ws else Err Form) else by_form fs w ws
+by_form (f ∷ fs) w ws = if bytes_eq w f.word then (if list_all is_word ws then f.rest ws else Err Form)
+    else by_form fs w ws
 
 abbrev pub by_words : List CommandForm → List (List ℕ) → Read Line
 by_words fs [] = Err Word
@@ -219,7 +221,8 @@ at_line n (Err kind) = Err (record { line = n; kind = kind })
 -- a numbered line behind others
 abbrev pub after_line : Grammar → Result Script Fault → ℕ × List ℕ → Result Script Fault
 after_line g (Err fault) l = Err fault
-after_line g (Ok script) l = if is_passed_over l.1 then Ok script else at_line l.0 (line_of g.forms l.1 >>= with_line g.client_limit script)
+after_line g (Ok script) l = if is_passed_over l.1 then Ok script
+    else at_line l.0 (line_of g.forms l.1 >>= with_line g.client_limit script)
 
 abbrev pub lines_read : Grammar → List ℕ → Result Script Fault
 lines_read g text = fold (after_line g) (Ok []) (enumerate_from 1 (lines_of text))
@@ -232,7 +235,8 @@ with_client (Ok (cs ∷ rest)) = Ok (cs ∷ rest)
 
 -- What a script says, or its first fault; before all a text that is too long.
 abbrev pub script_of : Grammar → List ℕ → Result Script Fault
-script_of g text = if nat_lt g.text_limit (length text) then Err (record { line = 0; kind = Long }) else with_client (lines_read g text)
+script_of g text = if nat_lt g.text_limit (length text) then Err (record { line = 0; kind = Long })
+    else with_client (lines_read g text)
 
 -- the word of each kind of fault
 abbrev pub fault_word : ScriptFault → List ℕ

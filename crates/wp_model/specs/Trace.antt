@@ -19,8 +19,8 @@ pub record Begins (v w : Trace) : Type 0 where
   pub entries : IsPrefix v.entries w.entries
   pub controller_calls : IsPrefix v.controller_calls w.controller_calls
 
--- How a run was set up: the sequence before the first batch, the number of clients, the limits on a group's bytes and on a batch's, and the count
--- of faults of the log's disk at opening
+-- How a run was set up: the sequence before the first batch, the number of clients, the limits on a group's bytes and
+-- on a batch's, and the count of faults of the log's disk at opening
 pub record Settings : Type 0 where
   pub start : ℕ
   pub clients : ℕ

@@ -1,4 +1,5 @@
-//! What the crates above promise, as definitions: see `specs/`. The Rust side has only the plain values that the definitions name.
+//! What the crates above promise, as definitions: see `specs/`. The Rust side has only the plain values that the
+//! definitions name.
 #![tactic(auto)]
 
 mod batch;

@@ -14,7 +14,14 @@ one_client = record { start = 0; clients = 1; group_bytes = 1048576; batch_bytes
 
 -- the client's how many-th batch, at this sequence, of one record
 abbrev pub entry_at : ℕ → ℕ → Record → Entry
-entry_at ordinal first r = record { client = 1; ordinal = ordinal; first = first; count = 1; flag = Log; records = r ∷ [] }
+entry_at ordinal first r = record {
+  client = 1;
+  ordinal = ordinal;
+  first = first;
+  count = 1;
+  flag = Log;
+  records = r ∷ [];
+}
 
 -- a commit that was accepted, a commit that met the log's fault, and a read
 abbrev pub adds : Record → Call
@@ -52,11 +59,19 @@ abbrev pub refused_calls : List Call
 refused_calls = adds put_a1 ∷ fails 1 ∷ reads (codes "a") 0 None ∷ []
 
 abbrev pub refused_commit : Outcome
-refused_commit = record { transcripts = refused_calls ∷ []; history = []; last = 0; state = []; log_len = 0; fault = Some 1 }
+refused_commit = record {
+  transcripts = refused_calls ∷ [];
+  history = [];
+  last = 0;
+  state = [];
+  log_len = 0;
+  fault = Some 1;
+}
 
 -- `put a 1`, `commit`, `put b 2`, `commit`, `commit`, `get b`, `get a`
 abbrev pub failing_script : List (List Command)
-failing_script = (add put_a1 ∷ commit plain ∷ add put_b2 ∷ commit plain ∷ commit plain ∷ get (codes "b") ∷ get (codes "a") ∷ []) ∷ []
+failing_script =
+    (add put_a1 ∷ commit plain ∷ add put_b2 ∷ commit plain ∷ commit plain ∷ get (codes "b") ∷ get (codes "a") ∷ []) ∷ []
 
 -- The first commit is accepted, and the second one meets a fault.
 abbrev pub failing_calls : List Call
@@ -80,7 +95,8 @@ stale_script = (add put_a1 ∷ commit plain ∷ add put_a2 ∷ commit plain ∷ 
 
 -- Both commits are accepted, and the read answers the first value.
 abbrev pub stale_calls : List Call
-stale_calls = adds put_a1 ∷ commits 1 put_a1 ∷ adds put_a2 ∷ commits 2 put_a2 ∷ reads (codes "a") 1 (Some (codes "1")) ∷ []
+stale_calls = adds put_a1 ∷ commits 1 put_a1 ∷ adds put_a2 ∷ commits 2 put_a2 ∷ reads (codes "a") 1 (Some (codes "1"))
+    ∷ []
 
 abbrev pub stale_read : Outcome
 stale_read = record {

@@ -16,7 +16,8 @@ pub fn varints()
     ensures greatest { varint 4294967295 ≡ 0xff ∷ 0xff ∷ 0xff ∷ 0xff ∷ 0x0f ∷ [] }
 {}
 
-/// Batches: the sequence in eight bytes and the count in four, the low ones first, and then the records. A note isn't counted.
+/// Batches: the sequence in eight bytes and the count in four, the low ones first, and then the records. A note isn't
+/// counted.
 pub fn batches()
     ensures one_value { batch 1 (put_a1 ∷ []) ≡ 1 ∷ 0 ∷ 0 ∷ 0 ∷ 0 ∷ 0 ∷ 0 ∷ 0 ∷ 1 ∷ 0 ∷ 0 ∷ 0 ∷ 1 ∷ 1 ∷ 0x61 ∷ 1 ∷ 0x31
         ∷ [] }

@@ -23,7 +23,8 @@ pub fn first_batch()
 pub fn summary()
     ensures of_one_batch { summary_text (record {
       transcripts = [] ∷ [];
-      history = record { client = 1; ordinal = 1; first = 1; count = 2; flag = Log; records = put_a1 ∷ put_b2 ∷ [] } ∷ [];
+      history = record { client = 1; ordinal = 1; first = 1; count = 2; flag = Log; records = put_a1 ∷ put_b2 ∷ [] }
+          ∷ [];
       last = 2;
       state = (codes "a", codes "1") ∷ (codes "b", codes "22") ∷ [];
       log_len = 0;

@@ -1,4 +1,5 @@
-//! Worked examples on the definitions of `wp_model`: each function is a law that has no code, and its clauses give the values that the formats ask for.
+//! Worked examples on the definitions of `wp_model`: each function is a law that has no code, and its clauses give the
+//! values that the formats ask for.
 #![tactic(auto)]
 
 mod bytes;

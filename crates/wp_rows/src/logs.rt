@@ -6,7 +6,8 @@ ghost use Rattle.wp_model.specs.Log.{text, first, middle, last, full, parts_of, 
 ghost use Rattle.wp_model.specs.Text.{hex};
 ghost use Rattle.wp_rows.specs.Examples.{put_a1};
 
-/// The log of the batch of `put a 1`: a header of seven bytes, in which the length 17 and the type 1 stand behind the checksum, and the batch.
+/// The log of the batch of `put a 1`: a header of seven bytes, in which the length 17 and the type 1 stand behind the
+/// checksum, and the batch.
 pub fn log_of_one_batch()
     ensures bytes { hex (text None (batch 1 (put_a1 ∷ []) ∷ []))
         ≡ codes "e99f78191100010100000000000000010000000101610131" }
@@ -20,7 +21,8 @@ pub fn record_of_no_bytes()
     ensures bytes { text None ([] ∷ []) ≡ 0x05 ∷ 0x2b ∷ 0x28 ∷ 0x43 ∷ 0x00 ∷ 0x00 ∷ 0x01 ∷ [] }
 {}
 
-/// A record of five bytes where seven bytes are left of a block begins there, with a first part of none. Where six are left, they are zeros.
+/// A record of five bytes where seven bytes are left of a block begins there, with a first part of none. Where six are
+/// left, they are zeros.
 pub fn end_of_block()
     ensures parts_at_seven { map length (parts_of None 32761 (replicate 5 0)) ≡ 0 ∷ 5 ∷ [] }
     ensures kinds_at_seven { kinds_of (as_fragments (parts_of None 32761 (replicate 5 0))) ≡ first ∷ last ∷ [] }
@@ -30,8 +32,8 @@ pub fn end_of_block()
     ensures kinds_at_six { kinds_of (as_fragments (parts_of None 32762 (replicate 5 0))) ≡ full ∷ [] }
 {}
 
-/// The example of LevelDB's doc/log_format.md: records of 1000, 97270 and 8000 bytes. The second one is in three parts, and leaves six bytes of its
-/// last block.
+/// The example of LevelDB's doc/log_format.md: records of 1000, 97270 and 8000 bytes. The second one is in three parts,
+/// and leaves six bytes of its last block.
 pub fn long_records()
     ensures first_record { map length (parts_of None 0 (replicate 1000 0)) ≡ 1000 ∷ [] }
     ensures parts_of_second { map length (parts_of None 1007 (replicate 97270 0)) ≡ 31754 ∷ 32761 ∷ 32755 ∷ [] }

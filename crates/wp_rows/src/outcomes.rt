@@ -9,7 +9,8 @@ pub fn one_commit()
     ensures legal { IsLegal one_client 0 one_script one_commit }
 {}
 
-/// The log's first write fails: the commit is refused, and the key isn't there. It is no outcome of a log that had no fault.
+/// The log's first write fails: the commit is refused, and the key isn't there. It is no outcome of a log that had no
+/// fault.
 pub fn refused_commit()
     ensures legal { IsLegal one_client 1 one_script refused_commit }
     ensures not_without_fault { IsLegal one_client 0 one_script refused_commit → ⊥ }

@@ -19,7 +19,8 @@ added contents addition = record contents { records = contents.records ++ additi
 abbrev pub size_with : Contents → Record → ℕ
 size_with contents addition = size_of_batch (added contents addition).records
 
--- The bytes are those of a batch of this sequence and this count: of the additions `records`. No other additions have these bytes.
+-- The bytes are those of a batch of this sequence and this count: of the additions `records`. No other additions have
+-- these bytes.
 pub record IsBatch (bytes : List ℕ) (sequence count : ℕ) : Type 0 where
   pub records : List Record
   pub count_is : count ≡ count_of records

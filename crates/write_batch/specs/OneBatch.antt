@@ -14,7 +14,10 @@ same_records bytes sequence count x y =
 pub IsBatch-prop : (bytes : List ℕ) (sequence count : ℕ) → IsProp (IsBatch bytes sequence count)
 IsBatch-prop bytes sequence count x y = λ i. record {
   records = same_records bytes sequence count x y i;
-  count_is = is_prop→PathP (λ j. count ≡ count_of (same_records bytes sequence count x y j)) (λ j. Coded-set coded_ℕ count (count_of (same_records bytes sequence count x y j))) x.count_is y.count_is i;
-  bytes_are = is_prop→PathP (λ j. bytes ≡ header sequence count ++ body (same_records bytes sequence count x y j)) (λ j. Coded-set (coded_list coded_ℕ) bytes (header sequence count ++ body (same_records bytes sequence count x y j))) x.bytes_are y.bytes_are i;
+  count_is = is_prop→PathP (λ j. count ≡ count_of (same_records bytes sequence count x y j))
+      (λ j. Coded-set coded_ℕ count (count_of (same_records bytes sequence count x y j))) x.count_is y.count_is i;
+  bytes_are = is_prop→PathP (λ j. bytes ≡ header sequence count ++ body (same_records bytes sequence count x y j))
+      (λ j. Coded-set (coded_list coded_ℕ) bytes (header sequence count
+      ++ body (same_records bytes sequence count x y j))) x.bytes_are y.bytes_are i;
   fits = le_prop x.fits y.fits i;
 }

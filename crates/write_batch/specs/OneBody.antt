@@ -20,6 +20,8 @@ same_records bytes x y = one_read x.records y.records x.readable y.readable (sym
 pub IsBody-prop : (bytes : List ℕ) → IsProp (IsBody bytes)
 IsBody-prop bytes x y = λ i. record {
   records = same_records bytes x y i;
-  readable = is_prop→PathP (λ j. AllByRecursion IsReadable (same_records bytes x y j)) (λ j. AllByRecursion-prop IsReadable IsReadable-prop (same_records bytes x y j)) x.readable y.readable i;
-  spelled = is_prop→PathP (λ j. bytes ≡ body (same_records bytes x y j)) (λ j. Coded-set (coded_list coded_ℕ) bytes (body (same_records bytes x y j))) x.spelled y.spelled i;
+  readable = is_prop→PathP (λ j. AllByRecursion IsReadable (same_records bytes x y j))
+      (λ j. AllByRecursion-prop IsReadable IsReadable-prop (same_records bytes x y j)) x.readable y.readable i;
+  spelled = is_prop→PathP (λ j. bytes ≡ body (same_records bytes x y j))
+      (λ j. Coded-set (coded_list coded_ℕ) bytes (body (same_records bytes x y j))) x.spelled y.spelled i;
 }

@@ -1,5 +1,5 @@
-//! The bytes of a record in a batch: a tag, and one or two strings, each behind its length. The tags are those of RocksDB's
-//! db/dbformat.h, `ValueType`.
+//! The bytes of a record in a batch: a tag, and one or two strings, each behind its length. The tags are those of
+//! RocksDB's db/dbformat.h, `ValueType`.
 
 ghost use Rattle.std.specs.Prelude.{◌≡◌, ◌<◌, ◌^◌, ◌-◌, ◌+◌, ◌∷◌, ◌++◌, length, take, min, OnOk, OnErr};
 ghost use Rattle.wp_model.specs.Batch as model;

@@ -44,4 +44,5 @@ abbrev pub table_len : Bool → List ℕ → LogPhase → ℕ → ℕ
 table_len pipelined second log in_hand = if pipelined then first_len second else (if is_in_log log then in_hand else 0)
 
 abbrev pub table_part : {A : Type 0} → Bool → ℕ → List ℕ → LogPhase → ℕ → List A → List A
-table_part pipelined in_second second log in_hand xs = take (table_len pipelined second log in_hand) (drop (table_start pipelined in_second) xs)
+table_part pipelined in_second second log in_hand xs =
+    take (table_len pipelined second log in_hand) (drop (table_start pipelined in_second) xs)

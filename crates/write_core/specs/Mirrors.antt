@@ -39,10 +39,12 @@ pub record IsClient (plan : ClientPlan) (seat : Seat) (client : core.Client) : T
 pub record AreClients (plans : List ClientPlan) (seats : List Seat) (clients : List core.Client) : Type 0 where
   pub plan_each : length plans ≡ length clients
   pub seat_each : length seats ≡ length clients
-  pub each : (i : ℕ) (plan : ClientPlan) (seat : Seat) (client : core.Client) → slice_get plans i ≡ Some plan → slice_get seats i ≡ Some seat → slice_get clients i ≡ Some client → IsClient plan seat client
+  pub each : (i : ℕ) (plan : ClientPlan) (seat : Seat) (client : core.Client) → slice_get plans i ≡ Some plan
+      → slice_get seats i ≡ Some seat → slice_get clients i ≡ Some client → IsClient plan seat client
 
 -- Those that wait: the second queue's groups, the group in hand, the queue
-pub record IsLine (ws : List core.Writer) (second : List ℕ) (in_second in_hand : ℕ) (log : LogPhase) (s : core.State) : Type 0 where
+pub record IsLine (ws : List core.Writer) (second : List ℕ) (in_second in_hand : ℕ) (log : LogPhase) (s : core.State) :
+    Type 0 where
   pub second_sum : in_second ≡ total second
   pub second_groups : s.second ≡ cut second ws
   pub hand : s.log ≡ shown_log log (take in_hand (drop in_second ws))
@@ -57,7 +59,8 @@ pub record IsClientOf (plans : ℕ) (w : Writer) : Type 0 where
 -- what is kept with each of them
 pub record AreWriters (plans : List ClientPlan) (linked : List Writer) (items : List Item) : Type 0 where
   pub items_are : items ≡ map (λ w. core.item_of (shown_writer plans w)) linked
-  pub counts_are : map (λ (w : Writer). w.count) linked ≡ map (λ (w : Writer). count_of (records_of plans w.client w.batch)) linked
+  pub counts_are : map (λ (w : Writer). w.count) linked
+      ≡ map (λ (w : Writer). count_of (records_of plans w.client w.batch)) linked
   pub known : AllByRecursion (IsClientOf (length plans)) linked
 
 -- The table
@@ -73,7 +76,8 @@ pub record IsLaunched (marks : List Mark) (last_finished : Option ℕ) (ins fin 
 abbrev pub IsTable : TablePhase → List Mark → Option ℕ → core.TablePhase → Type 0
 IsTable table.Still marks last t = t ≡ core.still
 IsTable table.Published marks last t = t ≡ core.published
-IsTable table.Launched marks last t = (ins : List ℕ) × (fin : List ℕ) × (t ≡ core.launched ins fin) × IsLaunched marks last ins fin
+IsTable table.Launched marks last t = (ins : List ℕ) × (fin : List ℕ) × (t ≡ core.launched ins fin)
+    × IsLaunched marks last ins fin
 
 -- those that have left, found by their client's number
 abbrev pub done_of : List (Option Writer) → ℕ → Option Writer
@@ -81,7 +85,8 @@ done_of left zero = None
 done_of left (suc c) = slice_index_or left c None
 
 abbrev pub AreDone : List ClientPlan → List (Option Writer) → List core.Writer → Type 0
-AreDone plans left leaving = (c : ℕ) → find (λ (w : core.Writer). w.client == c) leaving ≡ option_map (shown_writer plans) (done_of left c)
+AreDone plans left leaving = (c : ℕ)
+    → find (λ (w : core.Writer). w.client == c) leaving ≡ option_map (shown_writer plans) (done_of left c)
 
 -- Room: what each vector may still come to have
 
@@ -101,7 +106,8 @@ pub record HasRoom (r : State) (left : ℕ) : Type 0 where
   pub linked : vec_len r.linked + left ≤ vec_capacity r.linked
   pub items : vec_len r.linked + left ≤ vec_capacity r.items
   pub second : vec_len r.second + vec_len r.linked + left ≤ vec_capacity r.second + r.in_second
-  pub entries : vec_len r.entries + vec_len r.linked + left ≤ vec_capacity r.entries + r.in_second + answered r.log r.in_hand
+  pub entries : vec_len r.entries + vec_len r.linked + left ≤ vec_capacity r.entries + r.in_second
+      + answered r.log r.in_hand
   pub groups : vec_len r.groups ≤ vec_len r.entries
   pub group_room : vec_capacity r.entries ≤ vec_capacity r.groups
 

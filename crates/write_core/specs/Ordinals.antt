@@ -10,4 +10,5 @@ count_for counts (suc c) = slice_get counts c
 
 -- a client that has a count has so many entries
 abbrev pub AreCounts : List ℕ → List (Entry Lines) → Type 0
-AreCounts counts entries = (c n : ℕ) → count_for counts c ≡ Some n → n ≡ count_by (λ (e : Entry Lines). e.client == c) entries
+AreCounts counts entries = (c n : ℕ) → count_for counts c ≡ Some n
+    → n ≡ count_by (λ (e : Entry Lines). e.client == c) entries

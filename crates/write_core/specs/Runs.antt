@@ -16,9 +16,10 @@ IsCounted plans w = w.count ≡ count_of (records_of plans w.client w.batch)
 abbrev pub unanswered : Writer → Writer
 unanswered w = record { client = w.client; options = w.options; batch = w.batch; count = w.count; answer = None }
 
--- Writers got their runs in order after the sequence `last`. An entry for each that has one went after those in `front`,
--- and `given` is the sequence given last.
-pub record GotRuns (plans : List ClientPlan) (s : core.State) (front : List Entry) (last : ℕ) (old new : List Writer) (entries : List CoreEntry) (given : ℕ) : Type 0 where
+-- Writers got their runs in order after the sequence `last`. An entry for each that has one went after those in
+-- `front`, and `given` is the sequence given last.
+pub record GotRuns (plans : List ClientPlan) (s : core.State) (front : List Entry) (last : ℕ) (old new : List Writer)
+    (entries : List CoreEntry) (given : ℕ) : Type 0 where
   pub runs : map (shown_writer plans) new ≡ core.with_runs last (map (shown_writer plans) old)
   pub listed : map (shown_entry plans) entries ≡ front ++ core.entries_of s (map (shown_writer plans) new)
   pub reached : given ≡ core.last_entry last (core.entries_of s (map (shown_writer plans) new))

@@ -18,7 +18,12 @@ use Rattle.write_core.specs.declared.state.CoreOptions.{CoreOptions}
 use Rattle.write_core.specs.declared.state.State.{State}
 
 abbrev pub options_of : CoreOptions → core.Options
-options_of o = record { pipelined = o.pipelined; group_bytes = o.group_bytes; batch_bytes = o.batch_bytes; start = o.last }
+options_of o = record {
+  pipelined = o.pipelined;
+  group_bytes = o.group_bytes;
+  batch_bytes = o.batch_bytes;
+  start = o.last;
+}
 
 -- the clients' plans, the first that of client 1
 abbrev pub plans_in : State → List ClientPlan

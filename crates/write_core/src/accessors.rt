@@ -36,8 +36,8 @@ impl State {
         &self.seats[place].replies
     }
 
-    /// The batches that were given runs, in the order of their runs. Each is of a client that there is, and of at least one
-    /// record that counts.
+    /// The batches that were given runs, in the order of their runs. Each is of a client that there is, and of at least
+    /// one record that counts.
     pub fn entries(&self) -> &[Entry<Lines>]
         ensures shown { (o : core.Options) (s : core.State) → Shows self.now o s
             → map (shown_entry (plans_in self.now)) result.now ≡ s.entries }

@@ -71,8 +71,8 @@ impl State {
         }
     }
 
-    /// The client's group is built, and the log hasn't failed. Runs are given in order, and a member whose run doesn't fit is
-    /// refused. Where none fits all leave.
+    /// The client's group is built, and the log hasn't failed. Runs are given in order, and a member whose run doesn't
+    /// fit is refused. Where none fits all leave.
     pub(crate) fn log_group(&mut self, client: u32) -> bool
         ensures steps { Steps (λ o s. event.log_group s client s.log) self.old result self.new }
         ensures unchanged { result ≡ false → self.new ≡ self.old }

@@ -15,8 +15,8 @@ use client_calls::{Entry, flag_of, next_run};
 use core_plans::Lines;
 
 /// Gives the writers of a group their runs in order, after the sequence `last`, and an entry to each that has one. A
-/// writer whose run doesn't fit is refused, and later ones that fit get theirs. `counts` are the clients' entries so far.
-/// The result is the sequence given last.
+/// writer whose run doesn't fit is refused, and later ones that fit get theirs. `counts` are the clients' entries so
+/// far. The result is the sequence given last.
 pub(crate) fn give_runs(
     group: &mut [Writer],
     entries: &mut Vec<Entry<Lines>>,

@@ -1,4 +1,5 @@
-//! The program `writepath LOGPATH COMMAND [OPTIONS]`: the top call over a file, the standard streams and the system's clock.
+//! The program `writepath LOGPATH COMMAND [OPTIONS]`: the top call over a file, the standard streams and the system's
+//! clock.
 #![tactic(auto)]
 
 use std::env;

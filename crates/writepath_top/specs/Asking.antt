@@ -15,7 +15,8 @@ default_group_bytes = 1048576
 
 -- to run a script; its groups have no word yet
 abbrev pub AskToRun : List (String Global) → Options → Type 0
-AskToRun words options = (asked_of words ≡ Some (Run options.batch_bytes options.last)) × (options.group_bytes ≡ default_group_bytes)
+AskToRun words options = (asked_of words ≡ Some (Run options.batch_bytes options.last))
+    × (options.group_bytes ≡ default_group_bytes)
 
 -- to say what the log recovers
 abbrev pub AskToRecover : List (String Global) → Type 0

@@ -1,5 +1,5 @@
--- What the command `run` promises: every reply that is printed is that of a plain map at its point of one printed history.
--- Each device tells its bytes, or it doesn't (`None`). What is said of one stands whatever the others tell.
+-- What the command `run` promises: every reply that is printed is that of a plain map at its point of one printed
+-- history. Each device tells its bytes, or it doesn't (`None`). What is said of one stands whatever the others tell.
 use Rattle.std.specs.Prelude.{◌≡◌, ◌⊎◌, ℕ, List, Option, Some, None, Ok, IfSome, IsSome, take, slice_get}
 use Rattle.std.specs.List.{AllByRecursion}
 use Rattle.std.specs.Io.KnownBytes.{Appends}
@@ -18,8 +18,8 @@ use Rattle.run_model.specs.Refusals.{AreRefusedForThemselves}
 use Rattle.printed_text.specs.Refusals.{disk_fault}
 use Rattle.writepath_top.specs.Texts.{SaysTo}
 
--- A legal outcome of a run. Where the disk tells its bytes the run found the log empty and left the batches of this outcome there, and a crash at any
--- moment of it leaves a prefix of them to recover.
+-- A legal outcome of a run. Where the disk tells its bytes the run found the log empty and left the batches of this
+-- outcome there, and a crash at any moment of it leaves a prefix of them to recover.
 pub record IsOutcome (execution : Execution) (opened ended : Option Disk) (o : calls.Outcome) : Type 0 where
   pub legal : IsLegalOf execution o
   pub log : Told opened ended (LeavesSafeLog execution o)
@@ -44,14 +44,16 @@ pub record Observed : Type 1 where
   pub ended : Option Disk
   pub execution : Script → Execution
 
-abbrev pub observed : {S D K : Type 0} → source.Ghosts S → disk.Ghosts D → sink.Ghosts K → Options → S → D → D → K → K → Observed
+abbrev pub observed : {S D K : Type 0} → source.Ghosts S → disk.Ghosts D → sink.Ghosts K → Options → S → D → D → K → K
+    → Observed
 observed source disk sink options had opened ended before after = record {
   text = source.left had;
   before = sink.taken before;
   after = sink.taken after;
   opened = disk.told opened;
   ended = disk.told ended;
-  execution = λ script. execution_of options script (disk.faults opened) (disk.faults ended) (IsImageSince disk.moment disk.from disk.since opened ended);
+  execution = λ script. execution_of options script (disk.faults opened) (disk.faults ended)
+      (IsImageSince disk.moment disk.from disk.since opened ended);
 }
 
 -- some client's call found no memory

@@ -34,12 +34,14 @@ pub record HasScript (old new : Option (List ℕ)) (s : script.Script) : Type 0 
 -- no script: a fault of the source, another text, or no memory
 abbrev pub IsScriptError : Option (List ℕ) → ℕ → ℕ → ReadError → Type 0
 IsScriptError old before now (Fault count) = IsReached before count now
-IsScriptError old before now (Script line kind) = IfSome old (λ text. model.script_of model.run_grammar text ≡ Err (record { line = line; kind = kind }))
+IsScriptError old before now (Script line kind) =
+    IfSome old (λ text. model.script_of model.run_grammar text ≡ Err (record { line = line; kind = kind }))
 IsScriptError old before now NoMemory = Unit {0}
 
 -- the source had just this script, of one to sixteen clients, and its schedule
 pub record HasSchedule (old new : Option (List ℕ)) (s : Schedule) : Type 0 where
-  pub said : IfSome old (λ text. schedules.schedule_of schedules.clients_grammar schedules.first_event_words text ≡ Ok (schedule_of s))
+  pub said : IfSome old (λ text. schedules.schedule_of schedules.clients_grammar schedules.first_event_words text
+      ≡ Ok (schedule_of s))
   pub ended : IsAtEnd new
   pub clients : (1 ≤ length s.script.clients.items) × (length s.script.clients.items ≤ 16)
   pub fits : FitsBatches s.script
@@ -47,5 +49,7 @@ pub record HasSchedule (old new : Option (List ℕ)) (s : Schedule) : Type 0 whe
 
 abbrev pub IsScheduleError : Option (List ℕ) → ℕ → ℕ → ReadError → Type 0
 IsScheduleError old before now (Fault count) = IsReached before count now
-IsScheduleError old before now (Script line kind) = IfSome old (λ text. schedules.schedule_of schedules.clients_grammar schedules.first_event_words text ≡ Err (record { line = line; kind = kind }))
+IsScheduleError old before now (Script line kind) =
+    IfSome old (λ text. schedules.schedule_of schedules.clients_grammar schedules.first_event_words text
+    ≡ Err (record { line = line; kind = kind }))
 IsScheduleError old before now NoMemory = Unit {0}

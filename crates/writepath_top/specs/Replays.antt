@@ -19,6 +19,7 @@ pub record ReplaysFront (options : Options) (before after text : List ℕ) : Typ
   pub printed : PrintsFront before after (replay_text (replayed_of options schedule))
 
 -- the source's bytes, and the sink's before and after a call, where they are told
-abbrev pub TellsText : Option (List ℕ) → Option (List ℕ) → Option (List ℕ) → (List ℕ → List ℕ → List ℕ → Type 0) → Type 0
+abbrev pub TellsText : Option (List ℕ) → Option (List ℕ) → Option (List ℕ) → (List ℕ → List ℕ → List ℕ → Type 0)
+    → Type 0
 TellsText (Some text) (Some before) (Some after) P = P text before after
 TellsText text before after P = ⊤

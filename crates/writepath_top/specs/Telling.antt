@@ -28,20 +28,25 @@ use Rattle.printed_text.specs.Refusals.{script_fault, source_fault, disk_fault, 
 
 -- the refusal's text was printed, or there was no memory for it and nothing was
 abbrev pub Refuses : Option (List ℕ) → Option (List ℕ) → ℕ → ℕ → List ℕ → Status → Status → Type 0
-Refuses old new failed fails text wanted given = ((given ≡ wanted) × SaysTo old new text failed fails) ⊎ ((given ≡ status.Memory) × (new ≡ old))
+Refuses old new failed fails text wanted given = ((given ≡ wanted) × SaysTo old new text failed fails)
+    ⊎ ((given ≡ status.Memory) × (new ≡ old))
 
 abbrev pub TellsReadError : Option (List ℕ) → Option (List ℕ) → ℕ → ℕ → ReadError → Status → Type 0
-TellsReadError old new failed fails (read.Fault count) given = Refuses old new failed fails (source_fault count) status.Source given
-TellsReadError old new failed fails (read.Script line kind) given = Refuses old new failed fails (script_fault (record { line = line; kind = kind })) status.Script given
+TellsReadError old new failed fails (read.Fault count) given =
+    Refuses old new failed fails (source_fault count) status.Source given
+TellsReadError old new failed fails (read.Script line kind) given =
+    Refuses old new failed fails (script_fault (record { line = line; kind = kind })) status.Script given
 TellsReadError old new failed fails read.NoMemory given = (given ≡ status.Memory) × (new ≡ old)
 
--- The status of an outcome's text. At 0 the sink counted no fault; at 5 it failed, and a front of it was taken; at 3 the log has a fault; at 6 there was no memory for the text,
--- or for a client
+-- The status of an outcome's text. At 0 the sink counted no fault; at 5 it failed, and a front of it was taken; at 3
+-- the log has a fault; at 6 there was no memory for the text, or for a client
 abbrev pub EndsSo : Option (List ℕ) → Option (List ℕ) → ℕ → ℕ → Outcome Pairs → List ℕ → Status → Type 0
-EndsSo old new failed fails shown text status.Done = Appends old new text × (shown.fault ≡ None) × (ran_short shown ≡ false) × (fails ≡ failed)
+EndsSo old new failed fails shown text status.Done = Appends old new text × (shown.fault ≡ None)
+    × (ran_short shown ≡ false) × (fails ≡ failed)
 EndsSo old new failed fails shown text status.Disk = Appends old new text × IsSome shown.fault
 EndsSo old new failed fails shown text status.Sink = Rose failed fails × (n : ℕ) × Appends old new (take n text)
-EndsSo old new failed fails shown text status.Memory = (new ≡ old) ⊎ (Appends old new text × (shown.fault ≡ None) × (ran_short shown ≡ true))
+EndsSo old new failed fails shown text status.Memory = (new ≡ old)
+    ⊎ (Appends old new text × (shown.fault ≡ None) × (ran_short shown ≡ true))
 EndsSo old new failed fails shown text other = ⊥
 
 -- the status of an outcome that was printed whole
@@ -50,11 +55,14 @@ ran_status shown = if is_some shown.fault then status.Disk else if ran_short sho
 
 -- whatever outcome the values show
 abbrev pub TellsOutcome : Option (List ℕ) → Option (List ℕ) → ℕ → ℕ → Outcome Pairs → Status → Type 0
-TellsOutcome old new failed fails shown given = (o : calls.Outcome) → ShowsOutcome shown o → EndsSo old new failed fails shown (model.outcome_text o) given
+TellsOutcome old new failed fails shown given = (o : calls.Outcome) → ShowsOutcome shown o
+    → EndsSo old new failed fails shown (model.outcome_text o) given
 
 abbrev pub TellsEnd : Option (List ℕ) → Option (List ℕ) → ℕ → ℕ → End → Status → Type 0
-TellsEnd old new failed fails (end.DiskFault count) given = Refuses old new failed fails (disk_fault count) status.Disk given
-TellsEnd old new failed fails (end.NotEmpty len) given = Refuses old new failed fails (not_empty len) status.NotEmpty given
+TellsEnd old new failed fails (end.DiskFault count) given =
+    Refuses old new failed fails (disk_fault count) status.Disk given
+TellsEnd old new failed fails (end.NotEmpty len) given =
+    Refuses old new failed fails (not_empty len) status.NotEmpty given
 TellsEnd old new failed fails end.NoMemory given = (given ≡ status.Memory) × (new ≡ old)
 TellsEnd old new failed fails (end.Ran shown) given = TellsOutcome old new failed fails shown given
 
@@ -62,15 +70,19 @@ TellsEnd old new failed fails (end.Ran shown) given = TellsOutcome old new faile
 abbrev pub IsTextOf : Recovered → List ℕ → Type 0
 IsTextOf shown text = (r : recovery.Recovered) → ShowsRecovered shown r → text ≡ model.recovered_text r
 
--- The status of a recovery's text. At 0 the sink counted no fault; at 5 it failed, and a front of it was taken; at 6 there was no memory for it.
+-- The status of a recovery's text. At 0 the sink counted no fault; at 5 it failed, and a front of it was taken; at 6
+-- there was no memory for it.
 abbrev pub ShownEndsSo : Option (List ℕ) → Option (List ℕ) → ℕ → ℕ → Recovered → Status → Type 0
-ShownEndsSo old new failed fails shown status.Done = (text : List ℕ) × IsTextOf shown text × Appends old new text × (fails ≡ failed)
-ShownEndsSo old new failed fails shown status.Sink = Rose failed fails × (text : List ℕ) × IsTextOf shown text × (n : ℕ) × Appends old new (take n text)
+ShownEndsSo old new failed fails shown status.Done = (text : List ℕ) × IsTextOf shown text × Appends old new text
+    × (fails ≡ failed)
+ShownEndsSo old new failed fails shown status.Sink = Rose failed fails × (text : List ℕ) × IsTextOf shown text × (n : ℕ)
+    × Appends old new (take n text)
 ShownEndsSo old new failed fails shown status.Memory = new ≡ old
 ShownEndsSo old new failed fails shown other = ⊥
 
 abbrev pub TellsRecoverError : Option (List ℕ) → Option (List ℕ) → ℕ → ℕ → RecoverError → Status → Type 0
-TellsRecoverError old new failed fails (none.Fault count) given = Refuses old new failed fails (disk_fault count) status.Disk given
+TellsRecoverError old new failed fails (none.Fault count) given =
+    Refuses old new failed fails (disk_fault count) status.Disk given
 TellsRecoverError old new failed fails none.NoMemory given = (given ≡ status.Memory) × (new ≡ old)
 
 abbrev pub TellsRecovery : Option (List ℕ) → Option (List ℕ) → ℕ → ℕ → Result Recovered RecoverError → Status → Type 0
@@ -81,10 +93,13 @@ TellsRecovery old new failed fails (Err why) given = TellsRecoverError old new f
 abbrev pub IsReplayText : Replayed → List ℕ → Type 0
 IsReplayText shown text = (r : core.Replayed) → ShowsReplayed shown r → text ≡ replay_text r
 
--- The status of a schedule's text. At 0 the sink counted no fault; at 5 it failed, and a front of it was taken; at 6 there was no memory for it.
+-- The status of a schedule's text. At 0 the sink counted no fault; at 5 it failed, and a front of it was taken; at 6
+-- there was no memory for it.
 abbrev pub ReplayEndsSo : Option (List ℕ) → Option (List ℕ) → ℕ → ℕ → Replayed → Status → Type 0
-ReplayEndsSo old new failed fails shown status.Done = (text : List ℕ) × IsReplayText shown text × Appends old new text × (fails ≡ failed)
-ReplayEndsSo old new failed fails shown status.Sink = Rose failed fails × (text : List ℕ) × IsReplayText shown text × (n : ℕ) × Appends old new (take n text)
+ReplayEndsSo old new failed fails shown status.Done = (text : List ℕ) × IsReplayText shown text × Appends old new text
+    × (fails ≡ failed)
+ReplayEndsSo old new failed fails shown status.Sink = Rose failed fails × (text : List ℕ) × IsReplayText shown text
+    × (n : ℕ) × Appends old new (take n text)
 ReplayEndsSo old new failed fails shown status.Memory = new ≡ old
 ReplayEndsSo old new failed fails shown other = ⊥
 

@@ -47,11 +47,13 @@ pub struct Ended<D> {
 
 /// Does what the words ask for, over the log on a disk, and prints what came of it to a sink.
 ///
-/// The words are the program's name, a command, and the command's options. `run` reads the script of one client from the source to its end, runs it, and
-/// prints the outcome; the log must be empty. A commit is refused for itself where its batch is empty or larger than `--batch-bytes`, where it is to be
-/// synced without the log, and where no sequences are left for it; else only a fault of the log refuses it. `recover` prints what the log recovers, and
-/// changes nothing. `replay` reads a script of 1 to 16 clients and a schedule of events after it, runs the schedule on the write path's core, and prints
-/// what the clients were told, the history and the published state; it doesn't look at the disk. The disk comes back on every path.
+/// The words are the program's name, a command, and the command's options. `run` reads the script of one client from
+/// the source to its end, runs it, and prints the outcome; the log must be empty. A commit is refused for itself where
+/// its batch is empty or larger than `--batch-bytes`, where it is to be synced without the log, and where no sequences
+/// are left for it; else only a fault of the log refuses it. `recover` prints what the log recovers, and changes
+/// nothing. `replay` reads a script of 1 to 16 clients and a schedule of events after it, runs the schedule on the
+/// write path's core, and prints what the clients were told, the history and the published state; it doesn't look at
+/// the disk. The disk comes back on every path.
 ///
 /// | Option | Commands | Range | Without it | Meaning |
 /// |---|---|---|---|---|

@@ -31,7 +31,13 @@ module _ {Q : Type 0} where
   pays own p (g ∷ gs) = pays own p gs ++ (g.0.by, g.1) ∷ []
 
   abbrev pub grouped : {P : Type 0} → Entry Q → List (Handling Q P) → List (Entry Q) → List (Entry Q) → Lead Q P
-  grouped own seen left group = record { own = own; walk = left ++ (group ++ own ∷ []); group = group; taken = group; seen = seen }
+  grouped own seen left group = record {
+    own = own;
+    walk = left ++ (group ++ own ∷ []);
+    group = group;
+    taken = group;
+    seen = seen;
+  }
 
 -- each code has room above an older writer's number
 abbrev pub CodesFit : List (ℕ × ℕ) → Type 0
@@ -46,53 +52,82 @@ module _ {Q P L M : Type 0} where
 
   -- the client leads, as this writer, and all that was handled before is this
   abbrev pub Chosen : ℕ → Entry Q → List (Handling Q P) → List (Q × P) → Sat Q P L M → Type 0
-  Chosen c own seen mine m = At c (Fresh own seen) mine m × (own.by ≡ c) × (m.1 ≡ (c, Asked own.asked) ∷ (0, Empty) ∷ [])
+  Chosen c own seen mine m = At c (Fresh own seen) mine m × (own.by ≡ c)
+      × (m.1 ≡ (c, Asked own.asked) ∷ (0, Empty) ∷ [])
 
-  -- a leader has the log, which stands for all that was handled before; one that is done has its reply behind those before
-  abbrev pub Becomes : (L → List (Handling Q P) → Type 0) → (List (Handling Q P) → Type 0) → ℕ → Q → List (Q × P) → Role L P → Sat Q P L M → Type 0
-  Becomes stood kept c q mine (LogLeader l) m = (own : Entry Q) × (seen : List (Handling Q P)) × Chosen c own seen mine m × (own.asked ≡ q) × stood l seen × (of c seen ≡ mine)
-  Becomes stood kept c q mine (Done p) m = At c Idle (mine ++ (q, p) ∷ []) m × (m.1 ≡ []) × ((handled : List (Handling Q P)) × kept handled × (of c handled ≡ mine ++ (q, p) ∷ []))
+  -- a leader has the log, which stands for all that was handled before; one that is done has its reply behind those
+  -- before
+  abbrev pub Becomes : (L → List (Handling Q P) → Type 0) → (List (Handling Q P) → Type 0) → ℕ → Q → List (Q × P)
+      → Role L P → Sat Q P L M → Type 0
+  Becomes stood kept c q mine (LogLeader l) m = (own : Entry Q) × (seen : List (Handling Q P))
+      × Chosen c own seen mine m × (own.asked ≡ q) × stood l seen × (of c seen ≡ mine)
+  Becomes stood kept c q mine (Done p) m = At c Idle (mine ++ (q, p) ∷ []) m × (m.1 ≡ [])
+      × ((handled : List (Handling Q P)) × kept handled × (of c handled ≡ mine ++ (q, p) ∷ []))
 
   -- the leader has read the list, from this number on
   abbrev pub HasRead : ℕ → ℕ → ℕ → Sat Q P L M → Type 0
-  HasRead slots c at m = (lead : Lead Q P) × (mine : List (Q × P)) × (x : Entry Q) × (post : List (Entry Q)) × At c (Leading lead) mine m × (lead.walk ≡ x ∷ post) × (at ≡ x.by) × (length lead.walk + 1 < slots) × AllBelow slots lead.walk
+  HasRead slots c at m = (lead : Lead Q P) × (mine : List (Q × P)) × (x : Entry Q) × (post : List (Entry Q))
+      × At c (Leading lead) mine m × (lead.walk ≡ x ∷ post) × (at ≡ x.by) × (length lead.walk + 1 < slots)
+      × AllBelow slots lead.walk
 
   -- x is the oldest writer whose request the leader does not have
   abbrev pub NextIs : ℕ → Lead Q P → List (Q × P) → List (Entry Q) → Entry Q → Sat Q P L M → Type 0
   NextIs c lead mine pre x m = At c (Leading lead) mine m × (lead.walk ≡ pre ++ x ∷ in_hand lead)
 
   -- the leader has its group, which the bound gives it, and the requests; these were left when it read the list
-  abbrev pub Grouped : (Q → ℕ) → ℕ → ℕ → ℕ → Entry Q → List (Entry Q) → List (Entry Q) → List (Handling Q P) → List (Q × P) → Sat Q P L M → Type 0
-  Grouped code_of n max c own group left seen mine m = At c (Leading (grouped own seen left group)) mine m × (own.by ≡ c) × (0 < c) × Within n group × IsWhole code_of max own group left × (m.1 ≡ blanks (bys group) ((c, Empty) ∷ (0, Empty) ∷ []))
+  abbrev pub Grouped : (Q → ℕ) → ℕ → ℕ → ℕ → Entry Q → List (Entry Q) → List (Entry Q) → List (Handling Q P)
+      → List (Q × P) → Sat Q P L M → Type 0
+  Grouped code_of n max c own group left seen mine m = At c (Leading (grouped own seen left group)) mine m
+      × (own.by ≡ c) × (0 < c) × Within n group × IsWhole code_of max own group left
+      × (m.1 ≡ blanks (bys group) ((c, Empty) ∷ (0, Empty) ∷ []))
 
   -- the leader has its own request alone, and knows its group
   abbrev pub Gathering : (Q → ℕ) → ℕ → ℕ → ℕ → ℕ → Sat Q P L M → List (ℕ × ℕ) → List (ℕ × Q) → Type 0
-  Gathering code_of n max leader c m walk asked = (own : Entry Q) × (group left : List (Entry Q)) × (seen : List (Handling Q P)) × (mine : List (Q × P)) × At c (Leading (building own seen (left ++ (group ++ own ∷ [])) group)) mine m × (own.by ≡ c) × (own.code ≡ leader)
-      × IsWhole code_of max own group left × Within n (left ++ group) × (walk ≡ pairs (left ++ group)) × (asked ≡ (c, own.asked) ∷ []) × (m.1 ≡ (c, Empty) ∷ (0, Empty) ∷ [])
+  Gathering code_of n max leader c m walk asked = (own : Entry Q) × (group left : List (Entry Q))
+      × (seen : List (Handling Q P)) × (mine : List (Q × P))
+      × At c (Leading (building own seen (left ++ (group ++ own ∷ [])) group)) mine m × (own.by ≡ c)
+      × (own.code ≡ leader)
+      × IsWhole code_of max own group left × Within n (left ++ group) × (walk ≡ pairs (left ++ group))
+      × (asked ≡ (c, own.asked) ∷ []) × (m.1 ≡ (c, Empty) ∷ (0, Empty) ∷ [])
 
-  -- the log's slot on top, and then those of the group with its replies; the log stands for what was seen and for these, which give no numbers where there is a second list
-  abbrev pub Ready : (List (Handling Q P) → Type 0) → (List (Handling Q P) → List (Handling Q P) → Type 0) → ℕ → Lead Q P → List (Entry Q × P) → P → Sat Q P L M → Type 0
-  Ready stood flat c lead gs p m = (heads gs ≡ lead.taken) × ((y : Content Q P L M) × (m.1 ≡ (0, y) ∷ slots_of gs ((c, Told p) ∷ []))) × stood (lead.seen ++ all_answers lead.own p gs) × flat lead.seen (lead.seen ++ all_answers lead.own p gs)
+  -- the log's slot on top, and then those of the group with its replies; the log stands for what was seen and for
+  -- these, which give no numbers where there is a second list
+  abbrev pub Ready : (List (Handling Q P) → Type 0) → (List (Handling Q P) → List (Handling Q P) → Type 0) → ℕ
+      → Lead Q P → List (Entry Q × P) → P → Sat Q P L M → Type 0
+  Ready stood flat c lead gs p m = (heads gs ≡ lead.taken)
+      × ((y : Content Q P L M) × (m.1 ≡ (0, y) ∷ slots_of gs ((c, Told p) ∷ [])))
+      × stood (lead.seen ++ all_answers lead.own p gs) × flat lead.seen (lead.seen ++ all_answers lead.own p gs)
 
-  -- the log went back, and the members are to be told; or somebody came after the group, and the leader has read the list anew
-  abbrev pub Leaves : ℕ → Lead Q P → List (Entry Q × P) → P → List (Q × P) → ℕ → ℕ → ℕ → Sat Q P L M → Sat Q P L M → Type 0
-  Leaves c lead gs p mine slots old found m m' = (found ≡ old → At c (Settling (debt gs lead.own p)) mine m' × (m'.1 ≡ slots_of gs ((c, Told p) ∷ []))) × (found ≢ old → Walks slots c lead mine found m m')
+  -- the log went back, and the members are to be told; or somebody came after the group, and the leader has read the
+  -- list anew
+  abbrev pub Leaves : ℕ → Lead Q P → List (Entry Q × P) → P → List (Q × P) → ℕ → ℕ → ℕ → Sat Q P L M → Sat Q P L M
+      → Type 0
+  Leaves c lead gs p mine slots old found m m' =
+      (found ≡ old → At c (Settling (debt gs lead.own p)) mine m' × (m'.1 ≡ slots_of gs ((c, Told p) ∷ [])))
+      × (found ≢ old → Walks slots c lead mine found m m')
 
-module _ {Q P L M : Type 0} (stood : L → List (Handling Q P) → Type 0) (flat : List (Handling Q P) → List (Handling Q P) → Type 0) (c : ℕ) where
+module _ {Q P L M : Type 0} (stood : L → List (Handling Q P) → Type 0) (flat : List (Handling Q P) → List (Handling Q P)
+    → Type 0) (c : ℕ) where
   -- the leader has its whole group, whose newest member is this, with the replies, and the log on top
   abbrev pub MayLeave : ℕ → Sat Q P L M → Type 0
-  MayLeave newest_member m = (lead : Lead Q P) × (mine : List (Q × P)) × (gs : List (Entry Q × P)) × (p : P) × (l : L) × At c (Leading lead) mine m
-      × (newest_member ≡ newest (in_hand lead)) × (lead.taken ≡ lead.group) × Ready (stood l) flat c lead gs p m × (m.1 ≡ (0, Log l) ∷ slots_of gs ((c, Told p) ∷ []))
+  MayLeave newest_member m = (lead : Lead Q P) × (mine : List (Q × P)) × (gs : List (Entry Q × P)) × (p : P) × (l : L)
+      × At c (Leading lead) mine m
+      × (newest_member ≡ newest (in_hand lead)) × (lead.taken ≡ lead.group) × Ready (stood l) flat c lead gs p m
+      × (m.1 ≡ (0, Log l) ∷ slots_of gs ((c, Told p) ∷ []))
 
   -- the same, where the writer next comes after its group
   abbrev pub MayWake : ℕ → ℕ → Sat Q P L M → Type 0
-  MayWake next code m = (lead : Lead Q P) × (mine : List (Q × P)) × (pre : List (Entry Q)) × (x : Entry Q) × (gs : List (Entry Q × P)) × (p : P) × (l : L) × NextIs c lead mine pre x m
-      × (x.by ≡ next) × (x.code ≡ code) × (lead.taken ≡ lead.group) × Ready (stood l) flat c lead gs p m × (m.1 ≡ (0, Log l) ∷ slots_of gs ((c, Told p) ∷ []))
+  MayWake next code m = (lead : Lead Q P) × (mine : List (Q × P)) × (pre : List (Entry Q)) × (x : Entry Q)
+      × (gs : List (Entry Q × P)) × (p : P) × (l : L) × NextIs c lead mine pre x m
+      × (x.by ≡ next) × (x.code ≡ code) × (lead.taken ≡ lead.group) × Ready (stood l) flat c lead gs p m
+      × (m.1 ≡ (0, Log l) ∷ slots_of gs ((c, Told p) ∷ []))
 
   -- the same as MayLeave, and the group has so many members
   abbrev pub MayHandOn : ℕ → ℕ → Sat Q P L M → Type 0
-  MayHandOn newest_member count m = (lead : Lead Q P) × (mine : List (Q × P)) × (gs : List (Entry Q × P)) × (p : P) × (l : L) × At c (Leading lead) mine m
-      × (newest_member ≡ newest (in_hand lead)) × (lead.taken ≡ lead.group) × Ready (stood l) flat c lead gs p m × (m.1 ≡ (0, Log l) ∷ slots_of gs ((c, Told p) ∷ [])) × (count ≡ length (in_hand lead))
+  MayHandOn newest_member count m = (lead : Lead Q P) × (mine : List (Q × P)) × (gs : List (Entry Q × P)) × (p : P)
+      × (l : L) × At c (Leading lead) mine m
+      × (newest_member ≡ newest (in_hand lead)) × (lead.taken ≡ lead.group) × Ready (stood l) flat c lead gs p m
+      × (m.1 ≡ (0, Log l) ∷ slots_of gs ((c, Told p) ∷ [])) × (count ≡ length (in_hand lead))
 
 -- the writers of the clients n, n - 1 and so on, of whom each has done nothing
 module _ {Q P L M : Type 0} (table : TableId) where
@@ -115,4 +150,5 @@ fills (r ∷ rs) = (r.0, Told r.1) ∷ fills rs
 -- each of these clients is a member of the group, beside the leader
 abbrev pub AreMembers : {Q P : Type 0} → ℕ → List ℕ → List (Entry Q × P) → Type 0
 AreMembers n [] gs = Unit {0}
-AreMembers {Q} {P} n (k ∷ ks) gs = ((pre : List (Entry Q × P)) × (y : Entry Q × P) × (post : List (Entry Q × P)) × (gs ≡ pre ++ y ∷ post) × (y.0.by ≡ k) × (0 < k) × (k ≤ n)) × AreMembers n ks gs
+AreMembers {Q} {P} n (k ∷ ks) gs = ((pre : List (Entry Q × P)) × (y : Entry Q × P) × (post : List (Entry Q × P))
+    × (gs ≡ pre ++ y ∷ post) × (y.0.by ≡ k) × (0 < k) × (k ≤ n)) × AreMembers n ks gs

@@ -52,9 +52,11 @@ module _ {Q P L M K : Type 0} where
   piped_of list = list.table.shared.key.pipelined
 
   -- what the log of this list stands for, with its number
-  abbrev pub law_of : (K → L → List (Handling Q P) → Type 0) → (K → List (Handling Q P) → Type 0) → (L → ℕ) → (P → ℕ × ℕ)
+  abbrev pub law_of : (K → L → List (Handling Q P) → Type 0) → (K → List (Handling Q P) → Type 0) → (L → ℕ)
+      → (P → ℕ × ℕ)
       → WriterList Q P L M K → L → List (Handling Q P) → Type 0
-  law_of stands kept number run list = logs_from (stands (about_of list)) (kept (about_of list)) number run (start_of list)
+  law_of stands kept number run list =
+      logs_from (stands (about_of list)) (kept (about_of list)) number run (start_of list)
 
   -- what holds of all that this list's leaders handle, wherever the log is
   abbrev pub kept_of : (K → List (Handling Q P) → Type 0) → WriterList Q P L M K → List (Handling Q P) → Type 0
@@ -69,7 +71,8 @@ module _ {Q P L M K : Type 0} where
 
   -- it is the list that was asked for, and these are its writers, of whom none has done anything
   abbrev pub HasOpened : Start K → WriterList Q P L M K → List (Writer Q P L M) → Type 0
-  HasOpened start list ws = (clients_of list ≡ start.clients) × (start_of list ≡ start.log) × (about_of list ≡ start.about)
+  HasOpened start list ws = (clients_of list ≡ start.clients) × (start_of list ≡ start.log)
+      × (about_of list ≡ start.about)
       × (right_start_of list ≡ start.right) × (piped_of list ≡ start.pipelined) × AllNew list ws
 
   -- it is a writer of this list
@@ -85,7 +88,8 @@ module _ {Q P L M : Type 0} where
   abbrev pub IsIn : (L → List (Handling Q P) → Type 0) → Q → List (Q × P) → Writer Q P L M → Type 0
   IsIn stood q mine w = IsLinked stood w.client w.leads q mine w.seat.me
 
-  abbrev pub HasRole : (L → List (Handling Q P) → Type 0) → (List (Handling Q P) → Type 0) → Q → List (Q × P) → Role L P → Writer Q P L M → Type 0
+  abbrev pub HasRole : (L → List (Handling Q P) → Type 0) → (List (Handling Q P) → Type 0) → Q → List (Q × P) → Role L P
+      → Writer Q P L M → Type 0
   HasRole stood kept q mine role w = Becomes stood kept w.client q mine role w.seat.me
 
   -- it leads as this writer, and all that was handled before is this
@@ -93,7 +97,8 @@ module _ {Q P L M : Type 0} where
   IsChosen own seen mine w = Chosen w.client own seen mine w.seat.me
 
   -- it has the group that the bound gives it, and the requests; these writers were left
-  abbrev pub HasGroup : (Q → Item) → ℕ → ℕ → Entry Q → List (Entry Q) → List (Entry Q) → List (Handling Q P) → List (Q × P)
+  abbrev pub HasGroup : (Q → Item) → ℕ → ℕ → Entry Q → List (Entry Q) → List (Entry Q) → List (Handling Q P)
+      → List (Q × P)
       → Writer Q P L M → Type 0
   HasGroup item_of n max own group left seen mine w =
       Grouped (code_by item_of) n max w.client own group left seen mine w.seat.me

@@ -35,7 +35,8 @@ impl<Q: Itemized + Drop, P: Given + Drop, L: Ledger<Q, P>, M: Numbered> WriterLi
         requires numbers { (L.number_of log ≡ start.now.log) × (M.number_of right ≡ start.now.right) }
         requires log { L.stands start.now.about log [] × L.kept start.now.about [] }
         ensures ok { IfOk result (λ r. HasOpened start.now r.0 r.1.items
-            × (vec_len r.1 ≡ start.now.clients) × (vec_len r.2 ≡ start.now.clients) × AllReady start.now.clients r.2.items) }
+            × (vec_len r.1 ≡ start.now.clients) × (vec_len r.2 ≡ start.now.clients)
+            × AllReady start.now.clients r.2.items) }
         ensures err { IfErr result (λ e. (e.0 ≡ log) × (e.1 ≡ right)) }
     {
         WriterList::open_as(alloc, start, log, right)
@@ -60,7 +61,8 @@ impl<Q: Itemized + Drop, P: Given + Drop, L: Ledger<Q, P>, M: Numbered> WriterLi
         requires log { L.stands start.now.about log [] × L.kept start.now.about [] }
         requires even { start.now.pipelined ≡ true → start.now.right ≡ start.now.log }
         ensures ok { IfOk result (λ r. HasOpened start.now r.0 r.1.items
-            × (vec_len r.1 ≡ start.now.clients) × (vec_len r.2 ≡ start.now.clients) × AllReady start.now.clients r.2.items) }
+            × (vec_len r.1 ≡ start.now.clients) × (vec_len r.2 ≡ start.now.clients)
+            × AllReady start.now.clients r.2.items) }
         ensures err { IfErr result (λ e. (e.0 ≡ log) × (e.1 ≡ right)) }
     {
         let clients = start.clients;

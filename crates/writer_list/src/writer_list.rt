@@ -13,6 +13,7 @@ pub struct WriterList<Q: Itemized, P: Given, L: Ledger<Q, P>, M: Numbered> {
     pub(crate) table: Table<Content<Q, P, L, M>, View<Q, P>, Start<L::About>, Order, Global>,
     pub(crate) clients: u32,
     pub(crate) bells: Vec<AtomicU64>,
-    ghost sized: { (table.shared.table_id.words ≡ 2 * clients + 4) × (table.shared.table_id.slots ≡ clients + 2) × (table.shared.key.clients ≡ clients) × (clients < 255) },
+    ghost sized: { (table.shared.table_id.words ≡ 2 * clients + 4) × (table.shared.table_id.slots ≡ clients + 2)
+        × (table.shared.key.clients ≡ clients) × (clients < 255) },
     ghost some: { 0 < clients },
 }
