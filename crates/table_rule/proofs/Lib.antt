@@ -10,3 +10,4 @@ pub mod Beginnings
 pub mod Answers
 pub mod Seats
 pub mod Images
+mod CoreLaws

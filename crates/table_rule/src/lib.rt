@@ -46,12 +46,14 @@
 #![tactic(auto)]
 
 mod content;
+mod core_events;
 mod law;
 mod rule;
 mod steps;
 mod view;
 
 pub use content::{Content, MemberVersions, Version};
+pub use core_events::table_and_core;
 pub use law::steps_and_events;
 pub use rule::{AllButFirst, Both, First, TableLaw, Versioned};
 pub use steps::{
