@@ -3,9 +3,9 @@ use Rattle.std.proofs.Common.{◌≡◌, ℕ, ◌+◌, ◌-◌, ◌<◌, ◌≤�
 use Rattle.std.proofs.Math.Seq.{take-append-add, drop-append-add}
 use Rattle.std.proofs.lemmas.Grind.{flat_map-append}
 use Rattle.std.proofs.lemmas.List.Sums.{sum_by-append, sum_by-cons}
-use Rattle.std.proofs.lemmas.List.{take_all}
+use Rattle.std.proofs.lemmas.List.{take_all, append-nil}
 use Rattle.std.specs.List.{flat_map}
-use Rattle.wp_model.specs.Batch.{Record, record_bytes, is_counted, count_of, body, header}
+use Rattle.wp_model.specs.Batch.{Record, record_bytes, is_counted, count_of, body, header, batch}
 use Rattle.write_batch.specs.Contents.{Contents}
 use Rattle.log_writer.specs.Groups.{batches_of, counts_of, bodies_of, record_of_group}
 
@@ -49,3 +49,10 @@ pub record_is : (first : ℕ) (members : List Contents) → header first (counts
 unfolding joined
 record_is first members =
     ap (λ (n : ℕ). header first n ++ bodies_of members) (sym (counts_joined members)) ∙ ap (λ (l : List ℕ). header first (count_of (joined members)) ++ l) (sym (bodies_joined members))
+
+-- the record of one batch that has the sequence is the batch
+pub only_member : (members : List Contents) (m : Contents) (first : ℕ) → length members ≡ 1 → m ≡ get_or members 0 m → m.sequence ≡ first → batch m.sequence m.records ≡ record_of_group first members
+only_member [] m first one e s = absurd (omega (arith, one))
+only_member (x ∷ []) m first one e s =
+    ap (λ (n : ℕ). batch n m.records) s ∙ (ap (λ (c : Contents). batch first c.records) e ∙ ap (batch first) (sym (append-nil x.records)))
+only_member (x ∷ y ∷ ms) m first one e s = absurd (omega (arith, one))

@@ -36,6 +36,7 @@ pub(crate) fn sync_if<D: Disk>(disk: &mut D, sync: bool) -> Result<(), Failed>
 }
 
 /// Puts a fragment together in the block: its header, and a part of so many bytes, which are moved out of the group's.
+/// The checksum is taken of the part where it stands then, since these bytes have just come into the processor's cache.
 fn fill(block: &mut [u8], rest: &mut GroupBytes<'_>, kind: u8, len: usize)
     requires room { length block.old ≡ BLOCK_LEN }
     requires fits { len ≤ MAX_PART_LEN }
@@ -105,6 +106,37 @@ fn put_record<D: Disk>(
     Ok(end)
 }
 
+/// Writes a group's record where the log ends, at this offset, and answers where it ends then. The record of one batch
+/// that has this sequence already is the batch's own bytes.
+fn put_members<D: Disk>(
+    disk: &mut D,
+    block: &mut [u8],
+    offset: u64,
+    first: u64,
+    members: &[Batch],
+) -> Result<u64, Failed>
+    requires room { length block.old ≡ BLOCK_LEN }
+    requires counted { offset ≤ D.added disk.old }
+    requires counts { counts_of members.now < 2 ^ 32 }
+    requires lens { body_lens_of members.now < 2 ^ 63 }
+    ensures put { let text = log.record_text None offset (record_of_group first members.now) in
+        Puts ⟦<D as Disk>⟧ disk.old disk.new text false result }
+    ensures end { let text = log.record_text None offset (record_of_group first members.now) in
+        IfOk result (λ end. end ≡ offset + length text) }
+{
+    if let [only] = members
+        && only.sequence() == first
+    {
+        let bytes = only.bytes();
+        let mut rest = GroupBytes::new(bytes, &[]);
+        return put_record(disk, block, offset, &mut rest, bytes.len());
+    }
+    let header = group_header(first, count_of(members));
+    let len = header.len() + bodies_len(members);
+    let mut rest = GroupBytes::new(&header, members);
+    put_record(disk, block, offset, &mut rest, len)
+}
+
 /// Writes a group's record where the log ends, at this offset, and syncs it if that is asked. The answer is where the
 /// log ends then.
 pub(crate) fn put_group<D: Disk>(
@@ -124,15 +156,7 @@ pub(crate) fn put_group<D: Disk>(
     ensures end { let text = log.record_text None offset (record_of_group first members.now) in
         IfOk result (λ end. end ≡ offset + length text) }
 {
-    let header = group_header(first, count_of(members));
-    let len = header.len() + bodies_len(members);
-    let end = put_record(
-        disk,
-        block,
-        offset,
-        &mut GroupBytes::new(&header, members),
-        len,
-    )?;
+    let end = put_members(disk, block, offset, first, members)?;
     sync_if(disk, sync)?;
     Ok(end)
 }
