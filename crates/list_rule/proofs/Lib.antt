@@ -9,6 +9,7 @@ pub mod Leads
 pub mod Seconds
 pub mod Onward
 pub mod Passes
+pub mod Serves
 pub mod Settles
 pub mod Marks
 pub mod Opens

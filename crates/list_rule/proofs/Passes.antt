@@ -1,5 +1,5 @@
--- The steps of the second list keep the rule.
-use Rattle.std.proofs.Common.{true, ◌≡◌, ◌≢◌, ℕ, ◌+◌, ◌*◌, ◌<◌, ◌≤◌, eqb, List, [], ◌∷◌, ◌++◌, length, get_or, set, refl, sym, ap, ◌∙◌, subst, inl, ⊎_elim, arith, length-set, append-nil, get_or-set_other, get_or-set_same}
+-- The steps with which a group comes into the second list, and to the right, keep the rule.
+use Rattle.std.proofs.Common.{true, ◌≡◌, ◌≢◌, ℕ, ◌+◌, ◌*◌, ◌<◌, ◌≤◌, eqb, List, [], ◌∷◌, ◌++◌, length, get_or, set, refl, sym, ap, ◌∙◌, subst, ⊎_elim, arith, length-set, append-nil, get_or-set_other}
 use mathlib.Core.Logic.{dite}
 use mathlib.Core.Path.{Path}
 use mathlib.Core.Option.{Option, none, some}
@@ -7,7 +7,7 @@ use native.Mathlib.Decide.{ℕ_discrete}
 use lib.ListN.{get_elem?}
 use lib.Seq.{set-get_or}
 use prog.Atomic.{either}
-use Rattle.atomic_table.specs.Table.{step, keeps, takes, gives, stepped, Allows}
+use Rattle.atomic_table.specs.Table.{step, keeps, takes, gives, Allows}
 use Rattle.atomic_table.proofs.Lists.{at_set, set_else, exchanged}
 use Rattle.list_rule.specs.declared.view.Entry.{Entry}
 use Rattle.list_rule.specs.declared.view.Handling.{Handling}
@@ -21,17 +21,14 @@ use Rattle.list_rule.specs.declared.content.Content.{Content}
 use Rattle.list_rule.specs.declared.content.Content.TheVariants.{Right}
 use Rattle.list_rule.specs.declared.view.Stage.{Stage}
 use Rattle.list_rule.specs.declared.view.Stage.TheVariants.{Idle, Preparing, Waiting, Fresh, Leading, Cutting, Marking, Settling, Collecting}
-use Rattle.list_rule.specs.Chain.{state_at, older_at, pack, newest, Links, LinksFrom, Absent, Distinct, Within}
-use Rattle.list_rule.specs.Rule.{Phase, linked, chosen, leads, taken, Mode, open_, waits, led, built, cut, marked, base_of, Holds, InFront, AllOwed, Knows, AllFit, hold_at, InPhase, InMode, Laws, Listed, Place, away, parted, queued, called, serves, Turn, still, calls, held_by, passes, ahead, Two, line_of, flat, In, Behind, KnowsBack, InTurn, Second}
-use Rattle.list_rule.specs.Plays.{Sat, AtWith, ending, debt, aimed_second, joined, summoned, WalksSecond, left_second, traced_second, cleared_second, called_next, kept, peeked, IsCut}
+use Rattle.list_rule.specs.Chain.{state_at, older_at, pack, newest, LinksFrom, Absent}
+use Rattle.list_rule.specs.Rule.{Phase, linked, chosen, leads, Mode, open_, waits, led, built, cut, marked, base_of, Holds, InFront, Knows, AllFit, hold_at, InPhase, InMode, Laws, Listed, Place, away, parted, queued, called, serves, calls, held_by, passes, ahead, Two, line_of, flat, Behind, KnowsBack, InTurn, Second}
+use Rattle.list_rule.specs.Plays.{Sat, AtWith, ending, aimed_second, joined, summoned, kept, peeked, IsCut}
 use Rattle.list_rule.proofs.Chains.{put, put_here, put_else, links_stay, links_same, newest_small}
-use Rattle.list_rule.proofs.Groups.{links_at, walk_bound, absent_append, linked_out, taken_absent}
+use Rattle.list_rule.proofs.Groups.{absent_append, linked_out, taken_absent}
 use Rattle.list_rule.proofs.Enters.{Goes, unmoved}
-use Rattle.list_rule.proofs.Leads.{all_below, middle, same_last, snoc}
-use Rattle.std.proofs.lemmas.List.{append_cancel_right}
 use Rattle.list_rule.proofs.Moves.{St, Homes, row_stays}
-use Rattle.list_rule.proofs.Seconds.{one_serves, flat_snoc, in_one, behind_in, one_ahead, one_holder, second_aims, second_behind, second_alone, second_serves, second_stops, second_clears, second_calls, snoc_some, none_first}
-use Rattle.list_rule.proofs.Keeps.{in_not_away, second_stays}
+use Rattle.list_rule.proofs.Seconds.{one_ahead, one_holder, second_aims, second_behind, second_alone, second_serves, snoc_some, none_first}
 use Rattle.list_rule.proofs.Onward.{back_map, parts_two, parts_else, one_hold_at}
 
 module _ {Q : Type 0} where
@@ -44,36 +41,7 @@ module _ {Q : Type 0} where
   squad_of d (Serving g walk) = g
   squad_of d (Passing g x) = g
 
-  abbrev pub walk_of : List (Entry Q) → Back Q → List (Entry Q)
-  walk_of d Away = d
-  walk_of d (Parting g k) = d
-  walk_of d (Joining g) = d
-  walk_of d (Holding g) = d
-  walk_of d (Queued g) = d
-  walk_of d (Serving g walk) = walk
-  walk_of d (Passing g x) = d
-
-  abbrev next_of : Entry Q → Back Q → Entry Q
-  next_of d Away = d
-  next_of d (Parting g k) = d
-  next_of d (Joining g) = d
-  next_of d (Holding g) = d
-  next_of d (Queued g) = d
-  next_of d (Serving g walk) = d
-  next_of d (Passing g x) = x
-
 module _ {Q P : Type 0} where
-  abbrev pub debt_of : Debt Q P → Stage Q P → Debt Q P
-  debt_of d Idle = d
-  debt_of d (Preparing w) = d
-  debt_of d (Waiting q) = d
-  debt_of d (Fresh o n) = d
-  debt_of d (Leading l) = d
-  debt_of d (Cutting l e) = d
-  debt_of d (Marking l) = d
-  debt_of d (Settling b) = b
-  debt_of d Collecting = d
-
   cut_knows : (line hand : List (Entry Q)) (handled : List (Handling Q P)) (mode : Mode Q) (phase : ℕ → Phase Q P) (due : ℕ → List (Q × P)) (c : ℕ) (lead : Lead Q P) (st : Stage Q P) → IsCut lead st → Knows line hand handled mode phase due c st → Holds c mode × (lead.seen ≡ handled)
   cut_knows line hand handled mode phase due c lead Idle is ok = absurd is
   cut_knows line hand handled mode phase due c lead (Preparing w) is ok = absurd is
@@ -85,10 +53,6 @@ module _ {Q P : Type 0} where
   cut_knows line hand handled mode phase due c lead (Settling b) is ok = absurd is
   cut_knows line hand handled mode phase due c lead Collecting is ok = absurd is
 
-  owed_at : (phase : ℕ → Phase Q P) (due : ℕ → List (Q × P)) (c : ℕ) (pre : List (Entry Q × P)) (y : Entry Q × P) (post : List (Entry Q × P)) → AllOwed phase due c (pre ++ y ∷ post) → phase y.0.by ≡ taken c y.0
-  owed_at phase due c [] y post ok = ok.0
-  owed_at phase due c (g ∷ gs) y post ok = owed_at phase due c gs y post ok.2
-
 module _ {Q : Type 0} where
   behind_called : (g : Squad Q) (p : Place Q) → Behind g p → ((f : Squad Q) → p ≡ queued f → ⊥) → p ≡ called g
   behind_called g away ok un = absurd ok
@@ -97,31 +61,9 @@ module _ {Q : Type 0} where
   behind_called g (called f) ok un = ap called ok
   behind_called g (serves f) ok un = absurd ok
 
-  -- who is told that it is first
-  call_back : (two z : Two Q) (c w : ℕ) (g : Squad Q) → In g (two.place w) → two.turn ≡ passes c w → z.place w ≡ called g → z.lead ≡ two.lead → (y : Back Q) → KnowsBack two w y → KnowsBack z w y
-  call_back two z c w g is_in turn_c here same Away ok = absurd (in_not_away g (two.place w) is_in ok.0)
-  call_back two z c w g is_in turn_c here same (Parting f d) ok = absurd (subst (In g) ok.0 is_in)
-  call_back two z c w g is_in turn_c here same (Joining f) ok = (subst (Behind f) (sym here) (in_one g f (two.place w) is_in (behind_in f (two.place w) ok.0)), same ∙ ok.1)
-  call_back two z c w g is_in turn_c here same (Holding f) ok = let bad : passes c w ≡ held_by w = sym turn_c ∙ ok.0 in absurd (cc)
-  call_back two z c w g is_in turn_c here same (Queued f) ok = (subst (Behind f) (sym here) (in_one g f (two.place w) is_in (behind_in f (two.place w) ok.0)), λ e. ok.1 (sym same ∙ e))
-  call_back two z c w g is_in turn_c here same (Serving f walk) ok = let bad : passes c w ≡ held_by w = sym turn_c ∙ ok.0 in absurd (cc)
-  call_back two z c w g is_in turn_c here same (Passing f x) ok = absurd (in_not_away g (two.place w) is_in ok.1)
-
-abbrev passes_of : ℕ → Turn → ℕ
-passes_of d still = d
-passes_of d (calls k) = d
-passes_of d (held_by k) = k
-passes_of d (passes k w) = k
-
-same_turn : (a b : ℕ) → held_by a ≡ held_by b → a ≡ b
-same_turn a b e = ap (passes_of a) e
-
-same_pass : (a b v w : ℕ) → passes a v ≡ passes b w → a ≡ b
-same_pass a b v w e = ap (passes_of a) e
-
 module _ {Q P L M : Type 0} (stands : Laws Q P L M) (n : ℕ) where
   -- only the log's slot matters to the mode
-  home_stays : (homes hs : Homes stands n) (line hand : List (Entry Q)) (handled : List (Handling Q P)) (phase : ℕ → Phase Q P) (due : ℕ → List (Q × P)) → get_elem? hs 0 ≡ get_elem? homes 0 → (mode : Mode Q) → InMode stands n homes line hand handled phase due mode → InMode stands n hs line hand handled phase due mode
+  pub home_stays : (homes hs : Homes stands n) (line hand : List (Entry Q)) (handled : List (Handling Q P)) (phase : ℕ → Phase Q P) (due : ℕ → List (Q × P)) → get_elem? hs 0 ≡ get_elem? homes 0 → (mode : Mode Q) → InMode stands n homes line hand handled phase due mode → InMode stands n hs line hand handled phase due mode
   home_stays homes hs line hand handled phase due same open_ ok = (ok.0, ok.1, (ok.2.0, same ∙ ok.2.1, ok.2.2))
   home_stays homes hs line hand handled phase due same (waits c) ok = (ok.0, ok.1, (ok.2.0, same ∙ ok.2.1, ok.2.2))
   home_stays homes hs line hand handled phase due same (led c) ok = ok
@@ -130,7 +72,7 @@ module _ {Q P L M : Type 0} (stands : Laws Q P L M) (n : ℕ) where
   home_stays homes hs line hand handled phase due same (marked c) ok = ok
 
   -- a leader whose entry is not in front is not in the first list
-  out_of_line : (homes : Homes stands n) (line hand : List (Entry Q)) (handled : List (Handling Q P)) (phase : ℕ → Phase Q P) (due : ℕ → List (Q × P)) (k : ℕ) (x : Entry Q) → phase k ≡ leads x → (mode : Mode Q) → (InFront k mode → ⊥) → InMode stands n homes line hand handled phase due mode → Absent k line
+  pub out_of_line : (homes : Homes stands n) (line hand : List (Entry Q)) (handled : List (Handling Q P)) (phase : ℕ → Phase Q P) (due : ℕ → List (Q × P)) (k : ℕ) (x : Entry Q) → phase k ≡ leads x → (mode : Mode Q) → (InFront k mode → ⊥) → InMode stands n homes line hand handled phase due mode → Absent k line
   out_of_line homes line hand handled phase due k x now open_ un ok = subst (Absent k) (sym ok.0) tt
   out_of_line homes line hand handled phase due k x now (waits c) un ok =
       subst (Absent k) (sym ok.0.2) (absent_append k ok.0.0 (ok.0.1 ∷ []) (linked_out phase k ok.0.0 (λ e bad. absurd (cc)) ok.0.3) ((λ e. let bad : phase k ≡ chosen ok.0.1 = ap phase (sym e ∙ ok.0.5) ∙ ok.0.4 in absurd (cc)), tt))
@@ -144,16 +86,8 @@ module _ {Q P L M : Type 0} (stands : Laws Q P L M) (n : ℕ) where
   out_of_line homes line hand handled phase due k x now (marked c) un ok = linked_out phase k line (λ e bad. absurd (cc)) ok.0
 
   -- who settles has not the log
-  no_log : (homes : Homes stands n) (line hand : List (Entry Q)) (handled : List (Handling Q P)) (phase : ℕ → Phase Q P) (due : ℕ → List (Q × P)) (k : ℕ) (y : Q × P) → due k ≡ y ∷ [] → (mode : Mode Q) → InMode stands n homes line hand handled phase due mode → Holds k mode → ⊥
-  no_log homes line hand handled phase due k y owed open_ ok h = h
-  no_log homes line hand handled phase due k y owed (waits c) ok h = h
-  no_log homes line hand handled phase due k y owed (led c) ok h = let nil : due k ≡ [] = ap due (sym h) ∙ ok.2 in absurd (cc)
-  no_log homes line hand handled phase due k y owed (built c g) ok h = let nil : due k ≡ [] = ap due (sym h) ∙ ok.2 in absurd (cc)
-  no_log homes line hand handled phase due k y owed (cut c w) ok h = let nil : due k ≡ [] = ap due (sym h) ∙ ok.2 in absurd (cc)
-  no_log homes line hand handled phase due k y owed (marked c) ok h = let nil : due k ≡ [] = ap due (sym h) ∙ ok.3 in absurd (cc)
-
   -- the seat id, of one client, takes a step in the second list alone
-  record Pass (s : St stands n) (r : Listed stands n s) (id : ℕ) (ws : List ℕ) (hs : Homes stands n) (c : ℕ) (st : Stage Q P) (mine : List (Q × P)) (b z : Back Q) (two : Two Q) : Type 0 where
+  pub record Pass (s : St stands n) (r : Listed stands n s) (id : ℕ) (ws : List ℕ) (hs : Homes stands n) (c : ℕ) (st : Stage Q P) (mine : List (Q × P)) (b z : Back Q) (two : Two Q) : Type 0 where
     pub at : get_elem? s.views id ≡ some (hold_at c st mine b ∷ [])
     pub wide : length ws ≡ length s.words
     pub many : length hs ≡ length s.homes
@@ -173,7 +107,7 @@ module _ {Q P L M : Type 0} (stands : Laws Q P L M) (n : ℕ) where
         let ne : x.client ≢ c = λ e. other (sym ok.0.0 ∙ (ap r.seat e ∙ fit.0)) in
         ((ok.0.0, ok.0.1, ok.0.2, ok.0.3, ok.0.4, v.else_back x.client ne x.back ok.0.5), pass_fit v j other xs ok.1)
 
-    passed : Pass s r id ws hs c st mine b z two → Listed stands n (record { words = ws; homes = hs; views = set s.views id (hold_at c st mine z ∷ []) })
+    pub passed : Pass s r id ws hs c st mine b z two → Listed stands n (record { words = ws; homes = hs; views = set s.views id (hold_at c st mine z ∷ []) })
     passed v =
         let fit = (r.seats id (hold_at c st mine b ∷ []) v.at).0 in
         record {
@@ -209,7 +143,7 @@ module _ {Q P L M : Type 0} (stands : Laws Q P L M) (n : ℕ) where
         }
 
   -- rows where one leader's words change
-  rows_else : (words ws : List ℕ) (homes hs : Homes stands n) (due : ℕ → List (Q × P)) (phase : ℕ → Phase Q P) (m : ℕ) (x : Entry Q) → phase m ≡ leads x → ((k : ℕ) → k ≢ m → get_or ws (state_at k) 0 ≡ get_or words (state_at k) 0) → ((k : ℕ) → k ≢ m → get_or ws (older_at k) 0 ≡ get_or words (older_at k) 0)
+  pub rows_else : (words ws : List ℕ) (homes hs : Homes stands n) (due : ℕ → List (Q × P)) (phase : ℕ → Phase Q P) (m : ℕ) (x : Entry Q) → phase m ≡ leads x → ((k : ℕ) → k ≢ m → get_or ws (state_at k) 0 ≡ get_or words (state_at k) 0) → ((k : ℕ) → k ≢ m → get_or ws (older_at k) 0 ≡ get_or words (older_at k) 0)
       → ((k : ℕ) → k ≤ n → get_elem? hs k ≡ get_elem? homes k) → ((k : ℕ) → 0 < k → k ≤ n → InPhase stands words homes k (due k) (phase k)) → (k : ℕ) → 0 < k → k ≤ n → InPhase stands ws hs k (due k) (phase k)
   rows_else words ws homes hs due phase m x now state older home ok k lo hi = dite (ℕ_discrete k m)
       (λ e. let here : phase k ≡ leads x = ap phase e ∙ now in subst (InPhase stands ws hs k (due k)) (sym here) (subst (InPhase stands words homes k (due k)) here (ok k lo hi)))
@@ -399,224 +333,3 @@ module _ {Q P L M : Type 0} (stands : Laws Q P L M) (n : ℕ) where
             ),
       ))
       (λ other. (me.0, keeps, tt, unmoved stands n s k id me.1 me.0 at r, λ c' d' mine' f mid'. ((λ four. absurd (other four)), λ _. refl)))
-
-  -- a link of the walk of the second list
-  pub traces_second : (slots id : ℕ) (me : Sat Q P L M) (k : ℕ) → Allows (Listed stands n) slots id me k (λ y. y) (traced_second (step slots k 0 0 none) me)
-  traces_second slots id me k s r long at fits = (
-    me.0,
-    keeps,
-    tt,
-    unmoved stands n s k id me.1 me.0 at r,
-    (
-      refl,
-      λ c st mine g walk pre x post mid is_walk is_word.
-          let fit = (r.seats id (hold_at c st mine (Serving g walk) ∷ []) (at ∙ ap some mid)).0 in
-          let ends = fit.5.3 in
-          let parts : flat r.two.groups ≡ (ends.0 ++ pre) ++ x ∷ post = ends.1 ∙ (ap (λ l. ends.0 ++ l) is_walk ∙ sym (middle ends.0 pre x post)) in
-          ap (λ (j : ℕ). get_or s.words j 0) is_word ∙ links_at s.words (ends.0 ++ pre) x post (subst (Links s.words) parts r.second.links),
-    ),
-  )
-
-  -- the last slot
-  last_slot : (slots k : ℕ) (s : St stands n) → Listed stands n s → length s.homes ≡ slots → k + 1 ≡ slots → k ≡ n + 1
-  last_slot slots k s r long is = let many : length s.homes ≡ n + 2 = r.many in omega (arith, long, is)
-
-  -- the right is given back, where no group came
-  pub leaves_second : (slots id : ℕ) (me : Sat Q P L M) (c old k : ℕ) (d : Debt Q P) (mine : List (Q × P)) (g : Squad Q) (walk : List (Entry Q)) (right : M) (t : List (ℕ × Content Q P L M)) (said : Option (Content Q P L M)) → stands.piped ≡ true → AtWith c (Settling d) mine (Serving g walk) me
-      → me.1 ≡ (k, Right right) ∷ t → k + 1 ≡ slots → old ≡ newest (line_of g) → stands.rights right g.to → Allows (Listed stands n) slots id me 1 (λ y. either (eqb y old) 0 y) (left_second (step slots 1 old 0 said) me)
-  leaves_second slots id me c old k d mine g walk right t said piped mid slot is_last is_old stood s r long at fits =
-      let st : Stage Q P = Settling d in
-      let at' : get_elem? s.views id ≡ some (hold_at c st mine (Serving g walk) ∷ []) = at ∙ ap some mid in
-      let fit = (r.seats id (hold_at c st mine (Serving g walk) ∷ []) at').0 in
-      exchanged (get_or s.words 1 0) old 0 (Goes stands n s 1 id me (left_second (step slots 1 old 0 said) me))
-      (λ hit.
-      let many : length s.homes ≡ n + 2 = r.many in
-      let k_is : k ≡ n + 1 = last_slot slots k s r long is_last in
-      let ws : List ℕ = set s.words 1 0 in
-      let hs = set s.homes (n + 1) (some (Right right)) in
-      let same : (j : ℕ) → j ≢ 1 → get_or ws j 0 ≡ get_or s.words j 0 = λ j ne. get_or-set_other s.words 1 j 0 0 (λ e. ne (omega arith)) in
-      let home_else : (j : ℕ) → j ≤ n → get_elem? hs j ≡ get_elem? s.homes j = λ j small. set_else s.homes (n + 1) j (some (Right right)) (λ e. omega arith) in
-      let two' : Two Q = record { groups = []; place = put r.two.place c away; turn = still; lead = r.two.lead; done = g.to } in
-      let after : Listed stands n (record { words = ws; homes = hs; views = set s.views id (hold_at c st mine Away ∷ []) }) = passed s r id ws hs c st mine (Serving g walk) Away two' record {
-        at = at';
-        wide = length-set s.words 1 0;
-        many = length-set s.homes (n + 1) (some (Right right));
-        first = same 0 (λ e. omega arith);
-        links = links_same (base_of r.mode) s.words ws r.line (λ j. same (older_at j) (λ e. omega arith)) r.links;
-        rows = λ j lo hi. row_stays stands n s.words ws s.homes hs j (r.due j) (same (state_at j) (λ e. omega arith)) (same (older_at j) (λ e. omega arith)) (home_else j hi) (r.phase j) (r.rows j lo hi);
-        home = home_else 0 (omega arith);
-        second = second_stops stands n s.words s.homes r.phase r.mode (stands.last r.handled) r.two r.second piped c g right fit.5.0 fit.5.1 fit.5.2 (no_log s.homes r.line r.hand r.handled r.phase r.due c (d.own.asked, d.reply) fit.4.2 r.mode r.log_is) (hit ∙ is_old) stood r.wide many;
-        back = (put_here r.two.place c away, fit.5.2);
-        else_back = λ j ne. back_map r.two two' j (put_else r.two.place c away j ne) (λ e. absurd (ne (same_turn j c (sym e ∙ fit.5.0)))) (λ w e. let bad : held_by c ≡ passes j w = sym fit.5.0 ∙ e in absurd (cc)) (λ e. e) (λ e. e);
-      } in (
-        hold_at c st mine Away ∷ [],
-        gives,
-        tt,
-        subst (λ (z : List (ℕ × Content Q P L M)). Listed stands n (stepped s 1 0 id z (hold_at c st mine Away ∷ []) gives)) (sym slot) (subst (λ (j : ℕ). Listed stands n (record { words = ws; homes = set s.homes j (some (Right right)); views = set s.views id (hold_at c st mine Away ∷ []) })) (sym k_is) after),
-        λ c' d' mine' f walk' mid'.
-            let e = one_hold_at c c' st (Settling d') mine mine' (Serving g walk) (Serving f walk') me.0 mid mid' in
-            ((λ _. ((λ i. hold_at (e.0 i) (e.1 i) (e.2 i) Away ∷ []), refl)), λ miss. absurd (miss hit)),
-      ))
-      (λ miss.
-      let tn = subst (InTurn stands n s.words s.homes r.phase r.two) fit.5.0 r.second.turn_is in
-      let same_g : tn.1 ≡ g = one_serves tn.1 g (sym tn.3 ∙ fit.5.1) in
-      let newer : List (Entry Q) = flat tn.0 in
-      let now : List (Entry Q) = newer ++ line_of g in
-      let split : flat r.two.groups ≡ now = ap flat tn.2 ∙ (flat_snoc tn.0 tn.1 ∙ ap (λ (f : Squad Q). newer ++ line_of f) same_g) in
-      let w : List (Hold Q P) = hold_at c st mine (Serving g now) ∷ [] in
-      let after : Listed stands n (record { words = s.words; homes = s.homes; views = set s.views id w }) = passed s r id s.words s.homes c st mine (Serving g walk) (Serving g now) r.two record {
-        at = at';
-        wide = refl;
-        many = refl;
-        first = refl;
-        links = r.links;
-        rows = r.rows;
-        home = refl;
-        second = r.second;
-        back = (fit.5.0, fit.5.1, fit.5.2, ([], split));
-        else_back = λ j ne y ok. ok;
-      } in (
-        w,
-        keeps,
-        tt,
-        subst (λ (z : List ℕ). Listed stands n (record { words = z; homes = s.homes; views = set s.views id w })) (sym (set-get_or s.words 1 0)) after,
-        λ c' d' mine' f walk' mid'.
-            let e = one_hold_at c c' st (Settling d') mine mine' (Serving g walk) (Serving f walk') me.0 mid mid' in
-            let gf : g ≡ f = ap (squad_of g) e.3 in
-            let df : d ≡ d' = ap (debt_of d) e.1 in (
-              (λ hit. absurd (miss hit)),
-              λ _. subst (λ (z : ℕ × Debt Q P × List (Q × P) × Squad Q). WalksSecond slots z.0 z.1 z.2 z.3 (get_or s.words 1 0) me (w, me.1)) (λ i. (e.0 i, df i, e.2 i, gf i)) (
-                newer,
-                refl,
-                refl,
-                r.second.newest_is ∙ ap newest split,
-                (let b = walk_bound n now (subst (Within n) split r.second.within) (subst Distinct split r.second.distinct) in let m = r.many in omega arith),
-                all_below stands n slots now (let m = r.many in omega arith) (subst (Within n) split r.second.within),
-              ),
-            ),
-      ))
-
-  -- the link of the next group's leader is cleared
-  pub clears_second : (slots id : ℕ) (me : Sat Q P L M) (c k new : ℕ) (d : Debt Q P) (mine : List (Q × P)) (g : Squad Q) (walk pre : List (Entry Q)) (x : Entry Q) → stands.piped ≡ true → AtWith c (Settling d) mine (Serving g walk) me → walk ≡ pre ++ x ∷ line_of g → k ≡ older_at x.by → new ≡ pack 0 x.code
-      → Allows (Listed stands n) slots id me k (λ _. new) (λ _. cleared_second (step slots k new 0 none) me new)
-  clears_second slots id me c k new d mine g walk pre x piped mid is_walk is_word is_new s r long at fits =
-      let st : Stage Q P = Settling d in
-      let at' : get_elem? s.views id ≡ some (hold_at c st mine (Serving g walk) ∷ []) = at ∙ ap some mid in
-      let fit = (r.seats id (hold_at c st mine (Serving g walk) ∷ []) at').0 in
-      let ends = fit.5.3 in
-      let q : List (Entry Q) = ends.0 ++ pre in
-      let parts : flat r.two.groups ≡ q ++ x ∷ line_of g = ends.1 ∙ (ap (λ l. ends.0 ++ l) is_walk ∙ sym (middle ends.0 pre x (line_of g))) in
-      let cl = second_clears stands n s.words s.homes r.phase r.mode (stands.last r.handled) r.two r.second piped c new g q x fit.5.0 fit.5.1 fit.5.2 (no_log s.homes r.line r.hand r.handled r.phase r.due c (d.own.asked, d.reply) fit.4.2 r.mode r.log_is) parts is_new r.wide in
-      let lo : 0 < x.by = cl.1 in
-      let hi : x.by ≤ n = cl.2 in
-      let wide : length s.words ≡ 2 * n + 4 = r.wide in
-      let ws : List ℕ = set s.words k new in
-      let same : (j : ℕ) → j ≢ k → get_or ws j 0 ≡ get_or s.words j 0 = λ j ne. get_or-set_other s.words k j new 0 (λ e. ne (omega arith)) in
-      let older : (j : ℕ) → j ≢ x.by → get_or ws (older_at j) 0 ≡ get_or s.words (older_at j) 0 = λ j ne. same (older_at j) (λ e. ne (omega arith)) in
-      let out : Absent x.by r.line = out_of_line s.homes r.line r.hand r.handled r.phase r.due x.by x cl.3 r.mode (λ h. cl.4 (r.second.in_front x.by h)) r.log_is in
-      let two' : Two Q = record { groups = cl.0; place = put r.two.place c away; turn = passes c x.by; lead = r.two.lead; done = g.to } in (
-        hold_at c st mine (Passing g x) ∷ [],
-        keeps,
-        tt,
-        passed s r id ws s.homes c st mine (Serving g walk) (Passing g x) two' record {
-          at = at';
-          wide = length-set s.words k new;
-          many = refl;
-          first = same 0 (λ e. omega arith);
-          links = links_stay (base_of r.mode) s.words ws x.by r.line older out r.links;
-          rows = rows_else s.words ws s.homes s.homes r.due r.phase x.by x cl.3 (λ j _. same (state_at j) (λ e. omega arith)) older (λ _ _. refl) r.rows;
-          home = refl;
-          second = subst (λ (j : ℕ). Second stands n (set s.words j new) s.homes r.phase r.mode (stands.last r.handled) two') (sym is_word) cl.5;
-          back = (refl, put_here r.two.place c away, fit.5.2, refl);
-          else_back = λ j ne. back_map r.two two' j (put_else r.two.place c away j ne) (λ e. absurd (ne (same_turn j c (sym e ∙ fit.5.0)))) (λ w e. let bad : held_by c ≡ passes j w = sym fit.5.0 ∙ e in absurd (cc)) (λ e. e) (λ e. e);
-        },
-        λ c' d' mine' f walk' pre' x' mid' is_walk' is_word'.
-            let e = one_hold_at c c' st (Settling d') mine mine' (Serving g walk) (Serving f walk') me.0 mid mid' in
-            let gf : g ≡ f = ap (squad_of g) e.3 in
-            let wf : walk ≡ walk' = ap (walk_of walk) e.3 in
-            let both : pre ++ x ∷ line_of g ≡ pre' ++ x' ∷ line_of g = sym is_walk ∙ (wf ∙ (is_walk' ∙ ap (λ (y : Squad Q). pre' ++ x' ∷ line_of y) (sym gf))) in
-            let same_x : x ≡ x' = same_last pre pre' x x' (append_cancel_right (pre ++ x ∷ []) (pre' ++ x' ∷ []) (line_of g) (snoc pre x (line_of g) ∙ (both ∙ sym (snoc pre' x' (line_of g))))) in
-            ((λ i. hold_at (e.0 i) (e.1 i) (e.2 i) (Passing (gf i) (same_x i)) ∷ []), refl),
-      )
-
-  -- that leader is told, and has the right
-  pub calls_next : (slots id : ℕ) (me : Sat Q P L M) (c k j0 : ℕ) (st : Stage Q P) (mine : List (Q × P)) (g : Squad Q) (x : Entry Q) (right : M) (t : List (ℕ × Content Q P L M)) → AtWith c st mine (Passing g x) me → me.1 ≡ (j0, Right right) ∷ t → j0 + 1 ≡ slots → k ≡ state_at x.by → stands.rights right g.to
-      → Allows (Listed stands n) slots id me k (λ _. 4) (λ _. called_next (step slots k 4 0 none) me 4)
-  calls_next slots id me c k j0 st mine g x right t mid slot is_last is_word stood s r long at fits =
-      let at' : get_elem? s.views id ≡ some (hold_at c st mine (Passing g x) ∷ []) = at ∙ ap some mid in
-      let fit = (r.seats id (hold_at c st mine (Passing g x) ∷ []) at').0 in
-      let many : length s.homes ≡ n + 2 = r.many in
-      let j_is : j0 ≡ n + 1 = last_slot slots j0 s r long is_last in
-      let w : ℕ = x.by in
-      let cl = second_calls stands n s.words s.homes r.phase r.mode (stands.last r.handled) r.two r.second c w right fit.5.0 (subst (stands.rights right) (sym fit.5.3) stood) r.wide many in
-      let lo : 0 < w = cl.2 in
-      let hi : w ≤ n = cl.3 in
-      let wide : length s.words ≡ 2 * n + 4 = r.wide in
-      let ws : List ℕ = set s.words k 4 in
-      let hs = set s.homes (n + 1) (some (Right right)) in
-      let same : (j : ℕ) → j ≢ k → get_or ws j 0 ≡ get_or s.words j 0 = λ j ne. get_or-set_other s.words k j 4 0 (λ e. ne (omega arith)) in
-      let home_else : (j : ℕ) → j ≤ n → get_elem? hs j ≡ get_elem? s.homes j = λ j small. set_else s.homes (n + 1) j (some (Right right)) (λ e. omega arith) in
-      let two' : Two Q = record { groups = r.two.groups; place = put r.two.place w (called cl.0); turn = calls w; lead = r.two.lead; done = r.two.done } in
-      let other : c ≢ w = λ e. in_not_away cl.0 (r.two.place w) cl.1 (ap r.two.place (sym e) ∙ fit.5.1) in
-      let after : Listed stands n (record { words = ws; homes = hs; views = set s.views id (hold_at c st mine Away ∷ []) }) = passed s r id ws hs c st mine (Passing g x) Away two' record {
-        at = at';
-        wide = length-set s.words k 4;
-        many = length-set s.homes (n + 1) (some (Right right));
-        first = same 0 (λ e. omega arith);
-        links = links_same (base_of r.mode) s.words ws r.line (λ j. same (older_at j) (λ e. omega arith)) r.links;
-        rows = rows_else s.words ws s.homes hs r.due r.phase w cl.0.own cl.4 (λ j ne. same (state_at j) (λ e. ne (omega arith))) (λ j _. same (older_at j) (λ e. omega arith)) home_else r.rows;
-        home = home_else 0 (omega arith);
-        second = subst (λ (j : ℕ). Second stands n (set s.words j 4) hs r.phase r.mode (stands.last r.handled) two') (sym is_word) cl.5;
-        back = (put_else r.two.place w (called cl.0) c other ∙ fit.5.1, fit.5.2);
-        else_back = λ j ne. dite (ℕ_discrete j w)
-            (λ e. subst (λ (i : ℕ). (y : Back Q) → KnowsBack r.two i y → KnowsBack two' i y) (sym e) (call_back r.two two' c w cl.0 cl.1 fit.5.0 (put_here r.two.place w (called cl.0)) refl))
-            (λ away_w. back_map r.two two' j (put_else r.two.place w (called cl.0) j away_w) (λ e. let bad : passes c w ≡ held_by j = sym fit.5.0 ∙ e in absurd (cc)) (λ v e. absurd (ne (same_pass j c v w (sym e ∙ fit.5.0)))) (λ e. e) (λ e. e));
-      } in (
-        hold_at c st mine Away ∷ [],
-        gives,
-        tt,
-        subst (λ (z : List (ℕ × Content Q P L M)). Listed stands n (stepped s k 4 id z (hold_at c st mine Away ∷ []) gives)) (sym slot) (subst (λ (j : ℕ). Listed stands n (record { words = ws; homes = set s.homes j (some (Right right)); views = set s.views id (hold_at c st mine Away ∷ []) })) (sym j_is) after),
-        λ c' st' mine' f x' mid'.
-            let e = one_hold_at c c' st st' mine mine' (Passing g x) (Passing f x') me.0 mid mid' in
-            ((λ i. hold_at (e.0 i) (e.1 i) (e.2 i) Away ∷ []), refl),
-      )
-
-  -- a member is told to work beside its leader
-  pub parallels : (slots id : ℕ) (me : Sat Q P L M) (c k : ℕ) (pre post : List (Entry Q × P)) (y : Entry Q × P) (o : Entry Q) (p : P) (mine : List (Q × P)) (b : Back Q) → AtWith c (Settling (debt (pre ++ y ∷ post) o p)) mine b me → k ≡ state_at y.0.by → y.0.by ≤ n
-      → Allows (Listed stands n) slots id me k (λ _. 8) (λ _. kept (step slots k 8 0 none) me 8)
-  parallels slots id me c k pre post y o p mine b mid is_word small s r long at fits =
-      let st : Stage Q P = Settling (debt (pre ++ y ∷ post) o p) in
-      let at' : get_elem? s.views id ≡ some (hold_at c st mine b ∷ []) = at ∙ ap some mid in
-      let fit = (r.seats id (hold_at c st mine b ∷ []) at').0 in
-      let m : ℕ = y.0.by in
-      let now : r.phase m ≡ taken c y.0 = owed_at r.phase r.due c pre y post fit.4.0 in
-      let wide : length s.words ≡ 2 * n + 4 = r.wide in
-      let ws : List ℕ = set s.words k 8 in
-      let same : (j : ℕ) → j ≢ k → get_or ws j 0 ≡ get_or s.words j 0 = λ j ne. get_or-set_other s.words k j 8 0 (λ e. ne (omega arith)) in
-      let older : (j : ℕ) → get_or ws (older_at j) 0 ≡ get_or s.words (older_at j) 0 = λ j. same (older_at j) (λ e. omega arith) in
-      let state : (j : ℕ) → j ≢ m → get_or ws (state_at j) 0 ≡ get_or s.words (state_at j) 0 = λ j ne. same (state_at j) (λ e. ne (omega arith)) in
-      let is8 : get_or ws (state_at m) 0 ≡ 8 = ap (λ (j : ℕ). get_or ws j 0) (sym is_word) ∙ get_or-set_same s.words k 8 0 (omega arith) in
-      let back_is : hold_at c st mine b ∷ [] ≡ me.0 = sym mid in
-      let after : Listed stands n (record { words = ws; homes = s.homes; views = set s.views id (hold_at c st mine b ∷ []) }) = passed s r id ws s.homes c st mine b b r.two record {
-        at = at';
-        wide = length-set s.words k 8;
-        many = refl;
-        first = same 0 (λ e. omega arith);
-        links = links_same (base_of r.mode) s.words ws r.line older r.links;
-        rows = λ j lo hi. dite (ℕ_discrete j m)
-            (λ e. let here : r.phase j ≡ taken c y.0 = ap r.phase e ∙ now in let at8 : get_or ws (state_at j) 0 ≡ 8 = ap (λ (i : ℕ). get_or ws (state_at i) 0) e ∙ is8 in
-            subst (InPhase stands ws s.homes j (r.due j)) (sym here) ((subst (InPhase stands s.words s.homes j (r.due j)) here (r.rows j lo hi)).0, (λ two_. absurd (omega arith)), (λ sixteen. absurd (omega arith))))
-            (λ ne. row_stays stands n s.words ws s.homes s.homes j (r.due j) (state j ne) (older j) refl (r.phase j) (r.rows j lo hi));
-        home = refl;
-        second = second_stays stands n s.words ws s.homes s.homes r.phase r.phase r.mode r.mode (stands.last r.handled) (stands.last r.handled) r.two (same 1 (λ e. omega arith))
-            (λ j _. (older j, (λ e is_lead. state j (λ eq. let bad : r.phase m ≡ leads e = ap r.phase (sym eq) ∙ is_lead in absurd (cc))), refl))
-            (λ j four. dite (ℕ_discrete j m) (λ e. let at8 : get_or ws (state_at j) 0 ≡ 8 = ap (λ (i : ℕ). get_or ws (state_at i) 0) e ∙ is8 in absurd (omega arith)) (λ ne. sym (state j ne) ∙ four)) refl (λ j h. inl h) (λ j h. inl h) (λ j _ h. h) (λ v. v) r.second;
-        back = fit.5;
-        else_back = λ j ne z ok. ok;
-      } in (
-        me.0,
-        keeps,
-        tt,
-        subst (λ (v : List (Hold Q P)). Listed stands n (record { words = ws; homes = s.homes; views = set s.views id v })) back_is after,
-        refl,
-      )
