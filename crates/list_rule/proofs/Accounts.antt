@@ -1,11 +1,12 @@
--- Each step of the list is an event, some events, or none.
-use Rattle.std.proofs.Common.{◌≡◌, ℕ, List, [], ◌∷◌, ◌++◌, refl, sym, ap, ◌∙◌}
+-- What each step of the list makes of the account: an event, two events, or nothing.
+use Rattle.std.proofs.Common.{◌≡◌, ℕ, List, [], ◌∷◌, ◌++◌, refl, sym, ap, ◌∙◌, subst}
 use Rattle.std.proofs.lemmas.List.{append_cancel_right}
 use Rattle.list_rule.specs.declared.view.Entry.{Entry}
 use Rattle.list_rule.specs.declared.view.Handling.{Handling}
 use Rattle.list_rule.specs.Grouping.{IsGroup}
-use Rattle.list_rule.specs.Events.{comes, elects, builds, exits, Held, free, elected, grouped, Core, after, core_of}
-use Rattle.list_rule.specs.Rule.{Mode, open_, waits, led, built, cut, marked, Account}
+use Rattle.list_rule.specs.Events.{Event, comes, elects, builds, exits, Held, free, elected, grouped, Core, Enabled, after}
+use Rattle.list_rule.specs.Rule.{Mode, open_, waits, led, built, cut, marked, Shows, Account}
+use Rattle.list_rule.specs.Steps.{Stays, Comes}
 
 same_own : {A : Type 0} (a b t : List A) (x y : A) → a ++ (t ++ x ∷ []) ≡ b ++ (t ++ y ∷ []) → x ≡ y → a ≡ b
 same_own a b t x y e is = append_cancel_right a b (t ++ x ∷ []) (e ∙ ap (λ z. b ++ (t ++ z ∷ [])) (sym is))
@@ -24,102 +25,108 @@ same_end : {A : Type 0} (a b t : List A) (x y : A) → a ++ (t ++ x ∷ []) ≡ 
 same_end a b t x y e = sym (last_or-end x a t x) ∙ (ap (last_or x) e ∙ last_or-end x b t y)
 
 module _ {Q P : Type 0} where
-  module _ (line : List (Entry Q)) (hs : List (Handling Q P)) where
-    abbrev log_in : Core Q P → Held Q
-    log_in z = z.1
+  module _ (line : List (Entry Q)) (hs : List (Handling Q P)) (mode : Mode Q) (k : Account line hs mode) where
+    -- the account after an event
+    abbrev next : (v : Event Q P) (line' : List (Entry Q)) (hs' : List (Handling Q P)) (mode' : Mode Q) (queue : List (Entry Q)) (log : Held Q) → Comes v (k.queue, k.log, hs) (queue, log, hs') → Shows line' queue log mode' → Account line' hs' mode'
+    next v line' hs' mode' queue log came shows = record {
+      events = v ∷ k.events;
+      queue = queue;
+      log = log;
+      legal = (subst (λ (z : Core Q P). Enabled z v) (sym k.ran) came.0, k.legal);
+      ran = ap (λ z. after z v) k.ran ∙ sym came.1;
+      shows = shows;
+    }
 
-    abbrev queue_in : Core Q P → List (Entry Q)
-    queue_in z = z.0
+    -- the same account, where the list shows otherwise
+    abbrev same : (line' : List (Entry Q)) (mode' : Mode Q) → Shows line' k.queue k.log mode' → Account line' hs mode'
+    same line' mode' shows = record { events = k.events; queue = k.queue; log = k.log; legal = k.legal; ran = k.ran; shows = shows }
 
-    pub comes_more : (e : Entry Q) (mode : Mode Q) → (mode ≡ open_ → ⊥) → Account line hs mode → Account (e ∷ line) hs mode
-    comes_more e open_ ne k = absurd (ne refl)
-    comes_more e (waits c) ne k = record { events = comes e ∷ k.events; queue = e ∷ k.queue; log = k.log; legal = (tt, k.legal); ran = ap (λ z. after z (comes e)) k.ran; shows = (ap (λ l. e ∷ l) k.shows.0, k.shows.1) }
-    comes_more e (led c) ne k = record { events = comes e ∷ k.events; queue = e ∷ k.queue; log = k.log; legal = (tt, k.legal); ran = ap (λ z. after z (comes e)) k.ran; shows = (ap (λ l. e ∷ l) k.shows.0, k.shows.1) }
-    comes_more e (built c g) ne k = record { events = comes e ∷ k.events; queue = e ∷ k.queue; log = k.log; legal = (tt, k.legal); ran = ap (λ z. after z (comes e)) k.ran; shows = ((k.shows.0.0, ap (λ l. e ∷ l) k.shows.0.1), k.shows.1) }
-    comes_more e (cut c w) ne k = record { events = comes e ∷ k.events; queue = e ∷ k.queue; log = k.log; legal = (tt, k.legal); ran = ap (λ z. after z (comes e)) k.ran; shows = (ap (λ l. e ∷ l) k.shows.0, k.shows.1) }
-    comes_more e (marked c) ne k = record { events = comes e ∷ k.events; queue = e ∷ k.queue; log = k.log; legal = (tt, k.legal); ran = ap (λ z. after z (comes e)) k.ran; shows = (ap (λ l. e ∷ l) k.shows.0, k.shows.1) }
+    abbrev Next : Event Q P → List (Entry Q) → List (Handling Q P) → Mode Q → Type 0
+    Next v line' hs' mode' = (k' : Account line' hs' mode') × Comes v (k.queue, k.log, hs) (k'.queue, k'.log, hs')
+
+    abbrev Same : List (Entry Q) → Mode Q → Type 0
+    Same line' mode' = (k' : Account line' hs mode') × Stays (k.queue, k.log, hs) (k'.queue, k'.log, hs)
+
+    more_shows : (e : Entry Q) (m : Mode Q) → (m ≡ open_ → ⊥) → Shows line k.queue k.log m → Shows (e ∷ line) (e ∷ k.queue) k.log m
+    more_shows e open_ ne ok = absurd (ne refl)
+    more_shows e (waits c) ne ok = (ap (λ l. e ∷ l) ok.0, ok.1)
+    more_shows e (led c) ne ok = (ap (λ l. e ∷ l) ok.0, ok.1)
+    more_shows e (built c g) ne ok = ((ok.0.0, ap (λ l. e ∷ l) ok.0.1), ok.1)
+    more_shows e (cut c w) ne ok = (ap (λ l. e ∷ l) ok.0, ok.1)
+    more_shows e (marked c) ne ok = (ap (λ l. e ∷ l) ok.0, ok.1)
+
+    pub comes_more : (e : Entry Q) → (mode ≡ open_ → ⊥) → Next (comes e) (e ∷ line) hs mode
+    comes_more e ne = (next (comes e) (e ∷ line) hs mode (e ∷ k.queue) k.log (tt, refl) (more_shows e mode ne k.shows), (tt, refl))
 
     -- the first writer comes and leads
-    pub comes_first : (e : Entry Q) → line ≡ [] → Account line hs open_ → Account (e ∷ []) hs (led e.by)
-    comes_first e nil k =
-        let one : core_of (comes e ∷ k.events) ≡ (e ∷ [], free, hs) = ap (λ z. after z (comes e)) k.ran ∙ (λ i. (e ∷ (sym k.shows.0 ∙ nil) i, k.shows.1 i, hs)) in
-        record {
-          events = elects e ∷ comes e ∷ k.events;
-          queue = e ∷ [];
-          log = elected e.by;
-          legal = ((ap log_in one, ([], ap queue_in one)), (tt, k.legal));
-          ran = ap (λ z. after z (elects e)) one;
-          shows = (refl, refl);
-        }
+    pub comes_first : (e : Entry Q) → line ≡ [] → mode ≡ open_
+        → (k' : Account (e ∷ []) hs (led e.by)) × ((linked : Core Q P) × Comes (comes e) (k.queue, k.log, hs) linked × Comes (elects e) linked (k'.queue, k'.log, hs))
+    comes_first e nil is =
+        let sh : Shows line k.queue k.log open_ = subst (Shows line k.queue k.log) is k.shows in
+        let none_there : k.queue ≡ [] = sym sh.0 ∙ nil in
+        let may : Enabled (e ∷ k.queue, k.log, hs) (elects e) = (sh.1, ([], ap (λ l. e ∷ l) none_there)) in (
+          record {
+            events = elects e ∷ comes e ∷ k.events;
+            queue = e ∷ k.queue;
+            log = elected e.by;
+            legal = (subst (λ (z : Core Q P). Enabled (after z (comes e)) (elects e)) (sym k.ran) may, (tt, k.legal));
+            ran = ap (λ z. after (after z (comes e)) (elects e)) k.ran;
+            shows = (ap (λ l. e ∷ l) (sym none_there), refl);
+          },
+          ((e ∷ k.queue, k.log, hs), (tt, refl), (may, refl)),
+        )
 
-    pub leads_now : (e : Entry Q) (q : List (Entry Q)) → line ≡ q ++ e ∷ [] → Account line hs (waits e.by) → Account line hs (led e.by)
-    leads_now e q parts k = record {
-      events = elects e ∷ k.events;
-      queue = k.queue;
-      log = elected e.by;
-      legal = ((ap log_in k.ran ∙ k.shows.1, (q, ap queue_in k.ran ∙ (sym k.shows.0 ∙ parts))), k.legal);
-      ran = ap (λ z. after z (elects e)) k.ran;
-      shows = (k.shows.0, refl);
-    }
+    pub leads_now : (c : ℕ) (e : Entry Q) (q : List (Entry Q)) → mode ≡ waits c → e.by ≡ c → line ≡ q ++ e ∷ [] → Next (elects e) line hs (led c)
+    leads_now c e q is by_c parts =
+        let sh : Shows line k.queue k.log (waits c) = subst (Shows line k.queue k.log) is k.shows in
+        let came : Comes (elects e) (k.queue, k.log, hs) (k.queue, elected e.by, hs) = ((sh.1, (q, sym sh.0 ∙ parts)), refl) in
+        (next (elects e) line hs (led c) k.queue (elected e.by) came (sh.0, ap elected by_c), came)
 
-    pub builds_now : (max : ℕ) (own : Entry Q) (group left : List (Entry Q)) → line ≡ left ++ (group ++ own ∷ []) → IsGroup max own group left → Account line hs (led own.by) → Account line hs (built own.by group)
-    builds_now max own group left parts whole k = record {
-      events = builds max own group left ∷ k.events;
-      queue = left;
-      log = grouped own group;
-      legal = ((ap log_in k.ran ∙ k.shows.1, ap queue_in k.ran ∙ (sym k.shows.0 ∙ parts), whole), k.legal);
-      ran = ap (λ z. after z (builds max own group left)) k.ran;
-      shows = ((own, parts), refl);
-    }
+    pub builds_now : (max c : ℕ) (own : Entry Q) (group left : List (Entry Q)) → mode ≡ led c → own.by ≡ c → line ≡ left ++ (group ++ own ∷ []) → IsGroup max own group left → Next (builds max own group left) line hs (built c group)
+    builds_now max c own group left is by_c parts whole =
+        let sh : Shows line k.queue k.log (led c) = subst (Shows line k.queue k.log) is k.shows in
+        let came : Comes (builds max own group left) (k.queue, k.log, hs) (left, grouped own group, hs) = ((sh.1 ∙ ap elected (sym by_c), sym sh.0 ∙ parts, whole), refl) in
+        (next (builds max own group left) line hs (built c group) left (grouped own group) came ((own, parts), refl), came)
 
-    pub leaves_now : (c : ℕ) (g : List (Entry Q)) (own : Entry Q) (new : List (Handling Q P)) → line ≡ g ++ own ∷ [] → Account line hs (built c g) → Account [] (hs ++ new) open_
-    leaves_now c g own new parts k =
-        let both : k.queue ++ (g ++ k.shows.0.0 ∷ []) ≡ [] ++ (g ++ own ∷ []) = sym k.shows.0.1 ∙ parts in
-        let nil : k.queue ≡ [] = same_own k.queue [] g k.shows.0.0 own both (same_end k.queue [] g k.shows.0.0 own both) in
-        record {
-          events = exits new ∷ k.events;
-          queue = [];
-          log = free;
-          legal = ((k.shows.0.0, g, ap log_in k.ran ∙ k.shows.1), k.legal);
-          ran = ap (λ z. after z (exits new)) k.ran ∙ (λ i. (nil i, free, hs ++ new));
-          shows = (refl, refl);
-        }
+    -- whose group it is, and who is behind it
+    parts_as : (c : ℕ) (g : List (Entry Q)) (own : Entry Q) (q : List (Entry Q)) → mode ≡ built c g → line ≡ q ++ (g ++ own ∷ []) → (k.queue ≡ q) × (k.log ≡ grouped own g)
+    parts_as c g own q is parts =
+        let sh : Shows line k.queue k.log (built c g) = subst (Shows line k.queue k.log) is k.shows in
+        let both : k.queue ++ (g ++ sh.0.0 ∷ []) ≡ q ++ (g ++ own ∷ []) = sym sh.0.1 ∙ parts in
+        let same_one : sh.0.0 ≡ own = same_end k.queue q g sh.0.0 own both in
+        (same_own k.queue q g sh.0.0 own both same_one, sh.1 ∙ ap (λ e. grouped e g) same_one)
+
+    pub leaves_now : (c : ℕ) (g : List (Entry Q)) (own : Entry Q) (new : List (Handling Q P)) → mode ≡ built c g → line ≡ g ++ own ∷ [] → Next (exits new) [] (hs ++ new) open_
+    leaves_now c g own new is parts =
+        let t = parts_as c g own [] is parts in
+        let came : Comes (exits new) (k.queue, k.log, hs) (k.queue, free, hs ++ new) = ((own, g, t.1), refl) in
+        (next (exits new) [] (hs ++ new) open_ k.queue free came (sym t.0, refl), came)
 
     -- the group is cut off
-    pub cuts_now : (c w : ℕ) (g : List (Entry Q)) (own : Entry Q) (q : List (Entry Q)) → line ≡ q ++ (g ++ own ∷ []) → Account line hs (built c g) → Account q hs (cut c w)
-    cuts_now c w g own q parts k =
-        let both : k.queue ++ (g ++ k.shows.0.0 ∷ []) ≡ q ++ (g ++ own ∷ []) = sym k.shows.0.1 ∙ parts in
-        let is : k.queue ≡ q = same_own k.queue q g k.shows.0.0 own both (same_end k.queue q g k.shows.0.0 own both) in
-        record { events = k.events; queue = q; log = k.log; legal = k.legal; ran = k.ran ∙ (λ i. (is i, k.log, hs)); shows = (refl, (k.shows.0.0, g, k.shows.1)) }
+    pub cuts_now : (c w : ℕ) (g : List (Entry Q)) (own : Entry Q) (q : List (Entry Q)) → mode ≡ built c g → line ≡ q ++ (g ++ own ∷ []) → Same q (cut c w)
+    cuts_now c w g own q is parts = let t = parts_as c g own q is parts in (same q (cut c w) (sym t.0, (own, g, t.1)), refl)
 
-    pub marks_now : (c : ℕ) (g : List (Entry Q)) (own : Entry Q) → line ≡ g ++ own ∷ [] → Account line hs (built c g) → Account [] hs (marked c)
-    marks_now c g own parts k =
-        let both : k.queue ++ (g ++ k.shows.0.0 ∷ []) ≡ [] ++ (g ++ own ∷ []) = sym k.shows.0.1 ∙ parts in
-        let is : k.queue ≡ [] = same_own k.queue [] g k.shows.0.0 own both (same_end k.queue [] g k.shows.0.0 own both) in
-        record { events = k.events; queue = []; log = k.log; legal = k.legal; ran = k.ran ∙ (λ i. (is i, k.log, hs)); shows = (refl, (k.shows.0.0, g, k.shows.1)) }
+    pub marks_now : (c : ℕ) (g : List (Entry Q)) (own : Entry Q) → mode ≡ built c g → line ≡ g ++ own ∷ [] → Same [] (marked c)
+    marks_now c g own is parts = let t = parts_as c g own [] is parts in (same [] (marked c) (sym t.0, (own, g, t.1)), refl)
 
-    pub recuts_now : (c w : ℕ) → Account line hs (marked c) → Account line hs (cut c w)
-    recuts_now c w k = record { events = k.events; queue = k.queue; log = k.log; legal = k.legal; ran = k.ran; shows = k.shows }
+    pub recuts_now : (c w : ℕ) → mode ≡ marked c → Same line (cut c w)
+    recuts_now c w is = (same line (cut c w) (subst (Shows line k.queue k.log) is k.shows), refl)
 
-    pub wakes_now : (c w : ℕ) (new : List (Handling Q P)) → Account line hs (cut c w) → Account line (hs ++ new) (waits w)
-    wakes_now c w new k = record {
-      events = exits new ∷ k.events;
-      queue = k.queue;
-      log = free;
-      legal = ((k.shows.1.0, k.shows.1.1, ap log_in k.ran ∙ k.shows.1.2), k.legal);
-      ran = ap (λ z. after z (exits new)) k.ran;
-      shows = (k.shows.0, refl);
-    }
+    -- nothing but the way in which the mode is told
+    pub stays_now : (mode' : Mode Q) → mode ≡ mode' → Same line mode'
+    stays_now mode' is = (same line mode' (subst (Shows line k.queue k.log) is k.shows), refl)
 
-    pub frees_now : (c : ℕ) (new : List (Handling Q P)) → Account line hs (marked c) → Account line (hs ++ new) open_
-    frees_now c new k = record {
-      events = exits new ∷ k.events;
-      queue = k.queue;
-      log = free;
-      legal = ((k.shows.1.0, k.shows.1.1, ap log_in k.ran ∙ k.shows.1.2), k.legal);
-      ran = ap (λ z. after z (exits new)) k.ran;
-      shows = (k.shows.0, refl);
-    }
+    pub wakes_now : (c w : ℕ) (new : List (Handling Q P)) → mode ≡ cut c w → Next (exits new) line (hs ++ new) (waits w)
+    wakes_now c w new is =
+        let sh : Shows line k.queue k.log (cut c w) = subst (Shows line k.queue k.log) is k.shows in
+        let came : Comes (exits new) (k.queue, k.log, hs) (k.queue, free, hs ++ new) = ((sh.1.0, sh.1.1, sh.1.2), refl) in
+        (next (exits new) line (hs ++ new) (waits w) k.queue free came (sh.0, refl), came)
+
+    pub frees_now : (c : ℕ) (new : List (Handling Q P)) → mode ≡ marked c → line ≡ [] → Next (exits new) [] (hs ++ new) open_
+    frees_now c new is nil =
+        let sh : Shows line k.queue k.log (marked c) = subst (Shows line k.queue k.log) is k.shows in
+        let came : Comes (exits new) (k.queue, k.log, hs) (k.queue, free, hs ++ new) = ((sh.1.0, sh.1.1, sh.1.2), refl) in
+        (next (exits new) [] (hs ++ new) open_ k.queue free came (sym nil ∙ sh.0, refl), came)
 
   pub opens_now : Account {Q = Q} {P = P} [] [] open_
   opens_now = record { events = []; queue = []; log = free; legal = tt; ran = refl; shows = (refl, refl) }

@@ -1,4 +1,4 @@
--- The steps of `link` and of `await_role` keep the rule.
+-- The steps of `link` and of `await_role`: each keeps the rule, and which event it is.
 use Rattle.std.proofs.Common.{◌≡◌, ◌≢◌, ℕ, ◌+◌, ◌*◌, ◌<◌, ◌≤◌, eqb, List, [], ◌∷◌, ◌++◌, length, get_or, set, refl, sym, ap, ◌∙◌, subst, inr, arith, length-set, append-nil, append_assoc, get_or-set_other, get_or-set_same}
 use mathlib.Core.Logic.{dite}
 use mathlib.Core.Path.{Path}
@@ -7,8 +7,8 @@ use native.Mathlib.Decide.{ℕ_discrete}
 use lib.ListN.{get_elem?}
 use lib.Seq.{set-get_or}
 use prog.Atomic.{either}
-use Rattle.atomic_table.specs.Table.{step, Act, keeps, takes, gives, chain as both_acts, Valid, carried_after, stepped, Allows}
-use Rattle.atomic_table.proofs.Lists.{set_here, set_else, set_again, exchanged}
+use Rattle.atomic_table.specs.Table.{step, keeps, takes, gives, chain as both_acts, carried_after, stepped, Allows}
+use Rattle.atomic_table.proofs.Lists.{set_here, set_else, exchanged}
 use Rattle.list_rule.specs.declared.view.Entry.{Entry}
 use Rattle.list_rule.specs.declared.view.Handling.{Handling}
 use Rattle.list_rule.specs.declared.view.Hold.{Hold}
@@ -18,11 +18,13 @@ use Rattle.list_rule.specs.declared.content.Content.TheVariants.{Empty, Asked, T
 use Rattle.list_rule.specs.declared.view.Stage.{Stage}
 use Rattle.list_rule.specs.declared.view.Stage.TheVariants.{Idle, Preparing, Waiting, Fresh, Leading, Cutting, Marking, Settling, Collecting}
 use Rattle.list_rule.specs.Chain.{state_at, older_at, pack, newest_from, LinksFrom, of}
-use Rattle.list_rule.specs.Rule.{Phase, idle, preparing, linked, chosen, leads, taken, completed, collecting, Mode, open_, waits, led, built, cut, marked, base_of, InChain, Waits, Knows, hold, InPhase, LogHome, InMode, Account, Laws, Listed, Holds, InSecond, KnowsBack, Place}
+use Rattle.list_rule.specs.Rule.{Phase, idle, preparing, linked, chosen, leads, taken, completed, collecting, Mode, open_, waits, led, built, cut, marked, base_of, InChain, Waits, Knows, hold, InPhase, LogHome, InMode, Laws, Listed, Holds, InSecond, KnowsBack, Place}
+use Rattle.list_rule.specs.Events.{Core}
+use Rattle.list_rule.specs.Steps.{Stays, ComesWhere, IsLink, IsElect, now_of, IsNow, StepIs}
 use Rattle.list_rule.specs.Plays.{Sat, entry, At, begun, peeked, aimed, Elected, entered, looked, rested}
 use Rattle.list_rule.proofs.Chains.{put, put_at, put_here, put_else, links_stay, links_same, ends_same, nobody, newest_small, stand_absent, stand_change, linked_change, taken_change}
 use Rattle.list_rule.proofs.Accounts.{comes_more, comes_first, leads_now}
-use Rattle.list_rule.proofs.Moves.{St, row_stays, mode_stays, knows_else, moved}
+use Rattle.list_rule.proofs.Moves.{St, row_stays, mode_stays, knows_else, moved, Goes, allows, unmoved}
 use Rattle.list_rule.proofs.Keeps.{second_row, second_same}
 
 module _ {Q P : Type 0} where
@@ -103,9 +105,6 @@ out_second place k (completed q p) a b = b
 out_second place k collecting a b = b
 
 module _ {Q P L M : Type 0} (stands : Laws Q P L M) (n : ℕ) where
-  abbrev pub Goes : St stands n → ℕ → ℕ → Sat Q P L M → (ℕ → Sat Q P L M → Type 0) → ℕ → Type 0
-  Goes s k id me then x = (w : List (Hold Q P)) × (a : Act (Content Q P L M)) × Valid s.homes me.1 a × Listed stands n (stepped s k x id me.1 w a) × then (get_or s.words k 0) (w, carried_after me.1 a)
-
   -- a step of a client that is not in the list and does not come into it
   aside : (s : St stands n) (r : Listed stands n s) (c id : ℕ) (ws : List ℕ) (hs : List (Option (Content Q P L M))) (h : Hold Q P) (st : Stage Q P) (mine : List (Q × P)) (ph ph' : Phase Q P) (due told : ℕ → List (Q × P))
       → get_elem? s.views id ≡ some (h ∷ []) → h.client ≡ c → r.phase c ≡ ph → IsOut ph → IsOut ph'
@@ -113,7 +112,7 @@ module _ {Q P L M : Type 0} (stands : Laws Q P L M) (n : ℕ) where
       → ((j : ℕ) → j ≢ state_at c → j ≢ older_at c → get_or ws j 0 ≡ get_or s.words j 0) → ((j : ℕ) → j ≢ c → get_elem? hs j ≡ get_elem? s.homes j)
       → h.back ≡ Away → (get_or ws (state_at c) 0 ≡ 4 → get_or s.words (state_at c) 0 ≡ 4) → InPhase stands ws hs c (due c) ph' → ((j : ℕ) → j ≢ c → due j ≡ r.due j) → ((j : ℕ) → j ≢ c → told j ≡ r.told j) → r.told c ++ r.due c ≡ told c ++ due c
       → mine ≡ told c → ((j : ℕ) → r.due j ≡ [] → due j ≡ []) → ((phase : ℕ → Phase Q P) → phase c ≡ ph' → Knows r.line r.hand r.handled r.mode phase due c st)
-      → Listed stands n (record { words = ws; homes = hs; views = set s.views id (hold c st mine ∷ []) })
+      → IsNow stands n (now_of stands n s r) (record { words = ws; homes = hs; views = set s.views id (hold c st mine ∷ []) })
   aside s r c id ws hs h st mine ph ph' due told at client now out out' long_w long_h same_w same_h is_away to4 row due_else told_else shares is_mine nil knows =
       let fit = (r.seats id (h ∷ []) at).0 in
       let lo : 0 < c = subst (λ (k : ℕ). 0 < k) client fit.1 in
@@ -154,8 +153,8 @@ module _ {Q P L M : Type 0} (stands : Laws Q P L M) (n : ℕ) where
         others = λ j ne. knows_else stands n r.line r.line r.hand r.handled r.mode r.mode r.phase r.due due c ph' j (λ e. ne (e ∙ sym client)) (ends_same r.line) (λ _. refl) was_linked (was_taken j) due_else;
       }
 
-  pub begins : (slots id : ℕ) (me : Sat Q P L M) (c k : ℕ) (mine : List (Q × P)) → k ≡ state_at c → At c Idle mine me → me.1 ≡ [] → Allows (Listed stands n) slots id me k (λ _. 1) (λ _. begun (step slots k 1 0 none) me 1)
-  begins slots id me c k mine is mid empty s r long at fits =
+  pub begins_is : (slots id : ℕ) (me : Sat Q P L M) (c k : ℕ) (mine : List (Q × P)) → k ≡ state_at c → At c Idle mine me → me.1 ≡ [] → StepIs stands n (λ _. Stays) slots id me k (λ _. 1) (λ _. begun (step slots k 1 0 none) me 1)
+  begins_is slots id me c k mine is mid empty s r long at fits =
       let h : Hold Q P = hold c Idle mine in
       let at' : get_elem? s.views id ≡ some (h ∷ []) = at ∙ ap some mid in
       let fit = (r.seats id (h ∷ []) at').0 in
@@ -169,17 +168,24 @@ module _ {Q P L M : Type 0} (stands : Laws Q P L M) (n : ℕ) where
         h' ∷ [],
         takes c Empty,
         row.0,
-        aside s r c id ws (set s.homes c none) h (Preparing w) mine idle (preparing w) r.due r.told at' refl fit.4 tt tt (length-set s.words k 1) (length-set s.homes c none)
-            (λ j a b. same j (λ e. a (e ∙ is))) (λ j ne. set_else s.homes c j none ne) refl
-            (λ four. let one : get_or ws (state_at c) 0 ≡ 1 = ap (λ (i : ℕ). get_or ws i 0) (sym is) ∙ get_or-set_same s.words k 1 0 (omega arith) in absurd (omega arith))
-            (ap (λ (i : ℕ). get_or ws i 0) (sym is) ∙ get_or-set_same s.words k 1 0 (omega arith), same (older_at c) (λ e. omega arith), row.1)
-            (λ _ _. refl) (λ _ _. refl) refl fit.3 (λ _ e. e) (λ phase here. here),
+        (
+          now_of stands n s r,
+          refl,
+          aside s r c id ws (set s.homes c none) h (Preparing w) mine idle (preparing w) r.due r.told at' refl fit.4 tt tt (length-set s.words k 1) (length-set s.homes c none)
+              (λ j a b. same j (λ e. a (e ∙ is))) (λ j ne. set_else s.homes c j none ne) refl
+              (λ four. let one : get_or ws (state_at c) 0 ≡ 1 = ap (λ (i : ℕ). get_or ws i 0) (sym is) ∙ get_or-set_same s.words k 1 0 (omega arith) in absurd (omega arith))
+              (ap (λ (i : ℕ). get_or ws i 0) (sym is) ∙ get_or-set_same s.words k 1 0 (omega arith), same (older_at c) (λ e. omega arith), row.1)
+              (λ _ _. refl) (λ _ _. refl) refl fit.3 (λ _ e. e) (λ phase here. here),
+        ),
         λ c' mine' mid'. let e = one_hold c c' Idle Idle mine mine' me.0 mid mid' in
             subst (λ (z : ℕ × List (Q × P)). (v : ℕ) × At z.0 (Preparing v) z.1 (h' ∷ [], (c, Empty) ∷ me.1) × ((c, Empty) ∷ me.1 ≡ (z.0, Empty) ∷ [])) (λ i. (e.0 i, e.2 i)) (w, refl, ap (λ l. (c, Empty) ∷ l) empty),
       )
 
-  pub aims : (slots id : ℕ) (me : Sat Q P L M) (c k w new : ℕ) (mine : List (Q × P)) → k ≡ older_at c → At c (Preparing w) mine me → Allows (Listed stands n) slots id me k (λ _. new) (λ _. aimed (step slots k new 0 none) me new)
-  aims slots id me c k w new mine is mid s r long at fits =
+  pub begins : (slots id : ℕ) (me : Sat Q P L M) (c k : ℕ) (mine : List (Q × P)) → k ≡ state_at c → At c Idle mine me → me.1 ≡ [] → Allows (Listed stands n) slots id me k (λ _. 1) (λ _. begun (step slots k 1 0 none) me 1)
+  begins slots id me c k mine is mid empty = allows stands n (λ _. Stays) slots id me k (λ _. 1) (λ _. begun (step slots k 1 0 none) me 1) (begins_is slots id me c k mine is mid empty)
+
+  pub aims_is : (slots id : ℕ) (me : Sat Q P L M) (c k w new : ℕ) (mine : List (Q × P)) → k ≡ older_at c → At c (Preparing w) mine me → StepIs stands n (λ _. Stays) slots id me k (λ _. new) (λ _. aimed (step slots k new 0 none) me new)
+  aims_is slots id me c k w new mine is mid s r long at fits =
       let h : Hold Q P = hold c (Preparing w) mine in
       let at' : get_elem? s.views id ≡ some (h ∷ []) = at ∙ ap some mid in
       let fit = (r.seats id (h ∷ []) at').0 in
@@ -192,16 +198,23 @@ module _ {Q P L M : Type 0} (stands : Laws Q P L M) (n : ℕ) where
         h' ∷ [],
         keeps,
         tt,
-        aside s r c id ws s.homes h (Preparing new) mine (preparing w) (preparing new) r.due r.told at' refl fit.4 tt tt (length-set s.words k new) refl
-            (λ j a b. same j (λ e. b (e ∙ is))) (λ j ne. refl) refl (λ four. sym (same (state_at c) (λ e. omega arith)) ∙ four)
-            (same (state_at c) (λ e. omega arith) ∙ row.0, ap (λ (i : ℕ). get_or ws i 0) (sym is) ∙ get_or-set_same s.words k new 0 (omega arith), row.2)
-            (λ _ _. refl) (λ _ _. refl) refl fit.3 (λ _ e. e) (λ phase here. here),
+        (
+          now_of stands n s r,
+          refl,
+          aside s r c id ws s.homes h (Preparing new) mine (preparing w) (preparing new) r.due r.told at' refl fit.4 tt tt (length-set s.words k new) refl
+              (λ j a b. same j (λ e. b (e ∙ is))) (λ j ne. refl) refl (λ four. sym (same (state_at c) (λ e. omega arith)) ∙ four)
+              (same (state_at c) (λ e. omega arith) ∙ row.0, ap (λ (i : ℕ). get_or ws i 0) (sym is) ∙ get_or-set_same s.words k new 0 (omega arith), row.2)
+              (λ _ _. refl) (λ _ _. refl) refl fit.3 (λ _ e. e) (λ phase here. here),
+        ),
         λ c' w' mine' mid'. let e = one_hold c c' (Preparing w) (Preparing w') mine mine' me.0 mid mid' in
             (λ i. hold (e.0 i) (Preparing new) (e.2 i) ∷ [], refl),
       )
 
-  pub rests : (slots id : ℕ) (me : Sat Q P L M) (c k : ℕ) (mine : List (Q × P)) → At c Collecting mine me → me.1 ≡ (c, Empty) ∷ [] → Allows (Listed stands n) slots id me k (λ y. y) (rested (step slots k 0 0 none) me)
-  rests slots id me c k mine mid mine_out s r long at fits =
+  pub aims : (slots id : ℕ) (me : Sat Q P L M) (c k w new : ℕ) (mine : List (Q × P)) → k ≡ older_at c → At c (Preparing w) mine me → Allows (Listed stands n) slots id me k (λ _. new) (λ _. aimed (step slots k new 0 none) me new)
+  aims slots id me c k w new mine is mid = allows stands n (λ _. Stays) slots id me k (λ _. new) (λ _. aimed (step slots k new 0 none) me new) (aims_is slots id me c k w new mine is mid)
+
+  pub rests_is : (slots id : ℕ) (me : Sat Q P L M) (c k : ℕ) (mine : List (Q × P)) → At c Collecting mine me → me.1 ≡ (c, Empty) ∷ [] → StepIs stands n (λ _. Stays) slots id me k (λ y. y) (rested (step slots k 0 0 none) me)
+  rests_is slots id me c k mine mid mine_out s r long at fits =
       let h : Hold Q P = hold c Collecting mine in
       let at' : get_elem? s.views id ≡ some (h ∷ []) = at ∙ ap some mid in
       let fit = (r.seats id (h ∷ []) at').0 in
@@ -212,7 +225,7 @@ module _ {Q P L M : Type 0} (stands : Laws Q P L M) (n : ℕ) where
       let many : length s.homes ≡ n + 2 = r.many in
       let hs = set s.homes c (some Empty) in
       let same : (j : ℕ) → get_or ws j 0 ≡ get_or s.words j 0 = λ j. ap (λ (l : List ℕ). get_or l j 0) (set-get_or s.words k 0) in
-      let after : Listed stands n (record { words = ws; homes = hs; views = set s.views id (h' ∷ []) }) =
+      let after : IsNow stands n (now_of stands n s r) (record { words = ws; homes = hs; views = set s.views id (h' ∷ []) }) =
       aside s r c id ws hs h Idle mine collecting idle r.due r.told at' refl fit.4 tt tt (length-set s.words k (get_or s.words k 0)) (length-set s.homes c (some Empty))
       (λ j _ _. same j) (λ j ne. set_else s.homes c j (some Empty) ne) refl (λ four. sym (same (state_at c)) ∙ four)
       (set_here s.homes c (some Empty) (omega arith), row)
@@ -220,14 +233,13 @@ module _ {Q P L M : Type 0} (stands : Laws Q P L M) (n : ℕ) where
         h' ∷ [],
         gives,
         tt,
-        subst (λ (l : List (ℕ × Content Q P L M)). Listed stands n (stepped s k (get_or s.words k 0) id l (h' ∷ []) gives)) (sym mine_out) after,
+        (now_of stands n s r, refl, subst (λ (l : List (ℕ × Content Q P L M)). IsNow stands n (now_of stands n s r) (stepped s k (get_or s.words k 0) id l (h' ∷ []) gives)) (sym mine_out) after),
         λ c' mine' mid'. let e = one_hold c c' Collecting Collecting mine mine' me.0 mid mid' in
             ((λ i. hold (e.0 i) Idle (e.2 i) ∷ []), ap (λ l. carried_after l gives) mine_out),
       )
 
-  -- a step that changes nothing
-  pub unmoved : (s : St stands n) (k id : ℕ) (cs : List (ℕ × Content Q P L M)) (v : List (Hold Q P)) → get_elem? s.views id ≡ some v → Listed stands n s → Listed stands n (stepped s k (get_or s.words k 0) id cs v keeps)
-  unmoved s k id cs v at r = subst (λ (z : List ℕ × List (List (Hold Q P))). Listed stands n (record { words = z.0; homes = s.homes; views = z.1 })) (λ i. (sym (set-get_or s.words k 0) i, sym (set_again s.views id v at) i)) r
+  pub rests : (slots id : ℕ) (me : Sat Q P L M) (c k : ℕ) (mine : List (Q × P)) → At c Collecting mine me → me.1 ≡ (c, Empty) ∷ [] → Allows (Listed stands n) slots id me k (λ y. y) (rested (step slots k 0 0 none) me)
+  rests slots id me c k mine mid mine_out = allows stands n (λ _. Stays) slots id me k (λ y. y) (rested (step slots k 0 0 none) me) (rests_is slots id me c k mine mid mine_out)
 
   base_small : (m : Mode Q) → base_of m < 256
   base_small open_ = omega arith
@@ -237,8 +249,11 @@ module _ {Q P L M : Type 0} (stands : Laws Q P L M) (n : ℕ) where
   base_small (cut c w) = omega arith
   base_small (marked c) = omega arith
 
+  pub peeks_is : (slots id : ℕ) (me : Sat Q P L M) → StepIs stands n (λ _. Stays) slots id me 0 (λ y. y) (peeked (step slots 0 0 0 none) me)
+  peeks_is slots id me s r long at fits = let few = r.few in let small = newest_small n (base_of r.mode) r.line (omega arith) (base_small r.mode) r.within in (me.0, keeps, tt, unmoved stands n Stays s 0 id me.1 me.0 at r refl, (refl, omega (arith, r.newest_is)))
+
   pub peeks : (slots id : ℕ) (me : Sat Q P L M) → Allows (Listed stands n) slots id me 0 (λ y. y) (peeked (step slots 0 0 0 none) me)
-  peeks slots id me s r long at fits = let few = r.few in let small = newest_small n (base_of r.mode) r.line (omega arith) (base_small r.mode) r.within in (me.0, keeps, tt, unmoved s 0 id me.1 me.0 at r, (refl, omega (arith, r.newest_is)))
+  peeks slots id me = allows stands n (λ _. Stays) slots id me 0 (λ y. y) (peeked (step slots 0 0 0 none) me) (peeks_is slots id me)
 
   log_free : (homes : List (Option (Content Q P L M))) (line hand : List (Entry Q)) (handled : List (Handling Q P)) (phase : ℕ → Phase Q P) (due : ℕ → List (Q × P)) → line ≡ [] → (mode : Mode Q) → base_of mode ≡ 0 → InMode stands n homes line hand handled phase due mode → (mode ≡ open_) × (hand ≡ []) × LogHome stands homes handled
   log_free homes line hand handled phase due nil open_ zero_base ok = (refl, ok.1, ok.2)
@@ -269,7 +284,7 @@ module _ {Q P L M : Type 0} (stands : Laws Q P L M) (n : ℕ) where
     abbrev h : Hold Q P
     h = hold c (Preparing w) mine
 
-    enters_first : old ≡ 0 → Goes s 0 id me told_of c
+    enters_first : old ≡ 0 → Goes stands n (IsLink old e0) s r 0 id me told_of c
     enters_first z =
         let at' : get_elem? s.views id ≡ some (h ∷ []) = at ∙ ap some mid in
         let fit = (r.seats id (h ∷ []) at').0 in
@@ -289,36 +304,41 @@ module _ {Q P L M : Type 0} (stands : Laws Q P L M) (n : ℕ) where
         let same : (j : ℕ) → j ≢ 0 → get_or ws j 0 ≡ get_or s.words j 0 = λ j ne. get_or-set_other s.words 0 j c 0 (λ e. ne (omega arith)) in
         let ph : Phase Q P = leads e0 in
         let here : put r.phase c ph c ≡ ph = put_here r.phase c ph in
+        let acc = comes_first r.line r.handled r.mode r.account e0 empty opened in
         let m' : Sat Q P L M = (h' ∷ [], (0, Log l) ∷ me.1) in (
           h' ∷ [],
           takes 0 (Log l),
           free.2.1,
-          moved stands n s r c id ws hs h h' (e0 ∷ []) r.hand r.handled (led c) ph r.due r.told r.two record {
-            at = at';
-            same_client = refl;
-            wide = length-set s.words 0 c;
-            many = length-set s.homes 0 none;
-            newest_is = get_or-set_same s.words 0 c 0 (omega arith);
-            links = (same (older_at c) (λ e. omega arith) ∙ (row.1 ∙ (packs ∙ ap (λ (o : ℕ). pack o code) z)), tt);
-            distinct = (tt, tt);
-            within = (lo, hi, tt);
-            stand = (subst (InChain e0) (sym here) refl, tt);
-            other_rows = λ j ne lo' _. row_stays stands n s.words ws s.homes hs j (r.due j) (same (state_at j) (λ e. omega arith)) (same (older_at j) (λ e. omega arith)) (set_else s.homes 0 j none (λ e. omega arith)) (r.phase j);
-            row = refl;
-            log_is = (([], e0, refl, tt, here, refl), free.1, row.2);
-            one_chosen = λ j e. put_at r.phase c ph (λ i f. f ≡ chosen e → Path (Mode Q) (led c) (waits i)) j (λ _ bad. absurd (cc)) (λ _ ok. let was : r.mode ≡ waits j = r.one_chosen j e ok in absurd (cc));
-            second = second_same stands n s.words ws s.homes hs r.phase c ph r.mode (led c) (stands.last r.handled) (stands.last r.handled) r.two (inr (λ there. subst (InSecond r.two.place c) now there)) same (set_else s.homes 0 (n + 1) none (λ e. omega arith)) (λ k h. inr (ap r.two.place (sym h) ∙ fit.5.0)) (λ k h. inr (λ four. let one : get_or s.words (state_at k) 0 ≡ 1 = ap (λ (j : ℕ). get_or s.words (state_at j) 0) (sym h) ∙ row.0 in let four' = sym (same (state_at k) (λ e. omega arith)) ∙ four in absurd (omega arith))) (λ k _ h. absurd (subst (Holds k) opened h)) (λ v. v) r.second;
-            back = fit.5;
-            else_back = λ _ _ _ ok. ok;
-            kept = r.kept;
-            coded = λ e is. subst (λ (z : Entry Q). z.code ≡ stands.code_of z.asked) is is_code;
-            account = comes_first r.line r.handled e0 empty (subst (Account r.line r.handled) opened r.account);
-            shared_out = r.shared_out;
-            told_else = λ _ _. refl;
-            mine = fit.3;
-            knows = (refl, here, refl);
-            others = λ j ne. knows_else stands n r.line (e0 ∷ []) r.hand r.handled r.mode (led c) r.phase r.due r.due c ph j ne (e0 ∷ [], ap (λ t. e0 ∷ t) (sym empty)) (λ h. absurd (subst (Holds j) opened h)) (λ e bad. absurd (cc)) (λ e bad. absurd (cc)) (λ _ _. refl);
-          },
+          (
+            (acc.0.queue, acc.0.log, r.handled),
+            ((λ _ _. acc.1), (λ _ nz. absurd (nz (hit ∙ z))), λ miss. absurd (miss hit)),
+            moved stands n s r c id ws hs h h' (e0 ∷ []) r.hand r.handled (led c) ph r.due r.told r.two record {
+              at = at';
+              same_client = refl;
+              wide = length-set s.words 0 c;
+              many = length-set s.homes 0 none;
+              newest_is = get_or-set_same s.words 0 c 0 (omega arith);
+              links = (same (older_at c) (λ e. omega arith) ∙ (row.1 ∙ (packs ∙ ap (λ (o : ℕ). pack o code) z)), tt);
+              distinct = (tt, tt);
+              within = (lo, hi, tt);
+              stand = (subst (InChain e0) (sym here) refl, tt);
+              other_rows = λ j ne lo' _. row_stays stands n s.words ws s.homes hs j (r.due j) (same (state_at j) (λ e. omega arith)) (same (older_at j) (λ e. omega arith)) (set_else s.homes 0 j none (λ e. omega arith)) (r.phase j);
+              row = refl;
+              log_is = (([], e0, refl, tt, here, refl), free.1, row.2);
+              one_chosen = λ j e. put_at r.phase c ph (λ i f. f ≡ chosen e → Path (Mode Q) (led c) (waits i)) j (λ _ bad. absurd (cc)) (λ _ ok. let was : r.mode ≡ waits j = r.one_chosen j e ok in absurd (cc));
+              second = second_same stands n s.words ws s.homes hs r.phase c ph r.mode (led c) (stands.last r.handled) (stands.last r.handled) r.two (inr (λ there. subst (InSecond r.two.place c) now there)) same (set_else s.homes 0 (n + 1) none (λ e. omega arith)) (λ k h. inr (ap r.two.place (sym h) ∙ fit.5.0)) (λ k h. inr (λ four. let one : get_or s.words (state_at k) 0 ≡ 1 = ap (λ (j : ℕ). get_or s.words (state_at j) 0) (sym h) ∙ row.0 in let four' = sym (same (state_at k) (λ e. omega arith)) ∙ four in absurd (omega arith))) (λ k _ h. absurd (subst (Holds k) opened h)) (λ v. v) r.second;
+              back = fit.5;
+              else_back = λ _ _ _ ok. ok;
+              kept = r.kept;
+              coded = λ e is. subst (λ (z : Entry Q). z.code ≡ stands.code_of z.asked) is is_code;
+              account = acc.0;
+              shared_out = r.shared_out;
+              told_else = λ _ _. refl;
+              mine = fit.3;
+              knows = (refl, here, refl);
+              others = λ j ne. knows_else stands n r.line (e0 ∷ []) r.hand r.handled r.mode (led c) r.phase r.due r.due c ph j ne (e0 ∷ [], ap (λ t. e0 ∷ t) (sym empty)) (λ h. absurd (subst (Holds j) opened h)) (λ e bad. absurd (cc)) (λ e bad. absurd (cc)) (λ _ _. refl);
+            },
+          ),
           λ c' w' q' mine' mid' slot'.
               let e = one_hold c c' (Preparing w) (Preparing w') mine mine' me.0 mid mid' in
               let same_q : q ≡ q' = one_asked c c' q q' me.1 slot slot' in
@@ -329,7 +349,7 @@ module _ {Q P L M : Type 0} (stands : Laws Q P L M) (n : ℕ) where
               ),
         )
 
-    enters_later : old ≢ 0 → Goes s 0 id me told_of c
+    enters_later : old ≢ 0 → Goes stands n (IsLink old e0) s r 0 id me told_of c
     enters_later nz =
         let at' : get_elem? s.views id ≡ some (h ∷ []) = at ∙ ap some mid in
         let fit = (r.seats id (h ∷ []) at').0 in
@@ -347,7 +367,9 @@ module _ {Q P L M : Type 0} (stands : Laws Q P L M) (n : ℕ) where
         let ph : Phase Q P = linked e0 in
         let here : put r.phase c ph c ≡ ph = put_here r.phase c ph in
         let away : (e : Entry Q) → InChain e (r.phase c) → ⊥ = λ e is. subst (InChain e) now is in
-        let after : Listed stands n (record { words = ws; homes = hs; views = set s.views id (h' ∷ []) }) =
+        let acc = comes_more r.line r.handled r.mode r.account e0 some_one in
+        let now_is : Core Q P = (acc.0.queue, acc.0.log, r.handled) in
+        let after : IsNow stands n now_is (record { words = ws; homes = hs; views = set s.views id (h' ∷ []) }) =
         moved stands n s r c id ws hs h h' (e0 ∷ r.line) r.hand r.handled r.mode ph r.due r.told r.two record {
           at = at';
           same_client = refl;
@@ -364,7 +386,7 @@ module _ {Q P L M : Type 0} (stands : Laws Q P L M) (n : ℕ) where
           one_chosen = λ j e. put_at r.phase c ph (λ i f. f ≡ chosen e → r.mode ≡ waits i) j (λ _ bad. absurd (cc)) (λ _ ok. r.one_chosen j e ok);
           kept = r.kept;
           coded = λ e is. subst (λ (z : Entry Q). z.code ≡ stands.code_of z.asked) is is_code;
-          account = comes_more r.line r.handled e0 r.mode some_one r.account;
+          account = acc.0;
           second = second_row stands n s.words ws s.homes hs r.phase c ph r.mode (stands.last r.handled) r.two (λ there. subst (InSecond r.two.place c) now there) (same 1 (λ e. omega arith)) (λ j _. same (older_at j) (λ e. omega arith)) (λ j _. same (state_at j) (λ e. omega arith)) (λ four. sym (same (state_at c) (λ e. omega arith)) ∙ four) (set_else s.homes c (n + 1) (some (Asked q)) (λ e. omega arith)) r.second;
           back = fit.5;
           else_back = λ _ _ _ ok. ok;
@@ -377,7 +399,7 @@ module _ {Q P L M : Type 0} (stands : Laws Q P L M) (n : ℕ) where
           h' ∷ [],
           gives,
           tt,
-          subst (λ (l : List (ℕ × Content Q P L M)). Listed stands n (stepped s 0 c id l (h' ∷ []) gives)) (sym slot) after,
+          (now_is, ((λ _ z. absurd (nz (sym hit ∙ z))), (λ _ _. acc.1), λ miss. absurd (miss hit)), subst (λ (l : List (ℕ × Content Q P L M)). IsNow stands n now_is (stepped s 0 c id l (h' ∷ []) gives)) (sym slot) after),
           λ c' w' q' mine' mid' slot'.
               let e = one_hold c c' (Preparing w) (Preparing w') mine mine' me.0 mid mid' in
               let same_q : q ≡ q' = one_asked c c' q q' me.1 slot slot' in (
@@ -387,11 +409,15 @@ module _ {Q P L M : Type 0} (stands : Laws Q P L M) (n : ℕ) where
               ),
         )
 
+  pub enters_is : (slots id : ℕ) (me : Sat Q P L M) (c w old code : ℕ) (q : Q) (mine : List (Q × P)) (said : Option (Content Q P L M)) → w ≡ pack old code → At c (Preparing w) mine me → me.1 ≡ (c, Asked q) ∷ [] → code ≡ stands.code_of q
+      → StepIs stands n (IsLink old (entry c code q)) slots id me 0 (λ y. either (eqb y old) c y) (entered stands.logs (step slots 0 old c said) me)
+  enters_is slots id me c w old code q mine said packs mid slot is_code s r long at fits = exchanged (get_or s.words 0 0) old c (Goes stands n (IsLink old (entry c code q)) s r 0 id me (entered stands.logs (step slots 0 old c said) me))
+      (λ hit. dite (ℕ_discrete old 0) (enters_first slots id me c w old code q mine said packs mid slot is_code s r at hit) (enters_later slots id me c w old code q mine said packs mid slot is_code s r at hit))
+      (λ miss. (me.0, keeps, tt, unmoved stands n (IsLink old (entry c code q) (get_or s.words 0 0)) s 0 id me.1 me.0 at r ((λ hit _. absurd (miss hit)), (λ hit _. absurd (miss hit)), λ _. refl), λ _ _ _ _ _ _. ((λ hit _. absurd (miss hit)), (λ hit _. absurd (miss hit)), λ _. refl)))
+
   pub enters : (slots id : ℕ) (me : Sat Q P L M) (c w old code : ℕ) (q : Q) (mine : List (Q × P)) (said : Option (Content Q P L M)) → w ≡ pack old code → At c (Preparing w) mine me → me.1 ≡ (c, Asked q) ∷ [] → code ≡ stands.code_of q
       → Allows (Listed stands n) slots id me 0 (λ y. either (eqb y old) c y) (entered stands.logs (step slots 0 old c said) me)
-  enters slots id me c w old code q mine said packs mid slot is_code s r long at fits = exchanged (get_or s.words 0 0) old c (Goes s 0 id me (entered stands.logs (step slots 0 old c said) me))
-      (λ hit. dite (ℕ_discrete old 0) (enters_first slots id me c w old code q mine said packs mid slot is_code s r at hit) (enters_later slots id me c w old code q mine said packs mid slot is_code s r at hit))
-      (λ miss. (me.0, keeps, tt, unmoved s 0 id me.1 me.0 at r, λ _ _ _ _ _ _. ((λ hit _. absurd (miss hit)), (λ hit _. absurd (miss hit)), λ _. refl)))
+  enters slots id me c w old code q mine said packs mid slot is_code = allows stands n (IsLink old (entry c code q)) slots id me 0 (λ y. either (eqb y old) c y) (entered stands.logs (step slots 0 old c said) me) (enters_is slots id me c w old code q mine said packs mid slot is_code)
 
   module _ (slots id : ℕ) (me : Sat Q P L M) (c k : ℕ) (q : Q) (mine : List (Q × P)) (is : k ≡ state_at c) (mid : At c (Waiting q) mine me) (empty : me.1 ≡ [])
       (s : St stands n) (r : Listed stands n s) (at : get_elem? s.views id ≡ some me.0) where
@@ -404,10 +430,10 @@ module _ {Q P L M : Type 0} (stands : Laws Q P L M) (n : ℕ) where
     abbrev x : ℕ
     x = get_or s.words k 0
 
-    looks_on : x ≢ 2 → x ≢ 16 → Goes s k id me saw x
-    looks_on n2 n16 = (me.0, keeps, tt, unmoved s k id me.1 me.0 at r, λ _ _ _ _. ((λ y. absurd (n2 y)), (λ y. absurd (n16 y)), λ _ _. refl))
+    looks_on : x ≢ 2 → x ≢ 16 → Goes stands n (ComesWhere 2 (IsElect c q)) s r k id me saw x
+    looks_on n2 n16 = (me.0, keeps, tt, unmoved stands n (ComesWhere 2 (IsElect c q) x) s k id me.1 me.0 at r ((λ y. absurd (n2 y)), λ _. refl), λ _ _ _ _. ((λ y. absurd (n2 y)), (λ y. absurd (n16 y)), λ _ _. refl))
 
-    looks_elected : (e : Entry Q) → r.phase c ≡ chosen e → e.asked ≡ q → Goes s k id me saw x
+    looks_elected : (e : Entry Q) → r.phase c ≡ chosen e → e.asked ≡ q → Goes stands n (ComesWhere 2 (IsElect c q)) s r k id me saw x
     looks_elected e now asks =
         let at' : get_elem? s.views id ≡ some (hw ∷ []) = at ∙ ap some mid in
         let fit = (r.seats id (hw ∷ []) at').0 in
@@ -428,36 +454,41 @@ module _ {Q P L M : Type 0} (stands : Laws Q P L M) (n : ℕ) where
         let ph : Phase Q P = leads e in
         let here : put r.phase c ph c ≡ ph = put_here r.phase c ph in
         let m' : Sat Q P L M = (h' ∷ [], (0, Log l) ∷ (c, Asked e.asked) ∷ me.1) in
+        let acc = leads_now r.line r.handled r.mode r.account c e log.0.0 mode_was row.0 parts in
         let two : x ≡ 2 = ap (λ (j : ℕ). get_or s.words j 0) is ∙ row.1 in (
           h' ∷ [],
           both_acts (takes c (Asked e.asked)) (takes 0 (Log l)),
           (row.2, set_else s.homes c 0 none (λ e. omega arith) ∙ log.2.1),
-          moved stands n s r c id ws hs hw h' r.line r.hand r.handled (led c) ph r.due r.told r.two record {
-            at = at';
-            same_client = refl;
-            wide = length-set s.words k x;
-            many = length-set (set s.homes c none) 0 none ∙ length-set s.homes c none;
-            newest_is = same 0 ∙ (r.newest_is ∙ ap (λ b. newest_from b r.line) (ap base_of mode_was));
-            links = links_same 0 s.words ws r.line (λ j. same (older_at j)) (subst (λ b. LinksFrom b s.words r.line) (ap base_of mode_was) r.links);
-            distinct = r.distinct;
-            within = r.within;
-            stand = stand_change r.phase c ph r.line (λ f is_in. subst (InChain f) now is_in) r.stand;
-            other_rows = λ j ne lo' _. row_stays stands n s.words ws s.homes hs j (r.due j) (same (state_at j)) (same (older_at j)) (set_else (set s.homes c none) 0 j none (λ e. omega arith) ∙ set_else s.homes c j none ne) (r.phase j);
-            row = row.0;
-            log_is = ((log.0.0, e, parts, linked_change r.phase c ph log.0.0 (λ f bad. absurd (cc)) log.0.3, here, row.0), log.1, row.3);
-            one_chosen = λ j f. put_at r.phase c ph (λ i g. g ≡ chosen f → Path (Mode Q) (led c) (waits i)) j (λ _ bad. absurd (cc)) (λ ne ok. let was : r.mode ≡ waits j = r.one_chosen j f ok in absurd (ne (waits_one j c (sym was ∙ mode_was))));
-            kept = r.kept;
-            coded = λ f is. r.coded c f (subst (InChain f) (sym now) is);
-            account = subst (λ (i : ℕ). Account r.line r.handled (led i)) row.0 (leads_now r.line r.handled e log.0.0 parts (subst (λ (i : ℕ). Account r.line r.handled (waits i)) (sym row.0) (subst (Account r.line r.handled) mode_was r.account)));
-            shared_out = r.shared_out;
-            told_else = λ _ _. refl;
-            mine = fit.3;
-            second = second_same stands n s.words ws s.homes hs r.phase c ph r.mode (led c) (stands.last r.handled) (stands.last r.handled) r.two (inr (λ there. subst (InSecond r.two.place c) now there)) (λ j _. same j) (set_else (set s.homes c none) 0 (n + 1) none (λ e. omega arith) ∙ set_else s.homes c (n + 1) none (λ e. omega arith)) (λ k h. inr (ap r.two.place (sym h) ∙ fit.5.0)) (λ k h. inr (λ four. let here2 : get_or s.words (state_at k) 0 ≡ 2 = ap (λ (j : ℕ). get_or s.words (state_at j) 0) (sym h) ∙ row.1 in let four' = sym (same (state_at k)) ∙ four in absurd (omega arith))) (λ k _ h. absurd (subst (Holds k) mode_was h)) (λ v. v) r.second;
-            back = fit.5;
-            else_back = λ _ _ _ ok. ok;
-            knows = (refl, here, refl);
-            others = λ j ne. knows_else stands n r.line r.line r.hand r.handled r.mode (led c) r.phase r.due r.due c ph j ne (ends_same r.line) (λ h. absurd (subst (Holds j) mode_was h)) (λ f bad. absurd (cc)) (λ f bad. absurd (cc)) (λ _ _. refl);
-          },
+          (
+            (acc.0.queue, acc.0.log, r.handled),
+            ((λ _. (e, row.0, asks, acc.1)), λ y. absurd (y two)),
+            moved stands n s r c id ws hs hw h' r.line r.hand r.handled (led c) ph r.due r.told r.two record {
+              at = at';
+              same_client = refl;
+              wide = length-set s.words k x;
+              many = length-set (set s.homes c none) 0 none ∙ length-set s.homes c none;
+              newest_is = same 0 ∙ (r.newest_is ∙ ap (λ b. newest_from b r.line) (ap base_of mode_was));
+              links = links_same 0 s.words ws r.line (λ j. same (older_at j)) (subst (λ b. LinksFrom b s.words r.line) (ap base_of mode_was) r.links);
+              distinct = r.distinct;
+              within = r.within;
+              stand = stand_change r.phase c ph r.line (λ f is_in. subst (InChain f) now is_in) r.stand;
+              other_rows = λ j ne lo' _. row_stays stands n s.words ws s.homes hs j (r.due j) (same (state_at j)) (same (older_at j)) (set_else (set s.homes c none) 0 j none (λ e. omega arith) ∙ set_else s.homes c j none ne) (r.phase j);
+              row = row.0;
+              log_is = ((log.0.0, e, parts, linked_change r.phase c ph log.0.0 (λ f bad. absurd (cc)) log.0.3, here, row.0), log.1, row.3);
+              one_chosen = λ j f. put_at r.phase c ph (λ i g. g ≡ chosen f → Path (Mode Q) (led c) (waits i)) j (λ _ bad. absurd (cc)) (λ ne ok. let was : r.mode ≡ waits j = r.one_chosen j f ok in absurd (ne (waits_one j c (sym was ∙ mode_was))));
+              kept = r.kept;
+              coded = λ f is. r.coded c f (subst (InChain f) (sym now) is);
+              account = acc.0;
+              shared_out = r.shared_out;
+              told_else = λ _ _. refl;
+              mine = fit.3;
+              second = second_same stands n s.words ws s.homes hs r.phase c ph r.mode (led c) (stands.last r.handled) (stands.last r.handled) r.two (inr (λ there. subst (InSecond r.two.place c) now there)) (λ j _. same j) (set_else (set s.homes c none) 0 (n + 1) none (λ e. omega arith) ∙ set_else s.homes c (n + 1) none (λ e. omega arith)) (λ k h. inr (ap r.two.place (sym h) ∙ fit.5.0)) (λ k h. inr (λ four. let here2 : get_or s.words (state_at k) 0 ≡ 2 = ap (λ (j : ℕ). get_or s.words (state_at j) 0) (sym h) ∙ row.1 in let four' = sym (same (state_at k)) ∙ four in absurd (omega arith))) (λ k _ h. absurd (subst (Holds k) mode_was h)) (λ v. v) r.second;
+              back = fit.5;
+              else_back = λ _ _ _ ok. ok;
+              knows = (refl, here, refl);
+              others = λ j ne. knows_else stands n r.line r.line r.hand r.handled r.mode (led c) r.phase r.due r.due c ph j ne (ends_same r.line) (λ h. absurd (subst (Holds j) mode_was h)) (λ f bad. absurd (cc)) (λ f bad. absurd (cc)) (λ _ _. refl);
+            },
+          ),
           λ c' q' mine' mid'.
               let o = one_hold c c' (Waiting q) (Waiting q') mine mine' me.0 mid mid' in
               let same_q : q ≡ q' = one_waits q q' o.1 in
@@ -468,7 +499,7 @@ module _ {Q P L M : Type 0} (stands : Laws Q P L M) (n : ℕ) where
               ),
         )
 
-    looks_done : (q0 : Q) (p : P) → r.phase c ≡ completed q0 p → q0 ≡ q → Goes s k id me saw x
+    looks_done : (q0 : Q) (p : P) → r.phase c ≡ completed q0 p → q0 ≡ q → Goes stands n (ComesWhere 2 (IsElect c q)) s r k id me saw x
     looks_done q0 p now asks =
         let at' : get_elem? s.views id ≡ some (hw ∷ []) = at ∙ ap some mid in
         let fit = (r.seats id (hw ∷ []) at').0 in
@@ -489,8 +520,12 @@ module _ {Q P L M : Type 0} (stands : Laws Q P L M) (n : ℕ) where
           h' ∷ [],
           takes c (Told p),
           row.1,
-          aside s r c id ws hs hw Collecting got (completed q0 p) collecting due told at' refl now tt tt (length-set s.words k x) (length-set s.homes c none)
-              (λ j _ _. same j) (λ j ne. set_else s.homes c j none ne) refl (λ four. sym (same (state_at c)) ∙ four) none_due (λ j ne. put_else r.due c [] j ne) (λ j ne. put_else r.told c got j ne) shares (sym told_is) (λ j e. put_at r.due c [] (λ i d. r.due i ≡ [] → d ≡ []) j (λ _ _. refl) (λ _ here. here) e) (λ phase here. here),
+          (
+            now_of stands n s r,
+            ((λ y. absurd (omega arith)), λ _. refl),
+            aside s r c id ws hs hw Collecting got (completed q0 p) collecting due told at' refl now tt tt (length-set s.words k x) (length-set s.homes c none)
+                (λ j _ _. same j) (λ j ne. set_else s.homes c j none ne) refl (λ four. sym (same (state_at c)) ∙ four) none_due (λ j ne. put_else r.due c [] j ne) (λ j ne. put_else r.told c got j ne) shares (sym told_is) (λ j e. put_at r.due c [] (λ i d. r.due i ≡ [] → d ≡ []) j (λ _ _. refl) (λ _ here. here) e) (λ phase here. here),
+          ),
           λ c' q' mine' mid'.
               let o = one_hold c c' (Waiting q) (Waiting q') mine mine' me.0 mid mid' in
               let same_q : q ≡ q' = one_waits q q' o.1 in (
@@ -500,7 +535,7 @@ module _ {Q P L M : Type 0} (stands : Laws Q P L M) (n : ℕ) where
               ),
         )
 
-    looks_at : (ph : Phase Q P) → r.phase c ≡ ph → Waits q ph → InPhase stands s.words s.homes c (r.due c) ph → Goes s k id me saw x
+    looks_at : (ph : Phase Q P) → r.phase c ≡ ph → Waits q ph → InPhase stands s.words s.homes c (r.due c) ph → Goes stands n (ComesWhere 2 (IsElect c q)) s r k id me saw x
     looks_at idle now w ok = absurd w
     looks_at (preparing v) now w ok = absurd w
     looks_at (linked e) now w ok = let one : x ≡ 1 = ap (λ (j : ℕ). get_or s.words j 0) is ∙ ok.1 in looks_on (λ y. omega arith) (λ y. omega arith)
@@ -510,11 +545,14 @@ module _ {Q P L M : Type 0} (stands : Laws Q P L M) (n : ℕ) where
     looks_at (completed q0 p) now w ok = looks_done q0 p now w
     looks_at collecting now w ok = absurd w
 
-    looks_all : Goes s k id me saw x
+    looks_all : Goes stands n (ComesWhere 2 (IsElect c q)) s r k id me saw x
     looks_all = let fit = (r.seats id (hw ∷ []) (at ∙ ap some mid)).0 in looks_at (r.phase c) refl fit.4 (r.rows c fit.1 fit.2)
 
+  pub looks_is : (slots id : ℕ) (me : Sat Q P L M) (c k : ℕ) (q : Q) (mine : List (Q × P)) → k ≡ state_at c → At c (Waiting q) mine me → me.1 ≡ [] → StepIs stands n (ComesWhere 2 (IsElect c q)) slots id me k (λ y. y) (looked stands.logs stands.kept (step slots k 0 0 none) me)
+  looks_is slots id me c k q mine is mid empty s r long at fits = looks_all slots id me c k q mine is mid empty s r at
+
   pub looks : (slots id : ℕ) (me : Sat Q P L M) (c k : ℕ) (q : Q) (mine : List (Q × P)) → k ≡ state_at c → At c (Waiting q) mine me → me.1 ≡ [] → Allows (Listed stands n) slots id me k (λ y. y) (looked stands.logs stands.kept (step slots k 0 0 none) me)
-  looks slots id me c k q mine is mid empty s r long at fits = looks_all slots id me c k q mine is mid empty s r at
+  looks slots id me c k q mine is mid empty = allows stands n (ComesWhere 2 (IsElect c q)) slots id me k (λ y. y) (looked stands.logs stands.kept (step slots k 0 0 none) me) (looks_is slots id me c k q mine is mid empty)
 
   pub enters_as : (stood : L → List (Handling Q P) → Type 0) → stands.logs ≡ stood → (slots id : ℕ) (me : Sat Q P L M) (c w old code : ℕ) (q : Q) (mine : List (Q × P)) (said : Option (Content Q P L M)) → w ≡ pack old code → At c (Preparing w) mine me → me.1 ≡ (c, Asked q) ∷ [] → code ≡ stands.code_of q
       → Allows (Listed stands n) slots id me 0 (λ y. either (eqb y old) c y) (entered stood (step slots 0 old c said) me)

@@ -1,4 +1,4 @@
--- The steps of a leader keep the rule.
+-- The steps of a leader: each keeps the rule, and which event it is.
 use Rattle.std.proofs.Common.{true, ◌≡◌, ◌≢◌, ℕ, suc, ◌+◌, ◌*◌, ◌/◌, ◌<◌, ◌≤◌, eqb, List, [], ◌∷◌, ◌++◌, length, get_or, set, refl, sym, ap, ◌∙◌, subst, inl, inr, ⊎_elim, arith, length-set, reverse, true, append-nil, append_assoc, get_or-set_other, get_or-set_same}
 use mathlib.Core.Logic.{dite}
 use mathlib.Core.Path.{Path}
@@ -19,17 +19,19 @@ use Rattle.list_rule.specs.declared.content.Content.TheVariants.{Empty, Asked, T
 use Rattle.list_rule.specs.declared.view.Stage.{Stage}
 use Rattle.list_rule.specs.declared.view.Stage.TheVariants.{Idle, Preparing, Waiting, Fresh, Leading, Cutting, Marking, Settling, Collecting}
 use Rattle.list_rule.specs.Chain.{AllCoded, state_at, older_at, newest, newest_from, Links, LinksFrom, Absent, Distinct, Within, of, heads, handling, answers, all_answers}
-use Rattle.list_rule.specs.Rule.{Phase, idle, preparing, linked, chosen, leads, taken, completed, collecting, Mode, open_, waits, led, built, base_of, InChain, Stand, Waits, AllLinked, AllTaken, AllOwed, Knows, AllFit, hold, InPhase, InMode, Account, Laws, Listed, Holds, InSecond, ahead, hold_at}
+use Rattle.list_rule.specs.Rule.{Phase, idle, preparing, linked, chosen, leads, taken, completed, collecting, Mode, open_, waits, led, built, base_of, InChain, Stand, Waits, AllLinked, AllTaken, AllOwed, Knows, AllFit, hold, InPhase, InMode, Laws, Listed, Holds, InSecond, ahead, hold_at}
 use Rattle.list_rule.specs.Grouping.{codes, IsGroup}
 use Rattle.list_rule.proofs.Fitting.{fitting, fitting_small, length-codes, is_group}
+use Rattle.list_rule.specs.Events.{Core}
+use Rattle.list_rule.specs.Steps.{Stays, ComesWhere, IsBuild, IsExit, now_of, IsNow, Becomes, StepIs}
 use Rattle.list_rule.specs.Plays.{Sat, building, At, walking, taking, in_hand, debt, slots_of, AllBelow, Walks, Builds, read_once, traced, fetched, left}
 use Rattle.list_rule.proofs.Chains.{put, put_at, put_here, put_else, links_same, ends_same, stand_change, linked_change, taken_change, owed_change}
-use Rattle.list_rule.proofs.Accounts.{builds_now, leaves_now}
-use Rattle.list_rule.proofs.Moves.{St, row_stays, knows_stays, knows_else, moved}
+use Rattle.list_rule.proofs.Accounts.{builds_now, stays_now, leaves_now}
+use Rattle.list_rule.proofs.Moves.{St, row_stays, knows_stays, knows_else, moved, Goes, allows, unmoved}
 use Rattle.list_rule.proofs.Keeps.{second_same, level_same}
 use Rattle.std.proofs.lemmas.List.{append_cancel_right, length-reverse}
 use Rattle.list_rule.proofs.Groups.{links_at, walk_bound, distinct_apart, distinct_front, distinct_back, within_at, linked_at, linked_front, linked_absent, taken_absent, of-append, of_other, new_none, new_own, owes, none_before_group}
-use Rattle.list_rule.proofs.Enters.{own, one_hold, Goes, unmoved}
+use Rattle.list_rule.proofs.Enters.{own, one_hold}
 
 last_or : {A : Type 0} → A → List A → A
 last_or d [] = d
@@ -157,40 +159,42 @@ module _ {Q P L M : Type 0} (stands : Laws Q P L M) (n : ℕ) where
 
   -- the seat alone moves
   pub reviewed : (s : St stands n) (r : Listed stands n s) (id : ℕ) (h : Hold Q P) (st : Stage Q P) → get_elem? s.views id ≡ some (h ∷ []) → Knows r.line r.hand r.handled r.mode r.phase r.due h.client st
-      → Listed stands n (record { words = s.words; homes = s.homes; views = set s.views id (hold_at h.client st h.mine h.back ∷ []) })
+      → IsNow stands n (now_of stands n s r) (record { words = s.words; homes = s.homes; views = set s.views id (hold_at h.client st h.mine h.back ∷ []) })
   reviewed s r id h st at knows =
-      let mine = (r.seats id (h ∷ []) at).0 in
-      record {
-        line = r.line;
-        hand = r.hand;
-        handled = r.handled;
-        mode = r.mode;
-        phase = r.phase;
-        due = r.due;
-        told = r.told;
-        seat = r.seat;
-        few = r.few;
-        wide = r.wide;
-        many = r.many;
-        newest_is = r.newest_is;
-        links = r.links;
-        distinct = r.distinct;
-        within = r.within;
-        stand = r.stand;
-        rows = r.rows;
-        log_is = r.log_is;
-        one_chosen = r.one_chosen;
-        account = r.account;
-        second = r.second;
-        two = r.two;
-        kept = r.kept;
-        coded = r.coded;
-        shared_out = r.shared_out;
-        seats = λ j x e. ⊎_elim
-            (λ (t : (j ≡ id) × (hold_at h.client st h.mine h.back ∷ [] ≡ x)). subst (λ (z : ℕ × List (Hold Q P)). AllFit n r.line r.hand r.handled r.mode r.phase r.due r.told r.two r.seat z.0 z.1) (λ i. (sym t.0 i, t.1 i)) ((mine.0, mine.1, mine.2, mine.3, knows, mine.5), tt))
-            (λ (t : (j ≢ id) × (get_elem? s.views j ≡ some x)). r.seats j x t.1)
-            (at_set s.views id j (hold_at h.client st h.mine h.back ∷ []) x e);
-      }
+      let mine = (r.seats id (h ∷ []) at).0 in (
+        record {
+          line = r.line;
+          hand = r.hand;
+          handled = r.handled;
+          mode = r.mode;
+          phase = r.phase;
+          due = r.due;
+          told = r.told;
+          seat = r.seat;
+          few = r.few;
+          wide = r.wide;
+          many = r.many;
+          newest_is = r.newest_is;
+          links = r.links;
+          distinct = r.distinct;
+          within = r.within;
+          stand = r.stand;
+          rows = r.rows;
+          log_is = r.log_is;
+          one_chosen = r.one_chosen;
+          account = r.account;
+          second = r.second;
+          two = r.two;
+          kept = r.kept;
+          coded = r.coded;
+          shared_out = r.shared_out;
+          seats = λ j x e. ⊎_elim
+              (λ (t : (j ≡ id) × (hold_at h.client st h.mine h.back ∷ [] ≡ x)). subst (λ (z : ℕ × List (Hold Q P)). AllFit n r.line r.hand r.handled r.mode r.phase r.due r.told r.two r.seat z.0 z.1) (λ i. (sym t.0 i, t.1 i)) ((mine.0, mine.1, mine.2, mine.3, knows, mine.5), tt))
+              (λ (t : (j ≢ id) × (get_elem? s.views j ≡ some x)). r.seats j x t.1)
+              (at_set s.views id j (hold_at h.client st h.mine h.back ∷ []) x e);
+        },
+        refl,
+      )
 
   pub all_below : (slots : ℕ) (es : List (Entry Q)) → suc n < slots → Within n es → AllBelow slots es
   all_below slots [] h ok = tt
@@ -198,7 +202,7 @@ module _ {Q P L M : Type 0} (stands : Laws Q P L M) (n : ℕ) where
 
   -- a load by a leader that reads the list anew
   pub walks_now : (slots id : ℕ) (me : Sat Q P L M) (c : ℕ) (lead : Lead Q P) (mine : List (Q × P)) → At c (Leading lead) mine me → (s : St stands n) (r : Listed stands n s) → get_elem? s.views id ≡ some me.0
-      → length s.homes ≡ slots → (w : List (Hold Q P)) × Listed stands n (stepped s 0 (get_or s.words 0 0) id me.1 w keeps) × Walks slots c lead mine (get_or s.words 0 0) me (w, me.1)
+      → length s.homes ≡ slots → (w : List (Hold Q P)) × Becomes stands n Stays (now_of stands n s r) (stepped s 0 (get_or s.words 0 0) id me.1 w keeps) × Walks slots c lead mine (get_or s.words 0 0) me (w, me.1)
   walks_now slots id me c lead mine mid s r at long =
       let h : Hold Q P = hold c (Leading lead) mine in
       let at' : get_elem? s.views id ≡ some (h ∷ []) = at ∙ ap some mid in
@@ -207,8 +211,12 @@ module _ {Q P L M : Type 0} (stands : Laws Q P L M) (n : ℕ) where
       let now : List (Entry Q) = k.queue ++ in_hand lead in
       let w : List (Hold Q P) = hold c (Leading (walking lead now)) mine ∷ [] in (
         w,
-        subst (λ (z : List ℕ). Listed stands n (record { words = z; homes = s.homes; views = set s.views id w })) (sym (set-get_or s.words 0 0))
-            (reviewed s r id h (Leading (walking lead now)) at' (fit.4.0, fit.4.1, ([], k.parts), fit.4.3, fit.4.4)),
+        (
+          now_of stands n s r,
+          refl,
+          subst (λ (z : List ℕ). IsNow stands n (now_of stands n s r) (record { words = z; homes = s.homes; views = set s.views id w })) (sym (set-get_or s.words 0 0))
+              (reviewed s r id h (Leading (walking lead now)) at' (fit.4.0, fit.4.1, ([], k.parts), fit.4.3, fit.4.4)),
+        ),
         (
           k.queue,
           refl,
@@ -228,8 +236,8 @@ module _ {Q P L M : Type 0} (stands : Laws Q P L M) (n : ℕ) where
   all_coded s r (f ∷ front) es ok = all_coded s r front es ok.1
 
   -- the leader reads the queue, and so builds its group
-  pub reads : (slots id : ℕ) (me : Sat Q P L M) (max c : ℕ) (own0 : Entry Q) (seen : List (Handling Q P)) (mine : List (Q × P)) → At c (Fresh own0 seen) mine me → Allows (Listed stands n) slots id me 0 (λ y. y) (read_once stands.code_of max (step slots 0 0 0 none) me)
-  reads slots id me max c o seen mine mid s r long at fits =
+  pub reads_is : (slots id : ℕ) (me : Sat Q P L M) (max c : ℕ) (own0 : Entry Q) (seen : List (Handling Q P)) (mine : List (Q × P)) → At c (Fresh own0 seen) mine me → StepIs stands n (λ _. IsBuild max own0) slots id me 0 (λ y. y) (read_once stands.code_of max (step slots 0 0 0 none) me)
+  reads_is slots id me max c o seen mine mid s r long at fits =
       let h : Hold Q P = hold c (Fresh o seen) mine in
       let at' : get_elem? s.views id ≡ some (h ∷ []) = at ∙ ap some mid in
       let fit = (r.seats id (h ∷ []) at').0 in
@@ -249,40 +257,45 @@ module _ {Q P L M : Type 0} (stands : Laws Q P L M) (n : ℕ) where
       let ph : Phase Q P = leads o in
       let here : put r.phase c ph c ≡ ph = put_here r.phase c ph in
       let ws : List ℕ = set s.words 0 (get_or s.words 0 0) in
+      let acc = builds_now r.line r.handled r.mode r.account max c o group left led_c by_c parts cuts.3 in
       let same : (j : ℕ) → get_or ws j 0 ≡ get_or s.words j 0 = λ j. ap (λ (l : List ℕ). get_or l j 0) (set-get_or s.words 0 0) in (
         w,
         keeps,
         tt,
-        moved stands n s r c id ws s.homes h (hold c (Leading lead) mine) r.line r.hand r.handled (built c group) ph r.due r.told r.two record {
-          at = at';
-          same_client = refl;
-          wide = length-set s.words 0 (get_or s.words 0 0);
-          many = refl;
-          newest_is = same 0 ∙ (r.newest_is ∙ ap (λ b. newest_from b r.line) base);
-          links = links_same 0 s.words ws r.line (λ j. same (older_at j)) (subst (λ b. LinksFrom b s.words r.line) base r.links);
-          distinct = r.distinct;
-          within = r.within;
-          stand = stand_change r.phase c ph r.line (λ e is_in. subst (InChain e) fit.4.1 is_in) r.stand;
-          other_rows = λ j ne _ _. row_stays stands n s.words ws s.homes s.homes j (r.due j) (same (state_at j)) (same (older_at j)) refl (r.phase j);
-          row = by_c;
-          log_is = (
-            (queue, o, m.0.2 ∙ (λ i. queue ++ (sym m.1 i ++ same_o i ∷ [])), linked_change r.phase c ph queue (λ e bad. absurd (cc)) m.0.3, here, by_c),
-            subst (AllTaken (put r.phase c ph) r.due c) (sym m.1) tt,
-            m.2,
-          );
-          one_chosen = λ j e. put_at r.phase c ph (λ i g. g ≡ chosen e → Path (Mode Q) (built c group) (waits i)) j (λ _ bad. absurd (cc)) (λ _ ok. let was : r.mode ≡ waits j = r.one_chosen j e ok in absurd (cc));
-          kept = r.kept;
-          coded = λ e is. r.coded c e (subst (InChain e) (sym fit.4.1) is);
-          account = subst (λ (i : ℕ). Account r.line r.handled (built i group)) by_c (builds_now r.line r.handled max o group left parts cuts.3 (subst (Account r.line r.handled) (led_c ∙ ap led (sym by_c)) r.account));
-          second = second_same stands n s.words ws s.homes s.homes r.phase c ph r.mode (built c group) (stands.last r.handled) (stands.last r.handled) r.two (inl fit.4.1) (λ j _. same j) refl (λ k h. inr (ap r.two.place (sym h) ∙ fit.5.0)) (λ k h. inl (subst (Holds k) (sym led_c) h)) (λ k _ h. subst (Holds k) led_c h) (λ v. v) r.second;
-          back = fit.5;
-          else_back = λ _ _ _ ok. ok;
-          shared_out = r.shared_out;
-          told_else = λ _ _. refl;
-          mine = fit.3;
-          knows = (refl, here, ([], parts), fit.4.2, sym m.1);
-          others = λ j ne. knows_else stands n r.line r.line r.hand r.handled r.mode (built c group) r.phase r.due r.due c ph j ne (ends_same r.line) (λ h. absurd (ne (sym (subst (Holds j) led_c h)))) (λ e bad. absurd (cc)) (λ e bad. absurd (cc)) (λ _ _. refl);
-        },
+        (
+          (acc.0.queue, acc.0.log, r.handled),
+          (group, left, acc.1),
+          moved stands n s r c id ws s.homes h (hold c (Leading lead) mine) r.line r.hand r.handled (built c group) ph r.due r.told r.two record {
+            at = at';
+            same_client = refl;
+            wide = length-set s.words 0 (get_or s.words 0 0);
+            many = refl;
+            newest_is = same 0 ∙ (r.newest_is ∙ ap (λ b. newest_from b r.line) base);
+            links = links_same 0 s.words ws r.line (λ j. same (older_at j)) (subst (λ b. LinksFrom b s.words r.line) base r.links);
+            distinct = r.distinct;
+            within = r.within;
+            stand = stand_change r.phase c ph r.line (λ e is_in. subst (InChain e) fit.4.1 is_in) r.stand;
+            other_rows = λ j ne _ _. row_stays stands n s.words ws s.homes s.homes j (r.due j) (same (state_at j)) (same (older_at j)) refl (r.phase j);
+            row = by_c;
+            log_is = (
+              (queue, o, m.0.2 ∙ (λ i. queue ++ (sym m.1 i ++ same_o i ∷ [])), linked_change r.phase c ph queue (λ e bad. absurd (cc)) m.0.3, here, by_c),
+              subst (AllTaken (put r.phase c ph) r.due c) (sym m.1) tt,
+              m.2,
+            );
+            one_chosen = λ j e. put_at r.phase c ph (λ i g. g ≡ chosen e → Path (Mode Q) (built c group) (waits i)) j (λ _ bad. absurd (cc)) (λ _ ok. let was : r.mode ≡ waits j = r.one_chosen j e ok in absurd (cc));
+            kept = r.kept;
+            coded = λ e is. r.coded c e (subst (InChain e) (sym fit.4.1) is);
+            account = acc.0;
+            second = second_same stands n s.words ws s.homes s.homes r.phase c ph r.mode (built c group) (stands.last r.handled) (stands.last r.handled) r.two (inl fit.4.1) (λ j _. same j) refl (λ k h. inr (ap r.two.place (sym h) ∙ fit.5.0)) (λ k h. inl (subst (Holds k) (sym led_c) h)) (λ k _ h. subst (Holds k) led_c h) (λ v. v) r.second;
+            back = fit.5;
+            else_back = λ _ _ _ ok. ok;
+            shared_out = r.shared_out;
+            told_else = λ _ _. refl;
+            mine = fit.3;
+            knows = (refl, here, ([], parts), fit.4.2, sym m.1);
+            others = λ j ne. knows_else stands n r.line r.line r.hand r.handled r.mode (built c group) r.phase r.due r.due c ph j ne (ends_same r.line) (λ h. absurd (ne (sym (subst (Holds j) led_c h)))) (λ e bad. absurd (cc)) (λ e bad. absurd (cc)) (λ _ _. refl);
+          },
+        ),
         λ c' o' seen' mine' mid'. let e = one_hold c c' (Fresh o seen) (Fresh o' seen') mine mine' me.0 mid mid' in
             let f = one_fresh o o' seen seen' e.1 in
             subst (λ (z : ℕ × Entry Q × List (Handling Q P) × List (Q × P)). Builds stands.code_of slots max z.0 z.1 z.2 z.3 (get_or s.words 0 0) me (w, me.1)) (λ i. (e.0 i, f.0 i, f.1 i, e.2 i)) (
@@ -297,12 +310,15 @@ module _ {Q P L M : Type 0} (stands : Laws Q P L M) (n : ℕ) where
             ),
       )
 
-  pub traces : (slots id : ℕ) (me : Sat Q P L M) (k : ℕ) → Allows (Listed stands n) slots id me k (λ y. y) (traced (step slots k 0 0 none) me)
-  traces slots id me k s r long at fits = (
+  pub reads : (slots id : ℕ) (me : Sat Q P L M) (max c : ℕ) (own0 : Entry Q) (seen : List (Handling Q P)) (mine : List (Q × P)) → At c (Fresh own0 seen) mine me → Allows (Listed stands n) slots id me 0 (λ y. y) (read_once stands.code_of max (step slots 0 0 0 none) me)
+  reads slots id me max c o seen mine mid = allows stands n (λ _. IsBuild max o) slots id me 0 (λ y. y) (read_once stands.code_of max (step slots 0 0 0 none) me) (reads_is slots id me max c o seen mine mid)
+
+  pub traces_is : (slots id : ℕ) (me : Sat Q P L M) (k : ℕ) → StepIs stands n (λ _. Stays) slots id me k (λ y. y) (traced (step slots k 0 0 none) me)
+  traces_is slots id me k s r long at fits = (
     me.0,
     keeps,
     tt,
-    unmoved stands n s k id me.1 me.0 at r,
+    unmoved stands n Stays s k id me.1 me.0 at r refl,
     (
       refl,
       λ c lead mine pre x post mid is_walk is_word.
@@ -313,9 +329,12 @@ module _ {Q P L M : Type 0} (stands : Laws Q P L M) (n : ℕ) where
     ),
   )
 
-  pub fetches : (slots id : ℕ) (me : Sat Q P L M) (c k : ℕ) (lead : Lead Q P) (mine : List (Q × P)) (pre : List (Entry Q)) (x : Entry Q) → At c (Leading lead) mine me → lead.walk ≡ pre ++ x ∷ in_hand lead → k ≡ older_at x.by
-      → Allows (Listed stands n) slots id me k (λ y. y) (fetched (step slots k 0 0 none) me)
-  fetches slots id me c k lead mine pre x mid is_walk is_word s r long at fits =
+  pub traces : (slots id : ℕ) (me : Sat Q P L M) (k : ℕ) → Allows (Listed stands n) slots id me k (λ y. y) (traced (step slots k 0 0 none) me)
+  traces slots id me k = allows stands n (λ _. Stays) slots id me k (λ y. y) (traced (step slots k 0 0 none) me) (traces_is slots id me k)
+
+  pub fetches_is : (slots id : ℕ) (me : Sat Q P L M) (c k : ℕ) (lead : Lead Q P) (mine : List (Q × P)) (pre : List (Entry Q)) (x : Entry Q) → At c (Leading lead) mine me → lead.walk ≡ pre ++ x ∷ in_hand lead → k ≡ older_at x.by
+      → StepIs stands n (λ _. Stays) slots id me k (λ y. y) (fetched (step slots k 0 0 none) me)
+  fetches_is slots id me c k lead mine pre x mid is_walk is_word s r long at fits =
       let h : Hold Q P = hold c (Leading lead) mine in
       let at' : get_elem? s.views id ≡ some (h ∷ []) = at ∙ ap some mid in
       let fit = (r.seats id (h ∷ []) at').0 in
@@ -342,46 +361,50 @@ module _ {Q P L M : Type 0} (stands : Laws Q P L M) (n : ℕ) where
       let here : put r.phase x.by ph x.by ≡ ph = put_here r.phase x.by ph in
       let h' : Hold Q P = hold c (Leading (taking lead x)) mine in
       let no_taken : (l : ℕ) (e : Entry Q) → r.phase x.by ≡ taken l e → ⊥ = λ l e bad. absurd (cc) in
-      let m' : Sat Q P L M = (h' ∷ [], (x.by, Asked x.asked) ∷ me.1) in (
+      let acc = stays_now r.line r.handled r.mode r.account (built c lead.group) led_c in (
         h' ∷ [],
         takes x.by (Asked x.asked),
         row.2,
-        moved stands n s r x.by id ws hs h h' r.line (x ∷ r.hand) r.handled (built c lead.group) ph r.due r.told r.two record {
-          at = at';
-          same_client = refl;
-          wide = length-set s.words k (get_or s.words k 0);
-          many = length-set s.homes x.by none;
-          newest_is = same 0 ∙ (r.newest_is ∙ ap (λ b. newest_from b r.line) f.base);
-          links = links_same 0 s.words ws r.line (λ j. same (older_at j)) (subst (λ b. LinksFrom b s.words r.line) f.base r.links);
-          distinct = r.distinct;
-          within = r.within;
-          stand = stand_change r.phase x.by ph r.line (λ e is_in. subst (InChain e) now is_in) r.stand;
-          other_rows = λ j ne lo' _. row_stays stands n s.words ws s.homes hs j (r.due j) (same (state_at j)) (same (older_at j)) (set_else s.homes x.by j none ne) (r.phase j);
-          row = (row.0, (λ e. let one : get_or s.words (state_at x.by) 0 ≡ 1 = row.1 in let e' = sym (same (state_at x.by)) ∙ e in absurd (omega arith)), (λ e. let one : get_or s.words (state_at x.by) 0 ≡ 1 = row.1 in let e' = sym (same (state_at x.by)) ∙ e in absurd (omega arith)));
-          log_is = (
-            (q, lead.own, parts ∙ (λ i. q ++ x ∷ (fit.4.4 i ++ lead.own ∷ [])), linked_absent r.phase x.by ph q apart (linked_front r.phase q (x ∷ []) queued), put_else r.phase x.by ph c other ∙ mine_now, f.own_by),
-            (here, row.3, taken_change r.phase r.due r.due x.by ph c r.hand (λ e bad. absurd (no_taken c e bad)) (λ _ _. refl) (subst (AllTaken r.phase r.due c) fit.4.4 f.members)),
-            f.own_due,
-          );
-          one_chosen = λ j e. put_at r.phase x.by ph (λ i g. g ≡ chosen e → Path (Mode Q) (built c lead.group) (waits i)) j (λ _ bad. absurd (cc)) (λ _ ok. sym led_c ∙ r.one_chosen j e ok);
-          kept = r.kept;
-          coded = λ e is. r.coded x.by e (subst (InChain e) (sym now) is);
-          account = subst (Account r.line r.handled) led_c r.account;
-          second = second_same stands n s.words ws s.homes hs r.phase x.by ph r.mode (built c lead.group) (stands.last r.handled) (stands.last r.handled) r.two (inr (λ there. subst (InSecond r.two.place x.by) now there)) (λ j _. same j) (set_else s.homes x.by (n + 1) none (λ e. omega arith)) (λ k h. inr (ap r.two.place (sym h) ∙ fit.5.0)) (λ k h. inl (subst (Holds k) (sym led_c) h)) (λ k _ h. subst (Holds k) led_c h) (λ v. v) r.second;
-          back = fit.5;
-          else_back = λ _ _ _ ok. ok;
-          shared_out = r.shared_out;
-          told_else = λ _ _. refl;
-          mine = fit.3;
-          knows = (refl, put_else r.phase x.by ph c other ∙ mine_now, ends, fit.4.3, ap (λ l. x ∷ l) fit.4.4);
-          others = λ j ne. dite (ℕ_discrete j x.by)
-              (λ e. subst (λ (i : ℕ). (st : Stage Q P) → Knows r.line r.hand r.handled r.mode r.phase r.due i st → Knows r.line (x ∷ r.hand) r.handled (built c lead.group) (put r.phase x.by ph) r.due i st) (sym e)
-              (still_waits r.line r.line r.hand (x ∷ r.hand) r.handled r.handled r.mode (built c lead.group) r.phase (put r.phase x.by ph) r.due r.due x.by (linked x) now tt (λ u is. subst (Waits u) (sym here) is)))
-              (λ away. knows_stays stands n r.line r.line r.hand (x ∷ r.hand) r.handled r.handled r.mode (built c lead.group) r.phase (put r.phase x.by ph) r.due r.due j (put_else r.phase x.by ph j away)
-              (λ h. absurd (ne (sym (subst (Holds j) led_c h))))
-              (λ e y is_taken owed. (put_at r.phase x.by ph (λ i g. r.phase i ≡ taken j e → g ≡ taken j e) e.by (λ is t. absurd (no_taken j e (ap r.phase (sym is) ∙ t))) (λ _ t. t) is_taken, owed))
-              (λ e y _ owed. owed));
-        },
+        (
+          (acc.0.queue, acc.0.log, r.handled),
+          acc.1,
+          moved stands n s r x.by id ws hs h h' r.line (x ∷ r.hand) r.handled (built c lead.group) ph r.due r.told r.two record {
+            at = at';
+            same_client = refl;
+            wide = length-set s.words k (get_or s.words k 0);
+            many = length-set s.homes x.by none;
+            newest_is = same 0 ∙ (r.newest_is ∙ ap (λ b. newest_from b r.line) f.base);
+            links = links_same 0 s.words ws r.line (λ j. same (older_at j)) (subst (λ b. LinksFrom b s.words r.line) f.base r.links);
+            distinct = r.distinct;
+            within = r.within;
+            stand = stand_change r.phase x.by ph r.line (λ e is_in. subst (InChain e) now is_in) r.stand;
+            other_rows = λ j ne lo' _. row_stays stands n s.words ws s.homes hs j (r.due j) (same (state_at j)) (same (older_at j)) (set_else s.homes x.by j none ne) (r.phase j);
+            row = (row.0, (λ e. let one : get_or s.words (state_at x.by) 0 ≡ 1 = row.1 in let e' = sym (same (state_at x.by)) ∙ e in absurd (omega arith)), (λ e. let one : get_or s.words (state_at x.by) 0 ≡ 1 = row.1 in let e' = sym (same (state_at x.by)) ∙ e in absurd (omega arith)));
+            log_is = (
+              (q, lead.own, parts ∙ (λ i. q ++ x ∷ (fit.4.4 i ++ lead.own ∷ [])), linked_absent r.phase x.by ph q apart (linked_front r.phase q (x ∷ []) queued), put_else r.phase x.by ph c other ∙ mine_now, f.own_by),
+              (here, row.3, taken_change r.phase r.due r.due x.by ph c r.hand (λ e bad. absurd (no_taken c e bad)) (λ _ _. refl) (subst (AllTaken r.phase r.due c) fit.4.4 f.members)),
+              f.own_due,
+            );
+            one_chosen = λ j e. put_at r.phase x.by ph (λ i g. g ≡ chosen e → Path (Mode Q) (built c lead.group) (waits i)) j (λ _ bad. absurd (cc)) (λ _ ok. sym led_c ∙ r.one_chosen j e ok);
+            kept = r.kept;
+            coded = λ e is. r.coded x.by e (subst (InChain e) (sym now) is);
+            account = acc.0;
+            second = second_same stands n s.words ws s.homes hs r.phase x.by ph r.mode (built c lead.group) (stands.last r.handled) (stands.last r.handled) r.two (inr (λ there. subst (InSecond r.two.place x.by) now there)) (λ j _. same j) (set_else s.homes x.by (n + 1) none (λ e. omega arith)) (λ k h. inr (ap r.two.place (sym h) ∙ fit.5.0)) (λ k h. inl (subst (Holds k) (sym led_c) h)) (λ k _ h. subst (Holds k) led_c h) (λ v. v) r.second;
+            back = fit.5;
+            else_back = λ _ _ _ ok. ok;
+            shared_out = r.shared_out;
+            told_else = λ _ _. refl;
+            mine = fit.3;
+            knows = (refl, put_else r.phase x.by ph c other ∙ mine_now, ends, fit.4.3, ap (λ l. x ∷ l) fit.4.4);
+            others = λ j ne. dite (ℕ_discrete j x.by)
+                (λ e. subst (λ (i : ℕ). (st : Stage Q P) → Knows r.line r.hand r.handled r.mode r.phase r.due i st → Knows r.line (x ∷ r.hand) r.handled (built c lead.group) (put r.phase x.by ph) r.due i st) (sym e)
+                (still_waits r.line r.line r.hand (x ∷ r.hand) r.handled r.handled r.mode (built c lead.group) r.phase (put r.phase x.by ph) r.due r.due x.by (linked x) now tt (λ u is. subst (Waits u) (sym here) is)))
+                (λ away. knows_stays stands n r.line r.line r.hand (x ∷ r.hand) r.handled r.handled r.mode (built c lead.group) r.phase (put r.phase x.by ph) r.due r.due j (put_else r.phase x.by ph j away)
+                (λ h. absurd (ne (sym (subst (Holds j) led_c h))))
+                (λ e y is_taken owed. (put_at r.phase x.by ph (λ i g. r.phase i ≡ taken j e → g ≡ taken j e) e.by (λ is t. absurd (no_taken j e (ap r.phase (sym is) ∙ t))) (λ _ t. t) is_taken, owed))
+                (λ e y _ owed. owed));
+          },
+        ),
         λ c' lead' mine' pre' x' mid' is_walk' is_word'.
             let e = one_hold c c' (Leading lead) (Leading lead') mine mine' me.0 mid mid' in
             let le : lead ≡ lead' = one_lead lead lead' e.1 in
@@ -389,6 +412,10 @@ module _ {Q P L M : Type 0} (stands : Laws Q P L M) (n : ℕ) where
             let same_x : x ≡ x' = same_last pre pre' x x' (append_cancel_right (pre ++ x ∷ []) (pre' ++ x' ∷ []) H (snoc pre x H ∙ (two ∙ sym (snoc pre' x' H)))) in
             ((λ i. hold (e.0 i) (Leading (taking (le i) (same_x i))) (e.2 i) ∷ []), (λ i. ((same_x i).by, Asked (same_x i).asked) ∷ me.1)),
       )
+
+  pub fetches : (slots id : ℕ) (me : Sat Q P L M) (c k : ℕ) (lead : Lead Q P) (mine : List (Q × P)) (pre : List (Entry Q)) (x : Entry Q) → At c (Leading lead) mine me → lead.walk ≡ pre ++ x ∷ in_hand lead → k ≡ older_at x.by
+      → Allows (Listed stands n) slots id me k (λ y. y) (fetched (step slots k 0 0 none) me)
+  fetches slots id me c k lead mine pre x mid is_walk is_word = allows stands n (λ _. Stays) slots id me k (λ y. y) (fetched (step slots k 0 0 none) me) (fetches_is slots id me c k lead mine pre x mid is_walk is_word)
 
 abbrev pub told_in : {Q P L M : Type 0} → P → Content Q P L M → P
 told_in d Empty = d
@@ -472,7 +499,7 @@ module _ {Q P L M : Type 0} (stands : Laws Q P L M) (n : ℕ) where
   module _ (slots id : ℕ) (me : Sat Q P L M) (c old : ℕ) (lead : Lead Q P) (mine : List (Q × P)) (gs : List (Entry Q × P)) (p : P) (l : L) (said : Option (Content Q P L M)) (mid : At c (Leading lead) mine me) (group : heads gs ≡ lead.taken)
       (slot : me.1 ≡ (0, Log l) ∷ slots_of gs ((c, Told p) ∷ [])) (is_old : old ≡ newest (in_hand lead)) (all : lead.taken ≡ lead.group) (stood : stands.logs l (lead.seen ++ all_answers lead.own p gs)) (unnumbered : stands.piped ≡ true → stands.last (lead.seen ++ all_answers lead.own p gs) ≡ stands.last lead.seen)
       (s : St stands n) (r : Listed stands n s) (at : get_elem? s.views id ≡ some me.0) (hit : get_or s.words 0 0 ≡ old) where
-    leaves_last : Goes stands n s 0 id me (left (step slots 0 old 0 said) me) 0
+    leaves_last : Goes stands n (ComesWhere old (IsExit lead.own p gs)) s r 0 id me (left (step slots 0 old 0 said) me) 0
     leaves_last =
         let h : Hold Q P = hold c (Leading lead) mine in
         let at' : get_elem? s.views id ≡ some (h ∷ []) = at ∙ ap some mid in
@@ -497,7 +524,9 @@ module _ {Q P L M : Type 0} (stands : Laws Q P L M) (n : ℕ) where
         let here : phase' c ≡ ph = put_here r.phase c ph in
         let more : List (Handling Q P) = all_answers lead.own p gs in
         let owe : ℕ → List (Q × P) = λ k. r.due k ++ of k more in
-        let moved_to : Listed stands n (record { words = ws; homes = hs; views = set s.views id (h' ∷ []) }) =
+        let acc = leaves_now r.line r.handled r.mode r.account c lead.group lead.own more led_c (f.parts ∙ (λ i. none_newer i ++ (all i ++ lead.own ∷ []))) in
+        let now_is : Core Q P = (acc.0.queue, acc.0.log, r.handled ++ more) in
+        let moved_to : IsNow stands n now_is (record { words = ws; homes = hs; views = set s.views id (h' ∷ []) }) =
         moved stands n s r c id ws hs h h' [] [] (r.handled ++ more) open_ ph owe r.told r.two record {
           at = at';
           same_client = refl;
@@ -515,7 +544,7 @@ module _ {Q P L M : Type 0} (stands : Laws Q P L M) (n : ℕ) where
           one_chosen = λ j e. put_at r.phase c ph (λ i g. g ≡ chosen e → Path (Mode Q) (open_) (waits i)) j (λ _ bad. absurd (cc)) (λ _ ok. let was : r.mode ≡ waits j = r.one_chosen j e ok in absurd (cc));
           kept = stands.keeps l (r.handled ++ more) (subst (λ z. stands.logs l (z ++ more)) fit.4.3 stood);
           coded = λ e is. r.coded c e (subst (InChain e) (sym now) is);
-          account = leaves_now r.line r.handled c lead.group lead.own more (f.parts ∙ (λ i. none_newer i ++ (all i ++ lead.own ∷ []))) (subst (Account r.line r.handled) led_c r.account);
+          account = acc.0;
           second = second_same stands n s.words ws s.homes hs r.phase c ph r.mode open_ (stands.last r.handled) (stands.last (r.handled ++ more)) r.two (inl now) same (set_else s.homes 0 (n + 1) (some (Log l)) (λ e. omega arith)) (λ k h. absurd h) (λ k h. absurd h) (λ k is h. absurd (fit.5.1 (is ∙ ap ahead (sym (subst (Holds k) led_c h))))) (level_same stands n stands.piped r.two (stands.last r.handled) (stands.last (r.handled ++ more)) (subst (λ (z : List (Handling Q P)). stands.piped ≡ true → stands.last (z ++ more) ≡ stands.last z) fit.4.3 unnumbered)) r.second;
           back = fit.5;
           else_back = λ _ _ _ ok. ok;
@@ -537,7 +566,7 @@ module _ {Q P L M : Type 0} (stands : Laws Q P L M) (n : ℕ) where
           h' ∷ [],
           gives,
           tt,
-          subst (λ (t : List (ℕ × Content Q P L M)). Listed stands n (stepped s 0 0 id t (h' ∷ []) gives)) (sym slot) moved_to,
+          (now_is, ((λ _. acc.1), λ miss. absurd (miss hit)), subst (λ (t : List (ℕ × Content Q P L M)). IsNow stands n now_is (stepped s 0 0 id t (h' ∷ []) gives)) (sym slot) moved_to),
           λ c' lead' mine' gs' p' l' mid' group' slot'.
               let e = one_hold c c' (Leading lead) (Leading lead') mine mine' me.0 mid mid' in
               let le : lead ≡ lead' = one_lead lead lead' e.1 in
@@ -547,19 +576,24 @@ module _ {Q P L M : Type 0} (stands : Laws Q P L M) (n : ℕ) where
               ),
         )
 
-  pub leaves : (slots id : ℕ) (me : Sat Q P L M) (c old : ℕ) (lead : Lead Q P) (mine : List (Q × P)) (gs : List (Entry Q × P)) (p : P) (l : L) (said : Option (Content Q P L M)) → At c (Leading lead) mine me → heads gs ≡ lead.taken
+  pub leaves_is : (slots id : ℕ) (me : Sat Q P L M) (c old : ℕ) (lead : Lead Q P) (mine : List (Q × P)) (gs : List (Entry Q × P)) (p : P) (l : L) (said : Option (Content Q P L M)) → At c (Leading lead) mine me → heads gs ≡ lead.taken
       → me.1 ≡ (0, Log l) ∷ slots_of gs ((c, Told p) ∷ []) → old ≡ newest (in_hand lead) → lead.taken ≡ lead.group → stands.logs l (lead.seen ++ all_answers lead.own p gs) → (stands.piped ≡ true → stands.last (lead.seen ++ all_answers lead.own p gs) ≡ stands.last lead.seen)
-      → Allows (Listed stands n) slots id me 0 (λ y. either (eqb y old) 0 y) (left (step slots 0 old 0 said) me)
-  leaves slots id me c old lead mine gs p l said mid group slot is_old all stood unnumbered s r long at fits = exchanged (get_or s.words 0 0) old 0 (Goes stands n s 0 id me (left (step slots 0 old 0 said) me))
+      → StepIs stands n (ComesWhere old (IsExit lead.own p gs)) slots id me 0 (λ y. either (eqb y old) 0 y) (left (step slots 0 old 0 said) me)
+  leaves_is slots id me c old lead mine gs p l said mid group slot is_old all stood unnumbered s r long at fits = exchanged (get_or s.words 0 0) old 0 (Goes stands n (ComesWhere old (IsExit lead.own p gs)) s r 0 id me (left (step slots 0 old 0 said) me))
       (λ hit. leaves_last slots id me c old lead mine gs p l said mid group slot is_old all stood unnumbered s r at hit)
       (λ miss.
       let t = walks_now stands n slots id me c lead mine mid s r at long in (
         t.0,
         keeps,
         tt,
-        t.1,
+        (t.1.0, ((λ hit. absurd (miss hit)), λ _. t.1.1), t.1.2),
         λ c' lead' mine' gs' p' l' mid' group' slot'. let e = one_hold c c' (Leading lead) (Leading lead') mine mine' me.0 mid mid' in (
           (λ hit. absurd (miss hit)),
           λ _. subst (λ (z : ℕ × Lead Q P × List (Q × P)). Walks slots z.0 z.1 z.2 (get_or s.words 0 0) me (t.0, me.1)) (λ i. (e.0 i, one_lead lead lead' e.1 i, e.2 i)) t.2,
         ),
       ))
+
+  pub leaves : (slots id : ℕ) (me : Sat Q P L M) (c old : ℕ) (lead : Lead Q P) (mine : List (Q × P)) (gs : List (Entry Q × P)) (p : P) (l : L) (said : Option (Content Q P L M)) → At c (Leading lead) mine me → heads gs ≡ lead.taken
+      → me.1 ≡ (0, Log l) ∷ slots_of gs ((c, Told p) ∷ []) → old ≡ newest (in_hand lead) → lead.taken ≡ lead.group → stands.logs l (lead.seen ++ all_answers lead.own p gs) → (stands.piped ≡ true → stands.last (lead.seen ++ all_answers lead.own p gs) ≡ stands.last lead.seen)
+      → Allows (Listed stands n) slots id me 0 (λ y. either (eqb y old) 0 y) (left (step slots 0 old 0 said) me)
+  leaves slots id me c old lead mine gs p l said mid group slot is_old all stood unnumbered = allows stands n (ComesWhere old (IsExit lead.own p gs)) slots id me 0 (λ y. either (eqb y old) 0 y) (left (step slots 0 old 0 said) me) (leaves_is slots id me c old lead mine gs p l said mid group slot is_old all stood unnumbered)

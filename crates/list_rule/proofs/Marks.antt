@@ -23,20 +23,22 @@ use Rattle.list_rule.specs.declared.content.Content.{Content}
 use Rattle.list_rule.specs.declared.content.Content.TheVariants.{Told, Log}
 use Rattle.list_rule.specs.declared.view.Stage.TheVariants.{Leading, Cutting, Marking, Settling}
 use Rattle.list_rule.specs.Chain.{state_at, older_at, pack, newest, newest_from, Links, LinksFrom, Absent, Distinct, Within, of, heads, all_answers}
-use Rattle.list_rule.specs.Rule.{Phase, linked, chosen, leads, taken, Mode, open_, waits, built, cut, marked, base_of, InChain, AllLinked, AllTaken, hold, InPhase, InMode, Account, Laws, Listed, Holds, InSecond, parted, ahead, hold_at}
+use Rattle.list_rule.specs.Rule.{Phase, linked, chosen, leads, taken, Mode, open_, waits, built, cut, marked, base_of, InChain, AllLinked, AllTaken, hold, InPhase, InMode, Laws, Listed, Holds, InSecond, parted, ahead, hold_at}
+use Rattle.list_rule.specs.Events.{Core}
+use Rattle.list_rule.specs.Steps.{Stays, ComesWhere, IsExit, now_of, IsNow, StepIs}
 use Rattle.list_rule.specs.Plays.{Sat, At, walking, in_hand, debt, slots_of, Walks, AtWith, parting, onward, marked_off, freed, WalksMarked, traced_marked, cut_marked}
 use Rattle.list_rule.proofs.Chains.{put, put_at, put_here, put_else, links_same, stand_change, linked_change, taken_change, owed_change}
 use Rattle.list_rule.proofs.Accounts.{marks_now, frees_now, recuts_now}
-use Rattle.list_rule.proofs.Moves.{St, row_stays, knows_stays, moved}
+use Rattle.list_rule.proofs.Moves.{St, row_stays, knows_stays, moved, Goes, allows, unmoved}
 use Rattle.list_rule.proofs.Keeps.{second_stays, second_same, put_same}
 use Rattle.list_rule.proofs.Groups.{walk_bound, distinct_apart, distinct_front, distinct_back, within_at, linked_at, linked_front, none_before_group}
-use Rattle.list_rule.proofs.Enters.{one_hold, Goes, unmoved}
+use Rattle.list_rule.proofs.Enters.{one_hold}
 use Rattle.list_rule.proofs.Leads.{reviewed, all_below, one_lead, lead_in, leader, walks_now, same_group, others_of, same_last, middle, shared_more, own_owed, all_owed, else_owed, else_due, else_row}
 
 module _ {Q P L M : Type 0} (stands : Laws Q P L M) (n : ℕ) where
   module _ (from slots id : ℕ) (me : Sat Q P L M) (c old : ℕ) (lead : Lead Q P) (mine : List (Q × P)) (said : Option (Content Q P L M)) (mid : At c (Leading lead) mine me) (is_old : old ≡ newest (in_hand lead)) (all : lead.taken ≡ lead.group)
       (s : St stands n) (r : Listed stands n s) (at : get_elem? s.views id ≡ some me.0) (hit : get_or s.words 0 0 ≡ old) where
-    marks_last : Goes stands n s 0 id me (marked_off from (step slots 0 old 255 said) me) 255
+    marks_last : Goes stands n (λ _. Stays) s r 0 id me (marked_off from (step slots 0 old 255 said) me) 255
     marks_last =
         let h : Hold Q P = hold c (Leading lead) mine in
         let at' : get_elem? s.views id ≡ some (h ∷ []) = at ∙ ap some mid in
@@ -54,51 +56,56 @@ module _ {Q P L M : Type 0} (stands : Laws Q P L M) (n : ℕ) where
         let same : (j : ℕ) → j ≢ 0 → get_or ws j 0 ≡ get_or s.words j 0 = λ j ne. get_or-set_other s.words 0 j 255 0 (λ e. ne (omega arith)) in
         let ph : Phase Q P = leads lead.own in
         let phase' : ℕ → Phase Q P = put r.phase c ph in
-        let here : phase' c ≡ ph = put_here r.phase c ph in (
+        let here : phase' c ≡ ph = put_here r.phase c ph in
+        let acc = marks_now r.line r.handled r.mode r.account c lead.group lead.own led_c (f.parts ∙ (λ i. none_newer i ++ (all i ++ lead.own ∷ []))) in (
           h' ∷ [],
           keeps,
           tt,
-          moved stands n s r c id ws s.homes h h' [] r.hand r.handled (marked c) ph r.due r.told (parts_two r.two c g 0) record {
-            at = at';
-            same_client = refl;
-            wide = length-set s.words 0 255;
-            many = refl;
-            newest_is = get_or-set_same s.words 0 255 0 (omega arith);
-            links = tt;
-            distinct = tt;
-            within = tt;
-            stand = tt;
-            other_rows = λ j ne lo' _ ok. row_stays stands n s.words ws s.homes s.homes j (r.due j) (same (state_at j) (λ e. omega arith)) (same (older_at j) (λ e. omega arith)) refl (r.phase j) ok;
-            row = f.own_by;
-            log_is = (tt, (lead.own, here, f.own_by, fit.1, fit.2), taken_change r.phase r.due r.due c ph c r.hand (λ e bad. absurd (cc)) (λ _ _. refl) (subst (AllTaken r.phase r.due c) fit.4.4 f.members), f.own_due, hand_apart);
-            one_chosen = λ j e. put_at r.phase c ph (λ i g. g ≡ chosen e → Path (Mode Q) (marked c) (waits i)) j (λ _ bad. absurd (cc)) (λ _ ok. let was : r.mode ≡ waits j = r.one_chosen j e ok in absurd (cc));
-            shared_out = r.shared_out;
-            kept = r.kept;
-            coded = λ e is. r.coded c e (subst (InChain e) (sym now) is);
-            account = marks_now r.line r.handled c lead.group lead.own (f.parts ∙ (λ i. none_newer i ++ (all i ++ lead.own ∷ []))) (subst (Account r.line r.handled) led_c r.account);
-            second = second_parts stands n ws s.homes phase' (marked c) (stands.last r.handled) r.two (
-                second_same stands n s.words ws s.homes s.homes r.phase c ph r.mode (marked c) (stands.last r.handled) (stands.last r.handled) r.two (inl now) same refl (λ j h. absurd h) (λ j h. inl (subst (Holds j) (sym led_c) h)) (λ j _ h. subst (Holds j) led_c h) (λ v. v) r.second
-                ) c g fit.5.0 f.own_by here (taken_with phase' r.due c lead.taken (taken_change r.phase r.due r.due c ph c lead.taken (λ e bad. absurd (cc)) (λ _ _. refl) f.members))
-                (links_same 0 s.words ws (in_hand lead) (λ j. same (older_at j) (λ e. omega arith)) (links_back s.words f.queue (in_hand lead) (subst (Links s.words) f.parts (subst (λ b. LinksFrom b s.words r.line) f.base r.links))))
-                (distinct_back f.queue (in_hand lead) whole) (within_back n f.queue (in_hand lead) (subst (Within n) f.parts r.within)) (λ h. h);
-            back = (put_here r.two.place c (parted g 0), fit.5.1);
-            else_back = parts_else r.two c g 0;
-            told_else = λ _ _. refl;
-            mine = fit.3;
-            knows = (refl, here, ([], refl), fit.4.3, fit.4.4);
-            others = λ j ne. knows_stays stands n r.line [] r.hand r.hand r.handled r.handled r.mode (marked c) r.phase phase' r.due r.due j (put_else r.phase c ph j ne)
-                (λ h. absurd (ne (sym (subst (Holds j) led_c h))))
-                (λ e y is owed. (put_at r.phase c ph (λ i g. r.phase i ≡ taken j e → g ≡ taken j e) e.by (λ w t. let bad : r.phase e.by ≡ leads lead.own = ap r.phase w ∙ now in absurd (cc)) (λ _ t. t) is, owed))
-                (λ e y _ owed. owed);
-          },
+          (
+            (acc.0.queue, acc.0.log, r.handled),
+            acc.1,
+            moved stands n s r c id ws s.homes h h' [] r.hand r.handled (marked c) ph r.due r.told (parts_two r.two c g 0) record {
+              at = at';
+              same_client = refl;
+              wide = length-set s.words 0 255;
+              many = refl;
+              newest_is = get_or-set_same s.words 0 255 0 (omega arith);
+              links = tt;
+              distinct = tt;
+              within = tt;
+              stand = tt;
+              other_rows = λ j ne lo' _ ok. row_stays stands n s.words ws s.homes s.homes j (r.due j) (same (state_at j) (λ e. omega arith)) (same (older_at j) (λ e. omega arith)) refl (r.phase j) ok;
+              row = f.own_by;
+              log_is = (tt, (lead.own, here, f.own_by, fit.1, fit.2), taken_change r.phase r.due r.due c ph c r.hand (λ e bad. absurd (cc)) (λ _ _. refl) (subst (AllTaken r.phase r.due c) fit.4.4 f.members), f.own_due, hand_apart);
+              one_chosen = λ j e. put_at r.phase c ph (λ i g. g ≡ chosen e → Path (Mode Q) (marked c) (waits i)) j (λ _ bad. absurd (cc)) (λ _ ok. let was : r.mode ≡ waits j = r.one_chosen j e ok in absurd (cc));
+              shared_out = r.shared_out;
+              kept = r.kept;
+              coded = λ e is. r.coded c e (subst (InChain e) (sym now) is);
+              account = acc.0;
+              second = second_parts stands n ws s.homes phase' (marked c) (stands.last r.handled) r.two (
+                  second_same stands n s.words ws s.homes s.homes r.phase c ph r.mode (marked c) (stands.last r.handled) (stands.last r.handled) r.two (inl now) same refl (λ j h. absurd h) (λ j h. inl (subst (Holds j) (sym led_c) h)) (λ j _ h. subst (Holds j) led_c h) (λ v. v) r.second
+                  ) c g fit.5.0 f.own_by here (taken_with phase' r.due c lead.taken (taken_change r.phase r.due r.due c ph c lead.taken (λ e bad. absurd (cc)) (λ _ _. refl) f.members))
+                  (links_same 0 s.words ws (in_hand lead) (λ j. same (older_at j) (λ e. omega arith)) (links_back s.words f.queue (in_hand lead) (subst (Links s.words) f.parts (subst (λ b. LinksFrom b s.words r.line) f.base r.links))))
+                  (distinct_back f.queue (in_hand lead) whole) (within_back n f.queue (in_hand lead) (subst (Within n) f.parts r.within)) (λ h. h);
+              back = (put_here r.two.place c (parted g 0), fit.5.1);
+              else_back = parts_else r.two c g 0;
+              told_else = λ _ _. refl;
+              mine = fit.3;
+              knows = (refl, here, ([], refl), fit.4.3, fit.4.4);
+              others = λ j ne. knows_stays stands n r.line [] r.hand r.hand r.handled r.handled r.mode (marked c) r.phase phase' r.due r.due j (put_else r.phase c ph j ne)
+                  (λ h. absurd (ne (sym (subst (Holds j) led_c h))))
+                  (λ e y is owed. (put_at r.phase c ph (λ i g. r.phase i ≡ taken j e → g ≡ taken j e) e.by (λ w t. let bad : r.phase e.by ≡ leads lead.own = ap r.phase w ∙ now in absurd (cc)) (λ _ t. t) is, owed))
+                  (λ e y _ owed. owed);
+            },
+          ),
           λ c' lead' mine' mid'.
               let e = one_hold c c' (Leading lead) (Leading lead') mine mine' me.0 mid mid' in
               ((λ _. ((λ i. hold_at (e.0 i) (Marking (walking (one_lead lead lead' e.1 i) [])) (e.2 i) (Parting (parting (one_lead lead lead' e.1 i) from) 0) ∷ []), refl)), λ miss. absurd (miss hit)),
         )
 
-  pub marks : (from slots id : ℕ) (me : Sat Q P L M) (c old : ℕ) (lead : Lead Q P) (mine : List (Q × P)) (said : Option (Content Q P L M)) → At c (Leading lead) mine me → old ≡ newest (in_hand lead) → lead.taken ≡ lead.group
-      → Allows (Listed stands n) slots id me 0 (λ y. either (eqb y old) 255 y) (marked_off from (step slots 0 old 255 said) me)
-  marks from slots id me c old lead mine said mid is_old all s r long at fits = exchanged (get_or s.words 0 0) old 255 (Goes stands n s 0 id me (marked_off from (step slots 0 old 255 said) me))
+  pub marks_is : (from slots id : ℕ) (me : Sat Q P L M) (c old : ℕ) (lead : Lead Q P) (mine : List (Q × P)) (said : Option (Content Q P L M)) → At c (Leading lead) mine me → old ≡ newest (in_hand lead) → lead.taken ≡ lead.group
+      → StepIs stands n (λ _. Stays) slots id me 0 (λ y. either (eqb y old) 255 y) (marked_off from (step slots 0 old 255 said) me)
+  marks_is from slots id me c old lead mine said mid is_old all s r long at fits = exchanged (get_or s.words 0 0) old 255 (Goes stands n (λ _. Stays) s r 0 id me (marked_off from (step slots 0 old 255 said) me))
       (λ hit. marks_last from slots id me c old lead mine said mid is_old all s r at hit)
       (λ miss.
       let t = walks_now stands n slots id me c lead mine mid s r at long in (
@@ -112,14 +119,18 @@ module _ {Q P L M : Type 0} (stands : Laws Q P L M) (n : ℕ) where
         ),
       ))
 
+  pub marks : (from slots id : ℕ) (me : Sat Q P L M) (c old : ℕ) (lead : Lead Q P) (mine : List (Q × P)) (said : Option (Content Q P L M)) → At c (Leading lead) mine me → old ≡ newest (in_hand lead) → lead.taken ≡ lead.group
+      → Allows (Listed stands n) slots id me 0 (λ y. either (eqb y old) 255 y) (marked_off from (step slots 0 old 255 said) me)
+  marks from slots id me c old lead mine said mid is_old all = allows stands n (λ _. Stays) slots id me 0 (λ y. either (eqb y old) 255 y) (marked_off from (step slots 0 old 255 said) me) (marks_is from slots id me c old lead mine said mid is_old all)
+
   none_behind : (n b : ℕ) (line : List (Entry Q)) → n < 255 → Within n line → newest_from b line ≡ 255 → line ≡ []
   none_behind m b [] few ok is = refl
   none_behind m b (e ∷ es) few ok is = let h = ok.1 in absurd (omega arith)
 
-  pub frees : (slots id : ℕ) (me : Sat Q P L M) (c : ℕ) (lead : Lead Q P) (mine : List (Q × P)) (b : Back Q) (gs : List (Entry Q × P)) (p : P) (l : L) (tail : List (ℕ × Content Q P L M)) (said : Option (Content Q P L M)) → AtWith c (Marking lead) mine b me → heads gs ≡ lead.taken
+  pub frees_is : (slots id : ℕ) (me : Sat Q P L M) (c : ℕ) (lead : Lead Q P) (mine : List (Q × P)) (b : Back Q) (gs : List (Entry Q × P)) (p : P) (l : L) (tail : List (ℕ × Content Q P L M)) (said : Option (Content Q P L M)) → AtWith c (Marking lead) mine b me → heads gs ≡ lead.taken
       → me.1 ≡ (0, Log l) ∷ slots_of gs ((c, Told p) ∷ tail) → stands.logs l (lead.seen ++ all_answers lead.own p gs) → Hands stands n b lead.seen (lead.seen ++ all_answers lead.own p gs)
-      → Allows (Listed stands n) slots id me 0 (λ y. either (eqb y 255) 0 y) (freed (step slots 0 255 0 said) me)
-  frees slots id me c lead mine b gs p l tail said mid group slot stood unnumbered s r long at fits = exchanged (get_or s.words 0 0) 255 0 (Goes stands n s 0 id me (freed (step slots 0 255 0 said) me))
+      → StepIs stands n (ComesWhere 255 (IsExit lead.own p gs)) slots id me 0 (λ y. either (eqb y 255) 0 y) (freed (step slots 0 255 0 said) me)
+  frees_is slots id me c lead mine b gs p l tail said mid group slot stood unnumbered s r long at fits = exchanged (get_or s.words 0 0) 255 0 (Goes stands n (ComesWhere 255 (IsExit lead.own p gs)) s r 0 id me (freed (step slots 0 255 0 said) me))
       (λ hit.
       let h : Hold Q P = hold_at c (Marking lead) mine b in
       let at' : get_elem? s.views id ≡ some (h ∷ []) = at ∙ ap some mid in
@@ -145,7 +156,9 @@ module _ {Q P L M : Type 0} (stands : Laws Q P L M) (n : ℕ) where
       let owe : ℕ → List (Q × P) = λ k. r.due k ++ of k more in
       let hands : Hands stands n b r.handled (r.handled ++ more) = subst (λ (z : List (Handling Q P)). Hands stands n b z (z ++ more)) fit.4.3 unnumbered in
       let two' = onward_two stands n b r.two in
-      let moved_to : Listed stands n (record { words = ws; homes = hs; views = set s.views id (h' ∷ []) }) =
+      let acc = frees_now r.line r.handled r.mode r.account c more is_marked (none_behind n (base_of r.mode) r.line r.few r.within (sym r.newest_is ∙ hit)) in
+      let now_is : Core Q P = (acc.0.queue, acc.0.log, r.handled ++ more) in
+      let moved_to : IsNow stands n now_is (record { words = ws; homes = hs; views = set s.views id (h' ∷ []) }) =
       moved stands n s r c id ws hs h h' [] [] (r.handled ++ more) open_ ph owe r.told two' record {
         at = at';
         same_client = refl;
@@ -164,7 +177,7 @@ module _ {Q P L M : Type 0} (stands : Laws Q P L M) (n : ℕ) where
         shared_out = shared_more stands n s r c lead.own gs p by_c now members m.3 apart;
         kept = stands.keeps l (r.handled ++ more) (subst (λ z. stands.logs l (z ++ more)) fit.4.3 stood);
         coded = λ e is. r.coded c e (subst (InChain e) (sym now) is);
-        account = subst (λ z. Account z (r.handled ++ more) open_) (none_behind n (base_of r.mode) r.line r.few r.within (sym r.newest_is ∙ hit)) (frees_now r.line r.handled c more (subst (Account r.line r.handled) is_marked r.account));
+        account = acc.0;
         second = second_same stands n s.words ws s.homes hs r.phase c ph r.mode open_ (stands.last (r.handled ++ more)) (stands.last (r.handled ++ more)) two' (inl now) same (set_else s.homes 0 (n + 1) (some (Log l)) (λ e. omega arith)) (λ k h. absurd h) (λ k h. absurd h) (λ k is h. absurd (onward_free stands n b r.two c r.handled (r.handled ++ more) fit.5 hands (is ∙ ap ahead (sym (subst (Holds k) is_marked h))))) (λ v. v) (second_onward stands n b s.words s.homes r.phase r.mode r.two c r.handled (r.handled ++ more) fit.5 hands r.second);
         back = onward_back stands n b r.two c r.handled (r.handled ++ more) fit.5 hands;
         else_back = onward_else stands n b r.two c fit.5;
@@ -185,7 +198,7 @@ module _ {Q P L M : Type 0} (stands : Laws Q P L M) (n : ℕ) where
         h' ∷ [],
         gives,
         tt,
-        subst (λ (t : List (ℕ × Content Q P L M)). Listed stands n (stepped s 0 0 id t (h' ∷ []) gives)) (sym slot) moved_to,
+        (now_is, ((λ _. acc.1), λ miss. absurd (miss hit)), subst (λ (t : List (ℕ × Content Q P L M)). IsNow stands n now_is (stepped s 0 0 id t (h' ∷ []) gives)) (sym slot) moved_to),
         λ c' lead' mine' b' gs' p' l' tail' mid' group' slot'.
             let e = one_hold_at c c' (Marking lead) (Marking lead') mine mine' b b' me.0 mid mid' in
             let le : lead ≡ lead' = ap (lead_in lead) e.1 in
@@ -203,8 +216,12 @@ module _ {Q P L M : Type 0} (stands : Laws Q P L M) (n : ℕ) where
         w,
         keeps,
         tt,
-        subst (λ (z : List ℕ). Listed stands n (record { words = z; homes = s.homes; views = set s.views id w })) (sym (set-get_or s.words 0 0))
-            (reviewed stands n s r id h (Marking (walking lead r.line)) at' (fit.4.0, fit.4.1, ([], refl), fit.4.3, fit.4.4)),
+        (
+          now_of stands n s r,
+          ((λ hit. absurd (miss hit)), λ _. refl),
+          subst (λ (z : List ℕ). IsNow stands n (now_of stands n s r) (record { words = z; homes = s.homes; views = set s.views id w })) (sym (set-get_or s.words 0 0))
+              (reviewed stands n s r id h (Marking (walking lead r.line)) at' (fit.4.0, fit.4.1, ([], refl), fit.4.3, fit.4.4)),
+        ),
         λ c' lead' mine' b' gs' p' l' tail' mid' group' slot'. let e = one_hold_at c c' (Marking lead) (Marking lead') mine mine' b b' me.0 mid mid' in (
           (λ hit. absurd (miss hit)),
           λ _. subst (λ (z : ℕ × Lead Q P × List (Q × P) × Back Q). WalksMarked slots z.0 z.1 z.2 z.3 (get_or s.words 0 0) me (w, me.1)) (λ i. (e.0 i, ap (lead_in lead) e.1 i, e.2 i, e.3 i)) (
@@ -218,6 +235,11 @@ module _ {Q P L M : Type 0} (stands : Laws Q P L M) (n : ℕ) where
         ),
       ))
 
+  pub frees : (slots id : ℕ) (me : Sat Q P L M) (c : ℕ) (lead : Lead Q P) (mine : List (Q × P)) (b : Back Q) (gs : List (Entry Q × P)) (p : P) (l : L) (tail : List (ℕ × Content Q P L M)) (said : Option (Content Q P L M)) → AtWith c (Marking lead) mine b me → heads gs ≡ lead.taken
+      → me.1 ≡ (0, Log l) ∷ slots_of gs ((c, Told p) ∷ tail) → stands.logs l (lead.seen ++ all_answers lead.own p gs) → Hands stands n b lead.seen (lead.seen ++ all_answers lead.own p gs)
+      → Allows (Listed stands n) slots id me 0 (λ y. either (eqb y 255) 0 y) (freed (step slots 0 255 0 said) me)
+  frees slots id me c lead mine b gs p l tail said mid group slot stood unnumbered = allows stands n (ComesWhere 255 (IsExit lead.own p gs)) slots id me 0 (λ y. either (eqb y 255) 0 y) (freed (step slots 0 255 0 said) me) (frees_is slots id me c lead mine b gs p l tail said mid group slot stood unnumbered)
+
   links_from_at : (b : ℕ) (words : List ℕ) (a : List (Entry Q)) (x : Entry Q) (t : List (Entry Q)) → LinksFrom b words (a ++ x ∷ t) → get_or words (older_at x.by) 0 ≡ pack (newest_from b t) x.code
   links_from_at b words [] x t ok = ok.0
   links_from_at b words (e ∷ es) x t ok = links_from_at b words es x t ok.1
@@ -227,12 +249,12 @@ module _ {Q P L M : Type 0} (stands : Laws Q P L M) (n : ℕ) where
   newest_snoc b d (e ∷ es) x = refl
 
   -- a link of the walk behind the marker
-  pub traces_marked : (slots id : ℕ) (me : Sat Q P L M) (k : ℕ) → Allows (Listed stands n) slots id me k (λ y. y) (traced_marked (step slots k 0 0 none) me)
-  traces_marked slots id me k s r long at fits = (
+  pub traces_marked_is : (slots id : ℕ) (me : Sat Q P L M) (k : ℕ) → StepIs stands n (λ _. Stays) slots id me k (λ y. y) (traced_marked (step slots k 0 0 none) me)
+  traces_marked_is slots id me k s r long at fits = (
     me.0,
     keeps,
     tt,
-    unmoved stands n s k id me.1 me.0 at r,
+    unmoved stands n Stays s k id me.1 me.0 at r refl,
     (
       refl,
       λ c lead mine b pre x post mid is_walk is_word.
@@ -243,10 +265,13 @@ module _ {Q P L M : Type 0} (stands : Laws Q P L M) (n : ℕ) where
     ),
   )
 
+  pub traces_marked : (slots id : ℕ) (me : Sat Q P L M) (k : ℕ) → Allows (Listed stands n) slots id me k (λ y. y) (traced_marked (step slots k 0 0 none) me)
+  traces_marked slots id me k = allows stands n (λ _. Stays) slots id me k (λ y. y) (traced_marked (step slots k 0 0 none) me) (traces_marked_is slots id me k)
+
   -- the link of the oldest writer behind the marker is cleared
-  pub cuts_marked : (slots id : ℕ) (me : Sat Q P L M) (c k new : ℕ) (lead : Lead Q P) (mine : List (Q × P)) (b : Back Q) (pre : List (Entry Q)) (x : Entry Q) → AtWith c (Marking lead) mine b me → lead.walk ≡ pre ++ x ∷ [] → k ≡ older_at x.by → new ≡ pack 0 x.code
-      → Allows (Listed stands n) slots id me k (λ _. new) (λ _. cut_marked (step slots k new 0 none) me new)
-  cuts_marked slots id me c k new lead mine b pre x mid is_walk is_word cleared s r long at fits =
+  pub cuts_marked_is : (slots id : ℕ) (me : Sat Q P L M) (c k new : ℕ) (lead : Lead Q P) (mine : List (Q × P)) (b : Back Q) (pre : List (Entry Q)) (x : Entry Q) → AtWith c (Marking lead) mine b me → lead.walk ≡ pre ++ x ∷ [] → k ≡ older_at x.by → new ≡ pack 0 x.code
+      → StepIs stands n (λ _. Stays) slots id me k (λ _. new) (λ _. cut_marked (step slots k new 0 none) me new)
+  cuts_marked_is slots id me c k new lead mine b pre x mid is_walk is_word cleared s r long at fits =
       let h : Hold Q P = hold_at c (Marking lead) mine b in
       let at' : get_elem? s.views id ≡ some (h ∷ []) = at ∙ ap some mid in
       let fit = (r.seats id (h ∷ []) at').0 in
@@ -274,49 +299,58 @@ module _ {Q P L M : Type 0} (stands : Laws Q P L M) (n : ℕ) where
       let h' : Hold Q P = hold_at c (Cutting lead x) mine b in
       let row_x : InPhase stands ws s.homes x.by (r.due x.by) (r.phase x.by) =
       let w = subst (InPhase stands s.words s.homes x.by (r.due x.by)) now_x (r.rows x.by lo hi) in
-      subst (InPhase stands ws s.homes x.by (r.due x.by)) (sym now_x) (w.0, same (state_at x.by) (λ e. omega arith) ∙ w.1, w.2, w.3) in (
+      subst (InPhase stands ws s.homes x.by (r.due x.by)) (sym now_x) (w.0, same (state_at x.by) (λ e. omega arith) ∙ w.1, w.2, w.3) in
+      let acc = recuts_now r.line r.handled r.mode r.account c x.by is_marked in (
         h' ∷ [],
         keeps,
         tt,
-        moved stands n s r c id ws s.homes h h' r.line r.hand r.handled (cut c x.by) ph r.due r.told r.two record {
-          at = at';
-          same_client = refl;
-          wide = length-set s.words k new;
-          many = refl;
-          newest_is = same 0 (λ e. omega arith) ∙ (r.newest_is ∙ (ap (newest_from (base_of r.mode)) parts ∙ (newest_snoc (base_of r.mode) 0 q x ∙ ap (newest_from 0) (sym parts))));
-          links = subst (LinksFrom 0 ws) (sym parts) (aim_links s.words ws x.by q x 255 0 same_older apart (ap (λ (j : ℕ). get_or ws j 0) (sym is_word) ∙ (get_or-set_same s.words k new 0 (omega arith) ∙ cleared)) (subst (LinksFrom 255 s.words) parts (subst (λ d. LinksFrom d s.words r.line) (ap base_of is_marked) r.links)));
-          distinct = r.distinct;
-          within = r.within;
-          stand = stand_change r.phase c ph r.line (λ e is_in. subst (InChain e) now is_in) r.stand;
-          other_rows = λ j ne lo' hi' ok. dite (ℕ_discrete j x.by)
-              (λ e. subst (λ (i : ℕ). InPhase stands ws s.homes i (r.due i) (r.phase i)) (sym e) row_x)
-              (λ away_x. row_stays stands n s.words ws s.homes s.homes j (r.due j) (same (state_at j) (λ e. omega arith)) (same_older j away_x) refl (r.phase j) ok);
-          row = by_c;
-          log_is = (
-            (q, x, parts, linked_change r.phase c ph q (λ e bad. absurd (cc)) (linked_front r.phase q (x ∷ []) queued), put_else r.phase c ph x.by other ∙ now_x, refl),
-            taken_change r.phase r.due r.due c ph c r.hand (λ e bad. absurd (cc)) (λ _ _. refl) m.2,
-            m.3,
-            m.4,
-          );
-          one_chosen = λ j e. put_at r.phase c ph (λ i g. g ≡ chosen e → Path (Mode Q) (cut c x.by) (waits i)) j (λ _ bad. absurd (cc)) (λ _ ok. let was : r.mode ≡ waits j = r.one_chosen j e ok in absurd (cc));
-          kept = r.kept;
-          coded = λ e is. r.coded c e (subst (InChain e) (sym now) is);
-          account = recuts_now r.line r.handled c x.by (subst (Account r.line r.handled) is_marked r.account);
-          second = second_stays stands n s.words ws s.homes s.homes r.phase phase' r.mode (cut c x.by) (stands.last r.handled) (stands.last r.handled) r.two (same 1 (λ e. omega arith)) (λ j there. (same_older j (λ e. subst (InSecond r.two.place x.by) now_x (subst (λ (i : ℕ). InSecond r.two.place i (r.phase i)) e there)), (λ _ _. same (state_at j) (λ e. omega arith)), put_same r.phase c ph now j)) (λ j e. sym (same (state_at j) (λ e. omega arith)) ∙ e) refl (λ j h. absurd h) (λ j h. inl (subst (Holds j) (sym is_marked) h)) (λ j _ h. subst (Holds j) is_marked h) (λ v. v) r.second;
-          back = fit.5;
-          else_back = λ _ _ _ ok. ok;
-          shared_out = r.shared_out;
-          told_else = λ _ _. refl;
-          mine = fit.3;
-          knows = (refl, here, put_else r.phase c ph x.by other ∙ now_x, fit.4.3, fit.4.4);
-          others = λ j ne. knows_stays stands n r.line r.line r.hand r.hand r.handled r.handled r.mode (cut c x.by) r.phase phase' r.due r.due j (put_else r.phase c ph j ne)
-              (λ h. absurd (ne (sym (subst (Holds j) is_marked h))))
-              (λ e y is owed. (put_at r.phase c ph (λ i g. r.phase i ≡ taken j e → g ≡ taken j e) e.by (λ w t. let bad : r.phase e.by ≡ leads lead.own = ap r.phase w ∙ now in absurd (cc)) (λ _ t. t) is, owed))
-              (λ e y _ owed. owed);
-        },
+        (
+          (acc.0.queue, acc.0.log, r.handled),
+          acc.1,
+          moved stands n s r c id ws s.homes h h' r.line r.hand r.handled (cut c x.by) ph r.due r.told r.two record {
+            at = at';
+            same_client = refl;
+            wide = length-set s.words k new;
+            many = refl;
+            newest_is = same 0 (λ e. omega arith) ∙ (r.newest_is ∙ (ap (newest_from (base_of r.mode)) parts ∙ (newest_snoc (base_of r.mode) 0 q x ∙ ap (newest_from 0) (sym parts))));
+            links = subst (LinksFrom 0 ws) (sym parts) (aim_links s.words ws x.by q x 255 0 same_older apart (ap (λ (j : ℕ). get_or ws j 0) (sym is_word) ∙ (get_or-set_same s.words k new 0 (omega arith) ∙ cleared)) (subst (LinksFrom 255 s.words) parts (subst (λ d. LinksFrom d s.words r.line) (ap base_of is_marked) r.links)));
+            distinct = r.distinct;
+            within = r.within;
+            stand = stand_change r.phase c ph r.line (λ e is_in. subst (InChain e) now is_in) r.stand;
+            other_rows = λ j ne lo' hi' ok. dite (ℕ_discrete j x.by)
+                (λ e. subst (λ (i : ℕ). InPhase stands ws s.homes i (r.due i) (r.phase i)) (sym e) row_x)
+                (λ away_x. row_stays stands n s.words ws s.homes s.homes j (r.due j) (same (state_at j) (λ e. omega arith)) (same_older j away_x) refl (r.phase j) ok);
+            row = by_c;
+            log_is = (
+              (q, x, parts, linked_change r.phase c ph q (λ e bad. absurd (cc)) (linked_front r.phase q (x ∷ []) queued), put_else r.phase c ph x.by other ∙ now_x, refl),
+              taken_change r.phase r.due r.due c ph c r.hand (λ e bad. absurd (cc)) (λ _ _. refl) m.2,
+              m.3,
+              m.4,
+            );
+            one_chosen = λ j e. put_at r.phase c ph (λ i g. g ≡ chosen e → Path (Mode Q) (cut c x.by) (waits i)) j (λ _ bad. absurd (cc)) (λ _ ok. let was : r.mode ≡ waits j = r.one_chosen j e ok in absurd (cc));
+            kept = r.kept;
+            coded = λ e is. r.coded c e (subst (InChain e) (sym now) is);
+            account = acc.0;
+            second = second_stays stands n s.words ws s.homes s.homes r.phase phase' r.mode (cut c x.by) (stands.last r.handled) (stands.last r.handled) r.two (same 1 (λ e. omega arith)) (λ j there. (same_older j (λ e. subst (InSecond r.two.place x.by) now_x (subst (λ (i : ℕ). InSecond r.two.place i (r.phase i)) e there)), (λ _ _. same (state_at j) (λ e. omega arith)), put_same r.phase c ph now j)) (λ j e. sym (same (state_at j) (λ e. omega arith)) ∙ e) refl (λ j h. absurd h) (λ j h. inl (subst (Holds j) (sym is_marked) h)) (λ j _ h. subst (Holds j) is_marked h) (λ v. v) r.second;
+            back = fit.5;
+            else_back = λ _ _ _ ok. ok;
+            shared_out = r.shared_out;
+            told_else = λ _ _. refl;
+            mine = fit.3;
+            knows = (refl, here, put_else r.phase c ph x.by other ∙ now_x, fit.4.3, fit.4.4);
+            others = λ j ne. knows_stays stands n r.line r.line r.hand r.hand r.handled r.handled r.mode (cut c x.by) r.phase phase' r.due r.due j (put_else r.phase c ph j ne)
+                (λ h. absurd (ne (sym (subst (Holds j) is_marked h))))
+                (λ e y is owed. (put_at r.phase c ph (λ i g. r.phase i ≡ taken j e → g ≡ taken j e) e.by (λ w t. let bad : r.phase e.by ≡ leads lead.own = ap r.phase w ∙ now in absurd (cc)) (λ _ t. t) is, owed))
+                (λ e y _ owed. owed);
+          },
+        ),
         λ c' lead' mine' b' pre' x' mid' is_walk' is_word'.
             let e = one_hold_at c c' (Marking lead) (Marking lead') mine mine' b b' me.0 mid mid' in
             let le : lead ≡ lead' = ap (lead_in lead) e.1 in
             let same_x : x ≡ x' = same_last pre pre' x x' (sym is_walk ∙ (ap (λ (l : Lead Q P). l.walk) le ∙ is_walk')) in
             ((λ i. hold_at (e.0 i) (Cutting (le i) (same_x i)) (e.2 i) (e.3 i) ∷ []), refl),
       )
+
+  pub cuts_marked : (slots id : ℕ) (me : Sat Q P L M) (c k new : ℕ) (lead : Lead Q P) (mine : List (Q × P)) (b : Back Q) (pre : List (Entry Q)) (x : Entry Q) → AtWith c (Marking lead) mine b me → lead.walk ≡ pre ++ x ∷ [] → k ≡ older_at x.by → new ≡ pack 0 x.code
+      → Allows (Listed stands n) slots id me k (λ _. new) (λ _. cut_marked (step slots k new 0 none) me new)
+  cuts_marked slots id me c k new lead mine b pre x mid is_walk is_word cleared = allows stands n (λ _. Stays) slots id me k (λ _. new) (λ _. cut_marked (step slots k new 0 none) me new) (cuts_marked_is slots id me c k new lead mine b pre x mid is_walk is_word cleared)

@@ -1,9 +1,10 @@
--- What stays of the rule when one row and one seat move.
+-- What stays of the rule when one row and one seat move, and what the list is then.
 use Rattle.std.proofs.Common.{◌≡◌, ◌≢◌, ℕ, ◌<◌, ◌≤◌, List, [], ◌∷◌, ◌++◌, length, get_or, set, refl, sym, ap, ◌∙◌, subst, ⊎_elim}
 use mathlib.Core.Option.{Option, some}
 use lib.ListN.{get_elem?}
-use Rattle.atomic_table.specs.Table.{State}
-use Rattle.atomic_table.proofs.Lists.{at_set}
+use lib.Seq.{set-get_or}
+use Rattle.atomic_table.specs.Table.{State, Act, keeps, Valid, carried_after, stepped, Allows}
+use Rattle.atomic_table.proofs.Lists.{at_set, set_again}
 use Rattle.list_rule.specs.declared.view.Entry.{Entry}
 use Rattle.list_rule.specs.declared.view.Handling.{Handling}
 use Rattle.list_rule.specs.declared.view.Hold.{Hold}
@@ -13,6 +14,9 @@ use Rattle.list_rule.specs.declared.view.Stage.{Stage}
 use Rattle.list_rule.specs.declared.view.Stage.TheVariants.{Idle, Preparing, Waiting, Fresh, Leading, Cutting, Marking, Settling, Collecting}
 use Rattle.list_rule.specs.Chain.{state_at, older_at, newest_from, LinksFrom, Distinct, Within, EndsWith, of}
 use Rattle.list_rule.specs.Rule.{Phase, idle, preparing, linked, chosen, leads, taken, completed, collecting, Mode, open_, waits, led, built, cut, marked, base_of, InChain, Stand, Waits, AllTaken, Knows, AllFit, InPhase, InMode, Account, Laws, Listed, Holds, Two, Second, KnowsBack}
+use Rattle.list_rule.specs.Events.{Core}
+use Rattle.list_rule.specs.Plays.{Sat}
+use Rattle.list_rule.specs.Steps.{now_of, IsNow, Becomes, StepIs}
 use Rattle.list_rule.proofs.Chains.{put, put_at, put_else, linked_change, owed_change, ends_trans}
 
 module _ {Q P L M : Type 0} (stands : Laws Q P L M) (n : ℕ) where
@@ -135,8 +139,8 @@ module _ {Q P L M : Type 0} (stands : Laws Q P L M) (n : ℕ) where
           fit_stays v j other xs ok.1,
         )
 
-    pub moved : Move s r m id ws hs h h' line hand handled mode ph due told two → Listed stands n (record { words = ws; homes = hs; views = set s.views id (h' ∷ []) })
-    moved v =
+    listed : Move s r m id ws hs h h' line hand handled mode ph due told two → Listed stands n (record { words = ws; homes = hs; views = set s.views id (h' ∷ []) })
+    listed v =
         let mine = (r.seats id (h ∷ []) v.at).0 in
         record {
           line = line;
@@ -172,3 +176,24 @@ module _ {Q P L M : Type 0} (stands : Laws Q P L M) (n : ℕ) where
               (λ (t : (j ≢ id) × (get_elem? s.views j ≡ some x)). fit_stays v j t.0 x (r.seats j x t.1))
               (at_set s.views id j (h' ∷ []) x e);
         }
+
+    -- the state after it, and what the list is then
+    pub moved : (v : Move s r m id ws hs h h' line hand handled mode ph due told two) → IsNow stands n (v.account.queue, v.account.log, handled) (record { words = ws; homes = hs; views = set s.views id (h' ∷ []) })
+    unfolding listed
+    moved v = (listed v, refl)
+
+  -- what a step makes of the list, and what its seat knows then
+  abbrev pub Goes : (ℕ → Core Q P → Core Q P → Type 0) → (s : St) → Listed stands n s → ℕ → ℕ → Sat Q P L M → (ℕ → Sat Q P L M → Type 0) → ℕ → Type 0
+  Goes event s r k id me then x = (w : List (Hold Q P)) × (a : Act (Content Q P L M)) × Valid s.homes me.1 a × Becomes stands n (event (get_or s.words k 0)) (now_of stands n s r) (stepped s k x id me.1 w a) × then (get_or s.words k 0) (w, carried_after me.1 a)
+
+  -- what a step allows, whatever event it is
+  pub allows : (event : ℕ → Core Q P → Core Q P → Type 0) (slots id : ℕ) (me : Sat Q P L M) (k : ℕ) (f : ℕ → ℕ) (then : ℕ → Sat Q P L M → Type 0) → StepIs stands n event slots id me k f then → Allows (Listed stands n) slots id me k f then
+  allows event slots id me k f then all s r long at fits = let t = all s r long at fits in (t.0, t.1, t.2, t.3.2.0, t.4)
+
+  -- the words and slots are as they were
+  pub unmoved : (event : Core Q P → Core Q P → Type 0) (s : St) (k id : ℕ) (cs : List (ℕ × Content Q P L M)) (v : List (Hold Q P)) → get_elem? s.views id ≡ some v → (r : Listed stands n s) → event (now_of stands n s r) (now_of stands n s r) → Becomes stands n event (now_of stands n s r) (stepped s k (get_or s.words k 0) id cs v keeps)
+  unmoved event s k id cs v at r none_moved = (
+    now_of stands n s r,
+    none_moved,
+    subst (λ (z : List ℕ × List (List (Hold Q P))). IsNow stands n (now_of stands n s r) (record { words = z.0; homes = s.homes; views = z.1 })) (λ i. (sym (set-get_or s.words k 0) i, sym (set_again s.views id v at) i)) (r, refl),
+  )

@@ -23,11 +23,11 @@ use Rattle.list_rule.specs.declared.view.Stage.{Stage}
 use Rattle.list_rule.specs.declared.view.Stage.TheVariants.{Idle, Preparing, Waiting, Fresh, Leading, Cutting, Marking, Settling, Collecting}
 use Rattle.list_rule.specs.Chain.{state_at, older_at, pack, newest, LinksFrom, Absent}
 use Rattle.list_rule.specs.Rule.{Phase, linked, chosen, leads, Mode, open_, waits, led, built, cut, marked, base_of, Holds, InFront, Knows, AllFit, hold_at, InPhase, InMode, Laws, Listed, Place, away, parted, queued, called, serves, calls, held_by, passes, ahead, Two, line_of, flat, Behind, KnowsBack, InTurn, Second}
+use Rattle.list_rule.specs.Steps.{Stays, now_of, IsNow, StepIs}
 use Rattle.list_rule.specs.Plays.{Sat, AtWith, ending, aimed_second, joined, summoned, kept, peeked, IsCut}
 use Rattle.list_rule.proofs.Chains.{put, put_here, put_else, links_stay, links_same, newest_small}
 use Rattle.list_rule.proofs.Groups.{absent_append, linked_out, taken_absent}
-use Rattle.list_rule.proofs.Enters.{Goes, unmoved}
-use Rattle.list_rule.proofs.Moves.{St, Homes, row_stays}
+use Rattle.list_rule.proofs.Moves.{St, Homes, row_stays, Goes, allows, unmoved}
 use Rattle.list_rule.proofs.Seconds.{one_ahead, one_holder, second_aims, second_behind, second_alone, second_serves, snoc_some, none_first}
 use Rattle.list_rule.proofs.Onward.{back_map, parts_two, parts_else, one_hold_at}
 
@@ -107,40 +107,42 @@ module _ {Q P L M : Type 0} (stands : Laws Q P L M) (n : ℕ) where
         let ne : x.client ≢ c = λ e. other (sym ok.0.0 ∙ (ap r.seat e ∙ fit.0)) in
         ((ok.0.0, ok.0.1, ok.0.2, ok.0.3, ok.0.4, v.else_back x.client ne x.back ok.0.5), pass_fit v j other xs ok.1)
 
-    pub passed : Pass s r id ws hs c st mine b z two → Listed stands n (record { words = ws; homes = hs; views = set s.views id (hold_at c st mine z ∷ []) })
+    pub passed : Pass s r id ws hs c st mine b z two → IsNow stands n (now_of stands n s r) (record { words = ws; homes = hs; views = set s.views id (hold_at c st mine z ∷ []) })
     passed v =
-        let fit = (r.seats id (hold_at c st mine b ∷ []) v.at).0 in
-        record {
-          line = r.line;
-          hand = r.hand;
-          handled = r.handled;
-          mode = r.mode;
-          phase = r.phase;
-          due = r.due;
-          told = r.told;
-          two = two;
-          seat = r.seat;
-          few = r.few;
-          wide = v.wide ∙ r.wide;
-          many = v.many ∙ r.many;
-          newest_is = v.first ∙ r.newest_is;
-          links = v.links;
-          distinct = r.distinct;
-          within = r.within;
-          stand = r.stand;
-          rows = v.rows;
-          log_is = home_stays s.homes hs r.line r.hand r.handled r.phase r.due v.home r.mode r.log_is;
-          one_chosen = r.one_chosen;
-          shared_out = r.shared_out;
-          account = r.account;
-          kept = r.kept;
-          coded = r.coded;
-          second = v.second;
-          seats = λ j x e. ⊎_elim
-              (λ (t : (j ≡ id) × (hold_at c st mine z ∷ [] ≡ x)). subst (λ (y : ℕ × List (Hold Q P)). AllFit n r.line r.hand r.handled r.mode r.phase r.due r.told two r.seat y.0 y.1) (λ i. (sym t.0 i, t.1 i)) ((fit.0, fit.1, fit.2, fit.3, fit.4, v.back), tt))
-              (λ (t : (j ≢ id) × (get_elem? s.views j ≡ some x)). pass_fit v j t.0 x (r.seats j x t.1))
-              (at_set s.views id j (hold_at c st mine z ∷ []) x e);
-        }
+        let fit = (r.seats id (hold_at c st mine b ∷ []) v.at).0 in (
+          record {
+            line = r.line;
+            hand = r.hand;
+            handled = r.handled;
+            mode = r.mode;
+            phase = r.phase;
+            due = r.due;
+            told = r.told;
+            two = two;
+            seat = r.seat;
+            few = r.few;
+            wide = v.wide ∙ r.wide;
+            many = v.many ∙ r.many;
+            newest_is = v.first ∙ r.newest_is;
+            links = v.links;
+            distinct = r.distinct;
+            within = r.within;
+            stand = r.stand;
+            rows = v.rows;
+            log_is = home_stays s.homes hs r.line r.hand r.handled r.phase r.due v.home r.mode r.log_is;
+            one_chosen = r.one_chosen;
+            shared_out = r.shared_out;
+            account = r.account;
+            kept = r.kept;
+            coded = r.coded;
+            second = v.second;
+            seats = λ j x e. ⊎_elim
+                (λ (t : (j ≡ id) × (hold_at c st mine z ∷ [] ≡ x)). subst (λ (y : ℕ × List (Hold Q P)). AllFit n r.line r.hand r.handled r.mode r.phase r.due r.told two r.seat y.0 y.1) (λ i. (sym t.0 i, t.1 i)) ((fit.0, fit.1, fit.2, fit.3, fit.4, v.back), tt))
+                (λ (t : (j ≢ id) × (get_elem? s.views j ≡ some x)). pass_fit v j t.0 x (r.seats j x t.1))
+                (at_set s.views id j (hold_at c st mine z ∷ []) x e);
+          },
+          refl,
+        )
 
   -- rows where one leader's words change
   pub rows_else : (words ws : List ℕ) (homes hs : Homes stands n) (due : ℕ → List (Q × P)) (phase : ℕ → Phase Q P) (m : ℕ) (x : Entry Q) → phase m ≡ leads x → ((k : ℕ) → k ≢ m → get_or ws (state_at k) 0 ≡ get_or words (state_at k) 0) → ((k : ℕ) → k ≢ m → get_or ws (older_at k) 0 ≡ get_or words (older_at k) 0)
@@ -150,9 +152,9 @@ module _ {Q P L M : Type 0} (stands : Laws Q P L M) (n : ℕ) where
       (λ ne. row_stays stands n words ws homes hs k (due k) (state k ne) (older k ne) (home k hi) (phase k) (ok k lo hi))
 
   -- store of the leader's link
-  pub aims_second : (slots id : ℕ) (me : Sat Q P L M) (c k b new : ℕ) (st : Stage Q P) (mine : List (Q × P)) (g : Squad Q) (b0 : ℕ) → AtWith c st mine (Parting g b0) me → k ≡ older_at c → new ≡ pack b g.own.code
-      → Allows (Listed stands n) slots id me k (λ _. new) (λ _. aimed_second (step slots k new 0 none) me new)
-  aims_second slots id me c k b new st mine g b0 mid is_word is_new s r long at fits =
+  pub aims_second_is : (slots id : ℕ) (me : Sat Q P L M) (c k b new : ℕ) (st : Stage Q P) (mine : List (Q × P)) (g : Squad Q) (b0 : ℕ) → AtWith c st mine (Parting g b0) me → k ≡ older_at c → new ≡ pack b g.own.code
+      → StepIs stands n (λ _. Stays) slots id me k (λ _. new) (λ _. aimed_second (step slots k new 0 none) me new)
+  aims_second_is slots id me c k b new st mine g b0 mid is_word is_new s r long at fits =
       let at' : get_elem? s.views id ≡ some (hold_at c st mine (Parting g b0) ∷ []) = at ∙ ap some mid in
       let fit = (r.seats id (hold_at c st mine (Parting g b0) ∷ []) at').0 in
       let lo : 0 < c = fit.1 in
@@ -168,18 +170,22 @@ module _ {Q P L M : Type 0} (stands : Laws Q P L M) (n : ℕ) where
         hold_at c st mine (Parting g b) ∷ [],
         keeps,
         tt,
-        passed s r id ws s.homes c st mine (Parting g b0) (Parting g b) two' record {
-          at = at';
-          wide = length-set s.words k new;
-          many = refl;
-          first = same 0 (λ e. omega arith);
-          links = links_stay (base_of r.mode) s.words ws c r.line older out r.links;
-          rows = rows_else s.words ws s.homes s.homes r.due r.phase c g.own now (λ j _. same (state_at j) (λ e. omega arith)) older (λ _ _. refl) r.rows;
-          home = refl;
-          second = subst (λ (j : ℕ). Second stands n (set s.words j new) s.homes r.phase r.mode (stands.last r.handled) two') (sym is_word) (second_aims stands n s.words s.homes r.phase r.mode (stands.last r.handled) r.two r.second c g b0 b new fit.5.0 lo hi is_new r.wide);
-          back = (put_here r.two.place c (parted g b), fit.5.1);
-          else_back = parts_else r.two c g b;
-        },
+        (
+          now_of stands n s r,
+          refl,
+          passed s r id ws s.homes c st mine (Parting g b0) (Parting g b) two' record {
+            at = at';
+            wide = length-set s.words k new;
+            many = refl;
+            first = same 0 (λ e. omega arith);
+            links = links_stay (base_of r.mode) s.words ws c r.line older out r.links;
+            rows = rows_else s.words ws s.homes s.homes r.due r.phase c g.own now (λ j _. same (state_at j) (λ e. omega arith)) older (λ _ _. refl) r.rows;
+            home = refl;
+            second = subst (λ (j : ℕ). Second stands n (set s.words j new) s.homes r.phase r.mode (stands.last r.handled) two') (sym is_word) (second_aims stands n s.words s.homes r.phase r.mode (stands.last r.handled) r.two r.second c g b0 b new fit.5.0 lo hi is_new r.wide);
+            back = (put_here r.two.place c (parted g b), fit.5.1);
+            else_back = parts_else r.two c g b;
+          },
+        ),
         λ c' st' mine' g' b0' b' mid' is_new'.
             let e = one_hold_at c c' st st' mine mine' (Parting g b0) (Parting g' b0') me.0 mid mid' in
             let same_g : g ≡ g' = ap (squad_of g) e.3 in
@@ -187,15 +193,22 @@ module _ {Q P L M : Type 0} (stands : Laws Q P L M) (n : ℕ) where
             ((λ i. hold_at (e.0 i) (e.1 i) (e.2 i) (Parting (same_g i) (same_b i)) ∷ []), refl),
       )
 
+  pub aims_second : (slots id : ℕ) (me : Sat Q P L M) (c k b new : ℕ) (st : Stage Q P) (mine : List (Q × P)) (g : Squad Q) (b0 : ℕ) → AtWith c st mine (Parting g b0) me → k ≡ older_at c → new ≡ pack b g.own.code
+      → Allows (Listed stands n) slots id me k (λ _. new) (λ _. aimed_second (step slots k new 0 none) me new)
+  aims_second slots id me c k b new st mine g b0 mid is_word is_new = allows stands n (λ _. Stays) slots id me k (λ _. new) (λ _. aimed_second (step slots k new 0 none) me new) (aims_second_is slots id me c k b new st mine g b0 mid is_word is_new)
+
   -- a load of the newest writer of the second list, by anyone
-  pub peeks_second : (slots id : ℕ) (me : Sat Q P L M) → Allows (Listed stands n) slots id me 1 (λ y. y) (peeked (step slots 1 0 0 none) me)
-  peeks_second slots id me s r long at fits = (
+  pub peeks_second_is : (slots id : ℕ) (me : Sat Q P L M) → StepIs stands n (λ _. Stays) slots id me 1 (λ y. y) (peeked (step slots 1 0 0 none) me)
+  peeks_second_is slots id me s r long at fits = (
     me.0,
     keeps,
     tt,
-    unmoved stands n s 1 id me.1 me.0 at r,
+    unmoved stands n Stays s 1 id me.1 me.0 at r refl,
     (refl, subst (λ (k : ℕ). k < 256) (sym r.second.newest_is) (newest_small n 0 (flat r.two.groups) (let f = r.few in omega arith) (omega arith) r.second.within)),
   )
+
+  pub peeks_second : (slots id : ℕ) (me : Sat Q P L M) → Allows (Listed stands n) slots id me 1 (λ y. y) (peeked (step slots 1 0 0 none) me)
+  peeks_second slots id me = allows stands n (λ _. Stays) slots id me 1 (λ y. y) (peeked (step slots 1 0 0 none) me) (peeks_second_is slots id me)
 
   module _ (to slots id : ℕ) (me : Sat Q P L M) (c b new : ℕ) (st : Stage Q P) (lead : Lead Q P) (mine : List (Q × P)) (g : Squad Q) (said : Option (Content Q P L M)) (piped : stands.piped ≡ true) (mid : AtWith c st mine (Parting g b) me) (is_cut : IsCut lead st) (from_is : g.from ≡ stands.last lead.seen) (is_new : new ≡ newest (line_of g))
       (s : St stands n) (r : Listed stands n s) (long : length s.homes ≡ slots) (at : get_elem? s.views id ≡ some me.0) (hit : get_or s.words 1 0 ≡ b) where
@@ -217,7 +230,7 @@ module _ {Q P L M : Type 0} (stands : Laws Q P L M) (n : ℕ) where
     same : (j : ℕ) → j ≢ 1 → get_or ws j 0 ≡ get_or s.words j 0
     same j ne = get_or-set_other s.words 1 j new 0 (λ e. ne (omega arith))
 
-    joins_behind : b ≢ 0 → Goes stands n s 1 id me saw new
+    joins_behind : b ≢ 0 → Goes stands n (λ _. Stays) s r 1 id me saw new
     joins_behind nonzero =
         let fit = (r.seats id (h ∷ []) at').0 in
         let kn = cut_knows r.line r.hand r.handled r.mode r.phase r.due c lead st is_cut fit.4 in
@@ -225,18 +238,22 @@ module _ {Q P L M : Type 0} (stands : Laws Q P L M) (n : ℕ) where
           hold_at c st mine (Joining g') ∷ [],
           keeps,
           tt,
-          passed s r id ws s.homes c st mine (Parting g b) (Joining g') two' record {
-            at = at';
-            wide = length-set s.words 1 new;
-            many = refl;
-            first = same 0 (λ e. omega arith);
-            links = links_same (base_of r.mode) s.words ws r.line (λ j. same (older_at j) (λ e. omega arith)) r.links;
-            rows = λ k lo hi. row_stays stands n s.words ws s.homes s.homes k (r.due k) (same (state_at k) (λ e. omega arith)) (same (older_at k) (λ e. omega arith)) refl (r.phase k) (r.rows k lo hi);
-            home = refl;
-            second = second_behind stands n s.words s.homes r.phase r.mode (stands.last r.handled) r.two r.second piped c g' g b new fit.5.0 refl refl (from_is ∙ ap stands.last kn.1) fit.5.1 kn.0 is_new hit r.wide nonzero;
-            back = (subst (Behind g') (sym (put_here r.two.place c (queued g'))) refl, refl);
-            else_back = λ k ne. back_map r.two two' k (put_else r.two.place c (queued g') k ne) (λ t. (t, (line_of g', refl))) (λ w t. (t, refl)) (λ t. absurd (ne (one_holder r.mode k c (r.second.ahead_holds k t) kn.0))) (λ t. absurd (ne (sym (one_ahead c k t))));
-          },
+          (
+            now_of stands n s r,
+            refl,
+            passed s r id ws s.homes c st mine (Parting g b) (Joining g') two' record {
+              at = at';
+              wide = length-set s.words 1 new;
+              many = refl;
+              first = same 0 (λ e. omega arith);
+              links = links_same (base_of r.mode) s.words ws r.line (λ j. same (older_at j) (λ e. omega arith)) r.links;
+              rows = λ k lo hi. row_stays stands n s.words ws s.homes s.homes k (r.due k) (same (state_at k) (λ e. omega arith)) (same (older_at k) (λ e. omega arith)) refl (r.phase k) (r.rows k lo hi);
+              home = refl;
+              second = second_behind stands n s.words s.homes r.phase r.mode (stands.last r.handled) r.two r.second piped c g' g b new fit.5.0 refl refl (from_is ∙ ap stands.last kn.1) fit.5.1 kn.0 is_new hit r.wide nonzero;
+              back = (subst (Behind g') (sym (put_here r.two.place c (queued g'))) refl, refl);
+              else_back = λ k ne. back_map r.two two' k (put_else r.two.place c (queued g') k ne) (λ t. (t, (line_of g', refl))) (λ w t. (t, refl)) (λ t. absurd (ne (one_holder r.mode k c (r.second.ahead_holds k t) kn.0))) (λ t. absurd (ne (sym (one_ahead c k t))));
+            },
+          ),
           λ c' st' mine' f b' mid'.
               let e = one_hold_at c c' st st' mine mine' (Parting g b) (Parting f b') me.0 mid mid' in
               let same_g : g ≡ f = ap (squad_of g) e.3 in (
@@ -246,7 +263,7 @@ module _ {Q P L M : Type 0} (stands : Laws Q P L M) (n : ℕ) where
               ),
         )
 
-    joins_alone : b ≡ 0 → Goes stands n s 1 id me saw new
+    joins_alone : b ≡ 0 → Goes stands n (λ _. Stays) s r 1 id me saw new
     joins_alone zero_b =
         let fit = (r.seats id (h ∷ []) at').0 in
         let kn = cut_knows r.line r.hand r.handled r.mode r.phase r.due c lead st is_cut fit.4 in
@@ -262,18 +279,22 @@ module _ {Q P L M : Type 0} (stands : Laws Q P L M) (n : ℕ) where
           hold_at c st mine (Holding g') ∷ [],
           takes (n + 1) (Right right),
           al.0.1,
-          passed s r id ws hs c st mine (Parting g b) (Holding g') two' record {
-            at = at';
-            wide = length-set s.words 1 new;
-            many = length-set s.homes (n + 1) none;
-            first = same 0 (λ e. omega arith);
-            links = links_same (base_of r.mode) s.words ws r.line (λ j. same (older_at j) (λ e. omega arith)) r.links;
-            rows = λ k lo hi. row_stays stands n s.words ws s.homes hs k (r.due k) (same (state_at k) (λ e. omega arith)) (same (older_at k) (λ e. omega arith)) (home_else k hi) (r.phase k) (r.rows k lo hi);
-            home = home_else 0 (omega arith);
-            second = al.1;
-            back = (refl, put_here r.two.place c (serves g'), refl);
-            else_back = λ k ne. back_map r.two two' k (put_else r.two.place c (serves g') k ne) (λ t. absurd (nobody_holds k t)) (λ w t. absurd (nobody_passes k w t)) (λ t. absurd (ne (one_holder r.mode k c (r.second.ahead_holds k t) kn.0))) (λ t. absurd (ne (sym (one_ahead c k t))));
-          },
+          (
+            now_of stands n s r,
+            refl,
+            passed s r id ws hs c st mine (Parting g b) (Holding g') two' record {
+              at = at';
+              wide = length-set s.words 1 new;
+              many = length-set s.homes (n + 1) none;
+              first = same 0 (λ e. omega arith);
+              links = links_same (base_of r.mode) s.words ws r.line (λ j. same (older_at j) (λ e. omega arith)) r.links;
+              rows = λ k lo hi. row_stays stands n s.words ws s.homes hs k (r.due k) (same (state_at k) (λ e. omega arith)) (same (older_at k) (λ e. omega arith)) (home_else k hi) (r.phase k) (r.rows k lo hi);
+              home = home_else 0 (omega arith);
+              second = al.1;
+              back = (refl, put_here r.two.place c (serves g'), refl);
+              else_back = λ k ne. back_map r.two two' k (put_else r.two.place c (serves g') k ne) (λ t. absurd (nobody_holds k t)) (λ w t. absurd (nobody_passes k w t)) (λ t. absurd (ne (one_holder r.mode k c (r.second.ahead_holds k t) kn.0))) (λ t. absurd (ne (sym (one_ahead c k t))));
+            },
+          ),
           λ c' st' mine' f b' mid'.
               let e = one_hold_at c c' st st' mine mine' (Parting g b) (Parting f b') me.0 mid mid' in
               let same_g : g ≡ f = ap (squad_of g) e.3 in (
@@ -284,17 +305,21 @@ module _ {Q P L M : Type 0} (stands : Laws Q P L M) (n : ℕ) where
         )
 
   -- the compare-exchange of the newest writer of the second list
-  pub joins_second : (to slots id : ℕ) (me : Sat Q P L M) (c b new : ℕ) (st : Stage Q P) (lead : Lead Q P) (mine : List (Q × P)) (g : Squad Q) (said : Option (Content Q P L M)) → stands.piped ≡ true → AtWith c st mine (Parting g b) me → IsCut lead st → g.from ≡ stands.last lead.seen → new ≡ newest (line_of g)
-      → Allows (Listed stands n) slots id me 1 (λ y. either (eqb y b) new y) (joined stands.rights to (step slots 1 b new said) me)
-  joins_second to slots id me c b new st lead mine g said piped mid is_cut from_is is_new s r long at fits = exchanged (get_or s.words 1 0) b new (Goes stands n s 1 id me (joined stands.rights to (step slots 1 b new said) me))
+  pub joins_second_is : (to slots id : ℕ) (me : Sat Q P L M) (c b new : ℕ) (st : Stage Q P) (lead : Lead Q P) (mine : List (Q × P)) (g : Squad Q) (said : Option (Content Q P L M)) → stands.piped ≡ true → AtWith c st mine (Parting g b) me → IsCut lead st → g.from ≡ stands.last lead.seen → new ≡ newest (line_of g)
+      → StepIs stands n (λ _. Stays) slots id me 1 (λ y. either (eqb y b) new y) (joined stands.rights to (step slots 1 b new said) me)
+  joins_second_is to slots id me c b new st lead mine g said piped mid is_cut from_is is_new s r long at fits = exchanged (get_or s.words 1 0) b new (Goes stands n (λ _. Stays) s r 1 id me (joined stands.rights to (step slots 1 b new said) me))
       (λ hit. dite (ℕ_discrete b 0)
       (λ z. joins_alone to slots id me c b new st lead mine g said piped mid is_cut from_is is_new s r long at hit z)
       (λ nz. joins_behind to slots id me c b new st lead mine g said piped mid is_cut from_is is_new s r long at hit nz))
-      (λ miss. (me.0, keeps, tt, unmoved stands n s 1 id me.1 me.0 at r, λ c' st' mine' f b' mid'. ((λ hit. absurd (miss hit)), (λ hit. absurd (miss hit)), λ _. refl)))
+      (λ miss. (me.0, keeps, tt, unmoved stands n Stays s 1 id me.1 me.0 at r refl, λ c' st' mine' f b' mid'. ((λ hit. absurd (miss hit)), (λ hit. absurd (miss hit)), λ _. refl)))
+
+  pub joins_second : (to slots id : ℕ) (me : Sat Q P L M) (c b new : ℕ) (st : Stage Q P) (lead : Lead Q P) (mine : List (Q × P)) (g : Squad Q) (said : Option (Content Q P L M)) → stands.piped ≡ true → AtWith c st mine (Parting g b) me → IsCut lead st → g.from ≡ stands.last lead.seen → new ≡ newest (line_of g)
+      → Allows (Listed stands n) slots id me 1 (λ y. either (eqb y b) new y) (joined stands.rights to (step slots 1 b new said) me)
+  joins_second to slots id me c b new st lead mine g said piped mid is_cut from_is is_new = allows stands n (λ _. Stays) slots id me 1 (λ y. either (eqb y b) new y) (joined stands.rights to (step slots 1 b new said) me) (joins_second_is to slots id me c b new st lead mine g said piped mid is_cut from_is is_new)
 
   -- a load of the own state: 4 gives the right
-  pub summons : (slots id : ℕ) (me : Sat Q P L M) (c k : ℕ) (d : Debt Q P) (mine : List (Q × P)) (g : Squad Q) → stands.piped ≡ true → AtWith c (Settling d) mine (Queued g) me → k ≡ state_at c → Allows (Listed stands n) slots id me k (λ y. y) (summoned stands.rights (step slots k 0 0 none) me)
-  summons slots id me c k d mine g piped mid is_word s r long at fits =
+  pub summons_is : (slots id : ℕ) (me : Sat Q P L M) (c k : ℕ) (d : Debt Q P) (mine : List (Q × P)) (g : Squad Q) → stands.piped ≡ true → AtWith c (Settling d) mine (Queued g) me → k ≡ state_at c → StepIs stands n (λ _. Stays) slots id me k (λ y. y) (summoned stands.rights (step slots k 0 0 none) me)
+  summons_is slots id me c k d mine g piped mid is_word s r long at fits =
       let st : Stage Q P = Settling d in
       let at' : get_elem? s.views id ≡ some (hold_at c st mine (Queued g) ∷ []) = at ∙ ap some mid in
       let fit = (r.seats id (hold_at c st mine (Queued g) ∷ []) at').0 in
@@ -309,7 +334,7 @@ module _ {Q P L M : Type 0} (stands : Laws Q P L M) (n : ℕ) where
       let hs = set s.homes (n + 1) none in
       let home_else : (j : ℕ) → j ≤ n → get_elem? hs j ≡ get_elem? s.homes j = λ j small. set_else s.homes (n + 1) j none (λ e. omega arith) in
       let two' : Two Q = record { groups = r.two.groups; place = put r.two.place c (serves g); turn = held_by c; lead = r.two.lead; done = r.two.done } in
-      let after : Listed stands n (record { words = s.words; homes = hs; views = set s.views id (hold_at c st mine (Serving g []) ∷ []) }) = passed s r id s.words hs c st mine (Queued g) (Serving g []) two' record {
+      let after : IsNow stands n (now_of stands n s r) (record { words = s.words; homes = hs; views = set s.views id (hold_at c st mine (Serving g []) ∷ []) }) = passed s r id s.words hs c st mine (Queued g) (Serving g []) two' record {
         at = at';
         wide = refl;
         many = length-set s.homes (n + 1) none;
@@ -324,7 +349,7 @@ module _ {Q P L M : Type 0} (stands : Laws Q P L M) (n : ℕ) where
         hold_at c st mine (Serving g []) ∷ [],
         takes (n + 1) (Right right),
         sv.0.1,
-        subst (λ (z : List ℕ). Listed stands n (record { words = z; homes = hs; views = set s.views id (hold_at c st mine (Serving g []) ∷ []) })) (sym (set-get_or s.words k 0)) after,
+        (now_of stands n s r, refl, subst (λ (z : List ℕ). IsNow stands n (now_of stands n s r) (record { words = z; homes = hs; views = set s.views id (hold_at c st mine (Serving g []) ∷ []) })) (sym (set-get_or s.words k 0)) after),
         λ c' d' mine' f mid'.
             let e = one_hold_at c c' st (Settling d') mine mine' (Queued g) (Queued f) me.0 mid mid' in
             let same_g : g ≡ f = ap (squad_of g) e.3 in (
@@ -332,4 +357,7 @@ module _ {Q P L M : Type 0} (stands : Laws Q P L M) (n : ℕ) where
               λ no. absurd (no four),
             ),
       ))
-      (λ other. (me.0, keeps, tt, unmoved stands n s k id me.1 me.0 at r, λ c' d' mine' f mid'. ((λ four. absurd (other four)), λ _. refl)))
+      (λ other. (me.0, keeps, tt, unmoved stands n Stays s k id me.1 me.0 at r refl, λ c' d' mine' f mid'. ((λ four. absurd (other four)), λ _. refl)))
+
+  pub summons : (slots id : ℕ) (me : Sat Q P L M) (c k : ℕ) (d : Debt Q P) (mine : List (Q × P)) (g : Squad Q) → stands.piped ≡ true → AtWith c (Settling d) mine (Queued g) me → k ≡ state_at c → Allows (Listed stands n) slots id me k (λ y. y) (summoned stands.rights (step slots k 0 0 none) me)
+  summons slots id me c k d mine g piped mid is_word = allows stands n (λ _. Stays) slots id me k (λ y. y) (summoned stands.rights (step slots k 0 0 none) me) (summons_is slots id me c k d mine g piped mid is_word)

@@ -21,13 +21,13 @@ use Rattle.list_rule.specs.declared.view.Stage.{Stage}
 use Rattle.list_rule.specs.declared.view.Stage.TheVariants.{Settling}
 use Rattle.list_rule.specs.Chain.{state_at, older_at, pack, newest, Links, Absent, Distinct, Within}
 use Rattle.list_rule.specs.Rule.{Phase, leads, taken, Mode, open_, waits, led, built, cut, marked, base_of, Holds, AllOwed, hold_at, InPhase, InMode, Laws, Listed, away, called, Turn, still, calls, held_by, passes, Two, line_of, flat, In, Behind, KnowsBack, InTurn, Second}
+use Rattle.list_rule.specs.Steps.{Stays, now_of, IsNow, StepIs}
 use Rattle.list_rule.specs.Plays.{Sat, AtWith, debt, WalksSecond, left_second, traced_second, cleared_second, called_next, kept}
 use Rattle.list_rule.proofs.Chains.{put, put_here, put_else, links_stay, links_same}
 use Rattle.list_rule.proofs.Groups.{links_at, walk_bound}
-use Rattle.list_rule.proofs.Enters.{Goes, unmoved}
 use Rattle.list_rule.proofs.Leads.{all_below, middle, same_last, snoc}
 use Rattle.std.proofs.lemmas.List.{append_cancel_right}
-use Rattle.list_rule.proofs.Moves.{St, Homes, row_stays}
+use Rattle.list_rule.proofs.Moves.{St, Homes, row_stays, Goes, allows, unmoved}
 use Rattle.list_rule.proofs.Seconds.{one_serves, flat_snoc, in_one, behind_in, second_stops, second_clears, second_calls}
 use Rattle.list_rule.proofs.Keeps.{in_not_away, second_stays}
 use Rattle.list_rule.proofs.Onward.{back_map, one_hold_at}
@@ -82,12 +82,12 @@ module _ {Q P L M : Type 0} (stands : Laws Q P L M) (n : ℕ) where
   no_log homes line hand handled phase due k y owed (marked c) ok h = let nil : due k ≡ [] = ap due (sym h) ∙ ok.3 in absurd (cc)
 
   -- a link of the walk of the second list
-  pub traces_second : (slots id : ℕ) (me : Sat Q P L M) (k : ℕ) → Allows (Listed stands n) slots id me k (λ y. y) (traced_second (step slots k 0 0 none) me)
-  traces_second slots id me k s r long at fits = (
+  pub traces_second_is : (slots id : ℕ) (me : Sat Q P L M) (k : ℕ) → StepIs stands n (λ _. Stays) slots id me k (λ y. y) (traced_second (step slots k 0 0 none) me)
+  traces_second_is slots id me k s r long at fits = (
     me.0,
     keeps,
     tt,
-    unmoved stands n s k id me.1 me.0 at r,
+    unmoved stands n Stays s k id me.1 me.0 at r refl,
     (
       refl,
       λ c st mine g walk pre x post mid is_walk is_word.
@@ -98,18 +98,21 @@ module _ {Q P L M : Type 0} (stands : Laws Q P L M) (n : ℕ) where
     ),
   )
 
+  pub traces_second : (slots id : ℕ) (me : Sat Q P L M) (k : ℕ) → Allows (Listed stands n) slots id me k (λ y. y) (traced_second (step slots k 0 0 none) me)
+  traces_second slots id me k = allows stands n (λ _. Stays) slots id me k (λ y. y) (traced_second (step slots k 0 0 none) me) (traces_second_is slots id me k)
+
   -- the last slot
   last_slot : (slots k : ℕ) (s : St stands n) → Listed stands n s → length s.homes ≡ slots → k + 1 ≡ slots → k ≡ n + 1
   last_slot slots k s r long is = let many : length s.homes ≡ n + 2 = r.many in omega (arith, long, is)
 
   -- the right is given back, where no group came
-  pub leaves_second : (slots id : ℕ) (me : Sat Q P L M) (c old k : ℕ) (d : Debt Q P) (mine : List (Q × P)) (g : Squad Q) (walk : List (Entry Q)) (right : M) (t : List (ℕ × Content Q P L M)) (said : Option (Content Q P L M)) → stands.piped ≡ true → AtWith c (Settling d) mine (Serving g walk) me
-      → me.1 ≡ (k, Right right) ∷ t → k + 1 ≡ slots → old ≡ newest (line_of g) → stands.rights right g.to → Allows (Listed stands n) slots id me 1 (λ y. either (eqb y old) 0 y) (left_second (step slots 1 old 0 said) me)
-  leaves_second slots id me c old k d mine g walk right t said piped mid slot is_last is_old stood s r long at fits =
+  pub leaves_second_is : (slots id : ℕ) (me : Sat Q P L M) (c old k : ℕ) (d : Debt Q P) (mine : List (Q × P)) (g : Squad Q) (walk : List (Entry Q)) (right : M) (t : List (ℕ × Content Q P L M)) (said : Option (Content Q P L M)) → stands.piped ≡ true → AtWith c (Settling d) mine (Serving g walk) me
+      → me.1 ≡ (k, Right right) ∷ t → k + 1 ≡ slots → old ≡ newest (line_of g) → stands.rights right g.to → StepIs stands n (λ _. Stays) slots id me 1 (λ y. either (eqb y old) 0 y) (left_second (step slots 1 old 0 said) me)
+  leaves_second_is slots id me c old k d mine g walk right t said piped mid slot is_last is_old stood s r long at fits =
       let st : Stage Q P = Settling d in
       let at' : get_elem? s.views id ≡ some (hold_at c st mine (Serving g walk) ∷ []) = at ∙ ap some mid in
       let fit = (r.seats id (hold_at c st mine (Serving g walk) ∷ []) at').0 in
-      exchanged (get_or s.words 1 0) old 0 (Goes stands n s 1 id me (left_second (step slots 1 old 0 said) me))
+      exchanged (get_or s.words 1 0) old 0 (Goes stands n (λ _. Stays) s r 1 id me (left_second (step slots 1 old 0 said) me))
       (λ hit.
       let many : length s.homes ≡ n + 2 = r.many in
       let k_is : k ≡ n + 1 = last_slot slots k s r long is_last in
@@ -118,7 +121,7 @@ module _ {Q P L M : Type 0} (stands : Laws Q P L M) (n : ℕ) where
       let same : (j : ℕ) → j ≢ 1 → get_or ws j 0 ≡ get_or s.words j 0 = λ j ne. get_or-set_other s.words 1 j 0 0 (λ e. ne (omega arith)) in
       let home_else : (j : ℕ) → j ≤ n → get_elem? hs j ≡ get_elem? s.homes j = λ j small. set_else s.homes (n + 1) j (some (Right right)) (λ e. omega arith) in
       let two' : Two Q = record { groups = []; place = put r.two.place c away; turn = still; lead = r.two.lead; done = g.to } in
-      let after : Listed stands n (record { words = ws; homes = hs; views = set s.views id (hold_at c st mine Away ∷ []) }) = passed stands n s r id ws hs c st mine (Serving g walk) Away two' record {
+      let after : IsNow stands n (now_of stands n s r) (record { words = ws; homes = hs; views = set s.views id (hold_at c st mine Away ∷ []) }) = passed stands n s r id ws hs c st mine (Serving g walk) Away two' record {
         at = at';
         wide = length-set s.words 1 0;
         many = length-set s.homes (n + 1) (some (Right right));
@@ -133,7 +136,7 @@ module _ {Q P L M : Type 0} (stands : Laws Q P L M) (n : ℕ) where
         hold_at c st mine Away ∷ [],
         gives,
         tt,
-        subst (λ (z : List (ℕ × Content Q P L M)). Listed stands n (stepped s 1 0 id z (hold_at c st mine Away ∷ []) gives)) (sym slot) (subst (λ (j : ℕ). Listed stands n (record { words = ws; homes = set s.homes j (some (Right right)); views = set s.views id (hold_at c st mine Away ∷ []) })) (sym k_is) after),
+        (now_of stands n s r, refl, subst (λ (z : List (ℕ × Content Q P L M)). IsNow stands n (now_of stands n s r) (stepped s 1 0 id z (hold_at c st mine Away ∷ []) gives)) (sym slot) (subst (λ (j : ℕ). IsNow stands n (now_of stands n s r) (record { words = ws; homes = set s.homes j (some (Right right)); views = set s.views id (hold_at c st mine Away ∷ []) })) (sym k_is) after)),
         λ c' d' mine' f walk' mid'.
             let e = one_hold_at c c' st (Settling d') mine mine' (Serving g walk) (Serving f walk') me.0 mid mid' in
             ((λ _. ((λ i. hold_at (e.0 i) (e.1 i) (e.2 i) Away ∷ []), refl)), λ miss. absurd (miss hit)),
@@ -145,7 +148,7 @@ module _ {Q P L M : Type 0} (stands : Laws Q P L M) (n : ℕ) where
       let now : List (Entry Q) = newer ++ line_of g in
       let split : flat r.two.groups ≡ now = ap flat tn.2 ∙ (flat_snoc tn.0 tn.1 ∙ ap (λ (f : Squad Q). newer ++ line_of f) same_g) in
       let w : List (Hold Q P) = hold_at c st mine (Serving g now) ∷ [] in
-      let after : Listed stands n (record { words = s.words; homes = s.homes; views = set s.views id w }) = passed stands n s r id s.words s.homes c st mine (Serving g walk) (Serving g now) r.two record {
+      let after : IsNow stands n (now_of stands n s r) (record { words = s.words; homes = s.homes; views = set s.views id w }) = passed stands n s r id s.words s.homes c st mine (Serving g walk) (Serving g now) r.two record {
         at = at';
         wide = refl;
         many = refl;
@@ -160,7 +163,7 @@ module _ {Q P L M : Type 0} (stands : Laws Q P L M) (n : ℕ) where
         w,
         keeps,
         tt,
-        subst (λ (z : List ℕ). Listed stands n (record { words = z; homes = s.homes; views = set s.views id w })) (sym (set-get_or s.words 1 0)) after,
+        (now_of stands n s r, refl, subst (λ (z : List ℕ). IsNow stands n (now_of stands n s r) (record { words = z; homes = s.homes; views = set s.views id w })) (sym (set-get_or s.words 1 0)) after),
         λ c' d' mine' f walk' mid'.
             let e = one_hold_at c c' st (Settling d') mine mine' (Serving g walk) (Serving f walk') me.0 mid mid' in
             let gf : g ≡ f = ap (squad_of g) e.3 in
@@ -177,10 +180,14 @@ module _ {Q P L M : Type 0} (stands : Laws Q P L M) (n : ℕ) where
             ),
       ))
 
+  pub leaves_second : (slots id : ℕ) (me : Sat Q P L M) (c old k : ℕ) (d : Debt Q P) (mine : List (Q × P)) (g : Squad Q) (walk : List (Entry Q)) (right : M) (t : List (ℕ × Content Q P L M)) (said : Option (Content Q P L M)) → stands.piped ≡ true → AtWith c (Settling d) mine (Serving g walk) me
+      → me.1 ≡ (k, Right right) ∷ t → k + 1 ≡ slots → old ≡ newest (line_of g) → stands.rights right g.to → Allows (Listed stands n) slots id me 1 (λ y. either (eqb y old) 0 y) (left_second (step slots 1 old 0 said) me)
+  leaves_second slots id me c old k d mine g walk right t said piped mid slot is_last is_old stood = allows stands n (λ _. Stays) slots id me 1 (λ y. either (eqb y old) 0 y) (left_second (step slots 1 old 0 said) me) (leaves_second_is slots id me c old k d mine g walk right t said piped mid slot is_last is_old stood)
+
   -- the link of the next group's leader is cleared
-  pub clears_second : (slots id : ℕ) (me : Sat Q P L M) (c k new : ℕ) (d : Debt Q P) (mine : List (Q × P)) (g : Squad Q) (walk pre : List (Entry Q)) (x : Entry Q) → stands.piped ≡ true → AtWith c (Settling d) mine (Serving g walk) me → walk ≡ pre ++ x ∷ line_of g → k ≡ older_at x.by → new ≡ pack 0 x.code
-      → Allows (Listed stands n) slots id me k (λ _. new) (λ _. cleared_second (step slots k new 0 none) me new)
-  clears_second slots id me c k new d mine g walk pre x piped mid is_walk is_word is_new s r long at fits =
+  pub clears_second_is : (slots id : ℕ) (me : Sat Q P L M) (c k new : ℕ) (d : Debt Q P) (mine : List (Q × P)) (g : Squad Q) (walk pre : List (Entry Q)) (x : Entry Q) → stands.piped ≡ true → AtWith c (Settling d) mine (Serving g walk) me → walk ≡ pre ++ x ∷ line_of g → k ≡ older_at x.by → new ≡ pack 0 x.code
+      → StepIs stands n (λ _. Stays) slots id me k (λ _. new) (λ _. cleared_second (step slots k new 0 none) me new)
+  clears_second_is slots id me c k new d mine g walk pre x piped mid is_walk is_word is_new s r long at fits =
       let st : Stage Q P = Settling d in
       let at' : get_elem? s.views id ≡ some (hold_at c st mine (Serving g walk) ∷ []) = at ∙ ap some mid in
       let fit = (r.seats id (hold_at c st mine (Serving g walk) ∷ []) at').0 in
@@ -199,18 +206,22 @@ module _ {Q P L M : Type 0} (stands : Laws Q P L M) (n : ℕ) where
         hold_at c st mine (Passing g x) ∷ [],
         keeps,
         tt,
-        passed stands n s r id ws s.homes c st mine (Serving g walk) (Passing g x) two' record {
-          at = at';
-          wide = length-set s.words k new;
-          many = refl;
-          first = same 0 (λ e. omega arith);
-          links = links_stay (base_of r.mode) s.words ws x.by r.line older out r.links;
-          rows = rows_else stands n s.words ws s.homes s.homes r.due r.phase x.by x cl.3 (λ j _. same (state_at j) (λ e. omega arith)) older (λ _ _. refl) r.rows;
-          home = refl;
-          second = subst (λ (j : ℕ). Second stands n (set s.words j new) s.homes r.phase r.mode (stands.last r.handled) two') (sym is_word) cl.5;
-          back = (refl, put_here r.two.place c away, fit.5.2, refl);
-          else_back = λ j ne. back_map r.two two' j (put_else r.two.place c away j ne) (λ e. absurd (ne (same_turn j c (sym e ∙ fit.5.0)))) (λ w e. let bad : held_by c ≡ passes j w = sym fit.5.0 ∙ e in absurd (cc)) (λ e. e) (λ e. e);
-        },
+        (
+          now_of stands n s r,
+          refl,
+          passed stands n s r id ws s.homes c st mine (Serving g walk) (Passing g x) two' record {
+            at = at';
+            wide = length-set s.words k new;
+            many = refl;
+            first = same 0 (λ e. omega arith);
+            links = links_stay (base_of r.mode) s.words ws x.by r.line older out r.links;
+            rows = rows_else stands n s.words ws s.homes s.homes r.due r.phase x.by x cl.3 (λ j _. same (state_at j) (λ e. omega arith)) older (λ _ _. refl) r.rows;
+            home = refl;
+            second = subst (λ (j : ℕ). Second stands n (set s.words j new) s.homes r.phase r.mode (stands.last r.handled) two') (sym is_word) cl.5;
+            back = (refl, put_here r.two.place c away, fit.5.2, refl);
+            else_back = λ j ne. back_map r.two two' j (put_else r.two.place c away j ne) (λ e. absurd (ne (same_turn j c (sym e ∙ fit.5.0)))) (λ w e. let bad : held_by c ≡ passes j w = sym fit.5.0 ∙ e in absurd (cc)) (λ e. e) (λ e. e);
+          },
+        ),
         λ c' d' mine' f walk' pre' x' mid' is_walk' is_word'.
             let e = one_hold_at c c' st (Settling d') mine mine' (Serving g walk) (Serving f walk') me.0 mid mid' in
             let gf : g ≡ f = ap (squad_of g) e.3 in
@@ -220,10 +231,14 @@ module _ {Q P L M : Type 0} (stands : Laws Q P L M) (n : ℕ) where
             ((λ i. hold_at (e.0 i) (e.1 i) (e.2 i) (Passing (gf i) (same_x i)) ∷ []), refl),
       )
 
+  pub clears_second : (slots id : ℕ) (me : Sat Q P L M) (c k new : ℕ) (d : Debt Q P) (mine : List (Q × P)) (g : Squad Q) (walk pre : List (Entry Q)) (x : Entry Q) → stands.piped ≡ true → AtWith c (Settling d) mine (Serving g walk) me → walk ≡ pre ++ x ∷ line_of g → k ≡ older_at x.by → new ≡ pack 0 x.code
+      → Allows (Listed stands n) slots id me k (λ _. new) (λ _. cleared_second (step slots k new 0 none) me new)
+  clears_second slots id me c k new d mine g walk pre x piped mid is_walk is_word is_new = allows stands n (λ _. Stays) slots id me k (λ _. new) (λ _. cleared_second (step slots k new 0 none) me new) (clears_second_is slots id me c k new d mine g walk pre x piped mid is_walk is_word is_new)
+
   -- that leader is told, and has the right
-  pub calls_next : (slots id : ℕ) (me : Sat Q P L M) (c k j0 : ℕ) (st : Stage Q P) (mine : List (Q × P)) (g : Squad Q) (x : Entry Q) (right : M) (t : List (ℕ × Content Q P L M)) → AtWith c st mine (Passing g x) me → me.1 ≡ (j0, Right right) ∷ t → j0 + 1 ≡ slots → k ≡ state_at x.by → stands.rights right g.to
-      → Allows (Listed stands n) slots id me k (λ _. 4) (λ _. called_next (step slots k 4 0 none) me 4)
-  calls_next slots id me c k j0 st mine g x right t mid slot is_last is_word stood s r long at fits =
+  pub calls_next_is : (slots id : ℕ) (me : Sat Q P L M) (c k j0 : ℕ) (st : Stage Q P) (mine : List (Q × P)) (g : Squad Q) (x : Entry Q) (right : M) (t : List (ℕ × Content Q P L M)) → AtWith c st mine (Passing g x) me → me.1 ≡ (j0, Right right) ∷ t → j0 + 1 ≡ slots → k ≡ state_at x.by → stands.rights right g.to
+      → StepIs stands n (λ _. Stays) slots id me k (λ _. 4) (λ _. called_next (step slots k 4 0 none) me 4)
+  calls_next_is slots id me c k j0 st mine g x right t mid slot is_last is_word stood s r long at fits =
       let at' : get_elem? s.views id ≡ some (hold_at c st mine (Passing g x) ∷ []) = at ∙ ap some mid in
       let fit = (r.seats id (hold_at c st mine (Passing g x) ∷ []) at').0 in
       let many : length s.homes ≡ n + 2 = r.many in
@@ -239,7 +254,7 @@ module _ {Q P L M : Type 0} (stands : Laws Q P L M) (n : ℕ) where
       let home_else : (j : ℕ) → j ≤ n → get_elem? hs j ≡ get_elem? s.homes j = λ j small. set_else s.homes (n + 1) j (some (Right right)) (λ e. omega arith) in
       let two' : Two Q = record { groups = r.two.groups; place = put r.two.place w (called cl.0); turn = calls w; lead = r.two.lead; done = r.two.done } in
       let other : c ≢ w = λ e. in_not_away cl.0 (r.two.place w) cl.1 (ap r.two.place (sym e) ∙ fit.5.1) in
-      let after : Listed stands n (record { words = ws; homes = hs; views = set s.views id (hold_at c st mine Away ∷ []) }) = passed stands n s r id ws hs c st mine (Passing g x) Away two' record {
+      let after : IsNow stands n (now_of stands n s r) (record { words = ws; homes = hs; views = set s.views id (hold_at c st mine Away ∷ []) }) = passed stands n s r id ws hs c st mine (Passing g x) Away two' record {
         at = at';
         wide = length-set s.words k 4;
         many = length-set s.homes (n + 1) (some (Right right));
@@ -256,16 +271,20 @@ module _ {Q P L M : Type 0} (stands : Laws Q P L M) (n : ℕ) where
         hold_at c st mine Away ∷ [],
         gives,
         tt,
-        subst (λ (z : List (ℕ × Content Q P L M)). Listed stands n (stepped s k 4 id z (hold_at c st mine Away ∷ []) gives)) (sym slot) (subst (λ (j : ℕ). Listed stands n (record { words = ws; homes = set s.homes j (some (Right right)); views = set s.views id (hold_at c st mine Away ∷ []) })) (sym j_is) after),
+        (now_of stands n s r, refl, subst (λ (z : List (ℕ × Content Q P L M)). IsNow stands n (now_of stands n s r) (stepped s k 4 id z (hold_at c st mine Away ∷ []) gives)) (sym slot) (subst (λ (j : ℕ). IsNow stands n (now_of stands n s r) (record { words = ws; homes = set s.homes j (some (Right right)); views = set s.views id (hold_at c st mine Away ∷ []) })) (sym j_is) after)),
         λ c' st' mine' f x' mid'.
             let e = one_hold_at c c' st st' mine mine' (Passing g x) (Passing f x') me.0 mid mid' in
             ((λ i. hold_at (e.0 i) (e.1 i) (e.2 i) Away ∷ []), refl),
       )
 
+  pub calls_next : (slots id : ℕ) (me : Sat Q P L M) (c k j0 : ℕ) (st : Stage Q P) (mine : List (Q × P)) (g : Squad Q) (x : Entry Q) (right : M) (t : List (ℕ × Content Q P L M)) → AtWith c st mine (Passing g x) me → me.1 ≡ (j0, Right right) ∷ t → j0 + 1 ≡ slots → k ≡ state_at x.by → stands.rights right g.to
+      → Allows (Listed stands n) slots id me k (λ _. 4) (λ _. called_next (step slots k 4 0 none) me 4)
+  calls_next slots id me c k j0 st mine g x right t mid slot is_last is_word stood = allows stands n (λ _. Stays) slots id me k (λ _. 4) (λ _. called_next (step slots k 4 0 none) me 4) (calls_next_is slots id me c k j0 st mine g x right t mid slot is_last is_word stood)
+
   -- a member is told to work beside its leader
-  pub parallels : (slots id : ℕ) (me : Sat Q P L M) (c k : ℕ) (pre post : List (Entry Q × P)) (y : Entry Q × P) (o : Entry Q) (p : P) (mine : List (Q × P)) (b : Back Q) → AtWith c (Settling (debt (pre ++ y ∷ post) o p)) mine b me → k ≡ state_at y.0.by → y.0.by ≤ n
-      → Allows (Listed stands n) slots id me k (λ _. 8) (λ _. kept (step slots k 8 0 none) me 8)
-  parallels slots id me c k pre post y o p mine b mid is_word small s r long at fits =
+  pub parallels_is : (slots id : ℕ) (me : Sat Q P L M) (c k : ℕ) (pre post : List (Entry Q × P)) (y : Entry Q × P) (o : Entry Q) (p : P) (mine : List (Q × P)) (b : Back Q) → AtWith c (Settling (debt (pre ++ y ∷ post) o p)) mine b me → k ≡ state_at y.0.by → y.0.by ≤ n
+      → StepIs stands n (λ _. Stays) slots id me k (λ _. 8) (λ _. kept (step slots k 8 0 none) me 8)
+  parallels_is slots id me c k pre post y o p mine b mid is_word small s r long at fits =
       let st : Stage Q P = Settling (debt (pre ++ y ∷ post) o p) in
       let at' : get_elem? s.views id ≡ some (hold_at c st mine b ∷ []) = at ∙ ap some mid in
       let fit = (r.seats id (hold_at c st mine b ∷ []) at').0 in
@@ -278,7 +297,7 @@ module _ {Q P L M : Type 0} (stands : Laws Q P L M) (n : ℕ) where
       let state : (j : ℕ) → j ≢ m → get_or ws (state_at j) 0 ≡ get_or s.words (state_at j) 0 = λ j ne. same (state_at j) (λ e. ne (omega arith)) in
       let is8 : get_or ws (state_at m) 0 ≡ 8 = ap (λ (j : ℕ). get_or ws j 0) (sym is_word) ∙ get_or-set_same s.words k 8 0 (omega arith) in
       let back_is : hold_at c st mine b ∷ [] ≡ me.0 = sym mid in
-      let after : Listed stands n (record { words = ws; homes = s.homes; views = set s.views id (hold_at c st mine b ∷ []) }) = passed stands n s r id ws s.homes c st mine b b r.two record {
+      let after : IsNow stands n (now_of stands n s r) (record { words = ws; homes = s.homes; views = set s.views id (hold_at c st mine b ∷ []) }) = passed stands n s r id ws s.homes c st mine b b r.two record {
         at = at';
         wide = length-set s.words k 8;
         many = refl;
@@ -298,6 +317,10 @@ module _ {Q P L M : Type 0} (stands : Laws Q P L M) (n : ℕ) where
         me.0,
         keeps,
         tt,
-        subst (λ (v : List (Hold Q P)). Listed stands n (record { words = ws; homes = s.homes; views = set s.views id v })) back_is after,
+        (now_of stands n s r, refl, subst (λ (v : List (Hold Q P)). IsNow stands n (now_of stands n s r) (record { words = ws; homes = s.homes; views = set s.views id v })) back_is after),
         refl,
       )
+
+  pub parallels : (slots id : ℕ) (me : Sat Q P L M) (c k : ℕ) (pre post : List (Entry Q × P)) (y : Entry Q × P) (o : Entry Q) (p : P) (mine : List (Q × P)) (b : Back Q) → AtWith c (Settling (debt (pre ++ y ∷ post) o p)) mine b me → k ≡ state_at y.0.by → y.0.by ≤ n
+      → Allows (Listed stands n) slots id me k (λ _. 8) (λ _. kept (step slots k 8 0 none) me 8)
+  parallels slots id me c k pre post y o p mine b mid is_word small = allows stands n (λ _. Stays) slots id me k (λ _. 8) (λ _. kept (step slots k 8 0 none) me 8) (parallels_is slots id me c k pre post y o p mine b mid is_word small)

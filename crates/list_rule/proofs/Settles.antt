@@ -1,4 +1,4 @@
--- The steps of a leader that has handled its group keep the rule.
+-- The steps of a leader that has handled its group: each keeps the rule, and which event it is.
 use Rattle.std.proofs.Common.{true, ◌≡◌, ◌≢◌, ℕ, ◌+◌, ◌*◌, ◌<◌, ◌≤◌, List, [], ◌∷◌, ◌++◌, length, get_or, set, refl, sym, ap, ◌∙◌, subst, inl, arith, length-set, append-nil, get_or-set_other, get_or-set_same}
 use mathlib.Core.Logic.{dite}
 use mathlib.Core.Path.{Path}
@@ -20,11 +20,13 @@ use Rattle.list_rule.specs.declared.content.Content.TheVariants.{Empty, Told, Lo
 use Rattle.list_rule.specs.declared.view.Stage.{Stage}
 use Rattle.list_rule.specs.declared.view.Stage.TheVariants.{Idle, Preparing, Waiting, Fresh, Leading, Cutting, Marking, Settling, Collecting}
 use Rattle.list_rule.specs.Chain.{state_at, older_at, pack, newest_from, Links, LinksFrom, Absent, Distinct, Within, of, heads, all_answers}
-use Rattle.list_rule.specs.Rule.{Phase, idle, linked, chosen, leads, taken, completed, Mode, open_, waits, led, built, cut, marked, base_of, InChain, Stand, Waits, AllLinked, AllTaken, AllOwed, Knows, hold, InPhase, InMode, Account, Laws, Listed, Holds, InSecond, ahead, hold_at}
+use Rattle.list_rule.specs.Rule.{Phase, idle, linked, chosen, leads, taken, completed, Mode, open_, waits, led, built, cut, marked, base_of, InChain, Stand, Waits, AllLinked, AllTaken, AllOwed, Knows, hold, InPhase, InMode, Laws, Listed, Holds, InSecond, ahead, hold_at}
+use Rattle.list_rule.specs.Events.{Core}
+use Rattle.list_rule.specs.Steps.{Stays, IsExit, now_of, IsNow, StepIs}
 use Rattle.list_rule.specs.Plays.{Sat, At, in_hand, debt, slots_of, told_one, retired, cut_as, cut_off, woken_on, AtWith, after_cut, onward}
 use Rattle.list_rule.proofs.Chains.{put, put_at, put_here, put_else, links_stay, links_same, ends_same, stand_change, linked_change, taken_change, taken_apart, owed_change}
 use Rattle.list_rule.proofs.Accounts.{cuts_now, wakes_now}
-use Rattle.list_rule.proofs.Moves.{row_stays, mode_stays, knows_stays, knows_else, moved}
+use Rattle.list_rule.proofs.Moves.{row_stays, mode_stays, knows_stays, knows_else, moved, allows}
 use Rattle.list_rule.proofs.Keeps.{second_stays, second_row, put_same, kept_else}
 use Rattle.std.proofs.lemmas.List.{append_cancel_right}
 use Rattle.list_rule.proofs.Groups.{distinct_apart, distinct_front, distinct_back, within_front, within_at, linked_at, linked_front, linked_absent, taken_absent, linked_out, absent_append, stand_front, stand_apart, links_cut, newest_cut}
@@ -72,9 +74,9 @@ module _ {Q P L M : Type 0} (stands : Laws Q P L M) (n : ℕ) where
       subst (Absent k) (sym ok.0.2) (absent_append k ok.0.0 (ok.0.1 ∷ []) (linked_out phase k ok.0.0 no_l ok.0.3) ((λ e. no_l ok.0.1 (ap phase (sym e ∙ ok.0.5) ∙ ok.0.4)), tt))
   handled_out homes line hand handled phase due k x owed no_l no_c (marked c) ok = linked_out phase k line no_l ok.0
 
-  pub tells : (slots id : ℕ) (me : Sat Q P L M) (c k : ℕ) (g : Entry Q × P) (gs : List (Entry Q × P)) (o : Entry Q) (p : P) (mine : List (Q × P)) (t : List (ℕ × Content Q P L M)) → At c (Settling (debt (g ∷ gs) o p)) mine me → me.1 ≡ (g.0.by, Told g.1) ∷ t → k ≡ state_at g.0.by
-      → (0 < g.0.by) × (g.0.by ≤ n) → Allows (Listed stands n) slots id me k (λ _. 16) (λ _. told_one (step slots k 16 0 none) me 16)
-  tells slots id me c k g gs o p mine t mid slot is range s r long at fits =
+  pub tells_is : (slots id : ℕ) (me : Sat Q P L M) (c k : ℕ) (g : Entry Q × P) (gs : List (Entry Q × P)) (o : Entry Q) (p : P) (mine : List (Q × P)) (t : List (ℕ × Content Q P L M)) → At c (Settling (debt (g ∷ gs) o p)) mine me → me.1 ≡ (g.0.by, Told g.1) ∷ t → k ≡ state_at g.0.by
+      → (0 < g.0.by) × (g.0.by ≤ n) → StepIs stands n (λ _. Stays) slots id me k (λ _. 16) (λ _. told_one (step slots k 16 0 none) me 16)
+  tells_is slots id me c k g gs o p mine t mid slot is range s r long at fits =
       let h : Hold Q P = hold c (Settling (debt (g ∷ gs) o p)) mine in
       let at' : get_elem? s.views id ≡ some (h ∷ []) = at ∙ ap some mid in
       let fit = (r.seats id (h ∷ []) at').0 in
@@ -95,7 +97,7 @@ module _ {Q P L M : Type 0} (stands : Laws Q P L M) (n : ℕ) where
       let here : phase' m ≡ ph = put_here r.phase m ph in
       let out : Absent m r.line = handled_out s.homes r.line r.hand r.handled r.phase r.due m (g.0.asked, g.1) owed (λ e bad. absurd (cc)) (λ e bad. absurd (cc)) r.mode r.log_is in
       let other : c ≢ m = λ e. let bad : r.phase m ≡ leads o = ap r.phase (sym e) ∙ leads_c in absurd (cc) in
-      let after : Listed stands n (record { words = ws; homes = hs; views = set s.views id (h' ∷ []) }) =
+      let after : IsNow stands n (now_of stands n s r) (record { words = ws; homes = hs; views = set s.views id (h' ∷ []) }) =
       moved stands n s r m id ws hs h h' r.line r.hand r.handled r.mode ph r.due r.told r.two record {
         at = at';
         same_client = refl;
@@ -130,16 +132,20 @@ module _ {Q P L M : Type 0} (stands : Laws Q P L M) (n : ℕ) where
         h' ∷ [],
         gives,
         tt,
-        subst (λ (l : List (ℕ × Content Q P L M)). Listed stands n (stepped s k 16 id l (h' ∷ []) gives)) (sym slot) after,
+        (now_of stands n s r, refl, subst (λ (l : List (ℕ × Content Q P L M)). IsNow stands n (now_of stands n s r) (stepped s k 16 id l (h' ∷ []) gives)) (sym slot) after),
         λ c' g' gs' o' p' mine' mid'.
             let e = one_hold c c' (Settling (debt (g ∷ gs) o p)) (Settling (debt (g' ∷ gs') o' p')) mine mine' me.0 mid mid' in
             let d = one_debt (debt (g ∷ gs) o p) (debt (g' ∷ gs') o' p') e.1 in
             ((λ i. hold (e.0 i) (Settling (debt (others_of (d i).rest) (d i).own (d i).reply)) (e.2 i) ∷ []), refl),
       )
 
-  pub retires : (slots id : ℕ) (me : Sat Q P L M) (c k : ℕ) (o : Entry Q) (p : P) (mine : List (Q × P)) → At c (Settling (debt [] o p)) mine me → me.1 ≡ (c, Empty) ∷ [] → k ≡ state_at c
-      → Allows (Listed stands n) slots id me k (λ _. 16) (λ _. retired (step slots k 16 0 none) me 16)
-  retires slots id me c k o p mine mid slot is s r long at fits =
+  pub tells : (slots id : ℕ) (me : Sat Q P L M) (c k : ℕ) (g : Entry Q × P) (gs : List (Entry Q × P)) (o : Entry Q) (p : P) (mine : List (Q × P)) (t : List (ℕ × Content Q P L M)) → At c (Settling (debt (g ∷ gs) o p)) mine me → me.1 ≡ (g.0.by, Told g.1) ∷ t → k ≡ state_at g.0.by
+      → (0 < g.0.by) × (g.0.by ≤ n) → Allows (Listed stands n) slots id me k (λ _. 16) (λ _. told_one (step slots k 16 0 none) me 16)
+  tells slots id me c k g gs o p mine t mid slot is range = allows stands n (λ _. Stays) slots id me k (λ _. 16) (λ _. told_one (step slots k 16 0 none) me 16) (tells_is slots id me c k g gs o p mine t mid slot is range)
+
+  pub retires_is : (slots id : ℕ) (me : Sat Q P L M) (c k : ℕ) (o : Entry Q) (p : P) (mine : List (Q × P)) → At c (Settling (debt [] o p)) mine me → me.1 ≡ (c, Empty) ∷ [] → k ≡ state_at c
+      → StepIs stands n (λ _. Stays) slots id me k (λ _. 16) (λ _. retired (step slots k 16 0 none) me 16)
+  retires_is slots id me c k o p mine mid slot is s r long at fits =
       let h : Hold Q P = hold c (Settling (debt [] o p)) mine in
       let at' : get_elem? s.views id ≡ some (h ∷ []) = at ∙ ap some mid in
       let fit = (r.seats id (h ∷ []) at').0 in
@@ -164,7 +170,7 @@ module _ {Q P L M : Type 0} (stands : Laws Q P L M) (n : ℕ) where
       let due_else : (j : ℕ) → j ≢ c → due j ≡ r.due j = λ j ne. put_else r.due c [] j ne in
       let out : Absent c r.line = handled_out s.homes r.line r.hand r.handled r.phase r.due c (o.asked, p) owed (λ e bad. absurd (cc)) (λ e bad. absurd (cc)) r.mode r.log_is in
       let shares : r.told c ++ r.due c ≡ told c ++ due c = (λ i. sym fit.3 i ++ owed i) ∙ (sym (append-nil got) ∙ (λ i. sym told_is i ++ sym none_due i)) in
-      let after : Listed stands n (record { words = ws; homes = hs; views = set s.views id (h' ∷ []) }) =
+      let after : IsNow stands n (now_of stands n s r) (record { words = ws; homes = hs; views = set s.views id (h' ∷ []) }) =
       moved stands n s r c id ws hs h h' r.line r.hand r.handled r.mode ph due told r.two record {
         at = at';
         same_client = refl;
@@ -199,16 +205,20 @@ module _ {Q P L M : Type 0} (stands : Laws Q P L M) (n : ℕ) where
         h' ∷ [],
         gives,
         tt,
-        subst (λ (l : List (ℕ × Content Q P L M)). Listed stands n (stepped s k 16 id l (h' ∷ []) gives)) (sym slot) after,
+        (now_of stands n s r, refl, subst (λ (l : List (ℕ × Content Q P L M)). IsNow stands n (now_of stands n s r) (stepped s k 16 id l (h' ∷ []) gives)) (sym slot) after),
         λ c' o' p' mine' mid'.
             let e = one_hold c c' (Settling (debt [] o p)) (Settling (debt [] o' p')) mine mine' me.0 mid mid' in
             let d = one_debt (debt [] o p) (debt [] o' p') e.1 in
             ((λ i. hold (e.0 i) Idle (e.2 i ++ ((d i).own.asked, (d i).reply) ∷ []) ∷ []), refl),
       )
 
-  pub cuts_as : (ch : Option ℕ) (slots id : ℕ) (me : Sat Q P L M) (c k new : ℕ) (lead : Lead Q P) (mine : List (Q × P)) (pre : List (Entry Q)) (x : Entry Q) → At c (Leading lead) mine me → lead.walk ≡ pre ++ x ∷ in_hand lead → k ≡ older_at x.by → new ≡ pack 0 x.code → lead.taken ≡ lead.group
-      → Allows (Listed stands n) slots id me k (λ _. new) (λ _. cut_as ch (step slots k new 0 none) me new)
-  cuts_as ch slots id me c k new lead mine pre x mid is_walk is_word cleared all s r long at fits =
+  pub retires : (slots id : ℕ) (me : Sat Q P L M) (c k : ℕ) (o : Entry Q) (p : P) (mine : List (Q × P)) → At c (Settling (debt [] o p)) mine me → me.1 ≡ (c, Empty) ∷ [] → k ≡ state_at c
+      → Allows (Listed stands n) slots id me k (λ _. 16) (λ _. retired (step slots k 16 0 none) me 16)
+  retires slots id me c k o p mine mid slot is = allows stands n (λ _. Stays) slots id me k (λ _. 16) (λ _. retired (step slots k 16 0 none) me 16) (retires_is slots id me c k o p mine mid slot is)
+
+  pub cuts_as_is : (ch : Option ℕ) (slots id : ℕ) (me : Sat Q P L M) (c k new : ℕ) (lead : Lead Q P) (mine : List (Q × P)) (pre : List (Entry Q)) (x : Entry Q) → At c (Leading lead) mine me → lead.walk ≡ pre ++ x ∷ in_hand lead → k ≡ older_at x.by → new ≡ pack 0 x.code → lead.taken ≡ lead.group
+      → StepIs stands n (λ _. Stays) slots id me k (λ _. new) (λ _. cut_as ch (step slots k new 0 none) me new)
+  cuts_as_is ch slots id me c k new lead mine pre x mid is_walk is_word cleared all s r long at fits =
       let h : Hold Q P = hold c (Leading lead) mine in
       let at' : get_elem? s.views id ≡ some (h ∷ []) = at ∙ ap some mid in
       let fit = (r.seats id (h ∷ []) at').0 in
@@ -242,50 +252,55 @@ module _ {Q P L M : Type 0} (stands : Laws Q P L M) (n : ℕ) where
       let same_older : (j : ℕ) → j ≢ x.by → get_or ws (older_at j) 0 ≡ get_or s.words (older_at j) 0 = λ j ne. same (older_at j) (λ e. ne (omega arith)) in
       let row_x : InPhase stands ws s.homes x.by (r.due x.by) (r.phase x.by) =
       let w = subst (InPhase stands s.words s.homes x.by (r.due x.by)) now_x (r.rows x.by lo hi) in
-      subst (InPhase stands ws s.homes x.by (r.due x.by)) (sym now_x) (w.0, same (state_at x.by) (λ e. omega arith) ∙ w.1, w.2, w.3) in (
+      subst (InPhase stands ws s.homes x.by (r.due x.by)) (sym now_x) (w.0, same (state_at x.by) (λ e. omega arith) ∙ w.1, w.2, w.3) in
+      let acc = cuts_now r.line r.handled r.mode r.account c x.by lead.group lead.own (q ++ x ∷ []) led_c (split ∙ (λ i. (q ++ x ∷ []) ++ (all i ++ lead.own ∷ []))) in (
         h' ∷ [],
         keeps,
         tt,
-        moved stands n s r c id ws s.homes h h' line r.hand r.handled (cut c x.by) ph r.due r.told (cut_two ch r.two c lead) record {
-          at = at';
-          same_client = refl;
-          wide = length-set s.words k new;
-          many = refl;
-          newest_is = same 0 (λ e. omega arith) ∙ (r.newest_is ∙ ((λ i. newest_from (f.base i) (parts i)) ∙ newest_cut q x H));
-          links = links_cut s.words ws q x H same_older (ap (λ (j : ℕ). get_or ws j 0) (sym is_word) ∙ (get_or-set_same s.words k new 0 (omega arith) ∙ cleared)) apart (subst (Links s.words) parts (subst (λ b. LinksFrom b s.words r.line) f.base r.links));
-          distinct = distinct_front (q ++ x ∷ []) H (subst Distinct split r.distinct);
-          within = within_front n (q ++ x ∷ []) H (subst (Within n) split r.within);
-          stand = stand_change r.phase c ph line (λ e is_in. subst (InChain e) now is_in) (stand_front r.phase line H (subst (Stand r.phase) split r.stand));
-          other_rows = λ j ne lo' hi' ok. dite (ℕ_discrete j x.by)
-              (λ e. subst (λ (i : ℕ). InPhase stands ws s.homes i (r.due i) (r.phase i)) (sym e) row_x)
-              (λ away. row_stays stands n s.words ws s.homes s.homes j (r.due j) (same (state_at j) (λ e. omega arith)) (same_older j away) refl (r.phase j) ok);
-          row = f.own_by;
-          log_is = (
-            (q, x, refl, linked_change r.phase c ph q (λ e bad. absurd (cc)) (linked_front r.phase q (x ∷ []) queued), put_else r.phase c ph x.by other ∙ now_x, refl),
-            taken_change r.phase r.due r.due c ph c r.hand (λ e bad. absurd (cc)) (λ _ _. refl) (subst (AllTaken r.phase r.due c) fit.4.4 f.members),
-            f.own_due,
-            hand_apart,
-          );
-          one_chosen = λ j e. put_at r.phase c ph (λ i g. g ≡ chosen e → Path (Mode Q) (cut c x.by) (waits i)) j (λ _ bad. absurd (cc)) (λ _ ok. let was : r.mode ≡ waits j = r.one_chosen j e ok in absurd (cc));
-          kept = r.kept;
-          coded = λ e is. r.coded c e (subst (InChain e) (sym now) is);
-          account = cuts_now r.line r.handled c x.by lead.group lead.own (q ++ x ∷ []) (split ∙ (λ i. (q ++ x ∷ []) ++ (all i ++ lead.own ∷ []))) (subst (Account r.line r.handled) led_c r.account);
-          second = cut_second stands n ch ws s.homes phase' (cut c x.by) (stands.last r.handled) r.two c lead (
-              second_stays stands n s.words ws s.homes s.homes r.phase phase' r.mode (cut c x.by) (stands.last r.handled) (stands.last r.handled) r.two (same 1 (λ e. omega arith)) (λ j there. (same_older j (λ e. subst (InSecond r.two.place x.by) now_x (subst (λ (i : ℕ). InSecond r.two.place i (r.phase i)) e there)), (λ _ _. same (state_at j) (λ e. omega arith)), put_same r.phase c ph now j)) (λ j e. sym (same (state_at j) (λ e. omega arith)) ∙ e) refl (λ j h. absurd h) (λ j h. inl (subst (Holds j) (sym led_c) h)) (λ j _ h. subst (Holds j) led_c h) (λ v. v) r.second
-              ) fit.5.0 f.own_by here (taken_with phase' r.due c lead.taken (taken_change r.phase r.due r.due c ph c lead.taken (λ e bad. absurd (cc)) (λ _ _. refl) f.members))
-              (links_stay 0 s.words ws x.by H same_older out_x (links_back s.words (q ++ x ∷ []) H (subst (Links s.words) split (subst (λ b. LinksFrom b s.words r.line) f.base r.links))))
-              (distinct_back (q ++ x ∷ []) H (subst Distinct split r.distinct)) (within_back n (q ++ x ∷ []) H (subst (Within n) split r.within)) (λ h. h);
-          back = cut_back ch r.two c lead fit.5;
-          else_back = cut_else ch r.two c lead;
-          shared_out = r.shared_out;
-          told_else = λ _ _. refl;
-          mine = fit.3;
-          knows = (refl, here, put_else r.phase c ph x.by other ∙ now_x, fit.4.3, fit.4.4);
-          others = λ j ne. knows_stays stands n r.line line r.hand r.hand r.handled r.handled r.mode (cut c x.by) r.phase phase' r.due r.due j (put_else r.phase c ph j ne)
-              (λ h. absurd (ne (sym (subst (Holds j) led_c h))))
-              (λ e y is owed. (put_at r.phase c ph (λ i g. r.phase i ≡ taken j e → g ≡ taken j e) e.by (λ w t. let bad : r.phase e.by ≡ leads lead.own = ap r.phase w ∙ now in absurd (cc)) (λ _ t. t) is, owed))
-              (λ e y _ owed. owed);
-        },
+        (
+          (acc.0.queue, acc.0.log, r.handled),
+          acc.1,
+          moved stands n s r c id ws s.homes h h' line r.hand r.handled (cut c x.by) ph r.due r.told (cut_two ch r.two c lead) record {
+            at = at';
+            same_client = refl;
+            wide = length-set s.words k new;
+            many = refl;
+            newest_is = same 0 (λ e. omega arith) ∙ (r.newest_is ∙ ((λ i. newest_from (f.base i) (parts i)) ∙ newest_cut q x H));
+            links = links_cut s.words ws q x H same_older (ap (λ (j : ℕ). get_or ws j 0) (sym is_word) ∙ (get_or-set_same s.words k new 0 (omega arith) ∙ cleared)) apart (subst (Links s.words) parts (subst (λ b. LinksFrom b s.words r.line) f.base r.links));
+            distinct = distinct_front (q ++ x ∷ []) H (subst Distinct split r.distinct);
+            within = within_front n (q ++ x ∷ []) H (subst (Within n) split r.within);
+            stand = stand_change r.phase c ph line (λ e is_in. subst (InChain e) now is_in) (stand_front r.phase line H (subst (Stand r.phase) split r.stand));
+            other_rows = λ j ne lo' hi' ok. dite (ℕ_discrete j x.by)
+                (λ e. subst (λ (i : ℕ). InPhase stands ws s.homes i (r.due i) (r.phase i)) (sym e) row_x)
+                (λ away. row_stays stands n s.words ws s.homes s.homes j (r.due j) (same (state_at j) (λ e. omega arith)) (same_older j away) refl (r.phase j) ok);
+            row = f.own_by;
+            log_is = (
+              (q, x, refl, linked_change r.phase c ph q (λ e bad. absurd (cc)) (linked_front r.phase q (x ∷ []) queued), put_else r.phase c ph x.by other ∙ now_x, refl),
+              taken_change r.phase r.due r.due c ph c r.hand (λ e bad. absurd (cc)) (λ _ _. refl) (subst (AllTaken r.phase r.due c) fit.4.4 f.members),
+              f.own_due,
+              hand_apart,
+            );
+            one_chosen = λ j e. put_at r.phase c ph (λ i g. g ≡ chosen e → Path (Mode Q) (cut c x.by) (waits i)) j (λ _ bad. absurd (cc)) (λ _ ok. let was : r.mode ≡ waits j = r.one_chosen j e ok in absurd (cc));
+            kept = r.kept;
+            coded = λ e is. r.coded c e (subst (InChain e) (sym now) is);
+            account = acc.0;
+            second = cut_second stands n ch ws s.homes phase' (cut c x.by) (stands.last r.handled) r.two c lead (
+                second_stays stands n s.words ws s.homes s.homes r.phase phase' r.mode (cut c x.by) (stands.last r.handled) (stands.last r.handled) r.two (same 1 (λ e. omega arith)) (λ j there. (same_older j (λ e. subst (InSecond r.two.place x.by) now_x (subst (λ (i : ℕ). InSecond r.two.place i (r.phase i)) e there)), (λ _ _. same (state_at j) (λ e. omega arith)), put_same r.phase c ph now j)) (λ j e. sym (same (state_at j) (λ e. omega arith)) ∙ e) refl (λ j h. absurd h) (λ j h. inl (subst (Holds j) (sym led_c) h)) (λ j _ h. subst (Holds j) led_c h) (λ v. v) r.second
+                ) fit.5.0 f.own_by here (taken_with phase' r.due c lead.taken (taken_change r.phase r.due r.due c ph c lead.taken (λ e bad. absurd (cc)) (λ _ _. refl) f.members))
+                (links_stay 0 s.words ws x.by H same_older out_x (links_back s.words (q ++ x ∷ []) H (subst (Links s.words) split (subst (λ b. LinksFrom b s.words r.line) f.base r.links))))
+                (distinct_back (q ++ x ∷ []) H (subst Distinct split r.distinct)) (within_back n (q ++ x ∷ []) H (subst (Within n) split r.within)) (λ h. h);
+            back = cut_back ch r.two c lead fit.5;
+            else_back = cut_else ch r.two c lead;
+            shared_out = r.shared_out;
+            told_else = λ _ _. refl;
+            mine = fit.3;
+            knows = (refl, here, put_else r.phase c ph x.by other ∙ now_x, fit.4.3, fit.4.4);
+            others = λ j ne. knows_stays stands n r.line line r.hand r.hand r.handled r.handled r.mode (cut c x.by) r.phase phase' r.due r.due j (put_else r.phase c ph j ne)
+                (λ h. absurd (ne (sym (subst (Holds j) led_c h))))
+                (λ e y is owed. (put_at r.phase c ph (λ i g. r.phase i ≡ taken j e → g ≡ taken j e) e.by (λ w t. let bad : r.phase e.by ≡ leads lead.own = ap r.phase w ∙ now in absurd (cc)) (λ _ t. t) is, owed))
+                (λ e y _ owed. owed);
+          },
+        ),
         λ c' lead' mine' pre' x' mid' is_walk' is_word'.
             let e = one_hold c c' (Leading lead) (Leading lead') mine mine' me.0 mid mid' in
             let le : lead ≡ lead' = one_lead lead lead' e.1 in
@@ -294,14 +309,18 @@ module _ {Q P L M : Type 0} (stands : Laws Q P L M) (n : ℕ) where
             ((λ i. hold_at (e.0 i) (Cutting (le i) (same_x i)) (e.2 i) (after_cut ch (le i)) ∷ []), refl),
       )
 
+  pub cuts_is : (slots id : ℕ) (me : Sat Q P L M) (c k new : ℕ) (lead : Lead Q P) (mine : List (Q × P)) (pre : List (Entry Q)) (x : Entry Q) → At c (Leading lead) mine me → lead.walk ≡ pre ++ x ∷ in_hand lead → k ≡ older_at x.by → new ≡ pack 0 x.code → lead.taken ≡ lead.group
+      → StepIs stands n (λ _. Stays) slots id me k (λ _. new) (λ _. cut_off (step slots k new 0 none) me new)
+  cuts_is = cuts_as_is none
+
   pub cuts : (slots id : ℕ) (me : Sat Q P L M) (c k new : ℕ) (lead : Lead Q P) (mine : List (Q × P)) (pre : List (Entry Q)) (x : Entry Q) → At c (Leading lead) mine me → lead.walk ≡ pre ++ x ∷ in_hand lead → k ≡ older_at x.by → new ≡ pack 0 x.code → lead.taken ≡ lead.group
       → Allows (Listed stands n) slots id me k (λ _. new) (λ _. cut_off (step slots k new 0 none) me new)
-  cuts = cuts_as none
+  cuts slots id me c k new lead mine pre x mid is_walk is_word cleared all = allows stands n (λ _. Stays) slots id me k (λ _. new) (λ _. cut_off (step slots k new 0 none) me new) (cuts_is slots id me c k new lead mine pre x mid is_walk is_word cleared all)
 
-  pub wakes_on : (slots id : ℕ) (me : Sat Q P L M) (c k : ℕ) (lead : Lead Q P) (x : Entry Q) (mine : List (Q × P)) (b : Back Q) (gs : List (Entry Q × P)) (p : P) (l : L) (tail : List (ℕ × Content Q P L M)) → AtWith c (Cutting lead x) mine b me → heads gs ≡ lead.taken
+  pub wakes_on_is : (slots id : ℕ) (me : Sat Q P L M) (c k : ℕ) (lead : Lead Q P) (x : Entry Q) (mine : List (Q × P)) (b : Back Q) (gs : List (Entry Q × P)) (p : P) (l : L) (tail : List (ℕ × Content Q P L M)) → AtWith c (Cutting lead x) mine b me → heads gs ≡ lead.taken
       → me.1 ≡ (0, Log l) ∷ slots_of gs ((c, Told p) ∷ tail) → k ≡ state_at x.by → (0 < x.by) × (x.by ≤ n) → stands.logs l (lead.seen ++ all_answers lead.own p gs) → Hands stands n b lead.seen (lead.seen ++ all_answers lead.own p gs)
-      → Allows (Listed stands n) slots id me k (λ _. 2) (λ _. woken_on (step slots k 2 0 none) me 2)
-  wakes_on slots id me c k lead x mine b gs p l tail mid group slot is_word range stood unnumbered s r long at fits =
+      → StepIs stands n (λ _. IsExit lead.own p gs) slots id me k (λ _. 2) (λ _. woken_on (step slots k 2 0 none) me 2)
+  wakes_on_is slots id me c k lead x mine b gs p l tail mid group slot is_word range stood unnumbered s r long at fits =
       let h : Hold Q P = hold_at c (Cutting lead x) mine b in
       let at' : get_elem? s.views id ≡ some (h ∷ []) = at ∙ ap some mid in
       let fit = (r.seats id (h ∷ []) at').0 in
@@ -335,7 +354,9 @@ module _ {Q P L M : Type 0} (stands : Laws Q P L M) (n : ℕ) where
       let no_x : (j : ℕ) (e : Entry Q) → e.by ≡ x.by → r.phase e.by ≡ taken j e → ⊥ = λ j e is t. let bad : r.phase e.by ≡ linked x = ap r.phase is ∙ now_x in absurd (cc) in
       let owe_x : owe x.by ≡ r.due x.by = due_same stands n s r c lead.own gs p by_c now members m.2 apart x.by (λ e. other (sym e)) (λ e bad _. absurd (cc)) in
       let out_x : Absent x.by m.0.0 = distinct_apart m.0.0 x [] (subst Distinct (m.0.2 ∙ (λ i. m.0.0 ++ same_e i ∷ [])) r.distinct) in
-      let after : Listed stands n (record { words = ws; homes = hs; views = set s.views id (h' ∷ []) }) =
+      let acc = wakes_now r.line r.handled r.mode r.account c x.by more cut_c in
+      let now_is : Core Q P = (acc.0.queue, acc.0.log, r.handled ++ more) in
+      let after : IsNow stands n now_is (record { words = ws; homes = hs; views = set s.views id (h' ∷ []) }) =
       moved stands n s r x.by id ws hs h h' r.line [] (r.handled ++ more) (waits x.by) ph owe r.told two' record {
         at = at';
         same_client = refl;
@@ -359,7 +380,7 @@ module _ {Q P L M : Type 0} (stands : Laws Q P L M) (n : ℕ) where
         one_chosen = λ j e. put_at r.phase x.by ph (λ i g. g ≡ chosen e → Path (Mode Q) (waits x.by) (waits i)) j (λ is _. ap waits (sym is)) (λ _ ok. let was : r.mode ≡ waits j = r.one_chosen j e ok in absurd (cc));
         kept = stands.keeps l (r.handled ++ more) (subst (λ z. stands.logs l (z ++ more)) fit.4.3 stood);
         coded = λ e is. r.coded x.by e (subst (InChain e) (sym now_x) is);
-        account = wakes_now r.line r.handled c x.by more (subst (Account r.line r.handled) cut_c r.account);
+        account = acc.0;
         second = second_stays stands n s.words ws s.homes hs r.phase phase' r.mode (waits x.by) (stands.last (r.handled ++ more)) (stands.last (r.handled ++ more)) two' (same 1 (λ e. omega arith)) (kept_else r.phase two'.place x.by ph s.words ws (λ there. subst (InSecond two'.place x.by) now_x there) (λ j _. same (older_at j) (λ e. omega arith)) (λ j ne. same (state_at j) (λ e. ne (omega arith)))) (λ j four. dite (ℕ_discrete j x.by) (λ e. let two2 : get_or ws (state_at x.by) 0 ≡ 2 = ap (λ (i : ℕ). get_or ws i 0) (sym is_word) ∙ get_or-set_same s.words k 2 0 (omega arith) in let two3 : get_or ws (state_at j) 0 ≡ 2 = ap (λ (i : ℕ). get_or ws (state_at i) 0) e ∙ two2 in absurd (omega arith)) (λ ne. sym (same (state_at j) (λ e. ne (omega arith))) ∙ four)) (set_else s.homes 0 (n + 1) (some (Log l)) (λ e. omega arith)) (λ j h. absurd h) (λ j h. absurd h) (λ j is h. absurd (onward_free stands n b r.two c r.handled (r.handled ++ more) fit.5 hands (is ∙ ap ahead (sym (subst (Holds j) cut_c h))))) (λ v. v) (second_onward stands n b s.words s.homes r.phase r.mode r.two c r.handled (r.handled ++ more) fit.5 hands r.second);
         back = onward_back stands n b r.two c r.handled (r.handled ++ more) fit.5 hands;
         else_back = onward_else stands n b r.two c fit.5;
@@ -384,7 +405,7 @@ module _ {Q P L M : Type 0} (stands : Laws Q P L M) (n : ℕ) where
         h' ∷ [],
         gives,
         tt,
-        subst (λ (t : List (ℕ × Content Q P L M)). Listed stands n (stepped s k 2 id t (h' ∷ []) gives)) (sym slot) after,
+        (now_is, acc.1, subst (λ (t : List (ℕ × Content Q P L M)). IsNow stands n now_is (stepped s k 2 id t (h' ∷ []) gives)) (sym slot) after),
         λ c' lead' x' mine' b' gs' p' l' tail' mid' group' slot'.
             let e = one_hold_at c c' (Cutting lead x) (Cutting lead' x') mine mine' b b' me.0 mid mid' in
             let le : lead ≡ lead' = ap (lead_in lead) e.1 in
@@ -392,7 +413,12 @@ module _ {Q P L M : Type 0} (stands : Laws Q P L M) (n : ℕ) where
             ((λ i. hold_at (e.0 i) (Settling (debt (t.0 i) (le i).own (t.1 i))) (e.2 i) (onward (e.3 i)) ∷ []), ap (λ z. carried_after z gives) slot'),
       )
 
+  pub wakes_is : (slots id : ℕ) (me : Sat Q P L M) (c k : ℕ) (lead : Lead Q P) (x : Entry Q) (mine : List (Q × P)) (gs : List (Entry Q × P)) (p : P) (l : L) → At c (Cutting lead x) mine me → heads gs ≡ lead.taken
+      → me.1 ≡ (0, Log l) ∷ slots_of gs ((c, Told p) ∷ []) → k ≡ state_at x.by → (0 < x.by) × (x.by ≤ n) → stands.logs l (lead.seen ++ all_answers lead.own p gs) → (stands.piped ≡ true → stands.last (lead.seen ++ all_answers lead.own p gs) ≡ stands.last lead.seen)
+      → StepIs stands n (λ _. IsExit lead.own p gs) slots id me k (λ _. 2) (λ _. woken_on (step slots k 2 0 none) me 2)
+  wakes_is slots id me c k lead x mine gs p l mid group slot is_word range stood unnumbered = wakes_on_is slots id me c k lead x mine Away gs p l [] mid group slot is_word range stood unnumbered
+
   pub wakes : (slots id : ℕ) (me : Sat Q P L M) (c k : ℕ) (lead : Lead Q P) (x : Entry Q) (mine : List (Q × P)) (gs : List (Entry Q × P)) (p : P) (l : L) → At c (Cutting lead x) mine me → heads gs ≡ lead.taken
       → me.1 ≡ (0, Log l) ∷ slots_of gs ((c, Told p) ∷ []) → k ≡ state_at x.by → (0 < x.by) × (x.by ≤ n) → stands.logs l (lead.seen ++ all_answers lead.own p gs) → (stands.piped ≡ true → stands.last (lead.seen ++ all_answers lead.own p gs) ≡ stands.last lead.seen)
       → Allows (Listed stands n) slots id me k (λ _. 2) (λ _. woken_on (step slots k 2 0 none) me 2)
-  wakes slots id me c k lead x mine gs p l mid group slot is_word range stood unnumbered = wakes_on slots id me c k lead x mine Away gs p l [] mid group slot is_word range stood unnumbered
+  wakes slots id me c k lead x mine gs p l mid group slot is_word range stood unnumbered = allows stands n (λ _. IsExit lead.own p gs) slots id me k (λ _. 2) (λ _. woken_on (step slots k 2 0 none) me 2) (wakes_is slots id me c k lead x mine gs p l mid group slot is_word range stood unnumbered)

@@ -1,10 +1,21 @@
-//! What the list is between any two steps.
-ghost use Rattle.std.specs.Prelude.{ℕ, List};
-ghost use Rattle.atomic_table.specs.Table.{State};
+//! What the list is between any two steps, and what each step makes of it.
+ghost use Rattle.std.specs.Prelude.{◌≡◌, ℕ, ◌<◌, ◌≤◌, ◌==◌, List, [], ◌∷◌, ◌++◌, Some};
+ghost use mathlib.Core.Option.{none};
+ghost use prog.Atomic.{either};
+ghost use Rattle.atomic_table.specs.Table.{State, step};
 ghost use Rattle.list_rule.specs.declared.content.Content.{Content};
+ghost use Rattle.list_rule.specs.declared.content.Content.TheVariants.{Empty, Asked, Told, Log};
 ghost use Rattle.list_rule.specs.declared.content.Start.{Start};
+ghost use Rattle.list_rule.specs.declared.view.Entry.{Entry};
+ghost use Rattle.list_rule.specs.declared.view.Handling.{Handling};
 ghost use Rattle.list_rule.specs.declared.view.Hold.{Hold};
-ghost use Rattle.list_rule.specs.Rule.{Listed, laws_for};
+ghost use Rattle.list_rule.specs.declared.view.Lead.{Lead};
+ghost use Rattle.list_rule.specs.declared.view.Stage.TheVariants.{Idle, Preparing, Waiting, Fresh, Leading, Cutting, Settling, Collecting};
+ghost use Rattle.list_rule.specs.Chain.{state_at, older_at, pack, newest, heads, all_answers};
+ghost use Rattle.list_rule.specs.Grouping.{code_by};
+ghost use Rattle.list_rule.specs.Rule.{Listed, laws_for, logs_picked, kept_picked, last_run, Unnumbered};
+ghost use Rattle.list_rule.specs.Plays.{Sat, At, entry, in_hand, debt, slots_of, begun, peeked, aimed, entered, looked, rested, read_once, traced, fetched, left, cut_off, woken_on, told_one, retired};
+ghost use Rattle.list_rule.specs.Steps.{Stays, ComesWhere, IsLink, IsElect, IsBuild, IsExit, StepIs};
 ghost use Rattle.list_rule.specs.Between.{Between};
 
 use crate::rule::{Given, Itemized, Ledger, Numbered};
@@ -17,4 +28,85 @@ pub fn between_steps<Q: Itemized, P: Given, L: Ledger<Q, P>, M: Numbered>()
     ensures { (k : Start L.About) (s : State (Content Q P L M) (List (Hold Q P)))
         → Listed (laws_for Q.item_of L.stands L.kept L.number_of P.run_of M.number_of k) k.clients s
         → Between (laws_for Q.item_of L.stands L.kept L.number_of P.run_of M.number_of k) k.clients s }
+{}
+
+/// What each step of a list with one stage is, of whatever list that keeps the rule, where its caller may make it: one
+/// of those events, two of them where a link finds nobody before it, or none. A compare-exchange that fails is none.
+pub fn steps_and_events<Q: Itemized, P: Given, L: Ledger<Q, P>, M: Numbered>()
+    ensures begin { (z : Start L.About) (slots id word c : ℕ) (me : Sat Q P L M) (mine : List (Q × P))
+        → word ≡ state_at c → At c Idle mine me → me.1 ≡ []
+        → StepIs (laws_for Q.item_of L.stands L.kept L.number_of P.run_of M.number_of z) z.clients (λ _. Stays)
+        slots id me word (λ _. 1) (λ _. begun (step slots word 1 0 none) me 1) }
+    ensures read_newest { (z : Start L.About) (slots id : ℕ) (me : Sat Q P L M)
+        → StepIs (laws_for Q.item_of L.stands L.kept L.number_of P.run_of M.number_of z) z.clients (λ _. Stays)
+        slots id me 0 (λ x. x) (peeked (step slots 0 0 0 none) me) }
+    ensures name_older { (z : Start L.About) (slots id word c w new : ℕ) (me : Sat Q P L M) (mine : List (Q × P))
+        → word ≡ older_at c → At c (Preparing w) mine me
+        → StepIs (laws_for Q.item_of L.stands L.kept L.number_of P.run_of M.number_of z) z.clients (λ _. Stays)
+        slots id me word (λ _. new) (λ _. aimed (step slots word new 0 none) me new) }
+    ensures link { (z : Start L.About) (slots id c w saw : ℕ) (me : Sat Q P L M) (q : Q) (mine : List (Q × P))
+        → w ≡ pack saw (code_by Q.item_of q) → At c (Preparing w) mine me → me.1 ≡ (c, Asked q) ∷ []
+        → StepIs (laws_for Q.item_of L.stands L.kept L.number_of P.run_of M.number_of z) z.clients
+        (IsLink saw (entry c (code_by Q.item_of q) q)) slots id me 0 (λ x. either (x == saw) c x)
+        (entered (logs_picked L.stands L.kept L.number_of P.run_of z.log (Some z.about)) (step slots 0 saw c none) me) }
+    ensures read_state { (z : Start L.About) (slots id word c : ℕ) (me : Sat Q P L M) (q : Q) (mine : List (Q × P))
+        → word ≡ state_at c → At c (Waiting q) mine me → me.1 ≡ []
+        → StepIs (laws_for Q.item_of L.stands L.kept L.number_of P.run_of M.number_of z) z.clients
+        (ComesWhere 2 (IsElect c q)) slots id me word (λ x. x)
+        (looked (logs_picked L.stands L.kept L.number_of P.run_of z.log (Some z.about))
+        (kept_picked L.kept (Some z.about)) (step slots word 0 0 none) me) }
+    ensures rest { (z : Start L.About) (slots id word c : ℕ) (me : Sat Q P L M) (mine : List (Q × P))
+        → At c Collecting mine me → me.1 ≡ (c, Empty) ∷ []
+        → StepIs (laws_for Q.item_of L.stands L.kept L.number_of P.run_of M.number_of z) z.clients (λ _. Stays)
+        slots id me word (λ x. x) (rested (step slots word 0 0 none) me) }
+    ensures build { (z : Start L.About) (slots id max c : ℕ) (me : Sat Q P L M) (own : Entry Q)
+        (seen : List (Handling Q P)) (mine : List (Q × P))
+        → At c (Fresh own seen) mine me
+        → StepIs (laws_for Q.item_of L.stands L.kept L.number_of P.run_of M.number_of z) z.clients
+        (λ _. IsBuild max own) slots id me 0 (λ x. x) (read_once (code_by Q.item_of) max (step slots 0 0 0 none) me) }
+    ensures read_older { (z : Start L.About) (slots id word : ℕ) (me : Sat Q P L M)
+        → StepIs (laws_for Q.item_of L.stands L.kept L.number_of P.run_of M.number_of z) z.clients (λ _. Stays)
+        slots id me word (λ x. x) (traced (step slots word 0 0 none) me) }
+    ensures fetch { (z : Start L.About) (slots id word c : ℕ) (me : Sat Q P L M) (lead : Lead Q P)
+        (mine : List (Q × P)) (newer : List (Entry Q)) (x : Entry Q)
+        → At c (Leading lead) mine me → lead.walk ≡ newer ++ x ∷ in_hand lead → word ≡ older_at x.by
+        → StepIs (laws_for Q.item_of L.stands L.kept L.number_of P.run_of M.number_of z) z.clients (λ _. Stays)
+        slots id me word (λ x. x) (fetched (step slots word 0 0 none) me) }
+    ensures leave { (z : Start L.About) (slots id c member : ℕ) (me : Sat Q P L M) (lead : Lead Q P)
+        (mine : List (Q × P)) (gs : List (Entry Q × P)) (p : P) (l : L)
+        → At c (Leading lead) mine me → lead.taken ≡ lead.group → heads gs ≡ lead.taken
+        → me.1 ≡ (0, Log l) ∷ slots_of gs ((c, Told p) ∷ []) → member ≡ newest (in_hand lead)
+        → logs_picked L.stands L.kept L.number_of P.run_of z.log (Some z.about) l
+        (lead.seen ++ all_answers lead.own p gs)
+        → Unnumbered z.pipelined (last_run P.run_of z.log) lead.seen (lead.seen ++ all_answers lead.own p gs)
+        → StepIs (laws_for Q.item_of L.stands L.kept L.number_of P.run_of M.number_of z) z.clients
+        (ComesWhere member (IsExit lead.own p gs)) slots id me 0 (λ x. either (x == member) 0 x)
+        (left (step slots 0 member 0 none) me) }
+    ensures cut_off { (z : Start L.About) (slots id word c new : ℕ) (me : Sat Q P L M) (lead : Lead Q P)
+        (mine : List (Q × P)) (newer : List (Entry Q)) (x : Entry Q)
+        → At c (Leading lead) mine me → lead.taken ≡ lead.group → lead.walk ≡ newer ++ x ∷ in_hand lead
+        → word ≡ older_at x.by → new ≡ pack 0 x.code
+        → StepIs (laws_for Q.item_of L.stands L.kept L.number_of P.run_of M.number_of z) z.clients (λ _. Stays)
+        slots id me word (λ _. new) (λ _. cut_off (step slots word new 0 none) me new) }
+    ensures wake { (z : Start L.About) (slots id word c : ℕ) (me : Sat Q P L M) (lead : Lead Q P) (x : Entry Q)
+        (mine : List (Q × P)) (gs : List (Entry Q × P)) (p : P) (l : L)
+        → At c (Cutting lead x) mine me → heads gs ≡ lead.taken
+        → me.1 ≡ (0, Log l) ∷ slots_of gs ((c, Told p) ∷ []) → word ≡ state_at x.by → 0 < x.by → x.by ≤ z.clients
+        → logs_picked L.stands L.kept L.number_of P.run_of z.log (Some z.about) l
+        (lead.seen ++ all_answers lead.own p gs)
+        → Unnumbered z.pipelined (last_run P.run_of z.log) lead.seen (lead.seen ++ all_answers lead.own p gs)
+        → StepIs (laws_for Q.item_of L.stands L.kept L.number_of P.run_of M.number_of z) z.clients
+        (λ _. IsExit lead.own p gs) slots id me word (λ _. 2) (λ _. woken_on (step slots word 2 0 none) me 2) }
+    ensures complete { (z : Start L.About) (slots id word c : ℕ) (me : Sat Q P L M) (member : Entry Q × P)
+        (others : List (Entry Q × P)) (own : Entry Q) (p : P) (mine : List (Q × P)) (more : List (ℕ × Content Q P L M))
+        → At c (Settling (debt (member ∷ others) own p)) mine me
+        → me.1 ≡ (member.0.by, Told member.1) ∷ more → word ≡ state_at member.0.by
+        → 0 < member.0.by → member.0.by ≤ z.clients
+        → StepIs (laws_for Q.item_of L.stands L.kept L.number_of P.run_of M.number_of z) z.clients (λ _. Stays)
+        slots id me word (λ _. 16) (λ _. told_one (step slots word 16 0 none) me 16) }
+    ensures retire { (z : Start L.About) (slots id word c : ℕ) (me : Sat Q P L M) (own : Entry Q) (p : P)
+        (mine : List (Q × P))
+        → At c (Settling (debt [] own p)) mine me → me.1 ≡ (c, Empty) ∷ [] → word ≡ state_at c
+        → StepIs (laws_for Q.item_of L.stands L.kept L.number_of P.run_of M.number_of z) z.clients (λ _. Stays)
+        slots id me word (λ _. 16) (λ _. retired (step slots word 16 0 none) me 16) }
 {}

@@ -24,7 +24,8 @@
 //!
 //! # Steps
 //!
-//! A seat is a client's. Who leads has the log, and the slots of its group.
+//! A seat is a client's. Who leads has the log, and the slots of its group. Which event of the list each step is, or that
+//! it is none, says [`steps_and_events`].
 //!
 //! | Step | Who makes it | What it does | Event of the write path |
 //! |---|---|---|---|
@@ -69,7 +70,7 @@ mod view;
 pub use code::{code_of, codes_stand_for_items, item_of};
 pub use content::{Content, Start};
 pub use core_events::list_and_core;
-pub use law::between_steps;
+pub use law::{between_steps, steps_and_events};
 pub use rule::{Both, First, Given, Itemized, Ledger, Numbered, Order, Picked, PickedAbout};
 pub use steps::{
     AimSecond, Begin, Build, CallNext, ClearSecond, Complete, CutAway, CutBehindMark, CutOff,
