@@ -25,7 +25,7 @@
 //! # Steps
 //!
 //! A seat is a client's. Who leads has the log, and the slots of its group. Which event of the list each step is, or that
-//! it is none, says [`steps_and_events`].
+//! it is none, say [`steps_and_events`] and [`second_steps_and_events`].
 //!
 //! | Step | Who makes it | What it does | Event of the write path |
 //! |---|---|---|---|
@@ -64,6 +64,7 @@ mod content;
 mod core_events;
 mod law;
 mod rule;
+mod second_law;
 mod steps;
 mod view;
 
@@ -72,6 +73,7 @@ pub use content::{Content, Start};
 pub use core_events::list_and_core;
 pub use law::{between_steps, steps_and_events};
 pub use rule::{Both, First, Given, Itemized, Ledger, Numbered, Order, Picked, PickedAbout};
+pub use second_law::second_steps_and_events;
 pub use steps::{
     AimSecond, Begin, Build, CallNext, ClearSecond, Complete, CutAway, CutBehindMark, CutOff,
     Fetch, Free, JoinSecond, Leave, LeaveSecond, Link, MakeParallel, Mark, NameOlder, ReadNewest,
