@@ -1,0 +1,6 @@
+pub mod Chains
+pub mod Plans
+pub mod Reaching
+pub mod Own
+pub mod Steps
+pub mod Closing

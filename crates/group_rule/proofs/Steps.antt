@@ -1,0 +1,276 @@
+-- Each end of a leader's work keeps all consistent.
+use Rattle.std.proofs.Common.{◌≡◌, ◌⊎◌, inl, inr, ℕ, suc, ◌+◌, ◌-◌, ◌<◌, ◌≤◌, Bool, true, false, cond, ◌==◌, filter, flat_map, map, List, [], ◌∷◌, ◌++◌, Option, Some, None, length, refl, ap, sym, ◌∙◌, subst, ⊎_elim, arith, append_assoc, append-nil, length-append}
+use Rattle.std.specs.List.{AllByRecursion, AllZip}
+use Rattle.std.proofs.lemmas.List.Elements.{filter-append}
+use Rattle.std.proofs.lemmas.Grind.{flat_map-append}
+use Rattle.wp_model.specs.declared.write.WriteOptions.{WriteOptions}
+use Rattle.wp_model.specs.Batch.{Record, count_of}
+use Rattle.wp_model.specs.declared.history.Flag.{Flag}
+use Rattle.wp_model.specs.declared.history.Flag.TheVariants.{Log, NoLog, Sync}
+use Rattle.wp_model.specs.History.{Entry, IsHistory, RunsFollow, last_of, logged, is_logged, flag_of}
+use Rattle.wp_model.specs.LogContents.{GroupCall}
+use Rattle.table_rule.specs.declared.content.MemberVersions.{MemberVersions}
+use Rattle.table_rule.specs.declared.content.Version.{Version}
+use Rattle.table_rule.specs.Histories.{made_by, versions_in, Images}
+use Rattle.table_rule.proofs.Images.{images_more, images_none}
+use Rattle.account_model.specs.Written.{WroteEntries, first_of}
+use Rattle.group_rule.specs.Commits.{Answer, AreAnswered, AreOfClients, Commit, accepted, failed, fault_after_all, last_after_all, no_room}
+use Rattle.group_rule.specs.Consistent.{AreConsistent, Publishes}
+use Rattle.group_rule.specs.Entries.{entries_after, entries_of, entry_after, entry_with, versions_made}
+use Rattle.group_rule.specs.LogCalls.{IsLostWrite, LogsGroup, SyncsFor, WritesBatches, WroteCommits, WroteParts}
+use Rattle.group_rule.specs.Plans.{AreLawful, AreUnlogged, CommitRequest, IsWholeGroup, all_failed, answer_with, answered, batches_from, last_with, last_with_all, planned, versions_from}
+use Rattle.group_rule.proofs.Chains.{answered_append, dead_append, end_append, entries_history, entries_more}
+use Rattle.group_rule.proofs.Plans.{planned_answered, planned_batches, planned_clients, planned_dead, planned_end, planned_versions}
+
+all_append : {X : Type 0} (P : X → Type 0) (xs ys : List X) → AllByRecursion P xs → AllByRecursion P ys → AllByRecursion P (xs ++ ys)
+all_append P [] ys a b = b
+all_append P (x ∷ xs) ys a b = (a.0, all_append P xs ys a.1 b)
+
+zip_append : {A B : Type 0} (R : A → B → Type 0) (xs : List A) (cs : List B) (ys : List A) (ds : List B) → AllZip R xs cs → AllZip R ys ds → AllZip R (xs ++ ys) (cs ++ ds)
+zip_append R [] [] ys ds a b = b
+zip_append R [] (c ∷ cs) ys ds a b = absurd a
+zip_append R (x ∷ xs) [] ys ds a b = absurd a
+zip_append R (x ∷ xs) (c ∷ cs) ys ds a b = (a.0, zip_append R xs cs ys ds a.1 b)
+
+none_of : {A B : Type 0} (f : A → B) (xs : List A) → map f xs ≡ [] → xs ≡ []
+none_of f [] e = refl
+none_of f (x ∷ xs) e = absurd (cc)
+
+some_of : {A B : Type 0} (f : A → B) (xs : List A) → 0 < length (map f xs) → 0 < length xs
+some_of f [] h = h
+some_of f (x ∷ xs) h = omega arith
+
+-- Flags
+
+logs_flag : (options : WriteOptions) → options.no_log ≡ false → is_logged (flag_of options) ≡ true
+logs_flag options e = rw e (by options.sync)
+  where
+    by : (b : Bool) → is_logged (cond b Sync Log) ≡ true
+    by true = refl
+    by false = refl
+
+skips_flag : (options : WriteOptions) → options.no_log ≡ true → is_logged (flag_of options) ≡ false
+skips_flag options e = rw e refl
+
+syncs_flag : (options : WriteOptions) → flag_of options ≡ Sync → options.sync ≡ true
+syncs_flag options e = by options.no_log options.sync e
+  where
+    by : (n b : Bool) → cond n NoLog (cond b Sync Log) ≡ Sync → b ≡ true
+    by true b e = absurd (cc)
+    by false true e = refl
+    by false false e = absurd (cc)
+
+-- What holds of each request holds of the entry that it makes
+module _ (P : WriteOptions → Type 0) where
+  entry_at : (mine : List Entry) (a : CommitRequest) (rest : List Entry) (v : Answer) → P a.options → AllByRecursion (λ (e : Entry). (options : WriteOptions) × P options × (e.flag ≡ flag_of options)) rest
+      → AllByRecursion (λ (e : Entry). (options : WriteOptions) × P options × (e.flag ≡ flag_of options)) (entry_with a.client mine (answered a v) v ++ rest)
+  entry_at mine a rest (accepted first end) h more = ((a.options, h, refl), more)
+  entry_at mine a rest (failed n) h more = more
+  entry_at mine a rest (no_room l) h more = more
+
+  flags_of : (last end : ℕ) (before : List Entry) (requests : List CommitRequest) → AllByRecursion (λ (a : CommitRequest). P a.options) requests → AllByRecursion (λ (e : Entry). (options : WriteOptions) × P options × (e.flag ≡ flag_of options)) (entries_after before (planned last end requests))
+  flags_of last end before [] h = tt
+  flags_of last end before (a ∷ requests) h =
+      let c = answered a (answer_with last end a.records) in
+      entry_at (filter (λ (e : Entry). e.client == a.client) before) a (entries_after (before ++ entry_after before c) (planned (last_with last a.records) end requests)) (answer_with last end a.records) h.0
+      (flags_of (last_with last a.records) end (before ++ entry_after before c) requests h.1)
+
+all_logged : (es : List Entry) → AllByRecursion (λ (e : Entry). (options : WriteOptions) × (options.no_log ≡ false) × (e.flag ≡ flag_of options)) es → logged es ≡ es
+all_logged [] h = refl
+all_logged (e ∷ es) h = let t : is_logged e.flag ≡ true = ap is_logged h.0.2 ∙ logs_flag h.0.0 h.0.1 in rw t (ap (λ l. e ∷ l) (all_logged es h.1))
+
+none_logged : (es : List Entry) → AllByRecursion (λ (e : Entry). (options : WriteOptions) × (options.no_log ≡ true) × (e.flag ≡ flag_of options)) es → logged es ≡ []
+none_logged [] h = refl
+none_logged (e ∷ es) h = let t : is_logged e.flag ≡ false = ap is_logged h.0.2 ∙ skips_flag h.0.0 h.0.1 in rw t (none_logged es h.1)
+
+all_synced : (sync : Bool) (es : List Entry) → AllByRecursion (λ (e : Entry). (options : WriteOptions) × (options.sync ≡ true → sync ≡ true) × (e.flag ≡ flag_of options)) es → AllByRecursion (λ (e : Entry). e.flag ≡ Sync → sync ≡ true) es
+all_synced sync [] h = tt
+all_synced sync (e ∷ es) h = ((λ is. h.0.1 (syncs_flag h.0.0 (sym h.0.2 ∙ is))), all_synced sync es h.1)
+
+-- The log's calls
+
+no_more_calls : (old new : List Entry) (calls : List GroupCall) → logged new ≡ [] → WroteParts old calls → WroteParts (old ++ new) calls
+no_more_calls old new calls none k = record {
+  parts = k.parts;
+  cut = k.cut ∙ (sym (append-nil (logged old)) ∙ ((λ i. logged old ++ sym none i) ∙ sym (filter-append (λ (e : Entry). is_logged e.flag) old new)));
+  runs = k.runs;
+  each = k.each;
+}
+
+first_is : (last : ℕ) (es : List Entry) → IsHistory last es → 0 < length es → first_of es ≡ Some (last + 1)
+first_is last [] h some = absurd (omega arith)
+first_is last (e ∷ es) h some = ap Some h.0.first
+
+runs_follow : (last : ℕ) (es : List Entry) → IsHistory last es → RunsFollow es
+runs_follow last [] h = tt
+runs_follow last (e ∷ es) h = h.1
+
+one_more_call : (last : ℕ) (old new : List Entry) (calls : List GroupCall) (c : GroupCall) → IsHistory last new → logged new ≡ new → 0 < length new → c.first ≡ last + 1 → c.batches ≡ map (λ (e : Entry). e.records) new
+    → AllByRecursion (λ (e : Entry). e.flag ≡ Sync → c.sync ≡ true) new → c.failed ≡ None → WroteParts old calls → WroteParts (old ++ new) (calls ++ c ∷ [])
+one_more_call last old new calls c h all some first batches synced ok k = record {
+  parts = k.parts ++ new ∷ [];
+  cut = flat_map-append (λ part. part) k.parts (new ∷ []) ∙ ((λ i. k.cut i ++ append-nil new i) ∙ ((λ i. logged old ++ sym all i) ∙ sym (filter-append (λ (e : Entry). is_logged e.flag) old new)));
+  runs = all_append RunsFollow k.parts (new ∷ []) k.runs (runs_follow last new h, tt);
+  each = zip_append WroteEntries k.parts calls (new ∷ []) (c ∷ []) k.each (record { some = first_is last new h some ∙ ap Some (sym first); batches = batches; synced = synced; ok = ok }, tt);
+}
+
+-- A group got runs
+module _ (start clients group_bytes : ℕ) (cs : List Commit) (last : ℕ) (published : List (List MemberVersions)) (calls : List GroupCall) (k : AreConsistent start clients group_bytes cs last None published calls) (requests : List CommitRequest) (lawful : AreLawful clients requests) where
+  abbrev end : ℕ
+  end = last_with_all last requests
+
+  abbrev new : List Commit
+  new = planned last end requests
+
+  new_entries : List Entry
+  new_entries = entries_after (entries_of cs) new
+
+  answered_new : AreAnswered last None new
+  answered_new = planned_answered clients last end requests lawful (omega arith)
+
+  history_new : IsHistory last new_entries
+  unfolding new_entries
+  history_new = (entries_history last None (entries_of cs) new answered_new).0
+
+  batches_are : map (λ (e : Entry). e.records) new_entries ≡ batches_from last requests
+  unfolding new_entries
+  batches_are = planned_batches last end (entries_of cs) requests
+
+  written_new : (calls' : List GroupCall) → LogsGroup last requests calls calls' → WroteCommits group_bytes (cs ++ new) None end calls'
+  unfolding new_entries
+  written_new calls' logs =
+      let w = k.written in
+      let all_good : calls ≡ w.worked = w.both ∙ ((λ i. w.worked ++ w.are_lost i) ∙ append-nil w.worked) in
+      let old : WroteParts (entries_of cs) calls = subst (WroteParts (entries_of cs)) (sym all_good) w.parts in
+      let now : WroteParts (entries_of cs ++ new_entries) calls' = ⊎_elim
+      (λ (t : (calls' ≡ calls) × (AreUnlogged requests ⊎ (batches_from last requests ≡ []))). subst (WroteParts (entries_of cs ++ new_entries)) (sym t.0) (no_more_calls (entries_of cs) new_entries calls
+      (⊎_elim (λ (u : AreUnlogged requests). none_logged new_entries (flags_of (λ options. options.no_log ≡ true) last end (entries_of cs) requests u))
+      (λ (u : batches_from last requests ≡ []). ap logged (none_of (λ (e : Entry). e.records) new_entries (batches_are ∙ u))) t.1) old))
+      (λ (t : (c : GroupCall) × (calls' ≡ calls ++ c ∷ []) × WritesBatches last requests c × SyncsFor requests c.sync × (c.failed ≡ None)).
+      let c = t.0 in
+      let same : c.batches ≡ map (λ (e : Entry). e.records) new_entries = t.2.batches ∙ sym batches_are in
+      let some : 0 < length new_entries = some_of (λ (e : Entry). e.records) new_entries (subst (λ l. 0 < length l) same t.2.some) in
+      subst (WroteParts (entries_of cs ++ new_entries)) (sym t.1) (one_more_call last (entries_of cs) new_entries calls c history_new (all_logged new_entries (flags_of (λ options. options.no_log ≡ false) last end (entries_of cs) requests t.2.to_log)) some t.2.first same
+      (all_synced c.sync new_entries (flags_of (λ options. options.sync ≡ true → c.sync ≡ true) last end (entries_of cs) requests t.3)) t.4 old))
+      logs in
+      record { worked = calls'; lost = []; both = sym (append-nil calls'); parts = subst (λ es. WroteParts es calls') (sym (entries_more cs new)) now; are_lost = refl }
+
+  pub consistent_accepted : (published' : List (List MemberVersions)) (calls' : List GroupCall) → Publishes (versions_from last requests) published published' → LogsGroup last requests calls calls' → AreConsistent start clients group_bytes (cs ++ new) end None published' calls'
+  consistent_accepted published' calls' publishes logs = record {
+    answered = answered_append start None cs new k.answered (subst (λ (z : ℕ × Option ℕ). AreAnswered z.0 z.1 new) (λ i. (k.last_is i, k.fault_is i)) answered_new);
+    of_clients = all_append (λ (c : Commit). (1 ≤ c.client) × (c.client ≤ clients)) cs new k.of_clients (planned_clients clients last end requests lawful);
+    last_is = sym (end_append start cs new ∙ (ap (λ n. last_after_all n new) (sym k.last_is) ∙ planned_end last end requests));
+    fault_is = sym (dead_append None cs new ∙ (ap (λ d. fault_after_all d new) (sym k.fault_is) ∙ planned_dead last end None requests));
+    images = ⊎_elim
+        (λ (t : (versions_from last requests ≡ []) × (published' ≡ published)). subst (Images versions_made (cs ++ new)) (sym t.1) (images_none versions_made cs new published k.images (planned_versions last end requests ∙ t.0)))
+        (λ (t : (g : List MemberVersions) × (published' ≡ published ++ g ∷ []) × (versions_in g ≡ versions_from last requests)). subst (Images versions_made (cs ++ new)) (sym t.1) (images_more versions_made cs new published t.0 k.images (planned_versions last end requests ∙ sym t.2)))
+        publishes;
+    written = written_new calls' logs;
+  }
+
+-- A group was answered the log's fault
+
+failed_end : (last n : ℕ) (requests : List CommitRequest) → last_after_all last (all_failed n requests) ≡ last
+failed_end last n [] = refl
+failed_end last n (a ∷ requests) = failed_end last n requests
+
+failed_dead_on : (n : ℕ) (requests : List CommitRequest) → fault_after_all (Some n) (all_failed n requests) ≡ Some n
+failed_dead_on n [] = refl
+failed_dead_on n (a ∷ requests) = failed_dead_on n requests
+
+failed_dead : (n : ℕ) (dead : Option ℕ) (requests : List CommitRequest) → 0 < length requests → fault_after_all dead (all_failed n requests) ≡ Some n
+failed_dead n dead [] some = absurd (omega arith)
+failed_dead n dead (a ∷ requests) some = failed_dead_on n requests
+
+failed_answered_on : (last n : ℕ) (requests : List CommitRequest) → AreAnswered last (Some n) (all_failed n requests)
+failed_answered_on last n [] = tt
+failed_answered_on last n (a ∷ requests) = (refl, failed_answered_on last n requests)
+
+failed_answered : (last n : ℕ) (requests : List CommitRequest) → AreAnswered last None (all_failed n requests)
+failed_answered last n [] = tt
+failed_answered last n (a ∷ requests) = (tt, failed_answered_on last n requests)
+
+failed_clients : (clients n : ℕ) (requests : List CommitRequest) → AreLawful clients requests → AreOfClients clients (all_failed n requests)
+failed_clients clients n [] h = tt
+failed_clients clients n (a ∷ requests) h = ((h.0.1, h.0.2), failed_clients clients n requests h.1)
+
+failed_entries : (n : ℕ) (before : List Entry) (requests : List CommitRequest) → entries_after before (all_failed n requests) ≡ []
+failed_entries n before [] = refl
+failed_entries n before (a ∷ requests) = failed_entries n (before ++ []) requests
+
+failed_versions : (n : ℕ) (requests : List CommitRequest) → made_by versions_made (all_failed n requests) ≡ []
+failed_versions n [] = refl
+failed_versions n (a ∷ requests) = failed_versions n requests
+
+same_entries : (cs : List Commit) (n : ℕ) (requests : List CommitRequest) → entries_of (cs ++ all_failed n requests) ≡ entries_of cs
+same_entries cs n requests = entries_more cs (all_failed n requests) ∙ ((λ i. entries_of cs ++ failed_entries n (entries_of cs) requests i) ∙ append-nil (entries_of cs))
+
+lost_later : (group_bytes n last : ℕ) (cs new : List Commit) (c : GroupCall) → IsLostWrite group_bytes cs n last c → IsLostWrite group_bytes (cs ++ new) n last c
+lost_later group_bytes n last cs new c g = record {
+  front = g.front;
+  requests = g.requests;
+  rest = g.rest ++ new;
+  split = ap (λ l. l ++ new) g.split ∙ (append_assoc g.front (all_failed n g.requests ++ g.rest) new ∙ ap (λ l. g.front ++ l) (append_assoc (all_failed n g.requests) g.rest new));
+  is_group = g.is_group;
+  writes = g.writes;
+  failed = g.failed;
+}
+
+module _ (start clients group_bytes : ℕ) (cs : List Commit) (last n : ℕ) (published : List (List MemberVersions)) (calls : List GroupCall) (requests : List CommitRequest) (lawful : AreLawful clients requests) where
+  -- the log had failed before
+  pub consistent_after_fault : AreConsistent start clients group_bytes cs last (Some n) published calls → AreConsistent start clients group_bytes (cs ++ all_failed n requests) last (Some n) published calls
+  consistent_after_fault k = record {
+    answered = answered_append start None cs (all_failed n requests) k.answered (subst (λ (z : ℕ × Option ℕ). AreAnswered z.0 z.1 (all_failed n requests)) (λ i. (k.last_is i, k.fault_is i)) (failed_answered_on last n requests));
+    of_clients = all_append (λ (c : Commit). (1 ≤ c.client) × (c.client ≤ clients)) cs (all_failed n requests) k.of_clients (failed_clients clients n requests lawful);
+    last_is = k.last_is ∙ sym (end_append start cs (all_failed n requests) ∙ failed_end (last_after_all start cs) n requests);
+    fault_is = sym (dead_append None cs (all_failed n requests) ∙ (ap (λ d. fault_after_all d (all_failed n requests)) (sym k.fault_is) ∙ failed_dead_on n requests));
+    images = images_none versions_made cs (all_failed n requests) published k.images (failed_versions n requests);
+    written = let w = k.written in record {
+      worked = w.worked;
+      lost = w.lost;
+      both = w.both;
+      parts = subst (λ es. WroteParts es w.worked) (sym (same_entries cs n requests)) w.parts;
+      are_lost = (w.are_lost.0, w.are_lost.1, lost_later group_bytes n last cs (all_failed n requests) w.are_lost.0 w.are_lost.2);
+    };
+  }
+
+  -- the log fails with this group
+  pub consistent_with_fault : AreConsistent start clients group_bytes cs last None published calls → IsWholeGroup group_bytes requests → (c : GroupCall) → WritesBatches last requests c → c.failed ≡ Some n
+      → AreConsistent start clients group_bytes (cs ++ all_failed n requests) last (Some n) published (calls ++ c ∷ [])
+  consistent_with_fault k whole c writes failed_is = record {
+    answered = answered_append start None cs (all_failed n requests) k.answered (subst (λ (z : ℕ × Option ℕ). AreAnswered z.0 z.1 (all_failed n requests)) (λ i. (k.last_is i, k.fault_is i)) (failed_answered last n requests));
+    of_clients = all_append (λ (c : Commit). (1 ≤ c.client) × (c.client ≤ clients)) cs (all_failed n requests) k.of_clients (failed_clients clients n requests lawful);
+    last_is = k.last_is ∙ sym (end_append start cs (all_failed n requests) ∙ failed_end (last_after_all start cs) n requests);
+    fault_is = sym (dead_append None cs (all_failed n requests) ∙ failed_dead n (fault_after_all None cs) requests whole.some);
+    images = images_none versions_made cs (all_failed n requests) published k.images (failed_versions n requests);
+    written = let w = k.written in let all_good : calls ≡ w.worked = w.both ∙ ((λ i. w.worked ++ w.are_lost i) ∙ append-nil w.worked) in record {
+      worked = w.worked;
+      lost = c ∷ [];
+      both = (λ i. all_good i ++ c ∷ []);
+      parts = subst (λ es. WroteParts es w.worked) (sym (same_entries cs n requests)) w.parts;
+      are_lost = (
+        c,
+        refl,
+        record {
+          front = cs;
+          requests = requests;
+          rest = [];
+          split = ap (λ l. cs ++ l) (sym (append-nil (all_failed n requests)));
+          is_group = whole;
+          writes = writes;
+          failed = failed_is;
+        },
+      );
+    };
+  }
+
+-- at the beginning nothing was handled
+pub consistent_first : (start clients group_bytes : ℕ) → AreConsistent start clients group_bytes [] start None [] []
+consistent_first start clients group_bytes = record {
+  answered = tt;
+  of_clients = tt;
+  last_is = refl;
+  fault_is = refl;
+  images = refl;
+  written = record { worked = []; lost = []; both = refl; parts = record { parts = []; cut = refl; runs = tt; each = tt }; are_lost = refl };
+}

@@ -1,0 +1,10 @@
+use Rattle.std.proofs.Common.{◌≡◌, List, refl}
+use Rattle.wp_model.specs.LogContents.{GroupCall}
+use Rattle.group_rule.proofs.Closing.{closing, writes_log}
+use Rattle.group_rule.proofs.ends.closings.Goals as goal
+
+pub returns : goal.returns
+returns c = record {
+  closing = λ settings ended commits last fault published calls accounts is all are rose. closing settings commits last fault published calls is accounts all are ended rose;
+  log = λ settings commits last fault published calls accounts is all are. writes_log settings commits last fault published calls is accounts all are (λ (wrote : List GroupCall) (log : Unit {0}). wrote ≡ calls) tt refl;
+}

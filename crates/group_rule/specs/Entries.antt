@@ -1,0 +1,80 @@
+-- What commits make: the entries of the one history, their versions, and each client's account.
+use Rattle.std.specs.Prelude.{◌≡◌, ℕ, ◌+◌, List, [], ◌∷◌, ◌++◌, map}
+use Rattle.wp_model.specs.History.{Entry}
+use Rattle.wp_model.specs.Attempts.{Attempt, WriteStatus, succeeded, faulted, full}
+use Rattle.wp_model.specs.Outcomes.{entries_of_client}
+use Rattle.wp_model.specs.Progress.{next_entry}
+use Rattle.wp_model.specs.Trace.{Trace}
+use Rattle.table_rule.specs.declared.content.Version.{Version}
+use Rattle.table_rule.specs.declared.content.MemberVersions.{MemberVersions}
+use Rattle.table_rule.specs.Histories.{Begins}
+use Rattle.table_rule.specs.Batches.{made, numbered}
+use Rattle.account_model.specs.Accounts.{Account}
+use Rattle.group_rule.specs.Commits.{Answer, accepted, failed, no_room, Commit, commits_of}
+
+-- The history
+
+-- the entry that a commit makes after its client's own, if it has a run
+abbrev pub entry_with : ℕ → List Entry → Commit → Answer → List Entry
+entry_with client mine c (accepted first group_last) = next_entry client mine c.options first c.records ∷ []
+entry_with client mine c (failed count) = []
+entry_with client mine c (no_room at) = []
+
+-- the same after the entries of all clients
+abbrev pub entry_after : List Entry → Commit → List Entry
+entry_after before c = entry_with c.client (entries_of_client c.client before) c c.answer
+
+abbrev pub entries_after : List Entry → List Commit → List Entry
+entries_after before [] = []
+entries_after before (c ∷ commits) = entry_after before c ++ entries_after (before ++ entry_after before c) commits
+
+-- the history of the commits
+abbrev pub entries_of : List Commit → List Entry
+entries_of commits = entries_after [] commits
+
+-- the trace of the commits, which asks nothing of the controller
+abbrev pub trace_of : ℕ → List Commit → Trace
+trace_of start commits = record { start = start; entries = entries_of commits; controller_calls = [] }
+
+-- its versions
+
+abbrev pub versions_with : Commit → Answer → List Version
+versions_with c (accepted first group_last) = numbered first (made c.records)
+versions_with c (failed count) = []
+versions_with c (no_room at) = []
+
+abbrev pub versions_made : Commit → List Version
+versions_made c = versions_with c c.answer
+
+-- What one client has of them
+
+abbrev pub status_of : Answer → WriteStatus
+status_of (accepted first group_last) = succeeded
+status_of (failed count) = faulted count
+status_of (no_room at) = full at
+
+abbrev pub attempt_of : Commit → Attempt
+attempt_of c = record { records = c.records; options = c.options; status = status_of c.answer }
+
+-- its own entries after some, from its own commits
+abbrev pub mine_after : ℕ → List Entry → List Commit → List Entry
+mine_after client mine [] = []
+mine_after client mine (c ∷ commits) = entry_with client mine c c.answer
+    ++ mine_after client (mine ++ entry_with client mine c c.answer) commits
+
+-- the account of a client that has made these commits, and has seen these groups published
+abbrev pub account_of : ℕ → ℕ → List Commit → List (List MemberVersions) → Account
+account_of start client own published = record {
+  number = client;
+  mine = mine_after client [] own;
+  asked = [];
+  attempts = map attempt_of own;
+  seen = record { start = start; published = published; controller_calls = [] };
+}
+
+-- The client at this place (from 0) has made just its commits of all, and has seen a beginning of what was published.
+pub record HasPart (start : ℕ) (commits : List Commit) (published : List (List MemberVersions)) (place : ℕ)
+    (a : Account) : Type 0 where
+  pub seen : List (List MemberVersions)
+  pub begins : Begins seen published
+  pub is : a ≡ account_of start (place + 1) (commits_of (place + 1) commits) seen

@@ -1,0 +1,5 @@
+pub mod Commits
+pub mod Entries
+pub mod Plans
+pub mod LogCalls
+pub mod Consistent

@@ -1,0 +1,92 @@
+-- How a leader gives its group runs, one after another, to those that fit below the greatest sequence.
+use Rattle.std.specs.Prelude.{◌≡◌, ◌≢◌, ℕ, ◌+◌, ◌<◌, ◌≤◌, false, true, nat_le, if◌then◌else◌, List, [], ◌∷◌, ◌++◌, length, map, ⊤}
+use Rattle.std.specs.List.{AllByRecursion}
+use Rattle.wp_model.specs.declared.group.Item.{Item}
+use Rattle.wp_model.specs.declared.write.WriteOptions.{WriteOptions}
+use Rattle.wp_model.specs.Batch.{Record, count_of, size_of_batch}
+use Rattle.wp_model.specs.Grouping.{group_len}
+use Rattle.wp_model.specs.History.{max_sequence}
+use Rattle.table_rule.specs.declared.content.Version.{Version}
+use Rattle.table_rule.specs.Batches.{made, numbered}
+use Rattle.group_rule.specs.Commits.{Answer, accepted, failed, no_room, Commit}
+
+-- what a client wants to commit
+pub record CommitRequest : Type 0 where
+  pub client : ℕ
+  pub records : List Record
+  pub options : WriteOptions
+
+abbrev pub answered : CommitRequest → Answer → Commit
+answered q answer = record { client = q.client; records = q.records; options = q.options; answer = answer }
+
+-- Of a batch, where `last` was given last: what is given last after it, if its run fits; its answer, in a group that
+-- ends with `group_last`; itself, if it has a run; and the versions that it makes.
+abbrev pub last_with : ℕ → List Record → ℕ
+last_with last records = if nat_le (last + count_of records) max_sequence then last + count_of records else last
+
+abbrev pub answer_with : ℕ → ℕ → List Record → Answer
+answer_with last group_last records =
+    if nat_le (last + count_of records) max_sequence then accepted (last + 1) group_last else no_room last
+
+abbrev pub batch_with : ℕ → List Record → List (List Record)
+batch_with last records = if nat_le (last + count_of records) max_sequence then records ∷ [] else []
+
+abbrev pub versions_at : ℕ → List Record → List Version
+versions_at last records =
+    if nat_le (last + count_of records) max_sequence then numbered (last + 1) (made records) else []
+
+-- The same of a group
+abbrev pub last_with_all : ℕ → List CommitRequest → ℕ
+last_with_all last [] = last
+last_with_all last (q ∷ requests) = last_with_all (last_with last q.records) requests
+
+abbrev pub planned : ℕ → ℕ → List CommitRequest → List Commit
+planned last group_last [] = []
+planned last group_last (q ∷ requests) = answered q (answer_with last group_last q.records)
+    ∷ planned (last_with last q.records) group_last requests
+
+abbrev pub batches_from : ℕ → List CommitRequest → List (List Record)
+batches_from last [] = []
+batches_from last (q ∷ requests) = batch_with last q.records ++ batches_from (last_with last q.records) requests
+
+abbrev pub versions_from : ℕ → List CommitRequest → List Version
+versions_from last [] = []
+versions_from last (q ∷ requests) = versions_at last q.records ++ versions_from (last_with last q.records) requests
+
+-- all are answered the log's fault
+abbrev pub all_failed : ℕ → List CommitRequest → List Commit
+all_failed count [] = []
+all_failed count (q ∷ requests) = answered q (failed count) ∷ all_failed count requests
+
+-- each has a record that counts, and a client's number
+abbrev pub AreLawful : ℕ → List CommitRequest → Type 0
+AreLawful clients requests = AllByRecursion (λ (q : CommitRequest). (1 ≤ count_of q.records) × (1 ≤ q.client)
+    × (q.client ≤ clients)) requests
+
+-- all are to be logged, or none is
+abbrev pub AreLogged : List CommitRequest → Type 0
+AreLogged requests = AllByRecursion (λ (q : CommitRequest). q.options.no_log ≡ false) requests
+
+abbrev pub AreUnlogged : List CommitRequest → Type 0
+AreUnlogged requests = AllByRecursion (λ (q : CommitRequest). q.options.no_log ≡ true) requests
+
+-- no client is twice among them
+abbrev pub HaveOwnClients : List CommitRequest → Type 0
+HaveOwnClients [] = ⊤
+HaveOwnClients (q ∷ requests) = AllByRecursion (λ (r : CommitRequest). q.client ≢ r.client) requests
+    × HaveOwnClients requests
+
+-- what grouping sees of one
+abbrev pub item_of_request : CommitRequest → Item
+item_of_request q = record {
+  size = size_of_batch q.records;
+  sync = q.options.sync;
+  no_log = q.options.no_log;
+  no_slowdown = q.options.no_slowdown;
+}
+
+-- they are a whole group by the rule of grouping
+pub record IsWholeGroup (group_bytes : ℕ) (requests : List CommitRequest) : Type 0 where
+  pub some : 0 < length requests
+  pub whole : group_len group_bytes (map item_of_request requests) ≡ length requests
+  pub of_others : HaveOwnClients requests

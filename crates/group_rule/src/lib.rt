@@ -1,0 +1,19 @@
+//! What holds of the commits of a write path that groups them, of its log and of its table, at each moment when nobody
+//! leads. One leader after another handles a group: it gives its members runs, calls the log writer once, publishes
+//! the versions, and answers. So all commits stand in one list, in the order in which they were linked, and the list
+//! says all: the history, what each client did, what is published, and by which calls the log was written.
+//!
+//! - `specs/Commits`: commits with their answers, and which answers are right.
+//! - `specs/Entries`: what commits make: the entries of the history, their versions, and each client's account.
+//! - `specs/Plans`: how a leader gives a group its runs.
+//! - `specs/LogCalls`: the calls of the log writer that wrote commits.
+//! - `specs/Consistent`: how the log, the table and the answers belong together.
+//!
+//! Each law is a clause of a function that does nothing. Who needs one calls the function.
+#![tactic(auto)]
+
+mod ends;
+mod groups;
+
+pub use ends::{accounts_of_the_commits, closings, numbers_of_commits};
+pub use groups::{groups_stay_consistent, runs_of_a_group};
