@@ -92,6 +92,7 @@ impl<T: VersionTree<N::Node>, N: VersionNodes> SharedTable<T, N> {
             _ => unreachable!(),
         }
         shared.store::<Give>(&mut turn.seat, word, 1);
+        self.handed.ring(member);
     }
 
     /// Launches a group whose last sequence is `last`, and of which the client is a member, and hands each member its
@@ -134,8 +135,7 @@ impl<T: VersionTree<N::Node>, N: VersionNodes> SharedTable<T, N> {
         turn
     }
 
-    /// Waits until the launched group, whose last sequence is `last`, is published. The turn is free again. It spins a
-    /// few turns, and then yields.
+    /// Waits until the launched group, whose last sequence is `last`, is published. The turn is free again.
     pub(crate) fn await_published<R: Wait>(&self, rt: &R, turn: &mut Turn<T, N>, last: u64)
         requires seat { turn.old.seat.table_id ≡ self.now.table.shared.table_id }
         requires launched { (seen : List (List MemberVersions)) × (g : List MemberVersions)
@@ -156,7 +156,7 @@ impl<T: VersionTree<N::Node>, N: VersionNodes> SharedTable<T, N> {
             if found == last {
                 return;
             }
-            backoff.snooze();
+            self.published.pause(rt, &backoff);
         }
         unreachable!()
     }

@@ -28,7 +28,7 @@ pub(crate) struct Handed<N> {
 }
 
 impl<T: VersionTree<N::Node>, N: VersionNodes> SharedTable<T, N> {
-    /// Waits for the member's nodes. It spins a few turns, and then yields.
+    /// Waits for the member's nodes.
     pub(crate) fn take<R: Wait>(&self, rt: &R, who: &mut Client<T, N>) -> Handed<N>
         requires seat { (who.old.seat.table_id ≡ self.now.table.shared.table_id) × (0 < who.old.number)
             × (who.old.number ≤ self.now.table.shared.key.clients) }
@@ -54,7 +54,7 @@ impl<T: VersionTree<N::Node>, N: VersionNodes> SharedTable<T, N> {
                     _ => unreachable!(),
                 }
             }
-            backoff.snooze();
+            self.handed.pause(rt, &backoff, who.number);
         }
         unreachable!()
     }
@@ -143,5 +143,6 @@ impl<T: VersionTree<N::Node>, N: VersionNodes> SharedTable<T, N> {
         self.table
             .shared
             .store::<Publish>(&mut who.seat, self.opening.shards as usize, last);
+        self.published.ring();
     }
 }

@@ -15,6 +15,7 @@ use atomic_table::{Seat, Table};
 use std::alloc::Global;
 use table_calls::{Seats, VersionNode, VersionNodes, VersionTree};
 use table_rule::{Content, First, Opening, TableLaw, Versioned, View};
+use waiting::{Bell, Bells};
 use wp_model::NoMemory;
 
 /// The words where no lock is taken and no group is launched.
@@ -113,13 +114,19 @@ impl<T: VersionTree<N::Node> + Drop, N: VersionNodes + Drop> SharedTable<T, N> {
             shards: shards as u64,
             start: last,
         };
+        let handed = Bells::for_clients(alloc, clients)?;
         let words = first_words(alloc, &opening)?;
         let mut slots = empty_trees::<N::Node, T, N>(alloc, opening.shards)?;
         add_blanks(&mut slots, opening.clients + 1)?;
         let Ok((table, seat)) = Table::new(alloc, &words, slots, &opening) else {
             return Err(NoMemory);
         };
-        let shared = SharedTable { table, opening };
+        let shared = SharedTable {
+            table,
+            opening,
+            handed,
+            published: Bell::new(),
+        };
         let seats = shared.seat_all(alloc, seat)?;
         Ok((shared, seats))
     }

@@ -16,12 +16,17 @@ use std::alloc::Global;
 use std::sync::Wait;
 use table_calls::{VersionNodes, VersionTree};
 use table_rule::{Content, Learn, LockShard, Opening, TableLaw, UnlockShard, Versioned, View};
+use waiting::{Bell, Bells};
 
 /// The words and slots of a table. `T` are its trees, and `N` a member's nodes.
 #[derive(Drop)]
 pub struct SharedTable<T: Versioned, N: Versioned> {
     pub(crate) table: Table<Content<T, N>, View, Opening, TableLaw, Global>,
     pub(crate) opening: Opening,
+    /// On which a member sleeps until its nodes are handed out.
+    pub(crate) handed: Bells,
+    /// On which clients sleep until a group is published.
+    pub(crate) published: Bell,
     ghost sized: { (table.shared.table_id.words ≡ opening.shards + 2 + opening.clients)
         × (table.shared.table_id.slots ≡ opening.shards + 1 + opening.clients) × (table.shared.key ≡ opening)
         × (0 < opening.shards) × (opening.shards < 2 ^ 32) × (opening.clients < 2 ^ 32) },
@@ -68,7 +73,7 @@ impl<T: VersionTree<N::Node>, N: VersionNodes> SharedTable<T, N> {
             if at_least <= found {
                 return found;
             }
-            backoff.snooze();
+            self.published.pause(rt, &backoff);
         }
         unreachable!()
     }

@@ -12,7 +12,6 @@ ghost use Rattle.writer_list.specs.Roles.{Leaves, MayLeave, MayWake, MayHandOn, 
 ghost use Rattle.writer_list.specs.Rooms.{HasRoom};
 ghost use Rattle.writer_list.specs.Seats.{clients_of, law_of, flat_of, Belongs, IsOut, HasGroup, Stays, told};
 
-use crate::bells::ring;
 use crate::room::{Replies, Room};
 use crate::writer::Writer;
 use crate::writer_list::WriterList;
@@ -176,7 +175,7 @@ impl<Q: Itemized, P: Given, L: Ledger<Q, P>, M: Numbered> WriterList<Q, P, L, M>
         let shared = &self.table.shared;
         shared.store::<CutOff>(&mut writer.seat, 2 * next as usize + 3, 256 * code);
         shared.store::<Wake>(&mut writer.seat, 2 * next as usize + 2, 2);
-        ring(&self.bells, next as u32);
+        self.bells.ring(next);
     }
 
     // Tells each member but the leader its reply.
@@ -216,7 +215,7 @@ impl<Q: Itemized, P: Given, L: Ledger<Q, P>, M: Numbered> WriterList<Q, P, L, M>
         self.table
             .shared
             .store::<Complete>(&mut writer.seat, 2 * member as usize + 2, 16);
-        ring(&self.bells, member);
+        self.bells.ring(member as u64);
     }
 
     // The leader's own last step, with its reply.

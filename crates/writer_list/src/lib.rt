@@ -6,7 +6,6 @@
 //! The words, slots and steps are those of `list_rule`.
 #![tactic(auto)]
 
-mod bells;
 mod closing;
 mod grouping;
 mod leaving;

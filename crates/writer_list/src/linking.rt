@@ -9,7 +9,6 @@ ghost use Rattle.list_rule.specs.Plays.{At, Elected};
 ghost use Rattle.writer_list.specs.Roles.{IsLinked, Becomes};
 ghost use Rattle.writer_list.specs.Seats.{about_of, law_of, kept_of, Belongs, IsOut, IsIn, HasRole, Stays, told};
 
-use crate::bells::pause;
 use crate::writer::{Role, Writer};
 use crate::writer_list::WriterList;
 use crossbeam_utils::Backoff;
@@ -123,7 +122,7 @@ impl<Q: Itemized, P: Given, L: Ledger<Q, P>, M: Numbered> WriterList<Q, P, L, M>
             if state == 2 {
                 return Role::LogLeader(self.claim::<B>(writer));
             }
-            pause(rt, &backoff, &self.bells, c);
+            self.bells.pause(rt, &backoff, c as u64);
         }
         unreachable!()
     }

@@ -6,7 +6,6 @@ ghost use Rattle.writer_list.specs.Roles.{AreNew};
 ghost use Rattle.writer_list.specs.Rooms.{AllReady};
 ghost use Rattle.writer_list.specs.Seats.{HasOpened};
 
-use crate::bells::bells_for;
 use crate::room::Lists;
 use crate::slots::{log_of, nothing_of, right_of};
 use crate::writer::Writer;
@@ -14,6 +13,7 @@ use crate::writer_list::WriterList;
 use atomic_table::{Refused, Seat, Table};
 use list_rule::{Content, First, Given, Itemized, Ledger, Numbered, Start, View};
 use std::alloc::Global;
+use waiting::Bells;
 
 impl<Q: Itemized + Drop, P: Given + Drop, L: Ledger<Q, P>, M: Numbered> WriterList<Q, P, L, M> {
     /// A list with a writer of each client, greatest number first, and the lists that each needs to lead. Where memory
@@ -72,7 +72,7 @@ impl<Q: Itemized + Drop, P: Given + Drop, L: Ledger<Q, P>, M: Numbered> WriterLi
         let Ok(lists) = Lists::for_all(alloc, clients) else {
             return Err((log, right));
         };
-        let Ok(bells) = bells_for(alloc, clients) else {
+        let Ok(bells) = Bells::for_clients(alloc, clients) else {
             return Err((log, right));
         };
         let Ok(words) = vec![in alloc; 0u64; 2 * clients as usize + 4] else {

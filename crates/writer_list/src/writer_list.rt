@@ -4,7 +4,7 @@ ghost use Rattle.std.specs.Prelude.{◌≡◌, ℕ, ◌+◌, ◌*◌, ◌<◌};
 use atomic_table::Table;
 use list_rule::{Content, Given, Itemized, Ledger, Numbered, Order, Start, View};
 use std::alloc::Global;
-use std::sync::atomic::AtomicU64;
+use waiting::Bells;
 
 /// A list of writers: of requests `Q`, replies `P`, the log `L`, which the leader has, and the right `M`, which is for
 /// the leaders of a second list.
@@ -12,7 +12,7 @@ use std::sync::atomic::AtomicU64;
 pub struct WriterList<Q: Itemized, P: Given, L: Ledger<Q, P>, M: Numbered> {
     pub(crate) table: Table<Content<Q, P, L, M>, View<Q, P>, Start<L::About>, Order, Global>,
     pub(crate) clients: u32,
-    pub(crate) bells: Vec<AtomicU64>,
+    pub(crate) bells: Bells,
     ghost sized: { (table.shared.table_id.words ≡ 2 * clients + 4) × (table.shared.table_id.slots ≡ clients + 2)
         × (table.shared.key.clients ≡ clients) × (clients < 255) },
     ghost some: { 0 < clients },

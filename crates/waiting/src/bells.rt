@@ -1,0 +1,42 @@
+//! A bell for each client.
+
+use crate::bell::Bell;
+use crossbeam_utils::Backoff;
+use std::alloc::{AllocError, Global};
+use std::sync::Wait;
+
+/// One bell for each client. Clients are numbered from 1.
+#[derive(Drop)]
+pub struct Bells {
+    bells: Vec<Bell>,
+}
+
+impl Bells {
+    /// The bells of so many clients.
+    pub fn for_clients(alloc: Global, clients: u32) -> Result<Bells, AllocError> {
+        let mut bells = Vec::new(alloc);
+        for made in 0..clients {
+            bells.push(Bell::new())?;
+        }
+        Ok(Bells { bells })
+    }
+
+    fn of(&self, client: u64) -> Option<&Bell> {
+        self.bells.get((client as usize).checked_sub(1)?)
+    }
+
+    /// Pauses between two looks of a client.
+    pub fn pause<R: Wait>(&self, rt: &R, backoff: &Backoff, client: u64) {
+        match self.of(client) {
+            Some(bell) => bell.pause(rt, backoff),
+            None => backoff.snooze(),
+        }
+    }
+
+    /// Wakes a client, if it sleeps.
+    pub fn ring(&self, client: u64) {
+        if let Some(bell) = self.of(client) {
+            bell.ring();
+        }
+    }
+}
