@@ -18,11 +18,12 @@ use Rattle.list_rule.specs.declared.content.Content.TheVariants.{Empty, Asked, T
 use Rattle.list_rule.specs.declared.view.Stage.{Stage}
 use Rattle.list_rule.specs.declared.view.Stage.TheVariants.{Idle, Preparing, Waiting, Fresh, Leading, Cutting, Marking, Settling, Collecting}
 use Rattle.list_rule.specs.Chain.{state_at, older_at, pack, newest_from, LinksFrom, of}
-use Rattle.list_rule.specs.Rule.{Phase, idle, preparing, linked, chosen, leads, taken, completed, collecting, Mode, open_, waits, led, built, cut, marked, base_of, InChain, Waits, Knows, hold, InPhase, LogHome, InMode, Laws, Listed, Holds, InSecond, KnowsBack, Place}
+use Rattle.list_rule.specs.Rule.{Phase, idle, preparing, linked, chosen, leads, taken, completed, collecting, Mode, open_, waits, led, built, cut, marked, base_of, InChain, Waits, Knows, hold, InPhase, LogHome, InMode, Laws, Listed, Holds, InSecond, KnowsBack, Place, untold}
 use Rattle.list_rule.specs.Events.{Core}
 use Rattle.list_rule.specs.Steps.{Stays, ComesWhere, IsLink, IsElect, now_of, IsNow, StepIs}
 use Rattle.list_rule.specs.Plays.{Sat, entry, At, begun, peeked, aimed, Elected, entered, looked, rested}
 use Rattle.list_rule.proofs.Chains.{put, put_at, put_here, put_else, links_stay, links_same, ends_same, nobody, newest_small, stand_absent, stand_change, linked_change, taken_change}
+use Rattle.list_rule.proofs.Exits.{owing_stays, cut_stays}
 use Rattle.list_rule.proofs.Accounts.{comes_more, comes_first, leads_now}
 use Rattle.list_rule.proofs.Moves.{St, row_stays, mode_stays, knows_else, moved, Goes, allows, unmoved}
 use Rattle.list_rule.proofs.Keeps.{second_row, second_same}
@@ -111,9 +112,9 @@ module _ {Q P L M : Type 0} (stands : Laws Q P L M) (n : ℕ) where
       → length ws ≡ length s.words → length hs ≡ length s.homes
       → ((j : ℕ) → j ≢ state_at c → j ≢ older_at c → get_or ws j 0 ≡ get_or s.words j 0) → ((j : ℕ) → j ≢ c → get_elem? hs j ≡ get_elem? s.homes j)
       → h.back ≡ Away → (get_or ws (state_at c) 0 ≡ 4 → get_or s.words (state_at c) 0 ≡ 4) → InPhase stands ws hs c (due c) ph' → ((j : ℕ) → j ≢ c → due j ≡ r.due j) → ((j : ℕ) → j ≢ c → told j ≡ r.told j) → r.told c ++ r.due c ≡ told c ++ due c
-      → mine ≡ told c → ((j : ℕ) → r.due j ≡ [] → due j ≡ []) → ((phase : ℕ → Phase Q P) → phase c ≡ ph' → Knows r.line r.hand r.handled r.mode phase due c st)
+      → mine ≡ told c → ((j : ℕ) → r.due j ≡ [] → due j ≡ []) → ((phase : ℕ → Phase Q P) → phase c ≡ ph' → Knows r.line r.hand r.handled r.mode phase due c st) → untold ph' (due c) ≡ untold ph (r.due c)
       → IsNow stands n (now_of stands n s r) (record { words = ws; homes = hs; views = set s.views id (hold c st mine ∷ []) })
-  aside s r c id ws hs h st mine ph ph' due told at client now out out' long_w long_h same_w same_h is_away to4 row due_else told_else shares is_mine nil knows =
+  aside s r c id ws hs h st mine ph ph' due told at client now out out' long_w long_h same_w same_h is_away to4 row due_else told_else shares is_mine nil knows owes =
       let fit = (r.seats id (h ∷ []) at).0 in
       let lo : 0 < c = subst (λ (k : ℕ). 0 < k) client fit.1 in
       let left : (e : Entry Q) → InChain e (r.phase c) → ⊥ = λ e here. out_chain e ph out (subst (InChain e) now here) in
@@ -139,6 +140,8 @@ module _ {Q P L M : Type 0} (stands : Laws Q P L M) (n : ℕ) where
         log_is = mode_stays stands n s.homes hs r.line r.hand r.handled r.phase r.due due c ph' (same_h 0 (λ e. omega arith)) was_chosen was_leads was_linked (λ l. taken_change r.phase r.due due c ph' l r.hand (was_taken l) due_else) nil r.mode r.log_is;
         one_chosen = λ j e. put_at r.phase c ph' (λ i f. f ≡ chosen e → r.mode ≡ waits i) j (λ _ bad. absurd (no_chosen e bad)) (λ _ ok. r.one_chosen j e ok);
         account = r.account;
+        has_cut = cut_stays r.account.log r.account.log r.hand r.phase c ph' refl r.mode (λ _ e bad. absurd (subst IsOut (sym now ∙ bad) out)) r.has_cut;
+        owing_is = owing_stays r.phase r.due r.account.owing r.owing_is r.account.owing due c ph' refl (owes ∙ ap (λ f. untold f (r.due c)) (sym now)) due_else;
         second = second_row stands n s.words ws s.homes hs r.phase c ph' r.mode (stands.last r.handled) r.two (λ there. out_second r.two.place c ph out (subst (InSecond r.two.place c) now there)) (same_w 1 (λ e. omega arith) (λ e. omega arith)) (λ j ne. same_w (older_at j) (λ e. omega arith) (λ e. ne (omega arith))) (λ j ne. same_w (state_at j) (λ e. ne (omega arith)) (λ e. omega arith)) to4 (same_h (n + 1) (λ e. let small = fit.2 in omega (arith, client))) r.second;
         back = subst (KnowsBack r.two h.client) is_away fit.5;
         else_back = λ _ _ _ ok. ok;
@@ -175,7 +178,7 @@ module _ {Q P L M : Type 0} (stands : Laws Q P L M) (n : ℕ) where
               (λ j a b. same j (λ e. a (e ∙ is))) (λ j ne. set_else s.homes c j none ne) refl
               (λ four. let one : get_or ws (state_at c) 0 ≡ 1 = ap (λ (i : ℕ). get_or ws i 0) (sym is) ∙ get_or-set_same s.words k 1 0 (omega arith) in absurd (omega arith))
               (ap (λ (i : ℕ). get_or ws i 0) (sym is) ∙ get_or-set_same s.words k 1 0 (omega arith), same (older_at c) (λ e. omega arith), row.1)
-              (λ _ _. refl) (λ _ _. refl) refl fit.3 (λ _ e. e) (λ phase here. here),
+              (λ _ _. refl) (λ _ _. refl) refl fit.3 (λ _ e. e) (λ phase here. here) refl,
         ),
         λ c' mine' mid'. let e = one_hold c c' Idle Idle mine mine' me.0 mid mid' in
             subst (λ (z : ℕ × List (Q × P)). (v : ℕ) × At z.0 (Preparing v) z.1 (h' ∷ [], (c, Empty) ∷ me.1) × ((c, Empty) ∷ me.1 ≡ (z.0, Empty) ∷ [])) (λ i. (e.0 i, e.2 i)) (w, refl, ap (λ l. (c, Empty) ∷ l) empty),
@@ -204,7 +207,7 @@ module _ {Q P L M : Type 0} (stands : Laws Q P L M) (n : ℕ) where
           aside s r c id ws s.homes h (Preparing new) mine (preparing w) (preparing new) r.due r.told at' refl fit.4 tt tt (length-set s.words k new) refl
               (λ j a b. same j (λ e. b (e ∙ is))) (λ j ne. refl) refl (λ four. sym (same (state_at c) (λ e. omega arith)) ∙ four)
               (same (state_at c) (λ e. omega arith) ∙ row.0, ap (λ (i : ℕ). get_or ws i 0) (sym is) ∙ get_or-set_same s.words k new 0 (omega arith), row.2)
-              (λ _ _. refl) (λ _ _. refl) refl fit.3 (λ _ e. e) (λ phase here. here),
+              (λ _ _. refl) (λ _ _. refl) refl fit.3 (λ _ e. e) (λ phase here. here) refl,
         ),
         λ c' w' mine' mid'. let e = one_hold c c' (Preparing w) (Preparing w') mine mine' me.0 mid mid' in
             (λ i. hold (e.0 i) (Preparing new) (e.2 i) ∷ [], refl),
@@ -229,7 +232,7 @@ module _ {Q P L M : Type 0} (stands : Laws Q P L M) (n : ℕ) where
       aside s r c id ws hs h Idle mine collecting idle r.due r.told at' refl fit.4 tt tt (length-set s.words k (get_or s.words k 0)) (length-set s.homes c (some Empty))
       (λ j _ _. same j) (λ j ne. set_else s.homes c j (some Empty) ne) refl (λ four. sym (same (state_at c)) ∙ four)
       (set_here s.homes c (some Empty) (omega arith), row)
-      (λ _ _. refl) (λ _ _. refl) refl fit.3 (λ _ e. e) (λ phase here. here) in (
+      (λ _ _. refl) (λ _ _. refl) refl fit.3 (λ _ e. e) (λ phase here. here) refl in (
         h' ∷ [],
         gives,
         tt,
@@ -310,7 +313,7 @@ module _ {Q P L M : Type 0} (stands : Laws Q P L M) (n : ℕ) where
           takes 0 (Log l),
           free.2.1,
           (
-            (acc.0.queue, acc.0.log, r.handled),
+            (acc.0.queue, acc.0.log, r.handled, acc.0.owing),
             ((λ _ _. acc.1), (λ _ nz. absurd (nz (hit ∙ z))), λ miss. absurd (miss hit)),
             moved stands n s r c id ws hs h h' (e0 ∷ []) r.hand r.handled (led c) ph r.due r.told r.two record {
               at = at';
@@ -332,6 +335,8 @@ module _ {Q P L M : Type 0} (stands : Laws Q P L M) (n : ℕ) where
               kept = r.kept;
               coded = λ e is. subst (λ (z : Entry Q). z.code ≡ stands.code_of z.asked) is is_code;
               account = acc.0;
+              has_cut = tt;
+              owing_is = owing_stays r.phase r.due r.account.owing r.owing_is acc.0.owing r.due c ph (ap (λ (x : Core Q P). x.3) acc.1.2.1 ∙ ap (λ (x : Core Q P). x.3) acc.1.1.1) (ap (λ f. untold f (r.due c)) (sym now)) (λ _ _. refl);
               shared_out = r.shared_out;
               told_else = λ _ _. refl;
               mine = fit.3;
@@ -368,7 +373,7 @@ module _ {Q P L M : Type 0} (stands : Laws Q P L M) (n : ℕ) where
         let here : put r.phase c ph c ≡ ph = put_here r.phase c ph in
         let away : (e : Entry Q) → InChain e (r.phase c) → ⊥ = λ e is. subst (InChain e) now is in
         let acc = comes_more r.line r.handled r.mode r.account e0 some_one in
-        let now_is : Core Q P = (acc.0.queue, acc.0.log, r.handled) in
+        let now_is : Core Q P = (acc.0.queue, acc.0.log, r.handled, acc.0.owing) in
         let after : IsNow stands n now_is (record { words = ws; homes = hs; views = set s.views id (h' ∷ []) }) =
         moved stands n s r c id ws hs h h' (e0 ∷ r.line) r.hand r.handled r.mode ph r.due r.told r.two record {
           at = at';
@@ -387,6 +392,8 @@ module _ {Q P L M : Type 0} (stands : Laws Q P L M) (n : ℕ) where
           kept = r.kept;
           coded = λ e is. subst (λ (z : Entry Q). z.code ≡ stands.code_of z.asked) is is_code;
           account = acc.0;
+          has_cut = cut_stays r.account.log acc.0.log r.hand r.phase c ph (ap (λ (x : Core Q P). x.1) acc.1.1) r.mode (λ _ e bad. absurd (cc)) r.has_cut;
+          owing_is = owing_stays r.phase r.due r.account.owing r.owing_is acc.0.owing r.due c ph (ap (λ (x : Core Q P). x.3) acc.1.1) (ap (λ f. untold f (r.due c)) (sym now)) (λ _ _. refl);
           second = second_row stands n s.words ws s.homes hs r.phase c ph r.mode (stands.last r.handled) r.two (λ there. subst (InSecond r.two.place c) now there) (same 1 (λ e. omega arith)) (λ j _. same (older_at j) (λ e. omega arith)) (λ j _. same (state_at j) (λ e. omega arith)) (λ four. sym (same (state_at c) (λ e. omega arith)) ∙ four) (set_else s.homes c (n + 1) (some (Asked q)) (λ e. omega arith)) r.second;
           back = fit.5;
           else_back = λ _ _ _ ok. ok;
@@ -460,7 +467,7 @@ module _ {Q P L M : Type 0} (stands : Laws Q P L M) (n : ℕ) where
           both_acts (takes c (Asked e.asked)) (takes 0 (Log l)),
           (row.2, set_else s.homes c 0 none (λ e. omega arith) ∙ log.2.1),
           (
-            (acc.0.queue, acc.0.log, r.handled),
+            (acc.0.queue, acc.0.log, r.handled, acc.0.owing),
             ((λ _. (e, row.0, asks, acc.1)), λ y. absurd (y two)),
             moved stands n s r c id ws hs hw h' r.line r.hand r.handled (led c) ph r.due r.told r.two record {
               at = at';
@@ -479,6 +486,8 @@ module _ {Q P L M : Type 0} (stands : Laws Q P L M) (n : ℕ) where
               kept = r.kept;
               coded = λ f is. r.coded c f (subst (InChain f) (sym now) is);
               account = acc.0;
+              has_cut = tt;
+              owing_is = owing_stays r.phase r.due r.account.owing r.owing_is acc.0.owing r.due c ph (ap (λ (y : Core Q P). y.3) acc.1.1) (ap (λ f. untold f (r.due c)) (sym now)) (λ _ _. refl);
               shared_out = r.shared_out;
               told_else = λ _ _. refl;
               mine = fit.3;
@@ -524,7 +533,7 @@ module _ {Q P L M : Type 0} (stands : Laws Q P L M) (n : ℕ) where
             now_of stands n s r,
             ((λ y. absurd (omega arith)), λ _. refl),
             aside s r c id ws hs hw Collecting got (completed q0 p) collecting due told at' refl now tt tt (length-set s.words k x) (length-set s.homes c none)
-                (λ j _ _. same j) (λ j ne. set_else s.homes c j none ne) refl (λ four. sym (same (state_at c)) ∙ four) none_due (λ j ne. put_else r.due c [] j ne) (λ j ne. put_else r.told c got j ne) shares (sym told_is) (λ j e. put_at r.due c [] (λ i d. r.due i ≡ [] → d ≡ []) j (λ _ _. refl) (λ _ here. here) e) (λ phase here. here),
+                (λ j _ _. same j) (λ j ne. set_else s.homes c j none ne) refl (λ four. sym (same (state_at c)) ∙ four) none_due (λ j ne. put_else r.due c [] j ne) (λ j ne. put_else r.told c got j ne) shares (sym told_is) (λ j e. put_at r.due c [] (λ i d. r.due i ≡ [] → d ≡ []) j (λ _ _. refl) (λ _ here. here) e) (λ phase here. here) none_due,
           ),
           λ c' q' mine' mid'.
               let o = one_hold c c' (Waiting q) (Waiting q') mine mine' me.0 mid mid' in

@@ -1,7 +1,9 @@
 -- The grouping rule by recursion over the codes of the queue, as a leader takes its group.
+use native.Mathlib.Decide.{ℕ_discrete}
+use mathlib.Core.Logic.{dite}
 use Rattle.std.proofs.Common.{◌≡◌, ℕ, zero, suc, ◌+◌, ◌-◌, ◌/◌, ◌<◌, ◌≤◌, Bool, true, false, cond, List, [], ◌∷◌, ◌++◌, length, reverse, map, take, slice_get, Some, sym, refl, ap, ◌∙◌, arith, append_assoc, length-append}
 use Rattle.std.specs.Option.{option_map_or}
-use Rattle.std.proofs.lemmas.List.{reverse-append, map-append, length-map}
+use Rattle.std.proofs.lemmas.List.{reverse-append, map-append, length-map, length-reverse}
 use Rattle.std.proofs.Math.Seq.{take-append-add}
 use Rattle.std.proofs.lemmas.List.Sums.{sum_by_push}
 use Rattle.wp_model.specs.declared.group.Item.{Item}
@@ -131,3 +133,17 @@ module _ {Q : Type 0} (max : ℕ) (own : Entry Q) (group left : List (Entry Q)) 
 
   pub of_group : IsGroup max own group left → length group ≡ fitting max own.code (own.code / 8) (reverse (codes (left ++ group)))
   of_group is = let len = length-append group (own ∷ []) in let by = rule_by in omega arith
+
+-- a list cut at its older end
+pub cut_at : {A : Type 0} (l : List A) (k : ℕ) → k ≤ length l → (left : List A) × (group : List A) × (l ≡ left ++ group) × (length group ≡ k)
+cut_at [] k small = ([], [], refl, omega arith)
+cut_at (x ∷ xs) k small = dite (ℕ_discrete k (suc (length xs)))
+    (λ e. ([], x ∷ xs, refl, sym e))
+    (λ ne. let t = cut_at xs k (omega arith) in (x ∷ t.0, t.1, ap (λ l. x ∷ l) t.2, t.3))
+
+-- the group that a leader takes of the queue
+pub split_group : {Q : Type 0} (max : ℕ) (own : Entry Q) (queue : List (Entry Q)) → (left : List (Entry Q)) × (group : List (Entry Q)) × (queue ≡ left ++ group) × IsGroup max own group left
+split_group max own queue =
+    let k : ℕ = fitting max own.code (own.code / 8) (reverse (codes queue)) in
+    let small : k ≤ length queue = let f = fitting_small max own.code (own.code / 8) (reverse (codes queue)) in let a = length-reverse (codes queue) in let b = length-codes queue in omega arith in
+    let t = cut_at queue k small in (t.0, t.1, t.2, is_group max own t.1 t.0 (t.3 ∙ ap (λ l. fitting max own.code (own.code / 8) (reverse (codes l))) t.2))

@@ -26,6 +26,7 @@ module _ {Q P L M : Type 0} (stands : Laws Q P L M) (n : ℕ) where
     queue = r.account.queue;
     log = r.account.log;
     handled = r.handled;
+    owing = r.account.owing;
     mode = r.mode;
     events = r.account.events;
     newest = r.newest_is;

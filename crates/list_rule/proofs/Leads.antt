@@ -1,5 +1,5 @@
 -- The steps of a leader: each keeps the rule, and which event it is.
-use Rattle.std.proofs.Common.{true, ◌≡◌, ◌≢◌, ℕ, suc, ◌+◌, ◌*◌, ◌/◌, ◌<◌, ◌≤◌, eqb, List, [], ◌∷◌, ◌++◌, length, get_or, set, refl, sym, ap, ◌∙◌, subst, inl, inr, ⊎_elim, arith, length-set, reverse, true, append-nil, append_assoc, get_or-set_other, get_or-set_same}
+use Rattle.std.proofs.Common.{true, ◌≡◌, ◌≢◌, ℕ, suc, ◌+◌, ◌*◌, ◌<◌, ◌≤◌, eqb, List, [], ◌∷◌, ◌++◌, length, get_or, set, refl, sym, ap, ◌∙◌, subst, inl, inr, ⊎_elim, arith, length-set, append-nil, append_assoc, get_or-set_other, get_or-set_same}
 use mathlib.Core.Logic.{dite}
 use mathlib.Core.Path.{Path}
 use mathlib.Core.Option.{Option, none, some}
@@ -19,17 +19,17 @@ use Rattle.list_rule.specs.declared.content.Content.TheVariants.{Empty, Asked, T
 use Rattle.list_rule.specs.declared.view.Stage.{Stage}
 use Rattle.list_rule.specs.declared.view.Stage.TheVariants.{Idle, Preparing, Waiting, Fresh, Leading, Cutting, Marking, Settling, Collecting}
 use Rattle.list_rule.specs.Chain.{AllCoded, state_at, older_at, newest, newest_from, Links, LinksFrom, Absent, Distinct, Within, of, heads, handling, answers, all_answers}
-use Rattle.list_rule.specs.Rule.{Phase, idle, preparing, linked, chosen, leads, taken, completed, collecting, Mode, open_, waits, led, built, base_of, InChain, Stand, Waits, AllLinked, AllTaken, AllOwed, Knows, AllFit, hold, InPhase, InMode, Laws, Listed, Holds, InSecond, ahead, hold_at}
-use Rattle.list_rule.specs.Grouping.{codes, IsGroup}
-use Rattle.list_rule.proofs.Fitting.{fitting, fitting_small, length-codes, is_group}
-use Rattle.list_rule.specs.Events.{Core}
+use Rattle.list_rule.specs.Rule.{Phase, idle, preparing, linked, chosen, leads, taken, completed, collecting, Mode, open_, waits, led, built, base_of, InChain, Stand, Waits, AllLinked, AllTaken, AllOwed, Knows, AllFit, hold, InPhase, InMode, Laws, Listed, Holds, InSecond, ahead, hold_at, untold}
+use Rattle.list_rule.proofs.Fitting.{split_group}
+use Rattle.list_rule.specs.Events.{Core, IsOfGroup}
 use Rattle.list_rule.specs.Steps.{Stays, ComesWhere, IsBuild, IsExit, now_of, IsNow, Becomes, StepIs}
 use Rattle.list_rule.specs.Plays.{Sat, building, At, walking, taking, in_hand, debt, slots_of, AllBelow, Walks, Builds, read_once, traced, fetched, left}
 use Rattle.list_rule.proofs.Chains.{put, put_at, put_here, put_else, links_same, ends_same, stand_change, linked_change, taken_change, owed_change}
+use Rattle.list_rule.proofs.Exits.{group_handled, owing_stays, owing_grows}
 use Rattle.list_rule.proofs.Accounts.{builds_now, stays_now, leaves_now}
 use Rattle.list_rule.proofs.Moves.{St, row_stays, knows_stays, knows_else, moved, Goes, allows, unmoved}
 use Rattle.list_rule.proofs.Keeps.{second_same, level_same}
-use Rattle.std.proofs.lemmas.List.{append_cancel_right, length-reverse}
+use Rattle.std.proofs.lemmas.List.{append_cancel_right}
 use Rattle.list_rule.proofs.Groups.{links_at, walk_bound, distinct_apart, distinct_front, distinct_back, within_at, linked_at, linked_front, linked_absent, taken_absent, of-append, of_other, new_none, new_own, owes, none_before_group}
 use Rattle.list_rule.proofs.Enters.{own, one_hold}
 
@@ -118,20 +118,6 @@ module _ {Q P : Type 0} where
   pub one_fresh : (a b : Entry Q) (s t : List (Handling Q P)) → Path (Stage Q P) (Fresh a s) (Fresh b t) → (a ≡ b) × (s ≡ t)
   one_fresh a b s t e = (ap (fresh_entry a) e, ap (fresh_seen s) e)
 
--- a list cut at its older end
-pub cut_at : {A : Type 0} (l : List A) (k : ℕ) → k ≤ length l → (left : List A) × (group : List A) × (l ≡ left ++ group) × (length group ≡ k)
-cut_at [] k small = ([], [], refl, omega arith)
-cut_at (x ∷ xs) k small = dite (ℕ_discrete k (suc (length xs)))
-    (λ e. ([], x ∷ xs, refl, sym e))
-    (λ ne. let t = cut_at xs k (omega arith) in (x ∷ t.0, t.1, ap (λ l. x ∷ l) t.2, t.3))
-
--- the group that a leader takes of the queue
-pub split_group : {Q : Type 0} (max : ℕ) (own : Entry Q) (queue : List (Entry Q)) → (left : List (Entry Q)) × (group : List (Entry Q)) × (queue ≡ left ++ group) × IsGroup max own group left
-split_group max own queue =
-    let k : ℕ = fitting max own.code (own.code / 8) (reverse (codes queue)) in
-    let small : k ≤ length queue = let f = fitting_small max own.code (own.code / 8) (reverse (codes queue)) in let a = length-reverse (codes queue) in let b = length-codes queue in omega arith in
-    let t = cut_at queue k small in (t.0, t.1, t.2, is_group max own t.1 t.0 (t.3 ∙ ap (λ l. fitting max own.code (own.code / 8) (reverse (codes l))) t.2))
-
 module _ {Q P L M : Type 0} (stands : Laws Q P L M) (n : ℕ) where
   -- what the rule says of who leads
   pub record Leads (s : St stands n) (r : Listed stands n s) (c : ℕ) (lead : Lead Q P) : Type 0 where
@@ -183,6 +169,8 @@ module _ {Q P L M : Type 0} (stands : Laws Q P L M) (n : ℕ) where
           log_is = r.log_is;
           one_chosen = r.one_chosen;
           account = r.account;
+          has_cut = r.has_cut;
+          owing_is = r.owing_is;
           second = r.second;
           two = r.two;
           kept = r.kept;
@@ -263,7 +251,7 @@ module _ {Q P L M : Type 0} (stands : Laws Q P L M) (n : ℕ) where
         keeps,
         tt,
         (
-          (acc.0.queue, acc.0.log, r.handled),
+          (acc.0.queue, acc.0.log, r.handled, acc.0.owing),
           (group, left, acc.1),
           moved stands n s r c id ws s.homes h (hold c (Leading lead) mine) r.line r.hand r.handled (built c group) ph r.due r.told r.two record {
             at = at';
@@ -286,6 +274,8 @@ module _ {Q P L M : Type 0} (stands : Laws Q P L M) (n : ℕ) where
             kept = r.kept;
             coded = λ e is. r.coded c e (subst (InChain e) (sym fit.4.1) is);
             account = acc.0;
+            has_cut = tt;
+            owing_is = owing_stays r.phase r.due r.account.owing r.owing_is acc.0.owing r.due c ph (ap (λ (y : Core Q P). y.3) acc.1.1) (ap (λ f. untold f (r.due c)) (sym fit.4.1)) (λ _ _. refl);
             second = second_same stands n s.words ws s.homes s.homes r.phase c ph r.mode (built c group) (stands.last r.handled) (stands.last r.handled) r.two (inl fit.4.1) (λ j _. same j) refl (λ k h. inr (ap r.two.place (sym h) ∙ fit.5.0)) (λ k h. inl (subst (Holds k) (sym led_c) h)) (λ k _ h. subst (Holds k) led_c h) (λ v. v) r.second;
             back = fit.5;
             else_back = λ _ _ _ ok. ok;
@@ -366,7 +356,7 @@ module _ {Q P L M : Type 0} (stands : Laws Q P L M) (n : ℕ) where
         takes x.by (Asked x.asked),
         row.2,
         (
-          (acc.0.queue, acc.0.log, r.handled),
+          (acc.0.queue, acc.0.log, r.handled, acc.0.owing),
           acc.1,
           moved stands n s r x.by id ws hs h h' r.line (x ∷ r.hand) r.handled (built c lead.group) ph r.due r.told r.two record {
             at = at';
@@ -389,6 +379,8 @@ module _ {Q P L M : Type 0} (stands : Laws Q P L M) (n : ℕ) where
             kept = r.kept;
             coded = λ e is. r.coded x.by e (subst (InChain e) (sym now) is);
             account = acc.0;
+            has_cut = tt;
+            owing_is = owing_stays r.phase r.due r.account.owing r.owing_is acc.0.owing r.due x.by ph (ap (λ (y : Core Q P). y.3) acc.1) (ap (λ f. untold f (r.due x.by)) (sym now)) (λ _ _. refl);
             second = second_same stands n s.words ws s.homes hs r.phase x.by ph r.mode (built c lead.group) (stands.last r.handled) (stands.last r.handled) r.two (inr (λ there. subst (InSecond r.two.place x.by) now there)) (λ j _. same j) (set_else s.homes x.by (n + 1) none (λ e. omega arith)) (λ k h. inr (ap r.two.place (sym h) ∙ fit.5.0)) (λ k h. inl (subst (Holds k) (sym led_c) h)) (λ k _ h. subst (Holds k) led_c h) (λ v. v) r.second;
             back = fit.5;
             else_back = λ _ _ _ ok. ok;
@@ -493,6 +485,9 @@ module _ {Q P L M : Type 0} (stands : Laws Q P L M) (n : ℕ) where
     pub else_due : (j : ℕ) → j ≢ c → (e : Entry Q) (x : Q × P) → r.phase j ≡ leads e → r.due j ≡ x ∷ [] → due' j ≡ x ∷ []
     else_due j ne e x here owed = due_same j ne (λ f bad _. absurd (cc)) ∙ owed
 
+    pub done_none : (k : ℕ) (q : Q) (x : P) → r.phase k ≡ completed q x → of k new ≡ []
+    done_none k q x done = new_none k o p gs (λ e. let bad : r.phase k ≡ leads o = ap r.phase (sym e ∙ by_c) ∙ now in absurd (cc)) (group_out k (λ e bad _. absurd (cc)))
+
     pub else_row : (ws : List ℕ) (hs : List (Option (Content Q P L M))) (k : ℕ) → k ≢ c → InPhase stands ws hs k (r.due k) (r.phase k) → InPhase stands ws hs k (due' k) (r.phase k)
     else_row ws hs k ne ok = row_due ws hs k (r.due k) (due' k) (r.phase k) (λ no _. due_same k ne (λ e bad _. no c e bad)) ok
 
@@ -524,8 +519,8 @@ module _ {Q P L M : Type 0} (stands : Laws Q P L M) (n : ℕ) where
         let here : phase' c ≡ ph = put_here r.phase c ph in
         let more : List (Handling Q P) = all_answers lead.own p gs in
         let owe : ℕ → List (Q × P) = λ k. r.due k ++ of k more in
-        let acc = leaves_now r.line r.handled r.mode r.account c lead.group lead.own more led_c (f.parts ∙ (λ i. none_newer i ++ (all i ++ lead.own ∷ []))) in
-        let now_is : Core Q P = (acc.0.queue, acc.0.log, r.handled ++ more) in
+        let acc = leaves_now r.line r.handled r.mode r.account c lead.group lead.own more led_c (f.parts ∙ (λ i. none_newer i ++ (all i ++ lead.own ∷ []))) (subst (λ (z : List (Entry Q)). IsOfGroup lead.own z more) (group ∙ all) (group_handled lead.own p gs)) in
+        let now_is : Core Q P = (acc.0.queue, acc.0.log, r.handled ++ more, acc.0.owing) in
         let moved_to : IsNow stands n now_is (record { words = ws; homes = hs; views = set s.views id (h' ∷ []) }) =
         moved stands n s r c id ws hs h h' [] [] (r.handled ++ more) open_ ph owe r.told r.two record {
           at = at';
@@ -545,6 +540,8 @@ module _ {Q P L M : Type 0} (stands : Laws Q P L M) (n : ℕ) where
           kept = stands.keeps l (r.handled ++ more) (subst (λ z. stands.logs l (z ++ more)) fit.4.3 stood);
           coded = λ e is. r.coded c e (subst (InChain e) (sym now) is);
           account = acc.0;
+          has_cut = tt;
+          owing_is = owing_grows r.phase r.due r.account.owing r.owing_is acc.0.owing more c ph (ap (λ (y : Core Q P). y.3) acc.1.1) (λ d. ap (λ f. untold f d) (sym now)) (done_none s r c lead.own gs p f.own_by now members f.own_due apart);
           second = second_same stands n s.words ws s.homes hs r.phase c ph r.mode open_ (stands.last r.handled) (stands.last (r.handled ++ more)) r.two (inl now) same (set_else s.homes 0 (n + 1) (some (Log l)) (λ e. omega arith)) (λ k h. absurd h) (λ k h. absurd h) (λ k is h. absurd (fit.5.1 (is ∙ ap ahead (sym (subst (Holds k) led_c h))))) (level_same stands n stands.piped r.two (stands.last r.handled) (stands.last (r.handled ++ more)) (subst (λ (z : List (Handling Q P)). stands.piped ≡ true → stands.last (z ++ more) ≡ stands.last z) fit.4.3 unnumbered)) r.second;
           back = fit.5;
           else_back = λ _ _ _ ok. ok;

@@ -2,6 +2,7 @@ pub mod Chains
 pub mod Keeps
 pub mod Moves
 pub mod Accounts
+pub mod Exits
 pub mod Enters
 pub mod Groups
 pub mod Fitting

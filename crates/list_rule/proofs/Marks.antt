@@ -23,17 +23,18 @@ use Rattle.list_rule.specs.declared.content.Content.{Content}
 use Rattle.list_rule.specs.declared.content.Content.TheVariants.{Told, Log}
 use Rattle.list_rule.specs.declared.view.Stage.TheVariants.{Leading, Cutting, Marking, Settling}
 use Rattle.list_rule.specs.Chain.{state_at, older_at, pack, newest, newest_from, Links, LinksFrom, Absent, Distinct, Within, of, heads, all_answers}
-use Rattle.list_rule.specs.Rule.{Phase, linked, chosen, leads, taken, Mode, open_, waits, built, cut, marked, base_of, InChain, AllLinked, AllTaken, hold, InPhase, InMode, Laws, Listed, Holds, InSecond, parted, ahead, hold_at}
-use Rattle.list_rule.specs.Events.{Core}
+use Rattle.list_rule.specs.Rule.{Phase, linked, chosen, leads, taken, Mode, open_, waits, built, cut, marked, base_of, InChain, AllLinked, AllTaken, hold, InPhase, InMode, Laws, Listed, Holds, InSecond, parted, ahead, hold_at, HasCut, untold}
+use Rattle.list_rule.specs.Events.{Core, grouped}
 use Rattle.list_rule.specs.Steps.{Stays, ComesWhere, IsExit, now_of, IsNow, StepIs}
 use Rattle.list_rule.specs.Plays.{Sat, At, walking, in_hand, debt, slots_of, Walks, AtWith, parting, onward, marked_off, freed, WalksMarked, traced_marked, cut_marked}
 use Rattle.list_rule.proofs.Chains.{put, put_at, put_here, put_else, links_same, stand_change, linked_change, taken_change, owed_change}
+use Rattle.list_rule.proofs.Exits.{group_handled, owing_stays, owing_grows}
 use Rattle.list_rule.proofs.Accounts.{marks_now, frees_now, recuts_now}
 use Rattle.list_rule.proofs.Moves.{St, row_stays, knows_stays, moved, Goes, allows, unmoved}
 use Rattle.list_rule.proofs.Keeps.{second_stays, second_same, put_same}
 use Rattle.list_rule.proofs.Groups.{walk_bound, distinct_apart, distinct_front, distinct_back, within_at, linked_at, linked_front, none_before_group}
 use Rattle.list_rule.proofs.Enters.{one_hold}
-use Rattle.list_rule.proofs.Leads.{reviewed, all_below, one_lead, lead_in, leader, walks_now, same_group, others_of, same_last, middle, shared_more, own_owed, all_owed, else_owed, else_due, else_row}
+use Rattle.list_rule.proofs.Leads.{reviewed, all_below, one_lead, lead_in, leader, walks_now, same_group, others_of, same_last, middle, shared_more, own_owed, all_owed, else_owed, else_due, else_row, one_leads, done_none}
 
 module _ {Q P L M : Type 0} (stands : Laws Q P L M) (n : ℕ) where
   module _ (from slots id : ℕ) (me : Sat Q P L M) (c old : ℕ) (lead : Lead Q P) (mine : List (Q × P)) (said : Option (Content Q P L M)) (mid : At c (Leading lead) mine me) (is_old : old ≡ newest (in_hand lead)) (all : lead.taken ≡ lead.group)
@@ -62,7 +63,7 @@ module _ {Q P L M : Type 0} (stands : Laws Q P L M) (n : ℕ) where
           keeps,
           tt,
           (
-            (acc.0.queue, acc.0.log, r.handled),
+            (acc.0.queue, acc.0.log, r.handled, acc.0.owing),
             acc.1,
             moved stands n s r c id ws s.homes h h' [] r.hand r.handled (marked c) ph r.due r.told (parts_two r.two c g 0) record {
               at = at';
@@ -82,6 +83,8 @@ module _ {Q P L M : Type 0} (stands : Laws Q P L M) (n : ℕ) where
               kept = r.kept;
               coded = λ e is. r.coded c e (subst (InChain e) (sym now) is);
               account = acc.0;
+              has_cut = (lead.own, here, acc.2 ∙ ap (grouped lead.own) (sym all ∙ fit.4.4));
+              owing_is = owing_stays r.phase r.due r.account.owing r.owing_is acc.0.owing r.due c ph (ap (λ (y : Core Q P). y.3) acc.1) (ap (λ f. untold f (r.due c)) (sym now)) (λ _ _. refl);
               second = second_parts stands n ws s.homes phase' (marked c) (stands.last r.handled) r.two (
                   second_same stands n s.words ws s.homes s.homes r.phase c ph r.mode (marked c) (stands.last r.handled) (stands.last r.handled) r.two (inl now) same refl (λ j h. absurd h) (λ j h. inl (subst (Holds j) (sym led_c) h)) (λ j _ h. subst (Holds j) led_c h) (λ v. v) r.second
                   ) c g fit.5.0 f.own_by here (taken_with phase' r.due c lead.taken (taken_change r.phase r.due r.due c ph c lead.taken (λ e bad. absurd (cc)) (λ _ _. refl) f.members))
@@ -156,8 +159,10 @@ module _ {Q P L M : Type 0} (stands : Laws Q P L M) (n : ℕ) where
       let owe : ℕ → List (Q × P) = λ k. r.due k ++ of k more in
       let hands : Hands stands n b r.handled (r.handled ++ more) = subst (λ (z : List (Handling Q P)). Hands stands n b z (z ++ more)) fit.4.3 unnumbered in
       let two' = onward_two stands n b r.two in
-      let acc = frees_now r.line r.handled r.mode r.account c more is_marked (none_behind n (base_of r.mode) r.line r.few r.within (sym r.newest_is ∙ hit)) in
-      let now_is : Core Q P = (acc.0.queue, acc.0.log, r.handled ++ more) in
+      let was_cut = subst (HasCut r.account.log r.hand r.phase) is_marked r.has_cut in
+      let same_lead : was_cut.0 ≡ lead.own = one_leads was_cut.0 lead.own (sym was_cut.1 ∙ now) in
+      let acc = frees_now r.line r.handled r.mode r.account c lead.own (heads gs) more is_marked (none_behind n (base_of r.mode) r.line r.few r.within (sym r.newest_is ∙ hit)) (was_cut.2 ∙ (λ i. grouped (same_lead i) (hand_is i))) (group_handled lead.own p gs) in
+      let now_is : Core Q P = (acc.0.queue, acc.0.log, r.handled ++ more, acc.0.owing) in
       let moved_to : IsNow stands n now_is (record { words = ws; homes = hs; views = set s.views id (h' ∷ []) }) =
       moved stands n s r c id ws hs h h' [] [] (r.handled ++ more) open_ ph owe r.told two' record {
         at = at';
@@ -178,6 +183,8 @@ module _ {Q P L M : Type 0} (stands : Laws Q P L M) (n : ℕ) where
         kept = stands.keeps l (r.handled ++ more) (subst (λ z. stands.logs l (z ++ more)) fit.4.3 stood);
         coded = λ e is. r.coded c e (subst (InChain e) (sym now) is);
         account = acc.0;
+        has_cut = tt;
+        owing_is = owing_grows r.phase r.due r.account.owing r.owing_is acc.0.owing more c ph (ap (λ (y : Core Q P). y.3) acc.1.1) (λ d. ap (λ f. untold f d) (sym now)) (done_none stands n s r c lead.own gs p by_c now members m.3 apart);
         second = second_same stands n s.words ws s.homes hs r.phase c ph r.mode open_ (stands.last (r.handled ++ more)) (stands.last (r.handled ++ more)) two' (inl now) same (set_else s.homes 0 (n + 1) (some (Log l)) (λ e. omega arith)) (λ k h. absurd h) (λ k h. absurd h) (λ k is h. absurd (onward_free stands n b r.two c r.handled (r.handled ++ more) fit.5 hands (is ∙ ap ahead (sym (subst (Holds k) is_marked h))))) (λ v. v) (second_onward stands n b s.words s.homes r.phase r.mode r.two c r.handled (r.handled ++ more) fit.5 hands r.second);
         back = onward_back stands n b r.two c r.handled (r.handled ++ more) fit.5 hands;
         else_back = onward_else stands n b r.two c fit.5;
@@ -300,12 +307,13 @@ module _ {Q P L M : Type 0} (stands : Laws Q P L M) (n : ℕ) where
       let row_x : InPhase stands ws s.homes x.by (r.due x.by) (r.phase x.by) =
       let w = subst (InPhase stands s.words s.homes x.by (r.due x.by)) now_x (r.rows x.by lo hi) in
       subst (InPhase stands ws s.homes x.by (r.due x.by)) (sym now_x) (w.0, same (state_at x.by) (λ e. omega arith) ∙ w.1, w.2, w.3) in
+      let was_cut = subst (HasCut r.account.log r.hand r.phase) is_marked r.has_cut in
       let acc = recuts_now r.line r.handled r.mode r.account c x.by is_marked in (
         h' ∷ [],
         keeps,
         tt,
         (
-          (acc.0.queue, acc.0.log, r.handled),
+          (acc.0.queue, acc.0.log, r.handled, acc.0.owing),
           acc.1,
           moved stands n s r c id ws s.homes h h' r.line r.hand r.handled (cut c x.by) ph r.due r.told r.two record {
             at = at';
@@ -331,6 +339,8 @@ module _ {Q P L M : Type 0} (stands : Laws Q P L M) (n : ℕ) where
             kept = r.kept;
             coded = λ e is. r.coded c e (subst (InChain e) (sym now) is);
             account = acc.0;
+            has_cut = (was_cut.0, here ∙ (sym now ∙ was_cut.1), ap (λ (y : Core Q P). y.1) acc.1 ∙ was_cut.2);
+            owing_is = owing_stays r.phase r.due r.account.owing r.owing_is acc.0.owing r.due c ph (ap (λ (y : Core Q P). y.3) acc.1) (ap (λ f. untold f (r.due c)) (sym now)) (λ _ _. refl);
             second = second_stays stands n s.words ws s.homes s.homes r.phase phase' r.mode (cut c x.by) (stands.last r.handled) (stands.last r.handled) r.two (same 1 (λ e. omega arith)) (λ j there. (same_older j (λ e. subst (InSecond r.two.place x.by) now_x (subst (λ (i : ℕ). InSecond r.two.place i (r.phase i)) e there)), (λ _ _. same (state_at j) (λ e. omega arith)), put_same r.phase c ph now j)) (λ j e. sym (same (state_at j) (λ e. omega arith)) ∙ e) refl (λ j h. absurd h) (λ j h. inl (subst (Holds j) (sym is_marked) h)) (λ j _ h. subst (Holds j) is_marked h) (λ v. v) r.second;
             back = fit.5;
             else_back = λ _ _ _ ok. ok;

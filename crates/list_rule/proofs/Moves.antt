@@ -13,7 +13,7 @@ use Rattle.list_rule.specs.declared.content.Content.{Content}
 use Rattle.list_rule.specs.declared.view.Stage.{Stage}
 use Rattle.list_rule.specs.declared.view.Stage.TheVariants.{Idle, Preparing, Waiting, Fresh, Leading, Cutting, Marking, Settling, Collecting}
 use Rattle.list_rule.specs.Chain.{state_at, older_at, newest_from, LinksFrom, Distinct, Within, EndsWith, of}
-use Rattle.list_rule.specs.Rule.{Phase, idle, preparing, linked, chosen, leads, taken, completed, collecting, Mode, open_, waits, led, built, cut, marked, base_of, InChain, Stand, Waits, AllTaken, Knows, AllFit, InPhase, InMode, Account, Laws, Listed, Holds, Two, Second, KnowsBack}
+use Rattle.list_rule.specs.Rule.{Phase, idle, preparing, linked, chosen, leads, taken, completed, collecting, Mode, open_, waits, led, built, cut, marked, base_of, InChain, Stand, Waits, AllTaken, Knows, AllFit, InPhase, InMode, Account, Laws, Listed, Holds, Two, Second, KnowsBack, HasCut, untold}
 use Rattle.list_rule.specs.Events.{Core}
 use Rattle.list_rule.specs.Plays.{Sat}
 use Rattle.list_rule.specs.Steps.{now_of, IsNow, Becomes, StepIs}
@@ -119,6 +119,8 @@ module _ {Q P L M : Type 0} (stands : Laws Q P L M) (n : ℕ) where
     pub one_chosen : (k : ℕ) (e : Entry Q) → put r.phase m ph k ≡ chosen e → mode ≡ waits k
     pub shared_out : (k : ℕ) → of k handled ≡ told k ++ due k
     pub account : Account line handled mode
+    pub has_cut : HasCut account.log hand (put r.phase m ph) mode
+    pub owing_is : (k : ℕ) → of k account.owing ≡ untold (put r.phase m ph k) (due k)
     pub second : Second stands n ws hs (put r.phase m ph) mode (stands.last handled) two
     pub back : KnowsBack two h.client h'.back
     pub else_back : (k : ℕ) → k ≢ h.client → (b : Back Q) → KnowsBack r.two k b → KnowsBack two k b
@@ -164,6 +166,8 @@ module _ {Q P L M : Type 0} (stands : Laws Q P L M) (n : ℕ) where
           one_chosen = v.one_chosen;
           shared_out = v.shared_out;
           account = v.account;
+          has_cut = v.has_cut;
+          owing_is = v.owing_is;
           second = v.second;
           two = two;
           kept = v.kept;
@@ -178,7 +182,7 @@ module _ {Q P L M : Type 0} (stands : Laws Q P L M) (n : ℕ) where
         }
 
     -- the state after it, and what the list is then
-    pub moved : (v : Move s r m id ws hs h h' line hand handled mode ph due told two) → IsNow stands n (v.account.queue, v.account.log, handled) (record { words = ws; homes = hs; views = set s.views id (h' ∷ []) })
+    pub moved : (v : Move s r m id ws hs h h' line hand handled mode ph due told two) → IsNow stands n (v.account.queue, v.account.log, handled, v.account.owing) (record { words = ws; homes = hs; views = set s.views id (h' ∷ []) })
     unfolding listed
     moved v = (listed v, refl)
 

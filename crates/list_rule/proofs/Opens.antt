@@ -82,6 +82,8 @@ module _ {Q P L M : Type 0} (stands : Laws Q P L M) (n : ℕ) where
         log_is = (refl, refl, (l, ap (λ z. get_elem? (map some z) 0) are, stood));
         one_chosen = λ i e bad. absurd (cc);
         account = opens_now;
+        has_cut = tt;
+        owing_is = λ _. refl;
         two = fresh_two stands.opened;
         second = record {
           newest_is = zero_first.1;
@@ -153,6 +155,8 @@ module _ {Q P L M : Type 0} (stands : Laws Q P L M) (n : ℕ) where
         log_is = r.log_is;
         one_chosen = r.one_chosen;
         account = r.account;
+        has_cut = r.has_cut;
+        owing_is = r.owing_is;
         second = r.second;
         two = r.two;
         kept = r.kept;
@@ -219,6 +223,8 @@ module _ {Q P L M : Type 0} (stands : Laws Q P L M) (n : ℕ) where
         log_is = r.log_is;
         one_chosen = r.one_chosen;
         account = r.account;
+        has_cut = r.has_cut;
+        owing_is = r.owing_is;
         second = r.second;
         two = r.two;
         kept = r.kept;

@@ -133,6 +133,8 @@ module _ {Q P L M : Type 0} (stands : Laws Q P L M) (n : ℕ) where
             one_chosen = r.one_chosen;
             shared_out = r.shared_out;
             account = r.account;
+            has_cut = r.has_cut;
+            owing_is = r.owing_is;
             kept = r.kept;
             coded = r.coded;
             second = v.second;

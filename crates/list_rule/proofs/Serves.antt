@@ -9,7 +9,6 @@ use prog.Atomic.{either}
 use Rattle.atomic_table.specs.Table.{step, keeps, gives, stepped, Allows}
 use Rattle.atomic_table.proofs.Lists.{set_else, exchanged}
 use Rattle.list_rule.specs.declared.view.Entry.{Entry}
-use Rattle.list_rule.specs.declared.view.Handling.{Handling}
 use Rattle.list_rule.specs.declared.view.Debt.{Debt}
 use Rattle.list_rule.specs.declared.view.Hold.{Hold}
 use Rattle.list_rule.specs.declared.view.Squad.{Squad}
@@ -20,18 +19,18 @@ use Rattle.list_rule.specs.declared.content.Content.TheVariants.{Right}
 use Rattle.list_rule.specs.declared.view.Stage.{Stage}
 use Rattle.list_rule.specs.declared.view.Stage.TheVariants.{Settling}
 use Rattle.list_rule.specs.Chain.{state_at, older_at, pack, newest, Links, Absent, Distinct, Within}
-use Rattle.list_rule.specs.Rule.{Phase, leads, taken, Mode, open_, waits, led, built, cut, marked, base_of, Holds, AllOwed, hold_at, InPhase, InMode, Laws, Listed, away, called, Turn, still, calls, held_by, passes, Two, line_of, flat, In, Behind, KnowsBack, InTurn, Second}
+use Rattle.list_rule.specs.Rule.{Phase, leads, taken, base_of, AllOwed, hold_at, InPhase, Laws, Listed, away, called, Turn, still, calls, held_by, passes, Two, line_of, flat, In, Behind, KnowsBack, InTurn, Second}
 use Rattle.list_rule.specs.Steps.{Stays, now_of, IsNow, StepIs}
 use Rattle.list_rule.specs.Plays.{Sat, AtWith, debt, WalksSecond, left_second, traced_second, cleared_second, called_next, kept}
 use Rattle.list_rule.proofs.Chains.{put, put_here, put_else, links_stay, links_same}
 use Rattle.list_rule.proofs.Groups.{links_at, walk_bound}
 use Rattle.list_rule.proofs.Leads.{all_below, middle, same_last, snoc}
 use Rattle.std.proofs.lemmas.List.{append_cancel_right}
-use Rattle.list_rule.proofs.Moves.{St, Homes, row_stays, Goes, allows, unmoved}
+use Rattle.list_rule.proofs.Moves.{St, row_stays, Goes, allows, unmoved}
 use Rattle.list_rule.proofs.Seconds.{one_serves, flat_snoc, in_one, behind_in, second_stops, second_clears, second_calls}
 use Rattle.list_rule.proofs.Keeps.{in_not_away, second_stays}
 use Rattle.list_rule.proofs.Onward.{back_map, one_hold_at}
-use Rattle.list_rule.proofs.Settles.{debt_in}
+use Rattle.list_rule.proofs.Settles.{debt_in, no_log}
 use Rattle.list_rule.proofs.Passes.{squad_of, out_of_line, rows_else, passed}
 
 module _ {Q : Type 0} where
@@ -72,15 +71,6 @@ module _ {Q P : Type 0} where
   owed_at phase due c (g ∷ gs) y post ok = owed_at phase due c gs y post ok.2
 
 module _ {Q P L M : Type 0} (stands : Laws Q P L M) (n : ℕ) where
-  -- who settles has not the log
-  no_log : (homes : Homes stands n) (line hand : List (Entry Q)) (handled : List (Handling Q P)) (phase : ℕ → Phase Q P) (due : ℕ → List (Q × P)) (k : ℕ) (y : Q × P) → due k ≡ y ∷ [] → (mode : Mode Q) → InMode stands n homes line hand handled phase due mode → Holds k mode → ⊥
-  no_log homes line hand handled phase due k y owed open_ ok h = h
-  no_log homes line hand handled phase due k y owed (waits c) ok h = h
-  no_log homes line hand handled phase due k y owed (led c) ok h = let nil : due k ≡ [] = ap due (sym h) ∙ ok.2 in absurd (cc)
-  no_log homes line hand handled phase due k y owed (built c g) ok h = let nil : due k ≡ [] = ap due (sym h) ∙ ok.2 in absurd (cc)
-  no_log homes line hand handled phase due k y owed (cut c w) ok h = let nil : due k ≡ [] = ap due (sym h) ∙ ok.2 in absurd (cc)
-  no_log homes line hand handled phase due k y owed (marked c) ok h = let nil : due k ≡ [] = ap due (sym h) ∙ ok.3 in absurd (cc)
-
   -- a link of the walk of the second list
   pub traces_second_is : (slots id : ℕ) (me : Sat Q P L M) (k : ℕ) → StepIs stands n (λ _. Stays) slots id me k (λ y. y) (traced_second (step slots k 0 0 none) me)
   traces_second_is slots id me k s r long at fits = (
@@ -129,7 +119,7 @@ module _ {Q P L M : Type 0} (stands : Laws Q P L M) (n : ℕ) where
         links = links_same (base_of r.mode) s.words ws r.line (λ j. same (older_at j) (λ e. omega arith)) r.links;
         rows = λ j lo hi. row_stays stands n s.words ws s.homes hs j (r.due j) (same (state_at j) (λ e. omega arith)) (same (older_at j) (λ e. omega arith)) (home_else j hi) (r.phase j) (r.rows j lo hi);
         home = home_else 0 (omega arith);
-        second = second_stops stands n s.words s.homes r.phase r.mode (stands.last r.handled) r.two r.second piped c g right fit.5.0 fit.5.1 fit.5.2 (no_log s.homes r.line r.hand r.handled r.phase r.due c (d.own.asked, d.reply) fit.4.2 r.mode r.log_is) (hit ∙ is_old) stood r.wide many;
+        second = second_stops stands n s.words s.homes r.phase r.mode (stands.last r.handled) r.two r.second piped c g right fit.5.0 fit.5.1 fit.5.2 (no_log stands n s.homes r.line r.hand r.handled r.phase r.due c (d.own.asked, d.reply) fit.4.2 r.mode r.log_is) (hit ∙ is_old) stood r.wide many;
         back = (put_here r.two.place c away, fit.5.2);
         else_back = λ j ne. back_map r.two two' j (put_else r.two.place c away j ne) (λ e. absurd (ne (same_turn j c (sym e ∙ fit.5.0)))) (λ w e. let bad : held_by c ≡ passes j w = sym fit.5.0 ∙ e in absurd (cc)) (λ e. e) (λ e. e);
       } in (
@@ -194,7 +184,7 @@ module _ {Q P L M : Type 0} (stands : Laws Q P L M) (n : ℕ) where
       let ends = fit.5.3 in
       let q : List (Entry Q) = ends.0 ++ pre in
       let parts : flat r.two.groups ≡ q ++ x ∷ line_of g = ends.1 ∙ (ap (λ l. ends.0 ++ l) is_walk ∙ sym (middle ends.0 pre x (line_of g))) in
-      let cl = second_clears stands n s.words s.homes r.phase r.mode (stands.last r.handled) r.two r.second piped c new g q x fit.5.0 fit.5.1 fit.5.2 (no_log s.homes r.line r.hand r.handled r.phase r.due c (d.own.asked, d.reply) fit.4.2 r.mode r.log_is) parts is_new r.wide in
+      let cl = second_clears stands n s.words s.homes r.phase r.mode (stands.last r.handled) r.two r.second piped c new g q x fit.5.0 fit.5.1 fit.5.2 (no_log stands n s.homes r.line r.hand r.handled r.phase r.due c (d.own.asked, d.reply) fit.4.2 r.mode r.log_is) parts is_new r.wide in
       let lo : 0 < x.by = cl.1 in
       let hi : x.by ≤ n = cl.2 in
       let wide : length s.words ≡ 2 * n + 4 = r.wide in

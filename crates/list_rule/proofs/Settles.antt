@@ -19,19 +19,20 @@ use Rattle.list_rule.specs.declared.content.Content.{Content}
 use Rattle.list_rule.specs.declared.content.Content.TheVariants.{Empty, Told, Log}
 use Rattle.list_rule.specs.declared.view.Stage.{Stage}
 use Rattle.list_rule.specs.declared.view.Stage.TheVariants.{Idle, Preparing, Waiting, Fresh, Leading, Cutting, Marking, Settling, Collecting}
-use Rattle.list_rule.specs.Chain.{state_at, older_at, pack, newest_from, Links, LinksFrom, Absent, Distinct, Within, of, heads, all_answers}
-use Rattle.list_rule.specs.Rule.{Phase, idle, linked, chosen, leads, taken, completed, Mode, open_, waits, led, built, cut, marked, base_of, InChain, Stand, Waits, AllLinked, AllTaken, AllOwed, Knows, hold, InPhase, InMode, Laws, Listed, Holds, InSecond, ahead, hold_at}
-use Rattle.list_rule.specs.Events.{Core}
-use Rattle.list_rule.specs.Steps.{Stays, IsExit, now_of, IsNow, StepIs}
+use Rattle.list_rule.specs.Chain.{state_at, older_at, pack, newest_from, Links, LinksFrom, Absent, Distinct, Within, of, heads, all_answers, handling}
+use Rattle.list_rule.specs.Rule.{Phase, idle, linked, chosen, leads, taken, completed, Mode, open_, waits, led, built, cut, marked, base_of, InChain, Stand, Waits, AllLinked, AllTaken, AllOwed, Knows, hold, InPhase, InMode, Laws, Listed, Holds, InSecond, ahead, hold_at, HasCut, untold}
+use Rattle.list_rule.specs.Events.{Core, grouped, without}
+use Rattle.list_rule.specs.Steps.{Stays, IsExit, IsNow, StepIs, IsComplete}
 use Rattle.list_rule.specs.Plays.{Sat, At, in_hand, debt, slots_of, told_one, retired, cut_as, cut_off, woken_on, AtWith, after_cut, onward}
 use Rattle.list_rule.proofs.Chains.{put, put_at, put_here, put_else, links_stay, links_same, ends_same, stand_change, linked_change, taken_change, taken_apart, owed_change}
-use Rattle.list_rule.proofs.Accounts.{cuts_now, wakes_now}
+use Rattle.list_rule.proofs.Exits.{group_handled, owing_stays, owing_grows, owing_told, cut_stays}
+use Rattle.list_rule.proofs.Accounts.{cuts_now, wakes_now, completes_now}
 use Rattle.list_rule.proofs.Moves.{row_stays, mode_stays, knows_stays, knows_else, moved, allows}
 use Rattle.list_rule.proofs.Keeps.{second_stays, second_row, put_same, kept_else}
 use Rattle.std.proofs.lemmas.List.{append_cancel_right}
 use Rattle.list_rule.proofs.Groups.{distinct_apart, distinct_front, distinct_back, within_front, within_at, linked_at, linked_front, linked_absent, taken_absent, linked_out, absent_append, stand_front, stand_apart, links_cut, newest_cut}
 use Rattle.list_rule.proofs.Enters.{one_hold}
-use Rattle.list_rule.proofs.Leads.{still_waits, one_lead, lead_in, leader, same_group, others_of, same_last, middle, snoc, due_same, shared_more, own_owed, all_owed, else_owed, else_due, else_row}
+use Rattle.list_rule.proofs.Leads.{still_waits, one_lead, lead_in, leader, same_group, others_of, same_last, middle, snoc, due_same, shared_more, own_owed, all_owed, else_owed, else_due, else_row, one_leads, done_none}
 
 one_linked : {Q P : Type 0} (e f : Entry Q) → Path (Phase Q P) (linked e) (linked f) → e ≡ f
 one_linked e f is = cc
@@ -74,8 +75,17 @@ module _ {Q P L M : Type 0} (stands : Laws Q P L M) (n : ℕ) where
       subst (Absent k) (sym ok.0.2) (absent_append k ok.0.0 (ok.0.1 ∷ []) (linked_out phase k ok.0.0 no_l ok.0.3) ((λ e. no_l ok.0.1 (ap phase (sym e ∙ ok.0.5) ∙ ok.0.4)), tt))
   handled_out homes line hand handled phase due k x owed no_l no_c (marked c) ok = linked_out phase k line no_l ok.0
 
+  -- who settles has not the log
+  pub no_log : (homes : List (Option (Content Q P L M))) (line hand : List (Entry Q)) (handled : List (Handling Q P)) (phase : ℕ → Phase Q P) (due : ℕ → List (Q × P)) (k : ℕ) (y : Q × P) → due k ≡ y ∷ [] → (mode : Mode Q) → InMode stands n homes line hand handled phase due mode → Holds k mode → ⊥
+  no_log homes line hand handled phase due k y owed open_ ok h = h
+  no_log homes line hand handled phase due k y owed (waits c) ok h = h
+  no_log homes line hand handled phase due k y owed (led c) ok h = let nil : due k ≡ [] = ap due (sym h) ∙ ok.2 in absurd (cc)
+  no_log homes line hand handled phase due k y owed (built c g) ok h = let nil : due k ≡ [] = ap due (sym h) ∙ ok.2 in absurd (cc)
+  no_log homes line hand handled phase due k y owed (cut c w) ok h = let nil : due k ≡ [] = ap due (sym h) ∙ ok.2 in absurd (cc)
+  no_log homes line hand handled phase due k y owed (marked c) ok h = let nil : due k ≡ [] = ap due (sym h) ∙ ok.3 in absurd (cc)
+
   pub tells_is : (slots id : ℕ) (me : Sat Q P L M) (c k : ℕ) (g : Entry Q × P) (gs : List (Entry Q × P)) (o : Entry Q) (p : P) (mine : List (Q × P)) (t : List (ℕ × Content Q P L M)) → At c (Settling (debt (g ∷ gs) o p)) mine me → me.1 ≡ (g.0.by, Told g.1) ∷ t → k ≡ state_at g.0.by
-      → (0 < g.0.by) × (g.0.by ≤ n) → StepIs stands n (λ _. Stays) slots id me k (λ _. 16) (λ _. told_one (step slots k 16 0 none) me 16)
+      → (0 < g.0.by) × (g.0.by ≤ n) → StepIs stands n (λ _. IsComplete g.0 g.1) slots id me k (λ _. 16) (λ _. told_one (step slots k 16 0 none) me 16)
   tells_is slots id me c k g gs o p mine t mid slot is range s r long at fits =
       let h : Hold Q P = hold c (Settling (debt (g ∷ gs) o p)) mine in
       let at' : get_elem? s.views id ≡ some (h ∷ []) = at ∙ ap some mid in
@@ -97,7 +107,9 @@ module _ {Q P L M : Type 0} (stands : Laws Q P L M) (n : ℕ) where
       let here : phase' m ≡ ph = put_here r.phase m ph in
       let out : Absent m r.line = handled_out s.homes r.line r.hand r.handled r.phase r.due m (g.0.asked, g.1) owed (λ e bad. absurd (cc)) (λ e bad. absurd (cc)) r.mode r.log_is in
       let other : c ≢ m = λ e. let bad : r.phase m ≡ leads o = ap r.phase (sym e) ∙ leads_c in absurd (cc) in
-      let after : IsNow stands n (now_of stands n s r) (record { words = ws; homes = hs; views = set s.views id (h' ∷ []) }) =
+      let acc = completes_now r.line r.handled r.mode r.account (handling g.0 g.1) (r.owing_is m ∙ (ap (λ f. untold f (r.due m)) now ∙ owed)) in
+      let now_is : Core Q P = (acc.0.queue, acc.0.log, r.handled, acc.0.owing) in
+      let after : IsNow stands n now_is (record { words = ws; homes = hs; views = set s.views id (h' ∷ []) }) =
       moved stands n s r m id ws hs h h' r.line r.hand r.handled r.mode ph r.due r.told r.two record {
         at = at';
         same_client = refl;
@@ -115,7 +127,9 @@ module _ {Q P L M : Type 0} (stands : Laws Q P L M) (n : ℕ) where
         one_chosen = λ j e. put_at r.phase m ph (λ i f. f ≡ chosen e → r.mode ≡ waits i) j (λ _ bad. absurd (cc)) (λ _ ok. r.one_chosen j e ok);
         kept = r.kept;
         coded = λ e is. absurd is;
-        account = r.account;
+        account = acc.0;
+        has_cut = cut_stays r.account.log acc.0.log r.hand r.phase m ph (ap (λ (y : Core Q P). y.1) acc.1.1) r.mode (λ _ e bad. absurd (cc)) r.has_cut;
+        owing_is = owing_told r.phase r.due r.account.owing r.owing_is acc.0.owing r.due m ph (ap (λ (y : Core Q P). y.3) acc.1.1) refl (λ _ _. refl);
         second = second_row stands n s.words ws s.homes hs r.phase m ph r.mode (stands.last r.handled) r.two (λ there. subst (InSecond r.two.place m) now there fit.5.0) (same 1 (λ e. omega arith)) (λ j _. same (older_at j) (λ e. omega arith)) (λ j ne. same (state_at j) (λ e. ne (omega arith))) (λ four. let told16 : get_or ws (state_at m) 0 ≡ 16 = ap (λ (i : ℕ). get_or ws i 0) (sym is) ∙ get_or-set_same s.words k 16 0 (omega arith) in absurd (omega arith)) (set_else s.homes m (n + 1) (some (Told g.1)) (λ e. omega arith)) r.second;
         back = fit.5;
         else_back = λ _ _ _ ok. ok;
@@ -132,7 +146,7 @@ module _ {Q P L M : Type 0} (stands : Laws Q P L M) (n : ℕ) where
         h' ∷ [],
         gives,
         tt,
-        (now_of stands n s r, refl, subst (λ (l : List (ℕ × Content Q P L M)). IsNow stands n (now_of stands n s r) (stepped s k 16 id l (h' ∷ []) gives)) (sym slot) after),
+        (now_is, acc.1, subst (λ (l : List (ℕ × Content Q P L M)). IsNow stands n now_is (stepped s k 16 id l (h' ∷ []) gives)) (sym slot) after),
         λ c' g' gs' o' p' mine' mid'.
             let e = one_hold c c' (Settling (debt (g ∷ gs) o p)) (Settling (debt (g' ∷ gs') o' p')) mine mine' me.0 mid mid' in
             let d = one_debt (debt (g ∷ gs) o p) (debt (g' ∷ gs') o' p') e.1 in
@@ -141,10 +155,10 @@ module _ {Q P L M : Type 0} (stands : Laws Q P L M) (n : ℕ) where
 
   pub tells : (slots id : ℕ) (me : Sat Q P L M) (c k : ℕ) (g : Entry Q × P) (gs : List (Entry Q × P)) (o : Entry Q) (p : P) (mine : List (Q × P)) (t : List (ℕ × Content Q P L M)) → At c (Settling (debt (g ∷ gs) o p)) mine me → me.1 ≡ (g.0.by, Told g.1) ∷ t → k ≡ state_at g.0.by
       → (0 < g.0.by) × (g.0.by ≤ n) → Allows (Listed stands n) slots id me k (λ _. 16) (λ _. told_one (step slots k 16 0 none) me 16)
-  tells slots id me c k g gs o p mine t mid slot is range = allows stands n (λ _. Stays) slots id me k (λ _. 16) (λ _. told_one (step slots k 16 0 none) me 16) (tells_is slots id me c k g gs o p mine t mid slot is range)
+  tells slots id me c k g gs o p mine t mid slot is range = allows stands n (λ _. IsComplete g.0 g.1) slots id me k (λ _. 16) (λ _. told_one (step slots k 16 0 none) me 16) (tells_is slots id me c k g gs o p mine t mid slot is range)
 
   pub retires_is : (slots id : ℕ) (me : Sat Q P L M) (c k : ℕ) (o : Entry Q) (p : P) (mine : List (Q × P)) → At c (Settling (debt [] o p)) mine me → me.1 ≡ (c, Empty) ∷ [] → k ≡ state_at c
-      → StepIs stands n (λ _. Stays) slots id me k (λ _. 16) (λ _. retired (step slots k 16 0 none) me 16)
+      → StepIs stands n (λ _. IsComplete o p) slots id me k (λ _. 16) (λ _. retired (step slots k 16 0 none) me 16)
   retires_is slots id me c k o p mine mid slot is s r long at fits =
       let h : Hold Q P = hold c (Settling (debt [] o p)) mine in
       let at' : get_elem? s.views id ≡ some (h ∷ []) = at ∙ ap some mid in
@@ -170,7 +184,10 @@ module _ {Q P L M : Type 0} (stands : Laws Q P L M) (n : ℕ) where
       let due_else : (j : ℕ) → j ≢ c → due j ≡ r.due j = λ j ne. put_else r.due c [] j ne in
       let out : Absent c r.line = handled_out s.homes r.line r.hand r.handled r.phase r.due c (o.asked, p) owed (λ e bad. absurd (cc)) (λ e bad. absurd (cc)) r.mode r.log_is in
       let shares : r.told c ++ r.due c ≡ told c ++ due c = (λ i. sym fit.3 i ++ owed i) ∙ (sym (append-nil got) ∙ (λ i. sym told_is i ++ sym none_due i)) in
-      let after : IsNow stands n (now_of stands n s r) (record { words = ws; homes = hs; views = set s.views id (h' ∷ []) }) =
+      let by_c : o.by ≡ c = subst (InPhase stands s.words s.homes c (r.due c)) now (r.rows c lo hi) in
+      let acc = completes_now r.line r.handled r.mode r.account (handling o p) (ap (λ (j : ℕ). of j r.account.owing) by_c ∙ (r.owing_is c ∙ (ap (λ f. untold f (r.due c)) now ∙ owed))) in
+      let now_is : Core Q P = (acc.0.queue, acc.0.log, r.handled, acc.0.owing) in
+      let after : IsNow stands n now_is (record { words = ws; homes = hs; views = set s.views id (h' ∷ []) }) =
       moved stands n s r c id ws hs h h' r.line r.hand r.handled r.mode ph due told r.two record {
         at = at';
         same_client = refl;
@@ -190,7 +207,9 @@ module _ {Q P L M : Type 0} (stands : Laws Q P L M) (n : ℕ) where
         one_chosen = λ j e. put_at r.phase c ph (λ i f. f ≡ chosen e → r.mode ≡ waits i) j (λ _ bad. absurd (cc)) (λ _ ok. r.one_chosen j e ok);
         kept = r.kept;
         coded = λ e is. absurd is;
-        account = r.account;
+        account = acc.0;
+        has_cut = cut_stays r.account.log acc.0.log r.hand r.phase c ph (ap (λ (y : Core Q P). y.1) acc.1.1) r.mode (λ held e bad. absurd (no_log s.homes r.line r.hand r.handled r.phase r.due c (o.asked, p) owed r.mode r.log_is held)) r.has_cut;
+        owing_is = owing_told r.phase r.due r.account.owing r.owing_is acc.0.owing due c ph (ap (λ (y : Core Q P). y.3) acc.1.1 ∙ ap (λ (j : ℕ). without j r.account.owing) by_c) none_due due_else;
         second = second_row stands n s.words ws s.homes hs r.phase c ph r.mode (stands.last r.handled) r.two (λ there. subst (InSecond r.two.place c) now there fit.5.0) (same 1 (λ e. omega arith)) (λ j _. same (older_at j) (λ e. omega arith)) (λ j ne. same (state_at j) (λ e. ne (omega arith))) (λ four. let told16 : get_or ws (state_at c) 0 ≡ 16 = ap (λ (i : ℕ). get_or ws i 0) (sym is) ∙ get_or-set_same s.words k 16 0 (omega arith) in absurd (omega arith)) (set_else s.homes c (n + 1) (some Empty) (λ e. omega arith)) r.second;
         back = fit.5;
         else_back = λ _ _ _ ok. ok;
@@ -205,7 +224,7 @@ module _ {Q P L M : Type 0} (stands : Laws Q P L M) (n : ℕ) where
         h' ∷ [],
         gives,
         tt,
-        (now_of stands n s r, refl, subst (λ (l : List (ℕ × Content Q P L M)). IsNow stands n (now_of stands n s r) (stepped s k 16 id l (h' ∷ []) gives)) (sym slot) after),
+        (now_is, acc.1, subst (λ (l : List (ℕ × Content Q P L M)). IsNow stands n now_is (stepped s k 16 id l (h' ∷ []) gives)) (sym slot) after),
         λ c' o' p' mine' mid'.
             let e = one_hold c c' (Settling (debt [] o p)) (Settling (debt [] o' p')) mine mine' me.0 mid mid' in
             let d = one_debt (debt [] o p) (debt [] o' p') e.1 in
@@ -214,7 +233,7 @@ module _ {Q P L M : Type 0} (stands : Laws Q P L M) (n : ℕ) where
 
   pub retires : (slots id : ℕ) (me : Sat Q P L M) (c k : ℕ) (o : Entry Q) (p : P) (mine : List (Q × P)) → At c (Settling (debt [] o p)) mine me → me.1 ≡ (c, Empty) ∷ [] → k ≡ state_at c
       → Allows (Listed stands n) slots id me k (λ _. 16) (λ _. retired (step slots k 16 0 none) me 16)
-  retires slots id me c k o p mine mid slot is = allows stands n (λ _. Stays) slots id me k (λ _. 16) (λ _. retired (step slots k 16 0 none) me 16) (retires_is slots id me c k o p mine mid slot is)
+  retires slots id me c k o p mine mid slot is = allows stands n (λ _. IsComplete o p) slots id me k (λ _. 16) (λ _. retired (step slots k 16 0 none) me 16) (retires_is slots id me c k o p mine mid slot is)
 
   pub cuts_as_is : (ch : Option ℕ) (slots id : ℕ) (me : Sat Q P L M) (c k new : ℕ) (lead : Lead Q P) (mine : List (Q × P)) (pre : List (Entry Q)) (x : Entry Q) → At c (Leading lead) mine me → lead.walk ≡ pre ++ x ∷ in_hand lead → k ≡ older_at x.by → new ≡ pack 0 x.code → lead.taken ≡ lead.group
       → StepIs stands n (λ _. Stays) slots id me k (λ _. new) (λ _. cut_as ch (step slots k new 0 none) me new)
@@ -258,7 +277,7 @@ module _ {Q P L M : Type 0} (stands : Laws Q P L M) (n : ℕ) where
         keeps,
         tt,
         (
-          (acc.0.queue, acc.0.log, r.handled),
+          (acc.0.queue, acc.0.log, r.handled, acc.0.owing),
           acc.1,
           moved stands n s r c id ws s.homes h h' line r.hand r.handled (cut c x.by) ph r.due r.told (cut_two ch r.two c lead) record {
             at = at';
@@ -284,6 +303,8 @@ module _ {Q P L M : Type 0} (stands : Laws Q P L M) (n : ℕ) where
             kept = r.kept;
             coded = λ e is. r.coded c e (subst (InChain e) (sym now) is);
             account = acc.0;
+            has_cut = (lead.own, here, acc.2 ∙ ap (grouped lead.own) (sym all ∙ fit.4.4));
+            owing_is = owing_stays r.phase r.due r.account.owing r.owing_is acc.0.owing r.due c ph (ap (λ (y : Core Q P). y.3) acc.1) (ap (λ f. untold f (r.due c)) (sym now)) (λ _ _. refl);
             second = cut_second stands n ch ws s.homes phase' (cut c x.by) (stands.last r.handled) r.two c lead (
                 second_stays stands n s.words ws s.homes s.homes r.phase phase' r.mode (cut c x.by) (stands.last r.handled) (stands.last r.handled) r.two (same 1 (λ e. omega arith)) (λ j there. (same_older j (λ e. subst (InSecond r.two.place x.by) now_x (subst (λ (i : ℕ). InSecond r.two.place i (r.phase i)) e there)), (λ _ _. same (state_at j) (λ e. omega arith)), put_same r.phase c ph now j)) (λ j e. sym (same (state_at j) (λ e. omega arith)) ∙ e) refl (λ j h. absurd h) (λ j h. inl (subst (Holds j) (sym led_c) h)) (λ j _ h. subst (Holds j) led_c h) (λ v. v) r.second
                 ) fit.5.0 f.own_by here (taken_with phase' r.due c lead.taken (taken_change r.phase r.due r.due c ph c lead.taken (λ e bad. absurd (cc)) (λ _ _. refl) f.members))
@@ -354,8 +375,10 @@ module _ {Q P L M : Type 0} (stands : Laws Q P L M) (n : ℕ) where
       let no_x : (j : ℕ) (e : Entry Q) → e.by ≡ x.by → r.phase e.by ≡ taken j e → ⊥ = λ j e is t. let bad : r.phase e.by ≡ linked x = ap r.phase is ∙ now_x in absurd (cc) in
       let owe_x : owe x.by ≡ r.due x.by = due_same stands n s r c lead.own gs p by_c now members m.2 apart x.by (λ e. other (sym e)) (λ e bad _. absurd (cc)) in
       let out_x : Absent x.by m.0.0 = distinct_apart m.0.0 x [] (subst Distinct (m.0.2 ∙ (λ i. m.0.0 ++ same_e i ∷ [])) r.distinct) in
-      let acc = wakes_now r.line r.handled r.mode r.account c x.by more cut_c in
-      let now_is : Core Q P = (acc.0.queue, acc.0.log, r.handled ++ more) in
+      let was_cut = subst (HasCut r.account.log r.hand r.phase) cut_c r.has_cut in
+      let same_lead : was_cut.0 ≡ lead.own = one_leads was_cut.0 lead.own (sym was_cut.1 ∙ now) in
+      let acc = wakes_now r.line r.handled r.mode r.account c x.by lead.own (heads gs) more cut_c (was_cut.2 ∙ (λ i. grouped (same_lead i) (hand_is i))) (group_handled lead.own p gs) in
+      let now_is : Core Q P = (acc.0.queue, acc.0.log, r.handled ++ more, acc.0.owing) in
       let after : IsNow stands n now_is (record { words = ws; homes = hs; views = set s.views id (h' ∷ []) }) =
       moved stands n s r x.by id ws hs h h' r.line [] (r.handled ++ more) (waits x.by) ph owe r.told two' record {
         at = at';
@@ -381,6 +404,8 @@ module _ {Q P L M : Type 0} (stands : Laws Q P L M) (n : ℕ) where
         kept = stands.keeps l (r.handled ++ more) (subst (λ z. stands.logs l (z ++ more)) fit.4.3 stood);
         coded = λ e is. r.coded x.by e (subst (InChain e) (sym now_x) is);
         account = acc.0;
+        has_cut = tt;
+        owing_is = owing_grows r.phase r.due r.account.owing r.owing_is acc.0.owing more x.by ph (ap (λ (y : Core Q P). y.3) acc.1.1) (λ d. ap (λ f. untold f d) (sym now_x)) (done_none stands n s r c lead.own gs p by_c now members m.2 apart);
         second = second_stays stands n s.words ws s.homes hs r.phase phase' r.mode (waits x.by) (stands.last (r.handled ++ more)) (stands.last (r.handled ++ more)) two' (same 1 (λ e. omega arith)) (kept_else r.phase two'.place x.by ph s.words ws (λ there. subst (InSecond two'.place x.by) now_x there) (λ j _. same (older_at j) (λ e. omega arith)) (λ j ne. same (state_at j) (λ e. ne (omega arith)))) (λ j four. dite (ℕ_discrete j x.by) (λ e. let two2 : get_or ws (state_at x.by) 0 ≡ 2 = ap (λ (i : ℕ). get_or ws i 0) (sym is_word) ∙ get_or-set_same s.words k 2 0 (omega arith) in let two3 : get_or ws (state_at j) 0 ≡ 2 = ap (λ (i : ℕ). get_or ws (state_at i) 0) e ∙ two2 in absurd (omega arith)) (λ ne. sym (same (state_at j) (λ e. ne (omega arith))) ∙ four)) (set_else s.homes 0 (n + 1) (some (Log l)) (λ e. omega arith)) (λ j h. absurd h) (λ j h. absurd h) (λ j is h. absurd (onward_free stands n b r.two c r.handled (r.handled ++ more) fit.5 hands (is ∙ ap ahead (sym (subst (Holds j) cut_c h))))) (λ v. v) (second_onward stands n b s.words s.homes r.phase r.mode r.two c r.handled (r.handled ++ more) fit.5 hands r.second);
         back = onward_back stands n b r.two c r.handled (r.handled ++ more) fit.5 hands;
         else_back = onward_else stands n b r.two c fit.5;

@@ -23,12 +23,13 @@ module _ {Q P L M : Type 0} (stands : Laws Q P L M) (homes : List (Option (Conte
 
 module _ {Q P L M : Type 0} (stands : Laws Q P L M) where
   -- the walk from the newest writer, and the events that led here, the latest first: the state after them is the queue,
-  -- where the log is, and what was handled
+  -- where the log is, what was handled, and what of it its clients haven't been told
   pub record Between (n : ℕ) (s : State (Content Q P L M) (List (Hold Q P))) : Type 0 where
     pub walk : List (Entry Q)
     pub queue : List (Entry Q)
     pub log : Held Q
     pub handled : List (Handling Q P)
+    pub owing : List (Handling Q P)
     pub mode : Mode Q
     pub events : List (Event Q P)
     pub newest : slice_index s.words 0 ≡ newest_from (base_of mode) walk
@@ -37,7 +38,7 @@ module _ {Q P L M : Type 0} (stands : Laws Q P L M) where
     pub distinct : Distinct walk
     pub within : Within n walk
     pub legal : Legal events
-    pub ran : core_of events ≡ (queue, log, handled)
+    pub ran : core_of events ≡ (queue, log, handled, owing)
     -- the walk is the group in hand and then the queue, until the leader cuts its group off, and then the queue
     pub shows : Shows walk queue log mode
     pub home : LogAtHome stands s.homes handled mode

@@ -1,16 +1,18 @@
 -- The events of the list, and the state after them, as plain lists.
-use Rattle.std.specs.Prelude.{◌≡◌, ℕ, List, [], ◌∷◌, ◌++◌}
+use Rattle.std.specs.Prelude.{◌≡◌, ℕ, ◌==◌, not, List, [], ◌∷◌, ◌++◌, map, filter, reverse}
 use Rattle.list_rule.specs.declared.view.Entry.{Entry}
 use Rattle.list_rule.specs.declared.view.Handling.{Handling}
+use Rattle.list_rule.specs.Chain.{of}
 use Rattle.list_rule.specs.Grouping.{IsGroup}
 
 -- a writer comes; the oldest one leads; it builds its group, under this bound, and these are left; the group leaves
--- with what was handled
+-- with what was handled; the client of a handling is told its reply
 pub data Event (Q P : Type 0) : Type 0 where
   comes : Entry Q → Event Q P
   elects : Entry Q → Event Q P
   builds : ℕ → Entry Q → List (Entry Q) → List (Entry Q) → Event Q P
   exits : List (Handling Q P) → Event Q P
+  completes : Handling Q P → Event Q P
 
 -- nobody has the log, or this client leads, or this writer leads and has this group besides itself
 pub data Held (Q : Type 0) : Type 0 where
@@ -18,16 +20,33 @@ pub data Held (Q : Type 0) : Type 0 where
   elected : ℕ → Held Q
   grouped : Entry Q → List (Entry Q) → Held Q
 
--- the queue, newest first, who has the log, and what was handled
+-- the queue, newest first, who has the log, what was handled, and what of it its clients haven't been told
 abbrev pub Core : Type 0 → Type 0 → Type 0
-Core Q P = List (Entry Q) × Held Q × List (Handling Q P)
+Core Q P = List (Entry Q) × Held Q × List (Handling Q P) × List (Handling Q P)
+
+-- a client and its request: of a writer
+abbrev pub wrote : {Q : Type 0} → Entry Q → ℕ × Q
+wrote e = (e.by, e.asked)
 
 module _ {Q P : Type 0} where
+  -- and of a handling
+  abbrev pub was_for : Handling Q P → ℕ × Q
+  was_for h = (h.by, h.asked)
+
+  -- without those of this client
+  abbrev pub without : ℕ → List (Handling Q P) → List (Handling Q P)
+  without c hs = filter (λ (h : Handling Q P). not (h.by == c)) hs
+
+  -- clients and requests are those of the group, the leader's first, and then in link order
+  abbrev pub IsOfGroup : Entry Q → List (Entry Q) → List (Handling Q P) → Type 0
+  IsOfGroup own group new = map was_for new ≡ map wrote (own ∷ reverse group)
+
   abbrev pub after : Core Q P → Event Q P → Core Q P
-  after k (comes e) = (e ∷ k.0, k.1, k.2)
-  after k (elects e) = (k.0, elected e.by, k.2)
-  after k (builds max own group left) = (left, grouped own group, k.2)
-  after k (exits new) = (k.0, free, k.2 ++ new)
+  after k (comes e) = (e ∷ k.0, k.1, k.2, k.3)
+  after k (elects e) = (k.0, elected e.by, k.2, k.3)
+  after k (builds max own group left) = (left, grouped own group, k.2, k.3)
+  after k (exits new) = (k.0, free, k.2 ++ new, k.3 ++ new)
+  after k (completes h) = (k.0, k.1, k.2, without h.by k.3)
 
   abbrev pub Enabled : Core Q P → Event Q P → Type 0
   Enabled k (comes e) = Unit {0}
@@ -35,10 +54,12 @@ module _ {Q P : Type 0} where
   Enabled k (builds max own group left) = (k.1 ≡ elected own.by) × (k.0 ≡ left ++ (group ++ own ∷ []))
       × IsGroup max own group left
   Enabled k (exits new) = (own : Entry Q) × (group : List (Entry Q)) × (k.1 ≡ grouped own group)
+      × IsOfGroup own group new
+  Enabled k (completes h) = of h.by k.3 ≡ (h.asked, h.reply) ∷ []
 
   -- after the events, the latest first
   abbrev pub core_of : List (Event Q P) → Core Q P
-  core_of [] = ([], free, [])
+  core_of [] = ([], free, [], [])
   core_of (v ∷ vs) = after (core_of vs) v
 
   abbrev pub Legal : List (Event Q P) → Type 0

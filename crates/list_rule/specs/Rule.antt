@@ -204,6 +204,17 @@ module _ {Q P : Type 0} where
   Waits q (completed r p) = r ≡ q
   Waits q collecting = ⊥
 
+  -- of what was handled for a client and not yet taken out by it, what it hasn't been told
+  abbrev pub untold : Phase Q P → List (Q × P) → List (Q × P)
+  untold idle due = due
+  untold (preparing w) due = due
+  untold (linked e) due = due
+  untold (chosen e) due = due
+  untold (leads e) due = due
+  untold (taken c e) due = due
+  untold (completed q p) due = []
+  untold collecting due = due
+
   abbrev pub AllLinked : (ℕ → Phase Q P) → List (Entry Q) → Type 0
   AllLinked phase [] = Unit {0}
   AllLinked phase (e ∷ es) = (phase e.by ≡ linked e) × AllLinked phase es
@@ -257,6 +268,16 @@ module _ {Q P : Type 0} where
   newcomers zero = []
   newcomers (suc n) = hold (suc n) Idle [] ∷ newcomers n
 
+module _ {Q P : Type 0} where
+  -- who has cut its group off has the log for it, and its members' requests in hand
+  abbrev pub HasCut : Held Q → List (Entry Q) → (ℕ → Phase Q P) → Mode Q → Type 0
+  HasCut log hand phase open_ = Unit {0}
+  HasCut log hand phase (waits c) = Unit {0}
+  HasCut log hand phase (led c) = Unit {0}
+  HasCut log hand phase (built c g) = Unit {0}
+  HasCut log hand phase (cut c w) = (own : Entry Q) × (phase c ≡ leads own) × (log ≡ grouped own hand)
+  HasCut log hand phase (marked c) = (own : Entry Q) × (phase c ≡ leads own) × (log ≡ grouped own hand)
+
 -- some legal events led here, and what the words show is the state after them
 module _ {Q : Type 0} (line queue : List (Entry Q)) (log : Held Q) where
   abbrev pub Shows : Mode Q → Type 0
@@ -271,8 +292,9 @@ pub record Account {Q P : Type 0} (line : List (Entry Q)) (handled : List (Handl
   pub events : List (Event Q P)
   pub queue : List (Entry Q)
   pub log : Held Q
+  pub owing : List (Handling Q P)
   pub legal : Legal events
-  pub ran : core_of events ≡ (queue, log, handled)
+  pub ran : core_of events ≡ (queue, log, handled, owing)
   pub shows : Shows line queue log mode
 
 -- where there is a second list, nothing between the two gives a number
@@ -433,6 +455,8 @@ module _ {Q P L M : Type 0} (stands : Laws Q P L M) where
     pub one_chosen : (i : ℕ) (e : Entry Q) → phase i ≡ chosen e → mode ≡ waits i
     pub shared_out : (i : ℕ) → of i handled ≡ told i ++ due i
     pub account : Account line handled mode
+    pub has_cut : HasCut account.log hand phase mode
+    pub owing_is : (i : ℕ) → of i account.owing ≡ untold (phase i) (due i)
     pub second : Second n s.words s.homes phase mode (stands.last handled) two
     pub kept : stands.kept handled
     pub coded : (i : ℕ) (e : Entry Q) → InChain e (phase i) → e.code ≡ stands.code_of e.asked

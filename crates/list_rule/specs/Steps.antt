@@ -6,13 +6,13 @@ use Rattle.atomic_table.specs.Table.{State, Act, Valid, stepped, carried_after}
 use Rattle.list_rule.specs.declared.view.Entry.{Entry}
 use Rattle.list_rule.specs.declared.view.Hold.{Hold}
 use Rattle.list_rule.specs.declared.content.Content.{Content}
-use Rattle.list_rule.specs.Chain.{all_answers}
-use Rattle.list_rule.specs.Events.{Event, comes, elects, builds, exits, Core, Enabled, after}
+use Rattle.list_rule.specs.Chain.{handling, all_answers}
+use Rattle.list_rule.specs.Events.{Event, comes, elects, builds, exits, completes, Core, Enabled, after}
 use Rattle.list_rule.specs.Rule.{Laws, Listed}
 use Rattle.list_rule.specs.Plays.{Sat}
 
 module _ {Q P : Type 0} where
-  -- queue, log and handlings are as they were
+  -- the list is as it was
   abbrev pub Stays : Core Q P → Core Q P → Type 0
   Stays a b = b ≡ a
 
@@ -43,10 +43,14 @@ module _ {Q P : Type 0} where
   abbrev pub IsExit : Entry Q → P → List (Entry Q × P) → Core Q P → Core Q P → Type 0
   IsExit own p gs = Comes (exits (all_answers own p gs))
 
+  -- e's client is told this reply
+  abbrev pub IsComplete : Entry Q → P → Core Q P → Core Q P → Type 0
+  IsComplete e p = Comes (completes (handling e p))
+
 module _ {Q P L M : Type 0} (stands : Laws Q P L M) (n : ℕ) where
   -- the list as it is after the events that led to a state
   abbrev pub now_of : (s : State (Content Q P L M) (List (Hold Q P))) → Listed stands n s → Core Q P
-  now_of s r = (r.account.queue, r.account.log, r.handled)
+  now_of s r = (r.account.queue, r.account.log, r.handled, r.account.owing)
 
   -- the words and slots keep the rule, and the list is this now
   abbrev pub IsNow : Core Q P → State (Content Q P L M) (List (Hold Q P)) → Type 0

@@ -15,15 +15,15 @@ ghost use Rattle.list_rule.specs.Chain.{state_at, older_at, pack, newest, heads,
 ghost use Rattle.list_rule.specs.Grouping.{code_by};
 ghost use Rattle.list_rule.specs.Rule.{Listed, laws_for, logs_picked, kept_picked, last_run, Unnumbered};
 ghost use Rattle.list_rule.specs.Plays.{Sat, At, entry, in_hand, debt, slots_of, begun, peeked, aimed, entered, looked, rested, read_once, traced, fetched, left, cut_off, woken_on, told_one, retired};
-ghost use Rattle.list_rule.specs.Steps.{Stays, ComesWhere, IsLink, IsElect, IsBuild, IsExit, StepIs};
+ghost use Rattle.list_rule.specs.Steps.{Stays, ComesWhere, IsLink, IsElect, IsBuild, IsExit, IsComplete, StepIs};
 ghost use Rattle.list_rule.specs.Between.{Between};
 
 use crate::rule::{Given, Itemized, Ledger, Numbered};
 
 /// Between any two steps the walk from the newest writer is the group in hand and then the queue, with no more writers
-/// than clients, and the log is at home, or with the one who leads. The queue, the log's place and what was handled are
-/// those after a list of legal events: somebody links, the oldest writer is elected, a leader builds its group, and a
-/// group leaves.
+/// than clients, and the log is at home, or with the one who leads. The queue, the log's place, what was handled and
+/// what of it its clients haven't been told are those after a list of legal events: somebody links, the oldest writer
+/// is elected, a leader builds its group, a group leaves, and a client is told its reply.
 pub fn between_steps<Q: Itemized, P: Given, L: Ledger<Q, P>, M: Numbered>()
     ensures { (k : Start L.About) (s : State (Content Q P L M) (List (Hold Q P)))
         → Listed (laws_for Q.item_of L.stands L.kept L.number_of P.run_of M.number_of k) k.clients s
@@ -102,11 +102,12 @@ pub fn steps_and_events<Q: Itemized, P: Given, L: Ledger<Q, P>, M: Numbered>()
         → At c (Settling (debt (member ∷ others) own p)) mine me
         → me.1 ≡ (member.0.by, Told member.1) ∷ more → word ≡ state_at member.0.by
         → 0 < member.0.by → member.0.by ≤ z.clients
-        → StepIs (laws_for Q.item_of L.stands L.kept L.number_of P.run_of M.number_of z) z.clients (λ _. Stays)
-        slots id me word (λ _. 16) (λ _. told_one (step slots word 16 0 none) me 16) }
+        → StepIs (laws_for Q.item_of L.stands L.kept L.number_of P.run_of M.number_of z) z.clients
+        (λ _. IsComplete member.0 member.1) slots id me word (λ _. 16)
+        (λ _. told_one (step slots word 16 0 none) me 16) }
     ensures retire { (z : Start L.About) (slots id word c : ℕ) (me : Sat Q P L M) (own : Entry Q) (p : P)
         (mine : List (Q × P))
         → At c (Settling (debt [] own p)) mine me → me.1 ≡ (c, Empty) ∷ [] → word ≡ state_at c
-        → StepIs (laws_for Q.item_of L.stands L.kept L.number_of P.run_of M.number_of z) z.clients (λ _. Stays)
-        slots id me word (λ _. 16) (λ _. retired (step slots word 16 0 none) me 16) }
+        → StepIs (laws_for Q.item_of L.stands L.kept L.number_of P.run_of M.number_of z) z.clients
+        (λ _. IsComplete own p) slots id me word (λ _. 16) (λ _. retired (step slots word 16 0 none) me 16) }
 {}
