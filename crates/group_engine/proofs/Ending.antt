@@ -1,0 +1,129 @@
+-- What the closed parts of an engine come to.
+use Rattle.std.proofs.Common.{◌≡◌, ◌⊎◌, inl, inr, ℕ, zero, suc, ◌+◌, ◌-◌, ◌<◌, ◌≤◌, map, slice_get, List, [], ◌∷◌, ◌++◌, Option, Some, None, IfSome, length, refl, ap, sym, ◌∙◌, subst, ⊎_elim, arith}
+use Rattle.std.specs.Option.{option_map}
+use Rattle.std.specs.List.{AllByRecursion}
+use Rattle.std.proofs.lemmas.Option.{slice_get-map, slice_get_cases}
+use Rattle.std.proofs.lemmas.List.{length-map}
+use Rattle.wp_edge.specs.declared.disk.Disk.{Ghosts}
+use Rattle.wp_model.specs.Counts.{Rose}
+use Rattle.wp_model.specs.Trace.{Trace, Settings}
+use Rattle.wp_model.specs.Groups.{Group}
+use Rattle.log_writer.specs.declared.writer.LogWriter.{LogWriter}
+use Rattle.log_writer.specs.Words.{fault_of, disk_of}
+use Rattle.log_writer.specs.Written.{Wrote}
+use Rattle.table_rule.specs.declared.view.Opening.{Opening}
+use Rattle.table_rule.specs.declared.content.MemberVersions.{MemberVersions}
+use Rattle.table_rule.specs.Histories.{In, Begins}
+use Rattle.table_calls.specs.Account.{Account as TableAccount, IsReady, IsClosing as IsTableClosing}
+use Rattle.list_rule.specs.declared.view.Handling.{Handling}
+use Rattle.list_rule.specs.Chain.{of}
+use Rattle.writer_list.specs.declared.writer.Writer.{Writer}
+use Rattle.writer_list.specs.Seats.{table_of, clients_of, about_of, told, IsOut, AllOut, HasClient, AllThere, Merged}
+use Rattle.group_engine.specs.declared.requests.Request.{Request}
+use Rattle.group_engine.specs.declared.requests.Reply.{Reply}
+use Rattle.group_engine.specs.declared.engine.GroupEngine.{GroupEngine}
+use Rattle.group_engine.specs.declared.engine.Client.{Client}
+use Rattle.account_model.specs.Accounts.{Account}
+use Rattle.account_model.specs.Closing.{AreOurs, IsClosing, all_attempts}
+use Rattle.account_model.specs.Written.{WritesLog}
+use Rattle.group_engine.specs.Clients.{opened_log, IsClientOf, IsEngine, account_in, own_commits, seat_in, settings_of, writer_in}
+use Rattle.group_engine.specs.Handled.{commit_of}
+use Rattle.group_engine.specs.Law.{StandsFor}
+use Rattle.group_rule.specs.Commits.{commits_of}
+use Rattle.group_rule.specs.Entries.{account_of, HasPart, trace_of}
+use Rattle.group_engine.proofs.Answered.{commits_told}
+use Rattle.group_rule.proofs.Closing.{closing, writes_log}
+
+each_all : {C : Type 0} (P : C → Type 0) (cs : List C) → ((i : ℕ) (c : C) → slice_get cs i ≡ Some c → P c) → AllByRecursion P cs
+each_all P [] h = tt
+each_all P (c ∷ cs) h = (h 0 c refl, each_all P cs (λ i x e. h (suc i) x e))
+
+pub in_map : {A B : Type 0} (f : A → B) (x : A) (xs : List A) → In x xs → In (f x) (map f xs)
+in_map f x [] h = absurd h
+in_map f x (y ∷ ys) h = ⊎_elim (λ (e : y ≡ x). inl (ap f e)) (λ (t : In x ys). inr (in_map f x ys t)) h
+
+in_at : {A : Type 0} (xs : List A) (i : ℕ) (x : A) → slice_get xs i ≡ Some x → In x xs
+in_at [] i x e = absurd (cc)
+in_at (y ∷ ys) zero x e = inl (cc)
+in_at (y ∷ ys) (suc i) x e = inr (in_at ys i x e)
+
+from_map : {A B : Type 0} (f : A → B) (P : A → Type 0) (xs : List A) → AllByRecursion P xs → (y : B) → In y (map f xs) → (x : A) × P x × (f x ≡ y)
+from_map f P [] h y is = absurd is
+from_map f P (x ∷ xs) h y is = ⊎_elim (λ (e : f x ≡ y). (x, h.0, e)) (λ (t : In y (map f xs)). from_map f P xs h.1 y t) is
+
+module _ {D T S U P : Type 0} {ghosts : Ghosts D} (opening : T → Opening) (ours : T → S → Type 0) (account : S → TableAccount) (our_turn : T → U → Type 0) (history : U → List (List MemberVersions)) (e : GroupEngine D T S U P ghosts) (cs : List (Client D T S U P ghosts))
+    (all : AreOurs (IsClientOf opening ours account e) (account_in opening ours account) (clients_of e.list) cs) where
+  abbrev fit : (i : ℕ) (c : Client D T S U P ghosts) → slice_get cs i ≡ Some c → IsClientOf opening ours account e c
+  fit i c at = (all.each i c at).0
+
+  pub is_engine : IsEngine opening ours account e
+  is_engine = elim (slice_get_cases cs 0).1 [
+    | inl there ↦ (fit 0 there.0 there.2).seated.is_engine
+    | inr gone ↦ absurd (let some = e.list.some in let n = all.number_of in let none = gone.0 in omega (arith, some, n, none))
+  ]
+
+  pub all_fit : AllByRecursion (IsClientOf opening ours account e) cs
+  all_fit = each_all (IsClientOf opening ours account e) cs fit
+
+  out_of : (xs : List (Client D T S U P ghosts)) → AllByRecursion (IsClientOf opening ours account e) xs → AllOut (table_of e.list) (map writer_in xs)
+  out_of [] h = tt
+  out_of (c ∷ xs) h = (h.0.seated.writer.0, h.0.out, out_of xs h.1)
+
+  pub all_out : AllOut (table_of e.list) (map writer_in cs)
+  all_out = out_of cs all_fit
+
+  has_at : (xs : List (Client D T S U P ghosts)) (i : ℕ) (c : Client D T S U P ghosts) → slice_get xs i ≡ Some c → HasClient c.writer.client (map writer_in xs)
+  has_at [] i c at = absurd (cc)
+  has_at (x ∷ xs) zero c at = inl (let is : x ≡ c = cc in ap (λ (z : Client D T S U P ghosts). z.writer.client) is)
+  has_at (x ∷ xs) (suc i) c at = inr (has_at xs i c at)
+
+  pub all_there : AllThere (clients_of e.list) (map writer_in cs)
+  all_there k low high = elim (slice_get_cases cs (k - 1)).1 [
+    | inl there ↦ (
+        let is : there.0.writer.client ≡ k = (fit (k - 1) there.0 there.2).seated.number ∙ ((all.each (k - 1) there.0 there.2).1 ∙ (let n : k - 1 + 1 ≡ k = omega (arith, low) in n)) in
+        subst (λ (j : ℕ). HasClient j (map writer_in cs)) is (has_at cs (k - 1) there.0 there.2))
+    | inr gone ↦ absurd (let a = gone.0 in let n = all.number_of in omega (arith, a, n, low, high))
+  ]
+
+  pub seats_ready : (seat : S) → In seat (map seat_in cs) → ours e.table seat × IsReady (account seat)
+  seats_ready seat is = let t = from_map seat_in (IsClientOf opening ours account e) cs all_fit seat is in (subst (λ (s : S). ours e.table s × IsReady (account s)) t.2 (t.1.seated.seat, t.1.seated.ready))
+
+  merged_at : (handled : List (Handling Request Reply)) (xs : List (Client D T S U P ghosts)) → Merged handled (map writer_in xs) → (i : ℕ) (c : Client D T S U P ghosts) → slice_get xs i ≡ Some c → of c.writer.client handled ≡ told c.writer
+  merged_at handled [] m i c at = absurd (cc)
+  merged_at handled (x ∷ xs) m zero c at = let is : x ≡ c = cc in subst (λ (z : Client D T S U P ghosts). of z.writer.client handled ≡ told z.writer) is m.0
+  merged_at handled (x ∷ xs) m (suc i) c at = merged_at handled xs m.1 i c at
+
+  module _ (handled : List (Handling Request Reply)) (log : LogWriter D ghosts) (turn : U) (last : ℕ) (stands : StandsFor our_turn history e.table (opened_log e) (opening e.table).start (clients_of e.list) e.group_bytes log turn last handled)
+      (merged : Merged handled (map writer_in cs)) (seen : IsTableClosing (opening e.table).start (history turn) (map account (map seat_in cs)))
+      (rose : IfSome (fault_of log) (λ count. Rose (ghosts.faults (disk_of (opened_log e))) count × (count ≤ ghosts.faults (disk_of log)))) where
+    part : (i : ℕ) (c : Client D T S U P ghosts) → slice_get cs i ≡ Some c → HasPart (opening e.table).start (map commit_of handled) (history turn) i (account_in opening ours account c)
+    part i c at =
+        let f = fit i c at in
+        let number : c.number ≡ i + 1 = (all.each i c at).1 in
+        let own : own_commits c.number (told c.writer) ≡ commits_of (i + 1) (map commit_of handled) =
+        ap (own_commits c.number) (sym (ap (λ k. of k handled) (sym f.seated.number) ∙ merged_at handled cs merged i c at)) ∙ (sym (commits_told c.number handled) ∙ ap (λ k. commits_of k (map commit_of handled)) number) in
+        record {
+          seen = (account c.seat).seen;
+          begins = seen.each (account c.seat) (in_map account c.seat (map seat_in cs) (in_map seat_in c cs (in_at cs i c at)));
+          is = (λ j. account_of (f.seated.start j) (number j) (own j) (account c.seat).seen);
+        }
+
+    parts : (i : ℕ) (a : Account) → slice_get (map (account_in opening ours account) cs) i ≡ Some a → HasPart (opening e.table).start (map commit_of handled) (history turn) i a
+    parts i a at = elim (slice_get_cases cs i).1 [
+      | inl there ↦ (
+          let is : account_in opening ours account there.0 ≡ a = cc (sym (slice_get-map (account_in opening ours account) cs i) ∙ at, ap (option_map (account_in opening ours account)) there.2) in
+          subst (HasPart (opening e.table).start (map commit_of handled) (history turn) i) is (part i there.0 there.2))
+      | inr gone ↦ absurd (cc (sym (slice_get-map (account_in opening ours account) cs i) ∙ at, ap (option_map (account_in opening ours account)) gone.1))
+    ]
+
+    pub ends : (trace : Trace) × (groups : List Group) × IsClosing (settings_of opening ours account e) (ghosts.faults (disk_of log)) trace groups (map (account_in opening ours account) cs) last (fault_of log)
+        × WritesLog e.group_bytes (Wrote (opened_log e)) trace (all_attempts (map (account_in opening ours account) cs)) (fault_of log) log
+    ends =
+        let all_of : length (map (account_in opening ours account) cs) ≡ clients_of e.list = length-map cs (account_in opening ours account) ∙ all.number_of in
+        let h : Settings = settings_of opening ours account e in
+        let none : List Group = [] in (
+          trace_of h.start (map commit_of handled),
+          none,
+          closing h (map commit_of handled) last (fault_of log) (history turn) stands.calls stands.consistent (map (account_in opening ours account) cs) all_of parts (ghosts.faults (disk_of log)) rose,
+          writes_log h (map commit_of handled) last (fault_of log) (history turn) stands.calls stands.consistent (map (account_in opening ours account) cs) all_of parts (Wrote (opened_log e)) log stands.wrote,
+        )

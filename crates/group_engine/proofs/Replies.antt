@@ -1,0 +1,97 @@
+-- What the leader's answers are as commits.
+use Rattle.std.proofs.Common.{◌≡◌, ◌≢◌, ◌⊎◌, inl, inr, ℕ, suc, ◌+◌, ◌-◌, ◌<◌, ◌≤◌, Bool, true, false, cond, nat_le, map, List, [], ◌∷◌, ◌++◌, Option, Some, None, Ok, Err, length, refl, ap, sym, ◌∙◌, subst, ⊎_elim, arith, append_assoc, append-nil}
+use Rattle.std.specs.List.{AllByRecursion}
+use Rattle.wp_model.specs.declared.write.Refusal.TheVariants.{LogFault, SequenceFull}
+use Rattle.wp_model.specs.Batch.{Record, count_of}
+use Rattle.wp_model.specs.History.{max_sequence}
+use Rattle.write_batch.specs.Contents.{Contents}
+use Rattle.list_rule.specs.declared.view.Handling.{Handling}
+use Rattle.group_engine.specs.declared.requests.Request.{Request}
+use Rattle.group_engine.specs.declared.requests.Reply.{Reply}
+use Rattle.group_engine.specs.declared.numbering.Plan.{Plan}
+use Rattle.group_engine.specs.declared.numbering.Plan.TheVariants.{Run, Full}
+use Rattle.group_engine.specs.declared.numbering.Outcome.{Outcome}
+use Rattle.group_engine.specs.declared.numbering.Outcome.TheVariants.{Written, Faulted}
+use Rattle.group_engine.specs.Handled.{ComesBack, HandsBack, accepted_reply, answer_in, commit_of, commit_request_of, commit_requests_of, failures, handled_with, refused_reply, replies_of}
+use Rattle.group_engine.specs.Numbering.{AreEnough, answers, batches_of, plans_of}
+use Rattle.group_rule.specs.Commits.{accepted, failed, no_room}
+use Rattle.group_rule.specs.Plans.{all_failed, answered, batches_from, last_with, planned}
+
+pub map_append : {A B : Type 0} (f : A → B) (xs ys : List A) → map f (xs ++ ys) ≡ map f xs ++ map f ys
+map_append f [] ys = refl
+map_append f (x ∷ xs) ys = ap (λ l. f x ∷ l) (map_append f xs ys)
+
+-- by a test
+module _ (last end : ℕ) (x : ℕ × Request) (xs : List (ℕ × Request)) where
+  fits : Bool
+  fits = nat_le (last + count_of x.1.batch.records) max_sequence
+
+-- the answers to what was laid out
+written_by : (last end : ℕ) (x : ℕ × Request) (xs : List (ℕ × Request)) (b : Bool) → ((m : ℕ) → answers (Written end) (plans_of m xs) (batches_of m xs) ≡ replies_of m end xs)
+    → answers (Written end) ((cond b (Run x.0 (last + 1)) (Full x.0 last x.1.batch)) ∷ plans_of (cond b (last + count_of x.1.batch.records) last) xs) (cond b (x.1.batch ∷ []) [] ++ batches_of (cond b (last + count_of x.1.batch.records) last) xs)
+    ≡ (x.0, cond b (accepted_reply last end x.1) (refused_reply (SequenceFull last) x.1)) ∷ replies_of (cond b (last + count_of x.1.batch.records) last) end xs
+written_by last end x xs true more = ap (λ l. (x.0, accepted_reply last end x.1) ∷ l) (more (last + count_of x.1.batch.records))
+written_by last end x xs false more = ap (λ l. (x.0, refused_reply (SequenceFull last) x.1) ∷ l) (more last)
+
+pub answers_written : (last end : ℕ) (xs : List (ℕ × Request)) → answers (Written end) (plans_of last xs) (batches_of last xs) ≡ replies_of last end xs
+answers_written last end [] = refl
+answers_written last end (x ∷ xs) = written_by last end x xs (nat_le (last + count_of x.1.batch.records) max_sequence) (λ m. answers_written m end xs)
+
+faulted_by : (last n : ℕ) (x : ℕ × Request) (xs : List (ℕ × Request)) (b : Bool) → ((m : ℕ) → answers (Faulted n) (plans_of m xs) (batches_of m xs) ≡ failures n xs)
+    → answers (Faulted n) ((cond b (Run x.0 (last + 1)) (Full x.0 last x.1.batch)) ∷ plans_of (cond b (last + count_of x.1.batch.records) last) xs) (cond b (x.1.batch ∷ []) [] ++ batches_of (cond b (last + count_of x.1.batch.records) last) xs)
+    ≡ (x.0, refused_reply (LogFault n) x.1) ∷ failures n xs
+faulted_by last n x xs true more = ap (λ l. (x.0, refused_reply (LogFault n) x.1) ∷ l) (more (last + count_of x.1.batch.records))
+faulted_by last n x xs false more = ap (λ l. (x.0, refused_reply (LogFault n) x.1) ∷ l) (more last)
+
+pub answers_faulted : (last n : ℕ) (xs : List (ℕ × Request)) → answers (Faulted n) (plans_of last xs) (batches_of last xs) ≡ failures n xs
+answers_faulted last n [] = refl
+answers_faulted last n (x ∷ xs) = faulted_by last n x xs (nat_le (last + count_of x.1.batch.records) max_sequence) (λ m. answers_faulted m n xs)
+
+enough_by : (last : ℕ) (x : ℕ × Request) (xs : List (ℕ × Request)) (b : Bool) → ((m : ℕ) → AreEnough (plans_of m xs) (batches_of m xs))
+    → AreEnough ((cond b (Run x.0 (last + 1)) (Full x.0 last x.1.batch)) ∷ plans_of (cond b (last + count_of x.1.batch.records) last) xs) (cond b (x.1.batch ∷ []) [] ++ batches_of (cond b (last + count_of x.1.batch.records) last) xs)
+enough_by last x xs true more = more (last + count_of x.1.batch.records)
+enough_by last x xs false more = more last
+
+pub are_enough : (last : ℕ) (xs : List (ℕ × Request)) → AreEnough (plans_of last xs) (batches_of last xs)
+are_enough last [] = refl
+are_enough last (x ∷ xs) = enough_by last x xs (nat_le (last + count_of x.1.batch.records) max_sequence) (λ m. are_enough m xs)
+
+pub plans_count : (last : ℕ) (xs : List (ℕ × Request)) → length (plans_of last xs) ≡ length xs
+plans_count last [] = refl
+plans_count last (x ∷ xs) = ap suc (plans_count (last_with last x.1.batch.records) xs)
+
+batches_by : (last : ℕ) (x : ℕ × Request) (xs : List (ℕ × Request)) (b : Bool) → ((m : ℕ) → map (λ (c : Contents). c.records) (batches_of m xs) ≡ batches_from m (commit_requests_of xs))
+    → map (λ (c : Contents). c.records) (cond b (x.1.batch ∷ []) [] ++ batches_of (cond b (last + count_of x.1.batch.records) last) xs) ≡ cond b (x.1.batch.records ∷ []) [] ++ batches_from (cond b (last + count_of x.1.batch.records) last) (commit_requests_of xs)
+batches_by last x xs true more = ap (λ l. x.1.batch.records ∷ l) (more (last + count_of x.1.batch.records))
+batches_by last x xs false more = more last
+
+pub batches_are : (last : ℕ) (xs : List (ℕ × Request)) → map (λ (c : Contents). c.records) (batches_of last xs) ≡ batches_from last (commit_requests_of xs)
+batches_are last [] = refl
+batches_are last (x ∷ xs) = batches_by last x xs (nat_le (last + count_of x.1.batch.records) max_sequence) (λ m. batches_are m xs)
+
+-- the commits
+
+verdict_by : (last end : ℕ) (q : Request) (b : Bool) → answer_in (cond b (accepted_reply last end q) (refused_reply (SequenceFull last) q)).answer ≡ cond b (accepted (last + 1) end) (no_room last)
+verdict_by last end q true = refl
+verdict_by last end q false = refl
+
+pub commits_planned : (last end : ℕ) (xs : List (ℕ × Request)) → map commit_of (handled_with xs (replies_of last end xs)) ≡ planned last end (commit_requests_of xs)
+commits_planned last end [] = refl
+commits_planned last end (x ∷ xs) = λ i. answered (commit_request_of x) (verdict_by last end x.1 (nat_le (last + count_of x.1.batch.records) max_sequence) i) ∷ commits_planned (last_with last x.1.batch.records) end xs i
+
+pub commits_failed : (n : ℕ) (xs : List (ℕ × Request)) → map commit_of (handled_with xs (failures n xs)) ≡ all_failed n (commit_requests_of xs)
+commits_failed n [] = refl
+commits_failed n (x ∷ xs) = ap (λ l. answered (commit_request_of x) (failed n) ∷ l) (commits_failed n xs)
+
+-- the batches come back
+back_by : (last end : ℕ) (q : Request) (b : Bool) → ComesBack q.batch (cond b (accepted_reply last end q) (refused_reply (SequenceFull last) q)).answer
+back_by last end q true = (refl, refl)
+back_by last end q false = (refl, tt)
+
+pub backs_planned : (last end : ℕ) (xs : List (ℕ × Request)) → AllByRecursion HandsBack (handled_with xs (replies_of last end xs))
+backs_planned last end [] = tt
+backs_planned last end (x ∷ xs) = (back_by last end x.1 (nat_le (last + count_of x.1.batch.records) max_sequence), backs_planned (last_with last x.1.batch.records) end xs)
+
+pub backs_failed : (n : ℕ) (xs : List (ℕ × Request)) → AllByRecursion HandsBack (handled_with xs (failures n xs))
+backs_failed n [] = tt
+backs_failed n (x ∷ xs) = ((refl, tt), backs_failed n xs)

@@ -1,0 +1,112 @@
+-- An engine and its clients, and a client's account.
+use Rattle.std.specs.Prelude.{◌≡◌, ℕ, false, ◌<◌, ◌≤◌, List, [], ◌∷◌, ◌++◌, map, vec_len, vec_capacity}
+use Rattle.wp_edge.specs.declared.disk.Disk.{Ghosts}
+use Rattle.wp_model.specs.History.{max_sequence}
+use Rattle.wp_model.specs.Trace.{Settings}
+use Rattle.log_writer.specs.declared.writer.LogWriter.{LogWriter}
+use Rattle.log_writer.specs.Words.{disk_of}
+use Rattle.log_writer.specs.Opening.{HasOpened}
+use Rattle.table_rule.specs.declared.view.Opening.{Opening}
+use Rattle.table_calls.specs.Account.{Account as TableAccount, IsReady}
+use Rattle.list_rule.specs.declared.view.Handling.{Handling}
+use Rattle.list_rule.specs.Chain.{of}
+use Rattle.writer_list.specs.declared.writer.Writer.{Writer}
+use Rattle.writer_list.specs.Rooms.{AreReady}
+use Rattle.writer_list.specs.Seats.{clients_of, about_of, start_of, piped_of, Belongs, IsOut, told}
+use Rattle.account_model.specs.Accounts.{Account}
+use Rattle.group_rule.specs.Commits.{Commit}
+use Rattle.group_rule.specs.Entries.{account_of}
+use Rattle.group_engine.specs.declared.requests.Request.{Request}
+use Rattle.group_engine.specs.declared.requests.Reply.{Reply}
+use Rattle.group_engine.specs.declared.engine.GroupEngine.{GroupEngine}
+use Rattle.group_engine.specs.declared.engine.Client.{Client}
+use Rattle.group_engine.specs.declared.engine.Clients.{Clients}
+use Rattle.group_engine.specs.declared.held.Held.{Held}
+use Rattle.group_engine.specs.declared.held.NoRight.{NoRight}
+use Rattle.group_engine.specs.Handled.{commit_of, AreHandled}
+use Rattle.group_engine.specs.Layout.{IsClear}
+
+-- a client's commits, from what it asked and was told
+abbrev pub own_commits : ℕ → List (Request × Reply) → List Commit
+own_commits client [] = []
+own_commits client (t ∷ ts) = commit_of (record { by = client; asked = t.0; reply = t.1 }) ∷ own_commits client ts
+
+module _ {D T S U P : Type 0} {ghosts : Ghosts D} where
+  abbrev pub told_of : Client D T S U P ghosts → List (Request × Reply)
+  told_of c = told c.writer
+
+  -- the engine's log as it was opened
+  abbrev pub opened_log : GroupEngine D T S U P ghosts → LogWriter D ghosts
+  opened_log e = (about_of e.list).opened.value
+
+  -- the client's lists are empty, and have room for all clients
+  pub record CanLead (clients : ℕ) (c : Client D T S U P ghosts) : Type 0 where
+    pub lists : AreReady clients c.lists
+    pub layout : IsClear clients c.layout
+    pub room : (clients ≤ vec_capacity c.layout.plans) × (clients ≤ vec_capacity c.layout.batches)
+
+  module _ (opening : T → Opening) (ours : T → S → Type 0) (account : S → TableAccount) where
+    -- the list, the table and the numbers of an engine belong together
+    pub record IsEngine (e : GroupEngine D T S U P ghosts) : Type 0 where
+      pub clients : (opening e.table).clients ≡ clients_of e.list
+      pub table : (about_of e.list).table.value ≡ e.table
+      pub start : (about_of e.list).start ≡ (opening e.table).start
+      pub start_number : start_of e.list ≡ (opening e.table).start
+      pub about_clients : (about_of e.list).clients ≡ clients_of e.list
+      pub group_bytes : (about_of e.list).group_bytes ≡ e.group_bytes
+      pub single : piped_of e.list ≡ false
+      pub low : (opening e.table).start ≤ max_sequence
+      pub few : clients_of e.list < 255
+      pub batch_bytes : e.batch_bytes ≤ 16777216
+      pub disk : D
+      pub opened : HasOpened disk (opened_log e)
+
+    -- it is a client of the engine, but for where its writer stands
+    pub record IsSeated (e : GroupEngine D T S U P ghosts) (c : Client D T S U P ghosts) : Type 0 where
+      pub is_engine : IsEngine e
+      pub writer : Belongs e.list c.writer
+      pub number : c.writer.client ≡ c.number
+      pub seat : ours e.table c.seat
+      pub ready : IsReady (account c.seat)
+      pub seat_number : (account c.seat).number ≡ c.number
+      pub start : c.start ≡ (opening e.table).start
+      pub can_lead : CanLead (clients_of e.list) c
+
+    -- it is a client of the engine, between two of its calls
+    pub record IsClientOf (e : GroupEngine D T S U P ghosts) (c : Client D T S U P ghosts) : Type 0 where
+      pub seated : IsSeated e c
+      pub out : IsOut c.writer
+
+    abbrev pub account_in : Client D T S U P ghosts → Account
+    account_in c = account_of c.start c.number (own_commits c.number (told_of c)) (account c.seat).seen
+
+    abbrev pub settings_of : GroupEngine D T S U P ghosts → Settings
+    settings_of e = record {
+      start = (opening e.table).start;
+      clients = clients_of e.list;
+      group_bytes = e.group_bytes;
+      batch_bytes = e.batch_bytes;
+      opened = ghosts.faults (disk_of (opened_log e));
+    }
+
+  -- the room to close with is empty, and enough for all clients
+  pub record HasRoomToClose (clients : ℕ) (all : Clients D T S U P ghosts) : Type 0 where
+    pub no_writers : all.writers.items ≡ []
+    pub no_seats : all.seats.items ≡ []
+    pub writers : clients ≤ vec_capacity all.writers
+    pub seats : clients ≤ vec_capacity all.seats
+
+  -- A request was answered, and there is a list of all that was handled by then, with the client's own.
+  pub record IsAnswered (start : ℕ) (q : Request) (p : Reply) (v w : Client D T S U P ghosts) : Type 0 where
+    pub told_now : told_of w ≡ told_of v ++ (q, p) ∷ []
+    pub handled : List (Handling Request Reply)
+    pub are_handled : AreHandled start handled
+    pub own : of v.number handled ≡ told_of v ++ (q, p) ∷ []
+    pub number : w.number ≡ v.number
+    pub start_same : w.start ≡ v.start
+
+  abbrev pub writer_in : Client D T S U P ghosts → Writer Request Reply (Held D T S U P ghosts) NoRight
+  writer_in c = c.writer
+
+  abbrev pub seat_in : Client D T S U P ghosts → S
+  seat_in c = c.seat

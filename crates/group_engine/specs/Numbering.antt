@@ -1,0 +1,78 @@
+-- What a leader lays out while it gives its group runs, and its answers.
+use Rattle.std.specs.Prelude.{◌≡◌, ◌⊎◌, ℕ, ◌+◌, ◌≤◌, List, [], ◌∷◌, ◌++◌, map, Ok, Err, nat_le, if◌then◌else◌, ⊤}
+use Rattle.wp_model.specs.declared.write.Refusal.TheVariants.{LogFault, SequenceFull}
+use Rattle.wp_model.specs.Batch.{count_of}
+use Rattle.wp_model.specs.History.{max_sequence}
+use Rattle.write_batch.specs.Contents.{Contents}
+use Rattle.table_rule.specs.declared.content.Version.{Version}
+use Rattle.mem_table.specs.declared.parts.MemberNodes.{MemberNodes}
+use Rattle.group_rule.specs.Plans.{last_with}
+use Rattle.group_engine.specs.declared.requests.Request.{Request}
+use Rattle.group_engine.specs.declared.numbering.Plan.{Plan}
+use Rattle.group_engine.specs.declared.numbering.Plan.TheVariants.{Run, Full}
+use Rattle.group_engine.specs.declared.numbering.Outcome.{Outcome}
+use Rattle.group_engine.specs.declared.numbering.Outcome.TheVariants.{Written, Faulted}
+use Rattle.group_engine.specs.declared.requests.Reply.{Reply}
+
+-- the plan of a request, where `last` was given last
+abbrev pub plan_at : ℕ → ℕ × Request → Plan
+plan_at last x = if nat_le (last + count_of x.1.batch.records) max_sequence then Run x.0 (last + 1)
+    else Full x.0 last x.1.batch
+
+abbrev pub plans_of : ℕ → List (ℕ × Request) → List Plan
+plans_of last [] = []
+plans_of last (x ∷ requests) = plan_at last x ∷ plans_of (last_with last x.1.batch.records) requests
+
+-- the batches that have runs
+abbrev pub batch_at : ℕ → Request → List Contents
+batch_at last q = if nat_le (last + count_of q.batch.records) max_sequence then q.batch ∷ [] else []
+
+abbrev pub batches_of : ℕ → List (ℕ × Request) → List Contents
+batches_of last [] = []
+batches_of last (x ∷ requests) = batch_at last x.1 ++ batches_of (last_with last x.1.batch.records) requests
+
+-- one member has these versions, if there are any
+abbrev pub HasVersions : ℕ → List Version → List MemberNodes → Type 0
+HasVersions member versions parts = ((versions ≡ []) × (parts ≡ []))
+    ⊎ (parts ≡ record { member = member; nodes = versions } ∷ [])
+
+-- The answers to what was laid out
+
+abbrev pub full_with : Outcome → ℕ → Contents → Reply
+full_with (Written group_last) last b = record { answer = Err (record { batch = b; why = SequenceFull last }) }
+full_with (Faulted count) last b = record { answer = Err (record { batch = b; why = LogFault count }) }
+
+abbrev pub run_with : Outcome → ℕ → Contents → Reply
+run_with (Written group_last) first b = record {
+  answer = Ok (record {
+    first = first;
+    count = count_of b.records;
+    group_last = group_last;
+    batch = record b { sequence = first };
+  });
+}
+run_with (Faulted count) first b = record { answer = Err (record { batch = b; why = LogFault count }) }
+
+abbrev pub answers : Outcome → List Plan → List Contents → List (ℕ × Reply)
+answers o [] bs = []
+answers o (Run client first ∷ plans) [] = []
+answers o (Run client first ∷ plans) (b ∷ bs) = (client, run_with o first b) ∷ answers o plans bs
+answers o (Full client last b ∷ plans) bs = (client, full_with o last b) ∷ answers o plans bs
+
+-- there is a batch for each run, and no more
+abbrev pub AreEnough : List Plan → List Contents → Type 0
+AreEnough [] bs = bs ≡ []
+AreEnough (Run client first ∷ plans) [] = ⊥
+AreEnough (Run client first ∷ plans) (b ∷ bs) = AreEnough plans bs
+AreEnough (Full client last b ∷ plans) bs = AreEnough plans bs
+
+-- one plan's answer, and the batches that are left
+abbrev pub IsAnswer : Outcome → Plan → List Contents → ℕ × Reply → List Contents → Type 0
+IsAnswer o (Run client first) [] y left = ⊥
+IsAnswer o (Run client first) (b ∷ bs) y left = (y ≡ (client, run_with o first b)) × (left ≡ bs)
+IsAnswer o (Full client last b) bs y left = (y ≡ (client, full_with o last b)) × (left ≡ bs)
+
+abbrev pub HasBatch : Plan → List Contents → Type 0
+HasBatch (Run client first) [] = ⊥
+HasBatch (Run client first) (b ∷ bs) = ⊤
+HasBatch (Full client last b) bs = ⊤

@@ -1,0 +1,89 @@
+//! The end of an engine.
+
+ghost use Rattle.std.specs.Prelude.{◌≡◌, ◌≤◌, ◌+◌, ◌<◌, ℕ, List, [], ◌++◌, map, length, vec_len, vec_capacity};
+ghost use Rattle.group_engine.specs.Clients.{writer_in, seat_in};
+
+use crate::engine::{Client, Clients, Closed, GroupEngine};
+use crate::held::{Held, NoRight};
+use crate::numbering::take_first;
+use crate::requests::{Reply, Request};
+use log_writer::{LogWriter, written_by_calls};
+use mem_table::{Nodes, Parts};
+use table_calls::{Seats, Table};
+use wp_edge::Disk;
+use writer_list::Writer;
+
+/// Takes the clients apart.
+pub(crate) fn part_all<D: Disk, T: Table<Nodes, Parts>>(
+    clients: &mut Vec<Client<D, T>>,
+    writers: &mut Vec<Writer<Request, Reply, Held<D, T>, NoRight>>,
+    seats: &mut Vec<T::Seat>,
+)
+    requires empty { (writers.old.items ≡ []) × (seats.old.items ≡ []) }
+    requires room { (length clients.old.items ≤ vec_capacity writers.old)
+        × (length clients.old.items ≤ vec_capacity seats.old) }
+    ensures writers { writers.new.items ≡ map writer_in clients.old.items }
+    ensures seats { seats.new.items ≡ map seat_in clients.old.items }
+    ensures parted { clients.new.items ≡ [] }
+{
+    while let Some(client) = take_first(clients) {
+        let Client {
+            number: _,
+            start: _,
+            writer,
+            seat,
+            lists: _,
+            layout: _,
+        } = client;
+        writers.push_reserved(writer);
+        seats.push_reserved(seat);
+    }
+}
+
+impl<D: Disk, T: Table<Nodes, Parts>> GroupEngine<D, T> {
+    ghost use Rattle.wp_model.specs.Trace.{Trace};
+    ghost use Rattle.wp_model.specs.Groups.{Group};
+    ghost use Rattle.log_writer.specs.Words.{fault_of, disk_of};
+    ghost use Rattle.log_writer.specs.Written.{Wrote};
+    ghost use Rattle.account_model.specs.Closing.{AreOurs, all_attempts, IsClosing};
+    ghost use Rattle.account_model.specs.Written.{WritesLog};
+    ghost use Rattle.writer_list.specs.Seats.{clients_of};
+    ghost use Rattle.group_engine.specs.Clients.{IsClientOf, account_in, settings_of, opened_log, HasRoomToClose};
+
+    /// Gives the log up. All clients are handed in. Of all that they wrote and read there is one trace, and the log was
+    /// written by just the calls that wrote its history.
+    pub fn close(self, clients: Clients<D, T>) -> Closed<LogWriter<D>>
+        requires all { AreOurs (IsClientOf T.opening T.ours T.account self) (account_in T.opening T.ours T.account)
+            (clients_of self.list) clients.clients.items }
+        requires room { HasRoomToClose (clients_of self.list) clients }
+        ensures { let accounts = map (account_in T.opening T.ours T.account) clients.clients.items in
+            (trace : Trace) × (groups : List Group)
+            × IsClosing (settings_of T.opening T.ours T.account self) (D.faults (disk_of result.log)) trace groups
+            accounts result.last (fault_of result.log)
+            × WritesLog self.group_bytes (Wrote (opened_log self)) trace (all_attempts accounts) (fault_of result.log)
+            result.log }
+    {
+        let GroupEngine {
+            list,
+            table,
+            alloc: _,
+            group_bytes: _,
+            batch_bytes: _,
+        } = self;
+        let Clients {
+            mut clients,
+            mut writers,
+            mut seats,
+        } = clients;
+        part_all(&mut clients, &mut writers, &mut seats);
+        clients.destroy_empty();
+        let (held, NoRight) = list.close(writers);
+        let Held { log, turn, last } = held;
+        table.close(Seats {
+            turn,
+            clients: seats,
+        });
+        written_by_calls::<D>();
+        Closed { log, last }
+    }
+}

@@ -1,0 +1,24 @@
+//! A write path whose clients write in groups, over any published table and any disk. A write goes into a lock-free
+//! list of writers. The oldest writer leads: it takes the group of the grouping rule from the list, gives its members
+//! runs of sequences, writes their batches to the log as one record, and puts their versions into the table, which
+//! publishes them as one group. Then it answers each member, and gives the log on.
+//!
+//! - `specs/Handled`: requests that were handled, as commits of `group_rule`.
+//! - `specs/Numbering`: what a leader lays out while it gives runs.
+//! - `specs/Law`: what the things that a leader holds stand for.
+//! - `specs/Clients`: an engine and its clients, and a client's account.
+#![tactic(auto)]
+
+mod closing;
+mod engine;
+mod held;
+mod layout;
+mod leading;
+mod numbering;
+mod reading;
+mod requests;
+mod writing;
+
+pub use engine::{Client, Clients, Closed, GroupEngine};
+pub use held::{About, Held, NoRight};
+pub use requests::{Receipt, Refused, Reply, Request};

@@ -1,0 +1,226 @@
+//! How a leader gives its group runs, and answers it.
+
+ghost use Rattle.std.specs.Prelude.{◌≡◌, ◌≤◌, ◌+◌, ◌<◌, ◌^◌, ℕ, List, Err, [], ◌∷◌, ◌++◌, length, MatchOption, vec_len, vec_capacity};
+ghost use Rattle.wp_model.specs.History.{max_sequence};
+ghost use Rattle.table_rule.specs.declared.content.Version.{Version};
+ghost use Rattle.group_rule.specs.Plans.{last_with_all, last_with, versions_at, versions_from};
+ghost use Rattle.group_engine.specs.declared.requests.Request.{Request};
+ghost use Rattle.group_engine.specs.Handled.{commit_requests_of, replies_of, failures};
+ghost use Rattle.group_engine.specs.Numbering.{plan_at, plans_of, batch_at, batches_of, HasVersions, answers, AreEnough, IsAnswer, HasBatch, run_with, full_with};
+
+use crate::requests::{Receipt, Refused, Reply, Request};
+use mem_table::Parts;
+use wp_model::Refusal;
+use write_batch::{Batch, MAX_SEQUENCE};
+
+/// What becomes of a member's batch: it has a run, and stands among the batches that are written; or there is no room.
+#[derive(Drop)]
+pub(crate) enum Plan {
+    Run {
+        client: u32,
+        first: u64,
+    },
+    Full {
+        client: u32,
+        last: u64,
+        batch: Batch,
+    },
+}
+
+/// What became of a group: its batches were written, and the last sequence is this; or the log has this fault.
+#[derive(Clone, Copy)]
+pub(crate) enum Outcome {
+    Written { group_last: u64 },
+    Faulted { count: u64 },
+}
+
+/// Takes the first item out.
+pub(crate) fn take_first<X>(items: &mut Vec<X>) -> Option<X>
+    ensures first { MatchOption result ((items.old.items ≡ [])
+        × (items.new.items ≡ [])) (λ x. items.old.items ≡ x ∷ items.new.items) }
+    ensures room { vec_capacity items.new ≡ vec_capacity items.old }
+{
+    if items.is_empty() {
+        return None;
+    }
+    Some(items.remove(0))
+}
+
+/// Gives runs behind `last` to the requests whose runs fit, and answers the sequence given last then.
+pub(crate) fn number_all(
+    requests: &mut Vec<(u32, Request)>,
+    member: u32,
+    last: u64,
+    plans: &mut Vec<Plan>,
+    batches: &mut Vec<Batch>,
+    parts: &mut Parts,
+) -> u64
+    requires last { last ≤ max_sequence }
+    requires member { (1 ≤ member) × (member ≤ parts.old.clients) }
+    requires room { (length requests.old.items ≤ vec_capacity plans.old)
+        × (length requests.old.items ≤ vec_capacity batches.old) }
+    requires empty { (plans.old.items ≡ []) × (batches.old.items ≡ []) × (parts.old.parts ≡ []) }
+    ensures reached { result ≡ last_with_all last (commit_requests_of requests.old.items) }
+    ensures plans { plans.new.items ≡ plans_of last requests.old.items }
+    ensures batches { batches.new.items ≡ batches_of last requests.old.items }
+    ensures parts { HasVersions member (versions_from last (commit_requests_of requests.old.items)) parts.new.parts
+        × (parts.new.clients ≡ parts.old.clients) }
+    ensures taken { requests.new.items ≡ [] }
+    ensures room { (vec_capacity requests.new ≡ vec_capacity requests.old)
+        × (vec_capacity plans.new ≡ vec_capacity plans.old) × (vec_capacity batches.new ≡ vec_capacity batches.old) }
+{
+    let mut at = last;
+    while let Some((client, request)) = take_first(requests) {
+        at = number_one(client, request, member, at, plans, batches, parts);
+    }
+    at
+}
+
+/// Gives one request its run, if it fits.
+fn number_one(
+    client: u32,
+    request: Request,
+    member: u32,
+    last: u64,
+    plans: &mut Vec<Plan>,
+    batches: &mut Vec<Batch>,
+    parts: &mut Parts,
+) -> u64
+    requires last { last ≤ max_sequence }
+    requires member { (1 ≤ member) × (member ≤ parts.old.clients) }
+    requires room { (vec_len plans.old < vec_capacity plans.old) × (vec_len batches.old < vec_capacity batches.old) }
+    ensures reached { result ≡ last_with last request.batch.records }
+    ensures below { result ≤ max_sequence }
+    ensures plans { plans.new.items ≡ plans.old.items ++ plan_at last (client, request) ∷ [] }
+    ensures batches { batches.new.items ≡ batches.old.items ++ batch_at last request }
+    ensures parts { (vs : List Version) → HasVersions member vs parts.old.parts
+        → HasVersions member (vs ++ versions_at last request.batch.records) parts.new.parts }
+    ensures clients { parts.new.clients ≡ parts.old.clients }
+    ensures room { (vec_capacity plans.new ≡ vec_capacity plans.old)
+        × (vec_capacity batches.new ≡ vec_capacity batches.old) }
+{
+    let Request {
+        batch,
+        mut nodes,
+        options: _,
+    } = request;
+    let count = u64::from(batch.count());
+    if last + count > MAX_SEQUENCE {
+        plans.push_reserved(Plan::Full {
+            client,
+            last,
+            batch,
+        });
+        return last;
+    }
+    nodes.number(last + 1);
+    parts.add(member, nodes);
+    plans.push_reserved(Plan::Run {
+        client,
+        first: last + 1,
+    });
+    batches.push_reserved(batch);
+    last + count
+}
+
+/// Answers each member.
+pub(crate) fn answer_all(
+    outcome: Outcome,
+    plans: &mut Vec<Plan>,
+    batches: &mut Vec<Batch>,
+    replies: &mut Vec<(u32, Reply)>,
+)
+    requires enough { AreEnough plans.old.items batches.old.items }
+    requires room { length plans.old.items ≤ vec_capacity replies.old }
+    requires empty { replies.old.items ≡ [] }
+    ensures replies { replies.new.items ≡ answers outcome plans.old.items batches.old.items }
+    ensures taken { (plans.new.items ≡ []) × (batches.new.items ≡ []) }
+    ensures room { (vec_capacity plans.new ≡ vec_capacity plans.old)
+        × (vec_capacity batches.new ≡ vec_capacity batches.old)
+        × (vec_capacity replies.new ≡ vec_capacity replies.old) }
+{
+    while let Some(plan) = take_first(plans) {
+        replies.push_reserved(answer_one(outcome, plan, batches));
+    }
+}
+
+/// One member's answer.
+fn answer_one(outcome: Outcome, plan: Plan, batches: &mut Vec<Batch>) -> (u32, Reply)
+    requires { HasBatch plan batches.old.items }
+    ensures answer { IsAnswer outcome plan batches.old.items result batches.new.items }
+    ensures room { vec_capacity batches.new ≡ vec_capacity batches.old }
+{
+    match plan {
+        Plan::Run { client, first } => {
+            let Some(batch) = take_first(batches) else {
+                unreachable!()
+            };
+            (client, run_reply(outcome, first, batch))
+        }
+        Plan::Full {
+            client,
+            last,
+            batch,
+        } => (client, full_reply(outcome, last, batch)),
+    }
+}
+
+fn run_reply(outcome: Outcome, first: u64, mut batch: Batch) -> Reply
+    ensures { result ≡ run_with outcome first batch }
+{
+    match outcome {
+        Outcome::Written { group_last } => {
+            let count = batch.count();
+            batch.set_sequence(first);
+            Reply {
+                answer: Ok(Receipt {
+                    first,
+                    count,
+                    group_last,
+                    batch,
+                }),
+            }
+        }
+        Outcome::Faulted { count } => refusal(Refusal::LogFault { count }, batch),
+    }
+}
+
+fn full_reply(outcome: Outcome, last: u64, batch: Batch) -> Reply
+    ensures { result ≡ full_with outcome last batch }
+{
+    match outcome {
+        Outcome::Written { group_last: _ } => refusal(Refusal::SequenceFull { last }, batch),
+        Outcome::Faulted { count } => refusal(Refusal::LogFault { count }, batch),
+    }
+}
+
+fn refusal(why: Refusal, batch: Batch) -> Reply
+    ensures { result ≡ record { answer = Err (record { batch = batch; why = why }) } }
+{
+    Reply {
+        answer: Err(Refused { batch, why }),
+    }
+}
+
+/// Answers each member with the log's fault.
+pub(crate) fn refuse_all(
+    count: u64,
+    requests: &mut Vec<(u32, Request)>,
+    replies: &mut Vec<(u32, Reply)>,
+)
+    requires room { length requests.old.items ≤ vec_capacity replies.old }
+    requires empty { replies.old.items ≡ [] }
+    ensures replies { replies.new.items ≡ failures count requests.old.items }
+    ensures taken { requests.new.items ≡ [] }
+    ensures room { (vec_capacity requests.new ≡ vec_capacity requests.old)
+        × (vec_capacity replies.new ≡ vec_capacity replies.old) }
+{
+    while let Some((client, request)) = take_first(requests) {
+        let Request {
+            batch,
+            nodes: _,
+            options: _,
+        } = request;
+        replies.push_reserved((client, refusal(Refusal::LogFault { count }, batch)));
+    }
+}
