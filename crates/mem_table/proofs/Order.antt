@@ -23,6 +23,10 @@ module _ {X : Type 0} where
   all_back P [] m a = a
   all_back P (x ∷ l) m a = all_back P l m a.1
 
+  pub all_both : (P : X → Type 0) (l m : List X) → AllByRecursion P l → AllByRecursion P m → AllByRecursion P (l ++ m)
+  all_both P [] m a b = b
+  all_both P (x ∷ l) m a b = (a.0, all_both P l m a.1 b)
+
   pub all_mapped : (P Q : X → Type 0) → ((x : X) → P x → Q x) → (l : List X) → AllByRecursion P l → AllByRecursion Q l
   all_mapped P Q f [] a = tt
   all_mapped P Q f (x ∷ l) a = (f x a.0, all_mapped P Q f l a.1)
@@ -57,15 +61,9 @@ module _ {X : Type 0} (R : X → X → Ordering) where
   before_middle [] w r s = tt
   before_middle (x ∷ l) w r s = ((all_back (λ y. R x y ≡ Less) l (w ∷ r) s.0).0, before_middle l w r s.1)
 
-  pub insert_left : (k w : X) (l r : List X) → R k w ≡ Less → insert_key R (l ++ w ∷ r) k ≡ insert_key R l k ++ w ∷ r
-  insert_left k w [] r p = ap (λ o. match_ordering o (k ∷ w ∷ r) (w ∷ r) (w ∷ insert_key R r k)) p
-  insert_left k w (x ∷ l) r p =
-      elim (R k x) as (λ o. match_ordering o (k ∷ x ∷ (l ++ w ∷ r)) (x ∷ (l ++ w ∷ r)) (x ∷ insert_key R (l ++ w ∷ r) k)
-      ≡ match_ordering o (k ∷ x ∷ l) (x ∷ l) (x ∷ insert_key R l k) ++ w ∷ r) [
-        | Less ↦ refl
-        | Equal ↦ refl
-        | Greater ↦ ap (λ (t : List X). x ∷ t) (insert_left k w l r p)
-      ]
+  -- what is below all others is inserted before them
+  pub insert_first : (k x : X) (l : List X) → R k x ≡ Less → insert_key R (x ∷ l) k ≡ k ∷ x ∷ l
+  insert_first k x l p = ap (λ o. match_ordering o (k ∷ x ∷ l) (x ∷ l) (x ∷ insert_key R l k)) p
 
   module _ (o : IsTotalOrder R) where
     pub flip_less : (x y : X) → R x y ≡ Less → R y x ≡ Greater
@@ -77,12 +75,10 @@ module _ {X : Type 0} (R : X → X → Ordering) where
     insert_past : (k x : X) (l : List X) → R x k ≡ Less → insert_key R (x ∷ l) k ≡ x ∷ insert_key R l k
     insert_past k x l p = ap (λ c. match_ordering c (k ∷ x ∷ l) (x ∷ l) (x ∷ insert_key R l k)) (flip_less x k p)
 
-    pub insert_right : (k w : X) (l r : List X) → R w k ≡ Less → IsStrictlySortedBy R (l ++ w ∷ r) → insert_key R (l ++ w ∷ r) k ≡ l ++ w ∷ insert_key R r k
-    unfolding IsStrictlySortedBy
-    insert_right k w [] r p s = insert_past k w r p
-    insert_right k w (x ∷ l) r p s =
-        let below = o.trans x w k (before_middle (x ∷ l) w r s).0 p in
-        insert_past k x (l ++ w ∷ r) below ∙ ap (λ (t : List X). x ∷ t) (insert_right k w l r p s.1)
+    -- what is above those in front is inserted behind them
+    pub insert_behind : (k : X) (l r : List X) → AllByRecursion (λ y. R y k ≡ Less) l → insert_key R (l ++ r) k ≡ l ++ insert_key R r k
+    insert_behind k [] r a = refl
+    insert_behind k (x ∷ l) r a = insert_past k x (l ++ r) a.0 ∙ ap (λ (t : List X). x ∷ t) (insert_behind k l r a.1)
 
     inserted_here : (k x : X) (l : List X) (c : Ordering) → R k x ≡ c → IsStrictlySortedBy R (x ∷ l) → IsStrictlySortedBy R (insert_key R l k)
         → IsStrictlySortedBy R (match_ordering c (k ∷ x ∷ l) (x ∷ l) (x ∷ insert_key R l k))

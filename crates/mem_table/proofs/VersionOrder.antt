@@ -1,5 +1,6 @@
 -- The order of versions.
-use Rattle.std.proofs.Common.{◌≡◌, ◌≢◌, ◌⊎◌, ◌<◌, sym, refl, inl, inr}
+use Rattle.std.proofs.Common.{◌≡◌, ◌≢◌, ◌⊎◌, ℕ, ◌<◌, false, leb, List, [], ◌∷◌, sym, refl, inl, inr, arith}
+use Rattle.std.proofs.lemmas.Bool.Decides.{nat_tests}
 use Rattle.std.specs.declared.cmp.Ordering.{Ordering}
 use Rattle.std.specs.declared.cmp.Ordering.TheVariants.{Less, Equal, Greater}
 use Rattle.std.specs.Ordering.{ordering_then, nat_cmp}
@@ -31,3 +32,17 @@ before_cases v w p =
 
 pub key_le : (v w : Version) → version_order v w ≡ Less → byte_order v.key w.key ≢ Greater
 key_le v w p q = elim (before_cases v w p) [ inl less ↦ absurd (cc) | inr same ↦ let e = same.0 in absurd (cc) ]
+
+pub equal_keys : (a b : List ℕ) → byte_order a b ≡ Equal → a ≡ b
+equal_keys [] [] e = refl
+equal_keys [] (y ∷ b) e = absurd (cc)
+equal_keys (x ∷ a) [] e = absurd (cc)
+equal_keys (x ∷ a) (y ∷ b) e = go (nat_cmp x y) refl e (equal_keys a b)
+  where
+    go : (o : Ordering) → nat_cmp x y ≡ o → ordering_then o (byte_order a b) ≡ Equal → (byte_order a b ≡ Equal → a ≡ b) → x ∷ a ≡ y ∷ b
+    go Less p e rest = absurd (cc)
+    go Equal p e rest = let same = ranked x y Equal (sym p) in let others = rest e in cc
+    go Greater p e rest = absurd (cc)
+
+pub leb_above : (a b : ℕ) → b < a → leb a b ≡ false
+leb_above a b p = grind (arith, nat_tests)

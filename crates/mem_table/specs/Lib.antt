@@ -1,4 +1,5 @@
 pub mod Versions
+pub mod Chains
 pub mod Shapes
 pub mod ShapeCode
 pub mod Nodes

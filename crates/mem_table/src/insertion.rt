@@ -1,55 +1,101 @@
 //! How a node is inserted.
 
-ghost use Rattle.std.specs.Prelude.{◌≡◌, ◌+◌, ◌↔◌, IsTrue, if◌then◌else◌};
-ghost use Rattle.std.specs.declared.cmp.Ordering.TheVariants.{Less};
-ghost use Rattle.mem_table.specs.Versions.{version_order, AreOrdered, IsNew, insert_version};
-ghost use Rattle.mem_table.specs.Shapes.{height, versions_in, IsBalanced};
-ghost use Rattle.mem_table.specs.Nodes.{version_of};
+ghost use Rattle.std.specs.Prelude.{◌≡◌, ◌+◌, if◌then◌else◌};
+ghost use Rattle.wp_model.specs.Map.{byte_order};
+ghost use Rattle.mem_table.specs.Chains.{AreSorted, with_version, insert_in_chains};
+ghost use Rattle.mem_table.specs.Shapes.{height, chains_in, IsBalanced};
+ghost use Rattle.mem_table.specs.Nodes.{version_of, chain_of, shape_of, IsKept};
 
-use crate::node::{Balance, Node, Subtree};
+use crate::node::{Node, Subtree};
 use std::cmp::Ordering;
+use std::mem;
 
 impl Node {
-    /// Whether it stands before the other, by key and then the newer first.
-    fn precedes(&self, other: &Node) -> bool
-        ensures { IsTrue result ↔ (version_order (version_of self.now) (version_of other.now) ≡ Less) }
+    /// How its key stands to another's.
+    fn key_order(&self, other: &Node) -> Ordering
+        ensures { result ≡ byte_order self.now.key other.now.key }
     {
-        match self.key.as_slice().cmp(other.key.as_slice()) {
-            Ordering::Less => true,
-            Ordering::Equal => self.sequence > other.sequence,
-            Ordering::Greater => false,
+        self.key.as_slice().cmp(other.key.as_slice())
+    }
+
+    /// Puts another version of its key into its chain. A newer one changes places with the newest, so that the tree
+    /// isn't touched.
+    fn add_version(&mut self, mut other: Box<Node>)
+        requires { other.value.key ≡ self.old.key }
+        ensures chain { chain_of self.new ≡ with_version (chain_of self.old) (version_of other.value) }
+        ensures left { self.new.left ≡ self.old.left }
+        ensures right { self.new.right ≡ self.old.right }
+        ensures balance { self.new.balance ≡ self.old.balance }
+    {
+        if other.sequence <= self.sequence {
+            self.next.insert_older(other);
+        } else {
+            mem::swap(&mut self.value, &mut other.value);
+            mem::swap(&mut self.sequence, &mut other.sequence);
+            self.next.push_front(other);
         }
+    }
+}
+
+impl Node {
+    /// Inserts a node on its left side, and says whether that is higher now.
+    #[cycle(insertion)]
+    fn insert_left(&mut self, node: Box<Node>) -> bool
+        requires { AreSorted (chains_in self.old.left) }
+        ensures left { chains_in self.new.left ≡ insert_in_chains (chains_in self.old.left) (version_of node.value) }
+        ensures balanced { IsBalanced self.new.left }
+        ensures height { height self.new.left ≡ height self.old.left + (if result then 1 else 0) }
+        ensures others { self.new ≡ record self.old { left = self.new.left } }
+    {
+        self.left.insert(node)
+    }
+
+    /// The same on its right side.
+    #[cycle(insertion)]
+    fn insert_right(&mut self, node: Box<Node>) -> bool
+        requires { AreSorted (chains_in self.old.right) }
+        ensures right { chains_in self.new.right ≡ insert_in_chains (chains_in self.old.right) (version_of node.value) }
+        ensures balanced { IsBalanced self.new.right }
+        ensures height { height self.new.right ≡ height self.old.right + (if result then 1 else 0) }
+        ensures others { self.new ≡ record self.old { right = self.new.right } }
+    {
+        self.right.insert(node)
     }
 }
 
 impl Subtree {
     /// Inserts a node, and says whether the tree is higher now.
+    #[cycle(insertion)]
     pub(crate) fn insert(&mut self, node: Box<Node>) -> bool
-        requires ordered { AreOrdered (versions_in self.old) }
-        requires new { IsNew (version_of node.value) (versions_in self.old) }
-        ensures versions { versions_in self.new ≡ insert_version (versions_in self.old) (version_of node.value) }
+        requires { AreSorted (chains_in self.old) }
+        ensures chains { chains_in self.new ≡ insert_in_chains (chains_in self.old) (version_of node.value) }
         ensures balanced { IsBalanced self.new }
         ensures height { height self.new ≡ height self.old + (if result then 1 else 0) }
     {
-        let Some(mut root) = self.root.take() else {
-            *self = Subtree::join(Subtree::new(), node, Subtree::new(), Balance::Even);
+        Subtree::insert_below(&mut self.root, node)
+    }
+
+    /// The same below a root.
+    #[cycle(insertion)]
+    fn insert_below(root: &mut Option<Box<Node>>, node: Box<Node>) -> bool
+        requires kept { IsKept root.old }
+        requires sorted { AreSorted (chains_in (shape_of root.old)) }
+        ensures kept { IsKept root.new }
+        ensures chains { chains_in (shape_of root.new)
+            ≡ insert_in_chains (chains_in (shape_of root.old)) (version_of node.value) }
+        ensures height { height (shape_of root.new) ≡ height (shape_of root.old) + (if result then 1 else 0) }
+    {
+        let Some(top) = root else {
+            *root = Subtree::single(node).root;
             return true;
         };
-        let mut left = root.left.take();
-        let mut right = root.right.take();
-        let balance = root.balance;
-        let (tree, grew) = if node.precedes(&root) {
-            if left.insert(node) {
-                Subtree::left_grown(left, root, right)
-            } else {
-                (Subtree::join(left, root, right, balance), false)
+        match node.key_order(top) {
+            Ordering::Less => top.insert_left(node) && Subtree::left_grown(root),
+            Ordering::Equal => {
+                top.add_version(node);
+                false
             }
-        } else if right.insert(node) {
-            Subtree::right_grown(left, root, right)
-        } else {
-            (Subtree::join(left, root, right, balance), false)
-        };
-        *self = tree;
-        grew
+            Ordering::Greater => top.insert_right(node) && Subtree::right_grown(root),
+        }
     }
 }

@@ -1,37 +1,66 @@
 //! How a key is looked up at a sequence.
 
 ghost use Rattle.std.specs.Prelude.{◌≡◌};
-ghost use Rattle.std.specs.Option.{option_copied};
-ghost use Rattle.mem_table.specs.Versions.{AreOrdered};
-ghost use Rattle.mem_table.specs.Shapes.{versions_in};
-ghost use Rattle.mem_table.specs.Newest.{newest};
+ghost use Rattle.std.specs.Option.{option_copied, option_map};
+ghost use Rattle.mem_table.specs.Chains.{AreKeyed, AreSorted, chain_versions};
+ghost use Rattle.mem_table.specs.Shapes.{chains_in, versions_in};
+ghost use Rattle.mem_table.specs.Nodes.{chain_of};
+ghost use Rattle.mem_table.specs.Newest.{newest, first_up_to, chain_at};
 
-use crate::node::Subtree;
+use crate::node::{Node, Nodes, Subtree};
 use std::cmp::Ordering;
 use wp_coding::Bytes;
 
 impl Subtree {
     /// What the newest version of a key up to a sequence says, if there is one.
     pub(crate) fn newest(&self, key: &[u8], at: u64) -> Option<&Option<Bytes>>
-        requires { AreOrdered (versions_in self.now) }
+        requires { AreKeyed (chains_in self.now) }
         ensures { option_copied result ≡ newest key.now at (versions_in self.now) }
     {
+        self.find(key)?.said_at(at)
+    }
+
+    /// The node of a key, if there is one.
+    fn find(&self, key: &[u8]) -> Option<&Node>
+        requires { AreSorted (chains_in self.now) }
+        ensures { option_map chain_of (option_copied result) ≡ chain_at key.now (chains_in self.now) }
+    {
         let mut below = self;
-        let mut found = None;
         while let Some(node) = &below.root {
             match key.cmp(node.key.as_slice()) {
                 Ordering::Less => below = &node.left,
+                Ordering::Equal => return Some(node),
                 Ordering::Greater => below = &node.right,
-                Ordering::Equal => {
-                    if node.sequence <= at {
-                        found = Some(&node.value);
-                        below = &node.left;
-                    } else {
-                        below = &node.right;
-                    }
-                }
             }
         }
-        found
+        None
+    }
+}
+
+impl Node {
+    /// What the newest version in its chain up to a sequence says, if there is one.
+    pub(crate) fn said_at(&self, at: u64) -> Option<&Option<Bytes>>
+        ensures { option_copied result ≡ first_up_to at (chain_versions (chain_of self.now)) }
+    {
+        if self.sequence <= at {
+            return Some(&self.value);
+        }
+        self.next.said_at(at)
+    }
+}
+
+impl Nodes {
+    /// The same of the first of these that isn't above the sequence.
+    fn said_at(&self, at: u64) -> Option<&Option<Bytes>>
+        ensures { option_copied result ≡ first_up_to at self.now }
+    {
+        let mut rest = self;
+        while let Some(node) = &rest.first {
+            if node.sequence <= at {
+                return Some(&node.value);
+            }
+            rest = &node.next;
+        }
+        None
     }
 }

@@ -2,7 +2,8 @@
 
 ghost use Rattle.std.specs.Prelude.{◌≡◌};
 ghost use Rattle.mem_table.specs.Shapes.{leaf, fork, height, IsBalanced};
-ghost use Rattle.mem_table.specs.Nodes.{version_of, HasBalance};
+ghost use Rattle.mem_table.specs.Nodes.{version_of, chain_of, HasBalance};
+ghost use Rattle.mem_table.specs.Chains.{alone};
 
 use std::marker::Model;
 use std::mem;
@@ -18,8 +19,7 @@ pub(crate) enum Balance {
 
 /// A version of a key: the value that it gets, or none where it is deleted, and the sequence.
 ///
-/// It has the links of the tree and of a chain in it, so that it is inserted and put behind others without
-/// memory.
+/// It has the links of the tree and of a list in it, so that it is inserted and put behind others without memory.
 #[cycle(tree)]
 #[derive(Drop)]
 pub struct Node {
@@ -29,11 +29,12 @@ pub struct Node {
     pub(crate) balance: Balance,
     pub(crate) left: Subtree,
     pub(crate) right: Subtree,
-    /// Those behind it, while it stands among the nodes of a batch.
+    /// Those behind it: the older versions of its key in a tree, or what comes after it in a list.
     pub(crate) next: Nodes,
 }
 
-/// A balanced tree of nodes. Contracts see its shape.
+/// A balanced tree of keys: a node has the newest version of its key, and the older ones behind it. Contracts see its
+/// shape.
 #[cycle(tree)]
 #[derive(Drop)]
 pub(crate) struct Subtree {
@@ -49,21 +50,20 @@ impl Model for Subtree {
     ghost coded = { shape_code };
 
     ghost use Rattle.mem_table.specs.Nodes.{shape_of, IsKept};
-    ghost use Rattle.std.specs.Prelude.{length};
-    ghost use Rattle.mem_table.specs.Shapes.{versions_in};
+    ghost use Rattle.mem_table.specs.Shapes.{count};
 
     ghost view = { λ t. shape_of t.root };
 
     ghost invariant = { λ t. IsKept t.root };
 
-    ghost size = { λ s. length (versions_in s) };
+    ghost size = { count };
 
-    ghost use Rattle.std.proofs.Common.{arith, length-append};
+    ghost use Rattle.std.proofs.Common.{arith};
 
-    ghost size_decreases = { λ t h. Prim.grind (arith, length-append) };
+    ghost size_decreases = { λ t h. Prim.grind arith };
 }
 
-/// Nodes in a chain, as a batch makes them. Contracts see their versions in order.
+/// Nodes in a list, as a batch makes them, or of the older versions of a key. Contracts see their versions in order.
 #[cycle(tree)]
 pub struct Nodes {
     pub(crate) first: Option<Box<Node>>,
@@ -78,11 +78,11 @@ impl Model for Nodes {
 
     ghost coded = { versions_code };
 
-    ghost use Rattle.mem_table.specs.Nodes.{chain_of, IsChain};
+    ghost use Rattle.mem_table.specs.Nodes.{versions_from, IsListed};
 
-    ghost view = { λ n. chain_of n.first };
+    ghost view = { λ n. versions_from n.first };
 
-    ghost invariant = { λ n. IsChain n.first };
+    ghost invariant = { λ n. IsListed n.first };
 
     ghost size = { length };
 
@@ -92,7 +92,7 @@ impl Model for Nodes {
 }
 
 impl Drop for Nodes {
-    // One after another, since a chain may be long.
+    // One after another, since a list may be long.
     #[cycle(drop)]
     fn drop(mut self) {
         loop {
@@ -119,7 +119,18 @@ impl Subtree {
         mem::replace(self, Subtree::new())
     }
 
-    /// The tree of a node over two others, whose balance is told.
+    /// The tree of a node alone, as the only version of its key.
+    pub(crate) fn single(mut node: Box<Node>) -> Subtree
+        ensures { result ≡ fork leaf (alone (version_of node.value)) leaf }
+    {
+        node.balance = Balance::Even;
+        node.left = Subtree::new();
+        node.right = Subtree::new();
+        node.next = Nodes { first: None };
+        Subtree { root: Some(node) }
+    }
+
+    /// The tree of a node with its chain over two others, whose balance is told.
     pub(crate) fn join(
         left: Subtree,
         mut node: Box<Node>,
@@ -127,13 +138,12 @@ impl Subtree {
         balance: Balance,
     ) -> Subtree
         requires { HasBalance balance (height left) (height right) }
-        ensures { result ≡ fork left (version_of node.value) right }
+        ensures { result ≡ fork left (chain_of node.value) right }
     {
         let (_, _) = (&left.root, &right.root);
         node.balance = balance;
         node.left = left;
         node.right = right;
-        node.next = Nodes { first: None };
         Subtree { root: Some(node) }
     }
 }

@@ -5,6 +5,8 @@ ghost use Rattle.std.specs.Option.{option_copied, option_map, option_to_list};
 ghost use Rattle.write_batch.specs.View.{record_of};
 ghost use Rattle.mem_table.specs.Nodes.{version_of};
 ghost use Rattle.mem_table.specs.Batches.{made, numbered};
+ghost use Rattle.table_rule.specs.declared.content.Version.{Version};
+ghost use Rattle.mem_table.specs.Chains.{insert_older};
 
 use crate::node::{Balance, Node, Nodes, Subtree};
 use std::alloc::Global;
@@ -85,8 +87,35 @@ impl Nodes {
         Nodes { first: None }
     }
 
+    /// Puts a node behind those that are newer.
+    pub(crate) fn insert_older(&mut self, node: Box<Node>)
+        ensures { self.new ≡ insert_older self.old (version_of node.value) }
+    {
+        let mut newer = self.take_newer(node.sequence);
+        self.push_front(node);
+        while let Some(node) = newer.pop() {
+            self.push_front(node);
+        }
+    }
+
+    /// Takes out those in front that are newer than a sequence, and answers them with the last first.
+    fn take_newer(&mut self, sequence: u64) -> Nodes
+        ensures { (v : Version) → v.sequence ≡ sequence
+            → reverse result ++ v ∷ self.new ≡ insert_older self.old v }
+    {
+        let mut newer = Nodes::new();
+        while let Some(node) = self.pop() {
+            if node.sequence <= sequence {
+                self.push_front(node);
+                return newer;
+            }
+            newer.push_front(node);
+        }
+        newer
+    }
+
     /// Puts a node before them.
-    fn push_front(&mut self, mut node: Box<Node>)
+    pub(crate) fn push_front(&mut self, mut node: Box<Node>)
         ensures { self.new ≡ version_of node.value ∷ self.old }
     {
         node.left = Subtree::new();

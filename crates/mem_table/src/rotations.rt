@@ -1,36 +1,78 @@
 //! How a tree is balanced after one side grew by one.
 
 ghost use Rattle.std.specs.Prelude.{◌≡◌, ◌+◌, ◌-◌, ◌≤◌, ◌∷◌, ◌++◌, max, if◌then◌else◌};
-ghost use Rattle.mem_table.specs.Shapes.{height, versions_in};
-ghost use Rattle.mem_table.specs.Nodes.{version_of, HasBalance};
+ghost use Rattle.mem_table.specs.Shapes.{height, chains_in};
+ghost use Rattle.mem_table.specs.Nodes.{
+  chain_of,
+  shape_of,
+  IsKept,
+  HasLeftGrown,
+  HasRightGrown,
+  height_before_left,
+  height_before_right,
+};
 
 use crate::node::{Balance, Node, Subtree};
 
 impl Subtree {
-    /// A node over two trees, of which the left one grew by one since the node's balance was told, and
-    /// whether the whole is higher than it was.
-    pub(crate) fn left_grown(left: Subtree, node: Box<Node>, right: Subtree) -> (Subtree, bool)
-        requires { HasBalance node.value.balance (height left - 1) (height right) × (1 ≤ height left) }
-        ensures versions { versions_in result.0 ≡ versions_in left ++ version_of node.value ∷ versions_in right }
-        ensures height { height result.0 ≡ max (height left - 1) (height right) + 1 + (if result.1 then 1 else 0) }
+    /// Tells a root's balance anew, or turns the tree, after its left side grew by one. The answer is whether the whole
+    /// is higher than before.
+    pub(crate) fn left_grown(root: &mut Option<Box<Node>>) -> bool
+        requires { HasLeftGrown root.old }
+        ensures kept { IsKept root.new }
+        ensures chains { chains_in (shape_of root.new) ≡ chains_in (shape_of root.old) }
+        ensures height { height (shape_of root.new) ≡ height_before_left root.old + (if result then 1 else 0) }
     {
+        let Some(node) = root else { unreachable!() };
         match node.balance {
-            Balance::Right => (Subtree::join(left, node, right, Balance::Even), false),
-            Balance::Even => (Subtree::join(left, node, right, Balance::Left), true),
-            Balance::Left => Subtree::turn_right(left, node, right),
+            Balance::Right => {
+                node.balance = Balance::Even;
+                false
+            }
+            Balance::Even => {
+                node.balance = Balance::Left;
+                true
+            }
+            Balance::Left => {
+                let Some(mut node) = root.take() else {
+                    unreachable!()
+                };
+                let left = node.left.take();
+                let right = node.right.take();
+                let (tree, higher) = Subtree::turn_right(left, node, right);
+                *root = tree.root;
+                higher
+            }
         }
     }
 
-    /// The same where the right one grew.
-    pub(crate) fn right_grown(left: Subtree, node: Box<Node>, right: Subtree) -> (Subtree, bool)
-        requires { HasBalance node.value.balance (height left) (height right - 1) × (1 ≤ height right) }
-        ensures versions { versions_in result.0 ≡ versions_in left ++ version_of node.value ∷ versions_in right }
-        ensures height { height result.0 ≡ max (height left) (height right - 1) + 1 + (if result.1 then 1 else 0) }
+    /// The same after its right side grew.
+    pub(crate) fn right_grown(root: &mut Option<Box<Node>>) -> bool
+        requires { HasRightGrown root.old }
+        ensures kept { IsKept root.new }
+        ensures chains { chains_in (shape_of root.new) ≡ chains_in (shape_of root.old) }
+        ensures height { height (shape_of root.new) ≡ height_before_right root.old + (if result then 1 else 0) }
     {
+        let Some(node) = root else { unreachable!() };
         match node.balance {
-            Balance::Left => (Subtree::join(left, node, right, Balance::Even), false),
-            Balance::Even => (Subtree::join(left, node, right, Balance::Right), true),
-            Balance::Right => Subtree::turn_left(left, node, right),
+            Balance::Left => {
+                node.balance = Balance::Even;
+                false
+            }
+            Balance::Even => {
+                node.balance = Balance::Right;
+                true
+            }
+            Balance::Right => {
+                let Some(mut node) = root.take() else {
+                    unreachable!()
+                };
+                let left = node.left.take();
+                let right = node.right.take();
+                let (tree, higher) = Subtree::turn_left(left, node, right);
+                *root = tree.root;
+                higher
+            }
         }
     }
 
@@ -38,7 +80,7 @@ impl Subtree {
     /// that one.
     fn turn_right(left: Subtree, node: Box<Node>, right: Subtree) -> (Subtree, bool)
         requires { height left ≡ height right + 2 }
-        ensures versions { versions_in result.0 ≡ versions_in left ++ version_of node.value ∷ versions_in right }
+        ensures chains { chains_in result.0 ≡ chains_in left ++ chain_of node.value ∷ chains_in right }
         ensures height { height result.0 ≡ height left + (if result.1 then 1 else 0) }
     {
         let Some(mut top) = left.root else {
@@ -62,7 +104,7 @@ impl Subtree {
     /// The same where the right one is two higher.
     fn turn_left(left: Subtree, node: Box<Node>, right: Subtree) -> (Subtree, bool)
         requires { height right ≡ height left + 2 }
-        ensures versions { versions_in result.0 ≡ versions_in left ++ version_of node.value ∷ versions_in right }
+        ensures chains { chains_in result.0 ≡ chains_in left ++ chain_of node.value ∷ chains_in right }
         ensures height { height result.0 ≡ height right + (if result.1 then 1 else 0) }
     {
         let Some(mut top) = right.root else {
@@ -93,8 +135,8 @@ impl Subtree {
         right: Subtree,
     ) -> Subtree
         requires { (height middle ≡ height left + 1) × (height right ≡ height left) }
-        ensures versions { versions_in result ≡ versions_in left ++ version_of lower.value ∷ versions_in middle
-            ++ version_of upper.value ∷ versions_in right }
+        ensures chains { chains_in result ≡ chains_in left ++ chain_of lower.value ∷ chains_in middle
+            ++ chain_of upper.value ∷ chains_in right }
         ensures height { height result ≡ height left + 2 }
     {
         let Some(mut top) = middle.root else {

@@ -6,7 +6,8 @@ ghost use Rattle.wp_model.specs.Map.{value_at, rows_within};
 ghost use Rattle.table_rule.specs.declared.content.Version.{Version};
 ghost use Rattle.table_rule.specs.Histories.{IsOrderUpTo, map_of};
 ghost use Rattle.mem_table.specs.Versions.{IsNew, insert_version, AreOrdered};
-ghost use Rattle.mem_table.specs.Shapes.{leaf, versions_in, IsBalanced};
+ghost use Rattle.mem_table.specs.Shapes.{leaf, chains_in, versions_in, IsBalanced};
+ghost use Rattle.mem_table.specs.Chains.{AreKeyed};
 ghost use Rattle.mem_table.specs.Nodes.{version_of};
 
 use crate::node::{Node, Subtree};
@@ -16,16 +17,18 @@ use std::marker::Model;
 use wp_coding::{PairList, Rows};
 use wp_model::NoMemory;
 
-/// Versions of keys, by key and then the newer first, in a balanced tree. Contracts see its shape.
+/// Versions of keys, by key and then the newer first, in a balanced tree with one node for each key. Contracts see its
+/// shape.
 #[derive(Drop)]
 pub struct Tree {
     pub(crate) root: Subtree,
 }
 
 impl Model for Tree {
-    ghost use Rattle.mem_table.specs.Shapes.{Shape, versions_in};
+    ghost use Rattle.mem_table.specs.Shapes.{Shape, chains_in, versions_in};
     ghost use Rattle.mem_table.specs.ShapeCode.{shape_code};
     ghost use Rattle.mem_table.specs.Versions.{AreOrdered};
+    ghost use Rattle.mem_table.specs.Chains.{AreKeyed};
 
     ghost Value = { Shape };
 
@@ -33,7 +36,7 @@ impl Model for Tree {
 
     ghost view = { λ t. t.root };
 
-    ghost invariant = { λ t. AreOrdered (versions_in t.root) };
+    ghost invariant = { λ t. AreOrdered (versions_in t.root) × AreKeyed (chains_in t.root) };
 }
 
 impl Tree {
@@ -51,6 +54,7 @@ impl Tree {
         requires { IsNew (version_of node.value) (versions_in self.old) }
         ensures versions { versions_in self.new ≡ insert_version (versions_in self.old) (version_of node.value) }
         ensures ordered { AreOrdered (versions_in self.new) }
+        ensures keyed { AreKeyed (chains_in self.new) }
         ensures balanced { IsBalanced self.new }
     {
         self.root.insert(node);
@@ -77,8 +81,7 @@ impl Tree {
             → rows.rows ≡ rows_within lo.now hi.now (map_of history)) }
     {
         let mut rows = PairList::new(alloc);
-        self.root
-            .gather(alloc, Range { lo, hi, at }, None, &mut rows)?;
+        self.root.gather(alloc, Range { lo, hi, at }, &mut rows)?;
         Ok(Rows { at, rows })
     }
 }

@@ -8,16 +8,16 @@ use Rattle.mem_table.proofs.tree.Tree.lookup.Goals as goal
 pub returns-in-Some-Some : goal.returns-in-Some-Some
 returns-in-Some-Some c history h =
     let found : Some (Some c.as_slice.result.now) ≡ newest c.args.key.now c.args.at (versions_in c.self.inside.root) = search rules in
-    tree_value c.args.key.now c.args.at c.args.self.now c.self.inside.root history c.self.view_is c.self.invariant h _ found
+    tree_value c.args.key.now c.args.at c.args.self.now c.self.inside.root history c.self.view_is c.self.invariant.0 h _ found
 
 pub returns-in-Some-None : goal.returns-in-Some-None
 returns-in-Some-None c history h =
     let none : Option (List ℕ) = None in
     let found : Some none ≡ newest c.args.key.now c.args.at (versions_in c.self.inside.root) = search rules in
-    tree_value c.args.key.now c.args.at c.args.self.now c.self.inside.root history c.self.view_is c.self.invariant h _ found
+    tree_value c.args.key.now c.args.at c.args.self.now c.self.inside.root history c.self.view_is c.self.invariant.0 h _ found
 
 pub returns-in-None : goal.returns-in-None
 returns-in-None c history h =
     let none : Option (Option (List ℕ)) = None in
     let found : none ≡ newest c.args.key.now c.args.at (versions_in c.self.inside.root) = search rules in
-    tree_value c.args.key.now c.args.at c.args.self.now c.self.inside.root history c.self.view_is c.self.invariant h _ found
+    tree_value c.args.key.now c.args.at c.args.self.now c.self.inside.root history c.self.view_is c.self.invariant.0 h _ found
