@@ -1,0 +1,10 @@
+pub mod Account
+pub mod Asked
+pub mod Closings
+pub mod Histories
+pub mod Moves
+pub mod Places
+pub mod Steps
+pub mod Tellings
+pub mod Totals
+pub mod Unchanged

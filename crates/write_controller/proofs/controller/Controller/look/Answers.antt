@@ -1,0 +1,32 @@
+use Rattle.std.proofs.Common.{rules, Some, sym, ◌∙◌, subst}
+use Rattle.crossbeam_utils.specs.Seq.{cell_view}
+use Rattle.wp_model.specs.Controller.{look}
+use Rattle.write_controller.specs.Rule.{seen_in, history_of}
+use Rattle.write_controller.specs.Passes.{client_of, seen_by, EndsWith}
+use Rattle.write_controller.proofs.Moves.{looks_turn}
+use Rattle.write_controller.proofs.Tellings.{made_client, made_view, made_stop, made_slow, made_ends}
+use Rattle.write_controller.proofs.controller.Controller.look.Goals as goal
+
+pub load_as-found-requires : goal.load_as-found-requires
+load_as-found-requires g c =
+    let own = c.requires.own in
+    (search rules, (search rules, (own.cell, looks_turn _ _ _ _ own.view)))
+
+pub returns-clause-own : goal.returns-clause-own
+returns-clause-own g c =
+    let own = c.requires.own in
+    let told = c.load_as-found.ensures in
+    let made = told.rule in (
+      record {
+        cell = told.cell.0 ∙ own.cell;
+        view = made_view _ _ _ _ made;
+        stopping = own.stopping ∙ sym (made_stop _ _ _ _ made);
+        slowing = own.slowing ∙ sym (made_slow _ _ _ _ made);
+      },
+      made_client _ _ _ _ made,
+    )
+
+pub returns-clause-asked : goal.returns-clause-asked
+returns-clause-asked g c =
+    let seen = c.args.pass.now in
+    subst (λ l. EndsWith (client_of seen) (seen_by seen) look (Some l) (history_of (seen_in (cell_view c.load_as-found.new.pass)))) (sym c.new.ensures) (made_ends _ _ _ _ c.load_as-found.ensures.rule)

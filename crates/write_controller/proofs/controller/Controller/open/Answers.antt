@@ -1,0 +1,61 @@
+use Rattle.std.proofs.Common.{◌≡◌, ◌+◌, false, List, [], ◌∷◌, length, length-append, Some, rules, arith, refl, sym, ap, ◌∙◌, subst, ⊎_elim}
+use Rattle.wp_model.specs.Tokens.{tokens_of, holds_stop, holds_slow}
+use Rattle.std.specs.Prelude.{slice_get}
+use Rattle.crossbeam_utils.specs.Seq.{cell_view}
+use Rattle.write_controller.specs.declared.pass.Pass.{Pass}
+use Rattle.write_controller.specs.Rule.{client_view, others, next_client, fewer_others, client_in, seen_in, history_of}
+use Rattle.write_controller.proofs.Totals.{get_snoc, get_none}
+use Rattle.write_controller.proofs.Moves.{cuts}
+use Rattle.write_controller.proofs.Tellings.{client_view_is}
+use Rattle.write_controller.proofs.controller.Controller.open.Goals as goal
+
+pub loop-known-init : goal.loop-known-init
+loop-known-init g c =
+    let empty = c.in_ok-passes.ensures.items in
+    (ap length empty, c.in_ok-cell.ensures.0, c.in_ok-cell.ensures.1, λ i p e. absurd (get_none _ p i empty e))
+
+pub split_pass-seat-requires : goal.split_pass-seat-requires
+split_pass-seat-requires g c =
+    let i = c.loop-known.invariant in
+    (search rules, (search rules, (i.1, cuts _ c.loop-known._known (omega (arith, c.loop-known-test.true, c.requires.clients.1)) _ i.2)))
+
+pub loop-known-preserved : goal.loop-known-preserved
+loop-known-preserved g c =
+    let i = c.loop-known.invariant in
+    let items = c.in_ok-push.ensures.items in
+    let cut = c.split_pass-seat.ensures in
+    let passes : List Pass = c.loop-known.passes.items in
+    let pushed : Pass = record { seat = c.split_pass-seat.result; stopping = false; slowing = false } in (
+      ap length items ∙ length-append passes (pushed ∷ []) ∙ ap (λ n. n + 1) i.0,
+      cut.kept.0.0 ∙ i.1,
+      cut.kept.1 ∙ ap fewer_others i.2,
+      λ j p e. ⊎_elim
+          (λ (was : slice_get passes j ≡ Some p). i.3 j p was)
+          (λ (t : (j ≡ length passes) × (pushed ≡ p)).
+          subst (λ (r : Pass). (r.seat.table_id ≡ c.in_ok-cell.cell.table.shared.table_id) × (cell_view r.seat ≡ client_view (j + 1) []) × (r.stopping ≡ false) × (r.slowing ≡ false)) t.1
+          (cut.given.0 ∙ i.1, cut.given.1 ∙ ap next_client i.2 ∙ ap (λ n. client_view (n + 1) []) (sym (t.0 ∙ i.0)), refl, refl))
+          (get_snoc passes pushed p j (subst (λ l. slice_get l j ≡ Some p) items e)),
+    )
+
+pub returns : goal.returns
+returns g c =
+    let i = c.loop-known.invariant in
+    let all : c.loop-known._known ≡ c.args.clients = omega (arith, c.loop-known.auto._known-end, c.loop-known-test.false) in
+    record {
+      new = record {
+        opened_for = refl;
+        number = i.0 ∙ all;
+        each = λ j p e.
+            let own = i.3 j p e in (
+              record {
+                cell = own.0;
+                view = client_view_is (cell_view p.seat) (j + 1) [] own.1;
+                stopping = own.2 ∙ sym (ap (λ v. holds_stop (tokens_of (client_in v) (history_of (seen_in v)))) own.1);
+                slowing = own.3 ∙ sym (ap (λ v. holds_slow (tokens_of (client_in v) (history_of (seen_in v)))) own.1);
+              },
+              ap client_in own.1,
+              ap (λ v. history_of (seen_in v)) own.1,
+            );
+        others_are = record { cell = i.1; view = i.2 ∙ ap others all };
+      };
+    }

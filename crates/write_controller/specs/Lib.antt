@@ -1,0 +1,5 @@
+pub mod Delays
+pub mod Looks
+pub mod Numbers
+pub mod Passes
+pub mod Rule

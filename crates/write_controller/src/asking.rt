@@ -1,0 +1,65 @@
+//! The calls of who writes, and how what one pass has seen comes to another.
+
+ghost use Rattle.std.specs.Prelude.{◌≡◌, ℕ, Some, IfSome};
+ghost use mathlib.Core.List.{IsPrefix};
+ghost use Rattle.wp_model.specs.Controller.{delay, look};
+ghost use Rattle.write_controller.specs.Looks.{look_of};
+ghost use Rattle.write_controller.specs.Passes.{client_of, seen_by, noted, IsPassOf, IsNoteOf, GoesOn, EndsWith};
+
+use crate::controller::Controller;
+use crate::look::Look;
+use crate::numbers::Action;
+use crate::pass::{Note, Pass};
+use crate::rule::{Copied, Looking, Moved, Sight};
+use std::sync::Wait;
+use wp_edge::Clock;
+
+impl<C: Clock> Controller<C> {
+    /// Asks how long a group of so many bytes has to wait. The clock is asked once for its moment, before the call.
+    pub fn delay<R: Wait>(&self, rt: &R, pass: &mut Pass, clock: &mut C, bytes: u64) -> Look
+        requires own { IsPassOf self.now pass.old }
+        ensures own { IsPassOf self.now pass.new × (client_of pass.new ≡ client_of pass.old) }
+        ensures asked { (now : ℕ) × IfSome (C.last clock.new) (λ moment. moment ≡ now)
+            × EndsWith (client_of pass.old) (seen_by pass.old) (delay now bytes) (Some (look_of result))
+            (seen_by pass.new) }
+    {
+        let now = clock.now();
+        self.call(rt, &mut pass.seat, Action::Delay { now, bytes })
+    }
+
+    /// Reads how many clients stop and slow writes.
+    pub fn look<R: Wait>(&self, rt: &R, pass: &mut Pass) -> Look
+        requires own { IsPassOf self.now pass.old }
+        ensures own { IsPassOf self.now pass.new × (client_of pass.new ≡ client_of pass.old) }
+        ensures asked { EndsWith (client_of pass.old) (seen_by pass.old) look (Some (look_of result))
+            (seen_by pass.new) }
+    {
+        let found = self.cell.load_as::<Looking, R>(rt, &mut pass.seat);
+        Look::new(found.stops, found.delays, 0)
+    }
+
+    /// What the pass has seen, to be taken to another client's pass. It is no call, and the pass itself stays.
+    pub fn note(&self, pass: &mut Pass) -> Note
+        requires own { IsPassOf self.now pass.old }
+        ensures own { IsPassOf self.now pass.new × (client_of pass.new ≡ client_of pass.old) }
+        ensures seen { seen_by pass.new ≡ seen_by pass.old }
+        ensures note { IsNoteOf self.now result × (noted result ≡ seen_by pass.old) }
+    {
+        Note {
+            seat: self.cell.split_pass::<Copied>(&mut pass.seat),
+        }
+    }
+
+    /// Lets the pass see what another has seen, and all of the history so far. It is no call.
+    pub fn learn<R: Wait>(&self, rt: &R, pass: &mut Pass, note: Note)
+        requires own { IsPassOf self.now pass.old }
+        requires note { IsNoteOf self.now note }
+        ensures own { IsPassOf self.now pass.new × (client_of pass.new ≡ client_of pass.old) }
+        ensures seen { GoesOn (client_of pass.old) (seen_by pass.old) (seen_by pass.new) }
+        ensures noted { IsPrefix (noted note) (seen_by pass.new) }
+    {
+        self.cell.join_pass::<Moved>(&mut pass.seat, note.seat);
+        // Only a step tells that both are beginnings of one history.
+        self.cell.load_as::<Sight, R>(rt, &mut pass.seat);
+    }
+}
