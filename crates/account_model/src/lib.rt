@@ -6,7 +6,7 @@
 //! outcome. They hold of any write path.
 //!
 //! - `specs/Sights`: what a client sees while a run goes on, and of which traces that may have been seen.
-//! `specs/Versions` has the versions of entries.
+//!   `specs/Versions` has the versions of entries.
 //! - `specs/Accounts`: a client's account, and what each kind of call does to it.
 //! - `specs/Closing`: what the closing says of all accounts.
 //! - `specs/ClientRuns`: a client's calls one after another, and its whole run.

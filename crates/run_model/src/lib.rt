@@ -2,7 +2,7 @@
 //!
 //! - `specs/Lost`: the one group of commits whose log write failed, by what became of the clients' commits.
 //! - `specs/Crashes`: the log at the run's end, each image that a crash may leave, and an outcome with both by one
-//! trace (`IsSafe`).
+//!   trace (`IsSafe`).
 //! - `specs/Running`: what a run of a script comes to.
 //! - `specs/Refusals`: which refusals are left where the log has no fault.
 //!
