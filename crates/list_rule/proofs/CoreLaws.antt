@@ -4,12 +4,13 @@ use Rattle.std.proofs.lemmas.List.{reverse-append, map-append, length-map, lengt
 use Rattle.std.proofs.Math.Seq.{take-append_seam, drop-append_seam}
 use Rattle.wp_model.specs.Grouping.{group_len}
 use Rattle.core_model.specs.declared.event.Event.TheVariants as core
-use Rattle.core_model.specs.Core.{Options, Writer, led, built as in_hand, State, item_of as item_of_writer}
+use Rattle.core_model.specs.Core.{Options, Writer, free as nobody, led, built as in_hand, handed, State, item_of as item_of_writer}
 use Rattle.core_model.specs.Halves.{ListHalf, list_half_of}
 use Rattle.core_model.specs.Step.{group_size}
 use Rattle.list_rule.specs.declared.view.Entry.{Entry}
+use Rattle.list_rule.specs.declared.view.Handling.{Handling}
 use Rattle.list_rule.specs.CoreEvents.{IsSame, core_queue, core_log, IsCoreOf, IsEvent}
-use Rattle.list_rule.specs.Events.{Core, comes, elects, builds, after, Enabled}
+use Rattle.list_rule.specs.Events.{Core, comes, elects, builds, exits, after, Enabled}
 use Rattle.list_rule.specs.Grouping.{item_of, codes, items}
 
 module _ {Q P : Type 0} (writer_of : Entry Q → Writer) (o : Options) (s : State) (k : Core Q P) (same : IsSame writer_of) (is : IsCoreOf writer_of k (list_half_of s)) where
@@ -22,10 +23,10 @@ module _ {Q P : Type 0} (writer_of : Entry Q → Writer) (o : Options) (s : Stat
   pub links_core : (e : Entry Q) → IsEvent writer_of o (core.Link e.by) s (after k (comes e))
   links_core e =
       let new : ListHalf = record (list_half_of s) { queue = s.queue ++ writer_of e ∷ [] } in
-      (new, inr (writer_of e, (same e).0, refl), (ap (λ q. q ++ writer_of e ∷ []) is.0 ∙ sym (queue_more (e ∷ []) k.0), is.1))
+      (new, inr (writer_of e, (same e).0, refl), (ap (λ q. q ++ writer_of e ∷ []) is.0 ∙ sym (queue_more (e ∷ []) k.0), is.1), refl)
 
   pub elects_core : (e : Entry Q) → Enabled k (elects e) → IsEvent writer_of o (core.Elect e.by) s (after k (elects e))
-  elects_core e may = (record (list_half_of s) { log = led e.by }, (is.1 ∙ ap (core_log writer_of) may.0, refl), (is.0, refl))
+  elects_core e may = (record (list_half_of s) { log = led e.by }, (is.1 ∙ ap (core_log writer_of) may.0, refl), (is.0, refl), refl)
 
   reverse_codes : (q : List (Entry Q)) → reverse (codes q) ≡ map (λ (e : Entry Q). e.code) (reverse q)
   reverse_codes [] = refl
@@ -52,4 +53,10 @@ module _ {Q P : Type 0} (writer_of : Entry Q → Writer) (o : Options) (s : Stat
           (λ i. drop (size i) (parts i)) ∙ drop-append_seam (core_queue writer_of whole) (core_queue writer_of left),
           ap in_hand ((λ i. take (size i) (parts i)) ∙ take-append_seam (core_queue writer_of whole) (core_queue writer_of left)),
         ),
+        refl,
       )
+
+module _ {Q P : Type 0} (writer_of : Entry Q → Writer) (o : Options) (s : State) (k : Core Q P) where
+  -- a group is handed on
+  pub nexts_core : (own : Entry Q) (new : List (Handling Q P)) → s.queue ≡ core_queue writer_of k.0 → s.log ≡ handed own.by → IsEvent writer_of o (core.Next own.by) s (after k (exits new))
+  nexts_core own new queue hand = (record (list_half_of s) { log = nobody }, (hand, refl), (queue, refl), refl)

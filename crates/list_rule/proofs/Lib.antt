@@ -16,3 +16,4 @@ pub mod Marks
 pub mod Opens
 pub mod Holding
 pub mod CoreLaws
+pub mod CoreExits

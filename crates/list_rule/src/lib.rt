@@ -24,8 +24,9 @@
 //!
 //! # Steps
 //!
-//! A seat is a client's. Who leads has the log, and the slots of its group. Which event of the list each step is, or that
-//! it is none, say [`steps_and_events`] and [`second_steps_and_events`].
+//! A seat is a client's. Who leads has the log, and the slots of its group. Which event of the list each step is, or
+//! that it is none, say [`steps_and_events`] and [`second_steps_and_events`], and which event of the write path's core
+//! an event of the list is [`list_and_core`].
 //!
 //! | Step | Who makes it | What it does | Event of the write path |
 //! |---|---|---|---|
