@@ -6,7 +6,8 @@ use Rattle.list_rule.specs.declared.view.Handling.{Handling}
 use Rattle.list_rule.specs.Grouping.{IsGroup}
 use Rattle.list_rule.specs.Chain.{of}
 use Rattle.list_rule.specs.Events.{Event, comes, elects, builds, exits, completes, Held, free, elected, grouped, Core, Enabled, after, IsOfGroup, without}
-use Rattle.list_rule.specs.Rule.{Mode, open_, waits, led, built, cut, marked, Shows, Account}
+use Rattle.list_rule.specs.Standing.{Mode, open_, waits, led, built, cut, marked}
+use Rattle.list_rule.specs.Rule.{Shows, Account}
 use Rattle.list_rule.specs.Steps.{Stays, Comes}
 
 same_own : {A : Type 0} (a b t : List A) (x y : A) → a ++ (t ++ x ∷ []) ≡ b ++ (t ++ y ∷ []) → x ≡ y → a ≡ b

@@ -4,7 +4,8 @@ use native.Mathlib.Decide.{ℕ_discrete}
 use Rattle.atomic_table.specs.Table.{rest}
 use Rattle.list_rule.specs.declared.view.Entry.{Entry}
 use Rattle.list_rule.specs.Chain.{older_at, newest_from, LinksFrom, Absent, Within, Oldest, EndsWith}
-use Rattle.list_rule.specs.Rule.{Phase, InChain, Stand, AllLinked, AllTaken, AllOwed, linked, taken}
+use Rattle.list_rule.specs.Standing.{Phase, linked, taken}
+use Rattle.list_rule.specs.Rule.{InChain, Stand, AllLinked, AllTaken, AllOwed}
 
 abbrev pick : {A D : Type 0} → Dec D → A → A → A
 pick (yes _) a b = a

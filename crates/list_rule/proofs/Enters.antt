@@ -18,7 +18,9 @@ use Rattle.list_rule.specs.declared.content.Content.TheVariants.{Empty, Asked, T
 use Rattle.list_rule.specs.declared.view.Stage.{Stage}
 use Rattle.list_rule.specs.declared.view.Stage.TheVariants.{Idle, Preparing, Waiting, Fresh, Leading, Cutting, Marking, Settling, Collecting}
 use Rattle.list_rule.specs.Chain.{state_at, older_at, pack, newest_from, LinksFrom, of}
-use Rattle.list_rule.specs.Rule.{Phase, idle, preparing, linked, chosen, leads, taken, completed, collecting, Mode, open_, waits, led, built, cut, marked, base_of, InChain, Waits, Knows, hold, InPhase, LogHome, InMode, Laws, Listed, Holds, InSecond, KnowsBack, Place, untold}
+use Rattle.list_rule.specs.Standing.{Phase, idle, preparing, linked, chosen, leads, taken, completed, collecting, Mode, open_, waits, led, built, cut, marked, base_of, Holds, KnowsBack, Place}
+use Rattle.list_rule.specs.Laws.{Laws}
+use Rattle.list_rule.specs.Rule.{InChain, Waits, Knows, hold, InPhase, LogHome, InMode, Listed, InSecond, untold}
 use Rattle.list_rule.specs.Events.{Core}
 use Rattle.list_rule.specs.Steps.{Stays, ComesWhere, IsLink, IsElect, now_of, IsNow, StepIs}
 use Rattle.list_rule.specs.Plays.{Sat, entry, At, begun, peeked, aimed, Elected, entered, looked, rested}

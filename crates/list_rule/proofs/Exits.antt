@@ -7,7 +7,8 @@ use Rattle.list_rule.specs.declared.view.Entry.{Entry}
 use Rattle.list_rule.specs.declared.view.Handling.{Handling}
 use Rattle.list_rule.specs.Chain.{of, heads, handling, answers, all_answers}
 use Rattle.list_rule.specs.Events.{Held, wrote, was_for, IsOfGroup, without}
-use Rattle.list_rule.specs.Rule.{Phase, idle, preparing, linked, chosen, leads, taken, completed, collecting, Mode, open_, waits, led, built, cut, marked, Holds, HasCut, untold}
+use Rattle.list_rule.specs.Standing.{Phase, idle, preparing, linked, chosen, leads, taken, completed, collecting, Mode, open_, waits, led, built, cut, marked, Holds}
+use Rattle.list_rule.specs.Rule.{HasCut, untold}
 use Rattle.list_rule.proofs.Chains.{put, put_at}
 use Rattle.list_rule.proofs.Groups.{of-append, of_other}
 

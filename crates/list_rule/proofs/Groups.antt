@@ -5,7 +5,8 @@ use mathlib.Core.Logic.{dite}
 use Rattle.list_rule.specs.declared.view.Entry.{Entry}
 use Rattle.list_rule.specs.declared.view.Handling.{Handling}
 use Rattle.list_rule.specs.Chain.{older_at, pack, newest, Links, Absent, Distinct, Within, of, heads, handling, answers, all_answers}
-use Rattle.list_rule.specs.Rule.{Phase, InChain, Stand, AllLinked, AllTaken, AllOwed, linked, taken}
+use Rattle.list_rule.specs.Standing.{Phase, linked, taken}
+use Rattle.list_rule.specs.Rule.{InChain, Stand, AllLinked, AllTaken, AllOwed}
 use Rattle.list_rule.proofs.Chains.{put, put_else, owed_change}
 
 module _ {Q : Type 0} where

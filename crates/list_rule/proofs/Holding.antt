@@ -6,7 +6,9 @@ use Rattle.list_rule.specs.declared.content.Content.{Content}
 use Rattle.list_rule.specs.declared.view.Entry.{Entry}
 use Rattle.list_rule.specs.declared.view.Handling.{Handling}
 use Rattle.list_rule.specs.declared.view.Hold.{Hold}
-use Rattle.list_rule.specs.Rule.{Laws, Listed, InMode, Phase, Mode, open_, waits, led, built, cut, marked}
+use Rattle.list_rule.specs.Standing.{Phase, Mode, open_, waits, led, built, cut, marked}
+use Rattle.list_rule.specs.Laws.{Laws}
+use Rattle.list_rule.specs.Rule.{Listed, InMode}
 use Rattle.list_rule.specs.Between.{LogAtHome, Between}
 use Rattle.list_rule.proofs.Groups.{walk_bound}
 

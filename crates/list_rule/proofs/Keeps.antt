@@ -9,7 +9,9 @@ use Rattle.list_rule.specs.declared.view.Entry.{Entry}
 use Rattle.list_rule.specs.declared.view.Squad.{Squad}
 use Rattle.list_rule.specs.declared.content.Content.{Content}
 use Rattle.list_rule.specs.Chain.{state_at, older_at, Links, LinksFrom}
-use Rattle.list_rule.specs.Rule.{Phase, leads, Mode, Holds, InFront, Place, away, parted, queued, called, serves, Turn, still, calls, held_by, passes, ahead, Two, flat, In, InSecond, AllWith, AllGroups, Laws, InStep, Level, InTurn, Parts, Second}
+use Rattle.list_rule.specs.Standing.{Phase, leads, Mode, Holds, InFront, Place, away, parted, queued, called, serves, Turn, still, calls, held_by, passes, ahead, Two, flat, In, InStep}
+use Rattle.list_rule.specs.Laws.{Laws}
+use Rattle.list_rule.specs.Rule.{InSecond, AllWith, AllGroups, Level, InTurn, Parts, Second}
 use Rattle.list_rule.proofs.Chains.{put, put_at, put_else}
 
 module _ {Q : Type 0} where

@@ -19,7 +19,9 @@ use Rattle.list_rule.specs.declared.content.Content.TheVariants.{Empty, Asked, T
 use Rattle.list_rule.specs.declared.view.Stage.{Stage}
 use Rattle.list_rule.specs.declared.view.Stage.TheVariants.{Idle, Preparing, Waiting, Fresh, Leading, Cutting, Marking, Settling, Collecting}
 use Rattle.list_rule.specs.Chain.{AllCoded, state_at, older_at, newest, newest_from, Links, LinksFrom, Absent, Distinct, Within, of, heads, handling, answers, all_answers}
-use Rattle.list_rule.specs.Rule.{Phase, idle, preparing, linked, chosen, leads, taken, completed, collecting, Mode, open_, waits, led, built, base_of, InChain, Stand, Waits, AllLinked, AllTaken, AllOwed, Knows, AllFit, hold, InPhase, InMode, Laws, Listed, Holds, InSecond, ahead, hold_at, untold}
+use Rattle.list_rule.specs.Standing.{Phase, idle, preparing, linked, chosen, leads, taken, completed, collecting, Mode, open_, waits, led, built, base_of, Holds, ahead}
+use Rattle.list_rule.specs.Laws.{Laws}
+use Rattle.list_rule.specs.Rule.{InChain, Stand, Waits, AllLinked, AllTaken, AllOwed, Knows, AllFit, hold, InPhase, InMode, Listed, InSecond, hold_at, untold}
 use Rattle.list_rule.proofs.Fitting.{split_group}
 use Rattle.list_rule.specs.Events.{Core, IsOfGroup}
 use Rattle.list_rule.specs.Steps.{Stays, ComesWhere, IsBuild, IsExit, now_of, IsNow, Becomes, StepIs}

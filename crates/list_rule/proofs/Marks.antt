@@ -23,7 +23,9 @@ use Rattle.list_rule.specs.declared.content.Content.{Content}
 use Rattle.list_rule.specs.declared.content.Content.TheVariants.{Told, Log}
 use Rattle.list_rule.specs.declared.view.Stage.TheVariants.{Leading, Cutting, Marking, Settling}
 use Rattle.list_rule.specs.Chain.{state_at, older_at, pack, newest, newest_from, Links, LinksFrom, Absent, Distinct, Within, of, heads, all_answers}
-use Rattle.list_rule.specs.Rule.{Phase, linked, chosen, leads, taken, Mode, open_, waits, built, cut, marked, base_of, InChain, AllLinked, AllTaken, hold, InPhase, InMode, Laws, Listed, Holds, InSecond, parted, ahead, hold_at, HasCut, untold}
+use Rattle.list_rule.specs.Standing.{Phase, linked, chosen, leads, taken, Mode, open_, waits, built, cut, marked, base_of, Holds, parted, ahead}
+use Rattle.list_rule.specs.Laws.{Laws}
+use Rattle.list_rule.specs.Rule.{InChain, AllLinked, AllTaken, hold, InPhase, InMode, Listed, InSecond, hold_at, HasCut, untold}
 use Rattle.list_rule.specs.Events.{Core, grouped}
 use Rattle.list_rule.specs.Steps.{Stays, ComesWhere, IsExit, now_of, IsNow, StepIs}
 use Rattle.list_rule.specs.Plays.{Sat, At, walking, in_hand, debt, slots_of, Walks, AtWith, parting, onward, marked_off, freed, WalksMarked, traced_marked, cut_marked}

@@ -13,7 +13,9 @@ use Rattle.list_rule.specs.declared.content.Content.{Content}
 use Rattle.list_rule.specs.declared.view.Stage.{Stage}
 use Rattle.list_rule.specs.declared.view.Stage.TheVariants.{Idle, Preparing, Waiting, Fresh, Leading, Cutting, Marking, Settling, Collecting}
 use Rattle.list_rule.specs.Chain.{state_at, older_at, newest_from, LinksFrom, Distinct, Within, EndsWith, of}
-use Rattle.list_rule.specs.Rule.{Phase, idle, preparing, linked, chosen, leads, taken, completed, collecting, Mode, open_, waits, led, built, cut, marked, base_of, InChain, Stand, Waits, AllTaken, Knows, AllFit, InPhase, InMode, Account, Laws, Listed, Holds, Two, Second, KnowsBack, HasCut, untold}
+use Rattle.list_rule.specs.Standing.{Phase, idle, preparing, linked, chosen, leads, taken, completed, collecting, Mode, open_, waits, led, built, cut, marked, base_of, Holds, Two, KnowsBack}
+use Rattle.list_rule.specs.Laws.{Laws}
+use Rattle.list_rule.specs.Rule.{InChain, Stand, Waits, AllTaken, Knows, AllFit, InPhase, InMode, Account, Listed, Second, HasCut, untold}
 use Rattle.list_rule.specs.Events.{Core}
 use Rattle.list_rule.specs.Plays.{Sat}
 use Rattle.list_rule.specs.Steps.{now_of, IsNow, Becomes, StepIs}

@@ -11,7 +11,9 @@ use Rattle.list_rule.specs.declared.view.Back.TheVariants.{Away, Parting, Joinin
 use Rattle.list_rule.specs.declared.view.Stage.{Stage}
 use Rattle.list_rule.specs.declared.content.Content.{Content}
 use Rattle.list_rule.specs.Chain.{Links, Distinct, Within, EndsWith}
-use Rattle.list_rule.specs.Rule.{Phase, leads, Mode, InFront, AllTaken, away, parted, held_by, passes, level, ahead, Two, flat, In, Behind, AllWith, KnowsBack, Laws, Second, hold_at}
+use Rattle.list_rule.specs.Standing.{Phase, leads, Mode, InFront, away, parted, held_by, passes, level, ahead, Two, flat, In, Behind, KnowsBack}
+use Rattle.list_rule.specs.Laws.{Laws}
+use Rattle.list_rule.specs.Rule.{AllTaken, AllWith, Second, hold_at}
 use Rattle.list_rule.specs.Plays.{in_hand, parting, after_cut, onward, HandsOn}
 use Rattle.list_rule.proofs.Chains.{put, put_here, put_else, ends_trans}
 use Rattle.list_rule.proofs.Enters.{own}

@@ -14,7 +14,9 @@ use Rattle.list_rule.specs.declared.content.Content.{Content}
 use Rattle.list_rule.specs.declared.content.Content.TheVariants.{Empty, Log, Right}
 use Rattle.list_rule.specs.declared.view.Stage.TheVariants.{Idle}
 use Rattle.list_rule.specs.Chain.{Within}
-use Rattle.list_rule.specs.Rule.{all_but_first, first_only, Phase, idle, linked, leads, Mode, open_, waits, led, built, cut, marked, Fits, AllFit, hold, newcomers, Has, AllIdle, Merges, InPhase, LogHome, InMode, Laws, Listed, Holds, Two, Level, Place, away, Turn, Lead2, level, ahead, InStep, still, RightHome, Chained, AllGroups, InTurn, calls, held_by, passes, flat}
+use Rattle.list_rule.specs.Standing.{Phase, idle, linked, leads, Mode, open_, waits, led, built, cut, marked, Holds, Two, Place, away, Turn, Lead2, level, ahead, InStep, still, Chained, calls, held_by, passes, flat}
+use Rattle.list_rule.specs.Laws.{Laws}
+use Rattle.list_rule.specs.Rule.{all_but_first, first_only, Fits, AllFit, hold, newcomers, Has, AllIdle, Merges, InPhase, LogHome, InMode, Listed, Level, RightHome, AllGroups, InTurn}
 use Rattle.list_rule.proofs.Chains.{put, put_here, put_else, nobody}
 use Rattle.list_rule.proofs.Accounts.{opens_now}
 use Rattle.list_rule.proofs.Moves.{St}

@@ -22,7 +22,9 @@ use Rattle.list_rule.specs.declared.content.Content.TheVariants.{Right}
 use Rattle.list_rule.specs.declared.view.Stage.{Stage}
 use Rattle.list_rule.specs.declared.view.Stage.TheVariants.{Idle, Preparing, Waiting, Fresh, Leading, Cutting, Marking, Settling, Collecting}
 use Rattle.list_rule.specs.Chain.{state_at, older_at, pack, newest, LinksFrom, Absent}
-use Rattle.list_rule.specs.Rule.{Phase, linked, chosen, leads, Mode, open_, waits, led, built, cut, marked, base_of, Holds, InFront, Knows, AllFit, hold_at, InPhase, InMode, Laws, Listed, Place, away, parted, queued, called, serves, calls, held_by, passes, ahead, Two, line_of, flat, Behind, KnowsBack, InTurn, Second}
+use Rattle.list_rule.specs.Standing.{Phase, linked, chosen, leads, Mode, open_, waits, led, built, cut, marked, base_of, Holds, InFront, Place, away, parted, queued, called, serves, calls, held_by, passes, ahead, Two, line_of, flat, Behind, KnowsBack}
+use Rattle.list_rule.specs.Laws.{Laws}
+use Rattle.list_rule.specs.Rule.{Knows, AllFit, hold_at, InPhase, InMode, Listed, InTurn, Second}
 use Rattle.list_rule.specs.Steps.{Stays, now_of, IsNow, StepIs}
 use Rattle.list_rule.specs.Plays.{Sat, AtWith, ending, aimed_second, joined, summoned, kept, peeked, IsCut}
 use Rattle.list_rule.proofs.Chains.{put, put_here, put_else, links_stay, links_same, newest_small}

@@ -9,7 +9,9 @@ use Rattle.list_rule.specs.declared.view.Squad.{Squad}
 use Rattle.list_rule.specs.declared.content.Content.{Content}
 use Rattle.list_rule.specs.declared.content.Content.TheVariants.{Right}
 use Rattle.list_rule.specs.Chain.{state_at, older_at, pack, newest, Links, LinksFrom, Absent, Distinct, Within}
-use Rattle.list_rule.specs.Rule.{Phase, leads, taken, Mode, Holds, InFront, open_, waits, led, built, cut, marked, Place, away, parted, queued, called, serves, Turn, still, calls, held_by, passes, Lead2, level, ahead, Two, line_of, flat, In, Behind, Apart, AllWith, AllGroups, Chained, InStep, Laws, RightHome, Level, InTurn, Parts, Second}
+use Rattle.list_rule.specs.Standing.{Phase, leads, taken, Mode, Holds, InFront, open_, waits, led, built, cut, marked, Place, away, parted, queued, called, serves, Turn, still, calls, held_by, passes, Lead2, level, ahead, Two, line_of, flat, In, Behind, Apart, Chained, InStep}
+use Rattle.list_rule.specs.Laws.{Laws}
+use Rattle.list_rule.specs.Rule.{AllWith, AllGroups, RightHome, Level, InTurn, Parts, Second}
 use Rattle.list_rule.proofs.Chains.{put, put_at, put_here, put_else, links_stay, links_same, nobody}
 use Rattle.list_rule.proofs.Groups.{distinct_apart, distinct_front, absent_front, absent_back, absent_append, within_front, within_at, links_cut, newest_cut, none_before_group}
 use Rattle.list_rule.proofs.Keeps.{in_not_away, groups_at}

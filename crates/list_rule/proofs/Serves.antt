@@ -19,7 +19,9 @@ use Rattle.list_rule.specs.declared.content.Content.TheVariants.{Right}
 use Rattle.list_rule.specs.declared.view.Stage.{Stage}
 use Rattle.list_rule.specs.declared.view.Stage.TheVariants.{Settling}
 use Rattle.list_rule.specs.Chain.{state_at, older_at, pack, newest, Links, Absent, Distinct, Within}
-use Rattle.list_rule.specs.Rule.{Phase, leads, taken, base_of, AllOwed, hold_at, InPhase, Laws, Listed, away, called, Turn, still, calls, held_by, passes, Two, line_of, flat, In, Behind, KnowsBack, InTurn, Second}
+use Rattle.list_rule.specs.Standing.{Phase, leads, taken, base_of, away, called, Turn, still, calls, held_by, passes, Two, line_of, flat, In, Behind, KnowsBack}
+use Rattle.list_rule.specs.Laws.{Laws}
+use Rattle.list_rule.specs.Rule.{AllOwed, hold_at, InPhase, Listed, InTurn, Second}
 use Rattle.list_rule.specs.Steps.{Stays, now_of, IsNow, StepIs}
 use Rattle.list_rule.specs.Plays.{Sat, AtWith, debt, WalksSecond, left_second, traced_second, cleared_second, called_next, kept}
 use Rattle.list_rule.proofs.Chains.{put, put_here, put_else, links_stay, links_same}

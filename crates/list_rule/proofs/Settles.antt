@@ -20,7 +20,9 @@ use Rattle.list_rule.specs.declared.content.Content.TheVariants.{Empty, Told, Lo
 use Rattle.list_rule.specs.declared.view.Stage.{Stage}
 use Rattle.list_rule.specs.declared.view.Stage.TheVariants.{Idle, Preparing, Waiting, Fresh, Leading, Cutting, Marking, Settling, Collecting}
 use Rattle.list_rule.specs.Chain.{state_at, older_at, pack, newest_from, Links, LinksFrom, Absent, Distinct, Within, of, heads, all_answers, handling}
-use Rattle.list_rule.specs.Rule.{Phase, idle, linked, chosen, leads, taken, completed, Mode, open_, waits, led, built, cut, marked, base_of, InChain, Stand, Waits, AllLinked, AllTaken, AllOwed, Knows, hold, InPhase, InMode, Laws, Listed, Holds, InSecond, ahead, hold_at, HasCut, untold}
+use Rattle.list_rule.specs.Standing.{Phase, idle, linked, chosen, leads, taken, completed, Mode, open_, waits, led, built, cut, marked, base_of, Holds, ahead}
+use Rattle.list_rule.specs.Laws.{Laws}
+use Rattle.list_rule.specs.Rule.{InChain, Stand, Waits, AllLinked, AllTaken, AllOwed, Knows, hold, InPhase, InMode, Listed, InSecond, hold_at, HasCut, untold}
 use Rattle.list_rule.specs.Events.{Core, grouped, without}
 use Rattle.list_rule.specs.Steps.{Stays, IsExit, IsNow, StepIs, IsComplete}
 use Rattle.list_rule.specs.Plays.{Sat, At, in_hand, debt, slots_of, told_one, retired, cut_as, cut_off, woken_on, AtWith, after_cut, onward}

@@ -8,7 +8,9 @@ use Rattle.list_rule.specs.declared.view.Hold.{Hold}
 use Rattle.list_rule.specs.declared.content.Content.{Content}
 use Rattle.list_rule.specs.Chain.{newest_from, LinksFrom, Distinct, Within}
 use Rattle.list_rule.specs.Events.{Event, Held, Legal, core_of}
-use Rattle.list_rule.specs.Rule.{Mode, open_, waits, led, built, cut, marked, base_of, Laws, LogHome, Shows}
+use Rattle.list_rule.specs.Standing.{Mode, open_, waits, led, built, cut, marked, base_of}
+use Rattle.list_rule.specs.Laws.{Laws}
+use Rattle.list_rule.specs.Rule.{LogHome, Shows}
 
 -- the log is in its slot where nobody leads, and else the leader has it
 module _ {Q P L M : Type 0} (stands : Laws Q P L M) (homes : List (Option (Content Q P L M)))

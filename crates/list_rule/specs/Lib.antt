@@ -1,6 +1,8 @@
 pub mod Chain
 pub mod Grouping
 pub mod Events
+pub mod Standing
+pub mod Laws
 pub mod Rule
 pub mod Plays
 pub mod Steps

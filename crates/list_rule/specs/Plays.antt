@@ -16,7 +16,8 @@ use Rattle.list_rule.specs.declared.view.Squad.{Squad}
 use Rattle.list_rule.specs.declared.view.Back.{Back}
 use Rattle.list_rule.specs.declared.view.Back.TheVariants.{Away, Parting, Joining, Holding, Queued, Serving, Passing}
 use mathlib.Core.Option.{Option, none, some}
-use Rattle.list_rule.specs.Rule.{hold, hold_at, line_of}
+use Rattle.list_rule.specs.Standing.{line_of}
+use Rattle.list_rule.specs.Rule.{hold, hold_at}
 
 abbrev pub Sat : Type 0 → Type 0 → Type 0 → Type 0 → Type 0
 Sat Q P L M = Me (Content Q P L M) (List (Hold Q P))

@@ -1,160 +1,25 @@
 -- The rule of the list. Word 0 is the newest writer of the first list, and word 1 that of the second. Client i has word
 -- 2 i + 2, its state, and word 2 i + 3, its link. Slot 0 is the log's, slot i is client i's, and the last one is the
 -- right's.
-use Rattle.std.specs.Prelude.{Bool, true, false, ◌≡◌, ◌≢◌, ℕ, zero, suc, ◌+◌, ◌*◌, ◌-◌, ◌==◌, cond, ◌<◌, ◌≤◌, ◌⊎◌, List, [], ◌∷◌, ◌++◌, length, slice_index}
-use Rattle.std.specs.Prelude.{Option as Picked, None, Some}
+use Rattle.std.specs.Prelude.{Bool, true, false, ◌≡◌, ◌≢◌, ℕ, zero, suc, ◌+◌, ◌*◌, ◌-◌, ◌<◌, ◌≤◌, ◌⊎◌, List, [], ◌∷◌, ◌++◌, length, slice_index}
 use mathlib.Core.Option.{Option, some}
 use lib.ListN.{get_elem?}
 use Rattle.atomic_table.specs.Table.{State}
-use Rattle.wp_model.specs.declared.group.Item.{Item}
-use Rattle.list_rule.specs.declared.content.Start.{Start}
 use Rattle.list_rule.specs.declared.view.Entry.{Entry}
-use Rattle.list_rule.specs.Grouping.{code_by}
 use Rattle.list_rule.specs.declared.view.Handling.{Handling}
 use Rattle.list_rule.specs.declared.view.Hold.{Hold}
 use Rattle.list_rule.specs.declared.view.Squad.{Squad}
 use Rattle.list_rule.specs.declared.view.Back.{Back}
-use Rattle.list_rule.specs.declared.view.Back.TheVariants.{Away, Parting, Joining, Holding, Queued, Serving, Passing}
+use Rattle.list_rule.specs.declared.view.Back.TheVariants.{Away}
 use Rattle.list_rule.specs.declared.content.Content.{Content}
 use Rattle.list_rule.specs.declared.content.Content.TheVariants.{Empty, Asked, Told, Log, Right}
 use Rattle.list_rule.specs.declared.view.Stage.{Stage}
 use Rattle.list_rule.specs.declared.view.Stage.TheVariants.{Idle, Preparing, Waiting, Fresh, Leading, Cutting, Marking, Settling, Collecting}
 use Rattle.list_rule.specs.Events.{Event, Held, free, elected, grouped, core_of, Legal}
 use Rattle.list_rule.specs.Chain.{state_at, older_at, newest, newest_from, Links, LinksFrom, Distinct, Within, EndsWith, of, heads}
-
--- where a client stands
-pub data Phase (Q P : Type 0) : Type 0 where
-  idle : Phase Q P
-  preparing : ℕ → Phase Q P
-  linked : Entry Q → Phase Q P
-  chosen : Entry Q → Phase Q P
-  leads : Entry Q → Phase Q P
-  taken : ℕ → Entry Q → Phase Q P
-  completed : Q → P → Phase Q P
-  collecting : Phase Q P
-
--- where the log is: at home with nobody in the list, at home for the oldest writer, out with a leader in the list, or
--- with one that has cut its group off and has yet to wake the oldest writer
-pub data Mode (Q : Type 0) : Type 0 where
-  open_ : Mode Q
-  waits : ℕ → Mode Q
-  led : ℕ → Mode Q
-  built : ℕ → List (Entry Q) → Mode Q
-  cut : ℕ → ℕ → Mode Q
-  marked : ℕ → Mode Q
-
--- where the walk ends: at nobody, or at the marker
-abbrev pub base_of : {Q : Type 0} → Mode Q → ℕ
-base_of open_ = 0
-base_of (waits c) = 0
-base_of (led c) = 0
-base_of (built c g) = 0
-base_of (cut c w) = 0
-base_of (marked c) = 255
-
--- the client has the log
-abbrev pub Holds : {Q : Type 0} → ℕ → Mode Q → Type 0
-Holds k open_ = ⊥
-Holds k (waits c) = ⊥
-Holds k (led c) = c ≡ k
-Holds k (built c g) = c ≡ k
-Holds k (cut c w) = c ≡ k
-Holds k (marked c) = c ≡ k
-
--- the client has the log, and its own entry is still in the list
-abbrev pub InFront : {Q : Type 0} → ℕ → Mode Q → Type 0
-InFront k open_ = ⊥
-InFront k (waits c) = ⊥
-InFront k (led c) = c ≡ k
-InFront k (built c g) = c ≡ k
-InFront k (cut c w) = ⊥
-InFront k (marked c) = ⊥
-
--- where the group of a leader stands: in no list but the first, cut off from that one with this end of its links,
--- behind others in the second, first there and told so, or first with the right
-pub data Place (Q : Type 0) : Type 0 where
-  away : Place Q
-  parted : Squad Q → ℕ → Place Q
-  queued : Squad Q → Place Q
-  called : Squad Q → Place Q
-  serves : Squad Q → Place Q
-
--- where the right is: at home with no group, at home for the first group, out with its leader, or with one that has cut
--- its group off and has yet to wake the next
-pub data Turn : Type 0 where
-  still : Turn
-  calls : ℕ → Turn
-  held_by : ℕ → Turn
-  passes : ℕ → ℕ → Turn
-
--- whether the newest group of the second list is that of a client that still has the log
-pub data Lead2 : Type 0 where
-  level : Lead2
-  ahead : ℕ → Lead2
-
--- the second list: its groups, newest first, and the right's number
-pub record Two (Q : Type 0) : Type 0 where
-  pub groups : List (Squad Q)
-  pub place : ℕ → Place Q
-  pub turn : Turn
-  pub lead : Lead2
-  pub done : ℕ
-
-module _ {Q : Type 0} where
-  abbrev pub line_of : Squad Q → List (Entry Q)
-  line_of g = g.rest ++ g.own ∷ []
-
-  -- the walk from the newest group
-  abbrev pub flat : List (Squad Q) → List (Entry Q)
-  flat [] = []
-  flat (g ∷ gs) = line_of g ++ flat gs
-
-  -- the group is the one in the second list that the place names
-  abbrev pub In : Squad Q → Place Q → Type 0
-  In g away = ⊥
-  In g (parted f b) = ⊥
-  In g (queued f) = f ≡ g
-  In g (called f) = f ≡ g
-  In g (serves f) = f ≡ g
-
-  -- and has not the right
-  abbrev pub Behind : Squad Q → Place Q → Type 0
-  Behind g away = ⊥
-  Behind g (parted f b) = ⊥
-  Behind g (queued f) = f ≡ g
-  Behind g (called f) = f ≡ g
-  Behind g (serves f) = ⊥
-
-  -- not yet in the second list, or not any more
-  abbrev pub Apart : Place Q → Type 0
-  Apart away = Unit {0}
-  Apart (parted g b) = Unit {0}
-  Apart (queued f) = ⊥
-  Apart (called f) = ⊥
-  Apart (serves f) = ⊥
-
-  -- each group begins with the number at which the older one ends, the oldest with the right's, and the newest one ends
-  -- with this one
-  abbrev pub Chained : ℕ → List (Squad Q) → ℕ → Type 0
-  Chained done [] last = done ≡ last
-  Chained done (g ∷ gs) last = (g.to ≡ last) × Chained done gs g.from
-
-  abbrev pub InStep : ℕ → List (Squad Q) → ℕ → Lead2 → Type 0
-  InStep done groups last level = Chained done groups last
-  InStep done groups last (ahead c) = (g : Squad Q) × (gs : List (Squad Q)) × (groups ≡ g ∷ gs) × (g.from ≡ last)
-      × (g.own.by ≡ c) × Chained done gs last
-
-  -- what a client knows of its group in the second list
-  abbrev pub KnowsBack : Two Q → ℕ → Back Q → Type 0
-  KnowsBack two c Away = (two.place c ≡ away) × (two.lead ≢ ahead c)
-  KnowsBack two c (Parting g b) = (two.place c ≡ parted g b) × (two.lead ≢ ahead c)
-  KnowsBack two c (Joining g) = Behind g (two.place c) × (two.lead ≡ ahead c)
-  KnowsBack two c (Holding g) = (two.turn ≡ held_by c) × (two.place c ≡ serves g) × (two.lead ≡ ahead c)
-  KnowsBack two c (Queued g) = Behind g (two.place c) × (two.lead ≢ ahead c)
-  KnowsBack two c (Serving g walk) = (two.turn ≡ held_by c) × (two.place c ≡ serves g) × (two.lead ≢ ahead c)
-      × EndsWith (flat two.groups) walk
-  KnowsBack two c (Passing g x) = (two.turn ≡ passes c x.by) × (two.place c ≡ away) × (two.lead ≢ ahead c)
-      × (two.done ≡ g.to)
+use Rattle.list_rule.specs.Standing.{Phase, idle, preparing, linked, chosen, leads, taken, completed, collecting, Mode, open_, waits, led, built, cut, marked, base_of, Holds, InFront, Place, away, parted, queued, called, serves, Turn, still, calls, held_by, passes, ahead, Two, line_of, flat, In, Apart, InStep, KnowsBack}
+use Rattle.list_rule.specs.Laws.{Laws}
+pub use Rattle.list_rule.specs.Laws.{Unnumbered, last_run, logs_from, logs_picked, kept_picked}
 
 module _ {Q P : Type 0} where
   -- the writer e stands in the list
@@ -296,65 +161,6 @@ pub record Account {Q P : Type 0} (line : List (Entry Q)) (handled : List (Handl
   pub legal : Legal events
   pub ran : core_of events ≡ (queue, log, handled, owing)
   pub shows : Shows line queue log mode
-
--- where there is a second list, nothing between the two gives a number
-abbrev pub Unnumbered : {Q P : Type 0} → Bool → (List (Handling Q P) → ℕ) → List (Handling Q P) → List (Handling Q P)
-    → Type 0
-Unnumbered piped last seen now = piped ≡ true → last now ≡ last seen
-
--- what the log stands for, and the right's number; the last number after what was handled; the right's number at
--- opening; whether there is a second list
-pub record Laws (Q P L M : Type 0) : Type 1 where
-  pub logs : L → List (Handling Q P) → Type 0
-  pub rights : M → ℕ → Type 0
-  pub last : List (Handling Q P) → ℕ
-  pub opened : ℕ
-  pub piped : Bool
-  -- what holds of what was handled, wherever the log is
-  pub kept : List (Handling Q P) → Type 0
-  pub keeps : (l : L) (hs : List (Handling Q P)) → logs l hs → kept hs
-  pub code_of : Q → ℕ
-
--- the last number of the runs given, from this one on: a run is its first number and its count, and one with the count
--- 0 is none
-abbrev pub last_run : {Q P : Type 0} → (P → ℕ × ℕ) → ℕ → List (Handling Q P) → ℕ
-last_run run start [] = start
-last_run run start (h ∷ hs) = last_run run
-    (cond ((run h.reply).1 == 0) start ((run h.reply).0 + (run h.reply).1 - 1)) hs
-
-abbrev pub logs_from : {Q P L : Type 0} → (L → List (Handling Q P) → Type 0) → (List (Handling Q P) → Type 0) → (L → ℕ)
-    → (P → ℕ × ℕ) → ℕ → L → List (Handling Q P) → Type 0
-logs_from stands kept number run start l hs = stands l hs × kept hs × (number l ≡ last_run run start hs)
-
--- the same where what the law is about was picked
-abbrev pub logs_picked : {Q P L K : Type 0} → (K → L → List (Handling Q P) → Type 0)
-    → (K → List (Handling Q P) → Type 0) → (L → ℕ) → (P → ℕ × ℕ) → ℕ → Picked K → L → List (Handling Q P) → Type 0
-logs_picked stands kept number run start None = λ l hs. Unit {0}
-logs_picked stands kept number run start (Some about) = logs_from (stands about) (kept about) number run start
-
-abbrev pub kept_picked : {Q P K : Type 0} → (K → List (Handling Q P) → Type 0) → Picked K → List (Handling Q P) → Type 0
-kept_picked kept None = λ hs. Unit {0}
-kept_picked kept (Some about) = kept about
-
-abbrev pub laws : {Q P L M : Type 0} → (Q → ℕ) → (L → List (Handling Q P) → Type 0) → (List (Handling Q P) → Type 0)
-    → (L → ℕ) → (P → ℕ × ℕ) → (M → ℕ) → ℕ → ℕ → Bool → Laws Q P L M
-laws code_of stands kept number run right_number start right_start piped = record {
-  logs = logs_from stands kept number run start;
-  rights = λ m k. right_number m ≡ k;
-  last = last_run run start;
-  opened = right_start;
-  piped = piped;
-  kept = kept;
-  keeps = λ l hs h. h.1;
-  code_of = code_of;
-}
-
--- the laws of a list that is opened so
-abbrev pub laws_for : {Q P L M K : Type 0} → (Q → Item) → (K → L → List (Handling Q P) → Type 0)
-    → (K → List (Handling Q P) → Type 0)
-    → (L → ℕ) → (P → ℕ × ℕ) → (M → ℕ) → Start K → Laws Q P L M
-laws_for item_of stands kept number run right_number k =
-    laws (code_by item_of) (stands k.about) (kept k.about) number run right_number k.log k.right k.pipelined
 
 module _ {Q P L M : Type 0} (stands : Laws Q P L M) where
   module _ (words : List ℕ) (homes : List (Option (Content Q P L M))) (i : ℕ) (due : List (Q × P)) where

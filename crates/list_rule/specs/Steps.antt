@@ -8,7 +8,8 @@ use Rattle.list_rule.specs.declared.view.Hold.{Hold}
 use Rattle.list_rule.specs.declared.content.Content.{Content}
 use Rattle.list_rule.specs.Chain.{handling, all_answers}
 use Rattle.list_rule.specs.Events.{Event, comes, elects, builds, exits, completes, Core, Enabled, after}
-use Rattle.list_rule.specs.Rule.{Laws, Listed}
+use Rattle.list_rule.specs.Laws.{Laws}
+use Rattle.list_rule.specs.Rule.{Listed}
 use Rattle.list_rule.specs.Plays.{Sat}
 
 module _ {Q P : Type 0} where

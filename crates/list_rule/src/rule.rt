@@ -1,6 +1,7 @@
 // The rule of the list, and what it asks of requests, replies, log and right.
 ghost use Rattle.std.specs.Prelude.{◌≡◌, ℕ, List, [], ◌++◌};
-ghost use Rattle.list_rule.specs.Rule.{Listed, newcomers, laws_for, all_but_first, first_only};
+ghost use Rattle.list_rule.specs.Laws.{laws_for};
+ghost use Rattle.list_rule.specs.Rule.{Listed, newcomers, all_but_first, first_only};
 
 use crate::content::{Content, Start};
 use crate::view::{Handling, View};

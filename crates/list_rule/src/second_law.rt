@@ -15,7 +15,8 @@ ghost use Rattle.list_rule.specs.declared.view.Squad.{Squad};
 ghost use Rattle.list_rule.specs.declared.view.Stage.{Stage};
 ghost use Rattle.list_rule.specs.declared.view.Stage.TheVariants.{Leading, Cutting, Marking, Settling};
 ghost use Rattle.list_rule.specs.Chain.{state_at, older_at, pack, newest, heads, all_answers};
-ghost use Rattle.list_rule.specs.Rule.{laws_for, logs_picked, last_run, line_of};
+ghost use Rattle.list_rule.specs.Standing.{line_of};
+ghost use Rattle.list_rule.specs.Laws.{laws_for, logs_picked, last_run};
 ghost use Rattle.list_rule.specs.Plays.{Sat, At, AtWith, HandsOn, IsCut, in_hand, debt, slots_of, peeked, cut_as, marked_off, woken_on, freed, traced_marked, cut_marked, aimed_second, joined, summoned, kept, left_second, traced_second, cleared_second, called_next};
 ghost use Rattle.list_rule.specs.Steps.{Stays, ComesWhere, IsExit, StepIs};
 

@@ -1,7 +1,7 @@
 // The steps of the list: which words and slots each may move, and what its seat knows then.
 ghost use Rattle.std.specs.Prelude.{◌≡◌};
 ghost use Rattle.list_rule.specs.Grouping.{code_by};
-ghost use Rattle.list_rule.specs.Rule.{logs_picked, kept_picked};
+ghost use Rattle.list_rule.specs.Laws.{logs_picked, kept_picked};
 ghost use Rattle.list_rule.specs.Plays.{begun, peeked, aimed, entered, looked, rested, read_once, traced, fetched, left, told_one, retired, cut_as, cut_off, woken_on, marked_off, freed, aimed_second, joined, summoned, left_second, traced_second, cleared_second, called_next, kept, traced_marked, cut_marked};
 ghost use mathlib.Core.Option.{some};
 
