@@ -8,7 +8,7 @@ use Rattle.list_rule.specs.Chain.{of}
 use Rattle.list_rule.specs.Events.{Event, comes, elects, builds, exits, completes, Held, free, elected, grouped, Core, Enabled, after, IsOfGroup, without}
 use Rattle.list_rule.specs.Standing.{Mode, open_, waits, led, built, cut, marked}
 use Rattle.list_rule.specs.Rule.{Shows, Account}
-use Rattle.list_rule.specs.Steps.{Stays, Comes}
+use Rattle.list_rule.specs.Steps.{Stays, Happens}
 
 same_own : {A : Type 0} (a b t : List A) (x y : A) → a ++ (t ++ x ∷ []) ≡ b ++ (t ++ y ∷ []) → x ≡ y → a ≡ b
 same_own a b t x y e is = append_cancel_right a b (t ++ x ∷ []) (e ∙ ap (λ z. b ++ (t ++ z ∷ [])) (sym is))
@@ -29,7 +29,7 @@ same_end a b t x y e = sym (last_or-end x a t x) ∙ (ap (last_or x) e ∙ last_
 module _ {Q P : Type 0} where
   module _ (line : List (Entry Q)) (hs : List (Handling Q P)) (mode : Mode Q) (k : Account line hs mode) where
     -- the account after an event
-    abbrev next : (v : Event Q P) (line' : List (Entry Q)) (hs' : List (Handling Q P)) (mode' : Mode Q) (queue : List (Entry Q)) (log : Held Q) (owing : List (Handling Q P)) → Comes v (k.queue, k.log, hs, k.owing) (queue, log, hs', owing) → Shows line' queue log mode' → Account line' hs' mode'
+    abbrev next : (v : Event Q P) (line' : List (Entry Q)) (hs' : List (Handling Q P)) (mode' : Mode Q) (queue : List (Entry Q)) (log : Held Q) (owing : List (Handling Q P)) → Happens v (k.queue, k.log, hs, k.owing) (queue, log, hs', owing) → Shows line' queue log mode' → Account line' hs' mode'
     next v line' hs' mode' queue log owing came shows = record {
       events = v ∷ k.events;
       queue = queue;
@@ -45,7 +45,7 @@ module _ {Q P : Type 0} where
     same line' mode' shows = record { events = k.events; queue = k.queue; log = k.log; owing = k.owing; legal = k.legal; ran = k.ran; shows = shows }
 
     abbrev Next : Event Q P → List (Entry Q) → List (Handling Q P) → Mode Q → Type 0
-    Next v line' hs' mode' = (k' : Account line' hs' mode') × Comes v (k.queue, k.log, hs, k.owing) (k'.queue, k'.log, hs', k'.owing)
+    Next v line' hs' mode' = (k' : Account line' hs' mode') × Happens v (k.queue, k.log, hs, k.owing) (k'.queue, k'.log, hs', k'.owing)
 
     abbrev Same : List (Entry Q) → Mode Q → Type 0
     Same line' mode' = (k' : Account line' hs mode') × Stays (k.queue, k.log, hs, k.owing) (k'.queue, k'.log, hs, k'.owing)
@@ -67,7 +67,7 @@ module _ {Q P : Type 0} where
 
     -- the first writer comes and leads
     pub comes_first : (e : Entry Q) → line ≡ [] → mode ≡ open_
-        → (k' : Account (e ∷ []) hs (led e.by)) × ((linked : Core Q P) × Comes (comes e) (k.queue, k.log, hs, k.owing) linked × Comes (elects e) linked (k'.queue, k'.log, hs, k'.owing))
+        → (k' : Account (e ∷ []) hs (led e.by)) × ((linked : Core Q P) × Happens (comes e) (k.queue, k.log, hs, k.owing) linked × Happens (elects e) linked (k'.queue, k'.log, hs, k'.owing))
     comes_first e nil is =
         let sh : Shows line k.queue k.log open_ = subst (Shows line k.queue k.log) is k.shows in
         let none_there : k.queue ≡ [] = sym sh.0 ∙ nil in
@@ -87,13 +87,13 @@ module _ {Q P : Type 0} where
     pub leads_now : (c : ℕ) (e : Entry Q) (q : List (Entry Q)) → mode ≡ waits c → e.by ≡ c → line ≡ q ++ e ∷ [] → Next (elects e) line hs (led c)
     leads_now c e q is by_c parts =
         let sh : Shows line k.queue k.log (waits c) = subst (Shows line k.queue k.log) is k.shows in
-        let came : Comes (elects e) (k.queue, k.log, hs, k.owing) (k.queue, elected e.by, hs, k.owing) = ((sh.1, (q, sym sh.0 ∙ parts)), refl) in
+        let came : Happens (elects e) (k.queue, k.log, hs, k.owing) (k.queue, elected e.by, hs, k.owing) = ((sh.1, (q, sym sh.0 ∙ parts)), refl) in
         (next (elects e) line hs (led c) k.queue (elected e.by) k.owing came (sh.0, ap elected by_c), came)
 
     pub builds_now : (max c : ℕ) (own : Entry Q) (group left : List (Entry Q)) → mode ≡ led c → own.by ≡ c → line ≡ left ++ (group ++ own ∷ []) → IsGroup max own group left → Next (builds max own group left) line hs (built c group)
     builds_now max c own group left is by_c parts whole =
         let sh : Shows line k.queue k.log (led c) = subst (Shows line k.queue k.log) is k.shows in
-        let came : Comes (builds max own group left) (k.queue, k.log, hs, k.owing) (left, grouped own group, hs, k.owing) = ((sh.1 ∙ ap elected (sym by_c), sym sh.0 ∙ parts, whole), refl) in
+        let came : Happens (builds max own group left) (k.queue, k.log, hs, k.owing) (left, grouped own group, hs, k.owing) = ((sh.1 ∙ ap elected (sym by_c), sym sh.0 ∙ parts, whole), refl) in
         (next (builds max own group left) line hs (built c group) left (grouped own group) k.owing came ((own, parts), refl), came)
 
     -- whose group it is, and who is behind it
@@ -107,7 +107,7 @@ module _ {Q P : Type 0} where
     pub leaves_now : (c : ℕ) (g : List (Entry Q)) (own : Entry Q) (new : List (Handling Q P)) → mode ≡ built c g → line ≡ g ++ own ∷ [] → IsOfGroup own g new → Next (exits new) [] (hs ++ new) open_
     leaves_now c g own new is parts theirs =
         let t = parts_as c g own [] is parts in
-        let came : Comes (exits new) (k.queue, k.log, hs, k.owing) (k.queue, free, hs ++ new, k.owing ++ new) = ((own, g, t.1, theirs), refl) in
+        let came : Happens (exits new) (k.queue, k.log, hs, k.owing) (k.queue, free, hs ++ new, k.owing ++ new) = ((own, g, t.1, theirs), refl) in
         (next (exits new) [] (hs ++ new) open_ k.queue free (k.owing ++ new) came (sym t.0, refl), came)
 
     -- the group is cut off
@@ -127,19 +127,19 @@ module _ {Q P : Type 0} where
     pub wakes_now : (c w : ℕ) (own : Entry Q) (g : List (Entry Q)) (new : List (Handling Q P)) → mode ≡ cut c w → k.log ≡ grouped own g → IsOfGroup own g new → Next (exits new) line (hs ++ new) (waits w)
     wakes_now c w own g new is has theirs =
         let sh : Shows line k.queue k.log (cut c w) = subst (Shows line k.queue k.log) is k.shows in
-        let came : Comes (exits new) (k.queue, k.log, hs, k.owing) (k.queue, free, hs ++ new, k.owing ++ new) = ((own, g, has, theirs), refl) in
+        let came : Happens (exits new) (k.queue, k.log, hs, k.owing) (k.queue, free, hs ++ new, k.owing ++ new) = ((own, g, has, theirs), refl) in
         (next (exits new) line (hs ++ new) (waits w) k.queue free (k.owing ++ new) came (sh.0, refl), came)
 
     pub frees_now : (c : ℕ) (own : Entry Q) (g : List (Entry Q)) (new : List (Handling Q P)) → mode ≡ marked c → line ≡ [] → k.log ≡ grouped own g → IsOfGroup own g new → Next (exits new) [] (hs ++ new) open_
     frees_now c own g new is nil has theirs =
         let sh : Shows line k.queue k.log (marked c) = subst (Shows line k.queue k.log) is k.shows in
-        let came : Comes (exits new) (k.queue, k.log, hs, k.owing) (k.queue, free, hs ++ new, k.owing ++ new) = ((own, g, has, theirs), refl) in
+        let came : Happens (exits new) (k.queue, k.log, hs, k.owing) (k.queue, free, hs ++ new, k.owing ++ new) = ((own, g, has, theirs), refl) in
         (next (exits new) [] (hs ++ new) open_ k.queue free (k.owing ++ new) came (sym nil ∙ sh.0, refl), came)
 
     -- a client is told its reply
     pub completes_now : (h : Handling Q P) → of h.by k.owing ≡ (h.asked, h.reply) ∷ [] → Next (completes h) line hs mode
     completes_now h owed =
-        let came : Comes (completes h) (k.queue, k.log, hs, k.owing) (k.queue, k.log, hs, without h.by k.owing) = (owed, refl) in
+        let came : Happens (completes h) (k.queue, k.log, hs, k.owing) (k.queue, k.log, hs, without h.by k.owing) = (owed, refl) in
         (next (completes h) line hs mode k.queue k.log (without h.by k.owing) came k.shows, came)
 
   abbrev pub opens_now : Account {Q = Q} {P = P} [] [] open_

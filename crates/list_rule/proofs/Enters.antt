@@ -22,7 +22,7 @@ use Rattle.list_rule.specs.Standing.{Phase, idle, preparing, linked, chosen, lea
 use Rattle.list_rule.specs.Laws.{Laws}
 use Rattle.list_rule.specs.Rule.{InChain, Waits, Knows, hold, InPhase, LogHome, InMode, Listed, InSecond, untold}
 use Rattle.list_rule.specs.Events.{Core}
-use Rattle.list_rule.specs.Steps.{Stays, ComesWhere, IsLink, IsElect, now_of, IsNow, StepIs}
+use Rattle.list_rule.specs.Steps.{Stays, HappensWhere, IsLink, IsElect, now_of, IsNow, StepIs}
 use Rattle.list_rule.specs.Plays.{Sat, entry, At, begun, peeked, aimed, Elected, entered, looked, rested}
 use Rattle.list_rule.proofs.Chains.{put, put_at, put_here, put_else, links_stay, links_same, ends_same, nobody, newest_small, stand_absent, stand_change, linked_change, taken_change}
 use Rattle.list_rule.proofs.Exits.{owing_stays, cut_stays}
@@ -439,10 +439,10 @@ module _ {Q P L M : Type 0} (stands : Laws Q P L M) (n : ℕ) where
     abbrev x : ℕ
     x = get_or s.words k 0
 
-    looks_on : x ≢ 2 → x ≢ 16 → Goes stands n (ComesWhere 2 (IsElect c q)) s r k id me saw x
-    looks_on n2 n16 = (me.0, keeps, tt, unmoved stands n (ComesWhere 2 (IsElect c q) x) s k id me.1 me.0 at r ((λ y. absurd (n2 y)), λ _. refl), λ _ _ _ _. ((λ y. absurd (n2 y)), (λ y. absurd (n16 y)), λ _ _. refl))
+    looks_on : x ≢ 2 → x ≢ 16 → Goes stands n (HappensWhere 2 (IsElect c q)) s r k id me saw x
+    looks_on n2 n16 = (me.0, keeps, tt, unmoved stands n (HappensWhere 2 (IsElect c q) x) s k id me.1 me.0 at r ((λ y. absurd (n2 y)), λ _. refl), λ _ _ _ _. ((λ y. absurd (n2 y)), (λ y. absurd (n16 y)), λ _ _. refl))
 
-    looks_elected : (e : Entry Q) → r.phase c ≡ chosen e → e.asked ≡ q → Goes stands n (ComesWhere 2 (IsElect c q)) s r k id me saw x
+    looks_elected : (e : Entry Q) → r.phase c ≡ chosen e → e.asked ≡ q → Goes stands n (HappensWhere 2 (IsElect c q)) s r k id me saw x
     looks_elected e now asks =
         let at' : get_elem? s.views id ≡ some (hw ∷ []) = at ∙ ap some mid in
         let fit = (r.seats id (hw ∷ []) at').0 in
@@ -510,7 +510,7 @@ module _ {Q P L M : Type 0} (stands : Laws Q P L M) (n : ℕ) where
               ),
         )
 
-    looks_done : (q0 : Q) (p : P) → r.phase c ≡ completed q0 p → q0 ≡ q → Goes stands n (ComesWhere 2 (IsElect c q)) s r k id me saw x
+    looks_done : (q0 : Q) (p : P) → r.phase c ≡ completed q0 p → q0 ≡ q → Goes stands n (HappensWhere 2 (IsElect c q)) s r k id me saw x
     looks_done q0 p now asks =
         let at' : get_elem? s.views id ≡ some (hw ∷ []) = at ∙ ap some mid in
         let fit = (r.seats id (hw ∷ []) at').0 in
@@ -546,7 +546,7 @@ module _ {Q P L M : Type 0} (stands : Laws Q P L M) (n : ℕ) where
               ),
         )
 
-    looks_at : (ph : Phase Q P) → r.phase c ≡ ph → Waits q ph → InPhase stands s.words s.homes c (r.due c) ph → Goes stands n (ComesWhere 2 (IsElect c q)) s r k id me saw x
+    looks_at : (ph : Phase Q P) → r.phase c ≡ ph → Waits q ph → InPhase stands s.words s.homes c (r.due c) ph → Goes stands n (HappensWhere 2 (IsElect c q)) s r k id me saw x
     looks_at idle now w ok = absurd w
     looks_at (preparing v) now w ok = absurd w
     looks_at (linked e) now w ok = let one : x ≡ 1 = ap (λ (j : ℕ). get_or s.words j 0) is ∙ ok.1 in looks_on (λ y. omega arith) (λ y. omega arith)
@@ -556,14 +556,14 @@ module _ {Q P L M : Type 0} (stands : Laws Q P L M) (n : ℕ) where
     looks_at (completed q0 p) now w ok = looks_done q0 p now w
     looks_at collecting now w ok = absurd w
 
-    looks_all : Goes stands n (ComesWhere 2 (IsElect c q)) s r k id me saw x
+    looks_all : Goes stands n (HappensWhere 2 (IsElect c q)) s r k id me saw x
     looks_all = let fit = (r.seats id (hw ∷ []) (at ∙ ap some mid)).0 in looks_at (r.phase c) refl fit.4 (r.rows c fit.1 fit.2)
 
-  pub looks_is : (slots id : ℕ) (me : Sat Q P L M) (c k : ℕ) (q : Q) (mine : List (Q × P)) → k ≡ state_at c → At c (Waiting q) mine me → me.1 ≡ [] → StepIs stands n (ComesWhere 2 (IsElect c q)) slots id me k (λ y. y) (looked stands.logs stands.kept (step slots k 0 0 none) me)
+  pub looks_is : (slots id : ℕ) (me : Sat Q P L M) (c k : ℕ) (q : Q) (mine : List (Q × P)) → k ≡ state_at c → At c (Waiting q) mine me → me.1 ≡ [] → StepIs stands n (HappensWhere 2 (IsElect c q)) slots id me k (λ y. y) (looked stands.logs stands.kept (step slots k 0 0 none) me)
   looks_is slots id me c k q mine is mid empty s r long at fits = looks_all slots id me c k q mine is mid empty s r at
 
   pub looks : (slots id : ℕ) (me : Sat Q P L M) (c k : ℕ) (q : Q) (mine : List (Q × P)) → k ≡ state_at c → At c (Waiting q) mine me → me.1 ≡ [] → Allows (Listed stands n) slots id me k (λ y. y) (looked stands.logs stands.kept (step slots k 0 0 none) me)
-  looks slots id me c k q mine is mid empty = allows stands n (ComesWhere 2 (IsElect c q)) slots id me k (λ y. y) (looked stands.logs stands.kept (step slots k 0 0 none) me) (looks_is slots id me c k q mine is mid empty)
+  looks slots id me c k q mine is mid empty = allows stands n (HappensWhere 2 (IsElect c q)) slots id me k (λ y. y) (looked stands.logs stands.kept (step slots k 0 0 none) me) (looks_is slots id me c k q mine is mid empty)
 
   pub enters_as : (stood : L → List (Handling Q P) → Type 0) → stands.logs ≡ stood → (slots id : ℕ) (me : Sat Q P L M) (c w old code : ℕ) (q : Q) (mine : List (Q × P)) (said : Option (Content Q P L M)) → w ≡ pack old code → At c (Preparing w) mine me → me.1 ≡ (c, Asked q) ∷ [] → code ≡ stands.code_of q
       → Allows (Listed stands n) slots id me 0 (λ y. either (eqb y old) c y) (entered stood (step slots 0 old c said) me)

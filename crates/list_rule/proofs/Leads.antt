@@ -24,7 +24,7 @@ use Rattle.list_rule.specs.Laws.{Laws}
 use Rattle.list_rule.specs.Rule.{InChain, Stand, Waits, AllLinked, AllTaken, AllOwed, Knows, AllFit, hold, InPhase, InMode, Listed, InSecond, hold_at, untold}
 use Rattle.list_rule.proofs.Fitting.{split_group}
 use Rattle.list_rule.specs.Events.{Core, IsOfGroup}
-use Rattle.list_rule.specs.Steps.{Stays, ComesWhere, IsBuild, IsExit, now_of, IsNow, Becomes, StepIs}
+use Rattle.list_rule.specs.Steps.{Stays, HappensWhere, IsBuild, IsExit, now_of, IsNow, Becomes, StepIs}
 use Rattle.list_rule.specs.Plays.{Sat, building, At, walking, taking, in_hand, debt, slots_of, AllBelow, Walks, Builds, read_once, traced, fetched, left}
 use Rattle.list_rule.proofs.Chains.{put, put_at, put_here, put_else, links_same, ends_same, stand_change, linked_change, taken_change, owed_change}
 use Rattle.list_rule.proofs.Exits.{group_handled, owing_stays, owing_grows}
@@ -496,7 +496,7 @@ module _ {Q P L M : Type 0} (stands : Laws Q P L M) (n : ℕ) where
   module _ (slots id : ℕ) (me : Sat Q P L M) (c old : ℕ) (lead : Lead Q P) (mine : List (Q × P)) (gs : List (Entry Q × P)) (p : P) (l : L) (said : Option (Content Q P L M)) (mid : At c (Leading lead) mine me) (group : heads gs ≡ lead.taken)
       (slot : me.1 ≡ (0, Log l) ∷ slots_of gs ((c, Told p) ∷ [])) (is_old : old ≡ newest (in_hand lead)) (all : lead.taken ≡ lead.group) (stood : stands.logs l (lead.seen ++ all_answers lead.own p gs)) (unnumbered : stands.piped ≡ true → stands.last (lead.seen ++ all_answers lead.own p gs) ≡ stands.last lead.seen)
       (s : St stands n) (r : Listed stands n s) (at : get_elem? s.views id ≡ some me.0) (hit : get_or s.words 0 0 ≡ old) where
-    leaves_last : Goes stands n (ComesWhere old (IsExit lead.own p gs)) s r 0 id me (left (step slots 0 old 0 said) me) 0
+    leaves_last : Goes stands n (HappensWhere old (IsExit lead.own p gs)) s r 0 id me (left (step slots 0 old 0 said) me) 0
     leaves_last =
         let h : Hold Q P = hold c (Leading lead) mine in
         let at' : get_elem? s.views id ≡ some (h ∷ []) = at ∙ ap some mid in
@@ -577,8 +577,8 @@ module _ {Q P L M : Type 0} (stands : Laws Q P L M) (n : ℕ) where
 
   pub leaves_is : (slots id : ℕ) (me : Sat Q P L M) (c old : ℕ) (lead : Lead Q P) (mine : List (Q × P)) (gs : List (Entry Q × P)) (p : P) (l : L) (said : Option (Content Q P L M)) → At c (Leading lead) mine me → heads gs ≡ lead.taken
       → me.1 ≡ (0, Log l) ∷ slots_of gs ((c, Told p) ∷ []) → old ≡ newest (in_hand lead) → lead.taken ≡ lead.group → stands.logs l (lead.seen ++ all_answers lead.own p gs) → (stands.piped ≡ true → stands.last (lead.seen ++ all_answers lead.own p gs) ≡ stands.last lead.seen)
-      → StepIs stands n (ComesWhere old (IsExit lead.own p gs)) slots id me 0 (λ y. either (eqb y old) 0 y) (left (step slots 0 old 0 said) me)
-  leaves_is slots id me c old lead mine gs p l said mid group slot is_old all stood unnumbered s r long at fits = exchanged (get_or s.words 0 0) old 0 (Goes stands n (ComesWhere old (IsExit lead.own p gs)) s r 0 id me (left (step slots 0 old 0 said) me))
+      → StepIs stands n (HappensWhere old (IsExit lead.own p gs)) slots id me 0 (λ y. either (eqb y old) 0 y) (left (step slots 0 old 0 said) me)
+  leaves_is slots id me c old lead mine gs p l said mid group slot is_old all stood unnumbered s r long at fits = exchanged (get_or s.words 0 0) old 0 (Goes stands n (HappensWhere old (IsExit lead.own p gs)) s r 0 id me (left (step slots 0 old 0 said) me))
       (λ hit. leaves_last slots id me c old lead mine gs p l said mid group slot is_old all stood unnumbered s r at hit)
       (λ miss.
       let t = walks_now stands n slots id me c lead mine mid s r at long in (
@@ -595,4 +595,4 @@ module _ {Q P L M : Type 0} (stands : Laws Q P L M) (n : ℕ) where
   pub leaves : (slots id : ℕ) (me : Sat Q P L M) (c old : ℕ) (lead : Lead Q P) (mine : List (Q × P)) (gs : List (Entry Q × P)) (p : P) (l : L) (said : Option (Content Q P L M)) → At c (Leading lead) mine me → heads gs ≡ lead.taken
       → me.1 ≡ (0, Log l) ∷ slots_of gs ((c, Told p) ∷ []) → old ≡ newest (in_hand lead) → lead.taken ≡ lead.group → stands.logs l (lead.seen ++ all_answers lead.own p gs) → (stands.piped ≡ true → stands.last (lead.seen ++ all_answers lead.own p gs) ≡ stands.last lead.seen)
       → Allows (Listed stands n) slots id me 0 (λ y. either (eqb y old) 0 y) (left (step slots 0 old 0 said) me)
-  leaves slots id me c old lead mine gs p l said mid group slot is_old all stood unnumbered = allows stands n (ComesWhere old (IsExit lead.own p gs)) slots id me 0 (λ y. either (eqb y old) 0 y) (left (step slots 0 old 0 said) me) (leaves_is slots id me c old lead mine gs p l said mid group slot is_old all stood unnumbered)
+  leaves slots id me c old lead mine gs p l said mid group slot is_old all stood unnumbered = allows stands n (HappensWhere old (IsExit lead.own p gs)) slots id me 0 (λ y. either (eqb y old) 0 y) (left (step slots 0 old 0 said) me) (leaves_is slots id me c old lead mine gs p l said mid group slot is_old all stood unnumbered)

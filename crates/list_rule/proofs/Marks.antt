@@ -27,7 +27,7 @@ use Rattle.list_rule.specs.Standing.{Phase, linked, chosen, leads, taken, Mode, 
 use Rattle.list_rule.specs.Laws.{Laws}
 use Rattle.list_rule.specs.Rule.{InChain, AllLinked, AllTaken, hold, InPhase, InMode, Listed, InSecond, hold_at, HasCut, untold}
 use Rattle.list_rule.specs.Events.{Core, grouped}
-use Rattle.list_rule.specs.Steps.{Stays, ComesWhere, IsExit, now_of, IsNow, StepIs}
+use Rattle.list_rule.specs.Steps.{Stays, HappensWhere, IsExit, now_of, IsNow, StepIs}
 use Rattle.list_rule.specs.Plays.{Sat, At, walking, in_hand, debt, slots_of, Walks, AtWith, parting, onward, marked_off, freed, WalksMarked, traced_marked, cut_marked}
 use Rattle.list_rule.proofs.Chains.{put, put_at, put_here, put_else, links_same, stand_change, linked_change, taken_change, owed_change}
 use Rattle.list_rule.proofs.Exits.{group_handled, owing_stays, owing_grows}
@@ -134,8 +134,8 @@ module _ {Q P L M : Type 0} (stands : Laws Q P L M) (n : ℕ) where
 
   pub frees_is : (slots id : ℕ) (me : Sat Q P L M) (c : ℕ) (lead : Lead Q P) (mine : List (Q × P)) (b : Back Q) (gs : List (Entry Q × P)) (p : P) (l : L) (tail : List (ℕ × Content Q P L M)) (said : Option (Content Q P L M)) → AtWith c (Marking lead) mine b me → heads gs ≡ lead.taken
       → me.1 ≡ (0, Log l) ∷ slots_of gs ((c, Told p) ∷ tail) → stands.logs l (lead.seen ++ all_answers lead.own p gs) → Hands stands n b lead.seen (lead.seen ++ all_answers lead.own p gs)
-      → StepIs stands n (ComesWhere 255 (IsExit lead.own p gs)) slots id me 0 (λ y. either (eqb y 255) 0 y) (freed (step slots 0 255 0 said) me)
-  frees_is slots id me c lead mine b gs p l tail said mid group slot stood unnumbered s r long at fits = exchanged (get_or s.words 0 0) 255 0 (Goes stands n (ComesWhere 255 (IsExit lead.own p gs)) s r 0 id me (freed (step slots 0 255 0 said) me))
+      → StepIs stands n (HappensWhere 255 (IsExit lead.own p gs)) slots id me 0 (λ y. either (eqb y 255) 0 y) (freed (step slots 0 255 0 said) me)
+  frees_is slots id me c lead mine b gs p l tail said mid group slot stood unnumbered s r long at fits = exchanged (get_or s.words 0 0) 255 0 (Goes stands n (HappensWhere 255 (IsExit lead.own p gs)) s r 0 id me (freed (step slots 0 255 0 said) me))
       (λ hit.
       let h : Hold Q P = hold_at c (Marking lead) mine b in
       let at' : get_elem? s.views id ≡ some (h ∷ []) = at ∙ ap some mid in
@@ -247,7 +247,7 @@ module _ {Q P L M : Type 0} (stands : Laws Q P L M) (n : ℕ) where
   pub frees : (slots id : ℕ) (me : Sat Q P L M) (c : ℕ) (lead : Lead Q P) (mine : List (Q × P)) (b : Back Q) (gs : List (Entry Q × P)) (p : P) (l : L) (tail : List (ℕ × Content Q P L M)) (said : Option (Content Q P L M)) → AtWith c (Marking lead) mine b me → heads gs ≡ lead.taken
       → me.1 ≡ (0, Log l) ∷ slots_of gs ((c, Told p) ∷ tail) → stands.logs l (lead.seen ++ all_answers lead.own p gs) → Hands stands n b lead.seen (lead.seen ++ all_answers lead.own p gs)
       → Allows (Listed stands n) slots id me 0 (λ y. either (eqb y 255) 0 y) (freed (step slots 0 255 0 said) me)
-  frees slots id me c lead mine b gs p l tail said mid group slot stood unnumbered = allows stands n (ComesWhere 255 (IsExit lead.own p gs)) slots id me 0 (λ y. either (eqb y 255) 0 y) (freed (step slots 0 255 0 said) me) (frees_is slots id me c lead mine b gs p l tail said mid group slot stood unnumbered)
+  frees slots id me c lead mine b gs p l tail said mid group slot stood unnumbered = allows stands n (HappensWhere 255 (IsExit lead.own p gs)) slots id me 0 (λ y. either (eqb y 255) 0 y) (freed (step slots 0 255 0 said) me) (frees_is slots id me c lead mine b gs p l tail said mid group slot stood unnumbered)
 
   links_from_at : (b : ℕ) (words : List ℕ) (a : List (Entry Q)) (x : Entry Q) (t : List (Entry Q)) → LinksFrom b words (a ++ x ∷ t) → get_or words (older_at x.by) 0 ≡ pack (newest_from b t) x.code
   links_from_at b words [] x t ok = ok.0

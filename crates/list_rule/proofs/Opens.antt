@@ -17,6 +17,8 @@ use Rattle.list_rule.specs.Chain.{Within}
 use Rattle.list_rule.specs.Standing.{Phase, idle, linked, leads, Mode, open_, waits, led, built, cut, marked, Holds, Two, Place, away, Turn, Lead2, level, ahead, InStep, still, Chained, calls, held_by, passes, flat}
 use Rattle.list_rule.specs.Laws.{Laws}
 use Rattle.list_rule.specs.Rule.{all_but_first, first_only, Fits, AllFit, hold, newcomers, Has, AllIdle, Merges, InPhase, LogHome, InMode, Listed, Level, RightHome, AllGroups, InTurn}
+use Rattle.list_rule.specs.Events.{free, Core}
+use Rattle.list_rule.specs.Steps.{IsNow}
 use Rattle.list_rule.proofs.Chains.{put, put_here, put_else, nobody}
 use Rattle.list_rule.proofs.Accounts.{opens_now}
 use Rattle.list_rule.proofs.Moves.{St}
@@ -116,6 +118,11 @@ module _ {Q P L M : Type 0} (stands : Laws Q P L M) (n : ℕ) where
       first zero v e = subst (AllFit n [] [] [] open_ (λ _. idle) (λ _. []) (λ _. []) (fresh_two stands.opened) (λ _. 0) 0) (some-injective (newcomers n) v e) (new_fit n stands.opened (omega arith))
       first (suc j) v e = absurd (some-ne-none v (sym e))
 
+  -- nobody has come yet
+  pub opens_is : (words : List ℕ) (slots : List (Content Q P L M)) (l : L) (rt : M) → n < 255 → length words ≡ 2 * n + 4 → (get_or words 0 0 ≡ 0) × (get_or words 1 0 ≡ 0) → slots ≡ Log l ∷ (replicate n Empty ++ Right rt ∷ []) → stands.logs l [] → stands.rights rt stands.opened → (stands.piped ≡ true → stands.opened ≡ stands.last []) → IsNow stands n ([], free, [], []) (opening words slots (newcomers n))
+  unfolding opens
+  opens_is words slots l rt few wide zero_first are stood right_stood even = (opens words slots l rt few wide zero_first are stood right_stood even, refl)
+
   module _ (s : St stands n) (r : Listed stands n s) (c k : ℕ) where
     seat' : ℕ → ℕ
     seat' = put r.seat c k
@@ -173,6 +180,12 @@ module _ {Q P L M : Type 0} (stands : Laws Q P L M) (n : ℕ) where
             ((put_here r.seat c k, ok.0.1, ok.0.2, ok.0.3, ok.0.4, ok.0.5), tt))
             (at_end (set s.views id (newcomers m)) (hold c Idle [] ∷ []) v j e);
       }
+
+module _ {Q P L M : Type 0} (stands : Laws Q P L M) (n : ℕ) where
+  -- making a seat leaves the list as it is
+  pub splits_is : (now : Core Q P) (id m : ℕ) → Splits (IsNow stands n now) id (newcomers (suc m)) (newcomers m) (hold (suc m) Idle [] ∷ [])
+  unfolding splits
+  splits_is now id m s is at = (splits stands n id m s is.0 at, is.1)
 
 abbrev pick_seat : {A D : Type 0} → Dec D → A → A → A
 pick_seat (yes _) a b = a
@@ -242,6 +255,11 @@ module _ {Q P L M : Type 0} (stands : Laws Q P L M) (n : ℕ) where
             (at_set s.views id j (v ++ w) x t.1))
             (at_set (set s.views id (v ++ w)) other j [] x e);
       }
+
+  -- joining two leaves it as it is
+  pub joins_is : (now : Core Q P) (id other : ℕ) (v w : List (Hold Q P)) → Joins (IsNow stands n now) id v other w (v ++ w) []
+  unfolding joins
+  joins_is now id other v w s is at apart at_other = (joins id other v w s is.0 at apart at_other, is.1)
 
   fit_has : (s : St stands n) (r : Listed stands n s) (id : ℕ) (h : Hold Q P) (v : List (Hold Q P)) → Has h v → AllFit n r.line r.hand r.handled r.mode r.phase r.due r.told r.two r.seat id v → Fits n r.line r.hand r.handled r.mode r.phase r.due r.told r.two r.seat id h
   fit_has s r id h [] has ok = absurd has
@@ -352,3 +370,7 @@ module _ {Q P L M : Type 0} (stands : Laws Q P L M) (n : ℕ) where
   pub splits_first : (id k : ℕ) (v : List (Hold Q P)) → 0 < k → v ≡ newcomers k → Splits (Listed stands n) id v (all_but_first v) (first_only v)
   splits_first id zero v lo e = absurd (omega arith)
   splits_first id (suc m) v lo e = subst (λ z. Splits (Listed stands n) id z (all_but_first z) (first_only z)) (sym e) (splits stands n id m)
+
+  pub splits_first_is : (now : Core Q P) (id k : ℕ) (v : List (Hold Q P)) → 0 < k → v ≡ newcomers k → Splits (IsNow stands n now) id v (all_but_first v) (first_only v)
+  splits_first_is now id zero v lo e = absurd (omega arith)
+  splits_first_is now id (suc m) v lo e = subst (λ z. Splits (IsNow stands n now) id z (all_but_first z) (first_only z)) (sym e) (splits_is stands n now id m)

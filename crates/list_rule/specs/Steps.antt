@@ -17,36 +17,36 @@ module _ {Q P : Type 0} where
   abbrev pub Stays : Core Q P → Core Q P → Type 0
   Stays a b = b ≡ a
 
-  -- the event could come, and it came
-  abbrev pub Comes : Event Q P → Core Q P → Core Q P → Type 0
-  Comes v a b = Enabled a v × (b ≡ after a v)
+  -- the event may happen, and this is what the list is after it
+  abbrev pub Happens : Event Q P → Core Q P → Core Q P → Type 0
+  Happens v a b = Enabled a v × (b ≡ after a v)
 
-  -- it came where the word held this number, and else nothing moves
-  abbrev pub ComesWhere : ℕ → (Core Q P → Core Q P → Type 0) → ℕ → Core Q P → Core Q P → Type 0
-  ComesWhere wanted event found a b = (found ≡ wanted → event a b) × (found ≢ wanted → Stays a b)
+  -- it happens where the word held this number, and else nothing moves
+  abbrev pub HappensWhere : ℕ → (Core Q P → Core Q P → Type 0) → ℕ → Core Q P → Core Q P → Type 0
+  HappensWhere wanted event found a b = (found ≡ wanted → event a b) × (found ≢ wanted → Stays a b)
 
-  -- the writer e, that saw this newest writer, comes; it leads where it saw nobody; and nothing moves where another
+  -- the writer e, that saw this newest writer, comes; it leads where there is none; and nothing moves where another
   -- came before it
   abbrev pub IsLink : ℕ → Entry Q → ℕ → Core Q P → Core Q P → Type 0
   IsLink saw e found a b =
-      (found ≡ saw → found ≡ 0 → (linked : Core Q P) × Comes (comes e) a linked × Comes (elects e) linked b)
-      × (found ≡ saw → found ≢ 0 → Comes (comes e) a b) × (found ≢ saw → Stays a b)
+      (found ≡ saw → found ≡ 0 → (linked : Core Q P) × Happens (comes e) a linked × Happens (elects e) linked b)
+      × (found ≡ saw → found ≢ 0 → Happens (comes e) a b) × (found ≢ saw → Stays a b)
 
   -- a writer of this client, with this request, leads
   abbrev pub IsElect : ℕ → Q → Core Q P → Core Q P → Type 0
-  IsElect c q a b = (e : Entry Q) × (e.by ≡ c) × (e.asked ≡ q) × Comes (elects e) a b
+  IsElect c q a b = (e : Entry Q) × (e.by ≡ c) × (e.asked ≡ q) × Happens (elects e) a b
 
   -- own builds its group, under this bound
   abbrev pub IsBuild : ℕ → Entry Q → Core Q P → Core Q P → Type 0
-  IsBuild max own a b = (group left : List (Entry Q)) × Comes (builds max own group left) a b
+  IsBuild max own a b = (group left : List (Entry Q)) × Happens (builds max own group left) a b
 
   -- own's group leaves, with these replies of its other members and this one of its own
   abbrev pub IsExit : Entry Q → P → List (Entry Q × P) → Core Q P → Core Q P → Type 0
-  IsExit own p gs = Comes (exits (all_answers own p gs))
+  IsExit own p gs = Happens (exits (all_answers own p gs))
 
   -- e's client is told this reply
   abbrev pub IsComplete : Entry Q → P → Core Q P → Core Q P → Type 0
-  IsComplete e p = Comes (completes (handling e p))
+  IsComplete e p = Happens (completes (handling e p))
 
 module _ {Q P L M : Type 0} (stands : Laws Q P L M) (n : ℕ) where
   -- the list as it is after the events that led to a state

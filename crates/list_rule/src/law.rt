@@ -1,10 +1,10 @@
-//! What the list is between any two steps, and what each step makes of it.
-ghost use Rattle.std.specs.Prelude.{◌≡◌, ℕ, ◌<◌, ◌≤◌, ◌==◌, List, [], ◌∷◌, ◌++◌, Some};
+//! What the list is at opening and between any two steps, and what each step makes of it.
+ghost use Rattle.std.specs.Prelude.{◌≡◌, ℕ, ◌+◌, ◌*◌, ◌<◌, ◌≤◌, ◌==◌, true, List, [], ◌∷◌, ◌++◌, length, replicate, slice_index, Some};
 ghost use mathlib.Core.Option.{none};
 ghost use prog.Atomic.{either};
-ghost use Rattle.atomic_table.specs.Table.{State, step};
+ghost use Rattle.atomic_table.specs.Table.{State, step, opening, Splits, Joins};
 ghost use Rattle.list_rule.specs.declared.content.Content.{Content};
-ghost use Rattle.list_rule.specs.declared.content.Content.TheVariants.{Empty, Asked, Told, Log};
+ghost use Rattle.list_rule.specs.declared.content.Content.TheVariants.{Empty, Asked, Told, Log, Right};
 ghost use Rattle.list_rule.specs.declared.content.Start.{Start};
 ghost use Rattle.list_rule.specs.declared.view.Entry.{Entry};
 ghost use Rattle.list_rule.specs.declared.view.Handling.{Handling};
@@ -12,11 +12,12 @@ ghost use Rattle.list_rule.specs.declared.view.Hold.{Hold};
 ghost use Rattle.list_rule.specs.declared.view.Lead.{Lead};
 ghost use Rattle.list_rule.specs.declared.view.Stage.TheVariants.{Idle, Preparing, Waiting, Fresh, Leading, Cutting, Settling, Collecting};
 ghost use Rattle.list_rule.specs.Chain.{state_at, older_at, pack, newest, heads, all_answers};
+ghost use Rattle.list_rule.specs.Events.{free, Core};
 ghost use Rattle.list_rule.specs.Grouping.{code_by};
 ghost use Rattle.list_rule.specs.Laws.{laws_for, logs_picked, kept_picked, last_run, Unnumbered};
-ghost use Rattle.list_rule.specs.Rule.{Listed};
+ghost use Rattle.list_rule.specs.Rule.{Listed, newcomers, all_but_first, first_only};
 ghost use Rattle.list_rule.specs.Plays.{Sat, At, entry, in_hand, debt, slots_of, begun, peeked, aimed, entered, looked, rested, read_once, traced, fetched, left, cut_off, woken_on, told_one, retired};
-ghost use Rattle.list_rule.specs.Steps.{Stays, ComesWhere, IsLink, IsElect, IsBuild, IsExit, IsComplete, StepIs};
+ghost use Rattle.list_rule.specs.Steps.{IsNow, Stays, HappensWhere, IsLink, IsElect, IsBuild, IsExit, IsComplete, StepIs};
 ghost use Rattle.list_rule.specs.Between.{Between};
 
 use crate::rule::{Given, Itemized, Ledger, Numbered};
@@ -29,6 +30,26 @@ pub fn between_steps<Q: Itemized, P: Given, L: Ledger<Q, P>, M: Numbered>()
     ensures { (k : Start L.About) (s : State (Content Q P L M) (List (Hold Q P)))
         → Listed (laws_for Q.item_of L.stands L.kept L.number_of P.run_of M.number_of k) k.clients s
         → Between (laws_for Q.item_of L.stands L.kept L.number_of P.run_of M.number_of k) k.clients s }
+{}
+
+/// At opening nobody has come, the log is free, and nothing was handled; and making and joining seats leaves the list
+/// as it is.
+pub fn opening_and_seats<Q: Itemized, P: Given, L: Ledger<Q, P>, M: Numbered>()
+    ensures open { (z : Start L.About) (words : List ℕ) (slots : List (Content Q P L M)) (l : L) (right : M)
+        → z.clients < 255 → length words ≡ 2 * z.clients + 4
+        → slice_index words 0 ≡ 0 → slice_index words 1 ≡ 0
+        → slots ≡ Log l ∷ (replicate z.clients Empty ++ Right right ∷ [])
+        → logs_picked L.stands L.kept L.number_of P.run_of z.log (Some z.about) l [] → M.number_of right ≡ z.right
+        → (z.pipelined ≡ true → z.right ≡ z.log)
+        → IsNow (laws_for Q.item_of L.stands L.kept L.number_of P.run_of M.number_of z) z.clients ([], free, [], [])
+        (opening words slots (newcomers z.clients)) }
+    ensures split { (z : Start L.About) (now : Core Q P) (id k : ℕ) (v : List (Hold Q P))
+        → 0 < k → v ≡ newcomers k
+        → Splits (IsNow (laws_for Q.item_of L.stands L.kept L.number_of P.run_of M.number_of z) z.clients now)
+        id v (all_but_first v) (first_only v) }
+    ensures join { (z : Start L.About) (now : Core Q P) (id other : ℕ) (v w : List (Hold Q P))
+        → Joins (IsNow (laws_for Q.item_of L.stands L.kept L.number_of P.run_of M.number_of z) z.clients now)
+        id v other w (v ++ w) [] }
 {}
 
 /// What each step of a list with one stage is, of whatever list that keeps the rule, where its caller may make it: one
@@ -53,7 +74,7 @@ pub fn steps_and_events<Q: Itemized, P: Given, L: Ledger<Q, P>, M: Numbered>()
     ensures read_state { (z : Start L.About) (slots id word c : ℕ) (me : Sat Q P L M) (q : Q) (mine : List (Q × P))
         → word ≡ state_at c → At c (Waiting q) mine me → me.1 ≡ []
         → StepIs (laws_for Q.item_of L.stands L.kept L.number_of P.run_of M.number_of z) z.clients
-        (ComesWhere 2 (IsElect c q)) slots id me word (λ x. x)
+        (HappensWhere 2 (IsElect c q)) slots id me word (λ x. x)
         (looked (logs_picked L.stands L.kept L.number_of P.run_of z.log (Some z.about))
         (kept_picked L.kept (Some z.about)) (step slots word 0 0 none) me) }
     ensures rest { (z : Start L.About) (slots id word c : ℕ) (me : Sat Q P L M) (mine : List (Q × P))
@@ -81,7 +102,7 @@ pub fn steps_and_events<Q: Itemized, P: Given, L: Ledger<Q, P>, M: Numbered>()
         (lead.seen ++ all_answers lead.own p gs)
         → Unnumbered z.pipelined (last_run P.run_of z.log) lead.seen (lead.seen ++ all_answers lead.own p gs)
         → StepIs (laws_for Q.item_of L.stands L.kept L.number_of P.run_of M.number_of z) z.clients
-        (ComesWhere member (IsExit lead.own p gs)) slots id me 0 (λ x. either (x == member) 0 x)
+        (HappensWhere member (IsExit lead.own p gs)) slots id me 0 (λ x. either (x == member) 0 x)
         (left (step slots 0 member 0 none) me) }
     ensures cut_off { (z : Start L.About) (slots id word c new : ℕ) (me : Sat Q P L M) (lead : Lead Q P)
         (mine : List (Q × P)) (newer : List (Entry Q)) (x : Entry Q)

@@ -57,7 +57,8 @@
 //! | store of OLDER `k` ([`ClearSecond`]) | who has the right | clears the link of the next group's oldest writer | |
 //! | store of 4 to STATE `k` ([`CallNext`]) | who had it | gives the right on to that writer | exit of the pipelined stage |
 //!
-//! A compare-exchange that fails is a load. A seat is made and joined at opening and closing alone.
+//! A compare-exchange that fails is a load. A seat is made and joined at opening and closing alone, which leaves the
+//! list as it is ([`opening_and_seats`]).
 #![tactic(auto)]
 
 mod code;
@@ -72,7 +73,7 @@ mod view;
 pub use code::{code_of, codes_stand_for_items, item_of};
 pub use content::{Content, Start};
 pub use core_events::list_and_core;
-pub use law::{between_steps, steps_and_events};
+pub use law::{between_steps, opening_and_seats, steps_and_events};
 pub use rule::{Both, First, Given, Itemized, Ledger, Numbered, Order, Picked, PickedAbout};
 pub use second_law::second_steps_and_events;
 pub use steps::{

@@ -18,7 +18,7 @@ ghost use Rattle.list_rule.specs.Chain.{state_at, older_at, pack, newest, heads,
 ghost use Rattle.list_rule.specs.Standing.{line_of};
 ghost use Rattle.list_rule.specs.Laws.{laws_for, logs_picked, last_run};
 ghost use Rattle.list_rule.specs.Plays.{Sat, At, AtWith, HandsOn, IsCut, in_hand, debt, slots_of, peeked, cut_as, marked_off, woken_on, freed, traced_marked, cut_marked, aimed_second, joined, summoned, kept, left_second, traced_second, cleared_second, called_next};
-ghost use Rattle.list_rule.specs.Steps.{Stays, ComesWhere, IsExit, StepIs};
+ghost use Rattle.list_rule.specs.Steps.{Stays, HappensWhere, IsExit, StepIs};
 
 use crate::rule::{Given, Itemized, Ledger, Numbered};
 
@@ -60,7 +60,7 @@ pub fn second_steps_and_events<Q: Itemized, P: Given, L: Ledger<Q, P>, M: Number
         (lead.seen ++ all_answers lead.own p gs)
         → HandsOn z.pipelined (last_run P.run_of z.log) back lead.seen (lead.seen ++ all_answers lead.own p gs)
         → StepIs (laws_for Q.item_of L.stands L.kept L.number_of P.run_of M.number_of z) z.clients
-        (ComesWhere 255 (IsExit lead.own p gs)) slots id me 0 (λ x. either (x == 255) 0 x)
+        (HappensWhere 255 (IsExit lead.own p gs)) slots id me 0 (λ x. either (x == 255) 0 x)
         (freed (step slots 0 255 0 none) me) }
     ensures read_older_marked { (z : Start L.About) (slots id word : ℕ) (me : Sat Q P L M)
         → StepIs (laws_for Q.item_of L.stands L.kept L.number_of P.run_of M.number_of z) z.clients (λ _. Stays)

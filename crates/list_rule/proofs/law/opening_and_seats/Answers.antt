@@ -1,0 +1,11 @@
+use Rattle.list_rule.proofs.Opens.{opens_is, splits_first_is, joins_is}
+use Rattle.list_rule.proofs.law.opening_and_seats.Goals as goal
+
+pub returns-clause-open : goal.returns-clause-open
+returns-clause-open g a z words slots l right few wide first second are stood number even = opens_is _ z.clients words slots l right few wide (first, second) are stood number even
+
+pub returns-clause-split : goal.returns-clause-split
+returns-clause-split g a z now id k v lo is = splits_first_is _ z.clients now id k v lo is
+
+pub returns-clause-join : goal.returns-clause-join
+returns-clause-join g a z now id other v w = joins_is _ z.clients now id other v w
