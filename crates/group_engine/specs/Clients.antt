@@ -24,7 +24,7 @@ use Rattle.group_engine.specs.declared.engine.Clients.{Clients}
 use Rattle.group_engine.specs.declared.held.Held.{Held}
 use Rattle.group_engine.specs.declared.held.NoRight.{NoRight}
 use Rattle.group_engine.specs.Handled.{commit_of, AreHandled}
-use Rattle.group_engine.specs.Layout.{IsClear}
+use Rattle.group_engine.specs.Layout.{IsRoomy}
 
 -- a client's commits, from what it asked and was told
 abbrev pub own_commits : ℕ → List (Request × Reply) → List Commit
@@ -42,8 +42,7 @@ module _ {D T S U P : Type 0} {ghosts : Ghosts D} where
   -- the client's lists are empty, and have room for all clients
   pub record CanLead (clients : ℕ) (c : Client D T S U P ghosts) : Type 0 where
     pub lists : AreReady clients c.lists
-    pub layout : IsClear clients c.layout
-    pub room : (clients ≤ vec_capacity c.layout.plans) × (clients ≤ vec_capacity c.layout.batches)
+    pub layout : IsRoomy clients c.layout
 
   module _ (opening : T → Opening) (ours : T → S → Type 0) (account : S → TableAccount) where
     -- the list, the table and the numbers of an engine belong together

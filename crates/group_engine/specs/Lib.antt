@@ -5,3 +5,4 @@ pub mod Layout
 pub mod Law
 pub mod Led
 pub mod Clients
+pub mod AtStart

@@ -1,9 +1,12 @@
 //! Where a leader lays its group out.
 
-ghost use Rattle.std.specs.Prelude.{◌≡◌, []};
+ghost use Rattle.std.specs.Prelude.{◌≡◌, [], vec_len, IfOk};
+ghost use Rattle.group_engine.specs.Layout.{IsRoomy, AreRoomy};
 
 use crate::numbering::Plan;
 use mem_table::Parts;
+use std::alloc::Global;
+use wp_model::NoMemory;
 use write_batch::Batch;
 
 /// A leader's lists, which are empty between its groups, with room for all clients.
@@ -15,6 +18,30 @@ pub(crate) struct Layout {
 }
 
 impl Layout {
+    fn new(alloc: Global, clients: u32) -> Result<Layout, NoMemory>
+        ensures { IfOk result (λ layout. IsRoomy clients layout) }
+    {
+        let plans = Vec::with_capacity(alloc, clients as usize)?;
+        let batches = Vec::with_capacity(alloc, clients as usize)?;
+        let parts = Parts::new(alloc, clients)?;
+        Ok(Layout {
+            plans,
+            batches,
+            parts,
+        })
+    }
+
+    /// One for each client.
+    pub(crate) fn for_all(alloc: Global, clients: u32) -> Result<Vec<Layout>, NoMemory>
+        ensures { IfOk result (λ all. (vec_len all ≡ clients) × AreRoomy clients all.items) }
+    {
+        let mut all = Vec::with_capacity(alloc, clients as usize)?;
+        for made in 0..clients {
+            all.push_reserved(Layout::new(alloc, clients)?);
+        }
+        Ok(all)
+    }
+
     /// Drops what was to go into the table.
     pub(crate) fn drop_parts(&mut self)
         ensures parts { (self.new.parts.parts ≡ []) × (self.new.parts.clients ≡ self.old.parts.clients) }

@@ -7,6 +7,7 @@
 //! - `specs/Numbering`: what a leader lays out while it gives runs.
 //! - `specs/Law`: what the things that a leader holds stand for.
 //! - `specs/Clients`: an engine and its clients, and a client's account.
+//! - `specs/AtStart`: what an engine is opened with.
 #![tactic(auto)]
 
 mod closing;
@@ -15,10 +16,12 @@ mod held;
 mod layout;
 mod leading;
 mod numbering;
+mod opening;
 mod reading;
 mod requests;
 mod writing;
 
 pub use engine::{Client, Clients, Closed, GroupEngine};
 pub use held::{About, Held, NoRight};
+pub use opening::OpenRefused;
 pub use requests::{Receipt, Refused, Reply, Request};

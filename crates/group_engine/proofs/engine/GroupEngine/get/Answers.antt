@@ -13,7 +13,7 @@ returns-clause-belongs g c = let S = c.requires.seated in let R = c.read.ensures
     ready = record { idle = R.seen.stage ∙ S.ready.idle; none_launched = R.seen.launched ∙ S.ready.none_launched };
     seat_number = R.seen.number ∙ S.seat_number;
     start = S.start;
-    can_lead = record { lists = S.can_lead.lists; layout = S.can_lead.layout; room = S.can_lead.room };
+    can_lead = record { lists = S.can_lead.lists; layout = S.can_lead.layout };
   };
   out = c.requires.out;
 }

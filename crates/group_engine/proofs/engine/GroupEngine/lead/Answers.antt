@@ -33,8 +33,8 @@ handle-held-requires-clause-group g c =
 
 pub handle-held-requires-clause-layout : goal.handle-held-requires-clause-layout
 handle-held-requires-clause-layout g c =
-    let S = c.requires.seated in let few = c.group.ensures.few in let d = S.can_lead.layout in let r = S.can_lead.room in
-    ((d.0, d.1, d.2, d.3 ∙ sym S.is_engine.clients), (let a = r.0 in omega (arith, few, a)), (let a = r.1 in omega (arith, few, a)))
+    let S = c.requires.seated in let few = c.group.ensures.few in let d = S.can_lead.layout.clear in let r = S.can_lead.layout in
+    ((d.0, d.1, d.2, d.3 ∙ sym S.is_engine.clients), (let a = r.plans in omega (arith, few, a)), (let a = r.batches in omega (arith, few, a)))
 
 pub handle-held-requires-clause-replies : goal.handle-held-requires-clause-replies
 handle-held-requires-clause-replies g c =

@@ -32,7 +32,7 @@ lead-requires-clause-seated g c =
       ready = S.ready;
       seat_number = S.seat_number;
       start = S.start;
-      can_lead = record { lists = S.can_lead.lists; layout = S.can_lead.layout; room = S.can_lead.room };
+      can_lead = record { lists = S.can_lead.lists; layout = S.can_lead.layout };
     }
 
 pub lead-requires-clause-leads : goal.lead-requires-clause-leads
@@ -74,7 +74,7 @@ returns-in-Done-clause-fits g c =
         ready = S.ready;
         seat_number = S.seat_number;
         start = S.start;
-        can_lead = record { lists = S.can_lead.lists; layout = S.can_lead.layout; room = S.can_lead.room };
+        can_lead = record { lists = S.can_lead.lists; layout = S.can_lead.layout };
       };
       out = (B.0 ∙ (λ i. hold w2.client Idle (sym told2 i) ∷ []), B.1);
     }

@@ -1,0 +1,220 @@
+//! How an engine is opened.
+
+ghost use Rattle.std.specs.Prelude.{◌≡◌, ◌≤◌, ◌<◌, ◌+◌, ℕ, [], ◌∷◌, ◌++◌, false, length, vec_len, vec_capacity, MatchOption, IfOk, IfErr, Some, slice_get};
+ghost use Rattle.wp_model.specs.History.{max_sequence};
+ghost use Rattle.log_writer.specs.Words.{disk_of};
+ghost use Rattle.log_writer.specs.Opening.{HasOpened};
+ghost use Rattle.table_calls.specs.Account.{IsReady};
+ghost use Rattle.writer_list.specs.Roles.{IsNew, AreNew};
+ghost use Rattle.writer_list.specs.Rooms.{AreReady, AllReady};
+ghost use Rattle.writer_list.specs.Seats.{table_of, clients_of};
+ghost use Rattle.account_model.specs.Accounts.{newcomer};
+ghost use Rattle.account_model.specs.Closing.{AreOurs};
+ghost use Rattle.client_calls.specs.Settings.{settings_of as settings_with};
+ghost use Rattle.group_engine.specs.Layout.{IsRoomy, AreRoomy};
+ghost use Rattle.group_engine.specs.Clients.{IsEngine, IsClientOf, HasRoomToClose, account_in, settings_of, opened_log};
+ghost use Rattle.group_engine.specs.AtStart.{AreSeatsAtStart, IsNewcomer, AreNewcomers};
+
+use crate::engine::{Client, Clients, GroupEngine};
+use crate::held::{About, Held, NoRight};
+use crate::layout::Layout;
+use crate::numbering::take_first;
+use crate::requests::{Reply, Request};
+use client_calls::Options;
+use list_rule::Start;
+use log_writer::LogWriter;
+use mem_table::{Nodes, Parts};
+use std::alloc::Global;
+use std::snapshot::Snapshot;
+use table_calls::{Seats, Table};
+use wp_edge::Disk;
+use writer_list::{Lists, Writer, WriterList};
+
+/// What an engine was to be opened with, as it was.
+pub struct OpenRefused<D: Disk, T: Table<Nodes, Parts>> {
+    pub log: LogWriter<D>,
+    pub table: T,
+    pub seats: Seats<T::Seat, T::Turn>,
+}
+
+/// Takes the last item out.
+fn take_last<X>(items: &mut Vec<X>) -> Option<X>
+    ensures last { MatchOption result ((items.old.items ≡ []) × (items.new.items ≡ []))
+        (λ x. items.old.items ≡ items.new.items ++ x ∷ []) }
+    ensures room { vec_capacity items.new ≡ vec_capacity items.old }
+{
+    items.pop()
+}
+
+/// Puts an item before the others, for which there is room.
+fn put_first<X>(items: &mut Vec<X>, item: X)
+    requires { vec_len items.old < vec_capacity items.old }
+    ensures first { items.new.items ≡ item ∷ items.old.items }
+    ensures room { vec_capacity items.new ≡ vec_capacity items.old }
+{
+    match items.insert(0, item) {
+        Ok(()) => {}
+        Err(_) => unreachable!(),
+    }
+}
+
+impl<D: Disk, T: Table<Nodes, Parts>> GroupEngine<D, T> {
+    /// An engine over an opened log and a table of which nothing is published, with a client for each of its seats.
+    /// Where memory is short, all is handed back.
+    pub fn open(
+        alloc: Global,
+        log: LogWriter<D>,
+        table: T,
+        seats: Seats<T::Seat, T::Turn>,
+        options: Options,
+    ) -> Result<(GroupEngine<D, T>, Clients<D, T>), OpenRefused<D, T>>
+        requires options { (options.last ≡ (T.opening table).start) × (options.last ≤ max_sequence)
+            × (options.batch_bytes ≤ 16777216) }
+        requires clients { (0 < (T.opening table).clients) × ((T.opening table).clients < 255) }
+        requires log { (disk : D) × HasOpened disk log }
+        requires turn { T.our_turn table seats.turn × (T.history seats.turn ≡ []) }
+        requires seats { AreSeatsAtStart T.ours T.account table (T.opening table).clients seats.clients.items }
+        ensures engine { IfOk result (λ r. (r.0.table ≡ table) × (opened_log r.0 ≡ log)
+            × (settings_of T.opening T.ours T.account r.0
+            ≡ settings_with options (T.opening table).clients (D.faults (disk_of log)))) }
+        ensures clients { IfOk result (λ r. AreOurs (IsClientOf T.opening T.ours T.account r.0)
+            (account_in T.opening T.ours T.account) (clients_of r.0.list) r.1.clients.items) }
+        ensures new { IfOk result (λ r. (i : ℕ) (c : _) → slice_get r.1.clients.items i ≡ Some c
+            → account_in T.opening T.ours T.account c ≡ newcomer options.last (i + 1)) }
+        ensures room { IfOk result (λ r. HasRoomToClose (clients_of r.0.list) r.1) }
+        ensures err { IfErr result (λ e. (e.log ≡ log) × (e.table ≡ table) × (e.seats ≡ seats)) }
+    {
+        let count = seats.clients.len() as u32;
+        let Ok(mut layouts) = Layout::for_all(alloc, count) else {
+            return Err(OpenRefused { log, table, seats });
+        };
+        let Ok(mut clients) = Vec::with_capacity(alloc, count as usize) else {
+            return Err(OpenRefused { log, table, seats });
+        };
+        let start = Start {
+            clients: count,
+            log: options.last,
+            right: 0,
+            pipelined: false,
+            about: About {
+                table: Snapshot::of(&table),
+                opened: Snapshot::of(&log),
+                start: options.last,
+                clients: u64::from(count),
+                group_bytes: options.group_bytes,
+            },
+        };
+        let Seats {
+            turn,
+            clients: mut seats,
+        } = seats;
+        let held = Held {
+            log,
+            turn,
+            last: options.last,
+        };
+        match WriterList::open(alloc, &start, held, NoRight) {
+            Ok((list, mut writers, mut lists)) => {
+                let engine = GroupEngine {
+                    list,
+                    table,
+                    alloc,
+                    group_bytes: options.group_bytes,
+                    batch_bytes: options.batch_bytes,
+                };
+                engine.seat_all(
+                    options.last,
+                    &mut writers,
+                    &mut seats,
+                    &mut lists,
+                    &mut layouts,
+                    &mut clients,
+                );
+                let clients = Clients {
+                    clients,
+                    writers,
+                    seats,
+                };
+                Ok((engine, clients))
+            }
+            Err((held, NoRight)) => {
+                clients.destroy_empty();
+                let Held { log, turn, last: _ } = held;
+                let seats = Seats {
+                    turn,
+                    clients: seats,
+                };
+                Err(OpenRefused { log, table, seats })
+            }
+        }
+    }
+
+    /// Makes a client of each writer and each seat. The writers come by falling numbers, and the seats by rising ones.
+    fn seat_all(
+        &self,
+        start: u64,
+        writers: &mut Vec<Writer<Request, Reply, Held<D, T>, NoRight>>,
+        seats: &mut Vec<T::Seat>,
+        lists: &mut Vec<Lists<Request, Reply>>,
+        layouts: &mut Vec<Layout>,
+        clients: &mut Vec<Client<D, T>>,
+    )
+        requires engine { IsEngine T.opening T.ours T.account self.now × (start ≡ (T.opening self.now.table).start) }
+        requires writers { AreNew (table_of self.now.list) (clients_of self.now.list) writers.old.items
+            × (length writers.old.items ≡ clients_of self.now.list) }
+        requires seats { AreSeatsAtStart T.ours T.account self.now.table (clients_of self.now.list) seats.old.items }
+        requires lists { AllReady (clients_of self.now.list) lists.old.items
+            × (length lists.old.items ≡ clients_of self.now.list) }
+        requires layouts { AreRoomy (clients_of self.now.list) layouts.old.items
+            × (length layouts.old.items ≡ clients_of self.now.list) }
+        requires clients { (clients.old.items ≡ []) × (clients_of self.now.list ≤ vec_capacity clients.old) }
+        ensures clients { AreNewcomers T.opening T.ours T.account self.now 1 clients.new.items
+            × (length clients.new.items ≡ clients_of self.now.list) }
+        ensures taken { (writers.new.items ≡ []) × (seats.new.items ≡ []) }
+        ensures room { (vec_capacity writers.new ≡ vec_capacity writers.old)
+            × (vec_capacity seats.new ≡ vec_capacity seats.old) }
+    {
+        while let Some(writer) = take_first(writers) {
+            let Some(seat) = take_last(seats) else {
+                unreachable!()
+            };
+            let Some(lists) = take_first(lists) else {
+                unreachable!()
+            };
+            let Some(layout) = take_first(layouts) else {
+                unreachable!()
+            };
+            let number = writers.len() as u32 + 1;
+            let client = self.seat_one(number, start, writer, seat, lists, layout);
+            put_first(clients, client);
+        }
+    }
+
+    /// A client with its seats at list and table, and its lists.
+    fn seat_one(
+        &self,
+        number: u32,
+        start: u64,
+        writer: Writer<Request, Reply, Held<D, T>, NoRight>,
+        seat: T::Seat,
+        lists: Lists<Request, Reply>,
+        layout: Layout,
+    ) -> Client<D, T>
+        requires engine { IsEngine T.opening T.ours T.account self.now × (start ≡ (T.opening self.now.table).start) }
+        requires number { (0 < number) × (number ≤ clients_of self.now.list) }
+        requires writer { IsNew (table_of self.now.list) number writer }
+        requires seat { T.ours self.now.table seat × IsReady (T.account seat) × ((T.account seat).seen ≡ [])
+            × ((T.account seat).number ≡ number) }
+        requires room { AreReady (clients_of self.now.list) lists × IsRoomy (clients_of self.now.list) layout }
+        ensures { IsNewcomer T.opening T.ours T.account self.now number result }
+    {
+        Client {
+            number,
+            start,
+            writer,
+            seat,
+            lists,
+            layout,
+        }
+    }
+}
