@@ -1,0 +1,59 @@
+//! How an engine with its table in memory is opened.
+
+ghost use Rattle.std.specs.Prelude.{◌≡◌, ◌≤◌, ◌<◌, ◌+◌, ℕ, Some, slice_get, IfOk, IfErr};
+ghost use Rattle.wp_model.specs.History.{max_sequence};
+ghost use Rattle.log_writer.specs.Words.{disk_of};
+ghost use Rattle.log_writer.specs.Opening.{HasOpened};
+ghost use Rattle.table_steps.specs.Accounts.{account};
+ghost use Rattle.one_table.specs.Meaning.{opening_of, IsOurs};
+ghost use Rattle.writer_list.specs.Seats.{clients_of};
+ghost use Rattle.account_model.specs.Accounts.{newcomer};
+ghost use Rattle.account_model.specs.Closing.{AreOurs};
+ghost use Rattle.client_calls.specs.Settings.{settings_of as settings_with};
+ghost use Rattle.group_engine.specs.Clients.{IsClientOf, HasRoomToClose, account_in, settings_of, opened_log};
+
+use crate::memory_table::MemoryTable;
+use client_calls::Options;
+use group_engine::{Clients, GroupEngine, OpenRefused};
+use log_writer::LogWriter;
+use std::alloc::Global;
+use wp_edge::Disk;
+
+/// An engine over an opened log, with so many clients, of which none has done anything. Where memory is short, the log
+/// comes back.
+pub fn open_engine<D: Disk>(
+    alloc: Global,
+    log: LogWriter<D>,
+    clients: u32,
+    options: Options,
+) -> Result<(GroupEngine<D, MemoryTable>, Clients<D, MemoryTable>), LogWriter<D>>
+    requires options { (options.last ≤ max_sequence) × (options.batch_bytes ≤ 16777216) }
+    requires clients { (0 < clients) × (clients < 255) }
+    requires log { (disk : D) × HasOpened disk log }
+    ensures engine { IfOk result (λ r. (opened_log r.0 ≡ log)
+        × (settings_of (λ t. opening_of t.one) (λ t s. IsOurs t.one s) (λ s. account s) r.0
+        ≡ settings_with options clients (D.faults (disk_of log)))) }
+    ensures clients { IfOk result (λ r. AreOurs
+        (IsClientOf (λ t. opening_of t.one) (λ t s. IsOurs t.one s) (λ s. account s) r.0)
+        (account_in (λ t. opening_of t.one) (λ t s. IsOurs t.one s) (λ s. account s)) (clients_of r.0.list)
+        r.1.clients.items) }
+    ensures new { IfOk result (λ r. (i : ℕ) (c : _) → slice_get r.1.clients.items i ≡ Some c
+        → account_in (λ t. opening_of t.one) (λ t s. IsOurs t.one s) (λ s. account s) c
+        ≡ newcomer options.last (i + 1)) }
+    ensures room { IfOk result (λ r. HasRoomToClose (clients_of r.0.list) r.1) }
+    ensures err { IfErr result (λ e. e ≡ log) }
+{
+    let Ok((table, seats)) = MemoryTable::open(alloc, clients, options.last) else {
+        return Err(log);
+    };
+    match GroupEngine::open(alloc, log, table, seats, options) {
+        Ok(opened) => Ok(opened),
+        Err(
+            OpenRefused {
+                log,
+                table: _,
+                seats: _,
+            },
+        ) => Err(log),
+    }
+}
