@@ -9,11 +9,6 @@ use Rattle.std.specs.declared.cmp.Ordering.TheVariants.{Less, Equal, Greater}
 use Rattle.std.specs.BTreeSet.{insert_key}
 use Rattle.std.proofs.lemmas.Cmp.{alike_right}
 
-pub third : (o : Ordering) → o ≢ Less → o ≢ Equal → o ≡ Greater
-third Less f g = absurd (f refl)
-third Equal f g = absurd (g refl)
-third Greater f g = refl
-
 module _ {X : Type 0} where
   pub all_front : (P : X → Type 0) (l m : List X) → AllByRecursion P (l ++ m) → AllByRecursion P l
   all_front P [] m a = tt
@@ -98,12 +93,4 @@ module _ {X : Type 0} (R : X → X → Ordering) where
         go : (c : Ordering) → R w x ≡ c → R k x ≡ Less
         go Less e = o.trans k w x p e
         go Equal e = sym (alike_right o w x k e) ∙ p
-        go Greater e = absurd (q e)
-
-    pub le_less : (x w k : X) → R x w ≢ Greater → R w k ≡ Less → R x k ≡ Less
-    le_less x w k q p = go (R x w) refl
-      where
-        go : (c : Ordering) → R x w ≡ c → R x k ≡ Less
-        go Less e = o.trans x w k e p
-        go Equal e = o.congr x w k e ∙ p
         go Greater e = absurd (q e)

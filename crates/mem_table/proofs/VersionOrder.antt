@@ -1,5 +1,5 @@
 -- The order of versions.
-use Rattle.std.proofs.Common.{◌≡◌, ◌≢◌, ◌⊎◌, ℕ, ◌<◌, false, leb, List, [], ◌∷◌, sym, refl, inl, inr, arith}
+use Rattle.std.proofs.Common.{◌≡◌, ◌⊎◌, ℕ, ◌<◌, false, leb, List, [], ◌∷◌, sym, refl, inl, inr, arith}
 use Rattle.std.proofs.lemmas.Bool.Decides.{nat_tests}
 use Rattle.std.specs.declared.cmp.Ordering.{Ordering}
 use Rattle.std.specs.declared.cmp.Ordering.TheVariants.{Less, Equal, Greater}
@@ -29,9 +29,6 @@ before_cases v w p =
       | inl less ↦ inl less
       | inr same ↦ inr (same.0, ranked w.sequence v.sequence Less (sym same.1))
     ]
-
-pub key_le : (v w : Version) → version_order v w ≡ Less → byte_order v.key w.key ≢ Greater
-key_le v w p q = elim (before_cases v w p) [ inl less ↦ absurd (cc) | inr same ↦ let e = same.0 in absurd (cc) ]
 
 pub equal_keys : (a b : List ℕ) → byte_order a b ≡ Equal → a ≡ b
 equal_keys [] [] e = refl

@@ -7,3 +7,4 @@ pub mod Newest
 pub mod Batches
 pub mod Rows
 pub mod Parts
+pub mod Prefixes

@@ -1,7 +1,6 @@
 //! How a node is inserted.
 
 ghost use Rattle.std.specs.Prelude.{◌≡◌, ◌+◌, if◌then◌else◌};
-ghost use Rattle.wp_model.specs.Map.{byte_order};
 ghost use Rattle.mem_table.specs.Chains.{AreSorted, with_version, insert_in_chains};
 ghost use Rattle.mem_table.specs.Shapes.{height, chains_in, IsBalanced};
 ghost use Rattle.mem_table.specs.Nodes.{version_of, chain_of, shape_of, IsKept};
@@ -11,13 +10,6 @@ use std::cmp::Ordering;
 use std::mem;
 
 impl Node {
-    /// How its key stands to another's.
-    fn key_order(&self, other: &Node) -> Ordering
-        ensures { result ≡ byte_order self.now.key other.now.key }
-    {
-        self.key.as_slice().cmp(other.key.as_slice())
-    }
-
     /// Puts another version of its key into its chain. A newer one changes places with the newest, so that the tree
     /// isn't touched.
     fn add_version(&mut self, mut other: Box<Node>)
@@ -89,7 +81,7 @@ impl Subtree {
             *root = Subtree::single(node).root;
             return true;
         };
-        match node.key_order(top) {
+        match node.key.order(&top.key) {
             Ordering::Less => top.insert_left(node) && Subtree::left_grown(root),
             Ordering::Equal => {
                 top.add_version(node);

@@ -4,6 +4,7 @@
 
 mod calls;
 mod insertion;
+mod key;
 mod lookup;
 mod node;
 mod nodes;

@@ -5,6 +5,7 @@ ghost use Rattle.mem_table.specs.Shapes.{leaf, fork, height, IsBalanced};
 ghost use Rattle.mem_table.specs.Nodes.{version_of, chain_of, HasBalance};
 ghost use Rattle.mem_table.specs.Chains.{alone};
 
+use crate::key::Key;
 use std::marker::Model;
 use std::mem;
 use wp_coding::Bytes;
@@ -19,16 +20,17 @@ pub(crate) enum Balance {
 
 /// A version of a key: the value that it gets, or none where it is deleted, and the sequence.
 ///
-/// It has the links of the tree and of a list in it, so that it is inserted and put behind others without memory.
+/// It has the links of the tree and of a list in it, so that it is inserted and put behind others without memory. What
+/// a search reads comes first, so that it lies together.
 #[cycle(tree)]
 #[derive(Drop)]
 pub struct Node {
-    pub(crate) key: Bytes,
-    pub(crate) value: Option<Bytes>,
-    pub(crate) sequence: u64,
-    pub(crate) balance: Balance,
+    pub(crate) key: Key,
     pub(crate) left: Subtree,
     pub(crate) right: Subtree,
+    pub(crate) balance: Balance,
+    pub(crate) sequence: u64,
+    pub(crate) value: Option<Bytes>,
     /// Those behind it: the older versions of its key in a tree, or what comes after it in a list.
     pub(crate) next: Nodes,
 }
@@ -63,7 +65,8 @@ impl Model for Subtree {
     ghost size_decreases = { λ t h. Prim.grind arith };
 }
 
-/// Nodes in a list, as a batch makes them, or of the older versions of a key. Contracts see their versions in order.
+/// Nodes in a list, as a batch makes them, or of the older versions of a key. Contracts see their versions in
+/// order.
 #[cycle(tree)]
 pub struct Nodes {
     pub(crate) first: Option<Box<Node>>,

@@ -8,6 +8,7 @@ ghost use Rattle.mem_table.specs.Batches.{made, numbered};
 ghost use Rattle.table_rule.specs.declared.content.Version.{Version};
 ghost use Rattle.mem_table.specs.Chains.{insert_older};
 
+use crate::key::Key;
 use crate::node::{Balance, Node, Nodes, Subtree};
 use std::alloc::Global;
 use std::mem;
@@ -153,12 +154,12 @@ impl Node {
         Ok(Box::new(
             alloc,
             Node {
-                key: Bytes::copy(alloc, key)?,
-                value,
-                sequence: 0,
-                balance: Balance::Even,
+                key: Key::copy(alloc, key)?,
                 left: Subtree::new(),
                 right: Subtree::new(),
+                balance: Balance::Even,
+                sequence: 0,
+                value,
                 next: Nodes::new(),
             },
         )?)
