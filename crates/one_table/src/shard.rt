@@ -84,16 +84,14 @@ impl<T: VersionTree<N::Node> + Drop, N: VersionNodes + Drop> OneTable<T, N> {
         seat.find_rows(&self.steps, alloc, rt, 0, lo, hi, at)
     }
 
-    /// Puts all nodes of the client's part into the tree, each under the lock.
-    pub(crate) fn add_all<R: Wait>(&self, rt: &R, seat: &mut TableSeat<T, N>, mut nodes: N)
+    /// Puts all nodes of the client's part into the tree, under one hold of the lock.
+    pub(crate) fn add_all<R: Wait>(&self, rt: &R, seat: &mut TableSeat<T, N>, nodes: N)
         requires ours { IsOurs self.now seat.old }
         requires taken { (u : Launched) × ((account seat.old).stage ≡ Holding (work u [] (N.versions nodes))) }
         ensures ours { IsOurs self.now seat.new }
         ensures added { (u : Launched) → (account seat.old).stage ≡ Holding (work u [] (N.versions nodes))
             → (done : List Version) × Steps (account seat.old) (Holding (work u done [])) (account seat.new) }
     {
-        while let Some(node) = nodes.pop() {
-            seat.add(&self.steps, rt, 0, node);
-        }
+        seat.add(&self.steps, rt, 0, nodes);
     }
 }

@@ -1,4 +1,4 @@
--- No version of the part in hand that is still to be inserted stands in a tree.
+-- No version of the part in hand that is still to be inserted stands in a tree, and their sequences are a run.
 use Rattle.std.proofs.Common.{◌≡◌, ◌≢◌, ℕ, ◌+◌, ◌<◌, List, [], ◌∷◌, ◌++◌, length, sym, ap, ◌∙◌, subst, ⊎_elim, arith}
 use native.Mathlib.Decide.{ℕ_discrete}
 use mathlib.Core.Logic.{dite}
@@ -53,6 +53,21 @@ module _ (n word : ℕ) (place : ℕ → Place) (last : ℕ) (c l : ℕ) (done m
       ))
       (λ (t : Apart c g). absurd (subst IsOpen (sym now ∙ fit.3 c t) tt))
       (member_or c g)
+
+  rest_runs_in : (g : List MemberVersions) → AllParts place (end_of last g) g → IsLaunched n word place last g → (low : ℕ) × Runs low more
+  rest_runs_in g parts fit =
+      ⊎_elim
+      (λ (t : (p : MemberVersions) × In p g × (p.member ≡ c)).
+      let part : InPart (end_of last g) t.0.versions (busy l done more) = subst (InPart (end_of last g) t.0.versions) (ap place t.2 ∙ now) (part_at place (end_of last g) g t.0 parts t.1) in
+      let low = part_runs last g t.0 fit.0 t.1 in
+      (low.0 + length done, runs_right low.0 done more (subst (Runs low.0) (sym part.1) low.1)))
+      (λ (t : Apart c g). absurd (subst IsOpen (sym now ∙ fit.3 c t) tt))
+      (member_or c g)
+
+  pub rest_runs : (mode : Mode) → InMode n word place last mode → (low : ℕ) × Runs low more
+  rest_runs still ok = absurd (subst IsOpen (sym now ∙ ok.1 c) tt)
+  rest_runs (running g) ok = rest_runs_in g ok.2 ok.3
+  rest_runs (ended m g) ok = rest_runs_in g (finished_parts place (end_of last g) g ok.1) ok.2
 
   pub fresh : (mode : Mode) → InMode n word place last mode → (v : Version) → In v more → (last < v.sequence) × ((i : ℕ) (x : Version) → In x (stored_in (place i)) → x.sequence ≢ v.sequence)
   fresh still ok v h = absurd (subst IsOpen (sym now ∙ ok.1 c) tt)

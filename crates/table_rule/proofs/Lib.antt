@@ -3,6 +3,7 @@ pub mod Histories
 pub mod Moves
 pub mod Parts
 pub mod Fresh
+pub mod Additions
 pub mod Locks
 pub mod Handing
 pub mod Finishing

@@ -1,5 +1,6 @@
 -- The load of LAST, the lock and the unlocking stores keep the rule.
-use Rattle.std.proofs.Common.{◌≡◌, ◌≢◌, ℕ, ◌+◌, ◌<◌, ◌⊎◌, eqb, List, [], ◌∷◌, ◌++◌, length, get_or, set, refl, sym, ap, ◌∙◌, subst, inl, inr, ⊎_elim, arith, append_assoc, length-set, get_or-set_other, get_or-set_same}
+use Rattle.std.proofs.Common.{◌≡◌, ◌≢◌, ℕ, ◌+◌, ◌<◌, ◌⊎◌, eqb, List, [], ◌∷◌, ◌++◌, length, get_or, set, refl, sym, ap, ◌∙◌, subst, inl, inr, ⊎_elim, arith, append_assoc, drop, length-set, get_or-set_other, get_or-set_same}
+use Rattle.std.proofs.Math.Seq.{drop-append_seam}
 use mathlib.Core.Option.{none, some}
 use lib.ListN.{get_elem?}
 use lib.Seq.{set-get_or}
@@ -19,12 +20,12 @@ use Rattle.table_rule.specs.declared.view.Stage.{Stage}
 use Rattle.table_rule.specs.declared.view.Stage.TheVariants.{Idle, Waiting, Holding, Stored, Publishing, Resting, Handing, Filling}
 use Rattle.table_rule.specs.Histories.{In, versions_of, last_of, shard_of, Begins, IsHistory}
 use Rattle.table_rule.specs.Rule.{Place, out, coming, filling, handed, busy, inserted, finished, ShardState, opened, held, Mode, contents, stored_in, InPart, NotTaken, IsComing, end_of, InMode, KnowsLock, Knows, seat_state, InShard, InPlace, IsConsistent}
-use Rattle.table_rule.specs.Steps.{SeatNow, work, Shows, Adds, IsAt, IsFresh, learned, locked, unlocked, added}
+use Rattle.table_rule.specs.Steps.{SeatNow, work, Shows, AddsAll, AreOfShard, IsAt, IsFresh, learned, locked, unlocked, added}
 use Rattle.table_rule.specs.Steps.{IsClient}
 use Rattle.table_rule.specs.Events.{TableNow, table_now, progress_of, Stays, IsRead, now_of, IsNow, StepIs}
 use Rattle.table_rule.proofs.Puts.{put, put_at, put_here, put_else}
 use Rattle.table_rule.proofs.Histories.{in_left, in_right, in_split, begins_same, in_run, up_to, begins_in, longer}
-use Rattle.table_rule.proofs.Fresh.{fresh}
+use Rattle.table_rule.proofs.Fresh.{fresh, rest_runs}
 use Rattle.table_rule.proofs.Parts.{later, IsOpen, mode_put, coming_put}
 use Rattle.table_rule.proofs.Moves.{TableState, Homes, shard_stays, place_stays, moved, Goes, unmoved, same_now, allows, progress_stays}
 
@@ -210,11 +211,14 @@ module _ {T N : Type 0} (held_by : T → List Version) (nodes_of : N → List Ve
         new_ones : (k : ℕ) (now : List (List MemberVersions)) (st : Stage) (vs : List Version) → Knows z.shards z.start r.published r.mode r.place r.lock k now st → j < z.shards → contents (r.lock j) ≡ vs → IsFresh st vs
         new_ones k now Idle vs ok lt is = tt
         new_ones k now (Waiting u) vs ok lt is = tt
-        new_ones k now (Holding w) vs ok lt is = λ v x hv hx e.
-            let f = fresh z.clients (get_or s.words (z.shards + 1) 0) r.place (last_of z.start r.published) k w.launched.last w.done w.rest ok.0 r.mode r.mode_is v hv in
-            ⊎_elim (λ (t : In x (versions_of r.published)). let a = (in_run z.start (versions_of r.published) x r.runs t).1 in let b = f.0 in absurd (omega arith))
-            (λ (t : (i : ℕ) × In x (stored_in (r.place i))). f.1 t.0 x t.1 e)
-            (r.sound j x lt (subst (In x) (sym is) hx)).1
+        new_ones k now (Holding w) vs ok lt is = (
+          (λ v x hv hx e.
+              let f = fresh z.clients (get_or s.words (z.shards + 1) 0) r.place (last_of z.start r.published) k w.launched.last w.done w.rest ok.0 r.mode r.mode_is v hv in
+              ⊎_elim (λ (t : In x (versions_of r.published)). let a = (in_run z.start (versions_of r.published) x r.runs t).1 in let b = f.0 in absurd (omega arith))
+              (λ (t : (i : ℕ) × In x (stored_in (r.place i))). f.1 t.0 x t.1 e)
+              (r.sound j x lt (subst (In x) (sym is) hx)).1),
+          rest_runs z.clients (get_or s.words (z.shards + 1) 0) r.place (last_of z.start r.published) k w.launched.last w.done w.rest ok.0 r.mode r.mode_is,
+        )
         new_ones k now (Stored l) vs ok lt is = tt
         new_ones k now (Publishing l) vs ok lt is = tt
         new_ones k now Resting vs ok lt is = tt
@@ -316,36 +320,32 @@ module _ {T N : Type 0} (held_by : T → List Version) (nodes_of : N → List Ve
     coming_put place m new (end_of (last_of z.start published) g) ps not_c ok.4,
   )
 
-  add_stage : SeatState → SeatState
-  add_stage x = seat_state x.client x.opening x.seen Free (after x.stage)
+  add_stage : List Version → SeatState → SeatState
+  add_stage new x = seat_state x.client x.opening x.seen Free (after x.stage)
     where
-      step_on : List Version → List Version → Launched → Stage
-      step_on d [] u = Idle
-      step_on d (v ∷ m) u = Holding (work u (d ++ v ∷ []) m)
-
       after : Stage → Stage
       after Idle = Idle
       after (Waiting u) = Idle
-      after (Holding w) = step_on w.done w.rest w.launched
+      after (Holding w) = Holding (work w.launched (w.done ++ new) (drop (length new) w.rest))
       after (Stored l) = Idle
       after (Publishing l) = Idle
       after Resting = Idle
       after (Handing g ps) = Idle
       after (Filling g p ps) = Idle
 
-  pub adds_is : (slots id : ℕ) (me : SeatNow T N) (c j : ℕ) (seen : List (List MemberVersions)) (u : Launched) (done rest' : List Version) (v : Version) (vs : List Version) (t : T) (more : List (ℕ × Content T N)) → IsAt c z seen (Held j vs) (Holding (work u done (v ∷ rest'))) me → me.1 ≡ (j, Tree t) ∷ more
-      → Adds vs v (held_by t) → shard_of z.shards v ≡ j → StepIs held_by nodes_of (λ _. Stays) z slots id me j (λ _. 0) (λ _. added (step slots j 0 0 none) me 0)
+  pub adds_is : (slots id : ℕ) (me : SeatNow T N) (c j : ℕ) (seen : List (List MemberVersions)) (u : Launched) (done gained rest' vs : List Version) (t : T) (more : List (ℕ × Content T N)) → IsAt c z seen (Held j vs) (Holding (work u done (gained ++ rest'))) me → me.1 ≡ (j, Tree t) ∷ more
+      → AddsAll vs gained (held_by t) → AreOfShard z.shards j gained → StepIs held_by nodes_of (λ _. Stays) z slots id me j (λ _. 0) (λ _. added gained (step slots j 0 0 none) me 0)
   unfolding add_stage
-  adds_is slots id me c j seen u done rest' v vs t more mid slot added_v here s r long at fits =
-      let h : SeatState = seat_state c z seen (Held j vs) (Holding (work u done (v ∷ rest'))) in
+  adds_is slots id me c j seen u done gained rest' vs t more mid slot has_gained here s r long at fits =
+      let h : SeatState = seat_state c z seen (Held j vs) (Holding (work u done (gained ++ rest'))) in
       let at' : get_elem? s.views id ≡ some (h ∷ []) = at ∙ ap some mid in
       let fit = (r.seats id (h ∷ []) at').0 in
       let lt : j < z.shards = fit.4.0 in
       let is : r.lock j ≡ held c vs = fit.4.1 in
-      let now : r.place c ≡ busy u.last done (v ∷ rest') = fit.5.0 in
-      let h' : SeatState = seat_state c z seen Free (Holding (work u (done ++ v ∷ []) rest')) in
+      let now : r.place c ≡ busy u.last done (gained ++ rest') = fit.5.0 in
+      let h' : SeatState = seat_state c z seen Free (Holding (work u (done ++ gained) rest')) in
       let state : ShardState = opened (held_by t) in
-      let new : Place = busy u.last (done ++ v ∷ []) rest' in
+      let new : Place = busy u.last (done ++ gained) rest' in
       let ws : List ℕ = set s.words j 0 in
       let hs = set s.homes j (some (Tree t)) in
       let lock = put r.lock j state in
@@ -354,10 +354,10 @@ module _ {T N : Type 0} (held_by : T → List Version) (nodes_of : N → List Ve
       let wide : length s.words ≡ z.shards + 2 + z.clients = r.wide in
       let many : length s.homes ≡ z.shards + 1 + z.clients = r.many in
       -- what was in the trees stays
-      let stays : (i : ℕ) (x : Version) → In x (contents (r.lock i)) → In x (contents (lock i)) = λ i x h. put_at r.lock j state (λ i d. In x (contents (r.lock i)) → In x (contents d)) i (λ e was. added_v.1 x (subst (λ (d : ShardState). In x (contents d)) (ap r.lock e ∙ is) was)) (λ _ was. was) h in
-      let kept : (i : ℕ) (x : Version) → In x (stored_in (r.place i)) → In x (stored_in (place i)) = λ i x h. put_at r.place c new (λ i p. In x (stored_in (r.place i)) → In x (stored_in p)) i (λ e was. in_left x done (v ∷ []) (subst (λ (p : Place). In x (stored_in p)) (ap r.place e ∙ now) was)) (λ _ was. was) h in
-      let comes : In v (stored_in (place c)) = subst (λ (p : Place). In v (stored_in p)) (sym (put_here r.place c new)) (in_right v done (v ∷ []) (inl refl)) in
-      let in_new : In v (contents (lock (shard_of z.shards v))) = subst (λ (i : ℕ). In v (contents (lock i))) (sym here) (subst (λ (d : ShardState). In v (contents d)) (sym (put_here r.lock j state)) added_v.0) in
+      let stays : (i : ℕ) (x : Version) → In x (contents (r.lock i)) → In x (contents (lock i)) = λ i x h. put_at r.lock j state (λ i d. In x (contents (r.lock i)) → In x (contents d)) i (λ e was. has_gained.1 x (subst (λ (d : ShardState). In x (contents d)) (ap r.lock e ∙ is) was)) (λ _ was. was) h in
+      let kept : (i : ℕ) (x : Version) → In x (stored_in (r.place i)) → In x (stored_in (place i)) = λ i x h. put_at r.place c new (λ i p. In x (stored_in (r.place i)) → In x (stored_in p)) i (λ e was. in_left x done gained (subst (λ (p : Place). In x (stored_in p)) (ap r.place e ∙ now) was)) (λ _ was. was) h in
+      let comes : (x : Version) → In x gained → In x (stored_in (place c)) = λ x h. subst (λ (p : Place). In x (stored_in p)) (sym (put_here r.place c new)) (in_right x done gained h) in
+      let in_new : (x : Version) → In x gained → In x (contents (lock (shard_of z.shards x))) = λ x h. subst (λ (i : ℕ). In x (contents (lock i))) (sym (here x h)) (subst (λ (d : ShardState). In x (contents d)) (sym (put_here r.lock j state)) (has_gained.0 x h)) in
       let is_open : IsOpen (r.place c) = subst IsOpen (sym now) tt in (
         h' ∷ [],
         gives,
@@ -382,20 +382,20 @@ module _ {T N : Type 0} (held_by : T → List Version) (nodes_of : N → List Ve
                 put_at r.place c new (λ i p. InPlace held_by nodes_of z.shards ws hs i (r.place i) → InPlace held_by nodes_of z.shards ws hs i p) i (λ e was. subst (λ (p : Place). InPlace held_by nodes_of z.shards ws hs i p) (ap r.place e ∙ now) was) (λ _ was. was) same;
             mode_is = subst (λ (x : ℕ). InMode z.clients x place (last_of z.start r.published) r.mode) (sym (w (z.shards + 1) (λ e. omega arith)))
                 (mode_put r.place c new z.clients (get_or s.words (z.shards + 1) 0) (last_of z.start r.published) r.mode is_open tt
-                (λ end us ok. let o = subst (InPart end us) now ok in (o.0, append_assoc done (v ∷ []) rest' ∙ o.1)) r.mode_is);
+                (λ end us ok. let o = subst (InPart end us) now ok in (o.0, append_assoc done gained rest' ∙ o.1)) r.mode_is);
             sound = λ i x lt' h. put_at r.lock j state (λ i d. ((In x (contents (r.lock i))) → (shard_of z.shards x ≡ i) × (In x (versions_of r.published) ⊎ ((k : ℕ) × In x (stored_in (place k))))) → In x (contents d) → (shard_of z.shards x ≡ i) × (In x (versions_of r.published) ⊎ ((k : ℕ) × In x (stored_in (place k))))) i
                 (λ e was in_t. ⊎_elim
-                (λ (f : x ≡ v). (ap (shard_of z.shards) f ∙ (here ∙ sym e), inr (c, subst (λ (y : Version). In y (stored_in (place c))) (sym f) comes)))
+                (λ (f : In x gained). (here x f ∙ sym e, inr (c, comes x f)))
                 (λ (f : In x vs). was (subst (λ (d : ShardState). In x (contents d)) (sym (ap r.lock e ∙ is)) f))
-                (added_v.2 x in_t))
+                (has_gained.2 x in_t))
                 (λ _ was. was)
                 (λ in_old. let o = r.sound i x lt' in_old in (o.0, ⊎_elim (λ (a : In x (versions_of r.published)). inl a) (λ (b : (k : ℕ) × In x (stored_in (r.place k))). inr (b.0, kept b.0 x b.1)) o.1)) h;
             complete = λ x h. stays (shard_of z.shards x) x (r.complete x h);
             stored = λ i x h. put_at r.place c new (λ i p. ((In x (stored_in (r.place i))) → In x (contents (lock (shard_of z.shards x)))) → In x (stored_in p) → In x (contents (lock (shard_of z.shards x)))) i
                 (λ e was in_p. ⊎_elim
                 (λ (a : In x done). was (subst (λ (p : Place). In x (stored_in p)) (sym (ap r.place e ∙ now)) a))
-                (λ (b : In x (v ∷ [])). ⊎_elim (λ (f : v ≡ x). subst (λ (y : Version). In y (contents (lock (shard_of z.shards y)))) f in_new) (λ (bad : ⊥). absurd bad) b)
-                (in_split x done (v ∷ []) in_p))
+                (λ (b : In x gained). in_new x b)
+                (in_split x done gained in_p))
                 (λ _ was. was)
                 (λ in_old. stays (shard_of z.shards x) x (r.stored i x in_old)) h;
             seen = fit.3;
@@ -406,9 +406,14 @@ module _ {T N : Type 0} (held_by : T → List Version) (nodes_of : N → List Ve
             others = λ k ne seen st. knows_member r.published r.mode r.place r.lock lock c new k ne (λ l us bad. absurd (subst IsWithMember (sym now ∙ bad) tt)) (λ l us bad. absurd (subst IsWithMember (sym now ∙ bad) tt)) seen st;
           }),
         ),
-        λ c' z' seen' u' done' more' v' vs' mid'. (ap (one add_stage) (sym mid ∙ mid'), refl),
+        λ c' z' seen' u' done' more' vs' mid'. (
+          (λ i. seat_state c z seen Free (Holding (work u (done ++ gained) (sym (drop-append_seam gained rest') i))) ∷ [])
+              ∙ (ap (one (add_stage gained)) (sym mid ∙ mid')
+              ∙ (λ i. seat_state c' z' seen' Free (Holding (work u' (done' ++ gained) (drop-append_seam gained more' i))) ∷ [])),
+          refl,
+        ),
       )
 
-  pub adds : (slots id : ℕ) (me : SeatNow T N) (c j : ℕ) (seen : List (List MemberVersions)) (u : Launched) (done rest' : List Version) (v : Version) (vs : List Version) (t : T) (more : List (ℕ × Content T N)) → IsAt c z seen (Held j vs) (Holding (work u done (v ∷ rest'))) me → me.1 ≡ (j, Tree t) ∷ more
-      → Adds vs v (held_by t) → shard_of z.shards v ≡ j → Allows Rule slots id me j (λ _. 0) (λ _. added (step slots j 0 0 none) me 0)
-  adds slots id me c j seen u done rest' v vs t more mid slot added_v here = allows held_by nodes_of (λ _. Stays) z slots id me j (λ _. 0) (λ _. added (step slots j 0 0 none) me 0) (adds_is slots id me c j seen u done rest' v vs t more mid slot added_v here)
+  pub adds : (slots id : ℕ) (me : SeatNow T N) (c j : ℕ) (seen : List (List MemberVersions)) (u : Launched) (done gained rest' vs : List Version) (t : T) (more : List (ℕ × Content T N)) → IsAt c z seen (Held j vs) (Holding (work u done (gained ++ rest'))) me → me.1 ≡ (j, Tree t) ∷ more
+      → AddsAll vs gained (held_by t) → AreOfShard z.shards j gained → Allows Rule slots id me j (λ _. 0) (λ _. added gained (step slots j 0 0 none) me 0)
+  adds slots id me c j seen u done gained rest' vs t more mid slot has_gained here = allows held_by nodes_of (λ _. Stays) z slots id me j (λ _. 0) (λ _. added gained (step slots j 0 0 none) me 0) (adds_is slots id me c j seen u done gained rest' vs t more mid slot has_gained here)

@@ -40,17 +40,27 @@ Shows k j start seen vs = ((v : Version) → In v vs → shard_of k v ≡ j)
 abbrev pub Adds : List Version → Version → List Version → Type 0
 Adds vs v ws = In v ws × ((x : Version) → In x vs → In x ws) × ((x : Version) → In x ws → (x ≡ v) ⊎ In x vs)
 
+-- the tree ws is the tree vs with all of `new`
+abbrev pub AddsAll : List Version → List Version → List Version → Type 0
+AddsAll vs new ws = ((x : Version) → In x new → In x ws) × ((x : Version) → In x vs → In x ws)
+    × ((x : Version) → In x ws → In x new ⊎ In x vs)
+
+-- all of them are of shard j
+abbrev pub AreOfShard : ℕ → ℕ → List Version → Type 0
+AreOfShard k j vs = (v : Version) → In v vs → shard_of k v ≡ j
+
 -- the fetch-sub of RUNNING: the one that found 1 may publish
 abbrev pub ending : Launched → ℕ → Stage
 ending u zero = Idle
 ending u (suc zero) = Publishing u
 ending u (suc (suc r)) = Idle
 
--- what is still to be inserted is not in the tree
+-- what is still to be inserted is not in the tree, and its sequences are a run
 abbrev pub IsFresh : Stage → List Version → Type 0
 IsFresh Idle vs = Unit {0}
 IsFresh (Waiting u) vs = Unit {0}
-IsFresh (Holding w) vs = (v x : Version) → In v w.rest → In x vs → x.sequence ≢ v.sequence
+IsFresh (Holding w) vs = ((v x : Version) → In v w.rest → In x vs → x.sequence ≢ v.sequence)
+    × ((last : ℕ) × Runs last w.rest)
 IsFresh (Stored u) vs = Unit {0}
 IsFresh (Publishing u) vs = Unit {0}
 IsFresh Resting vs = Unit {0}
@@ -123,16 +133,16 @@ module _ {T N : Type 0} where
         × Shows z.shards st.word z.start seen (held_by t) × IsFresh stage (held_by t))
         × (r ≢ 0 → m' ≡ m)
 
-  -- the unlocking store: the tree is as it was, or it has one version more
+  -- the unlocking store: the tree is as it was, or it has more, `new` of the member's part
   abbrev pub unlocked : Step (Content T N) → SeatNow T N → ℕ → SeatNow T N → Type 0
   unlocked st m r m' = (c : ℕ) (z : Opening) (seen : List (List MemberVersions)) (stage : Stage) (vs : List Version)
       → IsAt c z seen (Held st.word vs) stage m → IsAt c z seen Free stage m' × (m'.1 ≡ rest m.1)
 
-  abbrev pub added : Step (Content T N) → SeatNow T N → ℕ → SeatNow T N → Type 0
-  added st m r m' = (c : ℕ) (z : Opening) (seen : List (List MemberVersions)) (u : Launched) (done more : List Version)
-      (v : Version) (vs : List Version)
-      → IsAt c z seen (Held st.word vs) (Holding (work u done (v ∷ more))) m
-      → IsAt c z seen Free (Holding (work u (done ++ v ∷ []) more)) m' × (m'.1 ≡ rest m.1)
+  abbrev pub added : List Version → Step (Content T N) → SeatNow T N → ℕ → SeatNow T N → Type 0
+  added new st m r m' = (c : ℕ) (z : Opening) (seen : List (List MemberVersions)) (u : Launched)
+      (done more vs : List Version)
+      → IsAt c z seen (Held st.word vs) (Holding (work u done (new ++ more))) m
+      → IsAt c z seen Free (Holding (work u (done ++ new) more)) m' × (m'.1 ≡ rest m.1)
 
   -- the seat has the views of client c, who has seen `own`, and of the turn
   abbrev pub IsWithTurn : ℕ → Opening → List (List MemberVersions) → Stage → List (List MemberVersions) → Stage

@@ -1,5 +1,5 @@
 //! Each step is an event of the write path, or leaves alone what the write path sees of the table.
-ghost use Rattle.std.specs.Prelude.{◌≡◌, ℕ, ◌+◌, ◌-◌, ◌^◌, ◌%◌, ◌<◌, ◌≤◌, List, [], ◌∷◌, length};
+ghost use Rattle.std.specs.Prelude.{◌≡◌, ℕ, ◌+◌, ◌-◌, ◌^◌, ◌%◌, ◌<◌, ◌≤◌, List, [], ◌∷◌, ◌++◌, length};
 ghost use mathlib.Core.Option.{none};
 ghost use prog.Atomic.{either};
 ghost use Rattle.std.specs.Prelude.{◌==◌};
@@ -13,10 +13,10 @@ ghost use Rattle.table_rule.specs.declared.view.Lock.TheVariants.{Free, Held};
 ghost use Rattle.table_rule.specs.declared.view.Opening.{Opening};
 ghost use Rattle.table_rule.specs.declared.view.Stage.{Stage};
 ghost use Rattle.table_rule.specs.declared.view.Stage.TheVariants.{Idle, Holding, Stored, Publishing, Resting, Handing, Filling};
-ghost use Rattle.table_rule.specs.Histories.{last_of, shard_of};
+ghost use Rattle.table_rule.specs.Histories.{last_of};
 ghost use Rattle.table_rule.specs.Rule.{end_of};
 ghost use Rattle.table_rule.specs.Seats.{closing};
-ghost use Rattle.table_rule.specs.Steps.{SeatNow, Adds, IsAt, IsWithTurn, IsClient, IsNext, MayTake, work, learned, locked, unlocked, added, launched, emptied, given, took, settled, counted, publishes, awaited};
+ghost use Rattle.table_rule.specs.Steps.{SeatNow, AddsAll, AreOfShard, IsAt, IsWithTurn, IsClient, IsNext, MayTake, work, learned, locked, unlocked, added, launched, emptied, given, took, settled, counted, publishes, awaited};
 ghost use Rattle.table_rule.specs.Events.{IsMember, Stays, IsRead, IsLaunch, IsInsert, IsFinish, IsPublish, StepIs};
 
 use crate::rule::Versioned;
@@ -34,13 +34,12 @@ pub fn steps_and_events<T: Versioned, N: Versioned>()
         → me.1 ≡ (word, Tree tree) ∷ more
         → StepIs T.versions N.versions (λ _. Stays) z slots id me word (λ _. 0)
         (λ _. unlocked (step slots word 0 0 none) me 0) }
-    ensures add_version { (z : Opening) (slots id word c : ℕ) (me : SeatNow T N) (seen : List (List MemberVersions))
-        (u : Launched) (done rest : List Version) (v : Version) (vs : List Version) (tree : T)
-        (more : List (ℕ × Content T N))
-        → IsAt c z seen (Held word vs) (Holding (work u done (v ∷ rest))) me → me.1 ≡ (word, Tree tree) ∷ more
-        → Adds vs v (T.versions tree) → shard_of z.shards v ≡ word
+    ensures add_versions { (z : Opening) (slots id word c : ℕ) (me : SeatNow T N) (seen : List (List MemberVersions))
+        (u : Launched) (done new rest vs : List Version) (tree : T) (more : List (ℕ × Content T N))
+        → IsAt c z seen (Held word vs) (Holding (work u done (new ++ rest))) me → me.1 ≡ (word, Tree tree) ∷ more
+        → AddsAll vs new (T.versions tree) → AreOfShard z.shards word new
         → StepIs T.versions N.versions (λ _. Stays) z slots id me word (λ _. 0)
-        (λ _. added (step slots word 0 0 none) me 0) }
+        (λ _. added new (step slots word 0 0 none) me 0) }
     ensures launch { (z : Opening) (slots id word count c : ℕ) (me : SeatNow T N)
         (own seen : List (List MemberVersions))
         (g : List MemberVersions) → word ≡ z.shards + 1 → count ≡ length g → 0 < c → IsMember c g

@@ -30,7 +30,7 @@
 //! | load of LAST ([`Learn`]) | a client | sees the published history | read |
 //! | compare-exchange of a lock from 0 to 1 ([`LockShard`]) | a client | takes the tree out of its slot | |
 //! | store of 0 to a lock ([`UnlockShard`]) | who locked it | gives the tree back as it was | |
-//! | store of 0 to a lock ([`AddVersion`]) | a member | gives the tree back with one version of its part more | |
+//! | store of 0 to a lock ([`AddVersions`]) | a member | gives the tree back with versions of its part more | |
 //! | store of RUNNING ([`Launch`]) | a member that has the turn, with both seats as one | begins a group, with the number of its parts | launch |
 //! | load of RUN `i` ([`Empty`]) | the turn | takes the empty slot of a member | |
 //! | store of 1 to RUN `i` ([`Give`]) | the turn | gives that slot back with the member's nodes | |
@@ -57,7 +57,7 @@ pub use core_events::table_and_core;
 pub use law::steps_and_events;
 pub use rule::{AllButFirst, Both, First, TableLaw, Versioned};
 pub use steps::{
-    AddVersion, Await, Close, Count, Empty, Give, GroupPlan, Launch, Learn, LockShard, Publish,
-    Settle, Take, UnlockShard,
+    AddVersions, Await, Close, Count, Empty, Give, GroupPlan, Launch, Learn, LockShard, Publish,
+    Settle, Take, UnlockShard, VersionPlan,
 };
 pub use view::{Launched, Lock, Opening, SeatState, Stage, View, Work};

@@ -30,11 +30,25 @@ impl<T, N> Play<Content<T, N>, View> for UnlockShard {
     ghost then = { unlocked };
 }
 
-/// The store that unlocks a shard whose tree has one version more.
-pub struct AddVersion;
+/// The versions that a member adds to a tree.
+pub trait VersionPlan {
+    ghost use Rattle.std.specs.Prelude.{List};
+    ghost use Rattle.table_rule.specs.declared.content.Version.{Version};
 
-impl<T, N> Play<Content<T, N>, View> for AddVersion {
-    ghost then = { added };
+    ghost versions: { List Version };
+}
+
+impl VersionPlan for Brand {
+    ghost versions = { [] };
+}
+
+/// The store that unlocks a shard whose tree has versions of a member's part more.
+pub struct AddVersions<V> {
+    marker: PhantomData<V>,
+}
+
+impl<T, N, V: VersionPlan> Play<Content<T, N>, View> for AddVersions<V> {
+    ghost then = { added V.versions };
 }
 
 /// The group that a launch is for.

@@ -66,13 +66,6 @@ first_or d (x ∷ xs) = nodes_or d x.1
 pub same_nodes : {T N : Type 0} (x y : N) (k l i j : ℕ) (c m m' : List (ℕ × Content T N)) → c ≡ (i, Nodes x k) ∷ m → c ≡ (j, Nodes y l) ∷ m' → (x ≡ y) × (k ≡ l)
 same_nodes x y k l i j c m m' a b = let e = ap (first_or (x, k)) (sym a ∙ b) in (ap (λ p. p.0) e, ap (λ p. p.1) e)
 
-abbrev content_or : {A : Type 0} → A → List (ℕ × A) → A
-content_or d [] = d
-content_or d (x ∷ xs) = x.1
-
-pub same_content : {A : Type 0} (x y : A) (i j : ℕ) (c m m' : List (ℕ × A)) → c ≡ (i, x) ∷ m → c ≡ (j, y) ∷ m' → x ≡ y
-same_content x y i j c m m' a b = ap (content_or x) (sym a ∙ b)
-
 pub joined_more : {T N : Type 0} (z : Opening) (w : TableSeat T N) (ws : List (TableSeat T N)) (v : List SeatState) → AreJoined z ws v → AreJoined z (w ∷ ws) (v ++ w.client.seat.me.0)
 joined_more {T = T} {N = N} z w ws v ok x seen has at = ⊎_elim
     (λ (e : w ≡ x). in_right (seat_state x.client.number z seen Free Idle) v w.client.seat.me.0 (subst (λ (l : List SeatState). In (seat_state x.client.number z seen Free Idle) l) (sym (ap (λ (y : TableSeat T N). y.client.seat.me.0) e ∙ at)) (inl refl)))

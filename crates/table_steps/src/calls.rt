@@ -6,9 +6,9 @@ ghost use Rattle.table_rule.specs.declared.content.MemberVersions.{MemberVersion
 ghost use Rattle.table_rule.specs.declared.content.Version.{Version};
 ghost use Rattle.table_rule.specs.declared.view.Launched.{Launched};
 ghost use Rattle.table_rule.specs.declared.view.Stage.TheVariants.{Idle, Holding, Stored, Publishing};
-ghost use Rattle.table_rule.specs.Histories.{In, IsHistory, last_of, versions_of, shard_of, of_shard, map_of};
+ghost use Rattle.table_rule.specs.Histories.{In, IsHistory, last_of, versions_of, of_shard, map_of};
 ghost use Rattle.table_rule.specs.Rule.{end_of};
-ghost use Rattle.table_rule.specs.Steps.{IsNext, MayTake, work};
+ghost use Rattle.table_rule.specs.Steps.{AreOfShard, IsNext, MayTake, work};
 ghost use Rattle.table_calls.specs.declared.finished.Finished.TheVariants.{Last};
 ghost use Rattle.table_calls.specs.Account.{Learns, Launches, Takes, Steps, Counts, Publishes, IsReady};
 ghost use Rattle.table_steps.specs.Accounts.{account, history_of, opening_of, IsOurs, MayLaunch};
@@ -18,6 +18,7 @@ use crate::member::Handed;
 use crate::seat::TableSeat;
 use crate::shared::SharedTable;
 use std::alloc::Global;
+use std::marker::Brand;
 use std::sync::Wait;
 use table_calls::{Finished, GroupParts, VersionNodes, VersionTree};
 use wp_coding::{Found, Rows};
@@ -125,19 +126,20 @@ impl<T: VersionTree<N::Node> + Drop, N: VersionNodes + Drop> TableSeat<T, N> {
         nodes
     }
 
-    /// Puts the next node of the client's part into the tree of its shard.
-    pub fn add<R: Wait>(&mut self, table: &SharedTable<T, N>, rt: &R, shard: u64, node: N::Node)
+    /// Puts nodes, the next of the client's part, into the tree of their shard, under one hold of its lock. A part of
+    /// several shards goes in run by run, where each run is of one shard.
+    pub fn add<R: Wait>(&mut self, table: &SharedTable<T, N>, rt: &R, shard: u64, nodes: N)
         requires ours { IsOurs table.now self.old }
         requires shard { (shard < (opening_of table.now).shards)
-            × (shard_of (opening_of table.now).shards (N.Node.version node) ≡ shard) }
+            × AreOfShard (opening_of table.now).shards shard (N.versions nodes) }
         requires next { (u : Launched) × (done : List Version) × (more : List Version)
-            × ((account self.old).stage ≡ Holding (work u done (N.Node.version node ∷ more))) }
+            × ((account self.old).stage ≡ Holding (work u done (N.versions nodes ++ more))) }
         ensures ours { IsOurs table.now self.new }
         ensures added { (u : Launched) (done more : List Version)
-            → (account self.old).stage ≡ Holding (work u done (N.Node.version node ∷ more))
-            → Steps (account self.old) (Holding (work u (done ++ N.Node.version node ∷ []) more)) (account self.new) }
+            → (account self.old).stage ≡ Holding (work u done (N.versions nodes ++ more))
+            → Steps (account self.old) (Holding (work u (done ++ N.versions nodes) more)) (account self.new) }
     {
-        table.add(rt, &mut self.client, shard, node);
+        table.add::<Brand, R>(rt, &mut self.client, shard, nodes);
     }
 
     /// All nodes of the client's part are in their trees.

@@ -5,12 +5,11 @@ ghost use Rattle.table_rule.specs.declared.content.Content.{Content};
 ghost use Rattle.table_rule.specs.declared.content.Content.TheVariants.{Blank};
 ghost use Rattle.table_rule.specs.declared.content.MemberVersions.{MemberVersions};
 ghost use Rattle.table_rule.specs.declared.content.Version.{Version};
-ghost use Rattle.table_rule.specs.declared.view.Lock.TheVariants.{Free};
+ghost use Rattle.table_rule.specs.declared.view.Lock.TheVariants.{Free, Held};
 ghost use Rattle.table_rule.specs.declared.view.Launched.{Launched};
 ghost use Rattle.table_rule.specs.declared.view.Stage.{Stage};
 ghost use Rattle.table_rule.specs.declared.view.Stage.TheVariants.{Holding, Stored, Publishing};
-ghost use Rattle.table_rule.specs.Histories.{shard_of};
-ghost use Rattle.table_rule.specs.Steps.{IsAt, MayTake, work};
+ghost use Rattle.table_rule.specs.Steps.{AddsAll, AreOfShard, IsAt, MayTake, work};
 ghost use Rattle.table_calls.specs.declared.finished.Finished.TheVariants.{Last};
 ghost use Rattle.table_steps.specs.Seen.{Took, Ended, Published};
 
@@ -18,7 +17,7 @@ use crate::shared::{Client, SharedTable};
 use crossbeam_utils::Backoff;
 use std::sync::Wait;
 use table_calls::{Finished, VersionNodes, VersionTree};
-use table_rule::{AddVersion, Content, Count, Publish, Settle, Take};
+use table_rule::{AddVersions, Content, Count, Publish, Settle, Take, VersionPlan};
 
 /// A member's nodes, and the last sequence of their group.
 #[derive(Drop)]
@@ -57,32 +56,6 @@ impl<T: VersionTree<N::Node>, N: VersionNodes> SharedTable<T, N> {
             self.handed.pause(rt, &backoff, who.number);
         }
         unreachable!()
-    }
-
-    /// Puts one node into the tree of its shard.
-    pub(crate) fn add<R: Wait>(&self, rt: &R, who: &mut Client<T, N>, shard: u64, node: N::Node)
-        requires seat { (who.old.seat.table_id ≡ self.now.table.shared.table_id)
-            × (shard < self.now.table.shared.key.shards)
-            × (shard_of self.now.table.shared.key.shards (N.Node.version node) ≡ shard) }
-        requires next { (seen : List (List MemberVersions)) × (u : Launched) × (done : List Version)
-            × (more : List Version) × IsAt who.old.number self.now.table.shared.key seen Free
-            (Holding (work u done (N.Node.version node ∷ more))) who.old.seat.me }
-        ensures seat { (who.new.seat.table_id ≡ who.old.seat.table_id) × (who.new.number ≡ who.old.number)
-            × (who.new.seat.me.1 ≡ who.old.seat.me.1) }
-        ensures added { (seen : List (List MemberVersions)) (u : Launched) (done more : List Version)
-            → IsAt who.old.number self.now.table.shared.key seen Free
-            (Holding (work u done (N.Node.version node ∷ more))) who.old.seat.me
-            → IsAt who.old.number self.now.table.shared.key seen Free
-            (Holding (work u (done ++ N.Node.version node ∷ []) more)) who.new.seat.me }
-    {
-        let shared = &self.table.shared;
-        let mut tree = self.lock(rt, who, shard);
-        tree.insert(node);
-        match shared.exchange(&mut who.seat, shard as usize, Content::Tree(tree)) {
-            Content::Blank => {}
-            _ => unreachable!(),
-        }
-        shared.store::<AddVersion>(&mut who.seat, shard as usize, 0);
     }
 
     /// All nodes of the member's part are in their trees.
@@ -144,5 +117,63 @@ impl<T: VersionTree<N::Node>, N: VersionNodes> SharedTable<T, N> {
             .shared
             .store::<Publish>(&mut who.seat, self.opening.shards as usize, last);
         self.published.ring();
+    }
+}
+
+impl<T: VersionTree<N::Node> + Drop, N: VersionNodes + Drop> SharedTable<T, N> {
+    /// Puts nodes, the next of the member's part, into the tree of their shard, under one hold of its lock.
+    pub(crate) fn add<V: VersionPlan, R: Wait>(
+        &self,
+        rt: &R,
+        who: &mut Client<T, N>,
+        shard: u64,
+        mut nodes: N,
+    )
+        requires seat { (who.old.seat.table_id ≡ self.now.table.shared.table_id)
+            × (shard < self.now.table.shared.key.shards) }
+        requires next { (seen : List (List MemberVersions)) × (u : Launched) × (done : List Version)
+            × (more : List Version) × IsAt who.old.number self.now.table.shared.key seen Free
+            (Holding (work u done (V.versions ++ more))) who.old.seat.me }
+        requires nodes { N.versions nodes ≡ V.versions }
+        requires shard { AreOfShard self.now.table.shared.key.shards shard V.versions }
+        ensures seat { (who.new.seat.table_id ≡ who.old.seat.table_id) × (who.new.number ≡ who.old.number)
+            × (who.new.seat.me.1 ≡ who.old.seat.me.1) }
+        ensures added { (seen : List (List MemberVersions)) (u : Launched) (done more : List Version)
+            → IsAt who.old.number self.now.table.shared.key seen Free
+            (Holding (work u done (V.versions ++ more))) who.old.seat.me
+            → IsAt who.old.number self.now.table.shared.key seen Free
+            (Holding (work u (done ++ V.versions) more)) who.new.seat.me }
+    {
+        let mut tree = self.lock(rt, who, shard);
+        while let Some(node) = nodes.pop() {
+            tree.insert(node);
+        }
+        self.give_back::<V>(who, shard, tree);
+    }
+
+    // Gives a shard's tree back with versions of the member's part more.
+    fn give_back<V: VersionPlan>(&self, who: &mut Client<T, N>, shard: u64, tree: T)
+        requires seat { (who.old.seat.table_id ≡ self.now.table.shared.table_id)
+            × (shard < self.now.table.shared.key.shards) }
+        requires held { (seen : List (List MemberVersions)) × (u : Launched) × (done : List Version)
+            × (more : List Version) × (vs : List Version) × (slots : List (ℕ × Content T N))
+            × IsAt who.old.number self.now.table.shared.key seen (Held shard vs)
+            (Holding (work u done (V.versions ++ more))) who.old.seat.me
+            × (who.old.seat.me.1 ≡ (shard, Blank) ∷ slots) × AddsAll vs V.versions (T.versions tree) }
+        requires shard { AreOfShard self.now.table.shared.key.shards shard V.versions }
+        ensures seat { (who.new.seat.table_id ≡ who.old.seat.table_id) × (who.new.number ≡ who.old.number)
+            × (who.new.seat.me.1 ≡ rest who.old.seat.me.1) }
+        ensures added { (seen : List (List MemberVersions)) (u : Launched) (done more vs : List Version)
+            → IsAt who.old.number self.now.table.shared.key seen (Held shard vs)
+            (Holding (work u done (V.versions ++ more))) who.old.seat.me
+            → IsAt who.old.number self.now.table.shared.key seen Free
+            (Holding (work u (done ++ V.versions) more)) who.new.seat.me }
+    {
+        let shared = &self.table.shared;
+        match shared.exchange(&mut who.seat, shard as usize, Content::Tree(tree)) {
+            Content::Blank => {}
+            _ => unreachable!(),
+        }
+        shared.store::<AddVersions<V>>(&mut who.seat, shard as usize, 0);
     }
 }

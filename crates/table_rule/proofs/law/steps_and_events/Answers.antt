@@ -14,8 +14,8 @@ returns-clause-lock_shard g a z slots id word c me seen stage lt at = locks_is g
 pub returns-clause-unlock_shard : goal.returns-clause-unlock_shard
 returns-clause-unlock_shard g a z slots id word c me seen stage tree more at slot = unlocks_is g.T.Versioned.versions g.N.Versioned.versions z slots id me c word seen stage (g.T.Versioned.versions tree) tree more at slot refl
 
-pub returns-clause-add_version : goal.returns-clause-add_version
-returns-clause-add_version g a z slots id word c me seen u done rest v vs tree more at slot adds here = adds_is g.T.Versioned.versions g.N.Versioned.versions z slots id me c word seen u done rest v vs tree more at slot adds here
+pub returns-clause-add_versions : goal.returns-clause-add_versions
+returns-clause-add_versions g a z slots id word c me seen u done new rest vs tree more at slot adds here = adds_is g.T.Versioned.versions g.N.Versioned.versions z slots id me c word seen u done new rest vs tree more at slot adds here
 
 pub returns-clause-launch : goal.returns-clause-launch
 returns-clause-launch g a z slots id word count c me own seen group is count_is low member at next = launches_is g.T.Versioned.versions g.N.Versioned.versions z slots id me c word count own seen group is count_is low member at next.0 next.1 next.2
