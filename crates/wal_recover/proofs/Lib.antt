@@ -1,3 +1,5 @@
+pub mod Fronts
+pub mod Numbers
 pub mod Standing
 pub mod NotRead
 pub mod MoreKept

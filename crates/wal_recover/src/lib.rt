@@ -6,9 +6,12 @@
 #![tactic(auto)]
 
 mod kept;
+mod key;
+mod recovered_map;
 mod recovery;
 
 pub use kept::GroupNote;
+pub use recovered_map::{RecoveredMap, RecoveredPairs};
 pub use recovery::{End, RecoverError, Recovered, recover};
 
 #[cfg(test)]

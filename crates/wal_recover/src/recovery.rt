@@ -5,9 +5,9 @@ ghost use Rattle.log_reader.specs.OnlyReads.{OnlyReads};
 ghost use Rattle.wal_recover.specs.Recovering.{HasRecovered, IsRecoverError};
 
 use crate::kept::{GroupNote, Kept};
+use crate::recovered_map::RecoveredMap;
 use log_reader::{LogReader, Next};
 use std::alloc::Global;
-use wp_coding::PairMap;
 use wp_edge::Disk;
 use wp_model::{EndReason, NoMemory};
 
@@ -23,7 +23,7 @@ pub struct End {
 #[derive(Drop)]
 pub struct Recovered {
     pub groups: Vec<GroupNote>,
-    pub map: PairMap,
+    pub map: RecoveredMap,
     pub last: u64,
     pub kept: u64,
     pub end: End,

@@ -71,8 +71,10 @@ fn recovers_records_in_parts(rt: HostRuntime) -> Result<(), Fail> {
     ];
     assert_eq!(rt; whole.groups.as_slice(), notes.as_slice());
     assert_eq!(rt; whole.map.len(), 2);
-    assert_eq!(rt; whole.map.get(b"b").map(|value| value.len()), Some(40_000));
-    assert_eq!(rt; whole.map.get(b"c"), Some(b"3".as_slice()));
+    let pairs: [(&[u8], usize); 2] = [(b"b", 40_000), (b"c", 1)];
+    for ((key, value), want) in whole.map.iter().zip(pairs) {
+        assert_eq!(rt; (key, value.len()), want);
+    }
     Ok(())
 }
 

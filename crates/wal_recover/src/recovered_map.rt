@@ -1,0 +1,144 @@
+//! The map that the records of a log make.
+
+ghost use Rattle.std.specs.Prelude.{◌≡◌, [], length, OnOk};
+ghost use Rattle.std.specs.BTreeMap.{insert_entry, is_at};
+ghost use Rattle.std.specs.Map.{remove_entry};
+ghost use Rattle.wp_model.specs.Map.{byte_order};
+
+use crate::key::Key;
+use std::alloc::Global;
+use std::collections::{BTreeMap, btree_map};
+use std::marker::Model;
+use wp_coding::Bytes;
+use wp_model::NoMemory;
+
+/// A map of keys to values, both of bytes, for many changes and one look at all pairs. Contracts see the list of its
+/// pairs, in the byte order of the keys.
+#[derive(Debug, Drop)]
+pub struct RecoveredMap {
+    alloc: Global,
+    entries: BTreeMap<Key, Bytes>,
+}
+
+impl Model for RecoveredMap {
+    ghost use Rattle.wp_model.specs.Map.{Pairs};
+
+    ghost Value = { Pairs };
+
+    ghost view = { λ m. m.entries.entries };
+}
+
+impl RecoveredMap {
+    /// No pairs. This takes no memory.
+    pub fn new(alloc: Global) -> RecoveredMap
+        ensures { result ≡ [] }
+    {
+        RecoveredMap {
+            alloc,
+            entries: BTreeMap::new(alloc),
+        }
+    }
+
+    /// Gives a key a value, in the place of the one that it had.
+    pub fn insert(&mut self, key: &[u8], value: &[u8]) -> Result<(), NoMemory>
+        ensures { OnOk result (self.new ≡ insert_entry byte_order self.old key.now value.now) }
+    {
+        let key = Key::copy(self.alloc, key)?;
+        let value = Bytes::copy(self.alloc, value)?;
+        self.entries.insert(key, value)?;
+        Ok(())
+    }
+
+    /// Takes a key out, if it is there. One of at most 16 bytes takes no memory.
+    pub fn remove(&mut self, key: &[u8]) -> Result<(), NoMemory>
+        ensures { OnOk result (self.new ≡ remove_entry (is_at (byte_order key.now)) self.old) }
+    {
+        let key = Key::copy(self.alloc, key)?;
+        self.entries.remove(&key);
+        Ok(())
+    }
+
+    /// How many keys it has.
+    pub fn len(&self) -> usize
+        ensures { result ≡ length self.now }
+    {
+        self.entries.len()
+    }
+
+    /// The pairs in the byte order of the keys.
+    pub fn iter(&self) -> RecoveredPairs<'_>
+        ensures { result ≡ self.now }
+    {
+        RecoveredPairs {
+            entries: self.entries.iter(),
+        }
+    }
+}
+
+/// The pairs of a [`RecoveredMap`] in order. Contracts see those that are left.
+#[derive(Drop)]
+pub struct RecoveredPairs<'a> {
+    entries: btree_map::Iter<'a, Key, Bytes>,
+}
+
+impl<'a> Model for RecoveredPairs<'a> {
+    ghost use Rattle.wp_model.specs.Map.{Pairs};
+
+    ghost Value = { Pairs };
+
+    ghost view = { λ i. i.entries };
+}
+
+impl<'a> Iterator for RecoveredPairs<'a> {
+    type Item = (&'a [u8], &'a [u8]);
+
+    ghost use Rattle.std.specs.Iterator.{YieldsFirstBy, item_count};
+
+    ghost next_gives = { YieldsFirstBy (λ p. (p.0.now, p.1.now)) (λ left. left) };
+
+    ghost remaining = { item_count (λ left. left) };
+
+    fn next(&mut self) -> Option<(&'a [u8], &'a [u8])> {
+        match self.entries.next() {
+            Some((key, value)) => Some((key.as_slice(), value.as_slice())),
+            None => None,
+        }
+    }
+}
+
+#[cfg(test)]
+mod tests {
+    use super::*;
+    use std::test::Fail;
+
+    #[test]
+    fn orders_keys_that_begin_alike(rt: HostRuntime) -> Result<(), Fail> {
+        let mut map = RecoveredMap::new(rt.alloc());
+        let inserted: [(&[u8], &[u8]); 7] = [
+            (b"sixteen bytes of", b"1"),
+            (b"sixteen bytes of it", b"2"),
+            (b"", b"3"),
+            (b"sixteen bytes of all", b"4"),
+            (b"s\0", b"5"),
+            (b"s", b"6"),
+            (b"sixteen bytes of", b"7"),
+        ];
+        for (key, value) in inserted {
+            map.insert(key, value)?;
+        }
+        map.remove(b"sixteen bytes of it")?;
+        map.remove(b"sixteen bytes of i")?;
+        assert_eq!(rt; map.len(), 5);
+        let left: [(&[u8], &[u8]); 5] = [
+            (b"", b"3"),
+            (b"s", b"6"),
+            (b"s\0", b"5"),
+            (b"sixteen bytes of", b"7"),
+            (b"sixteen bytes of all", b"4"),
+        ];
+        for (pair, want) in map.iter().zip(left) {
+            assert_eq!(rt; pair, want);
+        }
+        Ok(())
+    }
+}
