@@ -6,7 +6,3 @@ use Rattle.writer_list.specs.Rooms.{AreReady, AllReady}
 pub ready_snoc : {Q P : Type 0} (n : ℕ) (xs : List (Lists Q P)) (x : Lists Q P) → AllReady n xs → AreReady n x → AllReady n (xs ++ x ∷ [])
 ready_snoc n [] x all ready = (ready, tt)
 ready_snoc n (y ∷ ys) x all ready = (all.0, ready_snoc n ys x all.1 ready)
-
-pub ready_last : {Q P : Type 0} (n : ℕ) (xs : List (Lists Q P)) (x : Lists Q P) → AllReady n (xs ++ x ∷ []) → AllReady n xs × AreReady n x
-ready_last n [] x all = (tt, all.0)
-ready_last n (y ∷ ys) x all = let t = ready_last n ys x all.1 in ((all.0, t.0), t.1)

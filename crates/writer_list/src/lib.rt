@@ -21,6 +21,3 @@ pub use reply_law::replies_in_order;
 pub use room::{Lists, Replies, Requests, Room};
 pub use writer::{Role, Writer};
 pub use writer_list::WriterList;
-
-#[cfg(test)]
-mod tests;

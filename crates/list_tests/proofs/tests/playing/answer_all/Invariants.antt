@@ -1,6 +1,6 @@
 use Rattle.std.proofs.Common.{◌≡◌, take, vec_len, vec_capacity}
 use Rattle.writer_list.specs.Roles.{firsts}
-use Rattle.writer_list.proofs.tests.answer_all.Given as goal
+use Rattle.list_tests.proofs.tests.playing.answer_all.Given as goal
 
 abbrev pub invariant-loop-i : goal.invariant-loop-i
 invariant-loop-i l = record {

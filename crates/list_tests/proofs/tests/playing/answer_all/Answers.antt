@@ -1,7 +1,7 @@
 use Rattle.std.proofs.Common.{ap, ◌∙◌, arith}
 use Rattle.writer_list.specs.Roles.{firsts}
-use Rattle.writer_list.proofs.Pays.{more_firsts}
-use Rattle.writer_list.proofs.tests.answer_all.Goals as goal
+use Rattle.list_tests.proofs.Replies.{more_firsts}
+use Rattle.list_tests.proofs.tests.playing.answer_all.Goals as goal
 
 pub loop-i-preserved : goal.loop-i-preserved
 loop-i-preserved c =

@@ -1,0 +1,17 @@
+use Rattle.std.proofs.Common.{◌+◌, ◌∙◌, arith}
+use Rattle.list_tests.specs.Players.{MayWrite, HasAsked}
+use Rattle.list_tests.proofs.Seating.{set_below, set_above}
+use Rattle.list_tests.proofs.tests.playing.ask_all.Goals as goal
+
+pub loop-i-preserved : goal.loop-i-preserved
+loop-i-preserved g c =
+    let v = c.loop-i.invariant in let list = c.args.list.now in let ps = c.loop-i.players in let i = c.loop-i.i in
+    let lt = c.loop-i-test.true in let was = v.out i c.index-players-i.result (omega arith) (omega arith) in
+    let l = c.ask.ensures.linked in
+    record {
+      asked = set_below (λ k. HasAsked list (k + 1)) ps i _ v.asked (l.0, l.1, l.2 ∙ was.0.2, was.1) (omega arith);
+      out = set_above (λ k. MayWrite list (k + 1)) ps i _ v.out;
+    }
+
+pub returns : goal.returns
+returns g c = (record { each = λ i d h. c.loop-i.invariant.asked i d (let t = c.loop-i-test.false in omega arith) }, c.loop-i.auto.players)
