@@ -14,7 +14,7 @@ use Rattle.write_controller.specs.declared.rule.Caller.TheVariants.{Client, Othe
 use Rattle.write_controller.specs.Numbers.{action_of}
 use Rattle.write_controller.specs.Rule.{history_from, history_of, observer, others, seen_in, IsClientView, covers, IsOfOthers, Fits}
 use Rattle.write_controller.specs.Passes.{client_of, seen_by, GoesOn, IsHistoryOf}
-use Rattle.write_controller.proofs.Totals.{all_back, all_map}
+use Rattle.write_controller.proofs.Totals.{all_back, all_map, get_behind, none_of_length}
 use Rattle.write_controller.proofs.Histories.{legal_from}
 use Rattle.write_controller.proofs.Asked.{not_that_client}
 use Rattle.write_controller.proofs.Tellings.{goes_on}
@@ -66,3 +66,26 @@ module _ (passes : List Pass) (each : (i : ℕ) (p : Pass) → slice_get passes 
         goes_on (client_of p) (seen_in (cell_view p.seat)) mine.rest (all_map (IsOfOthers (Client (client_of p))) (λ (k : Call). k.client ≢ client_of p) (λ k h. not_that_client k.client (client_of p) h) mine.rest mine.behind) in
         subst (λ (x : ℕ × List ControllerCall). GoesOn x.0 (seen_by p) x.1) (λ j. (own.1 j, history_of (mine.begins j))) goes;
   }
+
+-- One pass after another
+
+-- the pass taken next is one of all
+pub at_next : {A : Type 0} (front rest all next : List A) (x : A) → front ++ rest ≡ all → rest ≡ x ∷ next → slice_get all (length front) ≡ Some x
+at_next front rest all next x whole is = subst (λ l. slice_get l (length front) ≡ Some x) (ap (λ l. front ++ l) (sym is) ∙ whole) (get_behind front next x)
+
+-- with it, those taken and those left are all
+pub taken_next : {A : Type 0} (front rest all next : List A) (x : A) → front ++ rest ≡ all → rest ≡ x ∷ next → (front ++ x ∷ []) ++ next ≡ all
+taken_next front rest all next x whole is = append_assoc front (x ∷ []) next ∙ ap (λ l. front ++ l) (sym is) ∙ whole
+
+-- where none is left, those taken are all
+pub taken_all : {A : Type 0} (front rest all : List A) → front ++ rest ≡ all → length rest ≡ 0 → front ≡ all
+taken_all front rest all whole none = sym (append-nil front) ∙ ap (λ l. front ++ l) (sym (none_of_length rest none)) ∙ whole
+
+-- its observers stand behind those of the passes before
+pub joins_next : (n : ℕ) (taken : List Pass) (p : Pass) (before own after : List Observer) → after ≡ before ++ own → before ≡ others n ++ observers_of taken → own ≡ cell_view p.seat
+    → after ≡ others n ++ observers_of (taken ++ p ∷ [])
+joins_next n taken p before own after both is cut =
+    both ∙ (λ j. is j ++ cut j) ∙ ap (λ (l : List Observer). observer (Others n) [] ∷ l) (sym (observers_more taken p))
+
+pub joined_all : (n : ℕ) (taken all : List Pass) (v : List Observer) → v ≡ others n ++ observers_of taken → taken ≡ all → length all ≡ n → v ≡ others (length all) ++ observers_of all
+joined_all n taken all v is same number = is ∙ (λ j. others (sym number j) ++ observers_of (same j))

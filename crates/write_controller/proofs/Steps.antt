@@ -120,7 +120,7 @@ module _ (x : Numbers) (views : Views) (id : ℕ) (v : List Observer) (r : Kept 
 
 -- Calls
 
--- those who don't cover for a client fit its next call
+-- those who don't cover a client fit its next call
 fits_more : (calls : List Call) (c : ℕ) (a : Action) (u : List Observer) → sum_by (coverage c) u ≡ 0 → AllByRecursion (Fits calls) u → AllByRecursion (Fits (calls ++ call c a ∷ [])) u
 fits_more calls c a [] none fits = tt
 fits_more calls c a (s ∷ u) none fits =
@@ -141,7 +141,7 @@ fits_whole c calls = record { rest = []; begins = append-nil calls; behind = tt;
 covers_once : (c : ℕ) (seen : List Call) → sum_by (coverage c) (client_view c seen) ≡ 1
 covers_once c seen = sum_single (coverage c) (observer (Client c) seen) ∙ ap weight (same_client c)
 
--- observers that cover for nobody
+-- observers that cover nobody
 pub record AreNotes (notes : List Observer) : Type 0 where
   pub cover : (c : ℕ) → sum_by (coverage c) notes ≡ 0
   pub stop : sum_by (tokens_held holds_stop) notes ≡ 0

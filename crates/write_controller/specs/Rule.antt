@@ -103,7 +103,7 @@ covers (Others known) client = (client == 0) || nat_lt known client
 abbrev pub IsOfOthers : Caller → Call → Type 0
 IsOfOthers caller c = covers caller c.client ≡ false
 
--- Who made no call has seen none. So the closing, which goes by the others' observer, has all calls before it.
+-- The others' observer has seen nothing. So every call comes after what it has seen, and at closing none is theirs.
 abbrev pub SeesFirst : Caller → List Call → Type 0
 SeesFirst Nobody seen = ⊤
 SeesFirst (Client client) seen = ⊤
@@ -137,7 +137,7 @@ tokens_held_by holds seen (Others known) = 0
 abbrev pub tokens_held : (List controller.Action → Bool) → Observer → ℕ
 tokens_held holds v = tokens_held_by holds v.seen v.caller
 
--- How many of 2 ^ 32 clients it covers. No more are ever counted, so that a count of tokens plus one is a word.
+-- How many of 2 ^ 32 clients it covers. There are never more, so that a count of tokens, and one more, fits a word.
 abbrev pub share_of : Caller → ℕ
 share_of Nobody = 0
 share_of (Client client) = 1

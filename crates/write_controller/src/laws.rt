@@ -10,7 +10,7 @@ ghost use Rattle.write_controller.specs.declared.pass.Pass.{Pass};
 ghost use Rattle.write_controller.specs.Delays.{delays_of, place_if};
 ghost use Rattle.write_controller.specs.Passes.{seen_by, GoesOn, EndsWith, IsLast, IsHistoryOf, token_in};
 
-/// Who looks changes nothing, and nor does who asks for a delay while writes are stopped.
+/// Who looks changes nothing, nor does who asks for a delay while writes are stopped.
 pub fn asking_a_stopped_controller_changes_nothing()
     ensures look { (n : Numbers) → numbers_after n look ≡ n }
     ensures delay { (n : Numbers) (now bytes : ℕ) → 0 < n.stops → numbers_after n (delay now bytes) ≡ n }
