@@ -125,6 +125,12 @@ cuts id k few v is = subst (λ (u : List Observer). Forks Kept id u (fewer_other
         (omega (arith, sum_single (tokens_held holds_slow) left, sum_single (tokens_held holds_slow) right, sum_single (tokens_held holds_slow) was))
         (omega (arith, sum_single share left, sum_single share right, sum_single share was, few))
 
+pub fewer_is : (k : ℕ) (rest left : List Observer) → left ≡ fewer_others rest → rest ≡ others k → left ≡ others (k + 1)
+fewer_is k rest left cut is = cut ∙ ap fewer_others is
+
+pub next_is : (k j : ℕ) (rest next : List Observer) → next ≡ next_client rest → rest ≡ others k → j ≡ k → next ≡ client_view (j + 1) []
+next_is k j rest next cut is same = cut ∙ ap next_client is ∙ ap (λ n. client_view (n + 1) []) (sym same)
+
 -- Notes and whole views
 
 pub copies : (id c : ℕ) (seen : List Call) (v : List Observer) → v ≡ client_view c seen → Forks Kept id v v (note_of v)

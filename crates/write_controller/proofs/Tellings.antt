@@ -1,10 +1,10 @@
 -- What a step tells of a view, as the contracts say it.
 use Rattle.std.proofs.Common.{◌≡◌, ◌≢◌, ℕ, List, [], ◌∷◌, ◌++◌, sym, ap, ◌∙◌, refl, subst, append_assoc}
-use Rattle.std.specs.Prelude.{◌==◌, false}
+use Rattle.std.specs.Prelude.{◌==◌, false, Some}
 use Rattle.std.specs.List.{AllByRecursion}
 use mathlib.Core.List.{IsPrefix}
 use Rattle.wp_model.specs.Controller as controller
-use Rattle.wp_model.specs.Controller.{answer}
+use Rattle.wp_model.specs.Controller.{ControllerCall, answer}
 use Rattle.wp_model.specs.Tokens.{holds_stop, holds_slow, stop_after, slow_after}
 use Rattle.write_controller.specs.declared.numbers.Numbers.{Numbers}
 use Rattle.write_controller.specs.declared.numbers.Action.{Action}
@@ -108,6 +108,11 @@ module _ (a : Action) (v : List Observer) (x : Numbers) (w : List Observer) (m :
       subst (λ l. EndsWith (client_in v) (history_of (seen_in v)) (action_of a) (answer (numbers_of x) (action_of a)) (history_of l)) (sym (ap seen_in m.view))
       (subst (λ n. EndsWith (client_in v) (history_of (seen_in v)) (action_of a) (answer n (action_of a)) (history_of ((seen_in v ++ m.between) ++ call (client_in v) a ∷ []))) (sym m.numbers)
       (ends_with (client_in v) (seen_in v) m.between a m.others))
+
+-- a call was told what it answers
+pub ends_told : (c : ℕ) (seen : List ControllerCall) (a : controller.Action) (told answered : controller.Look) (after : List ControllerCall)
+    → answered ≡ told → EndsWith c seen a (Some told) after → EndsWith c seen a (Some answered) after
+ends_told c seen a told answered after is e = subst (λ l. EndsWith c seen a (Some l) after) (sym is) e
 
 -- A pass takes in a note
 

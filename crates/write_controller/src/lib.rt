@@ -5,7 +5,7 @@
 //! Each client may hold a stop token and a slow token. A slow token comes with a rate in bytes a second. While anybody
 //! holds a stop token, writes are stopped; while anybody holds a slow token, they are slowed down: who writes spends a
 //! credit of bytes, which is refilled with time at the rate of the token that was taken last, and waits where the
-//! credit doesn't suffice.
+//! credit doesn't suffice. The controller itself holds nobody up: it tells, and who writes waits.
 //!
 //! The controller is five words, which change as one:
 //!

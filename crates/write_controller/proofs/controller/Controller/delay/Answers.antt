@@ -1,9 +1,11 @@
-use Rattle.std.proofs.Common.{Some, sym, ◌∙◌, subst}
+use Rattle.std.proofs.Common.{sym, ◌∙◌}
 use Rattle.crossbeam_utils.specs.Seq.{cell_view}
 use Rattle.wp_model.specs.Controller.{delay}
 use Rattle.write_controller.specs.Rule.{seen_in, history_of}
-use Rattle.write_controller.specs.Passes.{client_of, seen_by, EndsWith}
-use Rattle.write_controller.proofs.Tellings.{made_client, made_view, made_stop, made_slow, made_ends}
+use Rattle.write_controller.specs.Looks.{look_of, look_at}
+use Rattle.write_controller.specs.Numbers.{numbers_of}
+use Rattle.write_controller.specs.Passes.{client_of, seen_by}
+use Rattle.write_controller.proofs.Tellings.{made_client, made_view, made_stop, made_slow, made_ends, ends_told}
 use Rattle.write_controller.proofs.controller.Controller.delay.Goals as goal
 
 pub returns-clause-own : goal.returns-clause-own
@@ -22,6 +24,8 @@ returns-clause-own g c =
 
 pub returns-clause-asked : goal.returns-clause-asked
 returns-clause-asked g c =
-    let seen = c.args.pass.now in
+    let old = c.args.pass.now in
+    let now = c.now-now.result in
+    let bytes = c.args.bytes in
     let made = c.call.ensures.made in
-    (c.now-now.result, c.now-now.ensures, subst (λ l. EndsWith (client_of seen) (seen_by seen) (delay c.now-now.result c.args.bytes) (Some l) (history_of (seen_in (cell_view c.call.new.seat)))) (sym made.2) (made_ends _ _ _ _ made.1))
+    (now, c.now-now.ensures, ends_told (client_of old) (seen_by old) (delay now bytes) (look_at (numbers_of made.0) (delay now bytes)) (look_of c.call.result) (history_of (seen_in (cell_view c.call.new.seat))) made.2 (made_ends _ _ _ _ made.1))

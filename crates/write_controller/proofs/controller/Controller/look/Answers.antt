@@ -1,10 +1,12 @@
-use Rattle.std.proofs.Common.{rules, Some, sym, ◌∙◌, subst}
+use Rattle.std.proofs.Common.{rules, sym, ◌∙◌}
 use Rattle.crossbeam_utils.specs.Seq.{cell_view}
 use Rattle.wp_model.specs.Controller.{look}
 use Rattle.write_controller.specs.Rule.{seen_in, history_of}
-use Rattle.write_controller.specs.Passes.{client_of, seen_by, EndsWith}
+use Rattle.write_controller.specs.Looks.{look_of, look_at}
+use Rattle.write_controller.specs.Numbers.{numbers_of}
+use Rattle.write_controller.specs.Passes.{client_of, seen_by}
 use Rattle.write_controller.proofs.Moves.{looks_turn}
-use Rattle.write_controller.proofs.Tellings.{made_client, made_view, made_stop, made_slow, made_ends}
+use Rattle.write_controller.proofs.Tellings.{made_client, made_view, made_stop, made_slow, made_ends, ends_told}
 use Rattle.write_controller.proofs.controller.Controller.look.Goals as goal
 
 pub load_as-found-requires : goal.load_as-found-requires
@@ -28,5 +30,6 @@ returns-clause-own g c =
 
 pub returns-clause-asked : goal.returns-clause-asked
 returns-clause-asked g c =
-    let seen = c.args.pass.now in
-    subst (λ l. EndsWith (client_of seen) (seen_by seen) look (Some l) (history_of (seen_in (cell_view c.load_as-found.new.pass)))) (sym c.new.ensures) (made_ends _ _ _ _ c.load_as-found.ensures.rule)
+    let old = c.args.pass.now in
+    let told = c.load_as-found.ensures in
+    ends_told (client_of old) (seen_by old) look (look_at (numbers_of c.load_as-found.result) look) (look_of c.new.result) (history_of (seen_in (cell_view c.load_as-found.new.pass))) c.new.ensures (made_ends _ _ _ _ told.rule)

@@ -1,11 +1,10 @@
-use Rattle.std.proofs.Common.{◌≡◌, ◌+◌, false, List, [], ◌∷◌, length, length-append, Some, rules, arith, refl, sym, ap, ◌∙◌, subst, ⊎_elim}
+use Rattle.std.proofs.Common.{◌≡◌, ◌+◌, false, List, [], length, rules, arith, refl, sym, ap, ◌∙◌}
 use Rattle.wp_model.specs.Tokens.{tokens_of, holds_stop, holds_slow}
-use Rattle.std.specs.Prelude.{slice_get}
 use Rattle.crossbeam_utils.specs.Seq.{cell_view}
 use Rattle.write_controller.specs.declared.pass.Pass.{Pass}
-use Rattle.write_controller.specs.Rule.{client_view, others, next_client, fewer_others, client_in, seen_in, history_of}
-use Rattle.write_controller.proofs.Totals.{get_snoc, get_none}
-use Rattle.write_controller.proofs.Moves.{cuts}
+use Rattle.write_controller.specs.Rule.{client_view, others, client_in, seen_in, history_of}
+use Rattle.write_controller.proofs.Totals.{length_snoc, each_snoc, get_none}
+use Rattle.write_controller.proofs.Moves.{cuts, fewer_is, next_is}
 use Rattle.write_controller.proofs.Tellings.{client_view_is}
 use Rattle.write_controller.proofs.controller.Controller.open.Goals as goal
 
@@ -26,15 +25,13 @@ loop-known-preserved g c =
     let cut = c.split_pass-seat.ensures in
     let passes : List Pass = c.loop-known.passes.items in
     let pushed : Pass = record { seat = c.split_pass-seat.result; stopping = false; slowing = false } in (
-      ap length items ∙ length-append passes (pushed ∷ []) ∙ ap (λ n. n + 1) i.0,
+      length_snoc passes _ pushed c.loop-known._known items i.0,
       cut.kept.0.0 ∙ i.1,
-      cut.kept.1 ∙ ap fewer_others i.2,
-      λ j p e. ⊎_elim
-          (λ (was : slice_get passes j ≡ Some p). i.3 j p was)
-          (λ (t : (j ≡ length passes) × (pushed ≡ p)).
-          subst (λ (r : Pass). (r.seat.table_id ≡ c.in_ok-cell.cell.table.shared.table_id) × (cell_view r.seat ≡ client_view (j + 1) []) × (r.stopping ≡ false) × (r.slowing ≡ false)) t.1
-          (cut.given.0 ∙ i.1, cut.given.1 ∙ ap next_client i.2 ∙ ap (λ n. client_view (n + 1) []) (sym (t.0 ∙ i.0)), refl, refl))
-          (get_snoc passes pushed p j (subst (λ l. slice_get l j ≡ Some p) items e)),
+      fewer_is c.loop-known._known _ _ cut.kept.1 i.2,
+      each_snoc
+          (λ j (r : Pass). (r.seat.table_id ≡ c.in_ok-cell.cell.table.shared.table_id) × (cell_view r.seat ≡ client_view (j + 1) []) × (r.stopping ≡ false) × (r.slowing ≡ false))
+          passes _ pushed items i.3
+          (cut.given.0 ∙ i.1, next_is c.loop-known._known (length passes) _ _ cut.given.1 i.2 i.0, refl, refl),
     )
 
 pub returns : goal.returns
