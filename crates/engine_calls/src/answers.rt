@@ -1,0 +1,29 @@
+//! What the calls answer. What a read answers is of `wp_coding`.
+
+use wp_model::Refusal;
+use write_batch::Batch;
+
+/// An accepted batch, which is handed back with its sequence set.
+#[derive(Drop)]
+pub struct Receipt {
+    /// The first sequence of its run.
+    pub first: u64,
+    /// How many sequences the run has.
+    pub count: u32,
+    /// The last sequence of its group. Reads of this client see the group whole from now on.
+    pub group_last: u64,
+    pub batch: Batch,
+}
+
+/// A refused batch, which is handed back as it was.
+#[derive(Drop)]
+pub struct Refused {
+    pub batch: Batch,
+    pub why: Refusal,
+}
+
+/// What is left of a write path that was closed: its log, and the last published sequence.
+pub struct Closed<L> {
+    pub log: L,
+    pub last: u64,
+}

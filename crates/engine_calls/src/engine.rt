@@ -1,0 +1,125 @@
+//! The calls.
+
+ghost use Rattle.std.specs.Prelude.{◌≡◌, List, map, IfOk, IfErr};
+ghost use Rattle.wp_model.specs.Batch as model;
+ghost use Rattle.wp_model.specs.Groups.{Group};
+ghost use Rattle.wp_model.specs.Map.{rows_within, value_at};
+ghost use Rattle.wp_model.specs.Trace.{Trace};
+ghost use Rattle.wp_coding.specs.Answers.{found_value};
+ghost use Rattle.account_model.specs.Accounts.{Keeps, Wrote, Refuses, Reads as ReadsAt};
+ghost use Rattle.account_model.specs.Closing.{AreOurs, all_attempts, IsClosing};
+ghost use Rattle.account_model.specs.Written.{WritesLog};
+
+use crate::answers::{Closed, Receipt, Refused};
+use std::sync::Wait;
+use wp_coding::{Bytes, Read, Reads, Rows};
+use wp_model::{NoMemory, WriteOptions};
+use write_batch::Batch;
+
+/// All clients of a write path, that of the number 1 first, and the room that closing it takes.
+pub struct Clients<C, R> {
+    pub clients: Vec<C>,
+    pub room: R,
+}
+
+/// A write path that many clients share.
+///
+/// Each call moves its client's account, and no other's: `Wrote`, `Refuses`, `Reads` and `Keeps` say how. All accounts
+/// are parts of one trace, as the closing says.
+pub trait Engine {
+    type Client;
+
+    /// The memory that closing takes.
+    type Room;
+
+    type Log;
+
+    ghost use Rattle.std.specs.Prelude.{ℕ, List, Option};
+    ghost use Rattle.wp_model.specs.LogContents.{GroupCall};
+    ghost use Rattle.wp_model.specs.Trace.{Settings};
+    ghost use Rattle.account_model.specs.Accounts.{Account};
+
+    /// What it was opened for.
+    ghost settings: { Self → Settings };
+
+    /// What a client did and saw.
+    ghost account: { Self.Client → Account };
+
+    /// It is one of its clients.
+    ghost belongs: { Self → Self.Client → Type 0 };
+
+    /// The room suffices to close it.
+    ghost closes: { Self → Self.Room → Type 0 };
+
+    /// The log that it was opened with has become this one by these calls of the log writer, and none besides.
+    ghost wrote: { Self → List GroupCall → Self.Log → Type 0 };
+
+    /// The log's fault, and how many faults its disk has counted.
+    ghost fault: { Self.Log → Option ℕ };
+
+    ghost faults: { Self.Log → ℕ };
+
+    /// Writes a batch under a run of sequences of its own, and waits until reads see it.
+    fn write<R: Wait>(
+        &self,
+        rt: &R,
+        client: &mut Self::Client,
+        batch: Batch,
+        options: WriteOptions,
+    ) -> Result<Receipt, Refused>
+        requires { belongs self.now client.old }
+        ensures belongs { belongs self.now client.new }
+        ensures ok { IfOk result (λ r. Wrote (settings self.now) (account client.old) batch.records options r.first
+            r.group_last (account client.new)) }
+        ensures back { IfOk result (λ r. (r.batch ≡ record batch { sequence = r.first })
+            × (r.count ≡ model.count_of batch.records)) }
+        ensures err { IfErr result (λ e. Refuses (settings self.now) (account client.old) batch.records options e.why
+            (account client.new)) }
+        ensures unchanged { IfErr result (λ e. e.batch ≡ batch) };
+
+    /// A key's value at the end of what is published.
+    fn get<R: Wait>(&self, rt: &R, client: &mut Self::Client, key: &[u8]) -> Result<Read, NoMemory>
+        requires { belongs self.now client.old }
+        ensures belongs { belongs self.now client.new }
+        ensures keeps { Keeps (account client.old) (account client.new) }
+        ensures ok { IfOk result (λ read. ReadsAt read.at (λ m. found_value read.value ≡ value_at m key.now)
+            (account client.new)) };
+
+    /// The values of keys, all at one end of what is published.
+    fn get_many<R: Wait>(
+        &self,
+        rt: &R,
+        client: &mut Self::Client,
+        keys: &[Bytes],
+    ) -> Result<Reads, NoMemory>
+        requires { belongs self.now client.old }
+        ensures belongs { belongs self.now client.new }
+        ensures keeps { Keeps (account client.old) (account client.new) }
+        ensures ok { IfOk result (λ reads. ReadsAt reads.at (λ m. reads.values ≡ map (value_at m) keys.now)
+            (account client.new)) };
+
+    /// The keys from `lo` on and below `hi` with their values, all at one end of what is published, in byte order.
+    fn scan<R: Wait>(
+        &self,
+        rt: &R,
+        client: &mut Self::Client,
+        lo: &[u8],
+        hi: &[u8],
+    ) -> Result<Rows, NoMemory>
+        requires { belongs self.now client.old }
+        ensures belongs { belongs self.now client.new }
+        ensures keeps { Keeps (account client.old) (account client.new) }
+        ensures ok { IfOk result (λ rows. ReadsAt rows.at (λ m. rows.rows ≡ rows_within lo.now hi.now m)
+            (account client.new)) };
+
+    /// Gives the log up. All clients are handed in. Of all that they did and saw there is one trace, and the log was
+    /// written by just the calls that wrote its history. It takes no memory.
+    fn close(self, clients: Clients<Self::Client, Self::Room>) -> Closed<Self::Log>
+        requires all { AreOurs (belongs self) account (settings self).clients clients.clients.items }
+        requires room { closes self clients.room }
+        ensures { let accounts = map account clients.clients.items in
+            (trace : Trace) × (groups : List Group)
+            × IsClosing (settings self) (faults result.log) trace groups accounts result.last (fault result.log)
+            × WritesLog (settings self).group_bytes (wrote self) trace (all_attempts accounts) (fault result.log)
+            result.log };
+}

@@ -1,0 +1,36 @@
+//! Who is told of what a write path does.
+
+/// Told of what happens in a run, in the thread in which it happens. It promises nothing, and nothing is promised of
+/// it: tests use one to hold a thread back.
+pub trait Gate {
+    /// A write path was opened, whose table has so many locks.
+    fn opened(&self, locks: u64);
+
+    /// A client begins.
+    fn started(&self, client: u32);
+
+    /// A client's write stands in the line of writers.
+    fn linked(&self, client: u32);
+
+    /// A leader is about to launch its group.
+    fn launching(&self, client: u32);
+
+    /// A client's call of this number, from 0 on, was answered.
+    fn answered(&self, client: u32, number: u64);
+}
+
+/// A gate that does nothing.
+#[derive(Clone, Copy, Debug, Drop)]
+pub struct OpenGate;
+
+impl Gate for OpenGate {
+    fn opened(&self, _locks: u64) {}
+
+    fn started(&self, _client: u32) {}
+
+    fn linked(&self, _client: u32) {}
+
+    fn launching(&self, _client: u32) {}
+
+    fn answered(&self, _client: u32, _number: u64) {}
+}

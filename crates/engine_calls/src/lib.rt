@@ -1,0 +1,14 @@
+//! The calls of a write path that many clients share, whatever it is made of: what a client writes and reads, and how
+//! the whole is closed. What they promise is said of each client's account (`account_model`), and of all accounts at
+//! the closing.
+//!
+//! A client is one thread's at a time, and each call is made with the client. No call names another client.
+#![tactic(auto)]
+
+mod answers;
+mod engine;
+mod gate;
+
+pub use answers::{Closed, Receipt, Refused};
+pub use engine::{Clients, Engine};
+pub use gate::{Gate, OpenGate};
