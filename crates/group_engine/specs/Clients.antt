@@ -12,7 +12,7 @@ use Rattle.list_rule.specs.declared.view.Handling.{Handling}
 use Rattle.list_rule.specs.Chain.{of}
 use Rattle.writer_list.specs.declared.writer.Writer.{Writer}
 use Rattle.writer_list.specs.Rooms.{AreReady}
-use Rattle.writer_list.specs.Seats.{clients_of, about_of, start_of, piped_of, Belongs, IsOut, told}
+use Rattle.writer_list.specs.Seats.{client_of, clients_of, about_of, start_of, piped_of, Belongs, IsOut, told}
 use Rattle.account_model.specs.Accounts.{Account}
 use Rattle.group_rule.specs.Commits.{Commit}
 use Rattle.group_rule.specs.Entries.{account_of}
@@ -64,7 +64,7 @@ module _ {D T S U P : Type 0} {ghosts : Ghosts D} where
     pub record IsSeated (e : GroupEngine D T S U P ghosts) (c : Client D T S U P ghosts) : Type 0 where
       pub is_engine : IsEngine e
       pub writer : Belongs e.list c.writer
-      pub number : c.writer.client ≡ c.number
+      pub number : client_of c.writer ≡ c.number
       pub seat : ours e.table c.seat
       pub ready : IsReady (account c.seat)
       pub seat_number : (account c.seat).number ≡ c.number

@@ -21,6 +21,10 @@ told_in_first [] = []
 told_in_first (h ∷ hs) = h.mine
 
 module _ {Q P L M : Type 0} where
+  -- the number of its client
+  abbrev pub client_of : Writer Q P L M → ℕ
+  client_of w = w.client
+
   -- what the client put, and what came back, in order
   abbrev pub told : Writer Q P L M → List (Q × P)
   told w = told_in_first w.seat.me.0

@@ -12,7 +12,7 @@ ghost use Rattle.list_rule.specs.Grouping.{code_by, item_of, IsWhole};
 ghost use Rattle.list_rule.specs.Plays.{At, building, Builds, taking};
 ghost use Rattle.writer_list.specs.Roles.{Chosen, HasRead, CodesFit, NextIs, Grouped, Gathering, asks};
 ghost use Rattle.writer_list.specs.Rooms.{HasRoom, TakesRequests};
-ghost use Rattle.writer_list.specs.Seats.{clients_of, Belongs, IsChosen, HasGroup, Stays, told};
+ghost use Rattle.writer_list.specs.Seats.{client_of, clients_of, Belongs, IsChosen, HasGroup, Stays, told};
 
 use crate::room::{Requests, Room};
 use crate::writer::Writer;
@@ -37,7 +37,7 @@ impl<Q: Itemized, P: Given, L: Ledger<Q, P>, M: Numbered> WriterList<Q, P, L, M>
         requires room { HasRoom (clients_of self.now) room.old × TakesRequests (clients_of self.now) requests.old }
         ensures room { HasRoom (clients_of self.now) room.new
             × (vec_capacity requests.new.list ≡ vec_capacity requests.old.list) }
-        ensures client { writer.new.client ≡ writer.old.client }
+        ensures client { client_of writer.new ≡ client_of writer.old }
         ensures group { Belongs self.now writer.new × ((own : Entry Q) (seen : List (Handling Q P))
             → IsChosen own seen (told writer.old) writer.old
             → (group left : List (Entry Q))

@@ -10,7 +10,7 @@ ghost use Rattle.list_rule.specs.Chain.{heads, Within, all_answers};
 ghost use Rattle.list_rule.specs.Plays.{At, debt, slots_of, blanks};
 ghost use Rattle.writer_list.specs.Roles.{Leaves, MayLeave, MayWake, MayHandOn, bys, pays, firsts, fills};
 ghost use Rattle.writer_list.specs.Rooms.{HasRoom};
-ghost use Rattle.writer_list.specs.Seats.{clients_of, law_of, flat_of, Belongs, IsOut, HasGroup, Stays, told};
+ghost use Rattle.writer_list.specs.Seats.{client_of, clients_of, law_of, flat_of, Belongs, IsOut, HasGroup, Stays, told};
 
 use crate::room::{Replies, Room};
 use crate::writer::Writer;
@@ -38,7 +38,7 @@ impl<Q: Itemized, P: Given, L: Ledger<Q, P>, M: Numbered> WriterList<Q, P, L, M>
         requires room { HasRoom (clients_of self.now) room.old × (vec_len replies.old.list ≤ clients_of self.now) }
         ensures room { HasRoom (clients_of self.now) room.new × (replies.new.list.items ≡ []) }
         ensures replies_room { vec_capacity replies.new.list ≡ vec_capacity replies.old.list }
-        ensures client { writer.new.client ≡ writer.old.client }
+        ensures client { client_of writer.new ≡ client_of writer.old }
         ensures out { Belongs self.now writer.new × IsOut writer.new × ((max : ℕ) (own : Entry Q)
             (group left : List (Entry Q)) (seen : List (Handling Q P)) (gs : List (Entry Q × P)) (p : P)
             → HasGroup Q.item_of (clients_of self.now) max own group left seen (told writer.old) writer.old

@@ -7,7 +7,7 @@ ghost use Rattle.list_rule.specs.Grouping.{code_by};
 ghost use Rattle.list_rule.specs.Rule.{logs_picked, kept_picked};
 ghost use Rattle.list_rule.specs.Plays.{At, Elected};
 ghost use Rattle.writer_list.specs.Roles.{IsLinked, Becomes};
-ghost use Rattle.writer_list.specs.Seats.{about_of, law_of, kept_of, Belongs, IsOut, IsIn, HasRole, Stays, told};
+ghost use Rattle.writer_list.specs.Seats.{client_of, about_of, law_of, kept_of, Belongs, IsOut, IsIn, HasRole, Stays, told};
 
 use crate::writer::{Role, Writer};
 use crate::writer_list::WriterList;
@@ -25,7 +25,7 @@ impl<Q: Itemized, P: Given, L: Ledger<Q, P>, M: Numbered> WriterList<Q, P, L, M>
     pub fn link<R: Wait>(&self, rt: &R, writer: &mut Writer<Q, P, L, M>, item: Item, request: Q)
         requires out { Belongs self.now writer.old × IsOut writer.old }
         requires item { (item ≡ Q.item_of request) × (item.size ≤ 16777216) }
-        ensures client { writer.new.client ≡ writer.old.client }
+        ensures client { client_of writer.new ≡ client_of writer.old }
         ensures linked { Belongs self.now writer.new
             × IsIn (law_of L.stands L.kept L.number_of P.run_of self.now) request (told writer.old) writer.new }
     {
@@ -36,7 +36,7 @@ impl<Q: Itemized, P: Given, L: Ledger<Q, P>, M: Numbered> WriterList<Q, P, L, M>
     pub fn await_role<R: Wait>(&self, rt: &R, writer: &mut Writer<Q, P, L, M>) -> Role<L, P>
         requires { Belongs self.now writer.old
             × ((q : Q) × IsIn (law_of L.stands L.kept L.number_of P.run_of self.now) q (told writer.old) writer.old) }
-        ensures client { writer.new.client ≡ writer.old.client }
+        ensures client { client_of writer.new ≡ client_of writer.old }
         ensures role { Belongs self.now writer.new × ((q : Q)
             → IsIn (law_of L.stands L.kept L.number_of P.run_of self.now) q (told writer.old) writer.old
             → HasRole (law_of L.stands L.kept L.number_of P.run_of self.now) (kept_of L.kept self.now)
