@@ -19,6 +19,7 @@ use Rattle.list_rule.specs.Events.{Event, Held, free, elected, grouped, core_of,
 use Rattle.list_rule.specs.Chain.{state_at, older_at, newest, newest_from, Links, LinksFrom, Distinct, Within, EndsWith, of, heads}
 use Rattle.list_rule.specs.Standing.{Phase, idle, preparing, linked, chosen, leads, taken, completed, collecting, Mode, open_, waits, led, built, cut, marked, base_of, Holds, InFront, Place, away, parted, queued, called, serves, Turn, still, calls, held_by, passes, ahead, Two, line_of, flat, In, Apart, InStep, KnowsBack}
 use Rattle.list_rule.specs.Laws.{Laws}
+-- cited with the words of the rule by those who make the steps
 pub use Rattle.list_rule.specs.Laws.{Unnumbered, last_run, logs_from, logs_picked, kept_picked}
 
 module _ {Q P : Type 0} where
