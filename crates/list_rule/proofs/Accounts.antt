@@ -4,8 +4,8 @@ use Rattle.std.proofs.lemmas.List.{append_cancel_right}
 use Rattle.list_rule.specs.declared.view.Entry.{Entry}
 use Rattle.list_rule.specs.declared.view.Handling.{Handling}
 use Rattle.list_rule.specs.Grouping.{IsGroup}
-use Rattle.list_rule.specs.Chain.{of}
-use Rattle.list_rule.specs.Events.{Event, comes, elects, builds, exits, completes, Held, free, elected, grouped, Core, Enabled, after, IsOfGroup, without}
+use Rattle.list_rule.specs.Chain.{of, Absent}
+use Rattle.list_rule.specs.Events.{Event, comes, elects, builds, exits, completes, Held, free, elected, grouped, Core, Enabled, after, IsOfGroup, without, IsNotWith, IsAway}
 use Rattle.list_rule.specs.Standing.{Mode, open_, waits, led, built, cut, marked}
 use Rattle.list_rule.specs.Rule.{Shows, Account}
 use Rattle.list_rule.specs.Steps.{Stays, Happens}
@@ -62,26 +62,27 @@ module _ {Q P : Type 0} where
     more_shows e (cut c w) ne ok = (ap (λ l. e ∷ l) ok.0, ok.1)
     more_shows e (marked c) ne ok = (ap (λ l. e ∷ l) ok.0, ok.1)
 
-    pub comes_more : (e : Entry Q) → (mode ≡ open_ → ⊥) → Next (comes e) (e ∷ line) hs mode
-    comes_more e ne = (next (comes e) (e ∷ line) hs mode (e ∷ k.queue) k.log k.owing (tt, refl) (more_shows e mode ne k.shows), (tt, refl))
+    pub comes_more : (e : Entry Q) → (mode ≡ open_ → ⊥) → IsAway e.by (k.queue, k.log, hs, k.owing) → Next (comes e) (e ∷ line) hs mode
+    comes_more e ne away = (next (comes e) (e ∷ line) hs mode (e ∷ k.queue) k.log k.owing (away, refl) (more_shows e mode ne k.shows), (away, refl))
 
     -- the first writer comes and leads
-    pub comes_first : (e : Entry Q) → line ≡ [] → mode ≡ open_
+    pub comes_first : (e : Entry Q) → line ≡ [] → mode ≡ open_ → of e.by k.owing ≡ []
         → (k' : Account (e ∷ []) hs (led e.by)) × ((linked : Core Q P) × Happens (comes e) (k.queue, k.log, hs, k.owing) linked × Happens (elects e) linked (k'.queue, k'.log, hs, k'.owing))
-    comes_first e nil is =
+    comes_first e nil is none_owed =
         let sh : Shows line k.queue k.log open_ = subst (Shows line k.queue k.log) is k.shows in
         let none_there : k.queue ≡ [] = sym sh.0 ∙ nil in
+        let away : IsAway e.by (k.queue, k.log, hs, k.owing) = (subst (Absent e.by) (sym none_there) tt, subst (IsNotWith e.by) (sym sh.1) tt, none_owed) in
         let may : Enabled (e ∷ k.queue, k.log, hs, k.owing) (elects e) = (sh.1, ([], ap (λ l. e ∷ l) none_there)) in (
           record {
             events = elects e ∷ comes e ∷ k.events;
             queue = e ∷ k.queue;
             log = elected e.by;
             owing = k.owing;
-            legal = (subst (λ (z : Core Q P). Enabled (after z (comes e)) (elects e)) (sym k.ran) may, (tt, k.legal));
+            legal = (subst (λ (z : Core Q P). Enabled (after z (comes e)) (elects e)) (sym k.ran) may, (subst (λ (z : Core Q P). IsAway e.by z) (sym k.ran) away, k.legal));
             ran = ap (λ z. after (after z (comes e)) (elects e)) k.ran;
             shows = (ap (λ l. e ∷ l) (sym none_there), refl);
           },
-          ((e ∷ k.queue, k.log, hs, k.owing), (tt, refl), (may, refl)),
+          ((e ∷ k.queue, k.log, hs, k.owing), (away, refl), (may, refl)),
         )
 
     pub leads_now : (c : ℕ) (e : Entry Q) (q : List (Entry Q)) → mode ≡ waits c → e.by ≡ c → line ≡ q ++ e ∷ [] → Next (elects e) line hs (led c)

@@ -25,7 +25,7 @@ use Rattle.list_rule.specs.Events.{Core}
 use Rattle.list_rule.specs.Steps.{Stays, HappensWhere, IsLink, IsElect, now_of, IsNow, StepIs}
 use Rattle.list_rule.specs.Plays.{Sat, entry, At, begun, peeked, aimed, Elected, entered, looked, rested}
 use Rattle.list_rule.proofs.Chains.{put, put_at, put_here, put_else, links_stay, links_same, ends_same, nobody, newest_small, stand_absent, stand_change, linked_change, taken_change}
-use Rattle.list_rule.proofs.Exits.{owing_stays, cut_stays}
+use Rattle.list_rule.proofs.Exits.{owing_stays, cut_stays, away_now}
 use Rattle.list_rule.proofs.Accounts.{comes_more, comes_first, leads_now}
 use Rattle.list_rule.proofs.Moves.{St, row_stays, mode_stays, knows_else, moved, Goes, allows, unmoved}
 use Rattle.list_rule.proofs.Keeps.{second_row, second_same}
@@ -309,7 +309,7 @@ module _ {Q P L M : Type 0} (stands : Laws Q P L M) (n : ℕ) where
         let same : (j : ℕ) → j ≢ 0 → get_or ws j 0 ≡ get_or s.words j 0 = λ j ne. get_or-set_other s.words 0 j c 0 (λ e. ne (omega arith)) in
         let ph : Phase Q P = leads e0 in
         let here : put r.phase c ph c ≡ ph = put_here r.phase c ph in
-        let acc = comes_first r.line r.handled r.mode r.account e0 empty opened in
+        let acc = comes_first r.line r.handled r.mode r.account e0 empty opened (r.owing_is c ∙ (ap (λ f. untold f (r.due c)) now ∙ row.2)) in
         let m' : Sat Q P L M = (h' ∷ [], (0, Log l) ∷ me.1) in (
           h' ∷ [],
           takes 0 (Log l),
@@ -374,7 +374,8 @@ module _ {Q P L M : Type 0} (stands : Laws Q P L M) (n : ℕ) where
         let ph : Phase Q P = linked e0 in
         let here : put r.phase c ph c ≡ ph = put_here r.phase c ph in
         let away : (e : Entry Q) → InChain e (r.phase c) → ⊥ = λ e is. subst (InChain e) now is in
-        let acc = comes_more r.line r.handled r.mode r.account e0 some_one in
+        let out = away_now stands n s.homes r.line r.hand r.account.queue r.account.log r.handled r.phase r.due c w now (stand_absent r.phase c r.line away r.stand) r.mode r.log_is r.account.shows r.has_cut in
+        let acc = comes_more r.line r.handled r.mode r.account e0 some_one (out.0, out.1, r.owing_is c ∙ (ap (λ f. untold f (r.due c)) now ∙ row.2)) in
         let now_is : Core Q P = (acc.0.queue, acc.0.log, r.handled, acc.0.owing) in
         let after : IsNow stands n now_is (record { words = ws; homes = hs; views = set s.views id (h' ∷ []) }) =
         moved stands n s r c id ws hs h h' (e0 ∷ r.line) r.hand r.handled r.mode ph r.due r.told r.two record {

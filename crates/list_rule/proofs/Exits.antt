@@ -5,12 +5,15 @@ use mathlib.Core.Logic.{dite}
 use native.Mathlib.Decide.{ℕ_discrete}
 use Rattle.list_rule.specs.declared.view.Entry.{Entry}
 use Rattle.list_rule.specs.declared.view.Handling.{Handling}
-use Rattle.list_rule.specs.Chain.{of, heads, handling, answers, all_answers}
-use Rattle.list_rule.specs.Events.{Held, wrote, was_for, IsOfGroup, without}
+use Rattle.list_rule.specs.Chain.{of, heads, handling, answers, all_answers, Absent}
+use Rattle.list_rule.specs.Events.{Held, wrote, was_for, IsOfGroup, without, IsNotWith}
 use Rattle.list_rule.specs.Standing.{Phase, idle, preparing, linked, chosen, leads, taken, completed, collecting, Mode, open_, waits, led, built, cut, marked, Holds}
-use Rattle.list_rule.specs.Rule.{HasCut, untold}
+use Rattle.list_rule.specs.Laws.{Laws}
+use Rattle.list_rule.specs.declared.content.Content.{Content}
+use mathlib.Core.Option.{Option as Home}
+use Rattle.list_rule.specs.Rule.{HasCut, untold, Shows, InMode}
 use Rattle.list_rule.proofs.Chains.{put, put_at}
-use Rattle.list_rule.proofs.Groups.{of-append, of_other}
+use Rattle.list_rule.proofs.Groups.{of-append, of_other, taken_absent}
 
 module _ {Q P : Type 0} where
   answers_of : (gs : List (Entry Q × P)) → map was_for (answers gs) ≡ map wrote (reverse (heads gs))
@@ -73,5 +76,31 @@ module _ {Q P : Type 0} where
   cut_stays log log' hand phase m ph same (waits c) to ok = tt
   cut_stays log log' hand phase m ph same (led c) to ok = tt
   cut_stays log log' hand phase m ph same (built c g) to ok = tt
-  cut_stays log log' hand phase m ph same (cut c w) to ok = (ok.0, put_at phase m ph (λ k f. phase k ≡ leads ok.0 → f ≡ leads ok.0) c (λ is here. to is ok.0 (ap phase (sym is) ∙ here)) (λ _ here. here) ok.1, same ∙ ok.2)
-  cut_stays log log' hand phase m ph same (marked c) to ok = (ok.0, put_at phase m ph (λ k f. phase k ≡ leads ok.0 → f ≡ leads ok.0) c (λ is here. to is ok.0 (ap phase (sym is) ∙ here)) (λ _ here. here) ok.1, same ∙ ok.2)
+  cut_stays log log' hand phase m ph same (cut c w) to ok = (ok.0, ok.1, put_at phase m ph (λ k f. phase k ≡ leads ok.0 → f ≡ leads ok.0) c (λ is here. to is ok.0 (ap phase (sym is) ∙ here)) (λ _ here. here) ok.2, same ∙ ok.3)
+  cut_stays log log' hand phase m ph same (marked c) to ok = (ok.0, ok.1, put_at phase m ph (λ k f. phase k ≡ leads ok.0 → f ≡ leads ok.0) c (λ is here. to is ok.0 (ap phase (sym is) ∙ here)) (λ _ here. here) ok.2, same ∙ ok.3)
+
+module _ {Q : Type 0} where
+  absent_front : (c : ℕ) (a b : List (Entry Q)) → Absent c (a ++ b) → Absent c a
+  absent_front c [] b ok = tt
+  absent_front c (e ∷ es) b ok = (ok.0, absent_front c es b ok.1)
+
+  absent_back : (c : ℕ) (a b : List (Entry Q)) → Absent c (a ++ b) → Absent c b
+  absent_back c [] b ok = ok
+  absent_back c (e ∷ es) b ok = absent_back c es b ok.1
+
+module _ {Q P L M : Type 0} (stands : Laws Q P L M) (n : ℕ) where
+  -- who is about to link waits nowhere
+  pub away_now : (homes : List (Home (Content Q P L M))) (line hand queue : List (Entry Q)) (log : Held Q) (handled : List (Handling Q P)) (phase : ℕ → Phase Q P) (due : ℕ → List (Q × P)) (c w : ℕ) → phase c ≡ preparing w → Absent c line
+      → (mode : Mode Q) → InMode stands n homes line hand handled phase due mode → Shows line queue log mode → HasCut log hand phase mode → Absent c queue × IsNotWith c log
+  away_now homes line hand queue log handled phase due c w now out open_ ok sh has = (subst (Absent c) sh.0 out, subst (IsNotWith c) (sym sh.1) tt)
+  away_now homes line hand queue log handled phase due c w now out (waits d) ok sh has = (subst (Absent c) sh.0 out, subst (IsNotWith c) (sym sh.1) tt)
+  away_now homes line hand queue log handled phase due c w now out (led d) ok sh has =
+      (subst (Absent c) sh.0 out, subst (IsNotWith c) (sym sh.1) (λ e. let bad : phase c ≡ leads ok.0.1 = ap phase (sym e) ∙ ok.0.4 in absurd (cc)))
+  away_now homes line hand queue log handled phase due c w now out (built d g) ok sh has =
+      let parts : Absent c (queue ++ (g ++ sh.0.0 ∷ [])) = subst (Absent c) sh.0.1 out in
+      let group : Absent c (g ++ sh.0.0 ∷ []) = absent_back c queue (g ++ sh.0.0 ∷ []) parts in
+      (absent_front c queue (g ++ sh.0.0 ∷ []) parts, subst (IsNotWith c) (sym sh.1) ((absent_back c g (sh.0.0 ∷ []) group).0, absent_front c g (sh.0.0 ∷ []) group))
+  away_now homes line hand queue log handled phase due c w now out (cut d x) ok sh has =
+      (subst (Absent c) sh.0 out, subst (IsNotWith c) (sym has.3) ((λ e. let bad : phase c ≡ leads has.0 = ap phase (sym e ∙ has.1) ∙ has.2 in absurd (cc)), taken_absent phase due d c hand (λ e bad _. absurd (cc)) ok.1))
+  away_now homes line hand queue log handled phase due c w now out (marked d) ok sh has =
+      (subst (Absent c) sh.0 out, subst (IsNotWith c) (sym has.3) ((λ e. let bad : phase c ≡ leads has.0 = ap phase (sym e ∙ has.1) ∙ has.2 in absurd (cc)), taken_absent phase due d c hand (λ e bad _. absurd (cc)) ok.2))

@@ -85,7 +85,7 @@ module _ {Q P L M : Type 0} (stands : Laws Q P L M) (n : ℕ) where
               kept = r.kept;
               coded = λ e is. r.coded c e (subst (InChain e) (sym now) is);
               account = acc.0;
-              has_cut = (lead.own, here, acc.2 ∙ ap (grouped lead.own) (sym all ∙ fit.4.4));
+              has_cut = (lead.own, f.own_by, here, acc.2 ∙ ap (grouped lead.own) (sym all ∙ fit.4.4));
               owing_is = owing_stays r.phase r.due r.account.owing r.owing_is acc.0.owing r.due c ph (ap (λ (y : Core Q P). y.3) acc.1) (ap (λ f. untold f (r.due c)) (sym now)) (λ _ _. refl);
               second = second_parts stands n ws s.homes phase' (marked c) (stands.last r.handled) r.two (
                   second_same stands n s.words ws s.homes s.homes r.phase c ph r.mode (marked c) (stands.last r.handled) (stands.last r.handled) r.two (inl now) same refl (λ j h. absurd h) (λ j h. inl (subst (Holds j) (sym led_c) h)) (λ j _ h. subst (Holds j) led_c h) (λ v. v) r.second
@@ -162,8 +162,8 @@ module _ {Q P L M : Type 0} (stands : Laws Q P L M) (n : ℕ) where
       let hands : Hands stands n b r.handled (r.handled ++ more) = subst (λ (z : List (Handling Q P)). Hands stands n b z (z ++ more)) fit.4.3 unnumbered in
       let two' = onward_two stands n b r.two in
       let was_cut = subst (HasCut r.account.log r.hand r.phase) is_marked r.has_cut in
-      let same_lead : was_cut.0 ≡ lead.own = one_leads was_cut.0 lead.own (sym was_cut.1 ∙ now) in
-      let acc = frees_now r.line r.handled r.mode r.account c lead.own (heads gs) more is_marked (none_behind n (base_of r.mode) r.line r.few r.within (sym r.newest_is ∙ hit)) (was_cut.2 ∙ (λ i. grouped (same_lead i) (hand_is i))) (group_handled lead.own p gs) in
+      let same_lead : was_cut.0 ≡ lead.own = one_leads was_cut.0 lead.own (sym was_cut.2 ∙ now) in
+      let acc = frees_now r.line r.handled r.mode r.account c lead.own (heads gs) more is_marked (none_behind n (base_of r.mode) r.line r.few r.within (sym r.newest_is ∙ hit)) (was_cut.3 ∙ (λ i. grouped (same_lead i) (hand_is i))) (group_handled lead.own p gs) in
       let now_is : Core Q P = (acc.0.queue, acc.0.log, r.handled ++ more, acc.0.owing) in
       let moved_to : IsNow stands n now_is (record { words = ws; homes = hs; views = set s.views id (h' ∷ []) }) =
       moved stands n s r c id ws hs h h' [] [] (r.handled ++ more) open_ ph owe r.told two' record {
@@ -341,7 +341,7 @@ module _ {Q P L M : Type 0} (stands : Laws Q P L M) (n : ℕ) where
             kept = r.kept;
             coded = λ e is. r.coded c e (subst (InChain e) (sym now) is);
             account = acc.0;
-            has_cut = (was_cut.0, here ∙ (sym now ∙ was_cut.1), ap (λ (y : Core Q P). y.1) acc.1 ∙ was_cut.2);
+            has_cut = (was_cut.0, was_cut.1, here ∙ (sym now ∙ was_cut.2), ap (λ (y : Core Q P). y.1) acc.1 ∙ was_cut.3);
             owing_is = owing_stays r.phase r.due r.account.owing r.owing_is acc.0.owing r.due c ph (ap (λ (y : Core Q P). y.3) acc.1) (ap (λ f. untold f (r.due c)) (sym now)) (λ _ _. refl);
             second = second_stays stands n s.words ws s.homes s.homes r.phase phase' r.mode (cut c x.by) (stands.last r.handled) (stands.last r.handled) r.two (same 1 (λ e. omega arith)) (λ j there. (same_older j (λ e. subst (InSecond r.two.place x.by) now_x (subst (λ (i : ℕ). InSecond r.two.place i (r.phase i)) e there)), (λ _ _. same (state_at j) (λ e. omega arith)), put_same r.phase c ph now j)) (λ j e. sym (same (state_at j) (λ e. omega arith)) ∙ e) refl (λ j h. absurd h) (λ j h. inl (subst (Holds j) (sym is_marked) h)) (λ j _ h. subst (Holds j) is_marked h) (λ v. v) r.second;
             back = fit.5;

@@ -305,7 +305,7 @@ module _ {Q P L M : Type 0} (stands : Laws Q P L M) (n : ℕ) where
             kept = r.kept;
             coded = λ e is. r.coded c e (subst (InChain e) (sym now) is);
             account = acc.0;
-            has_cut = (lead.own, here, acc.2 ∙ ap (grouped lead.own) (sym all ∙ fit.4.4));
+            has_cut = (lead.own, f.own_by, here, acc.2 ∙ ap (grouped lead.own) (sym all ∙ fit.4.4));
             owing_is = owing_stays r.phase r.due r.account.owing r.owing_is acc.0.owing r.due c ph (ap (λ (y : Core Q P). y.3) acc.1) (ap (λ f. untold f (r.due c)) (sym now)) (λ _ _. refl);
             second = cut_second stands n ch ws s.homes phase' (cut c x.by) (stands.last r.handled) r.two c lead (
                 second_stays stands n s.words ws s.homes s.homes r.phase phase' r.mode (cut c x.by) (stands.last r.handled) (stands.last r.handled) r.two (same 1 (λ e. omega arith)) (λ j there. (same_older j (λ e. subst (InSecond r.two.place x.by) now_x (subst (λ (i : ℕ). InSecond r.two.place i (r.phase i)) e there)), (λ _ _. same (state_at j) (λ e. omega arith)), put_same r.phase c ph now j)) (λ j e. sym (same (state_at j) (λ e. omega arith)) ∙ e) refl (λ j h. absurd h) (λ j h. inl (subst (Holds j) (sym led_c) h)) (λ j _ h. subst (Holds j) led_c h) (λ v. v) r.second
@@ -378,8 +378,8 @@ module _ {Q P L M : Type 0} (stands : Laws Q P L M) (n : ℕ) where
       let owe_x : owe x.by ≡ r.due x.by = due_same stands n s r c lead.own gs p by_c now members m.2 apart x.by (λ e. other (sym e)) (λ e bad _. absurd (cc)) in
       let out_x : Absent x.by m.0.0 = distinct_apart m.0.0 x [] (subst Distinct (m.0.2 ∙ (λ i. m.0.0 ++ same_e i ∷ [])) r.distinct) in
       let was_cut = subst (HasCut r.account.log r.hand r.phase) cut_c r.has_cut in
-      let same_lead : was_cut.0 ≡ lead.own = one_leads was_cut.0 lead.own (sym was_cut.1 ∙ now) in
-      let acc = wakes_now r.line r.handled r.mode r.account c x.by lead.own (heads gs) more cut_c (was_cut.2 ∙ (λ i. grouped (same_lead i) (hand_is i))) (group_handled lead.own p gs) in
+      let same_lead : was_cut.0 ≡ lead.own = one_leads was_cut.0 lead.own (sym was_cut.2 ∙ now) in
+      let acc = wakes_now r.line r.handled r.mode r.account c x.by lead.own (heads gs) more cut_c (was_cut.3 ∙ (λ i. grouped (same_lead i) (hand_is i))) (group_handled lead.own p gs) in
       let now_is : Core Q P = (acc.0.queue, acc.0.log, r.handled ++ more, acc.0.owing) in
       let after : IsNow stands n now_is (record { words = ws; homes = hs; views = set s.views id (h' ∷ []) }) =
       moved stands n s r x.by id ws hs h h' r.line [] (r.handled ++ more) (waits x.by) ph owe r.told two' record {

@@ -1,12 +1,12 @@
 -- The events of the list, and the state after them, as plain lists.
-use Rattle.std.specs.Prelude.{◌≡◌, ℕ, ◌==◌, not, List, [], ◌∷◌, ◌++◌, map, filter, reverse}
+use Rattle.std.specs.Prelude.{◌≡◌, ◌≢◌, ℕ, ◌==◌, not, List, [], ◌∷◌, ◌++◌, map, filter, reverse}
 use Rattle.list_rule.specs.declared.view.Entry.{Entry}
 use Rattle.list_rule.specs.declared.view.Handling.{Handling}
-use Rattle.list_rule.specs.Chain.{of}
+use Rattle.list_rule.specs.Chain.{Absent, of}
 use Rattle.list_rule.specs.Grouping.{IsGroup}
 
--- a writer comes; the oldest one leads; it builds its group, under this bound, and these are left; the group leaves
--- with what was handled; the client of a handling is told its reply
+-- a writer comes; the oldest one leads; it builds its group, under this bound, and these are left; the log is given
+-- back or on, and the group leaves with what was handled; the client of a handling is told its reply
 pub data Event (Q P : Type 0) : Type 0 where
   comes : Entry Q → Event Q P
   elects : Entry Q → Event Q P
@@ -24,6 +24,12 @@ pub data Held (Q : Type 0) : Type 0 where
 abbrev pub Core : Type 0 → Type 0 → Type 0
 Core Q P = List (Entry Q) × Held Q × List (Handling Q P) × List (Handling Q P)
 
+-- the client doesn't have the log, nor has who has it the client's request
+abbrev pub IsNotWith : {Q : Type 0} → ℕ → Held Q → Type 0
+IsNotWith c free = Unit {0}
+IsNotWith c (elected leader) = leader ≢ c
+IsNotWith c (grouped own group) = Absent c (own ∷ group)
+
 -- a client and its request: of a writer
 abbrev pub wrote : {Q : Type 0} → Entry Q → ℕ × Q
 wrote e = (e.by, e.asked)
@@ -37,6 +43,10 @@ module _ {Q P : Type 0} where
   abbrev pub without : ℕ → List (Handling Q P) → List (Handling Q P)
   without c hs = filter (λ (h : Handling Q P). not (h.by == c)) hs
 
+  -- the client waits nowhere, and has nothing to be told
+  abbrev pub IsAway : ℕ → Core Q P → Type 0
+  IsAway c k = Absent c k.0 × IsNotWith c k.1 × (of c k.3 ≡ [])
+
   -- clients and requests are those of the group, the leader's first, and then in link order
   abbrev pub IsOfGroup : Entry Q → List (Entry Q) → List (Handling Q P) → Type 0
   IsOfGroup own group new = map was_for new ≡ map wrote (own ∷ reverse group)
@@ -49,7 +59,7 @@ module _ {Q P : Type 0} where
   after k (completes h) = (k.0, k.1, k.2, without h.by k.3)
 
   abbrev pub Enabled : Core Q P → Event Q P → Type 0
-  Enabled k (comes e) = Unit {0}
+  Enabled k (comes e) = IsAway e.by k
   Enabled k (elects e) = (k.1 ≡ free) × ((q : List (Entry Q)) × (k.0 ≡ q ++ e ∷ []))
   Enabled k (builds max own group left) = (k.1 ≡ elected own.by) × (k.0 ≡ left ++ (group ++ own ∷ []))
       × IsGroup max own group left

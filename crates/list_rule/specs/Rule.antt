@@ -141,8 +141,8 @@ module _ {Q P : Type 0} where
   HasCut log hand phase (waits c) = Unit {0}
   HasCut log hand phase (led c) = Unit {0}
   HasCut log hand phase (built c g) = Unit {0}
-  HasCut log hand phase (cut c w) = (own : Entry Q) × (phase c ≡ leads own) × (log ≡ grouped own hand)
-  HasCut log hand phase (marked c) = (own : Entry Q) × (phase c ≡ leads own) × (log ≡ grouped own hand)
+  HasCut log hand phase (cut c w) = (own : Entry Q) × (own.by ≡ c) × (phase c ≡ leads own) × (log ≡ grouped own hand)
+  HasCut log hand phase (marked c) = (own : Entry Q) × (own.by ≡ c) × (phase c ≡ leads own) × (log ≡ grouped own hand)
 
 -- some legal events led here, and what the words show is the state after them
 module _ {Q : Type 0} (line queue : List (Entry Q)) (log : Held Q) where
