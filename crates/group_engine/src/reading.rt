@@ -1,19 +1,19 @@
 //! A client's reads.
 
-ghost use Rattle.std.specs.Prelude.{◌≡◌, IfOk};
-ghost use Rattle.wp_model.specs.Map.{value_at};
+ghost use Rattle.std.specs.Prelude.{◌≡◌, map, IfOk};
+ghost use Rattle.wp_model.specs.Map.{value_at, rows_within};
 ghost use Rattle.wp_coding.specs.Answers.{found_value};
 
 use crate::engine::{Client, GroupEngine};
 use mem_table::{Nodes, Parts};
 use std::sync::Wait;
 use table_calls::Table;
-use wp_coding::Read;
+use wp_coding::{Bytes, Read, Reads, Rows};
 use wp_edge::Disk;
 use wp_model::NoMemory;
 
 impl<D: Disk, T: Table<Nodes, Parts>> GroupEngine<D, T> {
-    ghost use Rattle.account_model.specs.Accounts.{Keeps, Reads};
+    ghost use Rattle.account_model.specs.Accounts.{Keeps, Reads as ReadsAtEnd};
     ghost use Rattle.group_engine.specs.Clients.{IsClientOf, account_in};
 
     /// A key's value at the end of what is published.
@@ -27,9 +27,44 @@ impl<D: Disk, T: Table<Nodes, Parts>> GroupEngine<D, T> {
         ensures belongs { IsClientOf T.opening T.ours T.account self.now client.new }
         ensures keeps { Keeps (account_in T.opening T.ours T.account client.old)
             (account_in T.opening T.ours T.account client.new) }
-        ensures ok { IfOk result (λ read. Reads read.at (λ m. found_value read.value ≡ value_at m key.now)
+        ensures ok { IfOk result (λ read. ReadsAtEnd read.at (λ m. found_value read.value ≡ value_at m key.now)
             (account_in T.opening T.ours T.account client.new)) }
     {
         self.table.read(self.alloc, rt, &mut client.seat, key)
+    }
+
+    /// The values of keys, all at one end of what is published.
+    pub fn get_many<R: Wait>(
+        &self,
+        rt: &R,
+        client: &mut Client<D, T>,
+        keys: &[Bytes],
+    ) -> Result<Reads, NoMemory>
+        requires { IsClientOf T.opening T.ours T.account self.now client.old }
+        ensures belongs { IsClientOf T.opening T.ours T.account self.now client.new }
+        ensures keeps { Keeps (account_in T.opening T.ours T.account client.old)
+            (account_in T.opening T.ours T.account client.new) }
+        ensures ok { IfOk result (λ reads. ReadsAtEnd reads.at (λ m. reads.values ≡ map (value_at m) keys.now)
+            (account_in T.opening T.ours T.account client.new)) }
+    {
+        self.table.read_many(self.alloc, rt, &mut client.seat, keys)
+    }
+
+    /// The keys from `lo` on and below `hi` with their values, all at one end of what is published, in byte order.
+    pub fn scan<R: Wait>(
+        &self,
+        rt: &R,
+        client: &mut Client<D, T>,
+        lo: &[u8],
+        hi: &[u8],
+    ) -> Result<Rows, NoMemory>
+        requires { IsClientOf T.opening T.ours T.account self.now client.old }
+        ensures belongs { IsClientOf T.opening T.ours T.account self.now client.new }
+        ensures keeps { Keeps (account_in T.opening T.ours T.account client.old)
+            (account_in T.opening T.ours T.account client.new) }
+        ensures ok { IfOk result (λ rows. ReadsAtEnd rows.at (λ m. rows.rows ≡ rows_within lo.now hi.now m)
+            (account_in T.opening T.ours T.account client.new)) }
+    {
+        self.table.scan(self.alloc, rt, &mut client.seat, lo, hi)
     }
 }
