@@ -14,18 +14,16 @@ use Rattle.wal_recover.specs.declared.kept.GroupNote.{GroupNote}
 use Rattle.wal_recover.specs.declared.recovery.Recovered.{Recovered}
 use Rattle.write_core.specs.declared.step.Counts.{Counts}
 use Rattle.schedule_run.specs.declared.replaying.Replayed.{Replayed}
-use Rattle.printed_text.specs.declared.states.Form.{Form}
-use Rattle.printed_text.specs.declared.states.Form.TheVariants.{Plain, Digits}
 use Rattle.wp_model.specs.Map.{Pairs}
 use Rattle.write_batch.specs.Contents.{Contents}
 
--- how a key or a value is printed
-abbrev pub word_in : Form → List ℕ → List ℕ
-word_in Plain w = w
-word_in Digits w = hex_word w
+-- a key or a value as it stands
+abbrev pub plain : List ℕ → List ℕ
+plain w = w
 
-abbrev pub pair_line : Form → List ℕ × List ℕ → List ℕ
-pair_line form p = line (word_in form p.0 ∷ word_in form p.1 ∷ [])
+-- a key and its value, each printed as the words say
+abbrev pub pair_line : (List ℕ → List ℕ) → List ℕ × List ℕ → List ℕ
+pair_line word p = line (word p.0 ∷ word p.1 ∷ [])
 
 abbrev pub pair_words : List ℕ × List ℕ → List (List ℕ)
 pair_words p = p.0 ∷ p.1 ∷ []
@@ -63,7 +61,7 @@ history_lines entries = line (codes "history" ∷ decimal (length entries) ∷ [
 
 abbrev pub shown_text : Outcome Pairs → List ℕ
 shown_text v = clients_lines v.transcripts.items ++ history_lines v.history.items
-    ++ state_text (word_in Plain) v.last v.state ++ log_text v.log_len v.fault
+    ++ state_text plain v.last v.state ++ log_text v.log_len v.fault
 
 abbrev pub group_line : GroupNote → List ℕ
 group_line g = line (decimal g.first ∷ decimal g.count ∷ decimal g.size ∷ [])
@@ -76,7 +74,7 @@ abbrev pub end_line : ℕ → EndReason → List ℕ
 end_line at why = line (codes "end" ∷ decimal at ∷ end_words why)
 
 abbrev pub shown_recovered_text : Recovered → List ℕ
-shown_recovered_text v = groups_lines v.groups.items ++ state_text (word_in Digits) v.last v.map
+shown_recovered_text v = groups_lines v.groups.items ++ state_text hex_word v.last v.map
     ++ end_line v.end.at v.end.why
 
 -- how many events came, and how many were passed over
@@ -85,4 +83,4 @@ counts_line counts = line (codes "events" ∷ decimal counts.taken ∷ codes "sk
 
 abbrev pub shown_replayed_text : Replayed → List ℕ
 shown_replayed_text v = counts_line v.counts ++ clients_lines v.transcripts.items ++ history_lines v.history.items
-    ++ state_text (word_in Plain) v.last v.map ++ line (codes "groups" ∷ decimal v.groups ∷ [])
+    ++ state_text plain v.last v.map ++ line (codes "groups" ∷ decimal v.groups ∷ [])

@@ -5,6 +5,7 @@ mod lines;
 mod parts;
 mod reads;
 mod recovered;
+mod recovered_state;
 mod replayed;
 mod states;
 #[cfg(test)]

@@ -8,7 +8,7 @@ ghost use Rattle.wal_recover.specs.Recovering.{ShowsRecovered};
 ghost use Rattle.printed_text.specs.ShownText.{group_line, groups_lines, end_line};
 
 use crate::lines::{put_line, put_number, put_numbers};
-use crate::states::{Form, put_map};
+use crate::recovered_state::put_recovered_map;
 use std::alloc::Global;
 use wal_recover::{GroupNote, Recovered};
 use wp_coding::Bytes;
@@ -22,13 +22,7 @@ pub fn recovered_text(alloc: Global, recovered: &Recovered) -> Result<Bytes, NoM
 {
     let mut text = Bytes::new(alloc);
     put_groups(&mut text, &recovered.groups)?;
-    put_map(
-        alloc,
-        &mut text,
-        Form::Digits,
-        recovered.last,
-        &recovered.map,
-    )?;
+    put_recovered_map(alloc, &mut text, recovered.last, &recovered.map)?;
     put_end(&mut text, recovered.end.at, recovered.end.why)?;
     Ok(text)
 }

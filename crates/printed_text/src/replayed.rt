@@ -8,7 +8,7 @@ ghost use Rattle.printed_text.specs.ShownText.{counts_line};
 
 use crate::lines::{put_line, put_numbers};
 use crate::parts::{put_clients, put_history};
-use crate::states::{Form, put_map};
+use crate::states::put_map;
 use schedule_run::Replayed;
 use std::alloc::Global;
 use wp_coding::Bytes;
@@ -24,7 +24,7 @@ pub fn replayed_text(alloc: Global, replayed: &Replayed) -> Result<Bytes, NoMemo
     put_counts(&mut text, replayed.counts)?;
     put_clients(&mut text, &replayed.transcripts)?;
     put_history(alloc, &mut text, &replayed.history)?;
-    put_map(alloc, &mut text, Form::Plain, replayed.last, &replayed.map)?;
+    put_map(&mut text, replayed.last, &replayed.map)?;
     put_line(&mut text, b"groups", &[replayed.groups])?;
     Ok(text)
 }

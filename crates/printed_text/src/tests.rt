@@ -4,8 +4,8 @@ use crate::{
 use client_calls::{Entry, Outcome, Reply};
 use std::alloc::Global;
 use std::test::Fail;
-use wal_recover::{End, GroupNote, Recovered};
-use wp_coding::{Bytes, Found, FoundList, PairList, PairMap};
+use wal_recover::{End, GroupNote, Recovered, RecoveredMap};
+use wp_coding::{Bytes, Found, FoundList, PairList};
 use wp_model::{Damage, EndReason, Flag, NoMemory, Refusal, ScriptFault};
 use write_batch::Batch;
 
@@ -143,7 +143,7 @@ fn two_groups(alloc: Global) -> Result<Recovered, NoMemory> {
             size: 20
         },
     ]?;
-    let mut map = PairMap::new(alloc);
+    let mut map = RecoveredMap::new(alloc);
     map.insert(b"a", b"1")?;
     map.insert(b"b", b"")?;
     map.insert(b"", b"xyz")?;
@@ -162,7 +162,7 @@ fn two_groups(alloc: Global) -> Result<Recovered, NoMemory> {
 fn no_group(alloc: Global, at: u64, why: EndReason) -> Recovered {
     Recovered {
         groups: Vec::new(alloc),
-        map: PairMap::new(alloc),
+        map: RecoveredMap::new(alloc),
         last: 0,
         kept: 0,
         end: End { at, why },

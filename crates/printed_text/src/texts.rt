@@ -10,7 +10,7 @@ ghost use Rattle.printed_text.specs.Refusals as texts;
 
 use crate::lines::{put_line, put_numbers};
 use crate::parts::{put_clients, put_history, put_log};
-use crate::states::{Form, put_pairs};
+use crate::states::put_pairs;
 use client_calls::Outcome;
 use std::alloc::Global;
 use wp_coding::{Bytes, PairList};
@@ -23,7 +23,7 @@ pub fn outcome_text(alloc: Global, outcome: &Outcome<PairList>) -> Result<Bytes,
     let mut text = Bytes::new(alloc);
     put_clients(&mut text, &outcome.transcripts)?;
     put_history(alloc, &mut text, &outcome.history)?;
-    put_pairs(alloc, &mut text, Form::Plain, outcome.last, &outcome.state)?;
+    put_pairs(&mut text, outcome.last, &outcome.state)?;
     put_log(&mut text, outcome.log_len, outcome.fault)?;
     Ok(text)
 }

@@ -5,5 +5,5 @@ use Rattle.printed_text.proofs.recovered.recovered_text.Goals as goal
 
 pub returns : goal.returns
 returns c = λ r shows.
-    let all = rw (c.in_ok-put_map.ensures, c.in_ok-put_groups.ensures, c.new-text.ensures, c.deref.ensures.value) at c.in_ok-put_end.ensures in
+    let all = rw (c.in_ok-put_recovered_map.ensures, c.in_ok-put_groups.ensures, c.new-text.ensures, c.deref.ensures.value) at c.in_ok-put_end.ensures in
     all ∙ recovered_shown c.args.recovered.now r shows
