@@ -1,5 +1,5 @@
-//! The table in memory, as a type without parameters: the calls of a type with parameters that has a bound with
-//! parameters can't be stated.
+//! The table in memory, as a type without parameters. Contracts can't speak yet of an engine whose table has type
+//! parameters of its own.
 
 ghost use Rattle.std.specs.Prelude.{◌≡◌, [], map, IfOk};
 ghost use Rattle.table_rule.specs.Histories.{In};
