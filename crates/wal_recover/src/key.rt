@@ -1,7 +1,6 @@
 //! A key of a map, compared mostly by bytes that stand in place.
 
-ghost use Rattle.std.specs.Prelude.{◌≡◌, ◌+◌, ◌≤◌, List, ℕ, IfOk, refl};
-ghost use Rattle.std.specs.Ordering.{nat_cmp};
+ghost use Rattle.std.specs.Prelude.{◌≡◌, ◌+◌, ◌≤◌, IfOk};
 ghost use Rattle.std.specs.Slice.Scan.{big_endian};
 ghost use lib.Lanes.{chunk};
 ghost use Rattle.wp_model.specs.Map.{byte_order};
