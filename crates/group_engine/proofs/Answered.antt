@@ -15,8 +15,8 @@ use Rattle.table_rule.specs.Histories.{Begins, last_of}
 use Rattle.list_rule.specs.declared.view.Handling.{Handling}
 use Rattle.list_rule.specs.Chain.{of}
 use Rattle.group_engine.specs.declared.requests.Request.{Request}
-use Rattle.group_engine.specs.declared.requests.Receipt.{Receipt}
-use Rattle.group_engine.specs.declared.requests.Refused.{Refused}
+use Rattle.engine_calls.specs.declared.answers.Receipt.{Receipt}
+use Rattle.engine_calls.specs.declared.answers.Refused.{Refused}
 use Rattle.group_engine.specs.declared.requests.Reply.{Reply}
 use Rattle.account_model.specs.Accounts.{Account, IsRefused, IsRefusedLate, Keeps, Refuses, Wrote}
 use Rattle.group_engine.specs.Clients.{own_commits}

@@ -12,8 +12,8 @@ use Rattle.list_rule.specs.Chain.{Absent, Distinct, Within, heads, handling, ans
 use Rattle.list_rule.specs.Rule.{last_run}
 use Rattle.writer_list.specs.Roles.{asks, pays}
 use Rattle.group_engine.specs.declared.requests.Request.{Request}
-use Rattle.group_engine.specs.declared.requests.Receipt.{Receipt}
-use Rattle.group_engine.specs.declared.requests.Refused.{Refused}
+use Rattle.engine_calls.specs.declared.answers.Receipt.{Receipt}
+use Rattle.engine_calls.specs.declared.answers.Refused.{Refused}
 use Rattle.group_engine.specs.declared.requests.Reply.{Reply}
 use Rattle.group_engine.specs.Handled.{ComesBack, HandsBack, InOrder, answer_in, answer_of_refusal, commit_of, handled_with}
 use Rattle.group_engine.specs.Items.{run_in}

@@ -20,7 +20,7 @@ use Rattle.group_engine.specs.declared.requests.Request.{Request}
 use Rattle.group_engine.specs.declared.requests.Reply.{Reply}
 use Rattle.group_engine.specs.declared.engine.GroupEngine.{GroupEngine}
 use Rattle.group_engine.specs.declared.engine.Client.{Client}
-use Rattle.group_engine.specs.declared.engine.Clients.{Clients}
+use Rattle.group_engine.specs.declared.engine.Room.{Room}
 use Rattle.group_engine.specs.declared.held.Held.{Held}
 use Rattle.group_engine.specs.declared.held.NoRight.{NoRight}
 use Rattle.group_engine.specs.Handled.{commit_of, AreHandled}
@@ -89,11 +89,11 @@ module _ {D T S U P : Type 0} {ghosts : Ghosts D} where
     }
 
   -- the room to close with is empty, and enough for all clients
-  pub record HasRoomToClose (clients : ℕ) (all : Clients D T S U P ghosts) : Type 0 where
-    pub no_writers : all.writers.items ≡ []
-    pub no_seats : all.seats.items ≡ []
-    pub writers : clients ≤ vec_capacity all.writers
-    pub seats : clients ≤ vec_capacity all.seats
+  pub record HasRoomToClose (clients : ℕ) (room : Room D T S U P ghosts) : Type 0 where
+    pub no_writers : room.writers.items ≡ []
+    pub no_seats : room.seats.items ≡ []
+    pub writers : clients ≤ vec_capacity room.writers
+    pub seats : clients ≤ vec_capacity room.seats
 
   -- A request was answered, and there is a list of all that was handled by then, with the client's own.
   pub record IsAnswered (start : ℕ) (q : Request) (p : Reply) (v w : Client D T S U P ghosts) : Type 0 where

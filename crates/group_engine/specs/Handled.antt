@@ -10,8 +10,8 @@ use Rattle.list_rule.specs.declared.view.Handling.{Handling}
 use Rattle.group_rule.specs.Commits.{Answer, accepted, failed, no_room, Commit, AreAnswered}
 use Rattle.group_rule.specs.Plans.{CommitRequest, last_with}
 use Rattle.group_engine.specs.declared.requests.Request.{Request}
-use Rattle.group_engine.specs.declared.requests.Receipt.{Receipt}
-use Rattle.group_engine.specs.declared.requests.Refused.{Refused}
+use Rattle.engine_calls.specs.declared.answers.Receipt.{Receipt}
+use Rattle.engine_calls.specs.declared.answers.Refused.{Refused}
 use Rattle.group_engine.specs.declared.requests.Reply.{Reply}
 
 -- The answer as one to a commit. A leader gives only the first two refusals.

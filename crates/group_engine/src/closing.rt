@@ -3,10 +3,11 @@
 ghost use Rattle.std.specs.Prelude.{◌≡◌, ◌≤◌, ◌+◌, ◌<◌, ℕ, List, [], ◌++◌, map, length, vec_len, vec_capacity};
 ghost use Rattle.group_engine.specs.Clients.{writer_in, seat_in};
 
-use crate::engine::{Client, Clients, Closed, GroupEngine};
+use crate::engine::{Client, GroupEngine, Room};
 use crate::held::{Held, NoRight};
 use crate::numbering::take_first;
 use crate::requests::{Reply, Request};
+use engine_calls::{Clients, Closed};
 use log_writer::{LogWriter, written_by_calls};
 use mem_table::{Nodes, Parts};
 use table_calls::{Seats, Table};
@@ -52,10 +53,10 @@ impl<D: Disk, T: Table<Nodes, Parts>> GroupEngine<D, T> {
 
     /// Gives the log up. All clients are handed in. Of all that they wrote and read there is one trace, and the log was
     /// written by just the calls that wrote its history.
-    pub fn close(self, clients: Clients<D, T>) -> Closed<LogWriter<D>>
+    pub fn close(self, clients: Clients<Client<D, T>, Room<D, T>>) -> Closed<LogWriter<D>>
         requires all { AreOurs (IsClientOf T.opening T.ours T.account self) (account_in T.opening T.ours T.account)
             (clients_of self.list) clients.clients.items }
-        requires room { HasRoomToClose (clients_of self.list) clients }
+        requires room { HasRoomToClose (clients_of self.list) clients.room }
         ensures { let accounts = map (account_in T.opening T.ours T.account) clients.clients.items in
             (trace : Trace) × (groups : List Group)
             × IsClosing (settings_of T.opening T.ours T.account self) (D.faults (disk_of result.log)) trace groups
@@ -72,8 +73,10 @@ impl<D: Disk, T: Table<Nodes, Parts>> GroupEngine<D, T> {
         } = self;
         let Clients {
             mut clients,
-            mut writers,
-            mut seats,
+            room: Room {
+                mut writers,
+                mut seats,
+            },
         } = clients;
         part_all(&mut clients, &mut writers, &mut seats);
         clients.destroy_empty();

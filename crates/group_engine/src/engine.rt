@@ -28,16 +28,8 @@ pub struct Client<D: Disk, T: Table<Nodes, Parts>> {
     pub(crate) layout: Layout,
 }
 
-/// All its clients, that of the number 1 first, and room to close with. No seat can be shared by threads, so that the
-/// room isn't the engine's.
-pub struct Clients<D: Disk, T: Table<Nodes, Parts>> {
-    pub clients: Vec<Client<D, T>>,
+/// The room that closing takes. No seat can be shared by threads, so that the room isn't the engine's.
+pub struct Room<D: Disk, T: Table<Nodes, Parts>> {
     pub(crate) writers: Vec<Writer<Request, Reply, Held<D, T>, NoRight>>,
     pub(crate) seats: Vec<T::Seat>,
-}
-
-/// What is left of an engine: its log, and the last published sequence.
-pub struct Closed<L> {
-    pub log: L,
-    pub last: u64,
 }

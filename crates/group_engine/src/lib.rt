@@ -10,6 +10,7 @@
 //! - `specs/AtStart`: what an engine is opened with.
 #![tactic(auto)]
 
+mod calls;
 mod closing;
 mod engine;
 mod held;
@@ -21,7 +22,8 @@ mod reading;
 mod requests;
 mod writing;
 
-pub use engine::{Client, Clients, Closed, GroupEngine};
+pub use engine::{Client, GroupEngine, Room};
+pub use engine_calls::{Clients, Closed, Receipt, Refused};
 pub use held::{About, Held, NoRight};
 pub use opening::OpenRefused;
-pub use requests::{Receipt, Refused, Reply, Request};
+pub use requests::{Reply, Request};

@@ -8,7 +8,8 @@ ghost use Rattle.group_engine.specs.declared.requests.Request.{Request};
 ghost use Rattle.group_engine.specs.Handled.{commit_requests_of, replies_of, failures};
 ghost use Rattle.group_engine.specs.Numbering.{plan_at, plans_of, batch_at, batches_of, HasVersions, answers, AreEnough, IsAnswer, HasBatch, run_with, full_with};
 
-use crate::requests::{Receipt, Refused, Reply, Request};
+use crate::requests::{Reply, Request};
+use engine_calls::{Receipt, Refused};
 use mem_table::Parts;
 use wp_model::Refusal;
 use write_batch::{Batch, MAX_SEQUENCE};

@@ -15,12 +15,13 @@ ghost use Rattle.group_engine.specs.Layout.{IsRoomy, AreRoomy};
 ghost use Rattle.group_engine.specs.Clients.{IsEngine, IsClientOf, HasRoomToClose, account_in, settings_of, opened_log};
 ghost use Rattle.group_engine.specs.AtStart.{AreSeatsAtStart, IsNewcomer, AreNewcomers};
 
-use crate::engine::{Client, Clients, GroupEngine};
+use crate::engine::{Client, GroupEngine, Room};
 use crate::held::{About, Held, NoRight};
 use crate::layout::Layout;
 use crate::numbering::take_first;
 use crate::requests::{Reply, Request};
 use client_calls::Options;
+use engine_calls::Clients;
 use list_rule::Start;
 use log_writer::LogWriter;
 use mem_table::{Nodes, Parts};
@@ -67,7 +68,7 @@ impl<D: Disk, T: Table<Nodes, Parts>> GroupEngine<D, T> {
         table: T,
         seats: Seats<T::Seat, T::Turn>,
         options: Options,
-    ) -> Result<(GroupEngine<D, T>, Clients<D, T>), OpenRefused<D, T>>
+    ) -> Result<(GroupEngine<D, T>, Clients<Client<D, T>, Room<D, T>>), OpenRefused<D, T>>
         requires options { (options.last ≡ (T.opening table).start) × (options.last ≤ max_sequence)
             × (options.batch_bytes ≤ 16777216) }
         requires clients { (0 < (T.opening table).clients) × ((T.opening table).clients < 255) }
@@ -81,7 +82,7 @@ impl<D: Disk, T: Table<Nodes, Parts>> GroupEngine<D, T> {
             (account_in T.opening T.ours T.account) (clients_of r.0.list) r.1.clients.items) }
         ensures new { IfOk result (λ r. (i : ℕ) (c : _) → slice_get r.1.clients.items i ≡ Some c
             → account_in T.opening T.ours T.account c ≡ newcomer options.last (i + 1)) }
-        ensures room { IfOk result (λ r. HasRoomToClose (clients_of r.0.list) r.1) }
+        ensures room { IfOk result (λ r. HasRoomToClose (clients_of r.0.list) r.1.room) }
         ensures err { IfErr result (λ e. (e.log ≡ log) × (e.table ≡ table) × (e.seats ≡ seats)) }
     {
         let count = seats.clients.len() as u32;
@@ -132,8 +133,7 @@ impl<D: Disk, T: Table<Nodes, Parts>> GroupEngine<D, T> {
                 );
                 let clients = Clients {
                     clients,
-                    writers,
-                    seats,
+                    room: Room { writers, seats },
                 };
                 Ok((engine, clients))
             }

@@ -15,9 +15,10 @@ ghost use Rattle.group_engine.specs.Clients.{IsClientOf, IsSeated, IsAnswered, t
 use crate::engine::{Client, GroupEngine};
 use crate::held::Held;
 use crate::leading::handle;
-use crate::requests::{Receipt, Refused, Reply, Request};
+use crate::requests::{Reply, Request};
 use client_calls::{Measure, refusal_at_once};
 use crossbeam_utils::Backoff;
+use engine_calls::{Receipt, Refused};
 use list_rule::codes_stand_for_items;
 use mem_table::{Nodes, Parts};
 use std::sync::Wait;

@@ -14,7 +14,7 @@ ghost use Rattle.group_engine.specs.Clients.{IsClientOf, HasRoomToClose, account
 
 use crate::memory_table::MemoryTable;
 use client_calls::Options;
-use group_engine::{Clients, GroupEngine, OpenRefused};
+use group_engine::{Client, Clients, GroupEngine, OpenRefused, Room};
 use log_writer::LogWriter;
 use std::alloc::Global;
 use wp_edge::Disk;
@@ -26,7 +26,13 @@ pub fn open_engine<D: Disk>(
     log: LogWriter<D>,
     clients: u32,
     options: Options,
-) -> Result<(GroupEngine<D, MemoryTable>, Clients<D, MemoryTable>), LogWriter<D>>
+) -> Result<
+    (
+        GroupEngine<D, MemoryTable>,
+        Clients<Client<D, MemoryTable>, Room<D, MemoryTable>>,
+    ),
+    LogWriter<D>,
+>
     requires options { (options.last ≤ max_sequence) × (options.batch_bytes ≤ 16777216) }
     requires clients { (0 < clients) × (clients < 255) }
     requires log { (disk : D) × HasOpened disk log }
@@ -40,7 +46,7 @@ pub fn open_engine<D: Disk>(
     ensures new { IfOk result (λ r. (i : ℕ) (c : _) → slice_get r.1.clients.items i ≡ Some c
         → account_in (λ t. opening_of t.one) (λ t s. IsOurs t.one s) (λ s. account s) c
         ≡ newcomer options.last (i + 1)) }
-    ensures room { IfOk result (λ r. HasRoomToClose (clients_of r.0.list) r.1) }
+    ensures room { IfOk result (λ r. HasRoomToClose (clients_of r.0.list) r.1.room) }
     ensures err { IfErr result (λ e. e ≡ log) }
 {
     let Ok((table, seats)) = MemoryTable::open(alloc, clients, options.last) else {

@@ -5,8 +5,8 @@ use Rattle.table_rule.specs.Histories.{Begins, last_of}
 use Rattle.writer_list.specs.Seats.{told}
 use Rattle.group_engine.specs.declared.requests.Request.{Request}
 use Rattle.group_engine.specs.declared.requests.Reply.{Reply}
-use Rattle.group_engine.specs.declared.requests.Receipt.{Receipt}
-use Rattle.group_engine.specs.declared.requests.Refused.{Refused}
+use Rattle.engine_calls.specs.declared.answers.Receipt.{Receipt}
+use Rattle.engine_calls.specs.declared.answers.Refused.{Refused}
 use Rattle.group_engine.proofs.engine.GroupEngine.write.Goals as goal
 use Rattle.account_model.specs.Accounts.{Account, Refuses, Wrote}
 use Rattle.group_engine.specs.Clients.{account_in, own_commits, settings_of}

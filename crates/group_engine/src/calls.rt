@@ -1,0 +1,97 @@
+//! The engine as any write path that many clients share.
+
+ghost use Rattle.std.specs.Prelude.{List, map};
+
+use crate::engine::{Client, GroupEngine, Room};
+use engine_calls::{Clients, Closed, Engine, Receipt, Refused};
+use log_writer::LogWriter;
+use mem_table::{Nodes, Parts};
+use std::sync::Wait;
+use table_calls::Table;
+use wp_coding::{Bytes, Read, Reads, Rows};
+use wp_edge::Disk;
+use wp_model::{NoMemory, WriteOptions};
+use write_batch::Batch;
+
+impl<D: Disk, T: Table<Nodes, Parts>> Engine for GroupEngine<D, T> {
+    type Client = Client<D, T>;
+
+    type Room = Room<D, T>;
+
+    type Log = LogWriter<D>;
+
+    ghost use Rattle.wp_model.specs.Trace.{Trace};
+    ghost use Rattle.wp_model.specs.Groups.{Group};
+    ghost use Rattle.account_model.specs.Closing.{AreOurs, all_attempts, IsClosing};
+    ghost use Rattle.account_model.specs.Written.{WritesLog};
+    ghost use Rattle.log_writer.specs.Words.{fault_of, disk_of};
+    ghost use Rattle.log_writer.specs.Written.{Wrote};
+    ghost use Rattle.writer_list.specs.Seats.{clients_of};
+    ghost use Rattle.group_engine.specs.Clients.{IsClientOf, HasRoomToClose, account_in, settings_of, opened_log};
+
+    ghost settings = { λ e. settings_of T.opening T.ours T.account e };
+
+    ghost account = { λ c. account_in T.opening T.ours T.account c };
+
+    ghost belongs = { λ e c. IsClientOf T.opening T.ours T.account e c };
+
+    ghost closes = { λ e room. HasRoomToClose (clients_of e.list) room };
+
+    ghost wrote = { λ e calls log. Wrote (opened_log e) calls log };
+
+    ghost fault = { λ log. fault_of log };
+
+    ghost faults = { λ log. D.faults (disk_of log) };
+
+    fn write<R: Wait>(
+        &self,
+        rt: &R,
+        client: &mut Client<D, T>,
+        batch: Batch,
+        options: WriteOptions,
+    ) -> Result<Receipt, Refused> {
+        self.write(rt, client, batch, options)
+    }
+
+    fn get<R: Wait>(
+        &self,
+        rt: &R,
+        client: &mut Client<D, T>,
+        key: &[u8],
+    ) -> Result<Read, NoMemory> {
+        self.get(rt, client, key)
+    }
+
+    fn get_many<R: Wait>(
+        &self,
+        rt: &R,
+        client: &mut Client<D, T>,
+        keys: &[Bytes],
+    ) -> Result<Reads, NoMemory> {
+        self.get_many(rt, client, keys)
+    }
+
+    fn scan<R: Wait>(
+        &self,
+        rt: &R,
+        client: &mut Client<D, T>,
+        lo: &[u8],
+        hi: &[u8],
+    ) -> Result<Rows, NoMemory> {
+        self.scan(rt, client, lo, hi)
+    }
+
+    fn close(self, clients: Clients<Client<D, T>, Room<D, T>>) -> Closed<LogWriter<D>>
+        requires all { AreOurs (IsClientOf T.opening T.ours T.account self) (account_in T.opening T.ours T.account)
+            (clients_of self.list) clients.clients.items }
+        requires room { HasRoomToClose (clients_of self.list) clients.room }
+        ensures { let accounts = map (account_in T.opening T.ours T.account) clients.clients.items in
+            (trace : Trace) × (groups : List Group)
+            × IsClosing (settings_of T.opening T.ours T.account self) (D.faults (disk_of result.log)) trace groups
+            accounts result.last (fault_of result.log)
+            × WritesLog self.group_bytes (Wrote (opened_log self)) trace (all_attempts accounts) (fault_of result.log)
+            result.log }
+    {
+        self.close(clients)
+    }
+}
