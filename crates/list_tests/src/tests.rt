@@ -8,8 +8,8 @@ mod playing;
 use crate::counter::{Answer, Counter, Nothing, Player};
 use list_rule::Start;
 use playing::{
-    Counted, MAX, PLAIN, ask, ask_all, closed, finish, finish_all, grouped, left, note, opened,
-    sized, taken, write_at_once,
+    Counted, MAX, PLAIN, ask, ask_all, ask_at_once, closed, finish, finish_all, finish_at_once,
+    grouped, left, note, opened, sized, taken, write_at_once,
 };
 use std::alloc::Global;
 use std::process::Abort;
@@ -222,9 +222,26 @@ fn try_at_once<R: Threads + Wait + Abort + Sync>(
     assert_eq!(rt; (log.count, log.sum, right.mark), (all, sum, 7));
 }
 
+// Just one of two that link at once leads. Both are linked before a group is made, so that its group is both.
 #[test]
 fn two_link_at_once(rt: HostRuntime) {
-    try_at_once(&rt, rt.alloc(), 2, 1, 3);
+    let (list, mut players) = opened(&rt, rt.alloc(), 2, 1);
+    ask_at_once(&rt, &list, players.as_mut_slice());
+    finish_at_once(&rt, &list, players.as_mut_slice());
+    let mut noted = [false; 2];
+    let mut led = 0usize;
+    for (i, player) in players.iter().enumerate() {
+        assert_eq!(rt; player.told.len(), 1);
+        assert!(rt; player.led == 0 || player.led == 2);
+        note_numbers(
+            &rt,
+            player.told.as_slice(),
+            (i as u64).wrapping_add(1),
+            &mut noted,
+        );
+        led = led.wrapping_add(player.led);
+    }
+    assert_eq!(rt; (led, noted), (2, [true, true]));
 }
 
 #[test]

@@ -222,6 +222,37 @@ pub(super) fn write_at_once<R: Threads + Wait + Sync>(
     thread::for_each_mut(rt, players, threads, &each);
 }
 
+// All link themselves at once, each on a thread of its own. The sizes are the clients' numbers.
+pub(super) fn ask_at_once<R: Threads + Wait + Sync>(rt: &R, list: &Counted, players: &mut [Player])
+    requires out { AllMayWrite list.now players.old × (0 < length players.old) × (length players.old < 255) }
+    ensures { AllHaveAsked list.now players.new × (length players.new ≡ length players.old) }
+{
+    let threads = players.len();
+    let each = |i: usize, player: &mut Player|
+        requires { MayWrite list.now (i + 1) player.now × (i < 255) }
+        ensures { HasAsked list.entry.now (i + 1) player.exit.now }
+    { ask(rt, list, &mut player.writer, sized(i as u64 + 1)) };
+    thread::for_each_mut(rt, players, threads, &each);
+}
+
+// All wait for their roles at once, each on a thread of its own, and who leads handles its group.
+pub(super) fn finish_at_once<R: Threads + Wait + Sync>(
+    rt: &R,
+    list: &Counted,
+    players: &mut [Player],
+)
+    requires asked { AllHaveAsked list.now players.old × (0 < length players.old) × (length players.old < 255) }
+    requires plain { IsPlain list.now }
+    ensures { AllMayWrite list.now players.new × (length players.new ≡ length players.old) }
+{
+    let threads = players.len();
+    let each = |i: usize, player: &mut Player|
+        requires { HasAsked list.now (i + 1) player.now × (i < 255) × IsPlain list.now }
+        ensures { MayWrite list.entry.now (i + 1) player.exit.now }
+    { finish(rt, list, player, MAX) };
+    thread::for_each_mut(rt, players, threads, &each);
+}
+
 pub(super) fn sized(size: u64) -> Item
     ensures { result.size ≡ size }
 {
