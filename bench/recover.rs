@@ -8,7 +8,7 @@ use std::error::Error;
 use std::fs;
 use std::path::Path;
 use std::process::{Command, Stdio};
-use std::time::{Duration, Instant};
+use std::time::Duration;
 
 const BLOCK_LEN: usize = 32_768;
 const HEADER_LEN: usize = 7;
@@ -175,18 +175,18 @@ fn measure(log: &str, program: &str, rounds: usize) -> Result<(), Failure> {
     let (mut recovery, mut plain) = (Duration::MAX, Duration::MAX);
     let mut sum = 0;
     for _ in 0..rounds {
-        let start = Instant::now();
+        let start = spent(CHILDREN)?;
         let ended = Command::new(program)
             .args([log, "recover"])
             .stdout(Stdio::null())
             .status()?;
-        recovery = recovery.min(start.elapsed());
+        recovery = recovery.min(spent(CHILDREN)? - start);
         if !ended.success() {
             return Err(format!("recover ended with {ended}").into());
         }
-        let start = Instant::now();
+        let start = spent(OWN)?;
         sum = checksum.of(std::hint::black_box(&bytes));
-        plain = plain.min(start.elapsed());
+        plain = plain.min(spent(OWN)? - start);
     }
     let rate = |time: Duration| bytes.len() as f64 / 1e6 / time.as_secs_f64();
     println!("log      {} bytes, CRC-32C {sum:08x}", bytes.len());
@@ -194,6 +194,38 @@ fn measure(log: &str, program: &str, rounds: usize) -> Result<(), Failure> {
     println!("CRC-32C  {:8.1} MB/s (a byte a step, by a table of 256 entries)", rate(plain));
     println!("ratio    {:8.2}", recovery.as_secs_f64() / plain.as_secs_f64());
     Ok(())
+}
+
+/// Whose processor time `spent` tells: this program's, or that of those which it started and which have ended.
+const OWN: i32 = 0;
+const CHILDREN: i32 = -1;
+
+/// A `struct rusage` of Linux on x86-64: the time in the program and that in the system for it, each in seconds and
+/// microseconds, and what isn't looked at.
+#[repr(C)]
+struct Usage {
+    times: [i64; 4],
+    others: [i64; 14],
+}
+
+unsafe extern "C" {
+    fn getrusage(who: i32, usage: *mut Usage) -> i32;
+}
+
+/// The processor time so far.
+fn spent(who: i32) -> Result<Duration, Failure> {
+    let mut usage = Usage {
+        times: [0; 4],
+        others: [0; 14],
+    };
+    // SAFETY: the system writes one `struct rusage`, which is as large as `Usage`.
+    if unsafe { getrusage(who, &mut usage) } != 0 {
+        return Err("the system tells no processor time".into());
+    }
+    let [seconds, microseconds, system_seconds, system_microseconds] = usage.times;
+    let whole = u64::try_from(seconds + system_seconds)?;
+    Ok(Duration::from_secs(whole)
+        + Duration::from_micros(u64::try_from(microseconds + system_microseconds)?))
 }
 
 /// The last line that `recover` prints of the log.
