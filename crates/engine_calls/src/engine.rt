@@ -1,12 +1,14 @@
 //! The calls.
 
-ghost use Rattle.std.specs.Prelude.{◌≡◌, List, map, IfOk, IfErr};
+ghost use Rattle.std.specs.Prelude.{◌≡◌, true, false, List, map, IfOk, IfErr, OnOk, OnErr};
 ghost use Rattle.wp_model.specs.Batch as model;
 ghost use Rattle.wp_model.specs.Groups.{Group};
 ghost use Rattle.wp_model.specs.Map.{rows_within, value_at};
+ghost use Rattle.wp_model.specs.Controller as controller;
+ghost use Rattle.wp_model.specs.Tokens.{holds_stop, holds_slow};
 ghost use Rattle.wp_model.specs.Trace.{Trace};
 ghost use Rattle.wp_coding.specs.Answers.{found_value};
-ghost use Rattle.account_model.specs.Accounts.{Keeps, Wrote, Refuses, Reads as ReadsAt};
+ghost use Rattle.account_model.specs.Accounts.{Keeps, Wrote, Refuses, Reads as ReadsAt, Asks, GivesBack};
 ghost use Rattle.account_model.specs.Closing.{AreOurs, all_attempts, IsClosing};
 ghost use Rattle.account_model.specs.Written.{WritesLog};
 
@@ -15,6 +17,7 @@ use std::sync::Wait;
 use wp_coding::{Bytes, Read, Reads, Rows};
 use wp_model::{NoMemory, WriteOptions};
 use write_batch::Batch;
+use write_controller::{Held, NotHeld};
 
 /// All clients of a write path, that of the number 1 first, and the room that closing it takes.
 pub struct Clients<C, R> {
@@ -24,8 +27,8 @@ pub struct Clients<C, R> {
 
 /// A write path that many clients share.
 ///
-/// Each call moves its client's account, and no other's: `Wrote`, `Refuses`, `Reads` and `Keeps` say how. All accounts
-/// are parts of one trace, as the closing says.
+/// Each call moves its client's account, and no other's: `Wrote`, `Refuses`, `Reads`, `Asks`, `GivesBack` and `Keeps` say
+/// how. All accounts are parts of one trace, as the closing says.
 pub trait Engine {
     type Client;
 
@@ -112,9 +115,57 @@ pub trait Engine {
         ensures ok { IfOk result (λ rows. ReadsAt rows.at (λ m. rows.rows ≡ rows_within lo.now hi.now m)
             (account client.new)) };
 
+    /// Takes the client's stop token. While anybody holds one, all writes wait, and those that may not are refused. Where
+    /// the client holds one already, nothing is called.
+    fn stop<R: Wait>(&self, rt: &R, client: &mut Self::Client) -> Result<(), Held>
+        requires { belongs self.now client.old }
+        ensures belongs { belongs self.now client.new }
+        ensures done { OnOk result ((holds_stop (account client.old).asked ≡ false)
+            × Asks (account client.old) controller.stop (account client.new)) }
+        ensures held { OnErr result ((holds_stop (account client.old).asked ≡ true)
+            × Keeps (account client.old) (account client.new)) };
+
+    /// Gives the client's stop token back. Where it holds none, nothing is called.
+    fn unstop<R: Wait>(&self, rt: &R, client: &mut Self::Client) -> Result<(), NotHeld>
+        requires { belongs self.now client.old }
+        ensures belongs { belongs self.now client.new }
+        ensures done { OnOk result ((holds_stop (account client.old).asked ≡ true)
+            × Asks (account client.old) controller.unstop (account client.new)) }
+        ensures not_held { OnErr result ((holds_stop (account client.old).asked ≡ false)
+            × Keeps (account client.old) (account client.new)) };
+
+    /// Takes the client's slow token, with a rate in bytes a second, of which 0 is 1. While anybody holds one, writes are
+    /// slowed down. Where the client holds one already, nothing is called.
+    fn slow<R: Wait>(&self, rt: &R, client: &mut Self::Client, rate: u64) -> Result<(), Held>
+        requires { belongs self.now client.old }
+        ensures belongs { belongs self.now client.new }
+        ensures done { OnOk result ((holds_slow (account client.old).asked ≡ false)
+            × Asks (account client.old) (controller.slow rate) (account client.new)) }
+        ensures held { OnErr result ((holds_slow (account client.old).asked ≡ true)
+            × Keeps (account client.old) (account client.new)) };
+
+    /// Gives the client's slow token back. Where it holds none, nothing is called.
+    fn unslow<R: Wait>(&self, rt: &R, client: &mut Self::Client) -> Result<(), NotHeld>
+        requires { belongs self.now client.old }
+        ensures belongs { belongs self.now client.new }
+        ensures done { OnOk result ((holds_slow (account client.old).asked ≡ true)
+            × Asks (account client.old) controller.unslow (account client.new)) }
+        ensures not_held { OnErr result ((holds_slow (account client.old).asked ≡ false)
+            × Keeps (account client.old) (account client.new)) };
+
+    /// Gives back the tokens that the client holds. It has done its last call.
+    fn end<R: Wait>(&self, rt: &R, client: &mut Self::Client)
+        requires { belongs self.now client.old }
+        ensures belongs { belongs self.now client.new }
+        ensures back { GivesBack (account client.old) (account client.new) };
+
     /// Gives the log up. All clients are handed in. Of all that they did and saw there is one trace, and the log was
     /// written by just the calls that wrote its history. It takes no memory.
-    fn close(self, clients: Clients<Self::Client, Self::Room>) -> Closed<Self::Log>
+    fn close<R: Wait>(
+        self,
+        rt: &R,
+        clients: Clients<Self::Client, Self::Room>,
+    ) -> Closed<Self::Log>
         requires all { AreOurs (belongs self) account (settings self).clients clients.clients.items }
         requires room { closes self clients.room }
         ensures { let accounts = map account clients.clients.items in

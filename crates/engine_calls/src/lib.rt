@@ -12,3 +12,4 @@ mod gate;
 pub use answers::{Closed, Receipt, Refused};
 pub use engine::{Clients, Engine};
 pub use gate::{Gate, OpenGate};
+pub use write_controller::{Held, NotHeld};
