@@ -4,30 +4,37 @@ use Rattle.std.specs.List.{AllByRecursion}
 use Rattle.wp_model.specs.declared.write.WriteOptions.{WriteOptions}
 use Rattle.wp_model.specs.Batch.{Record, count_of}
 use Rattle.wp_model.specs.History.{max_sequence}
+use Rattle.wp_model.specs.Controller.{ControllerCall, Look}
 
 pub data Answer : Type 0 where
   -- the batch has the run from this sequence on, in a group that ends with that one
   accepted : ℕ → ℕ → Answer
+  -- writes are held up, as these numbers say, and the batch may not wait
+  held_up : Look → Answer
   -- the log's fault, with its count
   failed : ℕ → Answer
   -- behind this sequence, the last one given, there was no room for its run
   no_room : ℕ → Answer
 
--- a client's commit with its answer
+-- a client's commit with its answer, and the controller's history as its group's leader had seen it, up to the delay that
+-- the leader had asked for the group
 pub record Commit : Type 0 where
   pub client : ℕ
   pub records : List Record
   pub options : WriteOptions
   pub answer : Answer
+  pub controller_calls : List ControllerCall
 
 -- the last sequence given, and the log's fault, after the answer to a batch of so many counted records
 abbrev pub last_after : ℕ → ℕ → Answer → ℕ
 last_after last count (accepted first group_last) = last + count
+last_after last count (held_up numbers) = last
 last_after last count (failed fault) = last
 last_after last count (no_room at) = last
 
 abbrev pub fault_after : Option ℕ → Answer → Option ℕ
 fault_after fault (accepted first group_last) = fault
+fault_after fault (held_up numbers) = fault
 fault_after fault (failed count) = Some count
 fault_after fault (no_room at) = fault
 
@@ -36,6 +43,7 @@ fault_after fault (no_room at) = fault
 abbrev pub IsAnswer : ℕ → Option ℕ → ℕ → Answer → Type 0
 IsAnswer last fault count (accepted first group_last) = (fault ≡ None) × (1 ≤ count) × (first ≡ last + 1)
     × (last + count ≤ max_sequence) × (last + count ≤ group_last)
+IsAnswer last fault count (held_up numbers) = ⊤
 IsAnswer last fault count (failed told) = MatchOption fault ⊤ (λ known. told ≡ known)
 IsAnswer last fault count (no_room at) = (fault ≡ None) × (at ≡ last) × (max_sequence < last + count)
 

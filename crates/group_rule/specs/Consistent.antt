@@ -5,10 +5,11 @@ use Rattle.table_rule.specs.declared.content.MemberVersions.{MemberVersions}
 use Rattle.table_rule.specs.declared.content.Version.{Version}
 use Rattle.table_rule.specs.Histories.{Images, versions_in}
 use Rattle.group_rule.specs.Commits.{Commit, last_after_all, fault_after_all, AreAnswered, AreOfClients}
+use Rattle.group_rule.specs.Asked.{AreInGroups}
 use Rattle.group_rule.specs.Entries.{versions_made}
 use Rattle.group_rule.specs.LogCalls.{WroteCommits}
 
--- All commits were answered rightly. `last` is the last sequence given, the log has the fault that was told, what is
+-- All commits were answered rightly, group by group. `last` is the last sequence given, the log has the fault that was told, what is
 -- published was made by whole commits, and the log's calls wrote them.
 pub record AreConsistent (start clients group_bytes : ℕ) (commits : List Commit) (last : ℕ) (fault : Option ℕ)
     (published : List (List MemberVersions)) (calls : List GroupCall) : Type 0 where
@@ -16,6 +17,7 @@ pub record AreConsistent (start clients group_bytes : ℕ) (commits : List Commi
   pub of_clients : AreOfClients clients commits
   pub last_is : last ≡ last_after_all start commits
   pub fault_is : fault ≡ fault_after_all None commits
+  pub in_groups : AreInGroups group_bytes commits
   pub images : Images versions_made commits published
   pub written : WroteCommits group_bytes commits fault last calls
 

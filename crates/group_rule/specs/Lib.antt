@@ -1,5 +1,6 @@
 pub mod Commits
-pub mod Entries
 pub mod Plans
+pub mod Asked
+pub mod Entries
 pub mod LogCalls
 pub mod Consistent

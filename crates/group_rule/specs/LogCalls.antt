@@ -3,6 +3,7 @@ use Rattle.std.specs.Prelude.{◌≡◌, ◌⊎◌, ℕ, ◌+◌, ◌<◌, Bool,
 use Rattle.std.specs.List.{AllByRecursion, AllZip}
 use Rattle.wp_model.specs.History.{Entry, RunsFollow, logged}
 use Rattle.wp_model.specs.LogContents.{GroupCall}
+use Rattle.wp_model.specs.Controller.{ControllerCall}
 use Rattle.account_model.specs.Written.{WroteEntries}
 use Rattle.group_rule.specs.Commits.{Commit}
 use Rattle.group_rule.specs.Entries.{entries_of}
@@ -26,9 +27,10 @@ pub record WritesBatches (last : ℕ) (requests : List CommitRequest) (c : Group
 -- members was answered the fault.
 pub record IsLostWrite (group_bytes : ℕ) (commits : List Commit) (count last : ℕ) (c : GroupCall) : Type 0 where
   pub front : List Commit
+  pub known : List ControllerCall
   pub requests : List CommitRequest
   pub rest : List Commit
-  pub split : commits ≡ front ++ (all_failed count requests ++ rest)
+  pub split : commits ≡ front ++ (all_failed known count requests ++ rest)
   pub is_group : IsWholeGroup group_bytes requests
   pub writes : WritesBatches last requests c
   pub failed : c.failed ≡ Some count

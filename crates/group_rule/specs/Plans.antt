@@ -1,14 +1,15 @@
 -- How a leader gives its group runs, one after another, to those that fit below the greatest sequence.
-use Rattle.std.specs.Prelude.{◌≡◌, ◌≢◌, ℕ, ◌+◌, ◌<◌, ◌≤◌, false, true, nat_le, if◌then◌else◌, List, [], ◌∷◌, ◌++◌, length, map, ⊤}
+use Rattle.std.specs.Prelude.{◌≡◌, ◌≢◌, ℕ, ◌+◌, ◌<◌, ◌≤◌, false, true, nat_le, if◌then◌else◌, List, [], ◌∷◌, ◌++◌, length, map, ⊤, Some}
 use Rattle.std.specs.List.{AllByRecursion}
 use Rattle.wp_model.specs.declared.group.Item.{Item}
 use Rattle.wp_model.specs.declared.write.WriteOptions.{WriteOptions}
 use Rattle.wp_model.specs.Batch.{Record, count_of, size_of_batch}
-use Rattle.wp_model.specs.Grouping.{group_len}
+use Rattle.wp_model.specs.Grouping.{group_len, size_of}
 use Rattle.wp_model.specs.History.{max_sequence}
 use Rattle.table_rule.specs.declared.content.Version.{Version}
 use Rattle.table_rule.specs.Batches.{made, numbered}
-use Rattle.group_rule.specs.Commits.{Answer, accepted, failed, no_room, Commit}
+use Rattle.wp_model.specs.Controller.{ControllerCall, Look, delay}
+use Rattle.group_rule.specs.Commits.{Answer, accepted, held_up, failed, no_room, Commit}
 
 -- what a client wants to commit
 pub record CommitRequest : Type 0 where
@@ -16,8 +17,15 @@ pub record CommitRequest : Type 0 where
   pub records : List Record
   pub options : WriteOptions
 
-abbrev pub answered : CommitRequest → Answer → Commit
-answered q answer = record { client = q.client; records = q.records; options = q.options; answer = answer }
+-- its answer in a group for which this history of the controller ends with the delay
+abbrev pub answered : List ControllerCall → CommitRequest → Answer → Commit
+answered known q answer = record {
+  client = q.client;
+  records = q.records;
+  options = q.options;
+  answer = answer;
+  controller_calls = known;
+}
 
 -- Of a batch, where `last` was given last: what is given last after it, if its run fits; its answer, in a group that
 -- ends with `group_last`; itself, if it has a run; and the versions that it makes.
@@ -40,10 +48,10 @@ abbrev pub last_with_all : ℕ → List CommitRequest → ℕ
 last_with_all last [] = last
 last_with_all last (q ∷ requests) = last_with_all (last_with last q.records) requests
 
-abbrev pub planned : ℕ → ℕ → List CommitRequest → List Commit
-planned last group_last [] = []
-planned last group_last (q ∷ requests) = answered q (answer_with last group_last q.records)
-    ∷ planned (last_with last q.records) group_last requests
+abbrev pub planned : List ControllerCall → ℕ → ℕ → List CommitRequest → List Commit
+planned known last group_last [] = []
+planned known last group_last (q ∷ requests) = answered known q (answer_with last group_last q.records)
+    ∷ planned known (last_with last q.records) group_last requests
 
 abbrev pub batches_from : ℕ → List CommitRequest → List (List Record)
 batches_from last [] = []
@@ -54,9 +62,12 @@ versions_from last [] = []
 versions_from last (q ∷ requests) = versions_at last q.records ++ versions_from (last_with last q.records) requests
 
 -- all are answered the log's fault
-abbrev pub all_failed : ℕ → List CommitRequest → List Commit
-all_failed count [] = []
-all_failed count (q ∷ requests) = answered q (failed count) ∷ all_failed count requests
+abbrev pub all_failed : List ControllerCall → ℕ → List CommitRequest → List Commit
+all_failed known count requests = map (λ (q : CommitRequest). answered known q (failed count)) requests
+
+-- all are answered that writes are held up
+abbrev pub all_held_up : List ControllerCall → Look → List CommitRequest → List Commit
+all_held_up known numbers requests = map (λ (q : CommitRequest). answered known q (held_up numbers)) requests
 
 -- each has a record that counts, and a client's number
 abbrev pub AreLawful : ℕ → List CommitRequest → Type 0
@@ -90,3 +101,21 @@ pub record IsWholeGroup (group_bytes : ℕ) (requests : List CommitRequest) : Ty
   pub some : 0 < length requests
   pub whole : group_len group_bytes (map item_of_request requests) ≡ length requests
   pub of_others : HaveOwnClients requests
+
+-- all may not wait
+abbrev pub MayNotWait : List CommitRequest → Type 0
+MayNotWait requests = AllByRecursion (λ (q : CommitRequest). q.options.no_slowdown ≡ true) requests
+
+-- the controller's history ends with the delay of the sum of a group's sizes, for which its leader, the first, asked,
+-- and was told this
+pub record IsAskedFor (requests : List CommitRequest) (numbers : Look) (known : List ControllerCall) : Type 0 where
+  pub leader : CommitRequest
+  pub rest : List CommitRequest
+  pub leads : requests ≡ leader ∷ rest
+  pub before : List ControllerCall
+  pub now : ℕ
+  pub is : known ≡ before ++ record {
+    client = leader.client;
+    action = delay now (size_of (map item_of_request requests));
+    told = Some numbers;
+  } ∷ []

@@ -1,19 +1,27 @@
 //! What follows of the commits: for each client at its newest answer, and for all clients at the closing.
 
-ghost use Rattle.std.specs.Prelude.{◌≡◌, ◌+◌, ◌≤◌, ℕ, List, [], ◌∷◌, ◌++◌, length, Option, None, Some, false, slice_get, IfSome, ⊤};
-ghost use Rattle.wp_model.specs.declared.write.Refusal.TheVariants.{LogFault, SequenceFull};
+ghost use Rattle.std.specs.Prelude.{◌≡◌, ◌+◌, ◌≤◌, ℕ, List, [], ◌∷◌, ◌++◌, length, Option, None, Some, true, slice_get, IfSome, ⊤};
+ghost use Rattle.wp_model.specs.declared.write.Refusal.TheVariants.{Incomplete, LogFault, SequenceFull};
+ghost use Rattle.wp_model.specs.declared.write.WriteOptions.{WriteOptions};
 ghost use Rattle.wp_model.specs.History.{max_sequence};
 ghost use Rattle.wp_model.specs.Counts.{Rose};
+ghost use Rattle.wp_model.specs.Batch.{Record};
+ghost use Rattle.wp_model.specs.Controller.{ControllerCall, Look, IsLegal, delay, look};
+ghost use Rattle.wp_model.specs.Groups.{Group};
 ghost use Rattle.wp_model.specs.LogContents.{GroupCall};
 ghost use Rattle.wp_model.specs.Progress.{early_refusal};
+ghost use Rattle.wp_model.specs.Replies.{HoldUp, IsLater};
+ghost use Rattle.wp_model.specs.Tokens.{tokens_of, holds_stop};
 ghost use Rattle.wp_model.specs.Trace.{Settings};
 ghost use Rattle.table_rule.specs.declared.content.MemberVersions.{MemberVersions};
 ghost use Rattle.table_rule.specs.Histories.{Begins, made_by, last_of};
 ghost use Rattle.account_model.specs.Accounts.{Account, Wrote, IsRefused};
 ghost use Rattle.account_model.specs.Closing.{all_attempts, IsClosing};
 ghost use Rattle.account_model.specs.Written.{WritesLog};
-ghost use Rattle.group_rule.specs.Commits.{Commit, accepted, failed, no_room, last_after_all, AreAnswered, commits_of};
-ghost use Rattle.group_rule.specs.Entries.{trace_of, versions_made, account_of, HasPart};
+ghost use Rattle.write_controller.specs.Passes.{EndsWith};
+ghost use Rattle.group_rule.specs.Commits.{Commit, accepted, held_up, failed, no_room, last_after_all, AreAnswered, commits_of};
+ghost use Rattle.group_rule.specs.Asked.{place_of};
+ghost use Rattle.group_rule.specs.Entries.{trace_of, versions_made, account_of, HasPart, SeesMore, AreCallsOf};
 ghost use Rattle.group_rule.specs.Consistent.{AreConsistent};
 
 /// The commits' versions reach from the sequence before the first up to the one given last, which isn't above the
@@ -26,43 +34,69 @@ pub fn numbers_of_commits()
 {}
 
 /// Of right answers the newest to a client is, for its account, an accepted batch or a refusal, whatever the others
-/// were answered, and whatever it has seen published since.
+/// were answered, and whatever it has seen published and of the controller since.
 pub fn accounts_of_the_commits()
     ensures wrote { (settings : Settings) (start client : ℕ) (commits own : List Commit) (c : Commit)
-        (before after : List (List MemberVersions)) (first group_last : ℕ) → AreAnswered start None commits
-        → commits_of client commits ≡ own ++ c ∷ [] → Begins before after → c.answer ≡ accepted first group_last
-        → early_refusal settings.batch_bytes false c.records c.options ≡ None → group_last ≤ last_of start after
-        → Wrote settings (account_of start client own before) c.records c.options first group_last
-        (account_of start client (own ++ c ∷ []) after) }
+        (before after : List (List MemberVersions)) (known now : List ControllerCall) (first group_last : ℕ)
+        → AreAnswered start None commits
+        → commits_of client commits ≡ own ++ c ∷ [] → Begins before after → SeesMore client known now
+        → c.answer ≡ accepted first group_last
+        → early_refusal settings.batch_bytes (holds_stop (tokens_of client known)) c.records c.options ≡ None
+        → group_last ≤ last_of start after
+        → Wrote settings (account_of start client own before known) c.records c.options first group_last
+        (account_of start client (own ++ c ∷ []) after now) }
+    ensures held_up { (start client : ℕ) (commits own : List Commit) (c : Commit)
+        (before after : List (List MemberVersions)) (known now : List ControllerCall) (numbers : Look)
+        (by moment bytes : ℕ) → AreAnswered start None commits
+        → commits_of client commits ≡ own ++ c ∷ [] → Begins before after → SeesMore client known now
+        → c.answer ≡ held_up numbers → c.options.no_slowdown ≡ true → HoldUp numbers
+        → IsLater now (length known) (place_of c)
+        (record { client = by; action = delay moment bytes; told = Some numbers })
+        → IsRefused (account_of start client own before known) c.records c.options
+        (Incomplete numbers.stops numbers.delays numbers.wait) (account_of start client (own ++ c ∷ []) after now) }
     ensures failed { (start client : ℕ) (commits own : List Commit) (c : Commit)
-        (before after : List (List MemberVersions)) (count : ℕ) → AreAnswered start None commits
-        → commits_of client commits ≡ own ++ c ∷ [] → Begins before after → c.answer ≡ failed count
-        → IsRefused (account_of start client own before) c.records c.options (LogFault count)
-        (account_of start client (own ++ c ∷ []) after) }
+        (before after : List (List MemberVersions)) (known now : List ControllerCall) (count : ℕ)
+        → AreAnswered start None commits
+        → commits_of client commits ≡ own ++ c ∷ [] → Begins before after → SeesMore client known now
+        → c.answer ≡ failed count
+        → IsRefused (account_of start client own before known) c.records c.options (LogFault count)
+        (account_of start client (own ++ c ∷ []) after now) }
     ensures full { (start client : ℕ) (commits own : List Commit) (c : Commit)
-        (before after : List (List MemberVersions)) (last : ℕ) → AreAnswered start None commits
-        → commits_of client commits ≡ own ++ c ∷ [] → Begins before after → c.answer ≡ no_room last
-        → IsRefused (account_of start client own before) c.records c.options (SequenceFull last)
-        (account_of start client (own ++ c ∷ []) after) }
+        (before after : List (List MemberVersions)) (known now : List ControllerCall) (last : ℕ)
+        → AreAnswered start None commits
+        → commits_of client commits ≡ own ++ c ∷ [] → Begins before after → SeesMore client known now
+        → c.answer ≡ no_room last
+        → IsRefused (account_of start client own before known) c.records c.options (SequenceFull last)
+        (account_of start client (own ++ c ∷ []) after now) }
+    // a client that looked itself, and made no commit of it
+    ensures looked { (start client : ℕ) (own : List Commit) (records : List Record) (how : WriteOptions)
+        (before after : List (List MemberVersions)) (known now : List ControllerCall) (numbers : Look)
+        → Begins before after → EndsWith client known look (Some numbers) now → how.no_slowdown ≡ true
+        → HoldUp numbers
+        → IsRefused (account_of start client own before known) records how
+        (Incomplete numbers.stops numbers.delays numbers.wait) (account_of start client own after now) }
 {}
 
-/// Once all clients are at rest, their accounts are parts of the one trace of the commits, and the log was written by
-/// just the calls that wrote its history.
+/// Once all clients are at rest, their accounts are parts of the one trace of the commits and of the controller's one
+/// history, and the log was written by just the calls that wrote its history.
 pub fn closings()
     ensures closing { (settings : Settings) (ended : ℕ) (commits : List Commit) (last : ℕ) (fault : Option ℕ)
-        (published : List (List MemberVersions)) (calls : List GroupCall) (accounts : List Account)
+        (published : List (List MemberVersions)) (calls : List GroupCall) (history : List ControllerCall)
+        (accounts : List Account)
         → AreConsistent settings.start settings.clients settings.group_bytes commits last fault published calls
-        → length accounts ≡ settings.clients
+        → length accounts ≡ settings.clients → IsLegal history → AreCallsOf settings.clients history
         → ((i : ℕ) (a : Account) → slice_get accounts i ≡ Some a
-        → HasPart settings.start commits published i a)
+        → HasPart settings.start commits published history i a)
         → IfSome fault (λ count. Rose settings.opened count × (count ≤ ended))
-        → IsClosing settings ended (trace_of settings.start commits) [] accounts last fault }
+        → (groups : List Group)
+        × IsClosing settings ended (trace_of settings.start commits history) groups accounts last fault }
     ensures log { (settings : Settings) (commits : List Commit) (last : ℕ) (fault : Option ℕ)
-        (published : List (List MemberVersions)) (calls : List GroupCall) (accounts : List Account)
+        (published : List (List MemberVersions)) (calls : List GroupCall) (history : List ControllerCall)
+        (accounts : List Account)
         → AreConsistent settings.start settings.clients settings.group_bytes commits last fault published calls
         → length accounts ≡ settings.clients
         → ((i : ℕ) (a : Account) → slice_get accounts i ≡ Some a
-        → HasPart settings.start commits published i a)
+        → HasPart settings.start commits published history i a)
         → WritesLog settings.group_bytes (λ (wrote : List GroupCall) (log : ⊤). wrote ≡ calls)
-        (trace_of settings.start commits) (all_attempts accounts) fault tt }
+        (trace_of settings.start commits history) (all_attempts accounts) fault tt }
 {}

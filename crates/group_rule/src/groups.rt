@@ -1,11 +1,13 @@
 //! A leader that handles its group leaves all as it should be.
 
 ghost use Rattle.std.specs.Prelude.{◌≡◌, ◌+◌, ◌<◌, ℕ, List, [], ◌∷◌, ◌++◌, length, Option, None, Some};
+ghost use Rattle.wp_model.specs.Controller.{ControllerCall, Look};
 ghost use Rattle.wp_model.specs.LogContents.{GroupCall};
+ghost use Rattle.wp_model.specs.Replies.{HoldUp};
 ghost use Rattle.table_rule.specs.declared.content.MemberVersions.{MemberVersions};
 ghost use Rattle.table_rule.specs.Histories.{Runs};
 ghost use Rattle.group_rule.specs.Commits.{Commit};
-ghost use Rattle.group_rule.specs.Plans.{CommitRequest, last_with_all, planned, versions_from, all_failed, AreLawful, IsWholeGroup};
+ghost use Rattle.group_rule.specs.Plans.{CommitRequest, last_with_all, planned, versions_from, all_failed, all_held_up, AreLawful, IsWholeGroup, IsAskedFor, MayNotWait};
 ghost use Rattle.group_rule.specs.LogCalls.{WritesBatches, LogsGroup};
 ghost use Rattle.group_rule.specs.Consistent.{AreConsistent, Publishes};
 
@@ -16,30 +18,45 @@ pub fn runs_of_a_group()
         → last + length (versions_from last requests) ≡ last_with_all last requests }
 {}
 
-/// At the beginning all is as it should be, and each end of a leader's work keeps it so.
+/// At the beginning all is as it should be, and each end of a leader's work keeps it so. `known` is the controller's
+/// history up to the delay that the leader asked for its group.
 pub fn groups_stay_consistent()
     ensures first { (start clients group_bytes : ℕ) → AreConsistent start clients group_bytes [] start None [] [] }
     // the members whose runs fit have them, the log has their batches, unless it is to stay without, and they are
     // published
     ensures written { (start clients group_bytes : ℕ) (commits : List Commit) (last : ℕ)
         (old new : List (List MemberVersions)) (calls more : List GroupCall) (requests : List CommitRequest)
+        (known : List ControllerCall) (numbers : Look)
         → AreConsistent start clients group_bytes commits last None old calls → AreLawful clients requests
+        → IsWholeGroup group_bytes requests → IsAskedFor requests numbers known
         → Publishes (versions_from last requests) old new → LogsGroup last requests calls more
         → AreConsistent start clients group_bytes
-        (commits ++ planned last (last_with_all last requests) requests) (last_with_all last requests) None new more }
+        (commits ++ planned known last (last_with_all last requests) requests) (last_with_all last requests) None new
+        more }
+    // writes are held up, and none of the members may wait
+    ensures held_up { (start clients group_bytes : ℕ) (commits : List Commit) (last : ℕ) (fault : Option ℕ)
+        (published : List (List MemberVersions)) (calls : List GroupCall) (requests : List CommitRequest)
+        (known : List ControllerCall) (numbers : Look)
+        → AreConsistent start clients group_bytes commits last fault published calls → AreLawful clients requests
+        → IsWholeGroup group_bytes requests → IsAskedFor requests numbers known → HoldUp numbers
+        → MayNotWait requests
+        → AreConsistent start clients group_bytes (commits ++ all_held_up known numbers requests) last fault published
+        calls }
     // the call of the log writer failed, and each member was answered its fault
     ensures failed { (start clients group_bytes : ℕ) (commits : List Commit) (last count : ℕ)
         (published : List (List MemberVersions)) (calls : List GroupCall) (requests : List CommitRequest)
-        (c : GroupCall)
+        (known : List ControllerCall) (numbers : Look) (c : GroupCall)
         → AreConsistent start clients group_bytes commits last None published calls → AreLawful clients requests
-        → IsWholeGroup group_bytes requests → WritesBatches last requests c → c.failed ≡ Some count
-        → AreConsistent start clients group_bytes (commits ++ all_failed count requests) last (Some count) published
-        (calls ++ c ∷ []) }
+        → IsWholeGroup group_bytes requests → IsAskedFor requests numbers known → WritesBatches last requests c
+        → c.failed ≡ Some count
+        → AreConsistent start clients group_bytes (commits ++ all_failed known count requests) last (Some count)
+        published (calls ++ c ∷ []) }
     // the log had failed before, and was not called
     ensures dead { (start clients group_bytes : ℕ) (commits : List Commit) (last count : ℕ)
         (published : List (List MemberVersions)) (calls : List GroupCall) (requests : List CommitRequest)
+        (known : List ControllerCall) (numbers : Look)
         → AreConsistent start clients group_bytes commits last (Some count) published calls
-        → AreLawful clients requests
-        → AreConsistent start clients group_bytes (commits ++ all_failed count requests) last (Some count) published
-        calls }
+        → AreLawful clients requests → IsWholeGroup group_bytes requests → IsAskedFor requests numbers known
+        → AreConsistent start clients group_bytes (commits ++ all_failed known count requests) last (Some count)
+        published calls }
 {}
