@@ -1,5 +1,6 @@
 -- How the log, the table and the answers of a write path belong together, at each moment when nobody leads.
 use Rattle.std.specs.Prelude.{◌≡◌, ◌⊎◌, ℕ, List, [], ◌∷◌, ◌++◌, Option, None}
+use Rattle.wp_model.specs.Controller.{ControllerCall}
 use Rattle.wp_model.specs.LogContents.{GroupCall}
 use Rattle.table_rule.specs.declared.content.MemberVersions.{MemberVersions}
 use Rattle.table_rule.specs.declared.content.Version.{Version}
@@ -9,15 +10,16 @@ use Rattle.group_rule.specs.Asked.{AreInGroups}
 use Rattle.group_rule.specs.Entries.{versions_made}
 use Rattle.group_rule.specs.LogCalls.{WroteCommits}
 
--- All commits were answered rightly, group by group. `last` is the last sequence given, the log has the fault that was told, what is
+-- All commits were answered rightly, group by group, and `asked` is the controller's history up to the delay of the last
+-- group. `last` is the last sequence given, the log has the fault that was told, what is
 -- published was made by whole commits, and the log's calls wrote them.
-pub record AreConsistent (start clients group_bytes : ℕ) (commits : List Commit) (last : ℕ) (fault : Option ℕ)
-    (published : List (List MemberVersions)) (calls : List GroupCall) : Type 0 where
+pub record AreConsistent (start clients group_bytes : ℕ) (asked : List ControllerCall) (commits : List Commit)
+    (last : ℕ) (fault : Option ℕ) (published : List (List MemberVersions)) (calls : List GroupCall) : Type 0 where
   pub answered : AreAnswered start None commits
   pub of_clients : AreOfClients clients commits
   pub last_is : last ≡ last_after_all start commits
   pub fault_is : fault ≡ fault_after_all None commits
-  pub in_groups : AreInGroups group_bytes commits
+  pub in_groups : AreInGroups group_bytes asked commits
   pub images : Images versions_made commits published
   pub written : WroteCommits group_bytes commits fault last calls
 

@@ -16,7 +16,7 @@ use Rattle.table_rule.specs.Batches.{made, numbered}
 use Rattle.account_model.specs.Accounts.{Account}
 use Rattle.write_controller.specs.Passes.{GoesOn}
 use Rattle.group_rule.specs.Commits.{Answer, accepted, held_up, failed, no_room, Commit, commits_of}
-use Rattle.group_rule.specs.Asked.{place_of, HasLed}
+use Rattle.group_rule.specs.Asked.{place_of, HasAsked}
 
 -- The history
 
@@ -95,7 +95,7 @@ pub record HasPart (start : ℕ) (commits : List Commit) (published : List (List
   pub begins : Begins seen published
   pub known : List ControllerCall
   pub goes_on : GoesOn (place + 1) known history
-  pub led : HasLed (place + 1) (commits_of (place + 1) commits) known
+  pub has_asked : HasAsked (place + 1) (commits_of (place + 1) commits) known
   pub is : a ≡ account_of start (place + 1) (commits_of (place + 1) commits) seen known
 
 -- the controller's history, as a client has seen it, went on, with no token of its own

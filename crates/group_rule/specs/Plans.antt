@@ -119,3 +119,9 @@ pub record IsAskedFor (requests : List CommitRequest) (numbers : Look) (known : 
     action = delay now (size_of (map item_of_request requests));
     told = Some numbers;
   } ∷ []
+
+-- what was seen before the last call goes on from what the leaders before had seen
+pub record ComesAfter (asked known : List ControllerCall) : Type 0 where
+  pub more : List ControllerCall
+  pub call : ControllerCall
+  pub is : known ≡ (asked ++ more) ++ call ∷ []

@@ -1,5 +1,6 @@
 //! What follows of the commits: for each client at its newest answer, and for all clients at the closing.
 
+ghost use mathlib.Core.List.{IsPrefix};
 ghost use Rattle.std.specs.Prelude.{◌≡◌, ◌+◌, ◌≤◌, ℕ, List, [], ◌∷◌, ◌++◌, length, Option, None, Some, true, slice_get, IfSome, ⊤};
 ghost use Rattle.wp_model.specs.declared.write.Refusal.TheVariants.{Incomplete, LogFault, SequenceFull};
 ghost use Rattle.wp_model.specs.declared.write.WriteOptions.{WriteOptions};
@@ -81,19 +82,20 @@ pub fn accounts_of_the_commits()
 /// history, and the log was written by just the calls that wrote its history.
 pub fn closings()
     ensures closing { (settings : Settings) (ended : ℕ) (commits : List Commit) (last : ℕ) (fault : Option ℕ)
-        (published : List (List MemberVersions)) (calls : List GroupCall) (history : List ControllerCall)
+        (published : List (List MemberVersions)) (calls : List GroupCall) (asked history : List ControllerCall)
         (accounts : List Account)
-        → AreConsistent settings.start settings.clients settings.group_bytes commits last fault published calls
+        → AreConsistent settings.start settings.clients settings.group_bytes asked commits last fault published calls
         → length accounts ≡ settings.clients → IsLegal history → AreCallsOf settings.clients history
+        → IsPrefix asked history
         → ((i : ℕ) (a : Account) → slice_get accounts i ≡ Some a
         → HasPart settings.start commits published history i a)
         → IfSome fault (λ count. Rose settings.opened count × (count ≤ ended))
         → (groups : List Group)
         × IsClosing settings ended (trace_of settings.start commits history) groups accounts last fault }
     ensures log { (settings : Settings) (commits : List Commit) (last : ℕ) (fault : Option ℕ)
-        (published : List (List MemberVersions)) (calls : List GroupCall) (history : List ControllerCall)
+        (published : List (List MemberVersions)) (calls : List GroupCall) (asked history : List ControllerCall)
         (accounts : List Account)
-        → AreConsistent settings.start settings.clients settings.group_bytes commits last fault published calls
+        → AreConsistent settings.start settings.clients settings.group_bytes asked commits last fault published calls
         → length accounts ≡ settings.clients
         → ((i : ℕ) (a : Account) → slice_get accounts i ≡ Some a
         → HasPart settings.start commits published history i a)

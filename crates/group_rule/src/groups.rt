@@ -7,7 +7,7 @@ ghost use Rattle.wp_model.specs.Replies.{HoldUp};
 ghost use Rattle.table_rule.specs.declared.content.MemberVersions.{MemberVersions};
 ghost use Rattle.table_rule.specs.Histories.{Runs};
 ghost use Rattle.group_rule.specs.Commits.{Commit};
-ghost use Rattle.group_rule.specs.Plans.{CommitRequest, last_with_all, planned, versions_from, all_failed, all_held_up, AreLawful, IsWholeGroup, IsAskedFor, MayNotWait};
+ghost use Rattle.group_rule.specs.Plans.{CommitRequest, last_with_all, planned, versions_from, all_failed, all_held_up, AreLawful, IsWholeGroup, IsAskedFor, ComesAfter, MayNotWait};
 ghost use Rattle.group_rule.specs.LogCalls.{WritesBatches, LogsGroup};
 ghost use Rattle.group_rule.specs.Consistent.{AreConsistent, Publishes};
 
@@ -21,42 +21,42 @@ pub fn runs_of_a_group()
 /// At the beginning all is as it should be, and each end of a leader's work keeps it so. `known` is the controller's
 /// history up to the delay that the leader asked for its group.
 pub fn groups_stay_consistent()
-    ensures first { (start clients group_bytes : ℕ) → AreConsistent start clients group_bytes [] start None [] [] }
+    ensures first { (start clients group_bytes : ℕ) → AreConsistent start clients group_bytes [] [] start None [] [] }
     // the members whose runs fit have them, the log has their batches, unless it is to stay without, and they are
     // published
     ensures written { (start clients group_bytes : ℕ) (commits : List Commit) (last : ℕ)
         (old new : List (List MemberVersions)) (calls more : List GroupCall) (requests : List CommitRequest)
-        (known : List ControllerCall) (numbers : Look)
-        → AreConsistent start clients group_bytes commits last None old calls → AreLawful clients requests
-        → IsWholeGroup group_bytes requests → IsAskedFor requests numbers known
+        (asked known : List ControllerCall) (numbers : Look)
+        → AreConsistent start clients group_bytes asked commits last None old calls → AreLawful clients requests
+        → IsWholeGroup group_bytes requests → IsAskedFor requests numbers known → ComesAfter asked known
         → Publishes (versions_from last requests) old new → LogsGroup last requests calls more
-        → AreConsistent start clients group_bytes
+        → AreConsistent start clients group_bytes known
         (commits ++ planned known last (last_with_all last requests) requests) (last_with_all last requests) None new
         more }
     // writes are held up, and none of the members may wait
     ensures held_up { (start clients group_bytes : ℕ) (commits : List Commit) (last : ℕ) (fault : Option ℕ)
         (published : List (List MemberVersions)) (calls : List GroupCall) (requests : List CommitRequest)
-        (known : List ControllerCall) (numbers : Look)
-        → AreConsistent start clients group_bytes commits last fault published calls → AreLawful clients requests
-        → IsWholeGroup group_bytes requests → IsAskedFor requests numbers known → HoldUp numbers
+        (asked known : List ControllerCall) (numbers : Look)
+        → AreConsistent start clients group_bytes asked commits last fault published calls → AreLawful clients requests
+        → IsWholeGroup group_bytes requests → IsAskedFor requests numbers known → ComesAfter asked known → HoldUp numbers
         → MayNotWait requests
-        → AreConsistent start clients group_bytes (commits ++ all_held_up known numbers requests) last fault published
+        → AreConsistent start clients group_bytes known (commits ++ all_held_up known numbers requests) last fault published
         calls }
     // the call of the log writer failed, and each member was answered its fault
     ensures failed { (start clients group_bytes : ℕ) (commits : List Commit) (last count : ℕ)
         (published : List (List MemberVersions)) (calls : List GroupCall) (requests : List CommitRequest)
-        (known : List ControllerCall) (numbers : Look) (c : GroupCall)
-        → AreConsistent start clients group_bytes commits last None published calls → AreLawful clients requests
-        → IsWholeGroup group_bytes requests → IsAskedFor requests numbers known → WritesBatches last requests c
+        (asked known : List ControllerCall) (numbers : Look) (c : GroupCall)
+        → AreConsistent start clients group_bytes asked commits last None published calls → AreLawful clients requests
+        → IsWholeGroup group_bytes requests → IsAskedFor requests numbers known → ComesAfter asked known → WritesBatches last requests c
         → c.failed ≡ Some count
-        → AreConsistent start clients group_bytes (commits ++ all_failed known count requests) last (Some count)
+        → AreConsistent start clients group_bytes known (commits ++ all_failed known count requests) last (Some count)
         published (calls ++ c ∷ []) }
     // the log had failed before, and was not called
     ensures dead { (start clients group_bytes : ℕ) (commits : List Commit) (last count : ℕ)
         (published : List (List MemberVersions)) (calls : List GroupCall) (requests : List CommitRequest)
-        (known : List ControllerCall) (numbers : Look)
-        → AreConsistent start clients group_bytes commits last (Some count) published calls
-        → AreLawful clients requests → IsWholeGroup group_bytes requests → IsAskedFor requests numbers known
-        → AreConsistent start clients group_bytes (commits ++ all_failed known count requests) last (Some count)
+        (asked known : List ControllerCall) (numbers : Look)
+        → AreConsistent start clients group_bytes asked commits last (Some count) published calls
+        → AreLawful clients requests → IsWholeGroup group_bytes requests → IsAskedFor requests numbers known → ComesAfter asked known
+        → AreConsistent start clients group_bytes known (commits ++ all_failed known count requests) last (Some count)
         published calls }
 {}
