@@ -3,6 +3,7 @@
 ghost use Rattle.std.specs.Prelude.{◌≡◌, true, false, List, map, IfOk, IfErr, OnOk, OnErr};
 ghost use Rattle.wp_model.specs.Batch as model;
 ghost use Rattle.wp_model.specs.Groups.{Group};
+ghost use Rattle.wp_model.specs.LogContents.{GroupCall};
 ghost use Rattle.wp_model.specs.Map.{rows_within, value_at};
 ghost use Rattle.wp_model.specs.Controller as controller;
 ghost use Rattle.wp_model.specs.Tokens.{holds_stop, holds_slow};
@@ -10,7 +11,7 @@ ghost use Rattle.wp_model.specs.Trace.{Trace};
 ghost use Rattle.wp_coding.specs.Answers.{found_value};
 ghost use Rattle.account_model.specs.Accounts.{Keeps, Wrote, Refuses, Reads as ReadsAt, Asks, GivesBack};
 ghost use Rattle.account_model.specs.Closing.{AreOurs, all_attempts, IsClosing};
-ghost use Rattle.account_model.specs.Written.{WritesLog};
+ghost use Rattle.account_model.specs.Written.{WritesLog, HaveSynced};
 
 use crate::answers::{Closed, Receipt, Refused};
 use std::sync::Wait;
@@ -76,6 +77,9 @@ pub trait Engine {
             r.group_last (account client.new)) }
         ensures back { IfOk result (λ r. (r.batch ≡ record batch { sequence = r.first })
             × (r.count ≡ model.count_of batch.records)) }
+        // a batch that was to be synced was written by a call of the log writer that synced
+        ensures synced { IfOk result (λ r. options.sync ≡ true → (calls : List GroupCall) × (log : Log)
+            × wrote self.now calls log × HaveSynced r.first batch.records calls) }
         ensures err { IfErr result (λ e. Refuses (settings self.now) (account client.old) batch.records options e.why
             (account client.new)) }
         ensures unchanged { IfErr result (λ e. e.batch ≡ batch) };

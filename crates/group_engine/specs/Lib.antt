@@ -1,8 +1,10 @@
 pub mod Items
 pub mod Handled
+pub mod Asking
 pub mod Numbering
 pub mod Layout
 pub mod Law
 pub mod Led
 pub mod Clients
+pub mod Serving
 pub mod AtStart

@@ -13,6 +13,8 @@ use Rattle.group_engine.specs.declared.numbering.Plan.TheVariants.{Run, Full}
 use Rattle.group_engine.specs.declared.numbering.Outcome.{Outcome}
 use Rattle.group_engine.specs.declared.numbering.Outcome.TheVariants.{Written, Faulted}
 use Rattle.group_engine.specs.declared.requests.Reply.{Reply}
+use Rattle.group_engine.specs.declared.requests.Delay.{Delay}
+use Rattle.group_engine.specs.Handled.{reply_with}
 
 -- the plan of a request, where `last` was given last
 abbrev pub plan_at : ℕ → ℕ × Request → Plan
@@ -38,26 +40,24 @@ HasVersions member versions parts = ((versions ≡ []) × (parts ≡ []))
 
 -- The answers to what was laid out
 
-abbrev pub full_with : Outcome → ℕ → Contents → Reply
-full_with (Written group_last) last b = record { answer = Err (record { batch = b; why = SequenceFull last }) }
-full_with (Faulted count) last b = record { answer = Err (record { batch = b; why = LogFault count }) }
+abbrev pub full_with : Outcome → Delay → ℕ → Contents → Reply
+full_with (Written group_last) delay last b = reply_with delay (Err (record { batch = b; why = SequenceFull last }))
+full_with (Faulted count) delay last b = reply_with delay (Err (record { batch = b; why = LogFault count }))
 
-abbrev pub run_with : Outcome → ℕ → Contents → Reply
-run_with (Written group_last) first b = record {
-  answer = Ok (record {
-    first = first;
-    count = count_of b.records;
-    group_last = group_last;
-    batch = record b { sequence = first };
-  });
-}
-run_with (Faulted count) first b = record { answer = Err (record { batch = b; why = LogFault count }) }
+abbrev pub run_with : Outcome → Delay → ℕ → Contents → Reply
+run_with (Written group_last) delay first b = reply_with delay (Ok (record {
+  first = first;
+  count = count_of b.records;
+  group_last = group_last;
+  batch = record b { sequence = first };
+}))
+run_with (Faulted count) delay first b = reply_with delay (Err (record { batch = b; why = LogFault count }))
 
-abbrev pub answers : Outcome → List Plan → List Contents → List (ℕ × Reply)
-answers o [] bs = []
-answers o (Run client first ∷ plans) [] = []
-answers o (Run client first ∷ plans) (b ∷ bs) = (client, run_with o first b) ∷ answers o plans bs
-answers o (Full client last b ∷ plans) bs = (client, full_with o last b) ∷ answers o plans bs
+abbrev pub answers : Outcome → Delay → List Plan → List Contents → List (ℕ × Reply)
+answers o delay [] bs = []
+answers o delay (Run client first ∷ plans) [] = []
+answers o delay (Run client first ∷ plans) (b ∷ bs) = (client, run_with o delay first b) ∷ answers o delay plans bs
+answers o delay (Full client last b ∷ plans) bs = (client, full_with o delay last b) ∷ answers o delay plans bs
 
 -- there is a batch for each run, and no more
 abbrev pub AreEnough : List Plan → List Contents → Type 0
@@ -67,10 +67,10 @@ AreEnough (Run client first ∷ plans) (b ∷ bs) = AreEnough plans bs
 AreEnough (Full client last b ∷ plans) bs = AreEnough plans bs
 
 -- one plan's answer, and the batches that are left
-abbrev pub IsAnswer : Outcome → Plan → List Contents → ℕ × Reply → List Contents → Type 0
-IsAnswer o (Run client first) [] y left = ⊥
-IsAnswer o (Run client first) (b ∷ bs) y left = (y ≡ (client, run_with o first b)) × (left ≡ bs)
-IsAnswer o (Full client last b) bs y left = (y ≡ (client, full_with o last b)) × (left ≡ bs)
+abbrev pub IsAnswer : Outcome → Delay → Plan → List Contents → ℕ × Reply → List Contents → Type 0
+IsAnswer o delay (Run client first) [] y left = ⊥
+IsAnswer o delay (Run client first) (b ∷ bs) y left = (y ≡ (client, run_with o delay first b)) × (left ≡ bs)
+IsAnswer o delay (Full client last b) bs y left = (y ≡ (client, full_with o delay last b)) × (left ≡ bs)
 
 abbrev pub HasBatch : Plan → List Contents → Type 0
 HasBatch (Run client first) [] = ⊥

@@ -3,20 +3,21 @@
 ghost use Rattle.std.specs.Prelude.{List, map};
 
 use crate::engine::{Client, GroupEngine, Room};
-use engine_calls::{Clients, Closed, Engine, Receipt, Refused};
+use engine_calls::{Clients, Closed, Engine, Gate, Held, NotHeld, Receipt, Refused};
 use log_writer::LogWriter;
 use mem_table::{Nodes, Parts};
 use std::sync::Wait;
 use table_calls::Table;
 use wp_coding::{Bytes, Read, Reads, Rows};
-use wp_edge::Disk;
+use wp_edge::{Clock, Disk};
 use wp_model::{NoMemory, WriteOptions};
 use write_batch::Batch;
 
-impl<D: Disk, T: Table<Nodes, Parts>> Engine for GroupEngine<D, T> {
-    type Client = Client<D, T>;
+impl<D: Disk, T: Table<Nodes, Parts>, C: Clock + Drop, G: Gate + Drop> Engine
+    for GroupEngine<D, T, C, G> {
+    type Client = Client<D, T, C>;
 
-    type Room = Room<D, T>;
+    type Room = Room<D, T, C>;
 
     type Log = LogWriter<D>;
 
@@ -35,7 +36,7 @@ impl<D: Disk, T: Table<Nodes, Parts>> Engine for GroupEngine<D, T> {
 
     ghost belongs = { λ e c. IsClientOf T.opening T.ours T.account e c };
 
-    ghost closes = { λ e room. HasRoomToClose (clients_of e.list) room };
+    ghost closes = { λ e room. HasRoomToClose e.controller (clients_of e.list) room };
 
     ghost wrote = { λ e calls log. Wrote (opened_log e) calls log };
 
@@ -46,7 +47,7 @@ impl<D: Disk, T: Table<Nodes, Parts>> Engine for GroupEngine<D, T> {
     fn write<R: Wait>(
         &self,
         rt: &R,
-        client: &mut Client<D, T>,
+        client: &mut Client<D, T, C>,
         batch: Batch,
         options: WriteOptions,
     ) -> Result<Receipt, Refused> {
@@ -56,7 +57,7 @@ impl<D: Disk, T: Table<Nodes, Parts>> Engine for GroupEngine<D, T> {
     fn get<R: Wait>(
         &self,
         rt: &R,
-        client: &mut Client<D, T>,
+        client: &mut Client<D, T, C>,
         key: &[u8],
     ) -> Result<Read, NoMemory> {
         self.get(rt, client, key)
@@ -65,7 +66,7 @@ impl<D: Disk, T: Table<Nodes, Parts>> Engine for GroupEngine<D, T> {
     fn get_many<R: Wait>(
         &self,
         rt: &R,
-        client: &mut Client<D, T>,
+        client: &mut Client<D, T, C>,
         keys: &[Bytes],
     ) -> Result<Reads, NoMemory> {
         self.get_many(rt, client, keys)
@@ -74,17 +75,41 @@ impl<D: Disk, T: Table<Nodes, Parts>> Engine for GroupEngine<D, T> {
     fn scan<R: Wait>(
         &self,
         rt: &R,
-        client: &mut Client<D, T>,
+        client: &mut Client<D, T, C>,
         lo: &[u8],
         hi: &[u8],
     ) -> Result<Rows, NoMemory> {
         self.scan(rt, client, lo, hi)
     }
 
-    fn close(self, clients: Clients<Client<D, T>, Room<D, T>>) -> Closed<LogWriter<D>>
+    fn stop<R: Wait>(&self, rt: &R, client: &mut Client<D, T, C>) -> Result<(), Held> {
+        self.stop(rt, client)
+    }
+
+    fn unstop<R: Wait>(&self, rt: &R, client: &mut Client<D, T, C>) -> Result<(), NotHeld> {
+        self.unstop(rt, client)
+    }
+
+    fn slow<R: Wait>(&self, rt: &R, client: &mut Client<D, T, C>, rate: u64) -> Result<(), Held> {
+        self.slow(rt, client, rate)
+    }
+
+    fn unslow<R: Wait>(&self, rt: &R, client: &mut Client<D, T, C>) -> Result<(), NotHeld> {
+        self.unslow(rt, client)
+    }
+
+    fn end<R: Wait>(&self, rt: &R, client: &mut Client<D, T, C>) {
+        self.end(rt, client);
+    }
+
+    fn close<R: Wait>(
+        self,
+        rt: &R,
+        clients: Clients<Client<D, T, C>, Room<D, T, C>>,
+    ) -> Closed<LogWriter<D>>
         requires all { AreOurs (IsClientOf T.opening T.ours T.account self) (account_in T.opening T.ours T.account)
             (clients_of self.list) clients.clients.items }
-        requires room { HasRoomToClose (clients_of self.list) clients.room }
+        requires room { HasRoomToClose self.controller (clients_of self.list) clients.room }
         ensures { let accounts = map (account_in T.opening T.ours T.account) clients.clients.items in
             (trace : Trace) × (groups : List Group)
             × IsClosing (settings_of T.opening T.ours T.account self) (D.faults (disk_of result.log)) trace groups
@@ -92,6 +117,6 @@ impl<D: Disk, T: Table<Nodes, Parts>> Engine for GroupEngine<D, T> {
             × WritesLog self.group_bytes (Wrote (opened_log self)) trace (all_attempts accounts) (fault_of result.log)
             result.log }
     {
-        self.close(clients)
+        self.close(rt, clients)
     }
 }

@@ -1,30 +1,35 @@
 //! The end of an engine.
 
 ghost use Rattle.std.specs.Prelude.{◌≡◌, ◌≤◌, ◌+◌, ◌<◌, ℕ, List, [], ◌++◌, map, length, vec_len, vec_capacity};
-ghost use Rattle.group_engine.specs.Clients.{writer_in, seat_in};
+ghost use Rattle.group_engine.specs.Clients.{writer_in, seat_in, pass_in};
 
 use crate::engine::{Client, GroupEngine, Room};
-use crate::held::{Held, NoRight};
+use crate::held::{Held, NoRight, Path};
 use crate::numbering::take_first;
 use crate::requests::{Reply, Request};
-use engine_calls::{Clients, Closed};
+use engine_calls::{Clients, Closed, Gate};
 use log_writer::{LogWriter, written_by_calls};
 use mem_table::{Nodes, Parts};
+use std::sync::Wait;
 use table_calls::{Seats, Table};
-use wp_edge::Disk;
+use wp_edge::{Clock, Disk};
+use write_controller::{Pass, Passes};
 use writer_list::Writer;
 
 /// Takes the clients apart.
-pub(crate) fn part_all<D: Disk, T: Table<Nodes, Parts>>(
-    clients: &mut Vec<Client<D, T>>,
-    writers: &mut Vec<Writer<Request, Reply, Held<D, T>, NoRight>>,
+pub(crate) fn part_all<D: Disk, T: Table<Nodes, Parts>, C>(
+    clients: &mut Vec<Client<D, T, C>>,
+    writers: &mut Vec<Writer<Request, Reply, Held<D, T, C>, NoRight>>,
     seats: &mut Vec<T::Seat>,
+    passes: &mut Vec<Pass>,
 )
-    requires empty { (writers.old.items ≡ []) × (seats.old.items ≡ []) }
+    requires empty { (writers.old.items ≡ []) × (seats.old.items ≡ []) × (passes.old.items ≡ []) }
     requires room { (length clients.old.items ≤ vec_capacity writers.old)
-        × (length clients.old.items ≤ vec_capacity seats.old) }
+        × (length clients.old.items ≤ vec_capacity seats.old)
+        × (length clients.old.items ≤ vec_capacity passes.old) }
     ensures writers { writers.new.items ≡ map writer_in clients.old.items }
     ensures seats { seats.new.items ≡ map seat_in clients.old.items }
+    ensures passes { passes.new.items ≡ map pass_in clients.old.items }
     ensures parted { clients.new.items ≡ [] }
 {
     while let Some(client) = take_first(clients) {
@@ -33,15 +38,17 @@ pub(crate) fn part_all<D: Disk, T: Table<Nodes, Parts>>(
             start: _,
             writer,
             seat,
+            pass,
             lists: _,
             layout: _,
         } = client;
         writers.push_reserved(writer);
         seats.push_reserved(seat);
+        passes.push_reserved(pass);
     }
 }
 
-impl<D: Disk, T: Table<Nodes, Parts>> GroupEngine<D, T> {
+impl<D: Disk, T: Table<Nodes, Parts>, C: Clock + Drop, G: Gate + Drop> GroupEngine<D, T, C, G> {
     ghost use Rattle.wp_model.specs.Trace.{Trace};
     ghost use Rattle.wp_model.specs.Groups.{Group};
     ghost use Rattle.log_writer.specs.Words.{fault_of, disk_of};
@@ -53,10 +60,14 @@ impl<D: Disk, T: Table<Nodes, Parts>> GroupEngine<D, T> {
 
     /// Gives the log up. All clients are handed in. Of all that they wrote and read there is one trace, and the log was
     /// written by just the calls that wrote its history.
-    pub fn close(self, clients: Clients<Client<D, T>, Room<D, T>>) -> Closed<LogWriter<D>>
+    pub fn close<R: Wait>(
+        self,
+        rt: &R,
+        clients: Clients<Client<D, T, C>, Room<D, T, C>>,
+    ) -> Closed<LogWriter<D>>
         requires all { AreOurs (IsClientOf T.opening T.ours T.account self) (account_in T.opening T.ours T.account)
             (clients_of self.list) clients.clients.items }
-        requires room { HasRoomToClose (clients_of self.list) clients.room }
+        requires room { HasRoomToClose self.controller (clients_of self.list) clients.room }
         ensures { let accounts = map (account_in T.opening T.ours T.account) clients.clients.items in
             (trace : Trace) × (groups : List Group)
             × IsClosing (settings_of T.opening T.ours T.account self) (D.faults (disk_of result.log)) trace groups
@@ -67,6 +78,8 @@ impl<D: Disk, T: Table<Nodes, Parts>> GroupEngine<D, T> {
         let GroupEngine {
             list,
             table,
+            controller,
+            gate: _,
             alloc: _,
             group_bytes: _,
             batch_bytes: _,
@@ -76,12 +89,25 @@ impl<D: Disk, T: Table<Nodes, Parts>> GroupEngine<D, T> {
             room: Room {
                 mut writers,
                 mut seats,
+                mut passes,
+                others,
             },
         } = clients;
-        part_all(&mut clients, &mut writers, &mut seats);
+        part_all(&mut clients, &mut writers, &mut seats, &mut passes);
         clients.destroy_empty();
         let (held, NoRight) = list.close(writers);
-        let Held { log, turn, last } = held;
+        let Held {
+            path: Path { log, turn, last },
+            clock: _,
+            asked,
+        } = held;
+        // The first client's pass sees what the leaders had seen.
+        controller.learn(rt, &mut passes[0], asked);
+        let passes = Passes {
+            clients: passes,
+            others,
+        };
+        controller.close(rt, passes);
         table.close(Seats {
             turn,
             clients: seats,

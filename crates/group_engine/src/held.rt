@@ -9,22 +9,32 @@ use mem_table::{Nodes, Parts};
 use std::snapshot::Snapshot;
 use table_calls::Table;
 use wp_edge::Disk;
+use write_controller::{Controller, Note};
 
-/// The engine that a list of writers is for: its table, its log as it was opened, and its numbers.
+/// The engine that a list of writers is for: its table, its controller, its log as it was opened, and its numbers.
 #[derive(Drop)]
-pub struct About<D: Disk, T> {
+pub struct About<D: Disk, T, C> {
     pub table: Snapshot<T>,
+    pub controller: Snapshot<Controller<C>>,
     pub opened: Snapshot<LogWriter<D>>,
     pub start: u64,
     pub clients: u64,
     pub group_bytes: u64,
 }
 
-/// What a leader takes over from the one before: the log, the right to launch a group, and the last sequence given.
-pub struct Held<D: Disk, T: Table<Nodes, Parts>> {
+/// The log, the right to launch a group, and the last sequence given.
+pub struct Path<D: Disk, T: Table<Nodes, Parts>> {
     pub log: LogWriter<D>,
     pub turn: T::Turn,
     pub last: u64,
+}
+
+/// What a leader takes over from the one before: the path of its group, the clock, and what the one before had seen of
+/// the write controller.
+pub struct Held<D: Disk, T: Table<Nodes, Parts>, C> {
+    pub path: Path<D, T>,
+    pub clock: C,
+    pub asked: Note,
 }
 
 /// The list has no second stage, and so no right.
@@ -39,20 +49,21 @@ impl Numbered for NoRight {
     }
 }
 
-impl<D: Disk, T: Table<Nodes, Parts>> Ledger<Request, Reply> for Held<D, T> {
-    type About = About<D, T>;
+impl<D: Disk, T: Table<Nodes, Parts>, C> Ledger<Request, Reply> for Held<D, T, C> {
+    type About = About<D, T, C>;
 
-    ghost use Rattle.group_engine.specs.Handled.{AreHandled};
-    ghost use Rattle.group_engine.specs.Law.{StandsFor};
+    ghost use Rattle.group_engine.specs.Handled.{AreHandled, IsNoted};
+    ghost use Rattle.group_engine.specs.Law.{HeldStandsFor};
 
-    ghost stands = { λ a l handled. StandsFor T.our_turn T.history a.table.value a.opened.value a.start a.clients
-        a.group_bytes l.log l.turn l.last handled };
+    ghost stands = { λ a l handled. HeldStandsFor T.our_turn T.history a l handled };
 
-    ghost kept = { λ a handled. AreHandled a.start handled };
+    ghost kept = { λ a handled. AreHandled a.controller.value a.opened.value a.start handled };
 
-    ghost number_of = { λ l. l.last };
+    ghost lawful = { λ a q. IsNoted a.controller.value q };
+
+    ghost number_of = { λ l. l.path.last };
 
     fn number(&self) -> u64 {
-        self.last
+        self.path.last
     }
 }

@@ -15,16 +15,19 @@ ghost use Rattle.mem_table.specs.Parts.{group_of};
 ghost use Rattle.list_rule.specs.declared.view.Handling.{Handling};
 ghost use Rattle.group_engine.specs.declared.requests.Request.{Request as Asked};
 ghost use Rattle.group_engine.specs.declared.requests.Reply.{Reply as Told};
-ghost use Rattle.group_engine.specs.Handled.{HandsBack, handled_with, InOrder};
+ghost use Rattle.group_engine.specs.Handled.{HandsBack, IsReplyOf, commit_requests_of, seen_at, handled_with, InOrder};
+ghost use Rattle.wp_model.specs.Controller.{ControllerCall, Look as Numbers};
+ghost use Rattle.group_rule.specs.Plans.{ComesAfter, IsAskedFor};
 ghost use Rattle.group_engine.specs.Numbering.{AreEnough, answers};
 ghost use Rattle.group_engine.specs.Layout.{IsClear};
 ghost use Rattle.group_engine.specs.Law.{StandsFor};
 ghost use Rattle.group_engine.specs.Led.{IsLedGroup};
 
-use crate::held::Held;
+use crate::held::Path;
 use crate::layout::Layout;
 use crate::numbering::{Outcome, answer_all, number_all, refuse_all};
-use crate::requests::{Reply, Request};
+use crate::requests::{Delay, Reply, Request};
+use engine_calls::Gate;
 use log_writer::{Fault, LogWriter};
 use mem_table::{Nodes, Parts};
 use std::sync::Wait;
@@ -54,9 +57,11 @@ fn log_group<D: Disk>(
 }
 
 /// Puts the nodes of a group, which are one part, into the table, and waits until they are published.
-fn publish_group<T: Table<Nodes, Parts>, R: Wait>(
+fn publish_group<T: Table<Nodes, Parts>, G: Gate, R: Wait>(
     rt: &R,
+    gate: &G,
     table: &T,
+    member: u32,
     seat: &mut T::Seat,
     turn: T::Turn,
     parts: &mut Parts,
@@ -75,6 +80,7 @@ fn publish_group<T: Table<Nodes, Parts>, R: Wait>(
         × Begins (T.account seat.old).seen (T.account seat.new).seen }
     ensures emptied { (parts.new.parts ≡ []) × (parts.new.clients ≡ parts.old.clients) }
 {
+    gate.launching(member);
     table.launch(seat, turn, parts);
     let part = table.take(rt, seat);
     table.insert(rt, seat, part);
@@ -99,52 +105,59 @@ fn finish_part<T: Table<Nodes, Parts>>(table: &T, seat: &mut T::Seat)
 }
 
 /// Handles a group: writes it to the log and into the table, and answers each member.
-pub(crate) fn handle<D: Disk, T: Table<Nodes, Parts>, R: Wait>(
+pub(crate) fn handle<D: Disk, T: Table<Nodes, Parts>, G: Gate, R: Wait>(
     rt: &R,
+    gate: &G,
     table: &T,
     seat: &mut T::Seat,
     member: u32,
-    held: Held<D, T>,
+    path: Path<D, T>,
+    delay: &Delay,
     requests: &mut Vec<(u32, Request)>,
     layout: &mut Layout,
     replies: &mut Vec<(u32, Reply)>,
-) -> Held<D, T>
+) -> Path<D, T>
     requires seat { T.ours table.now seat.old × IsReady (T.account seat.old) × ((T.account seat.old).number ≡ member)
         × (1 ≤ member) × (member ≤ (T.opening table.now).clients) }
     requires start { ((T.opening table.now).start ≤ max_sequence) × (length requests.old.items < 255) }
     requires group { (group_bytes : ℕ) × IsLedGroup group_bytes (T.opening table.now).clients requests.old.items }
-    requires held { (opened : Log D ⟦<D as Disk>⟧) × (group_bytes : ℕ) × (handled : List (Handling Asked Told))
+    requires path { (opened : Log D ⟦<D as Disk>⟧) × (group_bytes : ℕ) × (asked : List ControllerCall)
+        × (handled : List (Handling Asked Told))
         × StandsFor T.our_turn T.history table.now opened (T.opening table.now).start
-        (T.opening table.now).clients group_bytes held.log held.turn held.last handled }
+        (T.opening table.now).clients group_bytes asked path.log path.turn path.last handled }
     requires layout { IsClear (T.opening table.now).clients layout.old
         × (length requests.old.items ≤ vec_capacity layout.old.plans)
         × (length requests.old.items ≤ vec_capacity layout.old.batches) }
     requires replies { (replies.old.items ≡ []) × (length requests.old.items ≤ vec_capacity replies.old) }
     ensures seat { T.ours table.now seat.new × IsReady (T.account seat.new) × ((T.account seat.new).number ≡ member)
         × Begins (T.account seat.old).seen (T.account seat.new).seen }
-    ensures held { (opened : Log D ⟦<D as Disk>⟧) (group_bytes : ℕ) (handled : List (Handling Asked Told))
+    ensures path { (opened : Log D ⟦<D as Disk>⟧) (group_bytes : ℕ) (asked : List ControllerCall)
+        (handled : List (Handling Asked Told)) (numbers : Numbers)
         → IsLedGroup group_bytes (T.opening table.now).clients requests.old.items
+        → ComesAfter asked (seen_at delay.now)
+        → IsAskedFor (commit_requests_of requests.old.items) numbers (seen_at delay.now)
         → StandsFor T.our_turn T.history table.now opened (T.opening table.now).start
-        (T.opening table.now).clients group_bytes held.log held.turn held.last handled
+        (T.opening table.now).clients group_bytes asked path.log path.turn path.last handled
         → StandsFor T.our_turn T.history table.now opened (T.opening table.now).start
-        (T.opening table.now).clients group_bytes result.log result.turn result.last
+        (T.opening table.now).clients group_bytes (seen_at delay.now) result.log result.turn result.last
         (handled ++ handled_with requests.old.items replies.new.items) }
     ensures replies { InOrder requests.old.items replies.new.items
-        × AllByRecursion HandsBack (handled_with requests.old.items replies.new.items) }
+        × AllByRecursion HandsBack (handled_with requests.old.items replies.new.items)
+        × AllByRecursion (IsReplyOf delay.now) replies.new.items }
     ensures taken { (requests.new.items ≡ []) × IsClear (T.opening table.now).clients layout.new }
     ensures room { (vec_capacity requests.new ≡ vec_capacity requests.old)
         × (vec_capacity layout.new.plans ≡ vec_capacity layout.old.plans)
         × (vec_capacity layout.new.batches ≡ vec_capacity layout.old.batches)
         × (vec_capacity replies.new ≡ vec_capacity replies.old) }
 {
-    let Held {
+    let Path {
         mut log,
         turn,
         last,
-    } = held;
+    } = path;
     if let Some(count) = log.fault() {
-        refuse_all(count, requests, replies);
-        return Held { log, turn, last };
+        refuse_all(count, delay, requests, replies);
+        return Path { log, turn, last };
     }
     let options = requests[0].1.options;
     let end = number_all(
@@ -157,8 +170,8 @@ pub(crate) fn handle<D: Disk, T: Table<Nodes, Parts>, R: Wait>(
     );
     if layout.batches.is_empty() {
         layout.drop_parts();
-        answer_layout(Outcome::Written { group_last: end }, layout, replies);
-        return Held {
+        answer_layout(Outcome::Written { group_last: end }, delay, layout, replies);
+        return Path {
             log,
             turn,
             last: end,
@@ -166,12 +179,12 @@ pub(crate) fn handle<D: Disk, T: Table<Nodes, Parts>, R: Wait>(
     }
     if let Err(Fault { count }) = log_group(&mut log, last, layout.batches.as_slice(), options) {
         layout.drop_parts();
-        answer_layout(Outcome::Faulted { count }, layout, replies);
-        return Held { log, turn, last };
+        answer_layout(Outcome::Faulted { count }, delay, layout, replies);
+        return Path { log, turn, last };
     }
-    let turn = publish_group(rt, table, seat, turn, &mut layout.parts, end);
-    answer_layout(Outcome::Written { group_last: end }, layout, replies);
-    Held {
+    let turn = publish_group(rt, gate, table, member, seat, turn, &mut layout.parts, end);
+    answer_layout(Outcome::Written { group_last: end }, delay, layout, replies);
+    Path {
         log,
         turn,
         last: end,
@@ -179,16 +192,27 @@ pub(crate) fn handle<D: Disk, T: Table<Nodes, Parts>, R: Wait>(
 }
 
 /// Answers what lies on the layout.
-fn answer_layout(outcome: Outcome, layout: &mut Layout, replies: &mut Vec<(u32, Reply)>)
+fn answer_layout(
+    outcome: Outcome,
+    delay: &Delay,
+    layout: &mut Layout,
+    replies: &mut Vec<(u32, Reply)>,
+)
     requires enough { AreEnough layout.old.plans.items layout.old.batches.items }
     requires room { length layout.old.plans.items ≤ vec_capacity replies.old }
     requires empty { replies.old.items ≡ [] }
-    ensures replies { replies.new.items ≡ answers outcome layout.old.plans.items layout.old.batches.items }
+    ensures replies { replies.new.items ≡ answers outcome delay.now layout.old.plans.items layout.old.batches.items }
     ensures taken { (layout.new.plans.items ≡ []) × (layout.new.batches.items ≡ [])
         × (layout.new.parts ≡ layout.old.parts) }
     ensures room { (vec_capacity layout.new.plans ≡ vec_capacity layout.old.plans)
         × (vec_capacity layout.new.batches ≡ vec_capacity layout.old.batches)
         × (vec_capacity replies.new ≡ vec_capacity replies.old) }
 {
-    answer_all(outcome, &mut layout.plans, &mut layout.batches, replies);
+    answer_all(
+        outcome,
+        delay,
+        &mut layout.plans,
+        &mut layout.batches,
+        replies,
+    );
 }

@@ -1,15 +1,19 @@
 //! A write path whose clients write in groups, over any published table and any disk. A write goes into a lock-free
-//! list of writers. The oldest writer leads: it takes the group of the grouping rule from the list, gives its members
-//! runs of sequences, writes their batches to the log as one record, and puts their versions into the table, which
+//! list of writers. The oldest writer leads: it takes the group of the grouping rule from the list, asks the write
+//! controller how long the group has to wait, and waits, or refuses a group that may not. Then it gives its members runs
+//! of sequences, writes their batches to the log as one record, and puts their versions into the table, which
 //! publishes them as one group. Then it answers each member, and gives the log on.
 //!
 //! - `specs/Handled`: requests that were handled, as commits of `group_rule`.
+//! - `specs/Asking`: how a leader's view of the write controller goes on.
+//! - `specs/Serving`: a leader before and after its group is handled.
 //! - `specs/Numbering`: what a leader lays out while it gives runs.
 //! - `specs/Law`: what the things that a leader holds stand for.
 //! - `specs/Clients`: an engine and its clients, and a client's account.
 //! - `specs/AtStart`: what an engine is opened with.
 #![tactic(auto)]
 
+mod asking;
 mod calls;
 mod closing;
 mod engine;
@@ -20,10 +24,11 @@ mod numbering;
 mod opening;
 mod reading;
 mod requests;
+mod tokens;
 mod writing;
 
 pub use engine::{Client, GroupEngine, Room};
 pub use engine_calls::{Clients, Closed, Receipt, Refused};
-pub use held::{About, Held, NoRight};
+pub use held::{About, Held, NoRight, Path};
 pub use opening::OpenRefused;
-pub use requests::{Reply, Request};
+pub use requests::{Delay, Reply, Request};

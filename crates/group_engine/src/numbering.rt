@@ -5,12 +5,13 @@ ghost use Rattle.wp_model.specs.History.{max_sequence};
 ghost use Rattle.table_rule.specs.declared.content.Version.{Version};
 ghost use Rattle.group_rule.specs.Plans.{last_with_all, last_with, versions_at, versions_from};
 ghost use Rattle.group_engine.specs.declared.requests.Request.{Request};
-ghost use Rattle.group_engine.specs.Handled.{commit_requests_of, replies_of, failures};
+ghost use Rattle.group_engine.specs.Handled.{commit_requests_of, reply_with, failures};
 ghost use Rattle.group_engine.specs.Numbering.{plan_at, plans_of, batch_at, batches_of, HasVersions, answers, AreEnough, IsAnswer, HasBatch, run_with, full_with};
 
-use crate::requests::{Reply, Request};
+use crate::requests::{Delay, Reply, Request};
 use engine_calls::{Receipt, Refused};
 use mem_table::Parts;
+use std::snapshot::Snapshot;
 use wp_model::Refusal;
 use write_batch::{Batch, MAX_SEQUENCE};
 
@@ -104,6 +105,7 @@ fn number_one(
         batch,
         mut nodes,
         options: _,
+        note: _,
     } = request;
     let count = u64::from(batch.count());
     if last + count > MAX_SEQUENCE {
@@ -127,6 +129,7 @@ fn number_one(
 /// Answers each member.
 pub(crate) fn answer_all(
     outcome: Outcome,
+    delay: &Delay,
     plans: &mut Vec<Plan>,
     batches: &mut Vec<Batch>,
     replies: &mut Vec<(u32, Reply)>,
@@ -134,21 +137,21 @@ pub(crate) fn answer_all(
     requires enough { AreEnough plans.old.items batches.old.items }
     requires room { length plans.old.items ≤ vec_capacity replies.old }
     requires empty { replies.old.items ≡ [] }
-    ensures replies { replies.new.items ≡ answers outcome plans.old.items batches.old.items }
+    ensures replies { replies.new.items ≡ answers outcome delay.now plans.old.items batches.old.items }
     ensures taken { (plans.new.items ≡ []) × (batches.new.items ≡ []) }
     ensures room { (vec_capacity plans.new ≡ vec_capacity plans.old)
         × (vec_capacity batches.new ≡ vec_capacity batches.old)
         × (vec_capacity replies.new ≡ vec_capacity replies.old) }
 {
     while let Some(plan) = take_first(plans) {
-        replies.push_reserved(answer_one(outcome, plan, batches));
+        replies.push_reserved(answer_one(outcome, delay, plan, batches));
     }
 }
 
 /// One member's answer.
-fn answer_one(outcome: Outcome, plan: Plan, batches: &mut Vec<Batch>) -> (u32, Reply)
+fn answer_one(outcome: Outcome, delay: &Delay, plan: Plan, batches: &mut Vec<Batch>) -> (u32, Reply)
     requires { HasBatch plan batches.old.items }
-    ensures answer { IsAnswer outcome plan batches.old.items result batches.new.items }
+    ensures answer { IsAnswer outcome delay.now plan batches.old.items result batches.new.items }
     ensures room { vec_capacity batches.new ≡ vec_capacity batches.old }
 {
     match plan {
@@ -156,62 +159,71 @@ fn answer_one(outcome: Outcome, plan: Plan, batches: &mut Vec<Batch>) -> (u32, R
             let Some(batch) = take_first(batches) else {
                 unreachable!()
             };
-            (client, run_reply(outcome, first, batch))
+            (client, run_reply(outcome, delay, first, batch))
         }
         Plan::Full {
             client,
             last,
             batch,
-        } => (client, full_reply(outcome, last, batch)),
+        } => (client, full_reply(outcome, delay, last, batch)),
     }
 }
 
-fn run_reply(outcome: Outcome, first: u64, mut batch: Batch) -> Reply
-    ensures { result ≡ run_with outcome first batch }
+fn run_reply(outcome: Outcome, delay: &Delay, first: u64, mut batch: Batch) -> Reply
+    ensures { result ≡ run_with outcome delay.now first batch }
 {
     match outcome {
         Outcome::Written { group_last } => {
             let count = batch.count();
             batch.set_sequence(first);
-            Reply {
-                answer: Ok(Receipt {
-                    first,
-                    count,
-                    group_last,
-                    batch,
-                }),
-            }
+            let receipt = Receipt {
+                first,
+                count,
+                group_last,
+                batch,
+            };
+            reply(delay, Ok(receipt))
         }
-        Outcome::Faulted { count } => refusal(Refusal::LogFault { count }, batch),
+        Outcome::Faulted { count } => refusal(delay, Refusal::LogFault { count }, batch),
     }
 }
 
-fn full_reply(outcome: Outcome, last: u64, batch: Batch) -> Reply
-    ensures { result ≡ full_with outcome last batch }
+fn full_reply(outcome: Outcome, delay: &Delay, last: u64, batch: Batch) -> Reply
+    ensures { result ≡ full_with outcome delay.now last batch }
 {
     match outcome {
-        Outcome::Written { group_last: _ } => refusal(Refusal::SequenceFull { last }, batch),
-        Outcome::Faulted { count } => refusal(Refusal::LogFault { count }, batch),
+        Outcome::Written { group_last: _ } => refusal(delay, Refusal::SequenceFull { last }, batch),
+        Outcome::Faulted { count } => refusal(delay, Refusal::LogFault { count }, batch),
     }
 }
 
-fn refusal(why: Refusal, batch: Batch) -> Reply
-    ensures { result ≡ record { answer = Err (record { batch = batch; why = why }) } }
+fn refusal(delay: &Delay, why: Refusal, batch: Batch) -> Reply
+    ensures { result ≡ reply_with delay.now (Err (record { batch = batch; why = why })) }
+{
+    reply(delay, Err(Refused { batch, why }))
+}
+
+/// A reply without a note.
+fn reply(delay: &Delay, answer: Result<Receipt, Refused>) -> Reply
+    ensures { result ≡ reply_with delay.now answer }
 {
     Reply {
-        answer: Err(Refused { batch, why }),
+        answer,
+        delay: Snapshot::of(delay),
+        note: None,
     }
 }
 
 /// Answers each member with the log's fault.
 pub(crate) fn refuse_all(
     count: u64,
+    delay: &Delay,
     requests: &mut Vec<(u32, Request)>,
     replies: &mut Vec<(u32, Reply)>,
 )
     requires room { length requests.old.items ≤ vec_capacity replies.old }
     requires empty { replies.old.items ≡ [] }
-    ensures replies { replies.new.items ≡ failures count requests.old.items }
+    ensures replies { replies.new.items ≡ failures delay.now count requests.old.items }
     ensures taken { requests.new.items ≡ [] }
     ensures room { (vec_capacity requests.new ≡ vec_capacity requests.old)
         × (vec_capacity replies.new ≡ vec_capacity replies.old) }
@@ -221,7 +233,8 @@ pub(crate) fn refuse_all(
             batch,
             nodes: _,
             options: _,
+            note: _,
         } = request;
-        replies.push_reserved((client, refusal(Refusal::LogFault { count }, batch)));
+        replies.push_reserved((client, refusal(delay, Refusal::LogFault { count }, batch)));
     }
 }

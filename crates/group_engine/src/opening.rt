@@ -8,34 +8,38 @@ ghost use Rattle.table_calls.specs.Account.{IsReady};
 ghost use Rattle.writer_list.specs.Roles.{IsNew, AreNew};
 ghost use Rattle.writer_list.specs.Rooms.{AreReady, AllReady};
 ghost use Rattle.writer_list.specs.Seats.{table_of, clients_of};
+ghost use Rattle.write_controller.specs.Passes.{AreNew as AreNewPasses};
 ghost use Rattle.account_model.specs.Accounts.{newcomer};
 ghost use Rattle.account_model.specs.Closing.{AreOurs};
 ghost use Rattle.client_calls.specs.Settings.{settings_of as settings_with};
 ghost use Rattle.group_engine.specs.Layout.{IsRoomy, AreRoomy};
 ghost use Rattle.group_engine.specs.Clients.{IsEngine, IsClientOf, HasRoomToClose, account_in, settings_of, opened_log};
-ghost use Rattle.group_engine.specs.AtStart.{AreSeatsAtStart, IsNewcomer, AreNewcomers};
+ghost use Rattle.group_engine.specs.AtStart.{AreSeatsAtStart, ArePassesAtStart, IsPassAtStart, IsNewcomer, AreNewcomers};
 
 use crate::engine::{Client, GroupEngine, Room};
-use crate::held::{About, Held, NoRight};
+use crate::held::{About, Held, NoRight, Path};
 use crate::layout::Layout;
 use crate::numbering::take_first;
 use crate::requests::{Reply, Request};
 use client_calls::Options;
-use engine_calls::Clients;
+use engine_calls::{Clients, Gate};
 use list_rule::Start;
 use log_writer::LogWriter;
 use mem_table::{Nodes, Parts};
 use std::alloc::Global;
 use std::snapshot::Snapshot;
 use table_calls::{Seats, Table};
-use wp_edge::Disk;
+use wp_edge::{Clock, Disk};
+use write_controller::{Controller, Others, Pass, Passes};
 use writer_list::{Lists, Writer, WriterList};
 
 /// What an engine was to be opened with, as it was.
-pub struct OpenRefused<D: Disk, T: Table<Nodes, Parts>> {
+pub struct OpenRefused<D: Disk, T: Table<Nodes, Parts>, C, G> {
     pub log: LogWriter<D>,
+    pub clock: C,
     pub table: T,
     pub seats: Seats<T::Seat, T::Turn>,
+    pub gate: G,
 }
 
 /// Takes the last item out.
@@ -59,19 +63,27 @@ fn put_first<X>(items: &mut Vec<X>, item: X)
     }
 }
 
-impl<D: Disk, T: Table<Nodes, Parts>> GroupEngine<D, T> {
+impl<D: Disk, T: Table<Nodes, Parts>, C: Clock + Drop, G: Gate + Drop> GroupEngine<D, T, C, G> {
     /// An engine over an opened log and a table of which nothing is published, with a client for each of its seats.
     /// Where memory is short, all is handed back.
     pub fn open(
         alloc: Global,
         log: LogWriter<D>,
+        clock: C,
         table: T,
         seats: Seats<T::Seat, T::Turn>,
+        gate: G,
         options: Options,
-    ) -> Result<(GroupEngine<D, T>, Clients<Client<D, T>, Room<D, T>>), OpenRefused<D, T>>
+    ) -> Result<
+        (
+            GroupEngine<D, T, C, G>,
+            Clients<Client<D, T, C>, Room<D, T, C>>,
+        ),
+        OpenRefused<D, T, C, G>,
+    >
         requires options { (options.last ≡ (T.opening table).start) × (options.last ≤ max_sequence)
             × (options.batch_bytes ≤ 16777216) }
-        requires clients { (0 < (T.opening table).clients) × ((T.opening table).clients < 255) }
+        requires clients { (0 < (T.opening table).clients) × ((T.opening table).clients ≤ 16) }
         requires log { (disk : D) × HasOpened disk log }
         requires turn { T.our_turn table seats.turn × (T.history seats.turn ≡ []) }
         requires seats { AreSeatsAtStart T.ours T.account table (T.opening table).clients seats.clients.items }
@@ -82,16 +94,89 @@ impl<D: Disk, T: Table<Nodes, Parts>> GroupEngine<D, T> {
             (account_in T.opening T.ours T.account) (clients_of r.0.list) r.1.clients.items) }
         ensures new { IfOk result (λ r. (i : ℕ) (c : _) → slice_get r.1.clients.items i ≡ Some c
             → account_in T.opening T.ours T.account c ≡ newcomer options.last (i + 1)) }
-        ensures room { IfOk result (λ r. HasRoomToClose (clients_of r.0.list) r.1.room) }
-        ensures err { IfErr result (λ e. (e.log ≡ log) × (e.table ≡ table) × (e.seats ≡ seats)) }
+        ensures room { IfOk result (λ r. HasRoomToClose r.0.controller (clients_of r.0.list) r.1.room) }
+        ensures err { IfErr result (λ e. (e.log ≡ log) × (e.clock ≡ clock) × (e.table ≡ table) × (e.seats ≡ seats)
+            × (e.gate ≡ gate)) }
     {
-        let count = seats.clients.len() as u32;
+        let refused = OpenRefused {
+            log,
+            clock,
+            table,
+            seats,
+            gate,
+        };
+        let count = refused.seats.clients.len() as u32;
+        let Ok((controller, passes)) = Controller::open(alloc, count) else {
+            return Err(refused);
+        };
         let Ok(mut layouts) = Layout::for_all(alloc, count) else {
-            return Err(OpenRefused { log, table, seats });
+            return Err(refused);
+        };
+        let Ok(room) = Vec::with_capacity(alloc, count as usize) else {
+            return Err(refused);
         };
         let Ok(mut clients) = Vec::with_capacity(alloc, count as usize) else {
-            return Err(OpenRefused { log, table, seats });
+            return Err(refused);
         };
+        Self::open_with(
+            alloc, refused, options, controller, passes, layouts, clients, room,
+        )
+    }
+
+    /// An engine with all that it needs but the list, and its clients.
+    fn open_with(
+        alloc: Global,
+        given: OpenRefused<D, T, C, G>,
+        options: Options,
+        controller: Controller<C>,
+        passes: Passes,
+        mut layouts: Vec<Layout>,
+        mut clients: Vec<Client<D, T, C>>,
+        room: Vec<Pass>,
+    ) -> Result<
+        (
+            GroupEngine<D, T, C, G>,
+            Clients<Client<D, T, C>, Room<D, T, C>>,
+        ),
+        OpenRefused<D, T, C, G>,
+    >
+        requires options { (options.last ≡ (T.opening given.table).start) × (options.last ≤ max_sequence)
+            × (options.batch_bytes ≤ 16777216) }
+        requires clients { (0 < (T.opening given.table).clients) × ((T.opening given.table).clients ≤ 16) }
+        requires log { (disk : D) × HasOpened disk given.log }
+        requires turn { T.our_turn given.table given.seats.turn × (T.history given.seats.turn ≡ []) }
+        requires seats { AreSeatsAtStart T.ours T.account given.table (T.opening given.table).clients
+            given.seats.clients.items }
+        requires controller { AreNewPasses controller (T.opening given.table).clients passes }
+        requires layouts { AreRoomy (T.opening given.table).clients layouts.items
+            × (length layouts.items ≡ (T.opening given.table).clients) }
+        requires room { (clients.items ≡ []) × ((T.opening given.table).clients ≤ vec_capacity clients)
+            × (room.items ≡ []) × ((T.opening given.table).clients ≤ vec_capacity room) }
+        ensures engine { IfOk result (λ r. (r.0.table ≡ given.table) × (opened_log r.0 ≡ given.log)
+            × (settings_of T.opening T.ours T.account r.0
+            ≡ settings_with options (T.opening given.table).clients (D.faults (disk_of given.log)))) }
+        ensures clients { IfOk result (λ r. AreOurs (IsClientOf T.opening T.ours T.account r.0)
+            (account_in T.opening T.ours T.account) (clients_of r.0.list) r.1.clients.items) }
+        ensures new { IfOk result (λ r. (i : ℕ) (c : _) → slice_get r.1.clients.items i ≡ Some c
+            → account_in T.opening T.ours T.account c ≡ newcomer options.last (i + 1)) }
+        ensures room { IfOk result (λ r. HasRoomToClose r.0.controller (clients_of r.0.list) r.1.room) }
+        ensures err { IfErr result (λ e. e ≡ given) }
+    {
+        let OpenRefused {
+            log,
+            clock,
+            table,
+            seats: Seats {
+                turn,
+                clients: mut seats,
+            },
+            gate,
+        } = given;
+        let count = seats.len() as u32;
+        let Passes {
+            clients: mut passes,
+            others,
+        } = passes;
         let start = Start {
             clients: count,
             log: options.last,
@@ -99,70 +184,92 @@ impl<D: Disk, T: Table<Nodes, Parts>> GroupEngine<D, T> {
             pipelined: false,
             about: About {
                 table: Snapshot::of(&table),
+                controller: Snapshot::of(&controller),
                 opened: Snapshot::of(&log),
                 start: options.last,
                 clients: u64::from(count),
                 group_bytes: options.group_bytes,
             },
         };
-        let Seats {
-            turn,
-            clients: mut seats,
-        } = seats;
         let held = Held {
-            log,
-            turn,
-            last: options.last,
+            path: Path {
+                log,
+                turn,
+                last: options.last,
+            },
+            clock,
+            asked: controller.note(&mut passes[0]),
         };
         match WriterList::open(alloc, &start, held, NoRight) {
             Ok((list, mut writers, mut lists)) => {
                 let engine = GroupEngine {
                     list,
                     table,
+                    controller,
+                    gate,
                     alloc,
                     group_bytes: options.group_bytes,
                     batch_bytes: options.batch_bytes,
                 };
+                engine.gate.opened(engine.table.locks());
                 engine.seat_all(
                     options.last,
                     &mut writers,
                     &mut seats,
+                    &mut passes,
                     &mut lists,
                     &mut layouts,
                     &mut clients,
                 );
                 let clients = Clients {
                     clients,
-                    room: Room { writers, seats },
+                    room: Room {
+                        writers,
+                        seats,
+                        passes: room,
+                        others,
+                    },
                 };
                 Ok((engine, clients))
             }
             Err((held, NoRight)) => {
                 clients.destroy_empty();
-                let Held { log, turn, last: _ } = held;
-                let seats = Seats {
-                    turn,
-                    clients: seats,
-                };
-                Err(OpenRefused { log, table, seats })
+                let Held {
+                    path: Path { log, turn, last: _ },
+                    clock,
+                    asked: _,
+                } = held;
+                Err(OpenRefused {
+                    log,
+                    clock,
+                    table,
+                    seats: Seats {
+                        turn,
+                        clients: seats,
+                    },
+                    gate,
+                })
             }
         }
     }
 
-    /// Makes a client of each writer and each seat. The writers come by falling numbers, and the seats by rising ones.
+    /// Makes a client of each writer and each seat. The writers come by falling numbers, and seats and passes by rising ones.
     fn seat_all(
         &self,
         start: u64,
-        writers: &mut Vec<Writer<Request, Reply, Held<D, T>, NoRight>>,
+        writers: &mut Vec<Writer<Request, Reply, Held<D, T, C>, NoRight>>,
         seats: &mut Vec<T::Seat>,
+        passes: &mut Vec<Pass>,
         lists: &mut Vec<Lists<Request, Reply>>,
         layouts: &mut Vec<Layout>,
-        clients: &mut Vec<Client<D, T>>,
+        clients: &mut Vec<Client<D, T, C>>,
     )
         requires engine { IsEngine T.opening T.ours T.account self.now × (start ≡ (T.opening self.now.table).start) }
         requires writers { AreNew (table_of self.now.list) (clients_of self.now.list) writers.old.items
             × (length writers.old.items ≡ clients_of self.now.list) }
         requires seats { AreSeatsAtStart T.ours T.account self.now.table (clients_of self.now.list) seats.old.items }
+        requires passes { ArePassesAtStart self.now.controller 1 passes.old.items
+            × (length passes.old.items ≡ clients_of self.now.list) }
         requires lists { AllReady (clients_of self.now.list) lists.old.items
             × (length lists.old.items ≡ clients_of self.now.list) }
         requires layouts { AreRoomy (clients_of self.now.list) layouts.old.items
@@ -170,12 +277,15 @@ impl<D: Disk, T: Table<Nodes, Parts>> GroupEngine<D, T> {
         requires clients { (clients.old.items ≡ []) × (clients_of self.now.list ≤ vec_capacity clients.old) }
         ensures clients { AreNewcomers T.opening T.ours T.account self.now 1 clients.new.items
             × (length clients.new.items ≡ clients_of self.now.list) }
-        ensures taken { (writers.new.items ≡ []) × (seats.new.items ≡ []) }
+        ensures taken { (writers.new.items ≡ []) × (seats.new.items ≡ []) × (passes.new.items ≡ []) }
         ensures room { (vec_capacity writers.new ≡ vec_capacity writers.old)
             × (vec_capacity seats.new ≡ vec_capacity seats.old) }
     {
         while let Some(writer) = take_first(writers) {
             let Some(seat) = take_last(seats) else {
+                unreachable!()
+            };
+            let Some(pass) = passes.pop() else {
                 unreachable!()
             };
             let Some(lists) = take_first(lists) else {
@@ -185,7 +295,7 @@ impl<D: Disk, T: Table<Nodes, Parts>> GroupEngine<D, T> {
                 unreachable!()
             };
             let number = writers.len() as u32 + 1;
-            let client = self.seat_one(number, start, writer, seat, lists, layout);
+            let client = self.seat_one(number, start, writer, seat, pass, lists, layout);
             put_first(clients, client);
         }
     }
@@ -195,16 +305,18 @@ impl<D: Disk, T: Table<Nodes, Parts>> GroupEngine<D, T> {
         &self,
         number: u32,
         start: u64,
-        writer: Writer<Request, Reply, Held<D, T>, NoRight>,
+        writer: Writer<Request, Reply, Held<D, T, C>, NoRight>,
         seat: T::Seat,
+        pass: Pass,
         lists: Lists<Request, Reply>,
         layout: Layout,
-    ) -> Client<D, T>
+    ) -> Client<D, T, C>
         requires engine { IsEngine T.opening T.ours T.account self.now × (start ≡ (T.opening self.now.table).start) }
         requires number { (0 < number) × (number ≤ clients_of self.now.list) }
         requires writer { IsNew (table_of self.now.list) number writer }
         requires seat { T.ours self.now.table seat × IsReady (T.account seat) × ((T.account seat).seen ≡ [])
             × ((T.account seat).number ≡ number) }
+        requires pass { IsPassAtStart self.now.controller number pass }
         requires room { AreReady (clients_of self.now.list) lists × IsRoomy (clients_of self.now.list) layout }
         ensures { IsNewcomer T.opening T.ours T.account self.now number result }
     {
@@ -213,6 +325,7 @@ impl<D: Disk, T: Table<Nodes, Parts>> GroupEngine<D, T> {
             start,
             writer,
             seat,
+            pass,
             lists,
             layout,
         }

@@ -5,14 +5,15 @@ ghost use Rattle.wp_model.specs.Map.{value_at, rows_within};
 ghost use Rattle.wp_coding.specs.Answers.{found_value};
 
 use crate::engine::{Client, GroupEngine};
+use engine_calls::Gate;
 use mem_table::{Nodes, Parts};
 use std::sync::Wait;
 use table_calls::Table;
 use wp_coding::{Bytes, Read, Reads, Rows};
-use wp_edge::Disk;
+use wp_edge::{Clock, Disk};
 use wp_model::NoMemory;
 
-impl<D: Disk, T: Table<Nodes, Parts>> GroupEngine<D, T> {
+impl<D: Disk, T: Table<Nodes, Parts>, C: Clock + Drop, G: Gate + Drop> GroupEngine<D, T, C, G> {
     ghost use Rattle.account_model.specs.Accounts.{Keeps, Reads as ReadsAtEnd};
     ghost use Rattle.group_engine.specs.Clients.{IsClientOf, account_in};
 
@@ -20,7 +21,7 @@ impl<D: Disk, T: Table<Nodes, Parts>> GroupEngine<D, T> {
     pub fn get<R: Wait>(
         &self,
         rt: &R,
-        client: &mut Client<D, T>,
+        client: &mut Client<D, T, C>,
         key: &[u8],
     ) -> Result<Read, NoMemory>
         requires { IsClientOf T.opening T.ours T.account self.now client.old }
@@ -37,7 +38,7 @@ impl<D: Disk, T: Table<Nodes, Parts>> GroupEngine<D, T> {
     pub fn get_many<R: Wait>(
         &self,
         rt: &R,
-        client: &mut Client<D, T>,
+        client: &mut Client<D, T, C>,
         keys: &[Bytes],
     ) -> Result<Reads, NoMemory>
         requires { IsClientOf T.opening T.ours T.account self.now client.old }
@@ -54,7 +55,7 @@ impl<D: Disk, T: Table<Nodes, Parts>> GroupEngine<D, T> {
     pub fn scan<R: Wait>(
         &self,
         rt: &R,
-        client: &mut Client<D, T>,
+        client: &mut Client<D, T, C>,
         lo: &[u8],
         hi: &[u8],
     ) -> Result<Rows, NoMemory>

@@ -7,8 +7,10 @@ ghost use Rattle.table_rule.specs.Batches.{made};
 use engine_calls::{Receipt, Refused};
 use list_rule::{Given, Itemized};
 use mem_table::Nodes;
+use std::snapshot::Snapshot;
 use wp_model::WriteOptions;
 use write_batch::Batch;
+use write_controller::{Note, Pass};
 
 /// A batch that is to be written, with the nodes that it makes.
 #[derive(Drop)]
@@ -16,6 +18,8 @@ pub struct Request {
     pub batch: Batch,
     pub nodes: Nodes,
     pub options: WriteOptions,
+    /// What the client has seen of the write controller, until the leader has seen it too.
+    pub note: Option<Note>,
     ghost made_of: { nodes ≡ made batch.records },
     ghost some: { 1 ≤ model.count_of batch.records },
     ghost small: { model.size_of_batch batch.records ≤ 16777216 },
@@ -27,10 +31,21 @@ impl Itemized for Request {
     ghost item_of = { λ r. item_with r.batch.records r.options };
 }
 
+/// A delay that a leader asked for its group: what its pass had seen then, with the delay itself as the last call. It is
+/// there for the proofs alone.
+#[derive(Drop)]
+pub struct Delay {
+    pub pass: Snapshot<Pass>,
+}
+
 /// The answer to a request.
 #[derive(Drop)]
 pub struct Reply {
     pub answer: Result<Receipt, Refused>,
+    /// The delay that was asked for the group.
+    pub delay: Snapshot<Delay>,
+    /// What the leader has seen of the write controller, where the batch was refused since writes are held up.
+    pub note: Option<Note>,
 }
 
 impl Given for Reply {

@@ -1,47 +1,59 @@
 //! A client's write.
 
-ghost use Rattle.std.specs.Prelude.{◌≡◌, false, ◌≤◌, ℕ, List, [], ◌∷◌, ◌++◌, Ok, Err, IfOk, IfErr};
+ghost use Rattle.std.specs.Prelude.{◌≡◌, false, ◌≤◌, ℕ, List, [], ◌∷◌, ◌++◌, Ok, Err, IfOk, IfErr, IfSome};
 ghost use Rattle.table_rule.specs.Histories.{Begins, last_of};
 ghost use Rattle.list_rule.specs.declared.view.Entry.{Entry};
 ghost use Rattle.list_rule.specs.declared.view.Handling.{Handling};
 ghost use Rattle.list_rule.specs.Chain.{of};
-ghost use Rattle.writer_list.specs.Seats.{IsChosen};
+ghost use mathlib.Core.List.{IsPrefix};
+ghost use Rattle.writer_list.specs.Seats.{IsChosen, about_of};
+ghost use Rattle.wp_model.specs.Tokens.{holds_stop};
+ghost use Rattle.write_controller.specs.Passes.{seen_by, asked_by, noted, IsNoteOf};
+ghost use Rattle.group_rule.specs.Asked.{HasAsked};
+ghost use Rattle.group_rule.specs.Entries.{SeesMore};
 ghost use Rattle.group_engine.specs.declared.requests.Request.{Request as Asked};
 ghost use Rattle.group_engine.specs.declared.requests.Reply.{Reply as Told};
-ghost use Rattle.group_engine.specs.Law.{StandsFor};
-ghost use Rattle.group_engine.specs.Handled.{AreHandled};
-ghost use Rattle.group_engine.specs.Clients.{IsClientOf, IsSeated, IsAnswered, told_of, opened_log};
+ghost use Rattle.group_engine.specs.Law.{HeldStandsFor};
+ghost use Rattle.group_engine.specs.Handled.{AreHandled, IsNoted, handled_with};
+ghost use Rattle.group_engine.specs.Clients.{IsClientOf, IsSeated, IsAnswered, told_of, own_commits, opened_log};
+ghost use Rattle.group_engine.specs.Serving.{IsToServe, IsServed};
 
+use crate::asking::{ask, holds_up, refuse_held_up, refused_by, wait_out};
 use crate::engine::{Client, GroupEngine};
 use crate::held::Held;
 use crate::leading::handle;
-use crate::requests::{Reply, Request};
+use crate::requests::{Delay, Reply, Request};
 use client_calls::{Measure, refusal_at_once};
 use crossbeam_utils::Backoff;
-use engine_calls::{Receipt, Refused};
+use engine_calls::{Gate, Receipt, Refused};
 use list_rule::codes_stand_for_items;
 use mem_table::{Nodes, Parts};
+use std::snapshot::Snapshot;
 use std::sync::Wait;
 use table_calls::Table;
-use wp_edge::Disk;
+use wp_edge::{Clock, Disk};
 use wp_model::{Item, Refusal, WriteOptions};
 use write_batch::Batch;
+use write_controller::Note;
 use writer_list::Role;
 
-impl<D: Disk, T: Table<Nodes, Parts>> GroupEngine<D, T> {
+impl<D: Disk, T: Table<Nodes, Parts>, C: Clock + Drop, G: Gate + Drop> GroupEngine<D, T, C, G> {
     /// Leads a group, and answers the leader's own reply.
-    fn lead<R: Wait>(&self, rt: &R, client: &mut Client<D, T>, held: Held<D, T>) -> Reply
+    fn lead<R: Wait>(&self, rt: &R, client: &mut Client<D, T, C>, held: Held<D, T, C>) -> Reply
         requires seated { IsSeated T.opening T.ours T.account self.now client.old }
+        requires has_asked { HasAsked client.old.number (own_commits client.old.number (told_of client.old))
+            (seen_by client.old.pass) }
         requires leads { (own : Entry Asked) × (seen : List (Handling Asked Told))
             × IsChosen own seen (told_of client.old) client.old.writer
-            × (of client.old.number seen ≡ told_of client.old) × AreHandled (T.opening self.now.table).start seen
-            × StandsFor T.our_turn T.history self.now.table (opened_log self.now) (T.opening self.now.table).start
-            (T.opening self.now.table).clients self.now.group_bytes held.log held.turn held.last seen }
+            × (of client.old.number seen ≡ told_of client.old)
+            × AreHandled self.now.controller (opened_log self.now) (T.opening self.now.table).start seen
+            × HeldStandsFor T.our_turn T.history (about_of self.now.list) held seen }
         ensures fits { IsClientOf T.opening T.ours T.account self.now client.new }
         ensures answered { (own : Entry Asked) (seen : List (Handling Asked Told))
             → IsChosen own seen (told_of client.old) client.old.writer
-            → IsAnswered (T.opening self.now.table).start own.asked result client.old client.new }
-        ensures seen { Begins (T.account client.old.seat).seen (T.account client.new.seat).seen }
+            → IsAnswered self.now.controller (opened_log self.now) (T.opening self.now.table).start own.asked result client.old client.new }
+        ensures seen { Begins (T.account client.old.seat).seen (T.account client.new.seat).seen
+            × SeesMore client.old.number (seen_by client.old.pass) (seen_by client.new.pass) }
     {
         codes_stand_for_items();
         self.list.group(
@@ -50,16 +62,7 @@ impl<D: Disk, T: Table<Nodes, Parts>> GroupEngine<D, T> {
             &mut client.lists.requests,
             &mut client.lists.room,
         );
-        let held = handle(
-            rt,
-            &self.table,
-            &mut client.seat,
-            client.number,
-            held,
-            &mut client.lists.requests.list,
-            &mut client.layout,
-            &mut client.lists.replies.list,
-        );
+        let held = self.serve(rt, client, held);
         self.list.exit(
             &mut client.writer,
             held,
@@ -68,17 +71,88 @@ impl<D: Disk, T: Table<Nodes, Parts>> GroupEngine<D, T> {
         )
     }
 
+    /// Asks the write controller for the leader's group, and writes it, as soon as writes aren't held up. Members that
+    /// may not wait are refused where they are.
+    fn serve<R: Wait>(
+        &self,
+        rt: &R,
+        client: &mut Client<D, T, C>,
+        held: Held<D, T, C>,
+    ) -> Held<D, T, C>
+        requires served { IsToServe T.opening T.ours T.account self.now client.old }
+        requires held { (handled : List (Handling Asked Told))
+            × HeldStandsFor T.our_turn T.history (about_of self.now.list) held handled }
+        ensures served { IsServed T.opening T.ours T.account self.now client.old client.new }
+        ensures held { (handled : List (Handling Asked Told))
+            → HeldStandsFor T.our_turn T.history (about_of self.now.list) held handled
+            → HeldStandsFor T.our_turn T.history (about_of self.now.list) result
+            (handled ++ handled_with client.old.lists.requests.list.items client.new.lists.replies.list.items) }
+        ensures seen { Begins (T.account client.old.seat).seen (T.account client.new.seat).seen }
+    {
+        let Held {
+            path,
+            mut clock,
+            asked,
+        } = held;
+        let requests = &mut client.lists.requests.list;
+        let replies = &mut client.lists.replies.list;
+        let (look, asked) = ask(
+            rt,
+            &self.controller,
+            &mut client.pass,
+            &mut clock,
+            asked,
+            requests,
+        );
+        let delay = Delay {
+            pass: Snapshot::of(&client.pass),
+        };
+        let may_wait = !requests[0].1.options.no_slowdown;
+        if !may_wait && holds_up(look) {
+            refuse_held_up(
+                &self.controller,
+                &mut client.pass,
+                look,
+                &delay,
+                requests,
+                replies,
+            );
+            return Held { path, clock, asked };
+        }
+        if may_wait {
+            wait_out(rt, &self.controller, &mut client.pass, &mut clock, look);
+        }
+        let path = handle(
+            rt,
+            &self.gate,
+            &self.table,
+            &mut client.seat,
+            client.number,
+            path,
+            &delay,
+            requests,
+            &mut client.layout,
+            replies,
+        );
+        Held { path, clock, asked }
+    }
+
     /// Puts a request into the list, and waits for its answer.
     pub(crate) fn submit<R: Wait>(
         &self,
         rt: &R,
-        client: &mut Client<D, T>,
+        client: &mut Client<D, T, C>,
         request: Request,
     ) -> Reply
-        requires { IsClientOf T.opening T.ours T.account self.now client.old }
+        requires client { IsClientOf T.opening T.ours T.account self.now client.old }
+        requires note { IsNoted self.now.controller request }
+        // who holds a stop token never waits in the list
+        requires free { holds_stop (asked_by client.old.pass) ≡ false }
         ensures fits { IsClientOf T.opening T.ours T.account self.now client.new }
-        ensures answered { IsAnswered (T.opening self.now.table).start request result client.old client.new }
-        ensures seen { Begins (T.account client.old.seat).seen (T.account client.new.seat).seen }
+        ensures answered { IsAnswered self.now.controller (opened_log self.now) (T.opening self.now.table).start request result client.old
+            client.new }
+        ensures seen { Begins (T.account client.old.seat).seen (T.account client.new.seat).seen
+            × SeesMore client.old.number (seen_by client.old.pass) (seen_by client.new.pass) }
     {
         let item = Item {
             size: request.batch.size(),
@@ -87,6 +161,7 @@ impl<D: Disk, T: Table<Nodes, Parts>> GroupEngine<D, T> {
             no_slowdown: request.options.no_slowdown,
         };
         self.list.link(rt, &mut client.writer, item, request);
+        self.gate.linked(client.number);
         match self.list.await_role(rt, &mut client.writer) {
             Role::Done(reply) => reply,
             Role::LogLeader(held) => self.lead(rt, client, held),
@@ -94,16 +169,20 @@ impl<D: Disk, T: Table<Nodes, Parts>> GroupEngine<D, T> {
     }
 }
 
-impl<D: Disk, T: Table<Nodes, Parts>> GroupEngine<D, T> {
+impl<D: Disk, T: Table<Nodes, Parts>, C: Clock + Drop, G: Gate + Drop> GroupEngine<D, T, C, G> {
     ghost use Rattle.wp_model.specs.Batch as model;
     ghost use Rattle.account_model.specs.Accounts.{Wrote, Refuses};
+    ghost use Rattle.account_model.specs.Written.{HaveSynced};
+    ghost use Rattle.log_writer.specs.declared.writer.LogWriter.{LogWriter as Log};
+    ghost use Rattle.log_writer.specs.Written.{Wrote as WroteLog};
+    ghost use Rattle.wp_model.specs.LogContents.{GroupCall};
     ghost use Rattle.group_engine.specs.Clients.{account_in, settings_of};
 
     /// Writes a batch under a run of sequences of its own, and waits until reads see it.
     pub fn write<R: Wait>(
         &self,
         rt: &R,
-        client: &mut Client<D, T>,
+        client: &mut Client<D, T, C>,
         batch: Batch,
         options: WriteOptions,
     ) -> Result<Receipt, Refused>
@@ -114,13 +193,17 @@ impl<D: Disk, T: Table<Nodes, Parts>> GroupEngine<D, T> {
             (account_in T.opening T.ours T.account client.new)) }
         ensures back { IfOk result (λ r. (r.batch ≡ record batch { sequence = r.first })
             × (r.count ≡ model.count_of batch.records)) }
+        // a batch that was to be synced was written by a call of the log writer that synced
+        ensures synced { IfOk result (λ r. options.sync ≡ true → (calls : List GroupCall) × (log : Log D ⟦<D as Disk>⟧)
+            × WroteLog (opened_log self.now) calls log × HaveSynced r.first batch.records calls) }
         ensures err { IfErr result (λ e. Refuses (settings_of T.opening T.ours T.account self.now)
             (account_in T.opening T.ours T.account client.old) batch.records options e.why
             (account_in T.opening T.ours T.account client.new)) }
         ensures unchanged { IfErr result (λ e. e.batch ≡ batch) }
     {
         let measure = Measure::of(&batch);
-        if let Some(why) = refusal_at_once(measure, options, self.batch_bytes, false) {
+        let stopping = self.controller.is_stopping(&client.pass);
+        if let Some(why) = refusal_at_once(measure, options, self.batch_bytes, stopping) {
             return Err(Refused { batch, why });
         }
         let Ok(nodes) = Nodes::make(self.alloc, &batch) else {
@@ -129,24 +212,59 @@ impl<D: Disk, T: Table<Nodes, Parts>> GroupEngine<D, T> {
                 why: Refusal::NoMemory,
             });
         };
+        if stopping {
+            // Who holds a stop token never waits in the list. It may not wait, or else it was refused above.
+            let look = self.controller.look(rt, &mut client.pass);
+            return Err(refused_by(look, batch));
+        }
         let request = Request {
             batch,
             nodes,
             options,
+            note: Some(self.controller.note(&mut client.pass)),
         };
-        let reply = self.submit(rt, client, request);
-        if let Ok(receipt) = &reply.answer {
-            self.await_seen(rt, client, receipt.group_last);
-        }
-        reply.answer
+        let Reply {
+            answer,
+            delay: _,
+            note,
+        } = self.submit(rt, client, request);
+        self.see(rt, client, &answer, note);
+        answer
     }
 
-    /// Waits until the client has seen what is published up to a sequence.
-    fn await_seen<R: Wait>(&self, rt: &R, client: &mut Client<D, T>, last: u64)
-        requires { IsClientOf T.opening T.ours T.account self.now client.old }
+    /// Lets the client see what its answer speaks of: its group published, or the delay that it was refused by.
+    fn see<R: Wait>(
+        &self,
+        rt: &R,
+        client: &mut Client<D, T, C>,
+        answer: &Result<Receipt, Refused>,
+        note: Option<Note>,
+    )
+        requires client { IsClientOf T.opening T.ours T.account self.now client.old }
+        requires note { IfSome note (IsNoteOf self.now.controller) }
         ensures fits { IsClientOf T.opening T.ours T.account self.now client.new }
         ensures same { (client.new.number ≡ client.old.number) × (client.new.start ≡ client.old.start)
             × (client.new.writer ≡ client.old.writer) }
+        ensures seen { Begins (T.account client.old.seat).seen (T.account client.new.seat).seen
+            × SeesMore client.old.number (seen_by client.old.pass) (seen_by client.new.pass) }
+        ensures published { IfOk answer.now (λ r. r.group_last
+            ≤ last_of (T.opening self.now.table).start (T.account client.new.seat).seen) }
+        ensures noted { IfSome note (λ n. IsPrefix (noted n) (seen_by client.new.pass)) }
+    {
+        if let Ok(receipt) = answer {
+            self.await_seen(rt, client, receipt.group_last);
+        }
+        if let Some(note) = note {
+            self.controller.learn(rt, &mut client.pass, note);
+        }
+    }
+
+    /// Waits until the client has seen what is published up to a sequence.
+    fn await_seen<R: Wait>(&self, rt: &R, client: &mut Client<D, T, C>, last: u64)
+        requires { IsClientOf T.opening T.ours T.account self.now client.old }
+        ensures fits { IsClientOf T.opening T.ours T.account self.now client.new }
+        ensures same { (client.new.number ≡ client.old.number) × (client.new.start ≡ client.old.start)
+            × (client.new.writer ≡ client.old.writer) × (client.new.pass ≡ client.old.pass) }
         ensures seen { Begins (T.account client.old.seat).seen (T.account client.new.seat).seen }
         ensures reached { last ≤ last_of (T.opening self.now.table).start (T.account client.new.seat).seen }
     {
