@@ -1,5 +1,5 @@
 -- What the closed log was written by: the groups of the history, and none besides but one whose write failed.
-use Rattle.std.specs.Prelude.{◌≡◌, ℕ, ◌+◌, true, List, [], ◌∷◌, ◌++◌, map, flat_map, Option, Some, None, MatchOption}
+use Rattle.std.specs.Prelude.{◌≡◌, ℕ, ◌+◌, true, List, [], ◌∷◌, ◌++◌, map, flat_map, sum_by, Option, Some, None, MatchOption}
 use Rattle.std.specs.List.{AllByRecursion, AllZip}
 use Rattle.wp_model.specs.declared.history.Flag.TheVariants.{Sync}
 use Rattle.wp_model.specs.Batch.{Record, count_of}
