@@ -12,7 +12,7 @@ use Rattle.table_rule.specs.Histories.{made_by, Images}
 use Rattle.wp_model.specs.Outcomes.{entries_of_client}
 use Rattle.wp_model.specs.Progress.{next_entry}
 use Rattle.account_model.specs.Versions.{versions_of_entry, versions_of_entries}
-use Rattle.group_rule.specs.Commits.{Answer, AreAnswered, AreOfClients, Commit, IsAnswer, accepted, commits_of, failed, fault_after, fault_after_all, last_after, last_after_all, no_room}
+use Rattle.group_rule.specs.Commits.{Answer, AreAnswered, AreOfClients, Commit, IsAnswer, accepted, held_up, commits_of, failed, fault_after, fault_after_all, last_after, last_after_all, no_room}
 use Rattle.group_rule.specs.Entries.{entries_after, entries_of, entry_after, entry_with, mine_after, versions_made, versions_with}
 
 pub end_append : (last : ℕ) (xs ys : List Commit) → last_after_all last (xs ++ ys) ≡ last_after_all (last_after_all last xs) ys
@@ -46,6 +46,7 @@ history_step last dead mine c rest end (accepted first g) ok more =
       (record { counted = refl; some = ok.1; first = ok.2; fits = subst (λ n. n ≤ max_sequence) ends ok.3 }, subst (λ n. IsHistory n rest) ends more.0),
       ap (λ n. last_sequence n rest) (sym ends) ∙ more.1,
     )
+history_step last dead mine c rest end (held_up numbers) ok more = more
 history_step last dead mine c rest end (failed n) ok more = more
 history_step last dead mine c rest end (no_room l) ok more = more
 
@@ -58,11 +59,13 @@ entries_history last dead before (c ∷ cs) h =
 -- each client's own entries of them
 own_with : (k : ℕ) (mine : List Entry) (c : Commit) (v : Answer) → c.client ≡ k → entries_of_client k (entry_with c.client mine c v) ≡ entry_with c.client mine c v
 own_with k mine c (accepted first end) e = rw (eq-eqb c.client k e) refl
+own_with k mine c (held_up numbers) e = refl
 own_with k mine c (failed n) e = refl
 own_with k mine c (no_room l) e = refl
 
 own_none : (k : ℕ) (mine : List Entry) (c : Commit) (v : Answer) → (c.client ≡ k → ⊥) → entries_of_client k (entry_with c.client mine c v) ≡ []
 own_none k mine c (accepted first end) other = rw (ne_eqb c.client k other) refl
+own_none k mine c (held_up numbers) other = refl
 own_none k mine c (failed n) other = refl
 own_none k mine c (no_room l) other = refl
 
@@ -91,6 +94,7 @@ entries_own k before mine (c ∷ cs) is = dite (ℕ_discrete c.client k)
 named_with : (n : ℕ) (mine : List Entry) (c : Commit) (rest : List Entry) (v : Answer) → (1 ≤ c.client) × (c.client ≤ n) → AllByRecursion (λ (e : Entry). (1 ≤ e.client) × (e.client ≤ n)) rest
     → AllByRecursion (λ (e : Entry). (1 ≤ e.client) × (e.client ≤ n)) (entry_with c.client mine c v ++ rest)
 named_with n mine c rest (accepted first end) h more = (h, more)
+named_with n mine c rest (held_up numbers) h more = more
 named_with n mine c rest (failed k) h more = more
 named_with n mine c rest (no_room l) h more = more
 
@@ -101,6 +105,7 @@ entries_clients n before (c ∷ cs) h = named_with n (entries_of_client c.client
 -- the versions of the history are those that the commits made
 versions_one : (mine : List Entry) (c : Commit) (rest : List Entry) (v : Answer) → versions_of_entries (entry_with c.client mine c v ++ rest) ≡ versions_with c v ++ versions_of_entries rest
 versions_one mine c rest (accepted first end) = refl
+versions_one mine c rest (held_up numbers) = refl
 versions_one mine c rest (failed k) = refl
 versions_one mine c rest (no_room l) = refl
 

@@ -1,5 +1,6 @@
 pub mod Chains
 pub mod Plans
+pub mod OneGroup
 pub mod Reaching
 pub mod Own
 pub mod Steps

@@ -5,17 +5,22 @@ use Rattle.wp_model.specs.declared.write.Refusal.TheVariants as no
 use Rattle.wp_model.specs.Batch.{Record, count_of}
 use Rattle.wp_model.specs.declared.write.WriteOptions.{WriteOptions}
 use Rattle.wp_model.specs.History.{Entry, IsHistory, last_of, last_sequence, max_sequence}
-use Rattle.wp_model.specs.Attempts.{Attempt, is_faulted, knows_dead, succeeded, faulted, full}
+use Rattle.wp_model.specs.Attempts.{Attempt, is_faulted, knows_dead, succeeded, slowed, faulted, full}
+use Rattle.wp_model.specs.Controller.{ControllerCall, Look, delay, look}
+use Rattle.wp_model.specs.Tokens.{holds_stop, tokens_of}
 use Rattle.wp_model.specs.Trace.{Settings}
 use Rattle.wp_model.specs.Outcomes.{entries_of_client}
 use Rattle.wp_model.specs.Progress.{early_refusal, next_entry}
-use Rattle.wp_model.specs.Replies.{AreUpTo}
+use Rattle.wp_model.specs.Replies.{AreUpTo, HoldUp, IsLater}
 use Rattle.table_rule.specs.declared.content.MemberVersions.{MemberVersions}
 use Rattle.table_rule.specs.Histories.{Begins, last_of as last_of_groups}
 use Rattle.account_model.specs.Accounts.{Account, IsRefused, Wrote}
 use Rattle.account_model.specs.Sights.{Sees}
-use Rattle.group_rule.specs.Commits.{Answer, AreAnswered, Commit, IsAnswer, accepted, commits_of, failed, fault_after, fault_after_all, last_after, last_after_all, no_room}
-use Rattle.group_rule.specs.Entries.{account_of, attempt_of, entries_of, entry_with, mine_after, status_of}
+use Rattle.group_rule.specs.Commits.{Answer, AreAnswered, Commit, IsAnswer, accepted, held_up, commits_of, failed, fault_after, fault_after_all, last_after, last_after_all, no_room}
+use Rattle.group_rule.specs.Asked.{place_of}
+use Rattle.group_rule.specs.Entries.{SeesMore, account_of, attempt_of, entries_of, entry_with, mine_after, status_of}
+use Rattle.write_controller.specs.Passes.{EndsWith}
+use Rattle.write_controller.proofs.Account.{ends_begins, ends_last, ends_tokens}
 use Rattle.group_rule.proofs.Chains.{entries_history, entries_own}
 
 -- the newest of a client's own among all
@@ -60,6 +65,7 @@ answered_at last dead (x ∷ front) c rest h = let t = answered_at (last_after l
 -- where the log has no fault, nobody was told of one
 dead_by : (n : ℕ) (cs : List Commit) (v : Answer) → ((m : ℕ) → fault_after_all (Some m) cs ≡ None → ⊥) → fault_after_all (fault_after (Some n) v) cs ≡ None → ⊥
 dead_by n cs (accepted first end) more e = more n e
+dead_by n cs (held_up numbers) more e = more n e
 dead_by n cs (failed m) more e = more m e
 dead_by n cs (no_room l) more e = more n e
 
@@ -67,14 +73,15 @@ some_dead : (n : ℕ) (cs : List Commit) → fault_after_all (Some n) cs ≡ Non
 some_dead n [] e = absurd (cc)
 some_dead n (c ∷ cs) e = dead_by n cs c.answer (λ m. some_dead m cs) e
 
-live_by : (cs : List Commit) (v : Answer) → fault_after_all (fault_after None v) cs ≡ None → (is_faulted (status_of v) ≡ false) × (fault_after_all None cs ≡ None)
-live_by cs (accepted first end) e = (refl, e)
-live_by cs (failed m) e = absurd (some_dead m cs e)
-live_by cs (no_room l) e = (refl, e)
+live_by : (place : ℕ) (cs : List Commit) (v : Answer) → fault_after_all (fault_after None v) cs ≡ None → (is_faulted (status_of place v) ≡ false) × (fault_after_all None cs ≡ None)
+live_by place cs (accepted first end) e = (refl, e)
+live_by place cs (held_up numbers) e = (refl, e)
+live_by place cs (failed m) e = absurd (some_dead m cs e)
+live_by place cs (no_room l) e = (refl, e)
 
-all_live : (cs : List Commit) → fault_after_all None cs ≡ None → AllByRecursion (λ (c : Commit). is_faulted (status_of c.answer) ≡ false) cs
+all_live : (cs : List Commit) → fault_after_all None cs ≡ None → AllByRecursion (λ (c : Commit). is_faulted (status_of (place_of c) c.answer) ≡ false) cs
 all_live [] e = tt
-all_live (c ∷ cs) e = let t = live_by cs c.answer e in (t.0, all_live cs t.1)
+all_live (c ∷ cs) e = let t = live_by (place_of c) cs c.answer e in (t.0, all_live cs t.1)
 
 all_filter : {A : Type 0} (P : A → Type 0) (p : A → Bool) (xs : List A) → AllByRecursion P xs → AllByRecursion P (filter p xs)
 all_filter P p [] h = tt
@@ -84,7 +91,7 @@ all_filter P p (x ∷ xs) h = by (p x) (all_filter P p xs h.1)
     by true more = (h.0, more)
     by false more = more
 
-knows_none : (cs : List Commit) → AllByRecursion (λ (c : Commit). is_faulted (status_of c.answer) ≡ false) cs → knows_dead (map attempt_of cs) ≡ false
+knows_none : (cs : List Commit) → AllByRecursion (λ (c : Commit). is_faulted (status_of (place_of c) c.answer) ≡ false) cs → knows_dead (map attempt_of cs) ≡ false
 knows_none [] h = refl
 knows_none (c ∷ cs) h = rw (h.0) (knows_none cs h.1)
 
@@ -105,7 +112,7 @@ module _ (start k : ℕ) (cs old : List Commit) (c : Commit) (right : AreAnswere
   answer = answered_at start None at.front c at.rest (subst (AreAnswered start None) at.split right)
 
   is_alive : fault_after_all None at.front ≡ None → knows_dead (map attempt_of old) ≡ false
-  is_alive live = knows_none old (subst (AllByRecursion (λ (c : Commit). is_faulted (status_of c.answer) ≡ false)) at.own_front (all_filter (λ (c : Commit). is_faulted (status_of c.answer) ≡ false) (λ (c : Commit). c.client == k) at.front (all_live at.front live)))
+  is_alive live = knows_none old (subst (AllByRecursion (λ (c : Commit). is_faulted (status_of (place_of c) c.answer) ≡ false)) at.own_front (all_filter (λ (c : Commit). is_faulted (status_of (place_of c) c.answer) ≡ false) (λ (c : Commit). c.client == k) at.front (all_live at.front live)))
 
   are_up_to : AreUpTo (mine_after k [] old) (last_after_all start at.front)
   are_up_to =
@@ -127,24 +134,34 @@ handled_more : (old : List Commit) (c : Commit) → map attempt_of (old ++ c ∷
 handled_more [] c = refl
 handled_more (o ∷ old) c = ap (λ l. attempt_of o ∷ l) (handled_more old c)
 
-module _ (start k : ℕ) (cs old : List Commit) (c : Commit) (right : AreAnswered start None cs) (is : commits_of k cs ≡ old ++ c ∷ []) (before after : List (List MemberVersions)) (sees : Begins before after) where
+-- its attempts, with this answer
+handled_as : (old : List Commit) (c : Commit) (v : Answer) → c.answer ≡ v → map attempt_of (old ++ c ∷ []) ≡ map attempt_of old ++ record { records = c.records; options = c.options; status = status_of (place_of c) v } ∷ []
+handled_as old c v is = handled_more old c ∙ ap (λ w. map attempt_of old ++ record { records = c.records; options = c.options; status = status_of (place_of c) w } ∷ []) is
+
+-- its entries, with an answer that gives no run
+mine_same : (k : ℕ) (old : List Commit) (c : Commit) (v : Answer) → c.answer ≡ v → entry_with k (mine_after k [] old) c v ≡ [] → mine_after k [] (old ++ c ∷ []) ≡ mine_after k [] old
+mine_same k old c v is none = mine_more k [] old c ∙ (ap (λ w. mine_after k [] old ++ entry_with k (mine_after k [] old) c w) is ∙ (ap (λ es. mine_after k [] old ++ es) none ∙ append-nil (mine_after k [] old)))
+
+module _ (start k : ℕ) (cs old : List Commit) (c : Commit) (right : AreAnswered start None cs) (is : commits_of k cs ≡ old ++ c ∷ []) (before after : List (List MemberVersions)) (sees : Begins before after)
+    (known now : List ControllerCall) (more : SeesMore k known now) where
   abbrev was : Account
-  was = account_of start k old before
+  was = account_of start k old before known
 
-  abbrev now : Account
-  now = account_of start k (old ++ c ∷ []) after
+  abbrev becomes : Account
+  becomes = account_of start k (old ++ c ∷ []) after now
 
-  saw : Sees was.seen now.seen
-  saw = record { start = refl; published = sees; controller_calls = ([], refl) }
+  saw : Sees was.seen becomes.seen
+  saw = record { start = refl; published = sees; controller_calls = more.begins }
 
-  pub wrote : (settings : Settings) (first end : ℕ) → c.answer ≡ accepted first end → early_refusal settings.batch_bytes false c.records c.options ≡ None → end ≤ last_of_groups start after → Wrote settings was c.records c.options first end now
+  pub wrote : (settings : Settings) (first end : ℕ) → c.answer ≡ accepted first end → early_refusal settings.batch_bytes (holds_stop (tokens_of k known)) c.records c.options ≡ None → end ≤ last_of_groups start after
+      → Wrote settings was c.records c.options first end becomes
   wrote settings first end given_is passed reached =
       let v = subst (IsAnswer (last_after_all start (at start k cs old c right is).front) (fault_after_all None (at start k cs old c right is).front) (count_of c.records)) given_is (answer start k cs old c right is).1 in
       record {
         number = refl;
         mine = mine_more k [] old c ∙ ap (λ w. mine_after k [] old ++ entry_with k (mine_after k [] old) c w) given_is;
-        asked = refl;
-        attempts = handled_more old c ∙ ap (λ w. map attempt_of old ++ record { records = c.records; options = c.options; status = status_of w } ∷ []) given_is;
+        asked = more.tokens;
+        attempts = handled_as old c (accepted first end) given_is;
         seen = saw;
         some = v.1;
         passed = passed;
@@ -153,26 +170,54 @@ module _ (start k : ℕ) (cs old : List Commit) (c : Commit) (right : AreAnswere
         reached = reached;
       }
 
-  pub refused_failed : (n : ℕ) → c.answer ≡ failed n → IsRefused was c.records c.options (no.LogFault n) now
+  pub refused_held_up : (numbers : Look) (by moment bytes : ℕ) → c.answer ≡ held_up numbers → c.options.no_slowdown ≡ true → HoldUp numbers
+      → IsLater now (length known) (place_of c) (record { client = by; action = delay moment bytes; told = Some numbers })
+      → IsRefused was c.records c.options (no.Incomplete numbers.stops numbers.delays numbers.wait) becomes
+  refused_held_up numbers by moment bytes held_is impatient hold later = record {
+    status = Some (slowed (place_of c));
+    may = (impatient, hold, (by, moment, bytes, later));
+    number = refl;
+    mine = mine_same k old c (held_up numbers) held_is refl;
+    asked = more.tokens;
+    attempts = handled_as old c (held_up numbers) held_is;
+    seen = saw;
+  }
+
+  pub refused_failed : (n : ℕ) → c.answer ≡ failed n → IsRefused was c.records c.options (no.LogFault n) becomes
   refused_failed n failed_is = record {
     status = Some (faulted n);
     may = refl;
     number = refl;
-    mine = mine_more k [] old c ∙ (ap (λ w. mine_after k [] old ++ entry_with k (mine_after k [] old) c w) failed_is ∙ append-nil (mine_after k [] old));
-    asked = refl;
-    attempts = handled_more old c ∙ ap (λ w. map attempt_of old ++ record { records = c.records; options = c.options; status = status_of w } ∷ []) failed_is;
+    mine = mine_same k old c (failed n) failed_is refl;
+    asked = more.tokens;
+    attempts = handled_as old c (failed n) failed_is;
     seen = saw;
   }
 
-  pub refused_full : (l : ℕ) → c.answer ≡ no_room l → IsRefused was c.records c.options (no.SequenceFull l) now
+  pub refused_full : (l : ℕ) → c.answer ≡ no_room l → IsRefused was c.records c.options (no.SequenceFull l) becomes
   refused_full l full_is =
       let v = subst (IsAnswer (last_after_all start (at start k cs old c right is).front) (fault_after_all None (at start k cs old c right is).front) (count_of c.records)) full_is (answer start k cs old c right is).1 in
       record {
         status = Some (full l);
         may = (refl, is_alive start k cs old c right is v.0, subst (AreUpTo (mine_after k [] old)) (sym v.1) (are_up_to start k cs old c right is), subst (λ m. max_sequence < m + count_of c.records) (sym v.1) v.2);
         number = refl;
-        mine = mine_more k [] old c ∙ (ap (λ w. mine_after k [] old ++ entry_with k (mine_after k [] old) c w) full_is ∙ append-nil (mine_after k [] old));
-        asked = refl;
-        attempts = handled_more old c ∙ ap (λ w. map attempt_of old ++ record { records = c.records; options = c.options; status = status_of w } ∷ []) full_is;
+        mine = mine_same k old c (no_room l) full_is refl;
+        asked = more.tokens;
+        attempts = handled_as old c (no_room l) full_is;
         seen = saw;
       }
+
+-- who looked itself made no commit of it
+pub refused_looked : (start k : ℕ) (own : List Commit) (records : List Record) (how : WriteOptions) (before after : List (List MemberVersions)) (known now : List ControllerCall) (numbers : Look) → Begins before after
+    → EndsWith k known look (Some numbers) now → how.no_slowdown ≡ true → HoldUp numbers
+    → IsRefused (account_of start k own before known) records how (no.Incomplete numbers.stops numbers.delays numbers.wait) (account_of start k own after now)
+refused_looked start k own records how before after known now numbers sees ends impatient hold =
+    let last = ends_last k known look (Some numbers) now ends in record {
+      status = None;
+      may = (impatient, hold, (last.place, k, last.is_later));
+      number = refl;
+      mine = refl;
+      asked = ends_tokens k known look (Some numbers) now ends ∙ append-nil (tokens_of k known);
+      attempts = refl;
+      seen = record { start = refl; published = sees; controller_calls = ends_begins k known look (Some numbers) now ends };
+    }

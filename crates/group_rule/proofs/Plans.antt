@@ -6,6 +6,7 @@ use Rattle.std.proofs.lemmas.List.Sums.{sum_by-cons}
 use Rattle.wp_model.specs.Batch.{Record, is_counted, count_of, value, deletion, single_deletion, log_data}
 use Rattle.wp_model.specs.declared.history.Flag.TheVariants.{Log, NoLog, Sync}
 use Rattle.wp_model.specs.History.{Entry, max_sequence, logged, is_logged, flag_of}
+use Rattle.wp_model.specs.Controller.{ControllerCall}
 use Rattle.wp_model.specs.Outcomes.{entries_of_client}
 use Rattle.wp_model.specs.Progress.{next_entry}
 use Rattle.table_rule.specs.declared.content.Version.{Version}
@@ -59,39 +60,39 @@ right_verdict last end records some below = by (room last records)
     by (has fits e) = let n : last_with last records ≡ last + count_of records = rw e refl in rw e (refl, some, refl, fits, omega (arith, n, below))
     by (lacks full e) = rw e (refl, refl, full)
 
-pub planned_end : (last end : ℕ) (requests : List CommitRequest) → last_after_all last (planned last end requests) ≡ last_with_all last requests
-planned_end last end [] = refl
-planned_end last end (a ∷ requests) = ap (λ n. last_after_all n (planned (last_with last a.records) end requests)) (after_verdict last end a.records) ∙ planned_end (last_with last a.records) end requests
+pub planned_end : (known : List ControllerCall) (last end : ℕ) (requests : List CommitRequest) → last_after_all last (planned known last end requests) ≡ last_with_all last requests
+planned_end known last end [] = refl
+planned_end known last end (a ∷ requests) = ap (λ n. last_after_all n (planned known (last_with last a.records) end requests)) (after_verdict last end a.records) ∙ planned_end known (last_with last a.records) end requests
 
-pub planned_dead : (last end : ℕ) (dead : Option ℕ) (requests : List CommitRequest) → fault_after_all dead (planned last end requests) ≡ dead
-planned_dead last end dead [] = refl
-planned_dead last end dead (a ∷ requests) = ap (λ d. fault_after_all d (planned (last_with last a.records) end requests)) (alive_after last end a.records dead) ∙ planned_dead (last_with last a.records) end dead requests
+pub planned_dead : (known : List ControllerCall) (last end : ℕ) (dead : Option ℕ) (requests : List CommitRequest) → fault_after_all dead (planned known last end requests) ≡ dead
+planned_dead known last end dead [] = refl
+planned_dead known last end dead (a ∷ requests) = ap (λ d. fault_after_all d (planned known (last_with last a.records) end requests)) (alive_after last end a.records dead) ∙ planned_dead known (last_with last a.records) end dead requests
 
-pub planned_answered : (clients last end : ℕ) (requests : List CommitRequest) → AreLawful clients requests → last_with_all last requests ≤ end → AreAnswered last None (planned last end requests)
-planned_answered clients last end [] h below = tt
-planned_answered clients last end (a ∷ requests) h below = (
+pub planned_answered : (known : List ControllerCall) (clients last end : ℕ) (requests : List CommitRequest) → AreLawful clients requests → last_with_all last requests ≤ end → AreAnswered last None (planned known last end requests)
+planned_answered known clients last end [] h below = tt
+planned_answered known clients last end (a ∷ requests) h below = (
   right_verdict last end a.records h.0.0 (let r = rises (last_with last a.records) requests in omega (arith, r, below)),
-  subst (λ (z : ℕ × Option ℕ). AreAnswered z.0 z.1 (planned (last_with last a.records) end requests)) (λ i. (sym (after_verdict last end a.records) i, sym (alive_after last end a.records None) i)) (planned_answered clients (last_with last a.records) end requests h.1 below),
+  subst (λ (z : ℕ × Option ℕ). AreAnswered z.0 z.1 (planned known (last_with last a.records) end requests)) (λ i. (sym (after_verdict last end a.records) i, sym (alive_after last end a.records None) i)) (planned_answered known clients (last_with last a.records) end requests h.1 below),
 )
 
-pub planned_clients : (clients last end : ℕ) (requests : List CommitRequest) → AreLawful clients requests → AreOfClients clients (planned last end requests)
-planned_clients clients last end [] h = tt
-planned_clients clients last end (a ∷ requests) h = ((h.0.1, h.0.2), planned_clients clients (last_with last a.records) end requests h.1)
+pub planned_clients : (known : List ControllerCall) (clients last end : ℕ) (requests : List CommitRequest) → AreLawful clients requests → AreOfClients clients (planned known last end requests)
+planned_clients known clients last end [] h = tt
+planned_clients known clients last end (a ∷ requests) h = ((h.0.1, h.0.2), planned_clients known clients (last_with last a.records) end requests h.1)
 
-pub planned_versions : (last end : ℕ) (requests : List CommitRequest) → made_by versions_made (planned last end requests) ≡ versions_from last requests
-planned_versions last end [] = refl
-planned_versions last end (a ∷ requests) = by (room last a.records) (planned_versions (last_with last a.records) end requests)
+pub planned_versions : (known : List ControllerCall) (last end : ℕ) (requests : List CommitRequest) → made_by versions_made (planned known last end requests) ≡ versions_from last requests
+planned_versions known last end [] = refl
+planned_versions known last end (a ∷ requests) = by (room last a.records) (planned_versions known (last_with last a.records) end requests)
   where
-    by : Room last a.records → made_by versions_made (planned (last_with last a.records) end requests) ≡ versions_from (last_with last a.records) requests
-        → versions_with (answered a (answer_with last end a.records)) (answer_with last end a.records) ++ made_by versions_made (planned (last_with last a.records) end requests) ≡ versions_at last a.records ++ versions_from (last_with last a.records) requests
+    by : Room last a.records → made_by versions_made (planned known (last_with last a.records) end requests) ≡ versions_from (last_with last a.records) requests
+        → versions_with (answered known a (answer_with last end a.records)) (answer_with last end a.records) ++ made_by versions_made (planned known (last_with last a.records) end requests) ≡ versions_at last a.records ++ versions_from (last_with last a.records) requests
     by (has fits e) h =
         let v : answer_with last end a.records ≡ accepted (last + 1) end = rw e refl in
         let is : versions_at last a.records ≡ numbered (last + 1) (made a.records) = rw e refl in
-        (λ i. versions_with (answered a (answer_with last end a.records)) (v i) ++ h i) ∙ ap (λ vs. vs ++ versions_from (last_with last a.records) requests) (sym is)
+        (λ i. versions_with (answered known a (answer_with last end a.records)) (v i) ++ h i) ∙ ap (λ vs. vs ++ versions_from (last_with last a.records) requests) (sym is)
     by (lacks full e) h =
         let v : answer_with last end a.records ≡ no_room last = rw e refl in
         let is : versions_at last a.records ≡ [] = rw e refl in
-        (λ i. versions_with (answered a (answer_with last end a.records)) (v i) ++ h i) ∙ ap (λ vs. vs ++ versions_from (last_with last a.records) requests) (sym is)
+        (λ i. versions_with (answered known a (answer_with last end a.records)) (v i) ++ h i) ∙ ap (λ vs. vs ++ versions_from (last_with last a.records) requests) (sym is)
 
 -- the versions are one run
 abbrev counts : Record → ℕ
@@ -140,19 +141,19 @@ versions_runs last (a ∷ requests) = by (room last a.records) (versions_runs (l
         )
 
 -- the entries: their batches, their first, and their flags
-pub planned_batches : (last end : ℕ) (before : List Entry) (requests : List CommitRequest) → map (λ (e : Entry). e.records) (entries_after before (planned last end requests)) ≡ batches_from last requests
-planned_batches last end before [] = refl
-planned_batches last end before (a ∷ requests) = by (room last a.records) (planned_batches (last_with last a.records) end (before ++ entry_after before (answered a (answer_with last end a.records))) requests)
+pub planned_batches : (known : List ControllerCall) (last end : ℕ) (before : List Entry) (requests : List CommitRequest) → map (λ (e : Entry). e.records) (entries_after before (planned known last end requests)) ≡ batches_from last requests
+planned_batches known last end before [] = refl
+planned_batches known last end before (a ∷ requests) = by (room last a.records) (planned_batches known (last_with last a.records) end (before ++ entry_after before (answered known a (answer_with last end a.records))) requests)
   where
-    by : Room last a.records → map (λ (e : Entry). e.records) (entries_after (before ++ entry_after before (answered a (answer_with last end a.records))) (planned (last_with last a.records) end requests)) ≡ batches_from (last_with last a.records) requests
-        → map (λ (e : Entry). e.records) (entry_after before (answered a (answer_with last end a.records)) ++ entries_after (before ++ entry_after before (answered a (answer_with last end a.records))) (planned (last_with last a.records) end requests)) ≡ batch_with last a.records ++ batches_from (last_with last a.records) requests
+    by : Room last a.records → map (λ (e : Entry). e.records) (entries_after (before ++ entry_after before (answered known a (answer_with last end a.records))) (planned known (last_with last a.records) end requests)) ≡ batches_from (last_with last a.records) requests
+        → map (λ (e : Entry). e.records) (entry_after before (answered known a (answer_with last end a.records)) ++ entries_after (before ++ entry_after before (answered known a (answer_with last end a.records))) (planned known (last_with last a.records) end requests)) ≡ batch_with last a.records ++ batches_from (last_with last a.records) requests
     by (has fits e) h =
         let v : answer_with last end a.records ≡ accepted (last + 1) end = rw e refl in
         let is : batch_with last a.records ≡ a.records ∷ [] = rw e refl in
-        let rest = entries_after (before ++ entry_after before (answered a (answer_with last end a.records))) (planned (last_with last a.records) end requests) in
-        ap (λ w. map (λ (e : Entry). e.records) (entry_with a.client (entries_of_client a.client before) (answered a (answer_with last end a.records)) w ++ rest)) v ∙ (ap (λ l. a.records ∷ l) h ∙ ap (λ l. l ++ batches_from (last_with last a.records) requests) (sym is))
+        let rest = entries_after (before ++ entry_after before (answered known a (answer_with last end a.records))) (planned known (last_with last a.records) end requests) in
+        ap (λ w. map (λ (e : Entry). e.records) (entry_with a.client (entries_of_client a.client before) (answered known a (answer_with last end a.records)) w ++ rest)) v ∙ (ap (λ l. a.records ∷ l) h ∙ ap (λ l. l ++ batches_from (last_with last a.records) requests) (sym is))
     by (lacks full e) h =
         let v : answer_with last end a.records ≡ no_room last = rw e refl in
         let is : batch_with last a.records ≡ [] = rw e refl in
-        let rest = entries_after (before ++ entry_after before (answered a (answer_with last end a.records))) (planned (last_with last a.records) end requests) in
-        ap (λ w. map (λ (e : Entry). e.records) (entry_with a.client (entries_of_client a.client before) (answered a (answer_with last end a.records)) w ++ rest)) v ∙ (h ∙ ap (λ l. l ++ batches_from (last_with last a.records) requests) (sym is))
+        let rest = entries_after (before ++ entry_after before (answered known a (answer_with last end a.records))) (planned known (last_with last a.records) end requests) in
+        ap (λ w. map (λ (e : Entry). e.records) (entry_with a.client (entries_of_client a.client before) (answered known a (answer_with last end a.records)) w ++ rest)) v ∙ (h ∙ ap (λ l. l ++ batches_from (last_with last a.records) requests) (sym is))

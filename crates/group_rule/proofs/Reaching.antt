@@ -4,12 +4,13 @@ use Rattle.wp_model.specs.Batch.{count_of}
 use Rattle.wp_model.specs.History.{max_sequence}
 use Rattle.table_rule.specs.Histories.{made_by}
 use Rattle.table_rule.specs.Batches.{made, numbered}
-use Rattle.group_rule.specs.Commits.{Answer, AreAnswered, Commit, IsAnswer, accepted, failed, fault_after, last_after, last_after_all, no_room}
+use Rattle.group_rule.specs.Commits.{Answer, AreAnswered, Commit, IsAnswer, accepted, held_up, failed, fault_after, last_after, last_after_all, no_room}
 use Rattle.group_rule.specs.Entries.{versions_made, versions_with}
 use Rattle.group_rule.proofs.Plans.{made_length, numbered_length}
 
 bound_by : (last : ℕ) (dead : Option ℕ) (count : ℕ) (v : Answer) → IsAnswer last dead count v → last ≤ max_sequence → last_after last count v ≤ max_sequence
 bound_by last dead count (accepted first end) h low = h.3
+bound_by last dead count (held_up numbers) h low = low
 bound_by last dead count (failed n) h low = low
 bound_by last dead count (no_room l) h low = low
 
@@ -19,6 +20,7 @@ last_bound last dead (c ∷ cs) h low = last_bound (last_after last (count_of c.
 
 length_by : (last : ℕ) (c : Commit) (v : Answer) → last + length (versions_with c v) ≡ last_after last (count_of c.records) v
 length_by last c (accepted first end) = ap (λ n. last + n) (numbered_length first (made c.records) ∙ made_length c.records)
+length_by last c (held_up numbers) = omega arith
 length_by last c (failed n) = omega arith
 length_by last c (no_room l) = omega arith
 

@@ -8,23 +8,23 @@ use Rattle.wp_model.specs.Batch.{Record, count_of}
 use Rattle.wp_model.specs.declared.history.Flag.{Flag}
 use Rattle.wp_model.specs.declared.history.Flag.TheVariants.{Log, NoLog, Sync}
 use Rattle.wp_model.specs.History.{Entry, IsHistory, RunsFollow, last_of, logged, is_logged, flag_of}
+use Rattle.wp_model.specs.Controller.{ControllerCall, Look}
 use Rattle.wp_model.specs.LogContents.{GroupCall}
+use Rattle.wp_model.specs.Replies.{HoldUp}
 use Rattle.table_rule.specs.declared.content.MemberVersions.{MemberVersions}
 use Rattle.table_rule.specs.declared.content.Version.{Version}
 use Rattle.table_rule.specs.Histories.{made_by, versions_in, Images}
 use Rattle.table_rule.proofs.Images.{images_more, images_none}
 use Rattle.account_model.specs.Written.{WroteEntries, first_of}
-use Rattle.group_rule.specs.Commits.{Answer, AreAnswered, AreOfClients, Commit, accepted, failed, fault_after_all, last_after_all, no_room}
+use Rattle.group_rule.specs.Commits.{Answer, AreAnswered, AreOfClients, Commit, accepted, held_up, failed, fault_after_all, last_after, last_after_all, no_room}
+use Rattle.group_rule.specs.Asked.{AreInGroups}
 use Rattle.group_rule.specs.Consistent.{AreConsistent, Publishes}
-use Rattle.group_rule.specs.Entries.{entries_after, entries_of, entry_after, entry_with, versions_made}
-use Rattle.group_rule.specs.LogCalls.{IsLostWrite, LogsGroup, SyncsFor, WritesBatches, WroteCommits, WroteParts}
-use Rattle.group_rule.specs.Plans.{AreLawful, AreUnlogged, CommitRequest, IsWholeGroup, all_failed, answer_with, answered, batches_from, last_with, last_with_all, planned, versions_from}
+use Rattle.group_rule.specs.Entries.{entries_after, entries_of, entry_after, entry_with, versions_made, versions_with}
+use Rattle.group_rule.specs.LogCalls.{AreLostWrites, IsLostWrite, LogsGroup, SyncsFor, WritesBatches, WroteCommits, WroteParts}
+use Rattle.group_rule.specs.Plans.{AreLawful, AreUnlogged, ComesAfter, CommitRequest, IsAskedFor, IsWholeGroup, MayNotWait, all_failed, all_held_up, answer_with, answered, batches_from, last_with, last_with_all, planned, versions_from}
 use Rattle.group_rule.proofs.Chains.{answered_append, dead_append, end_append, entries_history, entries_more}
+use Rattle.group_rule.proofs.OneGroup.{all_append, in_groups_failed, in_groups_held_up, in_groups_planned}
 use Rattle.group_rule.proofs.Plans.{planned_answered, planned_batches, planned_clients, planned_dead, planned_end, planned_versions}
-
-all_append : {X : Type 0} (P : X → Type 0) (xs ys : List X) → AllByRecursion P xs → AllByRecursion P ys → AllByRecursion P (xs ++ ys)
-all_append P [] ys a b = b
-all_append P (x ∷ xs) ys a b = (a.0, all_append P xs ys a.1 b)
 
 zip_append : {A B : Type 0} (R : A → B → Type 0) (xs : List A) (cs : List B) (ys : List A) (ds : List B) → AllZip R xs cs → AllZip R ys ds → AllZip R (xs ++ ys) (cs ++ ds)
 zip_append R [] [] ys ds a b = b
@@ -61,18 +61,19 @@ syncs_flag options e = by options.no_log options.sync e
     by false false e = absurd (cc)
 
 -- What holds of each request holds of the entry that it makes
-module _ (P : WriteOptions → Type 0) where
+module _ (known : List ControllerCall) (P : WriteOptions → Type 0) where
   entry_at : (mine : List Entry) (a : CommitRequest) (rest : List Entry) (v : Answer) → P a.options → AllByRecursion (λ (e : Entry). (options : WriteOptions) × P options × (e.flag ≡ flag_of options)) rest
-      → AllByRecursion (λ (e : Entry). (options : WriteOptions) × P options × (e.flag ≡ flag_of options)) (entry_with a.client mine (answered a v) v ++ rest)
+      → AllByRecursion (λ (e : Entry). (options : WriteOptions) × P options × (e.flag ≡ flag_of options)) (entry_with a.client mine (answered known a v) v ++ rest)
   entry_at mine a rest (accepted first end) h more = ((a.options, h, refl), more)
+  entry_at mine a rest (held_up numbers) h more = more
   entry_at mine a rest (failed n) h more = more
   entry_at mine a rest (no_room l) h more = more
 
-  flags_of : (last end : ℕ) (before : List Entry) (requests : List CommitRequest) → AllByRecursion (λ (a : CommitRequest). P a.options) requests → AllByRecursion (λ (e : Entry). (options : WriteOptions) × P options × (e.flag ≡ flag_of options)) (entries_after before (planned last end requests))
+  flags_of : (last end : ℕ) (before : List Entry) (requests : List CommitRequest) → AllByRecursion (λ (a : CommitRequest). P a.options) requests → AllByRecursion (λ (e : Entry). (options : WriteOptions) × P options × (e.flag ≡ flag_of options)) (entries_after before (planned known last end requests))
   flags_of last end before [] h = tt
   flags_of last end before (a ∷ requests) h =
-      let c = answered a (answer_with last end a.records) in
-      entry_at (filter (λ (e : Entry). e.client == a.client) before) a (entries_after (before ++ entry_after before c) (planned (last_with last a.records) end requests)) (answer_with last end a.records) h.0
+      let c = answered known a (answer_with last end a.records) in
+      entry_at (filter (λ (e : Entry). e.client == a.client) before) a (entries_after (before ++ entry_after before c) (planned known (last_with last a.records) end requests)) (answer_with last end a.records) h.0
       (flags_of (last_with last a.records) end (before ++ entry_after before c) requests h.1)
 
 all_logged : (es : List Entry) → AllByRecursion (λ (e : Entry). (options : WriteOptions) × (options.no_log ≡ false) × (e.flag ≡ flag_of options)) es → logged es ≡ es
@@ -115,18 +116,19 @@ one_more_call last old new calls c h all some first batches synced ok k = record
 }
 
 -- A group got runs
-module _ (start clients group_bytes : ℕ) (cs : List Commit) (last : ℕ) (published : List (List MemberVersions)) (calls : List GroupCall) (k : AreConsistent start clients group_bytes cs last None published calls) (requests : List CommitRequest) (lawful : AreLawful clients requests) where
+module _ (start clients group_bytes : ℕ) (asked known : List ControllerCall) (cs : List Commit) (last : ℕ) (published : List (List MemberVersions)) (calls : List GroupCall) (k : AreConsistent start clients group_bytes asked cs last None published calls) (requests : List CommitRequest) (lawful : AreLawful clients requests)
+    (numbers : Look) (whole : IsWholeGroup group_bytes requests) (is_asked : IsAskedFor requests numbers known) (comes : ComesAfter asked known) where
   abbrev end : ℕ
   end = last_with_all last requests
 
   abbrev new : List Commit
-  new = planned last end requests
+  new = planned known last end requests
 
   new_entries : List Entry
   new_entries = entries_after (entries_of cs) new
 
   answered_new : AreAnswered last None new
-  answered_new = planned_answered clients last end requests lawful (omega arith)
+  answered_new = planned_answered known clients last end requests lawful (omega arith)
 
   history_new : IsHistory last new_entries
   unfolding new_entries
@@ -134,7 +136,7 @@ module _ (start clients group_bytes : ℕ) (cs : List Commit) (last : ℕ) (publ
 
   batches_are : map (λ (e : Entry). e.records) new_entries ≡ batches_from last requests
   unfolding new_entries
-  batches_are = planned_batches last end (entries_of cs) requests
+  batches_are = planned_batches known last end (entries_of cs) requests
 
   written_new : (calls' : List GroupCall) → LogsGroup last requests calls calls' → WroteCommits group_bytes (cs ++ new) None end calls'
   unfolding new_entries
@@ -144,133 +146,188 @@ module _ (start clients group_bytes : ℕ) (cs : List Commit) (last : ℕ) (publ
       let old : WroteParts (entries_of cs) calls = subst (WroteParts (entries_of cs)) (sym all_good) w.parts in
       let now : WroteParts (entries_of cs ++ new_entries) calls' = ⊎_elim
       (λ (t : (calls' ≡ calls) × (AreUnlogged requests ⊎ (batches_from last requests ≡ []))). subst (WroteParts (entries_of cs ++ new_entries)) (sym t.0) (no_more_calls (entries_of cs) new_entries calls
-      (⊎_elim (λ (u : AreUnlogged requests). none_logged new_entries (flags_of (λ options. options.no_log ≡ true) last end (entries_of cs) requests u))
+      (⊎_elim (λ (u : AreUnlogged requests). none_logged new_entries (flags_of known (λ options. options.no_log ≡ true) last end (entries_of cs) requests u))
       (λ (u : batches_from last requests ≡ []). ap logged (none_of (λ (e : Entry). e.records) new_entries (batches_are ∙ u))) t.1) old))
       (λ (t : (c : GroupCall) × (calls' ≡ calls ++ c ∷ []) × WritesBatches last requests c × SyncsFor requests c.sync × (c.failed ≡ None)).
       let c = t.0 in
       let same : c.batches ≡ map (λ (e : Entry). e.records) new_entries = t.2.batches ∙ sym batches_are in
       let some : 0 < length new_entries = some_of (λ (e : Entry). e.records) new_entries (subst (λ l. 0 < length l) same t.2.some) in
-      subst (WroteParts (entries_of cs ++ new_entries)) (sym t.1) (one_more_call last (entries_of cs) new_entries calls c history_new (all_logged new_entries (flags_of (λ options. options.no_log ≡ false) last end (entries_of cs) requests t.2.to_log)) some t.2.first same
-      (all_synced c.sync new_entries (flags_of (λ options. options.sync ≡ true → c.sync ≡ true) last end (entries_of cs) requests t.3)) t.4 old))
+      subst (WroteParts (entries_of cs ++ new_entries)) (sym t.1) (one_more_call last (entries_of cs) new_entries calls c history_new (all_logged new_entries (flags_of known (λ options. options.no_log ≡ false) last end (entries_of cs) requests t.2.to_log)) some t.2.first same
+      (all_synced c.sync new_entries (flags_of known (λ options. options.sync ≡ true → c.sync ≡ true) last end (entries_of cs) requests t.3)) t.4 old))
       logs in
       record { worked = calls'; lost = []; both = sym (append-nil calls'); parts = subst (λ es. WroteParts es calls') (sym (entries_more cs new)) now; are_lost = refl }
 
-  pub consistent_accepted : (published' : List (List MemberVersions)) (calls' : List GroupCall) → Publishes (versions_from last requests) published published' → LogsGroup last requests calls calls' → AreConsistent start clients group_bytes (cs ++ new) end None published' calls'
+  pub consistent_accepted : (published' : List (List MemberVersions)) (calls' : List GroupCall) → Publishes (versions_from last requests) published published' → LogsGroup last requests calls calls' → AreConsistent start clients group_bytes known (cs ++ new) end None published' calls'
   consistent_accepted published' calls' publishes logs = record {
     answered = answered_append start None cs new k.answered (subst (λ (z : ℕ × Option ℕ). AreAnswered z.0 z.1 new) (λ i. (k.last_is i, k.fault_is i)) answered_new);
-    of_clients = all_append (λ (c : Commit). (1 ≤ c.client) × (c.client ≤ clients)) cs new k.of_clients (planned_clients clients last end requests lawful);
-    last_is = sym (end_append start cs new ∙ (ap (λ n. last_after_all n new) (sym k.last_is) ∙ planned_end last end requests));
-    fault_is = sym (dead_append None cs new ∙ (ap (λ d. fault_after_all d new) (sym k.fault_is) ∙ planned_dead last end None requests));
+    of_clients = all_append (λ (c : Commit). (1 ≤ c.client) × (c.client ≤ clients)) cs new k.of_clients (planned_clients known clients last end requests lawful);
+    last_is = sym (end_append start cs new ∙ (ap (λ n. last_after_all n new) (sym k.last_is) ∙ planned_end known last end requests));
+    fault_is = sym (dead_append None cs new ∙ (ap (λ d. fault_after_all d new) (sym k.fault_is) ∙ planned_dead known last end None requests));
+    in_groups = in_groups_planned group_bytes cs asked known numbers k.in_groups requests whole is_asked comes last end;
     images = ⊎_elim
-        (λ (t : (versions_from last requests ≡ []) × (published' ≡ published)). subst (Images versions_made (cs ++ new)) (sym t.1) (images_none versions_made cs new published k.images (planned_versions last end requests ∙ t.0)))
-        (λ (t : (g : List MemberVersions) × (published' ≡ published ++ g ∷ []) × (versions_in g ≡ versions_from last requests)). subst (Images versions_made (cs ++ new)) (sym t.1) (images_more versions_made cs new published t.0 k.images (planned_versions last end requests ∙ sym t.2)))
+        (λ (t : (versions_from last requests ≡ []) × (published' ≡ published)). subst (Images versions_made (cs ++ new)) (sym t.1) (images_none versions_made cs new published k.images (planned_versions known last end requests ∙ t.0)))
+        (λ (t : (g : List MemberVersions) × (published' ≡ published ++ g ∷ []) × (versions_in g ≡ versions_from last requests)). subst (Images versions_made (cs ++ new)) (sym t.1) (images_more versions_made cs new published t.0 k.images (planned_versions known last end requests ∙ sym t.2)))
         publishes;
     written = written_new calls' logs;
   }
 
--- A group was answered the log's fault
+-- A group was answered alike, and got no runs
 
-failed_end : (last n : ℕ) (requests : List CommitRequest) → last_after_all last (all_failed n requests) ≡ last
-failed_end last n [] = refl
-failed_end last n (a ∷ requests) = failed_end last n requests
+abbrev alike : List ControllerCall → Answer → List CommitRequest → List Commit
+alike known v requests = map (λ (q : CommitRequest). answered known q v) requests
 
-failed_dead_on : (n : ℕ) (requests : List CommitRequest) → fault_after_all (Some n) (all_failed n requests) ≡ Some n
-failed_dead_on n [] = refl
-failed_dead_on n (a ∷ requests) = failed_dead_on n requests
+record GivesNoRun (v : Answer) : Type 0 where
+  last : (n count : ℕ) → last_after n count v ≡ n
+  entries : (client : ℕ) (mine : List Entry) (c : Commit) → entry_with client mine c v ≡ []
+  versions : (c : Commit) → versions_with c v ≡ []
 
-failed_dead : (n : ℕ) (dead : Option ℕ) (requests : List CommitRequest) → 0 < length requests → fault_after_all dead (all_failed n requests) ≡ Some n
-failed_dead n dead [] some = absurd (omega arith)
-failed_dead n dead (a ∷ requests) some = failed_dead_on n requests
+held_up_no_run : (numbers : Look) → GivesNoRun (held_up numbers)
+held_up_no_run numbers = record { last = λ n count. refl; entries = λ client mine c. refl; versions = λ c. refl }
 
-failed_answered_on : (last n : ℕ) (requests : List CommitRequest) → AreAnswered last (Some n) (all_failed n requests)
-failed_answered_on last n [] = tt
-failed_answered_on last n (a ∷ requests) = (refl, failed_answered_on last n requests)
+failed_no_run : (n : ℕ) → GivesNoRun (failed n)
+failed_no_run n = record { last = λ m count. refl; entries = λ client mine c. refl; versions = λ c. refl }
 
-failed_answered : (last n : ℕ) (requests : List CommitRequest) → AreAnswered last None (all_failed n requests)
-failed_answered last n [] = tt
-failed_answered last n (a ∷ requests) = (tt, failed_answered_on last n requests)
+module _ (known : List ControllerCall) (v : Answer) (none : GivesNoRun v) where
+  alike_end : (last : ℕ) (requests : List CommitRequest) → last_after_all last (alike known v requests) ≡ last
+  alike_end last [] = refl
+  alike_end last (a ∷ requests) = ap (λ n. last_after_all n (alike known v requests)) (none.last last (count_of a.records)) ∙ alike_end last requests
 
-failed_clients : (clients n : ℕ) (requests : List CommitRequest) → AreLawful clients requests → AreOfClients clients (all_failed n requests)
-failed_clients clients n [] h = tt
-failed_clients clients n (a ∷ requests) h = ((h.0.1, h.0.2), failed_clients clients n requests h.1)
+  alike_clients : (clients : ℕ) (requests : List CommitRequest) → AreLawful clients requests → AreOfClients clients (alike known v requests)
+  alike_clients clients [] h = tt
+  alike_clients clients (a ∷ requests) h = ((h.0.1, h.0.2), alike_clients clients requests h.1)
 
-failed_entries : (n : ℕ) (before : List Entry) (requests : List CommitRequest) → entries_after before (all_failed n requests) ≡ []
-failed_entries n before [] = refl
-failed_entries n before (a ∷ requests) = failed_entries n (before ++ []) requests
+  alike_entries : (before : List Entry) (requests : List CommitRequest) → entries_after before (alike known v requests) ≡ []
+  alike_entries before [] = refl
+  alike_entries before (a ∷ requests) =
+      let c = answered known a v in
+      let now : entry_after before c ≡ [] = none.entries a.client (filter (λ (e : Entry). e.client == a.client) before) c in
+      λ i. now i ++ alike_entries (before ++ entry_after before c) requests i
 
-failed_versions : (n : ℕ) (requests : List CommitRequest) → made_by versions_made (all_failed n requests) ≡ []
-failed_versions n [] = refl
-failed_versions n (a ∷ requests) = failed_versions n requests
+  alike_versions : (requests : List CommitRequest) → made_by versions_made (alike known v requests) ≡ []
+  alike_versions [] = refl
+  alike_versions (a ∷ requests) = λ i. none.versions (answered known a v) i ++ alike_versions requests i
 
-same_entries : (cs : List Commit) (n : ℕ) (requests : List CommitRequest) → entries_of (cs ++ all_failed n requests) ≡ entries_of cs
-same_entries cs n requests = entries_more cs (all_failed n requests) ∙ ((λ i. entries_of cs ++ failed_entries n (entries_of cs) requests i) ∙ append-nil (entries_of cs))
+  same_entries : (cs : List Commit) (requests : List CommitRequest) → entries_of (cs ++ alike known v requests) ≡ entries_of cs
+  same_entries cs requests = entries_more cs (alike known v requests) ∙ ((λ i. entries_of cs ++ alike_entries (entries_of cs) requests i) ∙ append-nil (entries_of cs))
 
+  consistent_alike : (start clients group_bytes : ℕ) (asked : List ControllerCall) (cs : List Commit) (last : ℕ) (fault now : Option ℕ) (published : List (List MemberVersions)) (calls more : List GroupCall) (requests : List CommitRequest)
+      → AreConsistent start clients group_bytes asked cs last fault published calls → AreLawful clients requests → AreAnswered last fault (alike known v requests) → fault_after_all fault (alike known v requests) ≡ now
+      → AreInGroups group_bytes known (cs ++ alike known v requests) → WroteCommits group_bytes (cs ++ alike known v requests) now last more
+      → AreConsistent start clients group_bytes known (cs ++ alike known v requests) last now published more
+  consistent_alike start clients group_bytes asked cs last fault now published calls more requests k lawful right fault_now in_groups written = record {
+    answered = answered_append start None cs (alike known v requests) k.answered (subst (λ (z : ℕ × Option ℕ). AreAnswered z.0 z.1 (alike known v requests)) (λ i. (k.last_is i, k.fault_is i)) right);
+    of_clients = all_append (λ (c : Commit). (1 ≤ c.client) × (c.client ≤ clients)) cs (alike known v requests) k.of_clients (alike_clients clients requests lawful);
+    last_is = k.last_is ∙ sym (end_append start cs (alike known v requests) ∙ alike_end (last_after_all start cs) requests);
+    fault_is = sym (dead_append None cs (alike known v requests) ∙ (ap (λ d. fault_after_all d (alike known v requests)) (sym k.fault_is) ∙ fault_now));
+    in_groups = in_groups;
+    images = images_none versions_made cs (alike known v requests) published k.images (alike_versions requests);
+    written = written;
+  }
+
+-- the fault
+failed_dead_on : (known : List ControllerCall) (n : ℕ) (requests : List CommitRequest) → fault_after_all (Some n) (all_failed known n requests) ≡ Some n
+failed_dead_on known n [] = refl
+failed_dead_on known n (a ∷ requests) = failed_dead_on known n requests
+
+failed_dead : (known : List ControllerCall) (n : ℕ) (dead : Option ℕ) (requests : List CommitRequest) → 0 < length requests → fault_after_all dead (all_failed known n requests) ≡ Some n
+failed_dead known n dead [] some = absurd (omega arith)
+failed_dead known n dead (a ∷ requests) some = failed_dead_on known n requests
+
+failed_answered_on : (known : List ControllerCall) (last n : ℕ) (requests : List CommitRequest) → AreAnswered last (Some n) (all_failed known n requests)
+failed_answered_on known last n [] = tt
+failed_answered_on known last n (a ∷ requests) = (refl, failed_answered_on known last n requests)
+
+failed_answered : (known : List ControllerCall) (last n : ℕ) (requests : List CommitRequest) → AreAnswered last None (all_failed known n requests)
+failed_answered known last n [] = tt
+failed_answered known last n (a ∷ requests) = (tt, failed_answered_on known last n requests)
+
+held_up_dead : (known : List ControllerCall) (numbers : Look) (fault : Option ℕ) (requests : List CommitRequest) → fault_after_all fault (all_held_up known numbers requests) ≡ fault
+held_up_dead known numbers fault [] = refl
+held_up_dead known numbers fault (a ∷ requests) = held_up_dead known numbers fault requests
+
+held_up_answered : (known : List ControllerCall) (last : ℕ) (numbers : Look) (fault : Option ℕ) (requests : List CommitRequest) → AreAnswered last fault (all_held_up known numbers requests)
+held_up_answered known last numbers fault [] = tt
+held_up_answered known last numbers fault (a ∷ requests) = (tt, held_up_answered known last numbers fault requests)
+
+-- the log's calls are those before
 lost_later : (group_bytes n last : ℕ) (cs new : List Commit) (c : GroupCall) → IsLostWrite group_bytes cs n last c → IsLostWrite group_bytes (cs ++ new) n last c
 lost_later group_bytes n last cs new c g = record {
   front = g.front;
+  known = g.known;
   requests = g.requests;
   rest = g.rest ++ new;
-  split = ap (λ l. l ++ new) g.split ∙ (append_assoc g.front (all_failed n g.requests ++ g.rest) new ∙ ap (λ l. g.front ++ l) (append_assoc (all_failed n g.requests) g.rest new));
+  split = ap (λ l. l ++ new) g.split ∙ (append_assoc g.front (all_failed g.known n g.requests ++ g.rest) new ∙ ap (λ l. g.front ++ l) (append_assoc (all_failed g.known n g.requests) g.rest new));
   is_group = g.is_group;
   writes = g.writes;
   failed = g.failed;
 }
 
-module _ (start clients group_bytes : ℕ) (cs : List Commit) (last n : ℕ) (published : List (List MemberVersions)) (calls : List GroupCall) (requests : List CommitRequest) (lawful : AreLawful clients requests) where
+lost_as_before : (group_bytes last : ℕ) (cs more : List Commit) (fault : Option ℕ) (lost : List GroupCall) → AreLostWrites group_bytes cs fault last lost → AreLostWrites group_bytes (cs ++ more) fault last lost
+lost_as_before group_bytes last cs more None lost h = h
+lost_as_before group_bytes last cs more (Some n) lost h = (h.0, h.1, lost_later group_bytes n last cs more h.0 h.2)
+
+wrote_as_before : (group_bytes last : ℕ) (cs new : List Commit) (fault : Option ℕ) (calls : List GroupCall) → entries_of (cs ++ new) ≡ entries_of cs → WroteCommits group_bytes cs fault last calls → WroteCommits group_bytes (cs ++ new) fault last calls
+wrote_as_before group_bytes last cs new fault calls same w = record {
+  worked = w.worked;
+  lost = w.lost;
+  both = w.both;
+  parts = subst (λ es. WroteParts es w.worked) (sym same) w.parts;
+  are_lost = lost_as_before group_bytes last cs new fault w.lost w.are_lost;
+}
+
+module _ (start clients group_bytes : ℕ) (cs : List Commit) (last : ℕ) (published : List (List MemberVersions)) (calls : List GroupCall) (requests : List CommitRequest) (asked known : List ControllerCall) (numbers : Look)
+    (lawful : AreLawful clients requests) (whole : IsWholeGroup group_bytes requests) (is_asked : IsAskedFor requests numbers known) (comes : ComesAfter asked known) where
+  -- writes are held up
+  pub consistent_held_up : (fault : Option ℕ) → AreConsistent start clients group_bytes asked cs last fault published calls → HoldUp numbers → MayNotWait requests
+      → AreConsistent start clients group_bytes known (cs ++ all_held_up known numbers requests) last fault published calls
+  consistent_held_up fault k hold may =
+      let none = held_up_no_run numbers in
+      consistent_alike known (held_up numbers) none start clients group_bytes asked cs last fault fault published calls calls requests k lawful (held_up_answered known last numbers fault requests) (held_up_dead known numbers fault requests)
+      (in_groups_held_up group_bytes cs asked known numbers k.in_groups requests whole is_asked comes hold may)
+      (wrote_as_before group_bytes last cs (all_held_up known numbers requests) fault calls (same_entries known (held_up numbers) none cs requests) k.written)
+
   -- the log had failed before
-  pub consistent_after_fault : AreConsistent start clients group_bytes cs last (Some n) published calls → AreConsistent start clients group_bytes (cs ++ all_failed n requests) last (Some n) published calls
-  consistent_after_fault k = record {
-    answered = answered_append start None cs (all_failed n requests) k.answered (subst (λ (z : ℕ × Option ℕ). AreAnswered z.0 z.1 (all_failed n requests)) (λ i. (k.last_is i, k.fault_is i)) (failed_answered_on last n requests));
-    of_clients = all_append (λ (c : Commit). (1 ≤ c.client) × (c.client ≤ clients)) cs (all_failed n requests) k.of_clients (failed_clients clients n requests lawful);
-    last_is = k.last_is ∙ sym (end_append start cs (all_failed n requests) ∙ failed_end (last_after_all start cs) n requests);
-    fault_is = sym (dead_append None cs (all_failed n requests) ∙ (ap (λ d. fault_after_all d (all_failed n requests)) (sym k.fault_is) ∙ failed_dead_on n requests));
-    images = images_none versions_made cs (all_failed n requests) published k.images (failed_versions n requests);
-    written = let w = k.written in record {
-      worked = w.worked;
-      lost = w.lost;
-      both = w.both;
-      parts = subst (λ es. WroteParts es w.worked) (sym (same_entries cs n requests)) w.parts;
-      are_lost = (w.are_lost.0, w.are_lost.1, lost_later group_bytes n last cs (all_failed n requests) w.are_lost.0 w.are_lost.2);
-    };
-  }
+  pub consistent_after_fault : (n : ℕ) → AreConsistent start clients group_bytes asked cs last (Some n) published calls → AreConsistent start clients group_bytes known (cs ++ all_failed known n requests) last (Some n) published calls
+  consistent_after_fault n k =
+      let none = failed_no_run n in
+      consistent_alike known (failed n) none start clients group_bytes asked cs last (Some n) (Some n) published calls calls requests k lawful (failed_answered_on known last n requests) (failed_dead_on known n requests)
+      (in_groups_failed group_bytes cs asked known numbers k.in_groups requests whole is_asked comes n)
+      (wrote_as_before group_bytes last cs (all_failed known n requests) (Some n) calls (same_entries known (failed n) none cs requests) k.written)
 
   -- the log fails with this group
-  pub consistent_with_fault : AreConsistent start clients group_bytes cs last None published calls → IsWholeGroup group_bytes requests → (c : GroupCall) → WritesBatches last requests c → c.failed ≡ Some n
-      → AreConsistent start clients group_bytes (cs ++ all_failed n requests) last (Some n) published (calls ++ c ∷ [])
-  consistent_with_fault k whole c writes failed_is = record {
-    answered = answered_append start None cs (all_failed n requests) k.answered (subst (λ (z : ℕ × Option ℕ). AreAnswered z.0 z.1 (all_failed n requests)) (λ i. (k.last_is i, k.fault_is i)) (failed_answered last n requests));
-    of_clients = all_append (λ (c : Commit). (1 ≤ c.client) × (c.client ≤ clients)) cs (all_failed n requests) k.of_clients (failed_clients clients n requests lawful);
-    last_is = k.last_is ∙ sym (end_append start cs (all_failed n requests) ∙ failed_end (last_after_all start cs) n requests);
-    fault_is = sym (dead_append None cs (all_failed n requests) ∙ failed_dead n (fault_after_all None cs) requests whole.some);
-    images = images_none versions_made cs (all_failed n requests) published k.images (failed_versions n requests);
-    written = let w = k.written in let all_good : calls ≡ w.worked = w.both ∙ ((λ i. w.worked ++ w.are_lost i) ∙ append-nil w.worked) in record {
-      worked = w.worked;
-      lost = c ∷ [];
-      both = (λ i. all_good i ++ c ∷ []);
-      parts = subst (λ es. WroteParts es w.worked) (sym (same_entries cs n requests)) w.parts;
-      are_lost = (
-        c,
-        refl,
-        record {
-          front = cs;
-          requests = requests;
-          rest = [];
-          split = ap (λ l. cs ++ l) (sym (append-nil (all_failed n requests)));
-          is_group = whole;
-          writes = writes;
-          failed = failed_is;
-        },
-      );
-    };
-  }
+  pub consistent_with_fault : (n : ℕ) → AreConsistent start clients group_bytes asked cs last None published calls → (c : GroupCall) → WritesBatches last requests c → c.failed ≡ Some n
+      → AreConsistent start clients group_bytes known (cs ++ all_failed known n requests) last (Some n) published (calls ++ c ∷ [])
+  consistent_with_fault n k c writes failed_is =
+      let none = failed_no_run n in let w = k.written in
+      let all_good : calls ≡ w.worked = w.both ∙ ((λ i. w.worked ++ w.are_lost i) ∙ append-nil w.worked) in
+      let lost : IsLostWrite group_bytes (cs ++ all_failed known n requests) n last c = record {
+        front = cs;
+        known = known;
+        requests = requests;
+        rest = [];
+        split = ap (λ l. cs ++ l) (sym (append-nil (all_failed known n requests)));
+        is_group = whole;
+        writes = writes;
+        failed = failed_is;
+      } in
+      consistent_alike known (failed n) none start clients group_bytes asked cs last None (Some n) published calls (calls ++ c ∷ []) requests k lawful (failed_answered known last n requests) (failed_dead known n None requests whole.some)
+      (in_groups_failed group_bytes cs asked known numbers k.in_groups requests whole is_asked comes n)
+      (record {
+        worked = w.worked;
+        lost = c ∷ [];
+        both = (λ i. all_good i ++ c ∷ []);
+        parts = subst (λ es. WroteParts es w.worked) (sym (same_entries known (failed n) none cs requests)) w.parts;
+        are_lost = (c, refl, lost);
+      })
 
 -- at the beginning nothing was handled
-pub consistent_first : (start clients group_bytes : ℕ) → AreConsistent start clients group_bytes [] start None [] []
+pub consistent_first : (start clients group_bytes : ℕ) → AreConsistent start clients group_bytes [] [] start None [] []
 consistent_first start clients group_bytes = record {
   answered = tt;
   of_clients = tt;
   last_is = refl;
   fault_is = refl;
+  in_groups = record { groups = []; cut = refl; each = tt; seen = tt; rise = tt };
   images = refl;
   written = record { worked = []; lost = []; both = refl; parts = record { parts = []; cut = refl; runs = tt; each = tt }; are_lost = refl };
 }

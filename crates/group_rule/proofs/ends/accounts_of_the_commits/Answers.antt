@@ -1,9 +1,11 @@
-use Rattle.group_rule.proofs.Own.{wrote, refused_failed, refused_full}
+use Rattle.group_rule.proofs.Own.{wrote, refused_held_up, refused_failed, refused_full, refused_looked}
 use Rattle.group_rule.proofs.ends.accounts_of_the_commits.Goals as goal
 
 pub returns : goal.returns
 returns c = record {
-  wrote = λ settings start client commits own c before after first group_last right is sees answer passed reached. wrote start client commits own c right is before after sees settings first group_last answer passed reached;
-  failed = λ start client commits own c before after count right is sees answer. refused_failed start client commits own c right is before after sees count answer;
-  full = λ start client commits own c before after last right is sees answer. refused_full start client commits own c right is before after sees last answer;
+  wrote = λ settings start client commits own c before after known now first group_last right is sees more answer passed reached. wrote start client commits own c right is before after sees known now more settings first group_last answer passed reached;
+  held_up = λ start client commits own c before after known now numbers by moment bytes right is sees more answer impatient hold later. refused_held_up start client commits own c right is before after sees known now more numbers by moment bytes answer impatient hold later;
+  failed = λ start client commits own c before after known now count right is sees more answer. refused_failed start client commits own c right is before after sees known now more count answer;
+  full = λ start client commits own c before after known now last right is sees more answer. refused_full start client commits own c right is before after sees known now more last answer;
+  looked = refused_looked;
 }
