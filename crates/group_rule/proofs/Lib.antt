@@ -4,4 +4,5 @@ pub mod OneGroup
 pub mod Reaching
 pub mod Own
 pub mod Steps
+pub mod Leaders
 pub mod Closing
