@@ -1,14 +1,12 @@
 -- The groups of the commits, each with the place of its delay in the controller's history, are all groups of the closing.
-use Rattle.std.proofs.Common.{◌≡◌, ◌≢◌, ◌⊎◌, inl, inr, ℕ, zero, suc, ◌+◌, ◌-◌, ◌<◌, ◌≤◌, Bool, true, false, true≢false, cond, ◌==◌, filter, flat_map, map, slice_get, List, [], ◌∷◌, ◌++◌, Option, Some, None, length, refl, ap, sym, ◌∙◌, subst, ⊎_elim, arith, append_assoc, length-append}
+use Rattle.std.proofs.Common.{◌≡◌, ◌≢◌, ◌⊎◌, inl, inr, ℕ, suc, ◌+◌, ◌-◌, ◌<◌, ◌≤◌, Bool, true, false, true≢false, cond, ◌==◌, filter, flat_map, map, slice_get, List, [], ◌∷◌, ◌++◌, Some, length, refl, ap, sym, ◌∙◌, subst, ⊎_elim, arith, append_assoc, length-append}
 use Rattle.std.specs.Prelude.{◌&&◌}
 use Rattle.std.specs.Bool.{IsTrue}
-use Rattle.std.specs.Option.{option_map}
 use Rattle.std.specs.List.{AllByRecursion}
-use Rattle.std.proofs.lemmas.Option.{slice_get-map, slice_get_cases}
 use Rattle.std.proofs.lemmas.List.{length-map, map-append}
 use mathlib.Core.List.{IsPrefix}
 use Rattle.wp_model.specs.declared.group.Item.{Item}
-use Rattle.wp_model.specs.Attempts.{Attempt, WriteStatus, slowed}
+use Rattle.wp_model.specs.Attempts.{Attempt, slowed}
 use Rattle.wp_model.specs.Controller.{ControllerCall, delay}
 use Rattle.wp_model.specs.Grouping.{group_len, size_of}
 use Rattle.wp_model.specs.Groups.{AreAsked, Group, HasPlace, HaveOwnPlaces, is_delay}

@@ -16,8 +16,8 @@ pub data Answer : Type 0 where
   -- behind this sequence, the last one given, there was no room for its run
   no_room : ℕ → Answer
 
--- a client's commit with its answer, and the controller's history as its group's leader had seen it, up to the delay that
--- the leader had asked for the group
+-- a client's commit with its answer, and the controller's history as its group's leader had seen it, up to the delay
+-- that the leader had asked for the group
 pub record Commit : Type 0 where
   pub client : ℕ
   pub records : List Record

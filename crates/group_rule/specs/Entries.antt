@@ -87,8 +87,8 @@ account_of start client own published known = record {
   seen = record { start = start; published = published; controller_calls = known };
 }
 
--- The client at this place (from 0) has made just its commits of all, has seen a beginning of what was published, and of
--- the controller's history a beginning with all calls of its own.
+-- The client at this place (from 0) has made just its commits of all, has seen a beginning of what was published, and
+-- of the controller's history a beginning with all calls of its own. For each delay among these it has a commit.
 pub record HasPart (start : ℕ) (commits : List Commit) (published : List (List MemberVersions))
     (history : List ControllerCall) (place : ℕ) (a : Account) : Type 0 where
   pub seen : List (List MemberVersions)

@@ -38,17 +38,17 @@ pub fn groups_stay_consistent()
         (published : List (List MemberVersions)) (calls : List GroupCall) (requests : List CommitRequest)
         (asked known : List ControllerCall) (numbers : Look)
         → AreConsistent start clients group_bytes asked commits last fault published calls → AreLawful clients requests
-        → IsWholeGroup group_bytes requests → IsAskedFor requests numbers known → ComesAfter asked known → HoldUp numbers
-        → MayNotWait requests
-        → AreConsistent start clients group_bytes known (commits ++ all_held_up known numbers requests) last fault published
-        calls }
+        → IsWholeGroup group_bytes requests → IsAskedFor requests numbers known → ComesAfter asked known
+        → HoldUp numbers → MayNotWait requests
+        → AreConsistent start clients group_bytes known (commits ++ all_held_up known numbers requests) last fault
+        published calls }
     // the call of the log writer failed, and each member was answered its fault
     ensures failed { (start clients group_bytes : ℕ) (commits : List Commit) (last count : ℕ)
         (published : List (List MemberVersions)) (calls : List GroupCall) (requests : List CommitRequest)
         (asked known : List ControllerCall) (numbers : Look) (c : GroupCall)
         → AreConsistent start clients group_bytes asked commits last None published calls → AreLawful clients requests
-        → IsWholeGroup group_bytes requests → IsAskedFor requests numbers known → ComesAfter asked known → WritesBatches last requests c
-        → c.failed ≡ Some count
+        → IsWholeGroup group_bytes requests → IsAskedFor requests numbers known → ComesAfter asked known
+        → WritesBatches last requests c → c.failed ≡ Some count
         → AreConsistent start clients group_bytes known (commits ++ all_failed known count requests) last (Some count)
         published (calls ++ c ∷ []) }
     // the log had failed before, and was not called
@@ -56,7 +56,8 @@ pub fn groups_stay_consistent()
         (published : List (List MemberVersions)) (calls : List GroupCall) (requests : List CommitRequest)
         (asked known : List ControllerCall) (numbers : Look)
         → AreConsistent start clients group_bytes asked commits last (Some count) published calls
-        → AreLawful clients requests → IsWholeGroup group_bytes requests → IsAskedFor requests numbers known → ComesAfter asked known
+        → AreLawful clients requests → IsWholeGroup group_bytes requests → IsAskedFor requests numbers known
+        → ComesAfter asked known
         → AreConsistent start clients group_bytes known (commits ++ all_failed known count requests) last (Some count)
         published calls }
 {}
