@@ -1,7 +1,8 @@
 -- What the closed log was written by: the groups of the history, and none besides but one whose write failed.
-use Rattle.std.specs.Prelude.{◌≡◌, ℕ, ◌+◌, true, List, [], ◌∷◌, ◌++◌, map, flat_map, Option, Some, None, MatchOption}
+use Rattle.std.specs.Prelude.{◌≡◌, ℕ, ◌+◌, true, List, [], ◌∷◌, ◌++◌, map, flat_map, sum_by, Option, Some, None, MatchOption}
 use Rattle.std.specs.List.{AllByRecursion, AllZip}
 use Rattle.wp_model.specs.declared.history.Flag.TheVariants.{Sync}
+use Rattle.wp_model.specs.Batch.{Record, count_of}
 use Rattle.wp_model.specs.History.{Entry, RunsFollow, last_sequence, logged}
 use Rattle.wp_model.specs.Trace.{Trace}
 use Rattle.wp_model.specs.Attempts.{Attempt}
@@ -43,3 +44,20 @@ pub record WritesLog {L : Type 0} (group_bytes : ℕ) (wrote : List GroupCall �
   pub each : AllZip WroteEntries parts calls
   pub none_else : AreLost group_bytes attempts fault (last_sequence trace.start trace.entries) lost
   pub by : wrote (calls ++ lost) log
+
+-- The call wrote this batch, under the run from this sequence on, and synced.
+pub record IsSynced (first : ℕ) (records : List Record) (c : GroupCall) : Type 0 where
+  pub before : List (List Record)
+  pub after : List (List Record)
+  pub among : c.batches ≡ before ++ records ∷ after
+  pub run : first ≡ c.first + sum_by count_of before
+  pub synced : c.sync ≡ true
+  pub ok : c.failed ≡ None
+
+-- one of the calls did
+pub record HaveSynced (first : ℕ) (records : List Record) (calls : List GroupCall) : Type 0 where
+  pub front : List GroupCall
+  pub call : GroupCall
+  pub rest : List GroupCall
+  pub there : calls ≡ front ++ call ∷ rest
+  pub is : IsSynced first records call
