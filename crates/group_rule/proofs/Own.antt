@@ -83,7 +83,7 @@ all_live : (cs : List Commit) → fault_after_all None cs ≡ None → AllByRecu
 all_live [] e = tt
 all_live (c ∷ cs) e = let t = live_by (place_of c) cs c.answer e in (t.0, all_live cs t.1)
 
-all_filter : {A : Type 0} (P : A → Type 0) (p : A → Bool) (xs : List A) → AllByRecursion P xs → AllByRecursion P (filter p xs)
+pub all_filter : {A : Type 0} (P : A → Type 0) (p : A → Bool) (xs : List A) → AllByRecursion P xs → AllByRecursion P (filter p xs)
 all_filter P p [] h = tt
 all_filter P p (x ∷ xs) h = by (p x) (all_filter P p xs h.1)
   where
