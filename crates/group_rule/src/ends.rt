@@ -47,20 +47,18 @@ pub fn accounts_of_the_commits()
         → group_last ≤ last_of start after
         → Wrote settings (account_of start client own before known) c.records c.options first group_last
         (account_of start client (own ++ c ∷ []) after now) }
-    ensures held_up { (start client : ℕ) (commits own : List Commit) (c : Commit)
+    // where writes are held up, or the log failed, the answer alone says so
+    ensures held_up { (start client : ℕ) (own : List Commit) (c : Commit)
         (before after : List (List MemberVersions)) (known now : List ControllerCall) (numbers : Look)
-        (by moment bytes : ℕ) → AreAnswered start None commits
-        → commits_of client commits ≡ own ++ c ∷ [] → Begins before after → SeesMore client known now
+        (by moment bytes : ℕ) → Begins before after → SeesMore client known now
         → c.answer ≡ held_up numbers → c.options.no_slowdown ≡ true → HoldUp numbers
         → IsLater now (length known) (place_of c)
         (record { client = by; action = delay moment bytes; told = Some numbers })
         → IsRefused (account_of start client own before known) c.records c.options
         (Incomplete numbers.stops numbers.delays numbers.wait) (account_of start client (own ++ c ∷ []) after now) }
-    ensures failed { (start client : ℕ) (commits own : List Commit) (c : Commit)
+    ensures failed { (start client : ℕ) (own : List Commit) (c : Commit)
         (before after : List (List MemberVersions)) (known now : List ControllerCall) (count : ℕ)
-        → AreAnswered start None commits
-        → commits_of client commits ≡ own ++ c ∷ [] → Begins before after → SeesMore client known now
-        → c.answer ≡ failed count
+        → Begins before after → SeesMore client known now → c.answer ≡ failed count
         → IsRefused (account_of start client own before known) c.records c.options (LogFault count)
         (account_of start client (own ++ c ∷ []) after now) }
     ensures full { (start client : ℕ) (commits own : List Commit) (c : Commit)
