@@ -13,6 +13,14 @@ use std::sync::Wait;
 use wp_edge::Clock;
 
 impl<C: Clock> Controller<C> {
+    /// Whether the client holds a stop token.
+    pub fn is_stopping(&self, pass: &Pass) -> bool
+        requires own { IsPassOf self.now pass.now }
+        ensures { result ≡ holds_stop (asked_by pass.now) }
+    {
+        pass.stopping
+    }
+
     /// Takes the client's stop token. While anybody holds one, writes are stopped. Where the client holds one already,
     /// nothing is called.
     pub fn stop<R: Wait>(&self, rt: &R, pass: &mut Pass) -> Result<(), Held>
