@@ -5,7 +5,8 @@ ghost use mathlib.Core.List.{IsPrefix};
 ghost use Rattle.wp_model.specs.Controller.{delay, look};
 ghost use Rattle.wp_model.specs.Tokens.{holds_stop};
 ghost use Rattle.write_controller.specs.Looks.{look_of};
-ghost use Rattle.write_controller.specs.Passes.{client_of, seen_by, asked_by, noted, IsPassOf, IsNoteOf, GoesOn, EndsWith};
+ghost use Rattle.write_controller.specs.Passes.{client_of, seen_by, asked_by, noted};
+ghost use Rattle.write_controller.specs.Passes.{IsPassOf, IsNoteOf, GoesOn, EndsWith};
 
 use crate::controller::Controller;
 use crate::look::Look;
