@@ -15,7 +15,7 @@ use Rattle.group_engine.specs.declared.numbering.Plan.TheVariants.{Run, Full}
 use Rattle.group_engine.specs.declared.numbering.Outcome.{Outcome}
 use Rattle.group_engine.specs.declared.numbering.Outcome.TheVariants.{Written, Faulted}
 use Rattle.group_engine.specs.Handled.{ComesBack, HandsBack, IsReplyOf, accepted_reply, answer_in, commit_of, commit_request_of, commit_requests_of, failures, handled_with, refused_reply, remembered, replies_of, seen_at}
-use Rattle.group_engine.specs.Numbering.{AreEnough, answers, batches_of, plans_of}
+use Rattle.group_engine.specs.Numbering.{AreEnough, answers, batch_at, batches_of, plans_of}
 use Rattle.group_rule.specs.Commits.{accepted, failed, no_room}
 use Rattle.group_rule.specs.Plans.{all_failed, answered, batches_from, last_with, planned}
 
@@ -26,6 +26,14 @@ is_remembered s x e = ap remembered e
 pub map_append : {A B : Type 0} (f : A → B) (xs ys : List A) → map f (xs ++ ys) ≡ map f xs ++ map f ys
 map_append f [] ys = refl
 map_append f (x ∷ xs) ys = ap (λ l. f x ∷ l) (map_append f xs ys)
+
+-- a request has at most one batch
+one_by : (q : Request) (b : Bool) → length (cond b (q.batch ∷ []) []) ≤ 1
+one_by q true = omega arith
+one_by q false = omega arith
+
+pub one_batch : (last : ℕ) (q : Request) → length (batch_at last q) ≤ 1
+one_batch last q = one_by q (nat_le (last + count_of q.batch.records) max_sequence)
 
 enough_by : (last : ℕ) (x : ℕ × Request) (xs : List (ℕ × Request)) (b : Bool) → ((m : ℕ) → AreEnough (plans_of m xs) (batches_of m xs))
     → AreEnough ((cond b (Run x.0 (last + 1)) (Full x.0 last x.1.batch)) ∷ plans_of (cond b (last + count_of x.1.batch.records) last) xs) (cond b (x.1.batch ∷ []) [] ++ batches_of (cond b (last + count_of x.1.batch.records) last) xs)
