@@ -1,7 +1,4 @@
-use Rattle.std.proofs.Common.{rules, ◌≡◌, ◌≤◌, ◌<◌, ◌+◌, ◌-◌, ◌*◌, ℕ, List, [], ◌∷◌, ◌++◌, map, true, false, None, Some, Option, Ok, Err, length, vec_len, vec_capacity, inl, inr, refl, sym, ap, ◌∙◌, subst, arith, append-nil}
-use Rattle.std.specs.List.{AllByRecursion}
-use Rattle.wp_model.specs.declared.write.WriteOptions.{WriteOptions}
-use Rattle.wp_model.specs.History.{max_sequence}
+use Rattle.std.proofs.Common.{rules, ◌≡◌, ◌<◌, ◌+◌, ℕ, List, [], ◌∷◌, ◌++◌, map, None, length, vec_capacity, inl, inr, refl, sym, ap, ◌∙◌, subst, arith, append-nil}
 use Rattle.write_batch.specs.Contents.{Contents}
 use Rattle.log_writer.specs.Words.{fault_of}
 use Rattle.log_writer.specs.Adding.{call_of, count_of_fault}

@@ -1,4 +1,4 @@
-use Rattle.std.proofs.Common.{◌≡◌, ◌≤◌, ◌+◌, ◌<◌, ℕ, List, [], ◌∷◌, ◌++◌, length, ap, sym, ◌∙◌, arith, append_assoc, length-append}
+use Rattle.std.proofs.Common.{[], ◌∷◌, ◌++◌, length, ap, sym, ◌∙◌, arith, append_assoc, length-append}
 use Rattle.group_engine.specs.Handled.{commit_requests_of}
 use Rattle.group_engine.specs.Numbering.{batch_at, batches_of, plan_at, plans_of}
 use Rattle.group_engine.proofs.Replies.{one_batch}
@@ -19,7 +19,7 @@ loop-client-preserved c =
         v.parts.0 ++ versions_at at q.batch.records,
         n.parts v.parts.0 v.parts.1,
         ap (λ m. (v.parts.0 ++ versions_at at q.batch.records) ++ versions_from m (commit_requests_of rest)) n.reached
-        ∙ (append_assoc v.parts.0 (versions_at at q.batch.records) (versions_from next (commit_requests_of rest)) ∙ (ap (λ l. v.parts.0 ++ versions_from at (commit_requests_of l)) (sym f) ∙ v.parts.2)),
+            ∙ (append_assoc v.parts.0 (versions_at at q.batch.records) (versions_from next (commit_requests_of rest)) ∙ (ap (λ l. v.parts.0 ++ versions_from at (commit_requests_of l)) (sym f) ∙ v.parts.2)),
       );
       clients = n.clients ∙ v.clients;
       count = (let p = ap length n.plans ∙ length-append plans (plan ∷ []) in let r = ap length f in let k = v.count in omega (arith, p, r, k));
