@@ -14,7 +14,7 @@ use Rattle.group_engine.specs.declared.numbering.Plan.{Plan}
 use Rattle.group_engine.specs.declared.numbering.Plan.TheVariants.{Run, Full}
 use Rattle.group_engine.specs.declared.numbering.Outcome.{Outcome}
 use Rattle.group_engine.specs.declared.numbering.Outcome.TheVariants.{Written, Faulted}
-use Rattle.group_engine.specs.Handled.{ComesBack, HandsBack, IsReplyOf, accepted_reply, answer_in, commit_of, commit_request_of, commit_requests_of, failures, handled_with, refused_reply, remembered, replies_of, seen_at}
+use Rattle.group_engine.specs.Handled.{ComesBack, HandsBack, IsReplyOf, accepted_reply, commit_of, commit_request_of, commit_requests_of, failures, handled_with, refused_reply, remembered, replies_of, seen_at}
 use Rattle.group_engine.specs.Numbering.{AreEnough, answers, batch_at, batches_of, plans_of}
 use Rattle.group_rule.specs.Commits.{accepted, failed, no_room}
 use Rattle.group_rule.specs.Plans.{all_failed, answered, batches_from, last_with, planned}
