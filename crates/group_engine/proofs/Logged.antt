@@ -13,15 +13,16 @@ use Rattle.table_rule.specs.declared.content.Version.{Version}
 use Rattle.mem_table.specs.declared.parts.MemberNodes.{MemberNodes}
 use Rattle.table_rule.specs.Batches.{made, numbered}
 use Rattle.group_engine.specs.declared.requests.Request.{Request}
+use Rattle.group_engine.specs.declared.requests.Delay.{Delay}
 use Rattle.group_engine.specs.declared.requests.Reply.{Reply}
 use Rattle.group_engine.specs.declared.numbering.Plan.{Plan}
 use Rattle.group_engine.specs.declared.numbering.Outcome.TheVariants.{Written, Faulted}
-use Rattle.group_engine.specs.Handled.{HandsBack, InOrder, commit_requests_of, failures, handled_with, replies_of}
+use Rattle.group_engine.specs.Handled.{HandsBack, InOrder, IsReplyOf, commit_requests_of, failures, handled_with, replies_of}
 use Rattle.group_engine.specs.Led.{IsLedGroup}
 use Rattle.group_engine.specs.Numbering.{AreEnough, HasVersions, answers, batches_of, plans_of}
 use Rattle.group_rule.specs.LogCalls.{SyncsFor, WritesBatches}
 use Rattle.group_rule.specs.Plans.{AreLawful, CommitRequest, batches_from, last_with, versions_from}
-use Rattle.group_engine.proofs.Replies.{answers_faulted, answers_written, are_enough, backs_failed, backs_planned, batches_are, plans_count}
+use Rattle.group_engine.proofs.Replies.{answers_faulted, answers_written, are_enough, backs_failed, backs_planned, batches_are, plans_count, replies_failed, replies_planned}
 use Rattle.group_engine.proofs.Standing.{LogsOn}
 use Rattle.group_rule.proofs.Plans.{made_length, numbered_length}
 
@@ -33,13 +34,13 @@ pub ok_is : {A B : Type 0} (r : Result A B) → ((e : B) → r ≡ Err e → ⊥
 ok_is (Ok x) h = (x, refl)
 ok_is (Err e) h = absurd (h e refl)
 
-pub pays_planned : (last end : ℕ) (xs : List (ℕ × Request)) → InOrder xs (replies_of last end xs)
-pays_planned last end [] = tt
-pays_planned last end (x ∷ xs) = (refl, pays_planned (last_with last x.1.batch.records) end xs)
+pub pays_planned : (delay : Delay) (last end : ℕ) (xs : List (ℕ × Request)) → InOrder xs (replies_of delay last end xs)
+pays_planned delay last end [] = tt
+pays_planned delay last end (x ∷ xs) = (refl, pays_planned delay (last_with last x.1.batch.records) end xs)
 
-pub pays_failed : (n : ℕ) (xs : List (ℕ × Request)) → InOrder xs (failures n xs)
-pays_failed n [] = tt
-pays_failed n (x ∷ xs) = (refl, pays_failed n xs)
+pub pays_failed : (delay : Delay) (n : ℕ) (xs : List (ℕ × Request)) → InOrder xs (failures delay n xs)
+pays_failed delay n [] = tt
+pays_failed delay n (x ∷ xs) = (refl, pays_failed delay n xs)
 
 none_by : (last : ℕ) (a : CommitRequest) (asks : List CommitRequest) (b : Bool) → ((m : ℕ) → batches_from m asks ≡ [] → versions_from m asks ≡ []) → cond b (a.records ∷ []) [] ++ batches_from (cond b (last + count_of a.records) last) asks ≡ []
     → cond b (numbered (last + 1) (made a.records)) [] ++ versions_from (cond b (last + count_of a.records) last) asks ≡ []
@@ -112,20 +113,25 @@ module _ {D : Type 0} {ghosts : Ghosts D} (group_bytes clients last : ℕ) (xs :
   pub to_log : (e : Fault) → result ≡ Err e → options.no_log ≡ false
   to_log e err = fails_by options.no_log refl e err
 
-pub layout_written : (last end : ℕ) (xs : List (ℕ × Request)) (plans : List Plan) (batches : List Contents) → plans ≡ plans_of last xs → batches ≡ batches_of last xs → answers (Written end) plans batches ≡ replies_of last end xs
-layout_written last end xs plans batches p b = (λ i. answers (Written end) (p i) (b i)) ∙ answers_written last end xs
-
-pub layout_faulted : (last n : ℕ) (xs : List (ℕ × Request)) (plans : List Plan) (batches : List Contents) → plans ≡ plans_of last xs → batches ≡ batches_of last xs → answers (Faulted n) plans batches ≡ failures n xs
-layout_faulted last n xs plans batches p b = (λ i. answers (Faulted n) (p i) (b i)) ∙ answers_faulted last n xs
-
 pub layout_enough : (last : ℕ) (xs : List (ℕ × Request)) (plans : List Plan) (batches : List Contents) → plans ≡ plans_of last xs → batches ≡ batches_of last xs → AreEnough plans batches
 layout_enough last xs plans batches p b = subst (λ (z : List Plan × List Contents). AreEnough z.0 z.1) (λ i. (sym p i, sym b i)) (are_enough last xs)
 
 pub layout_room : (last room : ℕ) (xs : List (ℕ × Request)) (plans : List Plan) → plans ≡ plans_of last xs → length xs ≤ room → length plans ≤ room
 layout_room last room xs plans p h = subst (λ (n : ℕ). n ≤ room) (sym (ap length p ∙ plans_count last xs)) h
 
-pub pays_written : (last end : ℕ) (xs : List (ℕ × Request)) (ys : List (ℕ × Reply)) → ys ≡ replies_of last end xs → InOrder xs ys × AllByRecursion HandsBack (handled_with xs ys)
-pays_written last end xs ys is = subst (λ zs. InOrder xs zs × AllByRecursion HandsBack (handled_with xs zs)) (sym is) (pays_planned last end xs, backs_planned last end xs)
+module _ (delay : Delay) where
+  pub layout_written : (last end : ℕ) (xs : List (ℕ × Request)) (plans : List Plan) (batches : List Contents) → plans ≡ plans_of last xs → batches ≡ batches_of last xs → answers (Written end) delay plans batches ≡ replies_of delay last end xs
+  layout_written last end xs plans batches p b = (λ i. answers (Written end) delay (p i) (b i)) ∙ answers_written delay last end xs
 
-pub pays_faulted : (n : ℕ) (xs : List (ℕ × Request)) (ys : List (ℕ × Reply)) → ys ≡ failures n xs → InOrder xs ys × AllByRecursion HandsBack (handled_with xs ys)
-pays_faulted n xs ys is = subst (λ zs. InOrder xs zs × AllByRecursion HandsBack (handled_with xs zs)) (sym is) (pays_failed n xs, backs_failed n xs)
+  pub layout_faulted : (last n : ℕ) (xs : List (ℕ × Request)) (plans : List Plan) (batches : List Contents) → plans ≡ plans_of last xs → batches ≡ batches_of last xs → answers (Faulted n) delay plans batches ≡ failures delay n xs
+  layout_faulted last n xs plans batches p b = (λ i. answers (Faulted n) delay (p i) (b i)) ∙ answers_faulted delay last n xs
+
+  -- what a leader owes of its replies
+  abbrev Pays : List (ℕ × Request) → List (ℕ × Reply) → Type 0
+  Pays xs ys = InOrder xs ys × AllByRecursion HandsBack (handled_with xs ys) × AllByRecursion (IsReplyOf delay) ys
+
+  pub pays_written : (last end : ℕ) (xs : List (ℕ × Request)) (ys : List (ℕ × Reply)) → ys ≡ replies_of delay last end xs → Pays xs ys
+  pays_written last end xs ys is = subst (Pays xs) (sym is) (pays_planned delay last end xs, backs_planned delay last end xs, replies_planned delay last end xs)
+
+  pub pays_faulted : (n : ℕ) (xs : List (ℕ × Request)) (ys : List (ℕ × Reply)) → ys ≡ failures delay n xs → Pays xs ys
+  pays_faulted n xs ys is = subst (Pays xs) (sym is) (pays_failed delay n xs, backs_failed delay n xs, replies_failed delay n xs)

@@ -1,9 +1,8 @@
-use Rattle.std.proofs.Common.{rules, ◌≡◌, ◌≤◌, ◌<◌, ◌+◌, ℕ, List, [], ◌∷◌, ◌++◌, Some, map, length, refl, sym, ap, ◌∙◌, subst, arith, append-nil, length-append}
+use Rattle.std.proofs.Common.{◌≡◌, ◌+◌, List, [], ◌∷◌, length, refl, sym, ap, ◌∙◌, subst, append-nil}
 use Rattle.table_rule.specs.declared.content.MemberVersions.{MemberVersions}
-use Rattle.table_rule.specs.declared.view.Stage.{Stage}
-use Rattle.table_rule.specs.Histories.{last_of, versions_in, Begins}
+use Rattle.table_rule.specs.Histories.{last_of, Begins}
 use Rattle.table_rule.specs.Rule.{end_of}
-use Rattle.table_rule.specs.Steps.{launched_behind, MayTake, IsNext}
+use Rattle.table_rule.specs.Steps.{launched_behind, MayTake}
 use Rattle.mem_table.specs.declared.parts.MemberNodes.{MemberNodes}
 use Rattle.mem_table.specs.Parts.{group_of}
 use Rattle.group_engine.proofs.Answered.{begins_on}

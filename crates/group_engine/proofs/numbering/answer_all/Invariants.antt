@@ -6,7 +6,7 @@ use Rattle.group_engine.specs.Numbering.{AreEnough, answers}
 abbrev pub invariant-loop-plan : goal.invariant-loop-plan
 invariant-loop-plan l = record {
   enough : AreEnough l.plans.items l.batches.items;
-  replies : l.replies.items ++ answers l.outcome l.plans.items l.batches.items ≡ answers l.outcome l.initial.plans.items l.initial.batches.items;
+  replies : l.replies.items ++ answers l.outcome l.delay l.plans.items l.batches.items ≡ answers l.outcome l.delay l.initial.plans.items l.initial.batches.items;
   count : length l.replies.items + length l.plans.items ≡ length l.initial.plans.items;
   plans_room : vec_capacity l.plans ≡ vec_capacity l.initial.plans;
   batches_room : vec_capacity l.batches ≡ vec_capacity l.initial.batches;

@@ -1,5 +1,5 @@
 -- What is laid out so far, with what the rest will add, is all.
-use Rattle.std.proofs.Common.{◌≡◌, ℕ, ◌+◌, ◌≤◌, List, ◌++◌, length, vec_capacity}
+use Rattle.std.proofs.Common.{◌≡◌, ◌+◌, ◌≤◌, List, ◌++◌, length, vec_capacity}
 use Rattle.wp_model.specs.History.{max_sequence}
 use Rattle.table_rule.specs.declared.content.Version.{Version}
 use Rattle.group_engine.proofs.numbering.number_all.Given as goal

@@ -5,7 +5,7 @@ use Rattle.group_engine.specs.Handled.{failures}
 
 abbrev pub invariant-loop-client : goal.invariant-loop-client
 invariant-loop-client l = record {
-  replies : l.replies.items ++ failures l.count l.requests.items ≡ failures l.count l.initial.requests.items;
+  replies : l.replies.items ++ failures l.delay l.count l.requests.items ≡ failures l.delay l.count l.initial.requests.items;
   count : length l.replies.items + length l.requests.items ≡ length l.initial.requests.items;
   requests_room : vec_capacity l.requests ≡ vec_capacity l.initial.requests;
   replies_room : vec_capacity l.replies ≡ vec_capacity l.initial.replies;
