@@ -31,20 +31,17 @@ use Rattle.client_run.proofs.Lists.{all_at}
 below_or_at : (i n : ℕ) → i < n + 1 → (i < n) ⊎ (i ≡ n)
 below_or_at i n h = elim (cases_lt i n) [ inl lt ↦ inl lt | inr ge ↦ inr (omega arith) ]
 
-pub room_none : {X : Type 0} → IsRoom {X} [] []
-room_none = record { count = refl; each = λ i d h. absurd (omega (arith, h)); fits = λ i d v h. absurd (omega (arith, h)) }
-
 -- one more list with room
 pub room_more : {X : Type 0} (script : List (Vec Command Global)) (room : List (Vec X Global)) (commands : Vec Command Global) (one : Vec X Global)
     → IsRoom script room → one.items ≡ [] → vec_len one ≡ 0 → vec_len commands ≤ vec_capacity one → IsRoom (script ++ commands ∷ []) (room ++ one ∷ [])
-room_more script room commands one so_far none zero enough =
+room_more script room commands one so_far none no_items enough =
     let count = so_far.count in
     let longer : length (script ++ commands ∷ []) ≡ length script + 1 = length-append script (commands ∷ []) in
     record {
       count = omega (arith, length-append room (one ∷ []));
       each = λ i d h. elim (below_or_at i (length script) (omega (arith, longer))) [
         | inl less ↦ (let less' : i < length room = omega arith in rw (get_or_append_left room (one ∷ []) d i less') (so_far.each i d less))
-        | inr is ↦ rw (get_or_push room one d i (count ∙ sym is)) (none, zero)
+        | inr is ↦ rw (get_or_push room one d i (count ∙ sym is)) (none, no_items)
       ];
       fits = λ i d v h. elim (below_or_at i (length script) (omega (arith, longer))) [
         | inl less ↦ (let less' : i < length room = omega arith in rw (get_or_append_left room (one ∷ []) d i less', get_or_append_left script (commands ∷ []) v i less) (so_far.fits i d v less))
@@ -131,10 +128,10 @@ module _ {C : Type 0} (belongs : C → Type 0) (account : C → Account) (settin
         → slice_get (commands_in rest) i ≡ Some commands → slice_get transcripts i ≡ Some made → slice_get (map account (map client_of jobs)) i ≡ Some a
         → HasRun settings k commands made a
 
-  same_run : (k l : ℕ) (commands some : List calls.Command) (made calls : List calls.Call) (a b : Account) → k ≡ l → Some some ≡ Some commands → Some calls ≡ Some made → Some b ≡ Some a
-      → HasRun settings l some calls b → HasRun settings k commands made a
-  same_run k l commands some made calls a b is e f h run =
-      let e' : some ≡ commands = cc e in let f' : calls ≡ made = cc f in let h' : b ≡ a = cc h in rw (is, ← e', ← f', ← h') run
+  same_run : (k l : ℕ) (commands some : List calls.Command) (made own : List calls.Call) (a b : Account) → k ≡ l → Some some ≡ Some commands → Some own ≡ Some made → Some b ≡ Some a
+      → HasRun settings l some own b → HasRun settings k commands made a
+  same_run k l commands some made own a b is e f h run =
+      let e' : some ≡ commands = cc e in let f' : own ≡ made = cc f in let h' : b ≡ a = cc h in rw (is, ← e', ← f', ← h') run
 
   abbrev TellsEach : ℕ → List (Job C) → List (Vec Command Global) → Type 0
   TellsEach n jobs rest = (i k : ℕ) (d : Job C) (v : Vec Command Global) → i < length jobs → k ≡ n + i + 1
@@ -154,14 +151,14 @@ module _ {C : Type 0} (belongs : C → Type 0) (account : C → Account) (settin
         each = λ i k commands made a is h f b. each_at first.calls others.transcripts first.run others.each i k commands made a is h f b;
       }
     where
-      each_at : (calls : List calls.Call) (transcripts : List (List calls.Call)) → HasRun settings (n + 1) (map command_of s.items) calls (account j.client)
+      each_at : (own : List calls.Call) (transcripts : List (List calls.Call)) → HasRun settings (n + 1) (map command_of s.items) own (account j.client)
           → ((i k : ℕ) (commands : List calls.Command) (made : List calls.Call) (a : Account) → k ≡ n + 1 + i + 1
           → slice_get (commands_in rest) i ≡ Some commands → slice_get transcripts i ≡ Some made → slice_get (map account (map client_of jobs)) i ≡ Some a → HasRun settings k commands made a)
           → (i k : ℕ) (commands : List calls.Command) (made : List calls.Call) (a : Account) → k ≡ n + i + 1
-          → slice_get (commands_in (s ∷ rest)) i ≡ Some commands → slice_get (calls ∷ transcripts) i ≡ Some made → slice_get (map account (map client_of (j ∷ jobs))) i ≡ Some a
+          → slice_get (commands_in (s ∷ rest)) i ≡ Some commands → slice_get (own ∷ transcripts) i ≡ Some made → slice_get (map account (map client_of (j ∷ jobs))) i ≡ Some a
           → HasRun settings k commands made a
-      each_at calls transcripts run others zero k commands made a is h f b = same_run k (n + 1) commands (map command_of s.items) made calls a (account j.client) (omega (arith, is)) h f b run
-      each_at calls transcripts run others (suc i) k commands made a is h f b = others i k commands made a (omega (arith, is)) h f b
+      each_at own transcripts run others zero k commands made a is h f b = same_run k (n + 1) commands (map command_of s.items) made own a (account j.client) (omega (arith, is)) h f b run
+      each_at own transcripts run others (suc i) k commands made a is h f b = others i k commands made a (omega (arith, is)) h f b
 
   pub done_told : (jobs : List (Job C)) (clients : List C) (replies : List (Vec Reply Global)) → AreDone belongs account settings script jobs → length jobs ≡ length script
       → clients ≡ map client_of jobs → replies ≡ map replies_of jobs → HaveTold settings (commands_in script) replies (map account clients)
@@ -181,3 +178,7 @@ module _ {C : Type 0} (belongs : C → Type 0) (account : C → Account) (settin
 -- what a `Vec` has after a write to its whole slice
 pub whole_slice : {X : Type 0} (n : ℕ) (new old : List X) → length new ≡ n → take n (new ++ drop (length new) old) ≡ new
 whole_slice n new old count = subst (λ k. take k (new ++ drop (length new) old) ≡ new) count (take-append_seam new (drop (length new) old))
+
+-- as many jobs as clients
+pub jobs_count : {C : Type 0} (jobs : List (Job C)) (clients : List C) → map client_of jobs ≡ clients → length jobs ≡ length clients
+jobs_count jobs clients e = sym (length-map jobs client_of) ∙ ap length e
