@@ -1,6 +1,6 @@
 -- From clients to jobs, and back.
-use Rattle.std.proofs.Common.{◌≡◌, ℕ, zero, suc, ◌+◌, ◌^◌, ◌<◌, ◌≤◌, Option, Some, List, [], ◌∷◌, ◌++◌, length, map, take, drop, get_or, slice_get, refl, ap, sym, ◌∙◌, subst, arith, length-append, Vec, vec_len, vec_capacity, inl, inr, ◌⊎◌}
-use Rattle.std.proofs.lemmas.Option.{slice_get-map, slice_get_cases, slice_get-get_or, get_or_from_slice_get}
+use Rattle.std.proofs.Common.{◌≡◌, ℕ, zero, suc, ◌+◌, ◌^◌, ◌<◌, ◌≤◌, Some, List, [], ◌∷◌, ◌++◌, length, map, take, drop, get_or, slice_get, refl, ap, sym, ◌∙◌, subst, arith, length-append, Vec, vec_len, vec_capacity, inl, inr, ◌⊎◌}
+use Rattle.std.proofs.lemmas.Option.{slice_get-map, slice_get_cases, slice_get-get_or}
 use Rattle.std.proofs.lemmas.List.{length-map, get_or_push, get_or_append_left}
 use Rattle.std.proofs.Math.ListN.{get_or-map}
 use Rattle.std.proofs.Math.Seq.{take-append_seam}
@@ -18,14 +18,14 @@ use Rattle.client_calls.specs.declared.reply.Reply.{Reply}
 use Rattle.client_calls.specs.Commands.{command_of}
 use Rattle.client_calls.specs.Shows.{ShowsReplies}
 use Rattle.client_script.specs.Scripts.{additions_of}
-use Rattle.account_model.specs.Accounts.{Account, newcomer}
+use Rattle.account_model.specs.Accounts.{Account}
 use Rattle.account_model.specs.Closing.{AreOurs}
-use Rattle.account_model.specs.ClientRuns.{HasRun, HaveRun}
+use Rattle.account_model.specs.ClientRuns.{HasRun}
 use Rattle.client_run.specs.declared.jobs.Job.{Job}
 use Rattle.client_run.specs.Answers.{ShowsEntries}
 use Rattle.client_run.specs.Transcripts.{HasTold}
 use Rattle.client_run.specs.Parts.{client_of, replies_of, accepted_of}
-use Rattle.client_run.specs.Jobs.{commands_in, FitBatches, AreNew, HaveTold, HaveEntries, IsRoom, IsReady, IsDone, AreReady, AreDone}
+use Rattle.client_run.specs.Jobs.{commands_in, FitBatches, AreNew, HaveTold, HaveEntries, IsRoom, AreReady, AreDone}
 use Rattle.client_run.proofs.Lists.{all_at}
 
 below_or_at : (i n : ℕ) → i < n + 1 → (i < n) ⊎ (i ≡ n)

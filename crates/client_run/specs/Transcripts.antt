@@ -1,6 +1,5 @@
 -- What all commands of a client come to.
 use Rattle.std.specs.Prelude.{◌≡◌, ℕ, List, [], ◌∷◌, ◌++◌}
-use Rattle.std.specs.List.{AllZip}
 use Rattle.wp_model.specs.Batch.{Record}
 use Rattle.wp_model.specs.Trace.{Settings}
 use Rattle.wp_model.specs.Runs.{commands_of}

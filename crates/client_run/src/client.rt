@@ -43,7 +43,9 @@ pub fn run_client<E: Engine, G: Gate, R: Wait>(
 {
     runs_end();
     gate.started(number);
-    run_commands(rt, alloc, engine, gate, client, number, commands, replies, accepted);
+    run_commands(
+        rt, alloc, engine, gate, client, number, commands, replies, accepted,
+    );
     engine.end(rt, client);
 }
 

@@ -28,8 +28,8 @@ pub fn commit<E: Engine, R: Wait>(
     requires entries { ShowsEntries accepted.old.items (E.account client.old).mine }
     requires room { vec_len accepted.old < vec_capacity accepted.old }
     ensures belongs { E.belongs engine.now client.new }
-    ensures answers { Answers (E.settings engine.now) (E.account client.old) (records_in pending.old) (calls.commit options)
-        result (E.account client.new) (records_in pending.new) }
+    ensures answers { Answers (E.settings engine.now) (E.account client.old) (records_in pending.old)
+        (calls.commit options) result (E.account client.new) (records_in pending.new) }
     ensures left { IsLeft (records_in pending.old) (calls.commit options) (records_in pending.new) }
     ensures entries { ShowsEntries accepted.new.items (E.account client.new).mine }
     ensures len { vec_len accepted.new ≤ vec_len accepted.old + 1 }
@@ -65,12 +65,12 @@ fn entry_of(receipt: Receipt, client: u32, ordinal: u64, options: WriteOptions) 
     requires some { 1 ≤ receipt.count }
     requires fits { receipt.first + receipt.count ≤ 2 ^ 64 }
     ensures { result ≡ record {
-        client = client;
-        ordinal = ordinal;
-        first = receipt.first;
-        last = receipt.first + receipt.count - 1;
-        flag = history.flag_of options;
-        batch = receipt.batch;
+      client = client;
+      ordinal = ordinal;
+      first = receipt.first;
+      last = receipt.first + receipt.count - 1;
+      flag = history.flag_of options;
+      batch = receipt.batch;
     } }
 {
     Entry {

@@ -19,3 +19,6 @@ mod tokens;
 
 pub use client::run_client;
 pub use run::{Transcripts, run_clients};
+
+#[cfg(test)]
+mod tests;

@@ -2,7 +2,8 @@
 
 ghost use Rattle.std.specs.Prelude.{◌≡◌, ◌+◌, ◌<◌, ◌≤◌, ◌^◌, length, map, IfOk, IfErr};
 ghost use Rattle.account_model.specs.Closing.{AreOurs};
-ghost use Rattle.client_run.specs.Jobs.{commands_in, FitBatches, AreNew, IsReady, IsDone, AreReady, AreDone, IsRoom, HaveTold, HaveEntries};
+ghost use Rattle.client_run.specs.Jobs.{commands_in, FitBatches, AreNew, HaveTold, HaveEntries};
+ghost use Rattle.client_run.specs.Jobs.{IsRoom, IsReady, IsDone, AreReady, AreDone};
 
 use crate::client::run_client;
 use crate::jobs::{Job, empty, fill};

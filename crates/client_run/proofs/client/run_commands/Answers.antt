@@ -1,10 +1,9 @@
-use Rattle.std.proofs.Common.{◌≡◌, ◌+◌, ◌<◌, List, length, map, take, drop, refl, ap, sym, ◌∙◌, subst, arith}
+use Rattle.std.proofs.Common.{◌≡◌, ◌+◌, ◌<◌, List, length, map, take, drop, refl, sym, subst, arith}
 use Rattle.std.proofs.lemmas.List.{take_all}
-use Rattle.wp_model.specs.Calls as calls
 use Rattle.client_calls.specs.declared.command.Command.{Command}
 use Rattle.client_calls.specs.Commands.{command_of}
 use Rattle.client_run.specs.Answers.{records_in, HasRoom}
-use Rattle.client_run.specs.Transcripts.{HasGone, HasStopped, through, short}
+use Rattle.client_run.specs.Transcripts.{HasGone, through, short}
 use Rattle.client_run.proofs.Lists.{mapped_more, mapped_first, mapped_splits}
 use Rattle.client_run.proofs.Rooms.{has_room, fits_still}
 use Rattle.client_run.proofs.Going.{gone_none, gone_more}

@@ -1,11 +1,8 @@
-use Rattle.std.proofs.Common.{◌≡◌, ◌+◌, ◌-◌, Some, None, List, [], refl, ap, sym, ◌∙◌, subst, arith, inl, inr, ℕ, length}
+use Rattle.std.proofs.Common.{◌≡◌, ◌+◌, ◌-◌, Some, None, [], refl, ap, sym, ◌∙◌, subst, arith, inr}
 use Rattle.std.proofs.lemmas.List.{append-nil}
 use Rattle.wp_model.specs.declared.write.Refusal.TheVariants.{Empty}
 use Rattle.wp_model.specs.Calls as calls
-use Rattle.wp_model.specs.Batch.{Record}
-use Rattle.wp_model.specs.History as history
 use Rattle.write_batch.specs.Contents.{Contents}
-use Rattle.client_calls.specs.declared.entry.Entry.{Entry}
 use Rattle.client_run.specs.Answers.{records_in, ShowsEntries}
 use Rattle.client_run.proofs.Entries.{entries_more, refused_entries}
 use Rattle.client_run.proofs.committing.commit.Goals as goal
@@ -46,7 +43,7 @@ returns-in-Ok-clause-entries g c =
     let nth = c.len.ensures in
     let len = c.args.accepted.now.ok.0 in
     rw (c.push_reserved.ensures.items, c.entry_of-entry.ensures, c.in-Ok.ensures.ok.mine)
-    (entries_more v.number c.args.number _ receipt.first receipt.count _ v.mine c.args.options c.in-Some.batch.records receipt.batch c.args.accepted.now.items c.requires.entries
+    (entries_more v.number c.args.number (c.len.result + 1) receipt.first receipt.count (receipt.first + receipt.count - 1) v.mine c.args.options c.in-Some.batch.records receipt.batch c.args.accepted.now.items c.requires.entries
     c.requires.number (omega (arith, nth, len)) c.in-Ok.ensures.back.1 (refl {a = receipt.first + receipt.count - 1}) c.in-Ok.ensures.back.0)
 
 pub returns-in-NoMemory-clause-answers : goal.returns-in-NoMemory-clause-answers

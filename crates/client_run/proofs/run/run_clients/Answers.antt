@@ -1,6 +1,4 @@
-use Rattle.std.proofs.Common.{◌≡◌, ◌∙◌, ℕ, List, length, take, refl, ap, sym, arith, map}
-use Rattle.std.proofs.lemmas.List.{length-map}
-use Rattle.client_run.specs.declared.jobs.Job.{Job}
+use Rattle.std.proofs.Common.{◌∙◌, ap, sym, map}
 use Rattle.client_run.specs.Parts.{client_of, replies_of, accepted_of}
 use Rattle.client_run.proofs.Moves.{ready_all, done_ours, done_told, done_entries, whole_slice, jobs_count}
 use Rattle.client_run.proofs.run.run_clients.Goals as goal
