@@ -1,8 +1,8 @@
 //! The commands of each client, run over any write path that clients share, each client in a thread of its own.
 //!
 //! - [`run_clients`] runs all clients, and says of each that its replies are a transcript of its commands as far as the
-//!   client itself can tell (`HasRun` of `account_model`). What the write path gives up at its closing makes of these a
-//!   legal outcome.
+//!   client itself can tell (`HasRun` of `account_model`). [`finish`] closes the write path, and makes of these a legal
+//!   outcome.
 //! - All room for the replies and for the accepted batches is made before the first call of a client.
 //! - A client stops at its first call that finds no memory. As it stops or is through, it gives back what tokens it
 //!   holds.
@@ -11,6 +11,7 @@
 mod adding;
 mod answer;
 mod client;
+mod closing;
 mod committing;
 mod jobs;
 mod reading;
@@ -18,6 +19,7 @@ mod run;
 mod tokens;
 
 pub use client::run_client;
+pub use closing::finish;
 pub use run::{Transcripts, run_clients};
 
 #[cfg(test)]
