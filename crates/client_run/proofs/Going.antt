@@ -1,0 +1,58 @@
+-- A client on its way through its commands, and at their end.
+use Rattle.std.proofs.Common.{◌≡◌, ℕ, List, [], ◌∷◌, ◌++◌, refl, ap, sym, ◌∙◌, subst, append_assoc}
+use Rattle.std.proofs.lemmas.List.{map-append}
+use Rattle.wp_model.specs.Batch.{Record}
+use Rattle.wp_model.specs.Trace.{Settings}
+use Rattle.wp_model.specs.Runs.{commands_of}
+use Rattle.wp_model.specs.Calls.{Command, Call, no_memory}
+use Rattle.client_calls.specs.declared.reply.Reply.{Reply}
+use Rattle.client_calls.specs.declared.reply.Reply.TheVariants.{NoMemory}
+use Rattle.client_calls.specs.Shows.{ShowsReply}
+use Rattle.account_model.specs.Accounts.{Account, GivesBack}
+use Rattle.account_model.specs.ClientRuns.{Lacks, Went, HasRun, with_call}
+use Rattle.client_run.specs.Answers.{GoesOn}
+use Rattle.client_run.specs.Transcripts.{HasGone, HasStopped, through, short, HasTold}
+use Rattle.client_run.proofs.Lists.{zip_more}
+
+pub gone_none : (settings : Settings) (client : ℕ) (a : Account) → a.number ≡ client → Went settings [] a [] → HasGone settings client [] [] a []
+gone_none settings client a number went = record { calls = []; are = refl; shows = tt; number = number; went = went }
+
+commands_more : (calls : List Call) (c : Call) → commands_of (calls ++ c ∷ []) ≡ commands_of calls ++ c.command ∷ []
+commands_more calls c = map-append (λ (x : Call). x.command) calls (c ∷ [])
+
+pub gone_more : (settings : Settings) (client : ℕ) (done : List Command) (told : List Reply) (v : Account) (before : List Record) (gone : HasGone settings client done told v before)
+    (c : Command) (r : Reply) (w : Account) (after : List Record) (goes : GoesOn settings v before c r w after)
+    → Went settings (with_call gone.calls c goes.reply) w after → HasGone settings client (done ++ c ∷ []) (told ++ r ∷ []) w after
+gone_more settings client done told v before gone c r w after goes went = record {
+  calls = with_call gone.calls c goes.reply;
+  are = commands_more gone.calls (record { command = c; reply = goes.reply }) ∙ ap (λ (cs : List Command). cs ++ c ∷ []) gone.are;
+  shows = zip_more ShowsReply told gone.calls r (record { command = c; reply = goes.reply }) gone.shows goes.shows;
+  number = goes.goes.number ∙ gone.number;
+  went = went;
+}
+
+-- the laws of how a client's run ends
+abbrev pub EndsWhole : Settings → Type 0
+EndsWhole settings = (calls : List Call) (v : Account) (pending : List Record) (w : Account) → Went settings calls v pending → GivesBack v w
+    → HasRun settings v.number (commands_of calls) calls w
+
+abbrev pub EndsShort : Settings → Type 0
+EndsShort settings = (calls : List Call) (v : Account) (pending : List Record) (last : Command) (rest : List Command) (u w : Account) → Went settings calls v pending
+    → Lacks settings v pending last u → GivesBack u w → HasRun settings v.number (commands_of (with_call calls last no_memory) ++ rest) (with_call calls last no_memory) w
+
+pub has_told : (settings : Settings) (client : ℕ) (commands : List Command) (told : List Reply) (u w : Account) → EndsWhole settings → EndsShort settings
+    → HasStopped settings client commands told u → GivesBack u w → HasTold settings client commands told w
+has_told settings client commands told u w whole cut (through pending gone) back = record {
+  calls = gone.calls;
+  shows = gone.shows;
+  run = subst (λ (n : ℕ). HasRun settings n commands gone.calls w) gone.number (subst (λ (cs : List Command). HasRun settings u.number cs gone.calls w) gone.are (whole gone.calls u pending w gone.went back));
+}
+has_told settings client commands told u w whole cut (short done last rest answered pending v split are gone lacks) back =
+    let all = with_call gone.calls last no_memory in
+    let same : commands_of all ++ rest ≡ commands =
+    ap (λ (cs : List Command). cs ++ rest) (commands_more gone.calls (record { command = last; reply = no_memory }) ∙ ap (λ (cs : List Command). cs ++ last ∷ []) gone.are) ∙ (append_assoc done (last ∷ []) rest ∙ sym split) in
+    record {
+      calls = all;
+      shows = rw are (zip_more ShowsReply answered gone.calls NoMemory (record { command = last; reply = no_memory }) gone.shows refl);
+      run = subst (λ (n : ℕ). HasRun settings n commands all w) gone.number (subst (λ (cs : List Command). HasRun settings v.number cs all w) same (cut gone.calls v pending last rest u w gone.went lacks back));
+    }

@@ -1,0 +1,5 @@
+pub mod Lists
+pub mod Rooms
+pub mod Entries
+pub mod Going
+pub mod Moves

@@ -1,0 +1,184 @@
+-- From clients to jobs, and back.
+use Rattle.std.proofs.Common.{◌≡◌, ℕ, zero, suc, ◌+◌, ◌^◌, ◌<◌, ◌≤◌, Some, List, [], ◌∷◌, ◌++◌, length, map, take, drop, get_or, slice_get, refl, ap, sym, ◌∙◌, subst, arith, length-append, Vec, vec_len, vec_capacity, inl, inr, ◌⊎◌}
+use Rattle.std.proofs.lemmas.Option.{slice_get-map, slice_get_cases, slice_get-get_or}
+use Rattle.std.proofs.lemmas.List.{length-map, get_or_push, get_or_append_left}
+use Rattle.std.proofs.Math.ListN.{get_or-map}
+use Rattle.std.proofs.Math.Seq.{take-append_seam}
+use Rattle.std.specs.Option.{option_map}
+use Rattle.std.specs.List.{AllZip}
+use Rattle.std.specs.declared.alloc.Global.{Global}
+use Rattle.std.proofs.lemmas.Bool.{cases_lt}
+use Rattle.wp_model.specs.Batch.{size_of_batch}
+use Rattle.wp_model.specs.Trace.{Settings}
+use Rattle.wp_model.specs.Calls as calls
+use Rattle.write_batch.specs.Contents.{Contents}
+use Rattle.client_calls.specs.declared.command.Command.{Command}
+use Rattle.client_calls.specs.declared.entry.Entry.{Entry}
+use Rattle.client_calls.specs.declared.reply.Reply.{Reply}
+use Rattle.client_calls.specs.Commands.{command_of}
+use Rattle.client_calls.specs.Shows.{ShowsReplies}
+use Rattle.client_script.specs.Scripts.{additions_of}
+use Rattle.account_model.specs.Accounts.{Account}
+use Rattle.account_model.specs.Closing.{AreOurs}
+use Rattle.account_model.specs.ClientRuns.{HasRun}
+use Rattle.client_run.specs.declared.jobs.Job.{Job}
+use Rattle.client_run.specs.Answers.{ShowsEntries}
+use Rattle.client_run.specs.Transcripts.{HasTold}
+use Rattle.client_run.specs.Parts.{client_of, replies_of, accepted_of}
+use Rattle.client_run.specs.Jobs.{commands_in, FitBatches, AreNew, HaveTold, HaveEntries, IsRoom, AreReady, AreDone}
+use Rattle.client_run.proofs.Lists.{all_at}
+
+below_or_at : (i n : ℕ) → i < n + 1 → (i < n) ⊎ (i ≡ n)
+below_or_at i n h = elim (cases_lt i n) [ inl lt ↦ inl lt | inr ge ↦ inr (omega arith) ]
+
+-- one more list with room
+pub room_more : {X : Type 0} (script : List (Vec Command Global)) (room : List (Vec X Global)) (commands : Vec Command Global) (one : Vec X Global)
+    → IsRoom script room → one.items ≡ [] → vec_len one ≡ 0 → vec_len commands ≤ vec_capacity one → IsRoom (script ++ commands ∷ []) (room ++ one ∷ [])
+room_more script room commands one so_far none no_items enough =
+    let count = so_far.count in
+    let longer : length (script ++ commands ∷ []) ≡ length script + 1 = length-append script (commands ∷ []) in
+    record {
+      count = omega (arith, length-append room (one ∷ []));
+      each = λ i d h. elim (below_or_at i (length script) (omega (arith, longer))) [
+        | inl less ↦ (let less' : i < length room = omega arith in rw (get_or_append_left room (one ∷ []) d i less') (so_far.each i d less))
+        | inr is ↦ rw (get_or_push room one d i (count ∙ sym is)) (none, no_items)
+      ];
+      fits = λ i d v h. elim (below_or_at i (length script) (omega (arith, longer))) [
+        | inl less ↦ (let less' : i < length room = omega arith in rw (get_or_append_left room (one ∷ []) d i less', get_or_append_left script (commands ∷ []) v i less) (so_far.fits i d v less))
+        | inr is ↦ rw (get_or_push room one d i (count ∙ sym is), get_or_push script commands v i (sym is)) enough
+      ];
+    }
+
+-- what the jobs at each place show of the lists that they are taken apart into
+module _ {A B : Type 0} (R : A → B → Type 0) where
+  pub zip_each : {J : Type 0} (jobs : List J) (f : J → A) (h : J → B) → ((i : ℕ) (d : J) → i < length jobs → R (f (get_or jobs i d)) (h (get_or jobs i d))) → AllZip R (map f jobs) (map h jobs)
+  zip_each [] f h each = tt
+  zip_each (j ∷ jobs) f h each = (each 0 j (omega arith), zip_each jobs f h (λ i d less. each (suc i) d (omega (arith, less))))
+
+map_both : {A B D : Type 0} (f : B → D) (h : A → B) (xs : List A) → map f (map h xs) ≡ map (λ x. f (h x)) xs
+map_both f h [] = refl
+map_both f h (x ∷ xs) = ap (λ ys. f (h x) ∷ ys) (map_both f h xs)
+
+module _ {C : Type 0} (belongs : C → Type 0) (account : C → Account) (settings : Settings) (script : List (Vec Command Global)) where
+  pub ready_all : (clients : List C) (replies : List (Vec Reply Global)) (accepted : List (Vec (Entry Contents) Global)) (jobs : List (Job C))
+      → AreOurs belongs account settings.clients clients → AreNew account settings.start clients → length script ≡ settings.clients → length script < 2 ^ 32 → FitBatches (commands_in script)
+      → IsRoom script replies → IsRoom script accepted
+      → map client_of jobs ≡ clients → map replies_of jobs ≡ replies → map accepted_of jobs ≡ accepted → AreReady belongs account settings script jobs
+  ready_all clients replies accepted jobs ours new many few fit for_replies for_accepted from_clients from_replies from_accepted = record {
+    each = λ i d h.
+        let j = get_or jobs i d in
+        let count : length jobs ≡ length clients = sym (length-map jobs client_of) ∙ ap length from_clients in
+        let total = ours.number_of in
+        let inside : i < length script = omega arith in
+        let at : slice_get clients i ≡ Some j.client = sym (ap (λ cs. slice_get cs i) from_clients) ∙ (slice_get-map client_of jobs i ∙ ap (option_map client_of) (slice_get-get_or jobs i d h)) in
+        let told : get_or replies i d.replies ≡ j.replies = sym (ap (λ r. get_or r i d.replies) from_replies) ∙ get_or-map replies_of jobs i d in
+        let taken : get_or accepted i d.accepted ≡ j.accepted = sym (ap (λ r. get_or r i d.accepted) from_accepted) ∙ get_or-map accepted_of jobs i d in
+        let no_replies = rw told at (for_replies.each i d.replies inside) in
+        let no_batches = rw taken at (for_accepted.each i d.accepted inside) in
+        record {
+          within = inside;
+          few = omega (arith, few, inside);
+          ours = (ours.each i j.client at).0;
+          new = new.each i j.client at;
+          none = (no_replies.0, no_batches.0);
+          empty = (no_replies.1, no_batches.1);
+          fits = λ v. subst (λ (cs : List calls.Command). size_of_batch (additions_of cs) ≤ 16777216) (get_or-map (λ (cs : Vec Command Global). map command_of cs.items) script i v)
+              (all_at (λ (cs : List calls.Command). size_of_batch (additions_of cs) ≤ 16777216) (commands_in script) i (map command_of v.items) fit (let same = length-map script (λ (cs : Vec Command Global). map command_of cs.items) in omega (arith, inside, same)));
+          room = λ v. (rw told at (for_replies.fits i d.replies v inside), rw taken at (for_accepted.fits i d.accepted v inside));
+        };
+  }
+
+  -- the job from which a client comes
+  record Origin (jobs : List (Job C)) (i : ℕ) (c : C) : Type 0 where
+    pub from : Job C
+    pub within : i < length jobs
+    pub is : get_or jobs i from ≡ from
+    pub gives : from.client ≡ c
+
+  origin : (jobs : List (Job C)) (i : ℕ) (c : C) → slice_get (map client_of jobs) i ≡ Some c → Origin jobs i c
+  origin jobs i c h =
+      let e = slice_get-map client_of jobs i in
+      elim (slice_get_cases jobs i).1 [
+        | inl w ↦ record { from = w.0; within = w.1; is = w.3; gives = cc (sym e ∙ h, ap (option_map client_of) w.2) }
+        | inr w ↦ absurd (cc (sym e ∙ h, ap (option_map client_of) w.1))
+      ]
+
+  pub done_ours : (jobs : List (Job C)) (clients : List C) → AreDone belongs account settings script jobs → length jobs ≡ settings.clients → clients ≡ map client_of jobs
+      → AreOurs belongs account settings.clients clients
+  done_ours jobs clients done count are = record {
+    number_of = ap length are ∙ (length-map jobs client_of ∙ count);
+    each = λ i c h.
+        let o = origin jobs i c (sym (ap (λ cs. slice_get cs i) are) ∙ h) in
+        let d = rw o.is at (done.each i o.from o.within) in
+        (subst belongs o.gives d.ours, ap (λ x. (account x).number) (sym o.gives) ∙ d.number);
+  }
+
+  pub done_entries : (jobs : List (Job C)) (clients : List C) (accepted : List (Vec (Entry Contents) Global)) → AreDone belongs account settings script jobs
+      → clients ≡ map client_of jobs → accepted ≡ map accepted_of jobs → HaveEntries accepted (map account clients)
+  done_entries jobs clients accepted done are accepted_are =
+      rw (are, accepted_are, map_both account client_of jobs)
+      (zip_each (λ (v : Vec (Entry Contents) Global) (a : Account). ShowsEntries v.items a.mine) jobs accepted_of (λ (j : Job C). account (client_of j)) (λ i d less. (done.each i d less).accepted))
+
+  -- the transcripts of the clients from the one behind the number `n` on
+  record Collected (n : ℕ) (jobs : List (Job C)) (rest : List (Vec Command Global)) : Type 0 where
+    pub transcripts : List (List calls.Call)
+    pub count : length transcripts ≡ length rest
+    pub show : AllZip (λ v. ShowsReplies v.items) (map replies_of jobs) transcripts
+    pub each : (i k : ℕ) (commands : List calls.Command) (made : List calls.Call) (a : Account) → k ≡ n + i + 1
+        → slice_get (commands_in rest) i ≡ Some commands → slice_get transcripts i ≡ Some made → slice_get (map account (map client_of jobs)) i ≡ Some a
+        → HasRun settings k commands made a
+
+  same_run : (k l : ℕ) (commands some : List calls.Command) (made own : List calls.Call) (a b : Account) → k ≡ l → Some some ≡ Some commands → Some own ≡ Some made → Some b ≡ Some a
+      → HasRun settings l some own b → HasRun settings k commands made a
+  same_run k l commands some made own a b is e f h run =
+      let e' : some ≡ commands = cc e in let f' : own ≡ made = cc f in let h' : b ≡ a = cc h in rw (is, ← e', ← f', ← h') run
+
+  abbrev TellsEach : ℕ → List (Job C) → List (Vec Command Global) → Type 0
+  TellsEach n jobs rest = (i k : ℕ) (d : Job C) (v : Vec Command Global) → i < length jobs → k ≡ n + i + 1
+      → HasTold settings k (map command_of (get_or rest i v).items) (get_or jobs i d).replies.items (account (get_or jobs i d).client)
+
+  collect : (n : ℕ) (jobs : List (Job C)) (rest : List (Vec Command Global)) → length jobs ≡ length rest → TellsEach n jobs rest → Collected n jobs rest
+  collect n [] [] same told = record { transcripts = []; count = refl; show = tt; each = λ i k commands made a is h f b. absurd (cc h) }
+  collect n [] (s ∷ rest) same told = absurd (omega (arith, same))
+  collect n (j ∷ jobs) [] same told = absurd (omega (arith, same))
+  collect n (j ∷ jobs) (s ∷ rest) same told =
+      let first = told 0 (n + 1) j s (omega arith) (omega arith) in
+      let others = collect (n + 1) jobs rest (omega (arith, same)) (λ i k d v less is. told (suc i) k d v (omega (arith, less)) (omega (arith, is))) in
+      record {
+        transcripts = first.calls ∷ others.transcripts;
+        count = ap suc others.count;
+        show = (first.shows, others.show);
+        each = λ i k commands made a is h f b. each_at first.calls others.transcripts first.run others.each i k commands made a is h f b;
+      }
+    where
+      each_at : (own : List calls.Call) (transcripts : List (List calls.Call)) → HasRun settings (n + 1) (map command_of s.items) own (account j.client)
+          → ((i k : ℕ) (commands : List calls.Command) (made : List calls.Call) (a : Account) → k ≡ n + 1 + i + 1
+          → slice_get (commands_in rest) i ≡ Some commands → slice_get transcripts i ≡ Some made → slice_get (map account (map client_of jobs)) i ≡ Some a → HasRun settings k commands made a)
+          → (i k : ℕ) (commands : List calls.Command) (made : List calls.Call) (a : Account) → k ≡ n + i + 1
+          → slice_get (commands_in (s ∷ rest)) i ≡ Some commands → slice_get (own ∷ transcripts) i ≡ Some made → slice_get (map account (map client_of (j ∷ jobs))) i ≡ Some a
+          → HasRun settings k commands made a
+      each_at own transcripts run others zero k commands made a is h f b = same_run k (n + 1) commands (map command_of s.items) made own a (account j.client) (omega (arith, is)) h f b run
+      each_at own transcripts run others (suc i) k commands made a is h f b = others i k commands made a (omega (arith, is)) h f b
+
+  pub done_told : (jobs : List (Job C)) (clients : List C) (replies : List (Vec Reply Global)) → AreDone belongs account settings script jobs → length jobs ≡ length script
+      → clients ≡ map client_of jobs → replies ≡ map replies_of jobs → HaveTold settings (commands_in script) replies (map account clients)
+  done_told jobs clients replies done same are replies_are =
+      let all = collect 0 jobs script same (λ i k d v less is. (let here : k ≡ i + 1 = omega (arith, is) in rw here ((done.each i d less).told v))) in
+      let shorter = length-map script (λ (cs : Vec Command Global). map command_of cs.items) in
+      rw (are, replies_are) (record {
+        transcripts = all.transcripts;
+        show = all.show;
+        run = record {
+          clients = length-map (map client_of jobs) account ∙ (length-map jobs client_of ∙ (same ∙ sym shorter));
+          transcripts_of = all.count ∙ sym shorter;
+          each = λ i commands made a h f b. all.each i (i + 1) commands made a (omega arith) h f b;
+        };
+      })
+
+-- what a `Vec` has after a write to its whole slice
+pub whole_slice : {X : Type 0} (n : ℕ) (new old : List X) → length new ≡ n → take n (new ++ drop (length new) old) ≡ new
+whole_slice n new old count = subst (λ k. take k (new ++ drop (length new) old) ≡ new) count (take-append_seam new (drop (length new) old))
+
+-- as many jobs as clients
+pub jobs_count : {C : Type 0} (jobs : List (Job C)) (clients : List C) → map client_of jobs ≡ clients → length jobs ≡ length clients
+jobs_count jobs clients e = sym (length-map jobs client_of) ∙ ap length e

@@ -1,0 +1,4 @@
+pub mod Answers
+pub mod Transcripts
+pub mod Parts
+pub mod Jobs

@@ -1,0 +1,16 @@
+-- The parts of a client's job.
+use Rattle.std.specs.Prelude.{Vec}
+use Rattle.std.specs.declared.alloc.Global.{Global}
+use Rattle.write_batch.specs.Contents.{Contents}
+use Rattle.client_calls.specs.declared.entry.Entry.{Entry}
+use Rattle.client_calls.specs.declared.reply.Reply.{Reply}
+use Rattle.client_run.specs.declared.jobs.Job.{Job}
+
+abbrev pub client_of : {C : Type 0} → Job C → C
+client_of job = job.client
+
+abbrev pub replies_of : {C : Type 0} → Job C → Vec Reply Global
+replies_of job = job.replies
+
+abbrev pub accepted_of : {C : Type 0} → Job C → Vec (Entry Contents) Global
+accepted_of job = job.accepted

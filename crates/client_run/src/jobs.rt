@@ -1,0 +1,73 @@
+//! Each client's part of a run.
+
+ghost use Rattle.std.specs.Prelude.{◌≡◌, ◌+◌, ◌<◌, ◌≤◌, [], map, vec_len, vec_capacity};
+ghost use Rattle.client_run.specs.Parts.{client_of, replies_of, accepted_of};
+
+use client_calls::{Entry, Reply};
+use write_batch::Batch;
+
+/// A client with what it was told and its accepted batches, or with the room for them.
+pub struct Job<C> {
+    pub client: C,
+    pub replies: Vec<Reply>,
+    pub accepted: Vec<Entry<Batch>>,
+}
+
+/// Moves each client and its room into a job.
+pub fn fill<C>(
+    clients: &mut Vec<C>,
+    replies: &mut Vec<Vec<Reply>>,
+    accepted: &mut Vec<Vec<Entry<Batch>>>,
+    jobs: &mut Vec<Job<C>>,
+)
+    requires same { (vec_len clients.old ≡ vec_len replies.old) × (vec_len clients.old ≡ vec_len accepted.old) }
+    requires none { jobs.old.items ≡ [] }
+    requires empty { vec_len jobs.old ≡ 0 }
+    requires room { vec_len clients.old ≤ vec_capacity jobs.old }
+    ensures clients { map client_of jobs.new.items ≡ clients.old.items }
+    ensures replies { map replies_of jobs.new.items ≡ replies.old.items }
+    ensures accepted { map accepted_of jobs.new.items ≡ accepted.old.items }
+    ensures none { (clients.new.items ≡ []) × (replies.new.items ≡ []) × (accepted.new.items ≡ []) }
+    ensures empty { (vec_len clients.new ≡ 0) × (vec_len replies.new ≡ 0) × (vec_len accepted.new ≡ 0) }
+    ensures capacity { (vec_capacity clients.new ≡ vec_capacity clients.old)
+        × (vec_capacity replies.new ≡ vec_capacity replies.old)
+        × (vec_capacity accepted.new ≡ vec_capacity accepted.old) }
+{
+    while !clients.is_empty() {
+        let client = clients.remove(0);
+        jobs.push_reserved(Job {
+            client,
+            replies: replies.remove(0),
+            accepted: accepted.remove(0),
+        });
+    }
+}
+
+/// Takes all jobs apart.
+pub fn empty<C>(
+    jobs: &mut Vec<Job<C>>,
+    clients: &mut Vec<C>,
+    replies: &mut Vec<Vec<Reply>>,
+    accepted: &mut Vec<Vec<Entry<Batch>>>,
+)
+    requires none { (clients.old.items ≡ []) × (replies.old.items ≡ []) × (accepted.old.items ≡ []) }
+    requires empty { (vec_len clients.old ≡ 0) × (vec_len replies.old ≡ 0) × (vec_len accepted.old ≡ 0) }
+    requires room { (vec_len jobs.old ≤ vec_capacity clients.old) × (vec_len jobs.old ≤ vec_capacity replies.old)
+        × (vec_len jobs.old ≤ vec_capacity accepted.old) }
+    ensures clients { clients.new.items ≡ map client_of jobs.old.items }
+    ensures replies { replies.new.items ≡ map replies_of jobs.old.items }
+    ensures accepted { accepted.new.items ≡ map accepted_of jobs.old.items }
+    ensures empty { vec_len jobs.new ≡ 0 }
+{
+    while !jobs.is_empty() {
+        let job = jobs.remove(0);
+        let Job {
+            client,
+            replies: told,
+            accepted: batches,
+        } = job;
+        clients.push_reserved(client);
+        replies.push_reserved(told);
+        accepted.push_reserved(batches);
+    }
+}

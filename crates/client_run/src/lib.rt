@@ -1,0 +1,26 @@
+//! The commands of each client, run over any write path that clients share, each client in a thread of its own.
+//!
+//! - [`run_clients`] runs all clients, and says of each that its replies are a transcript of its commands as far as the
+//!   client itself can tell (`HasRun` of `account_model`). [`finish`] closes the write path, and makes of these a legal
+//!   outcome.
+//! - All room for the replies and for the accepted batches is made before the first call of a client.
+//! - A client stops at its first call that finds no memory. As it stops or is through, it gives back what tokens it
+//!   holds.
+#![tactic(auto)]
+
+mod adding;
+mod answer;
+mod client;
+mod closing;
+mod committing;
+mod jobs;
+mod reading;
+mod run;
+mod tokens;
+
+pub use client::run_client;
+pub use closing::finish;
+pub use run::{Transcripts, run_clients};
+
+#[cfg(test)]
+mod tests;

@@ -1,0 +1,133 @@
+//! All clients, each in a thread of its own.
+
+ghost use Rattle.std.specs.Prelude.{◌≡◌, ◌+◌, ◌<◌, ◌≤◌, ◌^◌, length, map, IfOk, IfErr};
+ghost use Rattle.account_model.specs.Closing.{AreOurs};
+ghost use Rattle.client_run.specs.Jobs.{commands_in, FitBatches, AreNew, HaveTold, HaveEntries};
+ghost use Rattle.client_run.specs.Jobs.{IsRoom, IsReady, IsDone, AreReady, AreDone};
+
+use crate::client::run_client;
+use crate::jobs::{Job, empty, fill};
+use client_calls::{Command, Entry, Reply};
+use engine_calls::{Engine, Gate};
+use std::alloc::Global;
+use std::sync::Wait;
+use std::thread;
+use std::thread::Threads;
+use wp_model::NoMemory;
+use write_batch::Batch;
+
+/// The clients, handed back, with what each was told and its accepted batches, all in order of the clients' numbers.
+pub struct Transcripts<C> {
+    pub clients: Vec<C>,
+    pub replies: Vec<Vec<Reply>>,
+    pub accepted: Vec<Vec<Entry<Batch>>>,
+}
+
+/// Runs the commands of all clients, each client's in a thread of its own, or in the caller's where none can be made.
+///
+/// A client that finds no memory stops there. Want of memory for the run itself is answered before any call, with the
+/// clients as they were.
+pub fn run_clients<E: Engine + Sync, G: Gate + Sync, R: Threads + Wait + Sync>(
+    rt: &R,
+    alloc: Global,
+    engine: &E,
+    mut clients: Vec<E::Client>,
+    script: &[Vec<Command>],
+    gate: &G,
+) -> Result<Transcripts<E::Client>, (Vec<E::Client>, NoMemory)>
+where
+    E::Client: Send,
+    requires ours { AreOurs (E.belongs engine.now) E.account (E.settings engine.now).clients clients.items }
+    requires new { AreNew E.account (E.settings engine.now).start clients.items }
+    requires script { length script.now ≡ (E.settings engine.now).clients }
+    requires few { length script.now < 2 ^ 32 }
+    requires fits { FitBatches (commands_in script.now) }
+    ensures ours { IfOk result (λ t. AreOurs (E.belongs engine.now) E.account (E.settings engine.now).clients
+        t.clients.items) }
+    ensures run { IfOk result (λ t. HaveTold (E.settings engine.now) (commands_in script.now) t.replies.items
+        (map E.account t.clients.items)) }
+    ensures accepted { IfOk result (λ t. HaveEntries t.accepted.items (map E.account t.clients.items)) }
+    ensures err { IfErr result (λ e. e.0 ≡ clients) }
+{
+    let Ok(mut replies) = room_for(alloc, script) else {
+        return Err((clients, NoMemory));
+    };
+    let Ok(mut accepted) = room_for(alloc, script) else {
+        return Err((clients, NoMemory));
+    };
+    let Ok(mut jobs) = Vec::with_capacity(alloc, script.len()) else {
+        return Err((clients, NoMemory));
+    };
+    fill(&mut clients, &mut replies, &mut accepted, &mut jobs);
+    work_all(rt, alloc, engine, gate, script, jobs.as_mut_slice());
+    empty(&mut jobs, &mut clients, &mut replies, &mut accepted);
+    jobs.destroy_empty();
+    Ok(Transcripts {
+        clients,
+        replies,
+        accepted,
+    })
+}
+
+/// Room for one item a command, for each client.
+fn room_for<X: Drop>(alloc: Global, script: &[Vec<Command>]) -> Result<Vec<Vec<X>>, NoMemory>
+    ensures { IfOk result (λ room. IsRoom script.now room.items) }
+{
+    let mut all = Vec::new(alloc);
+    for commands in script {
+        all.push(Vec::with_capacity(alloc, commands.len())?)?;
+    }
+    Ok(all)
+}
+
+/// Runs each client in a thread of its own.
+fn work_all<E: Engine + Sync, G: Gate + Sync, R: Threads + Wait + Sync>(
+    rt: &R,
+    alloc: Global,
+    engine: &E,
+    gate: &G,
+    script: &[Vec<Command>],
+    jobs: &mut [Job<E::Client>],
+)
+where
+    E::Client: Send,
+    requires { AreReady (E.belongs engine.now) E.account (E.settings engine.now) script.now jobs.old }
+    ensures { AreDone (E.belongs engine.now) E.account (E.settings engine.now) script.now jobs.new }
+{
+    let threads = jobs.len();
+    if threads == 0 {
+        return;
+    }
+    let each = |i: usize, job: &mut Job<E::Client>|
+        requires { IsReady (E.belongs engine.now) E.account (E.settings engine.now) script.now i job.now }
+        ensures { IsDone (E.belongs engine.entry.now) E.account (E.settings engine.entry.now) script.entry.now i
+            job.exit.now }
+    { work(rt, alloc, engine, gate, script, i, job) };
+    thread::for_each_mut(rt, jobs, threads, &each);
+}
+
+/// Runs one client.
+fn work<E: Engine, G: Gate, R: Wait>(
+    rt: &R,
+    alloc: Global,
+    engine: &E,
+    gate: &G,
+    script: &[Vec<Command>],
+    i: usize,
+    job: &mut Job<E::Client>,
+)
+    requires { IsReady (E.belongs engine.now) E.account (E.settings engine.now) script.now i job.old }
+    ensures { IsDone (E.belongs engine.now) E.account (E.settings engine.now) script.now i job.new }
+{
+    run_client(
+        rt,
+        alloc,
+        engine,
+        gate,
+        &mut job.client,
+        i as u32 + 1,
+        script[i].as_slice(),
+        &mut job.replies,
+        &mut job.accepted,
+    );
+}

@@ -1,0 +1,71 @@
+//! A client's tokens of the write controller.
+
+ghost use Rattle.std.specs.Prelude.{◌≡◌, List};
+ghost use Rattle.wp_model.specs.Batch.{Record};
+ghost use Rattle.wp_model.specs.Calls as calls;
+ghost use Rattle.client_run.specs.Answers.{GoesOn};
+
+use account_model::{slowdowns_are_steps, stops_are_steps};
+use client_calls::Reply;
+use engine_calls::{Engine, Held, NotHeld};
+use std::sync::Wait;
+
+/// Takes the stop token.
+pub fn stop<E: Engine, R: Wait>(rt: &R, engine: &E, client: &mut E::Client) -> Reply
+    requires { E.belongs engine.now client.old }
+    ensures belongs { E.belongs engine.now client.new }
+    ensures goes { (pending : List Record) → GoesOn (E.settings engine.now) (E.account client.old) pending calls.stop
+        result (E.account client.new) pending }
+    ensures mine { (E.account client.new).mine ≡ (E.account client.old).mine }
+{
+    stops_are_steps();
+    match engine.stop(rt, client) {
+        Ok(()) => Reply::Done,
+        Err(Held) => Reply::Held,
+    }
+}
+
+/// Gives it back.
+pub fn unstop<E: Engine, R: Wait>(rt: &R, engine: &E, client: &mut E::Client) -> Reply
+    requires { E.belongs engine.now client.old }
+    ensures belongs { E.belongs engine.now client.new }
+    ensures goes { (pending : List Record) → GoesOn (E.settings engine.now) (E.account client.old) pending calls.unstop
+        result (E.account client.new) pending }
+    ensures mine { (E.account client.new).mine ≡ (E.account client.old).mine }
+{
+    stops_are_steps();
+    match engine.unstop(rt, client) {
+        Ok(()) => Reply::Done,
+        Err(NotHeld) => Reply::NotHeld,
+    }
+}
+
+/// Takes the slow token, with a rate.
+pub fn slow<E: Engine, R: Wait>(rt: &R, engine: &E, client: &mut E::Client, rate: u64) -> Reply
+    requires { E.belongs engine.now client.old }
+    ensures belongs { E.belongs engine.now client.new }
+    ensures goes { (pending : List Record) → GoesOn (E.settings engine.now) (E.account client.old) pending
+        (calls.slow rate) result (E.account client.new) pending }
+    ensures mine { (E.account client.new).mine ≡ (E.account client.old).mine }
+{
+    slowdowns_are_steps();
+    match engine.slow(rt, client, rate) {
+        Ok(()) => Reply::Done,
+        Err(Held) => Reply::Held,
+    }
+}
+
+/// Gives it back.
+pub fn unslow<E: Engine, R: Wait>(rt: &R, engine: &E, client: &mut E::Client) -> Reply
+    requires { E.belongs engine.now client.old }
+    ensures belongs { E.belongs engine.now client.new }
+    ensures goes { (pending : List Record) → GoesOn (E.settings engine.now) (E.account client.old) pending calls.unslow
+        result (E.account client.new) pending }
+    ensures mine { (E.account client.new).mine ≡ (E.account client.old).mine }
+{
+    slowdowns_are_steps();
+    match engine.unslow(rt, client) {
+        Ok(()) => Reply::Done,
+        Err(NotHeld) => Reply::NotHeld,
+    }
+}
