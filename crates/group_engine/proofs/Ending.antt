@@ -1,5 +1,5 @@
 -- What the closed parts of an engine come to.
-use Rattle.std.proofs.Common.{◌≡◌, ◌⊎◌, inl, inr, ℕ, zero, suc, ◌+◌, ◌-◌, ◌<◌, ◌≤◌, map, slice_get, List, [], ◌∷◌, ◌++◌, Option, Some, None, IfSome, length, refl, ap, sym, ◌∙◌, subst, ⊎_elim, arith}
+use Rattle.std.proofs.Common.{◌≡◌, ◌⊎◌, inl, inr, ℕ, zero, suc, ◌+◌, ◌-◌, map, slice_get, List, [], ◌∷◌, Option, Some, length, refl, ap, sym, ◌∙◌, subst, ⊎_elim, arith}
 use Rattle.std.specs.Option.{option_map}
 use Rattle.std.specs.List.{AllByRecursion}
 use Rattle.std.proofs.lemmas.Option.{slice_get-map, slice_get_cases}
@@ -12,12 +12,11 @@ use Rattle.wp_model.specs.LogContents.{GroupCall}
 use Rattle.wp_model.specs.Trace.{Trace}
 use Rattle.table_rule.specs.declared.view.Opening.{Opening}
 use Rattle.table_rule.specs.declared.content.MemberVersions.{MemberVersions}
-use Rattle.table_rule.specs.Histories.{In, Begins}
+use Rattle.table_rule.specs.Histories.{In}
 use Rattle.table_calls.specs.Account.{Account as TableAccount, IsReady, IsClosing as IsTableClosing}
 use Rattle.list_rule.specs.declared.view.Handling.{Handling}
 use Rattle.list_rule.specs.Chain.{of}
-use Rattle.writer_list.specs.declared.writer.Writer.{Writer}
-use Rattle.writer_list.specs.Seats.{table_of, clients_of, about_of, told, IsOut, AllOut, HasClient, AllThere, Merged}
+use Rattle.writer_list.specs.Seats.{table_of, clients_of, about_of, told, AllOut, HasClient, AllThere, Merged}
 use Rattle.group_engine.specs.declared.requests.Request.{Request}
 use Rattle.group_engine.specs.declared.requests.Reply.{Reply}
 use Rattle.group_engine.specs.declared.engine.GroupEngine.{GroupEngine}

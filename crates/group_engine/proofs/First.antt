@@ -1,5 +1,5 @@
 -- What holds of the things that a leader holds when an engine is opened.
-use Rattle.std.proofs.Common.{◌≡◌, ℕ, List, [], Option, None, refl, sym, subst}
+use Rattle.std.proofs.Common.{◌≡◌, ℕ, List, [], Option, None, sym, subst}
 use Rattle.wp_edge.specs.declared.disk.Disk.{Ghosts}
 use Rattle.wp_model.specs.Controller.{ControllerCall}
 use Rattle.log_writer.specs.declared.writer.LogWriter.{LogWriter}

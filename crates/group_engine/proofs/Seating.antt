@@ -1,5 +1,5 @@
 -- How the clients of an opened engine are made of their writers and seats.
-use Rattle.std.proofs.Common.{◌≡◌, ◌⊎◌, inl, inr, ℕ, zero, suc, ◌+◌, ◌-◌, ◌<◌, ◌≤◌, map, slice_get, List, [], ◌∷◌, ◌++◌, Some, length, refl, ap, sym, ◌∙◌, subst, ⊎_elim, arith}
+use Rattle.std.proofs.Common.{◌≡◌, ◌⊎◌, inl, inr, ℕ, zero, suc, ◌+◌, map, slice_get, List, [], ◌∷◌, ◌++◌, Some, length, vec_len, Vec, refl, ap, sym, ◌∙◌, subst, ⊎_elim, arith}
 use Rattle.std.specs.List.{range_with_len}
 use Rattle.wp_edge.specs.declared.disk.Disk.{Ghosts}
 use Rattle.table_rule.specs.declared.view.Opening.{Opening}
@@ -9,7 +9,6 @@ use Rattle.writer_list.specs.Seats.{clients_of}
 use Rattle.write_controller.specs.declared.controller.Controller.{Controller}
 use Rattle.write_controller.specs.declared.pass.Pass.{Pass}
 use Rattle.write_controller.specs.Passes.{seen_by, IsPassOf, client_of as pass_client}
-use Rattle.account_model.specs.Accounts.{newcomer}
 use Rattle.account_model.specs.Closing.{AreOurs}
 use Rattle.group_engine.specs.declared.engine.GroupEngine.{GroupEngine}
 use Rattle.group_engine.specs.declared.engine.Client.{Client}
@@ -68,8 +67,8 @@ module _ {T S : Type 0} (ours : T → S → Type 0) (account : S → TableAccoun
         (own.0, own.1, own.2, t.1 ∙ (let e : 1 + count ≡ suc count = omega arith in e)),
       )
 
-  pub seats_count : (count : ℕ) (seats : List S) → AreSeatsAtStart ours account table count seats → length seats ≡ count
-  seats_count count seats h = sym (map_size (λ (x : S). (account x).number) seats) ∙ (ap length h.numbers ∙ range_size 1 count)
+  pub seats_count : {Z : Type 0} (count : ℕ) (seats : Vec S Z) → AreSeatsAtStart ours account table count seats.items → vec_len seats ≡ count
+  seats_count count seats h = seats.ok.0 ∙ (sym (map_size (λ (x : S). (account x).number) seats.items) ∙ (ap length h.numbers ∙ range_size 1 count))
 
 module _ {C : Type 0} (controller : Controller C) where
   -- the last of the passes is that of the last client

@@ -1,4 +1,4 @@
-use Rattle.std.proofs.Common.{◌≡◌, ◌<◌, ℕ, ◌+◌, List, length, length-set, set, ap, sym, ◌∙◌, subst, arith}
+use Rattle.std.proofs.Common.{◌≡◌, ℕ, ◌+◌, length-set, ◌∙◌, subst}
 use Rattle.write_controller.specs.declared.pass.Pass.{Pass}
 use Rattle.write_controller.specs.Passes.{client_of, noted, seen_by, GoesOn, IsPassOf}
 use Rattle.group_engine.proofs.FirstPass.{each_after, first_at, history_before, last_seen}

@@ -1,4 +1,4 @@
-use Rattle.std.proofs.Common.{◌≡◌, ◌∙◌, length-set}
+use Rattle.std.proofs.Common.{◌∙◌, length-set}
 use Rattle.group_engine.proofs.FirstPass.{first_pass, noted_first}
 use Rattle.group_engine.proofs.opening.first_note.Goals as goal
 

@@ -1,10 +1,10 @@
-use Rattle.std.proofs.Common.{rules, ◌≡◌, ◌≤◌, ◌<◌, ◌+◌, ℕ, List, [], ◌∷◌, ◌++◌, map, length, vec_len, None, Some, IfSome, refl, sym, ap, ◌∙◌, subst, arith}
+use Rattle.std.proofs.Common.{rules, ◌≤◌, ℕ, List, [], map, length, IfSome, sym, ap, subst, arith}
 use Rattle.wp_model.specs.Counts.{Rose}
 use Rattle.log_writer.specs.Words.{fault_of, disk_of}
 use Rattle.log_writer.specs.Written.{Wrote}
 use Rattle.table_rule.specs.Histories.{In}
 use Rattle.table_calls.specs.Account.{IsReady, IsClosing as IsTableClosing}
-use Rattle.writer_list.specs.Seats.{table_of, clients_of, about_of, AllOut, AllThere, Merged}
+use Rattle.writer_list.specs.Seats.{table_of, clients_of, AllOut, AllThere, Merged}
 use Rattle.write_controller.specs.Passes.{noted, IsHistoryOf, IsNoteOf}
 use Rattle.account_model.specs.Closing.{all_attempts}
 use Rattle.group_rule.specs.Entries.{trace_of}

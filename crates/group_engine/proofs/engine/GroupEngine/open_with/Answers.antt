@@ -1,14 +1,13 @@
-use Rattle.std.proofs.Common.{rules, ◌≡◌, ◌≤◌, ◌<◌, ◌+◌, ℕ, List, [], ◌∷◌, length, vec_capacity, vec_len, refl, sym, ap, ◌∙◌, subst, arith}
+use Rattle.std.proofs.Common.{rules, ◌≡◌, ◌≤◌, ◌<◌, ◌+◌, [], vec_capacity, refl, sym, ap, ◌∙◌, subst, arith}
 use Rattle.wp_model.specs.History.{max_sequence}
 use Rattle.log_writer.specs.Words.{disk_of}
 use Rattle.log_writer.specs.Opening.{HasOpened}
 use Rattle.writer_list.specs.Seats.{clients_of}
 use Rattle.account_model.specs.Accounts.{newcomer}
 use Rattle.write_controller.specs.Passes.{noted, IsNoteOf}
-use Rattle.group_engine.specs.Handled.{AreHandled}
 use Rattle.group_engine.specs.Law.{StandsFor}
 use Rattle.group_engine.specs.Layout.{AreRoomy}
-use Rattle.group_engine.specs.AtStart.{AreSeatsAtStart, ArePassesAtStart}
+use Rattle.group_engine.specs.AtStart.{AreSeatsAtStart}
 use Rattle.group_engine.proofs.First.{stands_first, kept_first}
 use Rattle.group_engine.proofs.Seating.{seats_count, newcomer_at, are_ours, passes_at_start}
 use Rattle.group_engine.proofs.engine.GroupEngine.open_with.Goals as goal
@@ -16,10 +15,9 @@ use Rattle.group_engine.proofs.engine.GroupEngine.open_with.Goals as goal
 pub overflow_cast-count : goal.overflow_cast-count
 overflow_cast-count g c =
     let given = c.args.given in
-    let n = seats_count g.T.Table.ours g.T.Table.account given.table (g.T.Table.opening given.table).clients given.seats.clients.items c.requires.seats in
-    let len : vec_len given.seats.clients ≡ length given.seats.clients.items = search rules in
+    let n = seats_count g.T.Table.ours g.T.Table.account given.table (g.T.Table.opening given.table).clients given.seats.clients c.requires.seats in
     let few = c.requires.clients.1 in let is = c.len-count.ensures in
-    let small : c.len-count.result ≤ 16 = omega (arith, n, len, few, is) in
+    let small : c.len-count.result ≤ 16 = omega (arith, n, few, is) in
     search (rules, small)
 
 pub first_note-requires : goal.first_note-requires
@@ -30,10 +28,9 @@ first_note-requires g c =
 pub open-requires-clause-clients : goal.open-requires-clause-clients
 open-requires-clause-clients g c =
     let given = c.args.given in
-    let n = seats_count g.T.Table.ours g.T.Table.account given.table (g.T.Table.opening given.table).clients given.seats.clients.items c.requires.seats in
-    let len : vec_len given.seats.clients ≡ length given.seats.clients.items = search rules in
+    let n = seats_count g.T.Table.ours g.T.Table.account given.table (g.T.Table.opening given.table).clients given.seats.clients c.requires.seats in
     let some = c.requires.clients.0 in let few = c.requires.clients.1 in let is = c.len-count.ensures in
-    (omega (arith, n, len, some, is), omega (arith, n, len, few, is), refl)
+    (omega (arith, n, some, is), omega (arith, n, few, is), refl)
 
 pub open-requires-clause-log : goal.open-requires-clause-log
 open-requires-clause-log g c =
@@ -50,10 +47,9 @@ open-requires-clause-log g c =
 pub seat_all-requires-clause-engine : goal.seat_all-requires-clause-engine
 seat_all-requires-clause-engine g c =
     let given = c.args.given in
-    let n = seats_count g.T.Table.ours g.T.Table.account given.table (g.T.Table.opening given.table).clients given.seats.clients.items c.requires.seats in
-    let len : vec_len given.seats.clients ≡ length given.seats.clients.items = search rules in
+    let n = seats_count g.T.Table.ours g.T.Table.account given.table (g.T.Table.opening given.table).clients given.seats.clients c.requires.seats in
     let ok = c.in-Ok.ensures.ok.0 in let options = c.requires.options in let about = ok.2 in
-    let count : clients_of c.in-Ok.list ≡ (g.T.Table.opening given.table).clients = ok.0 ∙ (c.len-count.ensures ∙ (len ∙ n)) in
+    let count : clients_of c.in-Ok.list ≡ (g.T.Table.opening given.table).clients = ok.0 ∙ (c.len-count.ensures ∙ n) in
     let few = c.requires.clients.1 in (
       record {
         clients = sym count;
@@ -77,46 +73,41 @@ seat_all-requires-clause-engine g c =
 pub seat_all-requires-clause-seats : goal.seat_all-requires-clause-seats
 seat_all-requires-clause-seats g c =
     let given = c.args.given in
-    let n = seats_count g.T.Table.ours g.T.Table.account given.table (g.T.Table.opening given.table).clients given.seats.clients.items c.requires.seats in
-    let len : vec_len given.seats.clients ≡ length given.seats.clients.items = search rules in
+    let n = seats_count g.T.Table.ours g.T.Table.account given.table (g.T.Table.opening given.table).clients given.seats.clients c.requires.seats in
     let ok = c.in-Ok.ensures.ok.0 in
-    let count : clients_of c.in-Ok.list ≡ (g.T.Table.opening given.table).clients = ok.0 ∙ (c.len-count.ensures ∙ (len ∙ n)) in
+    let count : clients_of c.in-Ok.list ≡ (g.T.Table.opening given.table).clients = ok.0 ∙ (c.len-count.ensures ∙ n) in
     subst (λ k. AreSeatsAtStart g.T.Table.ours g.T.Table.account given.table k given.seats.clients.items) (sym count) c.requires.seats
 
 pub seat_all-requires-clause-passes : goal.seat_all-requires-clause-passes
 seat_all-requires-clause-passes g c =
     let given = c.args.given in
-    let n = seats_count g.T.Table.ours g.T.Table.account given.table (g.T.Table.opening given.table).clients given.seats.clients.items c.requires.seats in
-    let len : vec_len given.seats.clients ≡ length given.seats.clients.items = search rules in
+    let n = seats_count g.T.Table.ours g.T.Table.account given.table (g.T.Table.opening given.table).clients given.seats.clients c.requires.seats in
     let ok = c.in-Ok.ensures.ok.0 in let passes = c.first_note.ensures.passes in
-    let count : clients_of c.in-Ok.list ≡ (g.T.Table.opening given.table).clients = ok.0 ∙ (c.len-count.ensures ∙ (len ∙ n)) in
+    let count : clients_of c.in-Ok.list ≡ (g.T.Table.opening given.table).clients = ok.0 ∙ (c.len-count.ensures ∙ n) in
     (passes.0, passes.1 ∙ (c.requires.controller.number ∙ sym count))
 
 pub seat_all-requires-clause-layouts : goal.seat_all-requires-clause-layouts
 seat_all-requires-clause-layouts g c =
     let given = c.args.given in
-    let n = seats_count g.T.Table.ours g.T.Table.account given.table (g.T.Table.opening given.table).clients given.seats.clients.items c.requires.seats in
-    let len : vec_len given.seats.clients ≡ length given.seats.clients.items = search rules in
+    let n = seats_count g.T.Table.ours g.T.Table.account given.table (g.T.Table.opening given.table).clients given.seats.clients c.requires.seats in
     let ok = c.in-Ok.ensures.ok.0 in let layouts = c.requires.layouts in
-    let count : clients_of c.in-Ok.list ≡ (g.T.Table.opening given.table).clients = ok.0 ∙ (c.len-count.ensures ∙ (len ∙ n)) in
+    let count : clients_of c.in-Ok.list ≡ (g.T.Table.opening given.table).clients = ok.0 ∙ (c.len-count.ensures ∙ n) in
     (subst (λ k. AreRoomy k c.args.layouts.items) (sym count) layouts.0, layouts.1 ∙ sym count)
 
 pub seat_all-requires-clause-clients : goal.seat_all-requires-clause-clients
 seat_all-requires-clause-clients g c =
     let given = c.args.given in
-    let n = seats_count g.T.Table.ours g.T.Table.account given.table (g.T.Table.opening given.table).clients given.seats.clients.items c.requires.seats in
-    let len : vec_len given.seats.clients ≡ length given.seats.clients.items = search rules in
+    let n = seats_count g.T.Table.ours g.T.Table.account given.table (g.T.Table.opening given.table).clients given.seats.clients c.requires.seats in
     let ok = c.in-Ok.ensures.ok.0 in let room = c.requires.room in
-    let count : clients_of c.in-Ok.list ≡ (g.T.Table.opening given.table).clients = ok.0 ∙ (c.len-count.ensures ∙ (len ∙ n)) in
+    let count : clients_of c.in-Ok.list ≡ (g.T.Table.opening given.table).clients = ok.0 ∙ (c.len-count.ensures ∙ n) in
     (room.0, subst (λ k. k ≤ vec_capacity c.args.clients) (sym count) room.1)
 
 pub returns-in-Ok-clause-engine : goal.returns-in-Ok-clause-engine
 returns-in-Ok-clause-engine g c =
     let given = c.args.given in
-    let n = seats_count g.T.Table.ours g.T.Table.account given.table (g.T.Table.opening given.table).clients given.seats.clients.items c.requires.seats in
-    let len : vec_len given.seats.clients ≡ length given.seats.clients.items = search rules in
+    let n = seats_count g.T.Table.ours g.T.Table.account given.table (g.T.Table.opening given.table).clients given.seats.clients c.requires.seats in
     let ok = c.in-Ok.ensures.ok.0 in let options = c.requires.options in let about = ok.2 in
-    let count : clients_of c.in-Ok.list ≡ (g.T.Table.opening given.table).clients = ok.0 ∙ (c.len-count.ensures ∙ (len ∙ n)) in
+    let count : clients_of c.in-Ok.list ≡ (g.T.Table.opening given.table).clients = ok.0 ∙ (c.len-count.ensures ∙ n) in
     let opened = ap (λ a. a.opened.value) about ∙ c.of-3.ensures in (
       refl,
       opened,
@@ -143,17 +134,16 @@ returns-in-Ok-clause-new g c i client at =
 pub returns-in-Ok-clause-room : goal.returns-in-Ok-clause-room
 returns-in-Ok-clause-room g c =
     let given = c.args.given in
-    let n = seats_count g.T.Table.ours g.T.Table.account given.table (g.T.Table.opening given.table).clients given.seats.clients.items c.requires.seats in
-    let len : vec_len given.seats.clients ≡ length given.seats.clients.items = search rules in
+    let n = seats_count g.T.Table.ours g.T.Table.account given.table (g.T.Table.opening given.table).clients given.seats.clients c.requires.seats in
     let ok = c.in-Ok.ensures.ok in let is = c.len-count.ensures in let taken = c.seat_all.ensures.taken in let room = c.seat_all.ensures.room in
-    let count : clients_of c.in-Ok.list ≡ (g.T.Table.opening given.table).clients = ok.0.0 ∙ (is ∙ (len ∙ n)) in
+    let count : clients_of c.in-Ok.list ≡ (g.T.Table.opening given.table).clients = ok.0.0 ∙ (is ∙ n) in
     let noted = c.first_note.new.passes in
     record {
       no_writers = taken.0;
       no_seats = taken.1;
       no_passes = taken.2;
       writers = (let a = room.0 in let b = c.in-Ok.writers.ok.1 in let l = ok.1 in let k = ok.0.0 in omega (arith, a, b, l, k));
-      seats = (let a = room.1 in let b = given.seats.clients.ok.1 in omega (arith, a, b, count, len, n));
+      seats = (let a = room.1 in let b = given.seats.clients.ok.1 in omega (arith, a, b, count, n));
       passes = (let a = room.2 in let b = noted.ok.1 in let l = noted.ok.0 in let p = c.first_note.ensures.passes.1 in let m = c.requires.controller.number in omega (arith, a, b, l, p, m, count));
       others = c.requires.controller.others_are;
     }

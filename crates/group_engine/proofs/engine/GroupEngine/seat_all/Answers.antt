@@ -1,4 +1,4 @@
-use Rattle.std.proofs.Common.{rules, ◌≡◌, ◌≤◌, ◌<◌, ◌+◌, ◌-◌, ℕ, suc, List, [], ◌∷◌, ◌++◌, length, vec_len, vec_capacity, length-append, sym, ap, ◌∙◌, subst, arith}
+use Rattle.std.proofs.Common.{rules, ◌≡◌, ◌+◌, ◌-◌, ℕ, suc, List, [], ◌∷◌, length, length-append, sym, ap, ◌∙◌, subst, arith}
 use Rattle.writer_list.specs.Roles.{AreNew}
 use Rattle.writer_list.specs.Rooms.{AllReady}
 use Rattle.writer_list.specs.Seats.{table_of, clients_of}

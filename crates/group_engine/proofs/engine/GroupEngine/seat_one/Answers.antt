@@ -1,11 +1,9 @@
-use Rattle.std.proofs.Common.{◌≡◌, ℕ, ◌<◌, ◌≤◌, List, [], ◌∷◌, refl, sym, ap, ◌∙◌, subst}
+use Rattle.std.proofs.Common.{◌≡◌, ℕ, ◌<◌, ◌≤◌, [], ◌∷◌, sym, ap, ◌∙◌, subst}
 use Rattle.list_rule.specs.declared.view.Stage.TheVariants.{Idle}
 use Rattle.list_rule.specs.Rule.{hold}
 use Rattle.writer_list.specs.Seats.{told, told_in_first, clients_of}
 use Rattle.group_rule.specs.Asked.{HasAsked}
 use Rattle.group_rule.specs.Entries.{account_of}
-use Rattle.group_engine.specs.declared.requests.Request.{Request}
-use Rattle.group_engine.specs.declared.requests.Reply.{Reply}
 use Rattle.group_engine.specs.Clients.{own_commits}
 use Rattle.group_engine.proofs.engine.GroupEngine.seat_one.Goals as goal
 
