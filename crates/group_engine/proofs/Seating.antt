@@ -1,19 +1,21 @@
 -- How the clients of an opened engine are made of their writers and seats.
-use Rattle.std.proofs.Common.{◌≡◌, ◌⊎◌, inl, inr, ℕ, zero, suc, ◌+◌, ◌-◌, ◌<◌, ◌≤◌, map, slice_get, List, [], ◌∷◌, ◌++◌, Some, length, refl, ap, sym, ◌∙◌, subst, ⊎_elim, arith}
+use Rattle.std.proofs.Common.{◌≡◌, ◌⊎◌, inl, inr, ℕ, zero, suc, ◌+◌, map, slice_get, List, [], ◌∷◌, ◌++◌, Some, length, vec_len, Vec, refl, ap, sym, ◌∙◌, subst, ⊎_elim, arith}
 use Rattle.std.specs.List.{range_with_len}
 use Rattle.wp_edge.specs.declared.disk.Disk.{Ghosts}
 use Rattle.table_rule.specs.declared.view.Opening.{Opening}
 use Rattle.table_rule.specs.Histories.{In}
 use Rattle.table_calls.specs.Account.{Account as TableAccount, IsReady}
 use Rattle.writer_list.specs.Seats.{clients_of}
-use Rattle.account_model.specs.Accounts.{newcomer}
+use Rattle.write_controller.specs.declared.controller.Controller.{Controller}
+use Rattle.write_controller.specs.declared.pass.Pass.{Pass}
+use Rattle.write_controller.specs.Passes.{seen_by, IsPassOf, client_of as pass_client}
 use Rattle.account_model.specs.Closing.{AreOurs}
 use Rattle.group_engine.specs.declared.engine.GroupEngine.{GroupEngine}
 use Rattle.group_engine.specs.declared.engine.Client.{Client}
 use Rattle.group_engine.specs.declared.layout.Layout.{Layout}
 use Rattle.group_engine.specs.Layout.{IsRoomy, AreRoomy}
 use Rattle.group_engine.specs.Clients.{IsClientOf, account_in}
-use Rattle.group_engine.specs.AtStart.{AreSeatsAtStart, IsNewcomer, AreNewcomers}
+use Rattle.group_engine.specs.AtStart.{AreSeatsAtStart, ArePassesAtStart, IsPassAtStart, IsNewcomer, AreNewcomers}
 
 pub roomy_more : (n : ℕ) (xs : List Layout) (x : Layout) → AreRoomy n xs → IsRoomy n x → AreRoomy n (xs ++ x ∷ [])
 roomy_more n [] x h one = (one, tt)
@@ -65,16 +67,36 @@ module _ {T S : Type 0} (ours : T → S → Type 0) (account : S → TableAccoun
         (own.0, own.1, own.2, t.1 ∙ (let e : 1 + count ≡ suc count = omega arith in e)),
       )
 
-  pub seats_count : (count : ℕ) (seats : List S) → AreSeatsAtStart ours account table count seats → length seats ≡ count
-  seats_count count seats h = sym (map_size (λ (x : S). (account x).number) seats) ∙ (ap length h.numbers ∙ range_size 1 count)
+  pub seats_count : {Z : Type 0} (count : ℕ) (seats : Vec S Z) → AreSeatsAtStart ours account table count seats.items → vec_len seats ≡ count
+  seats_count count seats h = seats.ok.0 ∙ (sym (map_size (λ (x : S). (account x).number) seats.items) ∙ (ap length h.numbers ∙ range_size 1 count))
 
-module _ {D T S U P : Type 0} {ghosts : Ghosts D} (opening : T → Opening) (ours : T → S → Type 0) (account : S → TableAccount) (e : GroupEngine D T S U P ghosts) where
-  pub newcomer_at : (k i : ℕ) (cs : List (Client D T S U P ghosts)) (c : Client D T S U P ghosts) → AreNewcomers opening ours account e k cs → slice_get cs i ≡ Some c → IsNewcomer opening ours account e (k + i) c
+module _ {C : Type 0} (controller : Controller C) where
+  -- the last of the passes is that of the last client
+  pub passes_split : (number : ℕ) (front : List Pass) (p : Pass) → ArePassesAtStart controller number (front ++ p ∷ [])
+      → ArePassesAtStart controller number front × IsPassAtStart controller (number + length front) p
+  passes_split number [] p h = (tt, subst (λ n. IsPassAtStart controller n p) (let e : number ≡ number + 0 = omega arith in e) h.0)
+  passes_split number (x ∷ front) p h =
+      let t = passes_split (number + 1) front p h.1 in
+      ((h.0, t.0), subst (λ n. IsPassAtStart controller n p) (let e : number + 1 + length front ≡ number + suc (length front) = omega arith in e) t.1)
+
+  pub passes_at_start : (number : ℕ) (ps : List Pass)
+      → ((i : ℕ) (p : Pass) → slice_get ps i ≡ Some p → IsPassOf controller p × (pass_client p ≡ i + number) × (seen_by p ≡ []))
+      → ArePassesAtStart controller number ps
+  passes_at_start number [] h = tt
+  passes_at_start number (p ∷ ps) h =
+      let own = h 0 p refl in (
+        record { own = own.0; client = own.1 ∙ (let e : 0 + number ≡ number = omega arith in e); unseen = own.2 },
+        passes_at_start (number + 1) ps (λ i x e. let t = h (suc i) x e in
+            (t.0, t.1 ∙ (let n : suc i + number ≡ i + (number + 1) = omega arith in n), t.2)),
+      )
+
+module _ {D T C G S U P : Type 0} {ghosts : Ghosts D} (opening : T → Opening) (ours : T → S → Type 0) (account : S → TableAccount) (e : GroupEngine D T C G S U P ghosts) where
+  pub newcomer_at : (k i : ℕ) (cs : List (Client D T C S U P ghosts)) (c : Client D T C S U P ghosts) → AreNewcomers opening ours account e k cs → slice_get cs i ≡ Some c → IsNewcomer opening ours account e (k + i) c
   newcomer_at k i [] c h at = absurd (cc)
-  newcomer_at k zero (x ∷ cs) c h at = let is : x ≡ c = cc in subst (λ (z : ℕ × Client D T S U P ghosts). IsNewcomer opening ours account e z.0 z.1) (λ j. ((let n : k ≡ k + 0 = omega arith in n) j, is j)) h.0
+  newcomer_at k zero (x ∷ cs) c h at = let is : x ≡ c = cc in subst (λ (z : ℕ × Client D T C S U P ghosts). IsNewcomer opening ours account e z.0 z.1) (λ j. ((let n : k ≡ k + 0 = omega arith in n) j, is j)) h.0
   newcomer_at k (suc i) (x ∷ cs) c h at = subst (λ n. IsNewcomer opening ours account e n c) (let n : k + 1 + i ≡ k + suc i = omega arith in n) (newcomer_at (k + 1) i cs c h.1 at)
 
-  pub are_ours : (cs : List (Client D T S U P ghosts)) → AreNewcomers opening ours account e 1 cs → length cs ≡ clients_of e.list → AreOurs (IsClientOf opening ours account e) (account_in opening ours account) (clients_of e.list) cs
+  pub are_ours : (cs : List (Client D T C S U P ghosts)) → AreNewcomers opening ours account e 1 cs → length cs ≡ clients_of e.list → AreOurs (IsClientOf opening ours account e) (account_in opening ours account) (clients_of e.list) cs
   are_ours cs h count = record {
     number_of = count;
     each = λ i c at. let one = newcomer_at 1 i cs c h at in (one.is_client, ap (λ a. a.number) one.new ∙ (let n : 1 + i ≡ i + 1 = omega arith in n));

@@ -1,6 +1,9 @@
 //! The end of an engine.
 
 ghost use Rattle.std.specs.Prelude.{◌≡◌, ◌≤◌, ◌+◌, ◌<◌, ℕ, List, [], ◌++◌, map, length, vec_len, vec_capacity};
+ghost use mathlib.Core.List.{IsPrefix};
+ghost use Rattle.wp_model.specs.Controller.{ControllerCall};
+ghost use Rattle.write_controller.specs.Passes.{noted, AreAll, IsNoteOf, IsHistoryOf};
 ghost use Rattle.group_engine.specs.Clients.{writer_in, seat_in, pass_in};
 
 use crate::engine::{Client, GroupEngine, Room};
@@ -8,12 +11,13 @@ use crate::held::{Held, NoRight, Path};
 use crate::numbering::take_first;
 use crate::requests::{Reply, Request};
 use engine_calls::{Clients, Closed, Gate};
+use group_rule::closings;
 use log_writer::{LogWriter, written_by_calls};
 use mem_table::{Nodes, Parts};
 use std::sync::Wait;
 use table_calls::{Seats, Table};
 use wp_edge::{Clock, Disk};
-use write_controller::{Pass, Passes};
+use write_controller::{Controller, Note, Pass, Passes};
 use writer_list::Writer;
 
 /// Takes the clients apart.
@@ -46,6 +50,26 @@ pub(crate) fn part_all<D: Disk, T: Table<Nodes, Parts>, C>(
         seats.push_reserved(seat);
         passes.push_reserved(pass);
     }
+}
+
+/// Ends a controller. Its first pass learns what a note shows, so that this begins the one history too.
+fn end_controller<C: Clock, R: Wait>(rt: &R, controller: Controller<C>, passes: Passes, note: Note)
+    requires all { AreAll controller passes }
+    requires some { 0 < length passes.clients.items }
+    requires note { IsNoteOf controller note }
+    ensures { (history : List ControllerCall) × IsHistoryOf passes.clients.items history
+        × IsPrefix (noted note) history }
+{
+    let Passes {
+        clients: mut passes,
+        others,
+    } = passes;
+    controller.learn(rt, &mut passes[0], note);
+    let passes = Passes {
+        clients: passes,
+        others,
+    };
+    controller.close(rt, passes);
 }
 
 impl<D: Disk, T: Table<Nodes, Parts>, C: Clock + Drop, G: Gate + Drop> GroupEngine<D, T, C, G> {
@@ -101,18 +125,17 @@ impl<D: Disk, T: Table<Nodes, Parts>, C: Clock + Drop, G: Gate + Drop> GroupEngi
             clock: _,
             asked,
         } = held;
-        // The first client's pass sees what the leaders had seen.
-        controller.learn(rt, &mut passes[0], asked);
         let passes = Passes {
             clients: passes,
             others,
         };
-        controller.close(rt, passes);
+        end_controller(rt, controller, passes, asked);
         table.close(Seats {
             turn,
             clients: seats,
         });
         written_by_calls::<D>();
+        closings();
         Closed { log, last }
     }
 }

@@ -8,7 +8,7 @@ ghost use Rattle.table_calls.specs.Account.{IsReady};
 ghost use Rattle.writer_list.specs.Roles.{IsNew, AreNew};
 ghost use Rattle.writer_list.specs.Rooms.{AreReady, AllReady};
 ghost use Rattle.writer_list.specs.Seats.{table_of, clients_of};
-ghost use Rattle.write_controller.specs.Passes.{AreNew as AreNewPasses};
+ghost use Rattle.write_controller.specs.Passes.{AreNew as AreNewPasses, IsNoteOf, noted};
 ghost use Rattle.account_model.specs.Accounts.{newcomer};
 ghost use Rattle.account_model.specs.Closing.{AreOurs};
 ghost use Rattle.client_calls.specs.Settings.{settings_of as settings_with};
@@ -23,6 +23,7 @@ use crate::numbering::take_first;
 use crate::requests::{Reply, Request};
 use client_calls::Options;
 use engine_calls::{Clients, Gate};
+use group_rule::groups_stay_consistent;
 use list_rule::Start;
 use log_writer::LogWriter;
 use mem_table::{Nodes, Parts};
@@ -30,7 +31,7 @@ use std::alloc::Global;
 use std::snapshot::Snapshot;
 use table_calls::{Seats, Table};
 use wp_edge::{Clock, Disk};
-use write_controller::{Controller, Others, Pass, Passes};
+use write_controller::{Controller, Note, Pass, Passes};
 use writer_list::{Lists, Writer, WriterList};
 
 /// What an engine was to be opened with, as it was.
@@ -61,6 +62,16 @@ fn put_first<X>(items: &mut Vec<X>, item: X)
         Ok(()) => {}
         Err(_) => unreachable!(),
     }
+}
+
+/// A note for the first leader, of a pass that has seen nothing.
+fn first_note<C: Clock>(controller: &Controller<C>, passes: &mut Vec<Pass>) -> Note
+    requires passes { ArePassesAtStart controller.now 1 passes.old.items × (0 < length passes.old.items) }
+    ensures passes { ArePassesAtStart controller.now 1 passes.new.items
+        × (length passes.new.items ≡ length passes.old.items) }
+    ensures note { IsNoteOf controller.now result × (noted result ≡ []) }
+{
+    controller.note(&mut passes[0])
 }
 
 impl<D: Disk, T: Table<Nodes, Parts>, C: Clock + Drop, G: Gate + Drop> GroupEngine<D, T, C, G> {
@@ -109,17 +120,14 @@ impl<D: Disk, T: Table<Nodes, Parts>, C: Clock + Drop, G: Gate + Drop> GroupEngi
         let Ok((controller, passes)) = Controller::open(alloc, count) else {
             return Err(refused);
         };
-        let Ok(mut layouts) = Layout::for_all(alloc, count) else {
+        let Ok(layouts) = Layout::for_all(alloc, count) else {
             return Err(refused);
         };
-        let Ok(room) = Vec::with_capacity(alloc, count as usize) else {
-            return Err(refused);
-        };
-        let Ok(mut clients) = Vec::with_capacity(alloc, count as usize) else {
+        let Ok(clients) = Vec::with_capacity(alloc, count as usize) else {
             return Err(refused);
         };
         Self::open_with(
-            alloc, refused, options, controller, passes, layouts, clients, room,
+            alloc, refused, options, controller, passes, layouts, clients,
         )
     }
 
@@ -132,7 +140,6 @@ impl<D: Disk, T: Table<Nodes, Parts>, C: Clock + Drop, G: Gate + Drop> GroupEngi
         passes: Passes,
         mut layouts: Vec<Layout>,
         mut clients: Vec<Client<D, T, C>>,
-        room: Vec<Pass>,
     ) -> Result<
         (
             GroupEngine<D, T, C, G>,
@@ -150,8 +157,7 @@ impl<D: Disk, T: Table<Nodes, Parts>, C: Clock + Drop, G: Gate + Drop> GroupEngi
         requires controller { AreNewPasses controller (T.opening given.table).clients passes }
         requires layouts { AreRoomy (T.opening given.table).clients layouts.items
             × (length layouts.items ≡ (T.opening given.table).clients) }
-        requires room { (clients.items ≡ []) × ((T.opening given.table).clients ≤ vec_capacity clients)
-            × (room.items ≡ []) × ((T.opening given.table).clients ≤ vec_capacity room) }
+        requires room { (clients.items ≡ []) × ((T.opening given.table).clients ≤ vec_capacity clients) }
         ensures engine { IfOk result (λ r. (r.0.table ≡ given.table) × (opened_log r.0 ≡ given.log)
             × (settings_of T.opening T.ours T.account r.0
             ≡ settings_with options (T.opening given.table).clients (D.faults (disk_of given.log)))) }
@@ -198,8 +204,9 @@ impl<D: Disk, T: Table<Nodes, Parts>, C: Clock + Drop, G: Gate + Drop> GroupEngi
                 last: options.last,
             },
             clock,
-            asked: controller.note(&mut passes[0]),
+            asked: first_note(&controller, &mut passes),
         };
+        groups_stay_consistent();
         match WriterList::open(alloc, &start, held, NoRight) {
             Ok((list, mut writers, mut lists)) => {
                 let engine = GroupEngine {
@@ -226,7 +233,7 @@ impl<D: Disk, T: Table<Nodes, Parts>, C: Clock + Drop, G: Gate + Drop> GroupEngi
                     room: Room {
                         writers,
                         seats,
-                        passes: room,
+                        passes,
                         others,
                     },
                 };
@@ -253,7 +260,8 @@ impl<D: Disk, T: Table<Nodes, Parts>, C: Clock + Drop, G: Gate + Drop> GroupEngi
         }
     }
 
-    /// Makes a client of each writer and each seat. The writers come by falling numbers, and seats and passes by rising ones.
+    /// Makes a client of each writer, seat and pass. The writers come by falling numbers, and seats and passes by rising
+    /// ones.
     fn seat_all(
         &self,
         start: u64,
@@ -279,13 +287,14 @@ impl<D: Disk, T: Table<Nodes, Parts>, C: Clock + Drop, G: Gate + Drop> GroupEngi
             × (length clients.new.items ≡ clients_of self.now.list) }
         ensures taken { (writers.new.items ≡ []) × (seats.new.items ≡ []) × (passes.new.items ≡ []) }
         ensures room { (vec_capacity writers.new ≡ vec_capacity writers.old)
-            × (vec_capacity seats.new ≡ vec_capacity seats.old) }
+            × (vec_capacity seats.new ≡ vec_capacity seats.old)
+            × (vec_capacity passes.new ≡ vec_capacity passes.old) }
     {
         while let Some(writer) = take_first(writers) {
             let Some(seat) = take_last(seats) else {
                 unreachable!()
             };
-            let Some(pass) = passes.pop() else {
+            let Some(pass) = take_last(passes) else {
                 unreachable!()
             };
             let Some(lists) = take_first(lists) else {

@@ -14,27 +14,30 @@ ghost use Rattle.group_engine.specs.Clients.{IsClientOf, HasRoomToClose, account
 
 use crate::memory_table::MemoryTable;
 use client_calls::Options;
+use engine_calls::Gate;
 use group_engine::{Client, Clients, GroupEngine, OpenRefused, Room};
 use log_writer::LogWriter;
 use std::alloc::Global;
-use wp_edge::Disk;
+use wp_edge::{Clock, Disk};
 
-/// An engine over an opened log, with so many clients, of which none has done anything. Where memory is short, the log
-/// comes back.
-pub fn open_engine<D: Disk>(
+/// An engine over an opened log, with so many clients, of which none has done anything. Where memory is short, log,
+/// clock and gate come back.
+pub fn open_engine<D: Disk, C: Clock + Drop, G: Gate + Drop>(
     alloc: Global,
     log: LogWriter<D>,
+    clock: C,
     clients: u32,
+    gate: G,
     options: Options,
 ) -> Result<
     (
-        GroupEngine<D, MemoryTable>,
-        Clients<Client<D, MemoryTable>, Room<D, MemoryTable>>,
+        GroupEngine<D, MemoryTable, C, G>,
+        Clients<Client<D, MemoryTable, C>, Room<D, MemoryTable, C>>,
     ),
-    LogWriter<D>,
+    (LogWriter<D>, C, G),
 >
     requires options { (options.last ≤ max_sequence) × (options.batch_bytes ≤ 16777216) }
-    requires clients { (0 < clients) × (clients < 255) }
+    requires clients { (0 < clients) × (clients ≤ 16) }
     requires log { (disk : D) × HasOpened disk log }
     ensures engine { IfOk result (λ r. (opened_log r.0 ≡ log)
         × (settings_of (λ t. opening_of t.one) (λ t s. IsOurs t.one s) (λ s. account s) r.0
@@ -46,20 +49,22 @@ pub fn open_engine<D: Disk>(
     ensures new { IfOk result (λ r. (i : ℕ) (c : _) → slice_get r.1.clients.items i ≡ Some c
         → account_in (λ t. opening_of t.one) (λ t s. IsOurs t.one s) (λ s. account s) c
         ≡ newcomer options.last (i + 1)) }
-    ensures room { IfOk result (λ r. HasRoomToClose (clients_of r.0.list) r.1.room) }
-    ensures err { IfErr result (λ e. e ≡ log) }
+    ensures room { IfOk result (λ r. HasRoomToClose r.0.controller (clients_of r.0.list) r.1.room) }
+    ensures err { IfErr result (λ e. (e.0 ≡ log) × (e.1 ≡ clock) × (e.2 ≡ gate)) }
 {
     let Ok((table, seats)) = MemoryTable::open(alloc, clients, options.last) else {
-        return Err(log);
+        return Err((log, clock, gate));
     };
-    match GroupEngine::open(alloc, log, table, seats, options) {
+    match GroupEngine::open(alloc, log, clock, table, seats, gate, options) {
         Ok(opened) => Ok(opened),
         Err(
             OpenRefused {
                 log,
+                clock,
                 table: _,
                 seats: _,
+                gate,
             },
-        ) => Err(log),
+        ) => Err((log, clock, gate)),
     }
 }

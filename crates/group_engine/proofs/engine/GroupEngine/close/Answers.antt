@@ -1,12 +1,17 @@
-use Rattle.std.proofs.Common.{rules, ◌≡◌, ◌≤◌, ◌<◌, ◌+◌, ℕ, List, [], ◌∷◌, ◌++◌, map, length, vec_len, None, Some, IfSome, refl, sym, ap, ◌∙◌, subst, arith}
+use Rattle.std.proofs.Common.{rules, ◌≤◌, ℕ, List, [], map, length, IfSome, sym, ap, subst, arith}
 use Rattle.wp_model.specs.Counts.{Rose}
 use Rattle.log_writer.specs.Words.{fault_of, disk_of}
+use Rattle.log_writer.specs.Written.{Wrote}
 use Rattle.table_rule.specs.Histories.{In}
 use Rattle.table_calls.specs.Account.{IsReady, IsClosing as IsTableClosing}
-use Rattle.writer_list.specs.Seats.{table_of, clients_of, about_of, AllOut, AllThere, Merged}
+use Rattle.writer_list.specs.Seats.{table_of, clients_of, AllOut, AllThere, Merged}
+use Rattle.write_controller.specs.Passes.{noted, IsHistoryOf, IsNoteOf}
+use Rattle.account_model.specs.Closing.{all_attempts}
+use Rattle.group_rule.specs.Entries.{trace_of}
+use Rattle.group_engine.specs.Clients.{account_in, opened_log, settings_of}
+use Rattle.group_engine.specs.Handled.{commit_of}
 use Rattle.group_engine.proofs.engine.GroupEngine.close.Goals as goal
-use Rattle.group_engine.proofs.Ending.{all_out, all_there, ends, is_engine, seats_ready}
-use Rattle.group_engine.proofs.Leads.{stands_as}
+use Rattle.group_engine.proofs.Ending.{accounts_number, all_out, all_passes, all_there, are_calls, is_engine, parts, passes_number, seats_ready, stands_here, written_by}
 
 pub close-held-requires : goal.close-held-requires
 close-held-requires g c =
@@ -15,32 +20,62 @@ close-held-requires g c =
     let v = c.part_all.auto.writers in
     record {
       out = (
-        subst (AllOut (table_of e.list)) (sym w) (all_out g.T.Table.opening g.T.Table.ours g.T.Table.account g.T.Table.our_turn g.T.Table.history e cs all),
-        subst (AllThere (clients_of e.list)) (sym w) (all_there g.T.Table.opening g.T.Table.ours g.T.Table.account g.T.Table.our_turn g.T.Table.history e cs all),
+        subst (AllOut (table_of e.list)) (sym w) (all_out g.T.Table.opening g.T.Table.ours g.T.Table.account e cs all),
+        subst (AllThere (clients_of e.list)) (sym w) (all_there g.T.Table.opening g.T.Table.ours g.T.Table.account e cs all),
         search rules,
       );
     }
+
+pub end_controller-requires-clause-all : goal.end_controller-requires-clause-all
+end_controller-requires-clause-all g c =
+    all_passes g.T.Table.opening g.T.Table.ours g.T.Table.account c.args.self c.args.clients.clients.items c.requires.all _ c.part_all.ensures.passes c.requires.room.others
+
+pub end_controller-requires-clause-some : goal.end_controller-requires-clause-some
+end_controller-requires-clause-some g c =
+    let e = c.args.self in let cs = c.args.clients.clients.items in
+    let some = e.list.some in let n = passes_number g.T.Table.opening g.T.Table.ours g.T.Table.account e cs c.requires.all in
+    let is = ap length c.part_all.ensures.passes in
+    omega (arith, some, n, is)
+
+pub end_controller-requires-clause-note : goal.end_controller-requires-clause-note
+end_controller-requires-clause-note g c =
+    let set = is_engine g.T.Table.opening g.T.Table.ours g.T.Table.account c.args.self c.args.clients.clients.items c.requires.all in
+    subst (λ k. IsNoteOf k c.close-held.result.0.asked) set.controller c.close-held.ensures.1.0.note
+
+pub close-requires-clause-turn : goal.close-requires-clause-turn
+close-requires-clause-turn g c =
+    let set = is_engine g.T.Table.opening g.T.Table.ours g.T.Table.account c.args.self c.args.clients.clients.items c.requires.all in
+    subst (λ t. g.T.Table.our_turn t c.close-held.result.0.path.turn) set.table c.close-held.ensures.1.0.path.our
 
 pub close-requires-clause-clients : goal.close-requires-clause-clients
 close-requires-clause-clients g c =
     let e = c.args.self in
     subst (λ (ss : List _). (seat : _) → In seat ss → g.T.Table.ours e.table seat × IsReady (g.T.Table.account seat)) (sym c.part_all.ensures.seats)
-    (seats_ready g.T.Table.opening g.T.Table.ours g.T.Table.account g.T.Table.our_turn g.T.Table.history e c.args.clients.clients.items c.requires.all)
+    (seats_ready g.T.Table.opening g.T.Table.ours g.T.Table.account e c.args.clients.clients.items c.requires.all)
 
 pub returns : goal.returns
 returns g c =
-    let e = c.args.self in let cs = c.args.clients.clients.items in let all = c.requires.all in let L = c.close-held.ensures in let held = c.close-held.result.0 in
-    let set = is_engine g.T.Table.opening g.T.Table.ours g.T.Table.account g.T.Table.our_turn g.T.Table.history e cs all in
-    let about = about_of e.list in let home = g.T.Table.opening e.table in
-    let stands = stands_as g.T.Table.our_turn g.T.Table.history about.table.value e.table about.opened.value about.start home.start about.clients (clients_of e.list) about.group_bytes e.group_bytes held.log held.turn held.last L.0
-    (sym set.table) (sym set.start) (sym set.about_clients) (sym set.group_bytes) L.1.0 in
+    let opening = g.T.Table.opening in let ours = g.T.Table.ours in let account = g.T.Table.account in
+    let e = c.args.self in let cs = c.args.clients.clients.items in let all = c.requires.all in
+    let L = c.close-held.ensures in let held = c.close-held.result.0 in
+    let set = is_engine opening ours account e cs all in
+    let settings = settings_of opening ours account e in let accounts = map (account_in opening ours account) cs in
+    let start : ℕ = (opening e.table).start in let fault = fault_of held.path.log in let asked = noted held.asked in
+    let commits = map commit_of L.0 in let published = g.T.Table.history held.path.turn in
+    let stands = stands_here opening ours account e cs all g.T.Table.our_turn g.T.Table.history asked held.path.log held.path.turn held.path.last L.0 L.1.0.path in
     let merged = subst (Merged L.0) c.part_all.ensures.writers L.4 in
-    let seen = subst (λ (ss : List _). IsTableClosing home.start (g.T.Table.history held.turn) (map g.T.Table.account ss)) c.part_all.ensures.seats c.close.ensures in
-    let cause = (c.written_by_calls.ensures.cause set.disk stands.calls held.log (record { opened = about.opened.value; has_opened = set.opened; wrote = stands.wrote })).rose in
-    let rose = subst (λ (n : ℕ). IfSome (fault_of held.log) (λ count. Rose n count × (count ≤ g.D.Disk.faults (disk_of held.log)))) (sym set.opened.no_fault) cause in
-    ends g.T.Table.opening g.T.Table.ours g.T.Table.account g.T.Table.our_turn g.T.Table.history e cs all L.0 held.log held.turn held.last stands merged seen rose
-
-pub close-requires-clause-turn : goal.close-requires-clause-turn
-close-requires-clause-turn g c =
-    let set = is_engine g.T.Table.opening g.T.Table.ours g.T.Table.account g.T.Table.our_turn g.T.Table.history c.args.self c.args.clients.clients.items c.requires.all in
-    subst (λ t. g.T.Table.our_turn t c.close-held.result.0.turn) set.table c.close-held.ensures.1.0.our
+    let seen = subst (λ (ss : List _). IsTableClosing start published (map account ss)) c.part_all.ensures.seats c.close.ensures in
+    let ended = c.end_controller.ensures in let calls = ended.0 in
+    let whole = subst (λ (ps : List _). IsHistoryOf ps calls) c.part_all.ensures.passes ended.1 in
+    let cause = (c.written_by_calls.ensures.cause set.disk stands.calls held.path.log (record { opened = opened_log e; has_opened = set.opened; wrote = stands.wrote })).rose in
+    let rose = subst (λ (n : ℕ). IfSome fault (λ count. Rose n count × (count ≤ g.D.Disk.faults (disk_of held.path.log)))) (sym set.opened.no_fault) cause in
+    let number = accounts_number opening ours account e cs all in
+    let own = parts opening ours account e cs all calls whole L.0 published merged seen in
+    let closed = c.closings.ensures.closing settings (g.D.Disk.faults (disk_of held.path.log)) commits held.path.last fault published stands.calls asked calls accounts
+    stands.consistent number whole.legal (are_calls opening ours account e cs all calls whole) ended.2 own rose in
+    let wrote = c.closings.ensures.log settings commits held.path.last fault published stands.calls asked calls accounts stands.consistent number own in (
+      trace_of start commits calls,
+      closed.0,
+      closed.1,
+      written_by e.group_bytes (Wrote (opened_log e)) stands.calls held.path.log (trace_of start commits calls) (all_attempts accounts) fault stands.wrote wrote,
+    )

@@ -4,13 +4,15 @@ use Rattle.writer_list.specs.Roles.{AreNew}
 use Rattle.writer_list.specs.Rooms.{AllReady}
 use Rattle.writer_list.specs.Seats.{table_of, clients_of}
 use Rattle.group_engine.specs.Layout.{AreRoomy}
-use Rattle.group_engine.specs.AtStart.{AreSeatsAtStart, AreNewcomers}
+use Rattle.group_engine.specs.AtStart.{AreSeatsAtStart, ArePassesAtStart, AreNewcomers}
 use Rattle.group_engine.proofs.engine.GroupEngine.seat_all.Given as goal
 
 abbrev pub invariant-loop-writer : goal.invariant-loop-writer
 invariant-loop-writer g l = record {
   writers : AreNew (table_of l.self.list) (length l.writers.items) l.writers.items;
   seats : AreSeatsAtStart g.T.Table.ours g.T.Table.account l.self.table (length l.writers.items) l.seats.items;
+  passes : ArePassesAtStart l.self.controller 1 l.passes.items;
+  passes_count : length l.passes.items ≡ length l.writers.items;
   lists : AllReady (clients_of l.self.list) l.lists.items;
   lists_count : length l.lists.items ≡ length l.writers.items;
   layouts : AreRoomy (clients_of l.self.list) l.layouts.items;
@@ -20,6 +22,7 @@ invariant-loop-writer g l = record {
   clients_room : clients_of l.self.list ≤ vec_capacity l.clients;
   writers_room : vec_capacity l.writers ≡ vec_capacity l.initial.writers;
   seats_room : vec_capacity l.seats ≡ vec_capacity l.initial.seats;
+  passes_room : vec_capacity l.passes ≡ vec_capacity l.initial.passes;
 }
 
 abbrev pub decreases-loop-writer : goal.decreases-loop-writer

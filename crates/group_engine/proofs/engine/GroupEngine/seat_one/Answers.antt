@@ -1,10 +1,9 @@
-use Rattle.std.proofs.Common.{◌≡◌, ℕ, ◌<◌, ◌≤◌, List, [], ◌∷◌, refl, sym, ap, ◌∙◌, subst}
+use Rattle.std.proofs.Common.{◌≡◌, ℕ, ◌<◌, ◌≤◌, [], ◌∷◌, sym, ap, ◌∙◌, subst}
 use Rattle.list_rule.specs.declared.view.Stage.TheVariants.{Idle}
 use Rattle.list_rule.specs.Rule.{hold}
 use Rattle.writer_list.specs.Seats.{told, told_in_first, clients_of}
+use Rattle.group_rule.specs.Asked.{HasAsked}
 use Rattle.group_rule.specs.Entries.{account_of}
-use Rattle.group_engine.specs.declared.requests.Request.{Request}
-use Rattle.group_engine.specs.declared.requests.Reply.{Reply}
 use Rattle.group_engine.specs.Clients.{own_commits}
 use Rattle.group_engine.proofs.engine.GroupEngine.seat_one.Goals as goal
 
@@ -23,9 +22,12 @@ returns g c =
           ready = r.seat.1;
           seat_number = r.seat.3;
           start = r.engine.1;
+          pass = r.pass.own;
+          pass_number = r.pass.client;
           can_lead = record { lists = r.room.0; layout = r.room.1 };
         };
         out = (ap (λ m. m.0) at ∙ (λ i. hold (sym r.writer.0 i) Idle (sym none i) ∷ []), ap (λ m. m.1) at);
+        has_asked = subst (HasAsked n (own_commits n (told w))) (sym r.pass.unseen) tt;
       };
-      new = (λ i. account_of (r.engine.1 i) n (own_commits n (none i)) (r.seat.2 i));
+      new = (λ i. account_of (r.engine.1 i) n (own_commits n (none i)) (r.seat.2 i) (r.pass.unseen i));
     }
