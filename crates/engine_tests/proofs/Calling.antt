@@ -1,0 +1,33 @@
+-- What the calls of the engine say of its clients, as `Callers` says it.
+use Rattle.std.proofs.Common.{◌≡◌, ℕ, ◌+◌, inl, inr, List, length, Option, Some, None, MatchOption, subst}
+use Rattle.std.proofs.lemmas.Option.{slice_get-get_or, slice_get_within, get_or_from_slice_get}
+use Rattle.wp_edge.specs.declared.disk.Disk.{Ghosts}
+use Rattle.wp_model.specs.declared.write.WriteOptions.{WriteOptions}
+use Rattle.wp_model.specs.declared.write.Refusal.{Refusal}
+use Rattle.wp_model.specs.Batch.{Record}
+use Rattle.wp_model.specs.Trace.{Settings}
+use Rattle.wp_model.specs.Tokens.{holds_stop}
+use Rattle.wp_model.specs.Progress.{early_refusal}
+use Rattle.account_model.specs.Accounts.{Account, Keeps, Refuses, IsRefusedLate}
+use Rattle.account_model.specs.Closing.{AreOurs}
+use Rattle.group_engine.specs.Clients.{account_in}
+use Rattle.engine_tests.specs.Callers.{table_opening, table_ours, table_account, Path, Member, MayCall, IsCaller, AllMayCall}
+
+-- a client that is refused keeps its number
+pub refused_number : (s : Settings) (v : Account) (rs : List Record) (how : WriteOptions) (why : Refusal) (w : Account) → Refuses s v rs how why w → w.number ≡ v.number
+refused_number s v rs how why w = by_early (early_refusal s.batch_bytes (holds_stop v.asked) rs how)
+  where
+    by_early : (early : Option Refusal) → MatchOption early (IsRefusedLate v rs how why w) (λ (e : Refusal). (why ≡ e) × Keeps v w) → w.number ≡ v.number
+    by_early None late = elim late [ inl kept ↦ kept.1.number | inr refused ↦ refused.number ]
+    by_early (Some e) early = early.1.number
+
+module _ {D : Type 0} {ghosts : Ghosts D} (e : Path D ghosts) where
+  -- all clients of the engine may call
+  pub from_ours : (n : ℕ) (cs : List (Member D ghosts)) → AreOurs (MayCall e) (account_in table_opening table_ours table_account) n cs → AllMayCall e cs
+  from_ours n cs ours = record { each = λ i d lt. let h = ours.each i _ (slice_get-get_or cs i d lt) in record { belongs = h.0; number = h.1 } }
+
+  pub to_ours : (n : ℕ) (cs : List (Member D ghosts)) → AllMayCall e cs → length cs ≡ n → AreOurs (MayCall e) (account_in table_opening table_ours table_account) n cs
+  to_ours n cs all len = record {
+    number_of = len;
+    each = λ i c at. let h = subst (IsCaller e (i + 1)) (get_or_from_slice_get cs i c c at) (all.each i c (slice_get_within cs i c at)) in (h.belongs, h.number);
+  }

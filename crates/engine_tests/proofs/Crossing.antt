@@ -1,0 +1,120 @@
+-- Threads may share the engine over a disk in memory, and its clients may go to them. The check finds this by itself
+-- for a struct whose fields are few: here it gives up.
+use mathlib.Core.List.{[], ◌∷◌}
+use denote.RattleType.{RattleType}
+use denote.Struct.Tuple.{Tuple, tuple_type, tuple_field}
+use denote.Struct.Declared.{shape, fields}
+use denote.Param.Send.{IsSend, IsSync, AllSend, AllSync, struct_send, struct_sync, recorded_send, recorded_sync, sendable}
+use Rattle.std.proofs.Crossing.{crosses, Vec-send}
+use Rattle.std.proofs.alloc.Global.TheSendSync as heap
+use Rattle.wp_edge.specs.contracts.mem_disk.MemDisk as disk_row
+use Rattle.wp_edge.specs.contracts.mem_disk.MemDiskDisk.TheImpl as disk_ghosts
+use Rattle.wp_edge.proofs.mem_disk.MemDisk.TheSendSync as disk
+use Rattle.wp_coding.proofs.bytes.Bytes.TheSendSync as bytes
+use Rattle.wp_model.proofs.write.WriteOptions.TheSendSync as options
+use Rattle.write_batch.proofs.batch.Batch.TheSendSync as batch
+use Rattle.mem_table.specs.contracts.node.Nodes as nodes
+use Rattle.mem_table.specs.contracts.tree.Tree as tree
+use Rattle.mem_table.specs.contracts.parts.Parts as parts
+use Rattle.mem_table.specs.contracts.parts.MemberNodes as part
+use Rattle.mem_table.proofs.node.Nodes.TheLaws.TheKnot as knot
+use Rattle.mem_table.proofs.node.Balance.TheSendSync as balance
+use Rattle.mem_table.proofs.key.Key.TheSendSync as key
+use Rattle.mem_table.specs.contracts.calls.TreeVersioned.TheImpl as tree_ghosts
+use Rattle.mem_table.specs.contracts.calls.NodesVersioned.TheImpl as nodes_ghosts
+use Rattle.table_steps.specs.contracts.seat.TableSeat as seat_row
+use Rattle.table_steps.specs.contracts.launching.Turn as turn_row
+use Rattle.table_steps.proofs.seat.TableSeat.TheSendSync as seat
+use Rattle.table_steps.proofs.launching.Turn.TheSendSync as turn
+use Rattle.one_table.proofs.one_table.OneTable.TheSendSync as one
+use Rattle.memory_engine.specs.contracts.memory_table.MemoryTable as table
+use Rattle.memory_engine.specs.contracts.memory_table.MemoryTableTableNodesParts.TheImpl as table_ghosts
+use Rattle.writer_list.proofs.writer_list.WriterList.TheSendSync as list
+use Rattle.writer_list.proofs.writer.Writer.TheSendSync as writer
+use Rattle.writer_list.proofs.room.Lists.TheSendSync as lists
+use Rattle.group_engine.specs.contracts.requests.Request as request
+use Rattle.group_engine.specs.contracts.requests.Reply as reply_row
+use Rattle.group_engine.specs.contracts.held.Held as held_row
+use Rattle.group_engine.specs.contracts.held.NoRight as no_right_row
+use Rattle.group_engine.specs.contracts.held.About as about_row
+use Rattle.group_engine.specs.contracts.layout.Layout as layout
+use Rattle.group_engine.specs.contracts.engine.GroupEngine as engine
+use Rattle.group_engine.specs.contracts.engine.Client as client
+use Rattle.group_engine.specs.contracts.requests.RequestItemized.TheImpl as itemized
+use Rattle.group_engine.specs.contracts.requests.ReplyGiven.TheImpl as given
+use Rattle.group_engine.specs.contracts.held.HeldLedgerRequestReply.TheImpl as ledger
+use Rattle.group_engine.specs.contracts.held.NoRightNumbered.TheImpl as numbered
+use Rattle.group_engine.proofs.held.Held.TheSendSync as held
+use Rattle.group_engine.proofs.held.NoRight.TheSendSync as no_right
+use Rattle.group_engine.proofs.requests.Reply.TheSendSync as reply
+use Rattle.group_engine.proofs.numbering.Plan.TheSendSync as plan
+
+nodes_send : IsSend nodes.the_row
+nodes_send = search (sendable, crosses, knot.send-Nodes, key.the_send, bytes.the_send, balance.the_send) depth 9
+
+tree_send : IsSend tree.the_row
+tree_send = search (sendable, crosses, knot.send-Subtree, key.the_send, bytes.the_send, balance.the_send) depth 12
+
+request_fields : AllSend (fields request.the_type)
+request_fields = (batch.the_send, (nodes_send, (options.the_field_send, tt)))
+
+request_send : IsSend request.the_row
+request_send = let C = request.the_type in recorded_send request.the_field.row C.D C.to C.to_one (struct_send (shape C) request_fields)
+
+part_fields : AllSend (fields part.the_type)
+part_fields = (search sendable, (nodes_send, tt))
+
+part_send : IsSend part.the_row
+part_send = let C = part.the_type in recorded_send part.the_field.row C.D C.to C.to_one (struct_send (shape C) part_fields)
+
+parts_send : IsSend parts.the_row
+parts_send = search (sendable, Vec-send, part_send) depth 9
+
+layout_fields : AllSend (fields layout.the_type)
+layout_fields = (Vec-send _ plan.the_send, (Vec-send _ batch.the_send, (parts_send, tt)))
+
+abbrev S : RattleType
+S = seat_row.the_row tree.the_row nodes.the_row
+
+abbrev U : RattleType
+U = turn_row.the_row tree.the_row nodes.the_row
+
+abbrev D : RattleType
+D = disk_row.the_row
+
+seat_send : IsSend S
+seat_send = seat.the_send tree.the_row nodes.the_row tree_send nodes_send
+
+turn_send : IsSend U
+turn_send = turn.the_send tree.the_row nodes.the_row tree_send nodes_send
+
+table_sync : IsSync table.the_row
+table_sync =
+    let C = table.the_type in
+    let all : AllSync (fields C) = (one.the_field_sync tree.the_row nodes.the_row tree_ghosts.ghosts nodes_ghosts.ghosts tree_send nodes_send, tt) in
+    recorded_sync table.the_field.row C.D C.to C.to_one (struct_sync (shape C) all)
+
+abbrev H : RattleType
+H = held_row.the_row D table.the_row S U nodes.the_row disk_ghosts.ghosts
+
+held_send : IsSend H
+held_send = held.the_send D table.the_row S U nodes.the_row disk_ghosts.ghosts disk.the_send turn_send
+
+pub client_send : IsSend (client.the_row D table.the_row S U nodes.the_row disk_ghosts.ghosts)
+client_send =
+    let C = client.the_type D table.the_row S U nodes.the_row disk_ghosts.ghosts in
+    let all : AllSend (fields C) = (search sendable, (search sendable, (writer.the_field_send request.the_row reply_row.the_row H no_right_row.the_row request_send reply.the_send held_send no_right.the_send, (seat_send, (lists.the_field_send request.the_row reply_row.the_row request_send reply.the_send, (struct_send (shape layout.the_type) layout_fields, tt)))))) in
+    recorded_send (client.the_field D table.the_row S U nodes.the_row disk_ghosts.ghosts).row C.D C.to C.to_one (struct_send (shape C) all)
+
+pub engine_sync : IsSync (engine.the_row D table.the_row S U nodes.the_row disk_ghosts.ghosts table_ghosts.ghosts)
+engine_sync =
+    let C = engine.the_type D table.the_row S U nodes.the_row disk_ghosts.ghosts table_ghosts.ghosts in
+    let all : AllSync (fields C) = (list.the_field_sync request.the_row reply_row.the_row H no_right_row.the_row (about_row.the_row D table.the_row disk_ghosts.ghosts) itemized.ghosts given.ghosts (ledger.ghosts D table.the_row S U nodes.the_row disk_ghosts.ghosts ledger.no_dict table_ghosts.ghosts ledger.no_dict) numbered.ghosts request_send reply.the_send held_send no_right.the_send, (table_sync, (heap.the_field_sync, (search sendable, (search sendable, tt))))) in
+    recorded_sync (engine.the_field D table.the_row S U nodes.the_row disk_ghosts.ghosts table_ghosts.ghosts).row C.D C.to C.to_one (struct_sync (shape C) all)
+
+-- threads may share a closure of five captures where they may share those
+pub closure_sync : (A B C D E : RattleType) → IsSync A → IsSync B → IsSync C → IsSync D → IsSync E → IsSync (Tuple (A ∷ B ∷ C ∷ D ∷ E ∷ []))
+closure_sync A B C D E a b c d e =
+    let T = tuple_type (A ∷ B ∷ C ∷ D ∷ E ∷ []) in
+    let all : AllSync (fields T) = (a, (b, (c, (d, (e, tt))))) in
+    recorded_sync (tuple_field (A ∷ B ∷ C ∷ D ∷ E ∷ [])).row T.D T.to T.to_one (struct_sync (shape T) all)

@@ -1,0 +1,64 @@
+-- Who may call an engine whose table is in memory.
+use Rattle.std.specs.Prelude.{◌≡◌, ℕ, ◌+◌, ◌<◌, List, length, slice_index_or}
+use Rattle.wp_edge.specs.declared.disk.Disk.{Ghosts}
+use Rattle.mem_table.specs.declared.node.Nodes.{Nodes}
+use Rattle.mem_table.specs.declared.tree.Tree.{Tree}
+use Rattle.table_calls.specs.Account.{Account as TableAccount}
+use Rattle.table_rule.specs.declared.view.Opening.{Opening}
+use Rattle.table_steps.specs.declared.seat.TableSeat.{TableSeat}
+use Rattle.table_steps.specs.declared.launching.Turn.{Turn}
+use Rattle.table_steps.specs.Accounts.{account}
+use Rattle.one_table.specs.Meaning.{opening_of, IsOurs}
+use Rattle.memory_engine.specs.declared.memory_table.MemoryTable.{MemoryTable}
+use Rattle.writer_list.specs.Seats.{clients_of}
+use Rattle.engine_calls.specs.declared.engine.Clients.{Clients}
+use Rattle.group_engine.specs.declared.engine.GroupEngine.{GroupEngine}
+use Rattle.group_engine.specs.declared.engine.Client.{Client}
+use Rattle.group_engine.specs.declared.engine.Room.{Room}
+use Rattle.group_engine.specs.Clients.{IsClientOf, HasRoomToClose, account_in}
+
+abbrev pub table_opening : MemoryTable → Opening
+table_opening t = opening_of t.one
+
+abbrev pub Seat : Type 0
+Seat = TableSeat Tree Nodes
+
+abbrev pub table_ours : MemoryTable → Seat → Type 0
+table_ours t s = IsOurs t.one s
+
+abbrev pub table_account : Seat → TableAccount
+table_account s = account s
+
+-- an engine over a disk, one of its clients, and all of them
+abbrev pub Path : (D : Type 0) → Ghosts D → Type 0
+Path D ghosts = GroupEngine D MemoryTable Seat (Turn Tree Nodes) Nodes ghosts
+
+abbrev pub Member : (D : Type 0) → Ghosts D → Type 0
+Member D ghosts = Client D MemoryTable Seat (Turn Tree Nodes) Nodes ghosts
+
+abbrev pub Members : (D : Type 0) → Ghosts D → Type 0
+Members D ghosts = Clients (Member D ghosts) (Room D MemoryTable Seat (Turn Tree Nodes) Nodes ghosts)
+
+module _ {D : Type 0} {ghosts : Ghosts D} where
+  -- the number of a client's account
+  abbrev pub number_of : Member D ghosts → ℕ
+  number_of c = (account_in table_opening table_ours table_account c).number
+
+  -- it is one of the engine's clients, between two of its calls
+  abbrev pub MayCall : Path D ghosts → Member D ghosts → Type 0
+  MayCall e c = IsClientOf table_opening table_ours table_account e c
+
+  -- it is the engine's client of this number, between two of its calls
+  pub record IsCaller (e : Path D ghosts) (n : ℕ) (c : Member D ghosts) : Type 0 where
+    pub belongs : MayCall e c
+    pub number : number_of c ≡ n
+
+  -- the clients from 1 on may call
+  pub record AllMayCall (e : Path D ghosts) (cs : List (Member D ghosts)) : Type 0 where
+    pub each : (i : ℕ) (d : Member D ghosts) → i < length cs → IsCaller e (i + 1) (slice_index_or cs i d)
+
+  -- these are all its clients, and they may call and close it
+  pub record AreAll (e : Path D ghosts) (all : Members D ghosts) : Type 0 where
+    pub may : AllMayCall e all.clients.items
+    pub len : length all.clients.items ≡ clients_of e.list
+    pub room : HasRoomToClose (clients_of e.list) all.room

@@ -1,0 +1,173 @@
+// Clients that call an engine over a disk in memory, each allowed where it calls.
+
+ghost use Rattle.std.specs.Prelude.{◌≡◌, ◌+◌, ◌<◌, ◌≤◌, length};
+ghost use Rattle.wp_model.specs.History.{max_sequence};
+ghost use Rattle.writer_list.specs.Seats.{clients_of};
+ghost use Rattle.engine_tests.specs.Callers.{number_of, MayCall, IsCaller, AllMayCall, AreAll};
+
+use crate::script::{Note, Step};
+use client_calls::Options;
+use engine_calls::{Clients, Closed};
+use group_engine::{Client, GroupEngine, Room};
+use log_writer::LogWriter;
+use memory_engine::{MemoryTable, open_engine};
+use std::alloc::Global;
+use std::process::Abort;
+use std::sync::{Mutex, Wait};
+use std::thread;
+use std::thread::Threads;
+use wp_edge::MemDisk;
+use wp_model::WriteOptions;
+use write_batch::Batch;
+
+pub(super) type Path = GroupEngine<MemDisk, MemoryTable>;
+
+pub(super) type Member = Client<MemDisk, MemoryTable>;
+
+pub(super) type Members = Clients<Member, Room<MemDisk, MemoryTable>>;
+
+pub(super) type Notes = Mutex<Vec<Note>>;
+
+// Opens an engine over an empty disk with so much room, of whose calls those of a list fail. The first looks at the
+// disk's length.
+pub(super) fn opened(
+    rt: &impl Abort,
+    alloc: Global,
+    room: usize,
+    fails: &[u64],
+    clients: u32,
+    options: Options,
+) -> (Path, Members)
+    requires options { (options.last ≤ max_sequence) × (options.batch_bytes ≤ 16777216) }
+    requires clients { (0 < clients) × (clients < 255) }
+    ensures all { AreAll result.0 result.1 }
+    ensures clients { clients_of result.0.list ≡ clients }
+{
+    let disk = MemDisk::new(alloc, room, b"", fails).expect(rt, "memory");
+    let Ok(log) = LogWriter::open(alloc, disk) else {
+        panic!(rt; "the log isn't opened")
+    };
+    match open_engine(alloc, log, clients, options) {
+        Ok(opened) => opened,
+        Err(_) => panic!(rt; "no memory"),
+    }
+}
+
+// The batch that puts each of the values at the key before it.
+fn batch_of(rt: &impl Abort, alloc: Global, rows: &[(&[u8], &[u8])]) -> Batch {
+    let mut batch = Batch::new(alloc).expect(rt, "memory");
+    for (key, value) in rows {
+        batch.put(key, value).expect(rt, "room");
+    }
+    batch
+}
+
+fn write<R: Wait>(
+    rt: &R,
+    engine: &Path,
+    client: &mut Member,
+    batch: Batch,
+    options: WriteOptions,
+) -> Note
+    requires { MayCall engine.now client.old }
+    ensures { MayCall engine.now client.new × (number_of client.new ≡ number_of client.old) }
+{
+    match engine.write(rt, client, batch, options) {
+        Ok(receipt) => Note::Wrote(receipt),
+        Err(refused) => Note::Refused(refused),
+    }
+}
+
+fn read<R: Wait>(rt: &R, engine: &Path, client: &mut Member, key: &[u8]) -> Note
+    requires { MayCall engine.now client.old }
+    ensures { MayCall engine.now client.new × (number_of client.new ≡ number_of client.old) }
+{
+    match engine.get(rt, client, key) {
+        Ok(read) => Note::Saw(read),
+        Err(_) => Note::NoMemory,
+    }
+}
+
+fn step<R: Wait + Abort>(
+    rt: &R,
+    alloc: Global,
+    engine: &Path,
+    client: &mut Member,
+    step: Step,
+) -> Note
+    requires { MayCall engine.now client.old }
+    ensures { MayCall engine.now client.new × (number_of client.new ≡ number_of client.old) }
+{
+    match step {
+        Step::Write { rows, options } => {
+            let batch = batch_of(rt, alloc, rows);
+            write(rt, engine, client, batch, options)
+        }
+        Step::Read { key } => read(rt, engine, client, key),
+    }
+}
+
+// Takes the steps one after the other, and notes what it is told.
+fn play<R: Wait + Abort>(
+    rt: &R,
+    alloc: Global,
+    engine: &Path,
+    client: &mut Member,
+    steps: &[Step],
+    notes: &Notes,
+)
+    requires { MayCall engine.now client.old }
+    ensures { MayCall engine.now client.new × (number_of client.new ≡ number_of client.old) }
+{
+    for i in 0..steps.len() {
+        let note = step(rt, alloc, engine, client, steps[i]);
+        notes.lock(rt).push(note).expect(rt, "memory");
+    }
+}
+
+// The script and the notes of one of the clients.
+fn play_own<R: Wait + Abort>(
+    rt: &R,
+    alloc: Global,
+    engine: &Path,
+    client: &mut Member,
+    scripts: &[Vec<Step>],
+    notes: &[Notes],
+    i: usize,
+)
+    requires { IsCaller engine.now (i + 1) client.old }
+    ensures { IsCaller engine.now (i + 1) client.new }
+{
+    let (Some(steps), Some(notes)) = (scripts.get(i), notes.get(i)) else {
+        panic!(rt; "no script")
+    };
+    play(rt, alloc, engine, client, steps.as_slice(), notes);
+}
+
+// All clients play at once, each on a thread of its own.
+pub(super) fn play_at_once<R: Threads + Wait + Abort + Sync>(
+    rt: &R,
+    alloc: Global,
+    engine: &Path,
+    clients: &mut [Member],
+    scripts: &[Vec<Step>],
+    notes: &[Notes],
+)
+    requires { AllMayCall engine.now clients.old × (0 < length clients.old) }
+    ensures { AllMayCall engine.now clients.new × (length clients.new ≡ length clients.old) }
+{
+    let threads = clients.len();
+    let each = |i: usize, client: &mut Member|
+        requires { IsCaller engine.now (i + 1) client.now }
+        ensures { IsCaller engine.entry.now (i + 1) client.exit.now }
+    { play_own(rt, alloc, engine, client, scripts, notes, i) };
+    thread::for_each_mut(rt, clients, threads, &each);
+}
+
+// The log and the last published sequence.
+pub(super) fn closed(engine: Path, all: Members) -> (LogWriter<MemDisk>, u64)
+    requires { AreAll engine all }
+{
+    let Closed { log, last } = engine.close(all);
+    (log, last)
+}
