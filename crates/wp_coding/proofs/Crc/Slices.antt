@@ -79,7 +79,8 @@ number_l-word : (a b c d : ℕ) → number_l 256 (a ∷ b ∷ c ∷ d ∷ []) �
 number_l-word a b c d = omega arith
 
 -- A number's digits by 2 ^ 32 are the words of its bytes.
-pub digits-words_in : (bytes : List ℕ) → length bytes ≡ 16 → AreBytes bytes → digits_l 4294967296 4 (number_l 256 bytes) ≡ words_in bytes
+pub digits-words_in : (bytes : List ℕ) → length bytes ≡ 16 → AreBytes bytes
+    → digits_l 4294967296 4 (number_l 256 bytes) ≡ words_in bytes
 digits-words_in (a ∷ b ∷ c ∷ d ∷ e ∷ f ∷ g ∷ h ∷ i ∷ j ∷ k ∷ l ∷ m ∷ n ∷ o ∷ p ∷ []) long are =
     let bytes : List ℕ = a ∷ b ∷ c ∷ d ∷ e ∷ f ∷ g ∷ h ∷ i ∷ j ∷ k ∷ l ∷ m ∷ n ∷ o ∷ p ∷ [] in
     let one = get_or_wider 256 4 4294967296 4 bytes 0 refl are (omega arith) ∙ number_l-word a b c d in
