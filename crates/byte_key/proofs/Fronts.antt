@@ -5,7 +5,7 @@ use Rattle.std.specs.Ordering.{nat_cmp, ordering_then, MatchOrdering}
 use Rattle.std.specs.declared.cmp.Ordering.{Ordering}
 use Rattle.std.specs.declared.cmp.Ordering.TheVariants.{Less, Equal, Greater}
 use Rattle.wp_model.specs.Map.{byte_order}
-use Rattle.wal_recover.specs.Keys.{front}
+use Rattle.byte_key.specs.Fronts.{front_of}
 
 number_same : (x : ℕ) (r : Ordering) → MatchOrdering r (x < x) (x ≡ x) (x < x) → r ≡ Equal
 number_same x Less h = absurd (omega (arith, h))
@@ -39,25 +39,25 @@ more_above x Equal fronts h d = d
 more_above x Greater fronts h d = λ apart. refl
 
 -- no list is below zeros
-least : (n : ℕ) (ys : List ℕ) → Decide Less (byte_order (front n []) (front n ys))
+least : (n : ℕ) (ys : List ℕ) → Decide Less (byte_order (front_of n []) (front_of n ys))
 least zero ys = λ apart. absurd (apart refl)
-least (suc n) [] = λ apart. absurd (apart (same (0 ∷ front n [])))
-least (suc n) (y ∷ ys) = more_below y (nat_cmp 0 y) (byte_order (front n []) (front n ys)) (ranks 0 y) (least n ys)
+least (suc n) [] = λ apart. absurd (apart (same (0 ∷ front_of n [])))
+least (suc n) (y ∷ ys) = more_below y (nat_cmp 0 y) (byte_order (front_of n []) (front_of n ys)) (ranks 0 y) (least n ys)
 
-greatest : (n : ℕ) (xs : List ℕ) → Decide Greater (byte_order (front n xs) (front n []))
+greatest : (n : ℕ) (xs : List ℕ) → Decide Greater (byte_order (front_of n xs) (front_of n []))
 greatest zero xs = λ apart. absurd (apart refl)
-greatest (suc n) [] = λ apart. absurd (apart (same (0 ∷ front n [])))
-greatest (suc n) (x ∷ xs) = more_above x (nat_cmp x 0) (byte_order (front n xs) (front n [])) (ranks x 0) (greatest n xs)
+greatest (suc n) [] = λ apart. absurd (apart (same (0 ∷ front_of n [])))
+greatest (suc n) (x ∷ xs) = more_above x (nat_cmp x 0) (byte_order (front_of n xs) (front_of n [])) (ranks x 0) (greatest n xs)
 
-decide : (n : ℕ) (xs ys : List ℕ) → Decide (byte_order xs ys) (byte_order (front n xs) (front n ys))
+decide : (n : ℕ) (xs ys : List ℕ) → Decide (byte_order xs ys) (byte_order (front_of n xs) (front_of n ys))
 decide zero xs ys = λ apart. absurd (apart refl)
-decide (suc n) [] [] = λ apart. absurd (apart (same (0 ∷ front n [])))
+decide (suc n) [] [] = λ apart. absurd (apart (same (0 ∷ front_of n [])))
 decide (suc n) [] (y ∷ ys) = least (suc n) (y ∷ ys)
 decide (suc n) (x ∷ xs) [] = greatest (suc n) (x ∷ xs)
-decide (suc n) (x ∷ xs) (y ∷ ys) = more (nat_cmp x y) (byte_order xs ys) (byte_order (front n xs) (front n ys)) (decide n xs ys)
+decide (suc n) (x ∷ xs) (y ∷ ys) = more (nat_cmp x y) (byte_order xs ys) (byte_order (front_of n xs) (front_of n ys)) (decide n xs ys)
 
 -- Where the first bytes differ they order the lists.
-pub ordered_by_fronts : (n : ℕ) (xs ys us vs : List ℕ) (r : Ordering) → front n xs ≡ us → front n ys ≡ vs → r ≡ byte_order us vs → (r ≡ Equal → ⊥) → r ≡ byte_order xs ys
+pub ordered_by_fronts : (n : ℕ) (xs ys us vs : List ℕ) (r : Ordering) → front_of n xs ≡ us → front_of n ys ≡ vs → r ≡ byte_order us vs → (r ≡ Equal → ⊥) → r ≡ byte_order xs ys
 ordered_by_fronts n xs ys us vs r u v order differ =
-    let fronts : r ≡ byte_order (front n xs) (front n ys) = order ∙ ap (byte_order us) (sym v) ∙ ap (λ (l : List ℕ). byte_order l (front n ys)) (sym u) in
+    let fronts : r ≡ byte_order (front_of n xs) (front_of n ys) = order ∙ ap (byte_order us) (sym v) ∙ ap (λ (l : List ℕ). byte_order l (front_of n ys)) (sym u) in
     fronts ∙ sym (decide n xs ys (λ e. differ (fronts ∙ e)))
