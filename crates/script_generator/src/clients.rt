@@ -3,6 +3,7 @@
 ghost use Rattle.std.specs.Prelude.{◌≡◌, ◌≤◌, IfOk};
 ghost use Rattle.wp_model.specs.Generator.{generated};
 ghost use Rattle.client_script.specs.Scripts.{commands_of, FitsBatches, HasScriptCommands};
+ghost use Rattle.script_generator.specs.Values.{HasSmallValues};
 
 use crate::batches::batches_of;
 use client_script::Script;
@@ -21,6 +22,9 @@ pub fn generate(alloc: Global, seed: u64, clients: u32, batches: u64) -> Result<
 
     // Each command is of a form that a script may say, and its words are short.
     ensures commands { IfOk result HasScriptCommands }
+
+    // Each value is a number below 1000.
+    ensures values { IfOk result (λ s. HasSmallValues (commands_of s)) }
 {
     let mut script = Script {
         clients: Vec::new(alloc),

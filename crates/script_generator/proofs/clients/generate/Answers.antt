@@ -2,6 +2,7 @@ use Rattle.std.proofs.Common.{arith}
 use Rattle.script_generator.proofs.Drawn.{clients_more}
 use Rattle.script_generator.proofs.Said.{generated_said}
 use Rattle.script_generator.proofs.Sizes.{generated_fits}
+use Rattle.script_generator.proofs.Values.{generated_small}
 use Rattle.script_generator.proofs.clients.generate.Goals as goal
 
 pub loop-before-preserved : goal.loop-before-preserved
@@ -16,3 +17,8 @@ returns-clause-fits c =
 pub returns-clause-commands : goal.returns-clause-commands
 returns-clause-commands c =
     generated_said c.args.seed c.loop-before.before c.args.batches c.loop-before.script.clients.items (omega arith) c.loop-before.invariant
+
+pub returns-clause-values : goal.returns-clause-values
+returns-clause-values c =
+    let small = generated_small c.args.seed c.loop-before.before c.args.batches in
+    rw c.loop-before.invariant small
