@@ -9,6 +9,7 @@ mod schedule;
 mod script;
 mod words;
 
+pub use numbers::value_of_digits;
 pub use parser::{TEXT_LIMIT, parse};
 pub use schedule::{Schedule, parse_schedule};
 pub use script::{Script, ScriptError};
