@@ -9,11 +9,15 @@ use Rattle.group_build.specs.LongestGroup.{MayJoin, IsLongestGroup}
 use Rattle.group_build.proofs.Longest.{longest}
 use Rattle.account_model.proofs.Wholes.{whole_of_queue}
 use Rattle.list_rule.specs.declared.view.Entry.{Entry}
+use Rattle.list_rule.specs.declared.view.Handling.{Handling}
 use Rattle.list_rule.specs.Chain.{Absent, Distinct, Within, AllCoded}
 use Rattle.list_rule.specs.Grouping.{code_of, code_by, item_of, codes, items, IsWhole}
 use Rattle.writer_list.specs.Roles.{asks}
+use Rattle.writer_list.specs.Seats.{HasGroup}
+use Rattle.writer_list.specs.declared.writer.Writer.{Writer}
 use Rattle.group_rule.specs.Plans.{CommitRequest, item_of_request, AreLawful, HaveOwnClients}
 use Rattle.group_engine.specs.declared.requests.Request.{Request}
+use Rattle.group_engine.specs.declared.requests.Reply.{Reply}
 use Rattle.group_engine.specs.Items.{item_with}
 use Rattle.group_engine.specs.Handled.{commit_request_of, commit_requests_of}
 use Rattle.group_engine.specs.Led.{IsLedGroup}
@@ -54,17 +58,18 @@ asks_size : (own : Entry Request) (group : List (Entry Request)) → length (map
 asks_size own [] = refl
 asks_size own (e ∷ es) = ap length (map_snoc item_at (asks own es) (e.by, e.asked)) ∙ (length-append (map item_at (asks own es)) (item_at (e.by, e.asked) ∷ []) ∙ (let h = asks_size own es in omega (arith, h)))
 
-module _ (law : (item : Item) → item_of (code_of item) ≡ item) where
+-- where each code that is asked for is that of the request's item
+module _ (law : (item : Item) → item_of (code_of item) ≡ item) {wanted : Request → ℕ → Type 0} (coded : (q : Request) (code : ℕ) → wanted q code → code ≡ code_by item_in q) where
   -- the items of a group, from its codes
-  items_are : (own : Entry Request) (group : List (Entry Request)) → AllCoded (code_by item_in) (group ++ own ∷ []) → items (group ++ own ∷ []) ≡ map item_at (asks own group)
-  items_are own [] h = ap (λ i. i ∷ []) (ap item_of h.0 ∙ law (item_in own.asked))
+  items_are : (own : Entry Request) (group : List (Entry Request)) → AllCoded wanted (group ++ own ∷ []) → items (group ++ own ∷ []) ≡ map item_at (asks own group)
+  items_are own [] h = ap (λ i. i ∷ []) (ap item_of (coded own.asked own.code h.0) ∙ law (item_in own.asked))
   items_are own (e ∷ es) h =
-      let one : item_of e.code ≡ item_in e.asked = ap item_of h.0 ∙ law (item_in e.asked) in
+      let one : item_of e.code ≡ item_in e.asked = ap item_of (coded e.asked e.code h.0) ∙ law (item_in e.asked) in
       ap (map item_of) (reverse-append (e.code ∷ []) (codes (es ++ own ∷ [])))
       ∙ (map_snoc item_of (reverse (codes (es ++ own ∷ []))) e.code ∙ ((λ i. items_are own es h.1 i ++ one i ∷ []) ∙ sym (map_snoc item_at (asks own es) (e.by, e.asked))))
 
   -- they are a whole group by themselves
-  whole_group : (max : ℕ) (own : Entry Request) (group left : List (Entry Request)) → IsWhole (code_by item_in) max own group left → group_len max (map item_at (asks own group)) ≡ length (map item_at (asks own group))
+  whole_group : (max : ℕ) (own : Entry Request) (group left : List (Entry Request)) → IsWhole wanted max own group left → group_len max (map item_at (asks own group)) ≡ length (map item_at (asks own group))
   whole_group max own group left whole =
       let mine : List Item = map item_at (asks own group) in
       let queue : List Item = items (left ++ (group ++ own ∷ [])) in
@@ -144,11 +149,15 @@ map_map : (xs : List (ℕ × Request)) → map item_of_request (commit_requests_
 map_map [] = refl
 map_map (x ∷ xs) = ap (λ l. item_at x ∷ l) (map_map xs)
 
-pub led_of : ((item : Item) → item_of (code_of item) ≡ item) → (max n : ℕ) (own : Entry Request) (group left : List (Entry Request)) → IsWhole (code_by item_in) max own group left → 0 < own.by → own.by ≤ n → Within n group → IsLedGroup max n (asks own group)
-led_of law max n own group left whole low high within =
+-- a leader has its group also where what its client was told is the same by another name
+pub retold : {L M : Type 0} (wanted : Request → ℕ → Type 0) (n max : ℕ) (own : Entry Request) (group left : List (Entry Request)) (seen : List (Handling Request Reply)) (m m' : List (Request × Reply)) (w : Writer Request Reply L M) → m ≡ m' → HasGroup wanted n max own group left seen m w → HasGroup wanted n max own group left seen m' w
+retold wanted n max own group left seen m m' w e has = subst (λ (x : List (Request × Reply)). HasGroup wanted n max own group left seen x w) e has
+
+pub led_of : ((item : Item) → item_of (code_of item) ≡ item) → {wanted : Request → ℕ → Type 0} → ((q : Request) (code : ℕ) → wanted q code → code ≡ code_by item_in q) → (max n : ℕ) (own : Entry Request) (group left : List (Entry Request)) → IsWhole wanted max own group left → 0 < own.by → own.by ≤ n → Within n group → IsLedGroup max n (asks own group)
+led_of law coded max n own group left whole low high within =
     let leader : ℕ × Request = (own.by, own.asked) in let ts : List (ℕ × Request) = rev_asks group in
     let is : asks own group ≡ leader ∷ ts = asks_are own group in
-    let len : group_len max (item_at leader ∷ map item_at ts) ≡ length (item_at leader ∷ map item_at ts) = subst (λ l. group_len max (map item_at l) ≡ length (map item_at l)) is (whole_group law max own group left whole) in
+    let len : group_len max (item_at leader ∷ map item_at ts) ≡ length (item_at leader ∷ map item_at ts) = subst (λ l. group_len max (map item_at l) ≡ length (map item_at l)) is (whole_group law coded max own group left whole) in
     let flags = of_requests (item_at leader) ts (joins max (item_at leader) (map item_at ts) len) in
     let d = distinct_own group own whole.1 in
     let items_of : map item_of_request (commit_requests_of (leader ∷ ts)) ≡ item_at leader ∷ map item_at ts = map_map (leader ∷ ts) in

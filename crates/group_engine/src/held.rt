@@ -42,6 +42,7 @@ impl Numbered for NoRight {
 impl<D: Disk, T: Table<Nodes, Parts>> Ledger<Request, Reply> for Held<D, T> {
     type About = About<D, T>;
 
+    ghost use Rattle.std.specs.Prelude.{⊤};
     ghost use Rattle.group_engine.specs.Handled.{AreHandled};
     ghost use Rattle.group_engine.specs.Law.{StandsFor};
 
@@ -49,6 +50,8 @@ impl<D: Disk, T: Table<Nodes, Parts>> Ledger<Request, Reply> for Held<D, T> {
         a.group_bytes l.log l.turn l.last handled };
 
     ghost kept = { λ a handled. AreHandled a.start handled };
+
+    ghost lawful = { λ _ _. ⊤ };
 
     ghost number_of = { λ l. l.last };
 

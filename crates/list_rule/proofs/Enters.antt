@@ -278,7 +278,7 @@ module _ {Q P L M : Type 0} (stands : Laws Q P L M) (n : ℕ) where
   grown homes line hand handled phase due e0 here (marked c) ne ok = ((here, ok.0), ok.1, ok.2, ok.3, ok.4)
   grown homes line hand handled phase due e0 here (cut c w) ne ok = ((e0 ∷ ok.0.0, ok.0.1, ap (λ l. e0 ∷ l) ok.0.2, (here, ok.0.3), ok.0.4, ok.0.5), ok.1, ok.2, ok.3)
 
-  module _ (slots id : ℕ) (me : Sat Q P L M) (c w old code : ℕ) (q : Q) (mine : List (Q × P)) (said : Option (Content Q P L M)) (packs : w ≡ pack old code) (mid : At c (Preparing w) mine me) (slot : me.1 ≡ (c, Asked q) ∷ []) (is_code : code ≡ stands.code_of q)
+  module _ (slots id : ℕ) (me : Sat Q P L M) (c w old code : ℕ) (q : Q) (mine : List (Q × P)) (said : Option (Content Q P L M)) (packs : w ≡ pack old code) (mid : At c (Preparing w) mine me) (slot : me.1 ≡ (c, Asked q) ∷ []) (is_asked : stands.asks q code)
       (s : St stands n) (r : Listed stands n s) (at : get_elem? s.views id ≡ some me.0) (hit : get_or s.words 0 0 ≡ old) where
     abbrev e0 : Entry Q
     e0 = entry c code q
@@ -335,7 +335,7 @@ module _ {Q P L M : Type 0} (stands : Laws Q P L M) (n : ℕ) where
               back = fit.5;
               else_back = λ _ _ _ ok. ok;
               kept = r.kept;
-              coded = λ e is. subst (λ (z : Entry Q). z.code ≡ stands.code_of z.asked) is is_code;
+              coded = λ e is. subst (λ (z : Entry Q). stands.asks z.asked z.code) is is_asked;
               account = acc.0;
               has_cut = tt;
               owing_is = owing_stays r.phase r.due r.account.owing r.owing_is acc.0.owing r.due c ph (ap (λ (x : Core Q P). x.3) acc.1.2.1 ∙ ap (λ (x : Core Q P). x.3) acc.1.1.1) (ap (λ f. untold f (r.due c)) (sym now)) (λ _ _. refl);
@@ -393,7 +393,7 @@ module _ {Q P L M : Type 0} (stands : Laws Q P L M) (n : ℕ) where
           log_is = grown hs r.line r.hand r.handled (put r.phase c ph) r.due e0 here r.mode some_one (mode_stays stands n s.homes hs r.line r.hand r.handled r.phase r.due r.due c ph (set_else s.homes c 0 (some (Asked q)) (λ e. omega arith)) (λ e bad. absurd (cc)) (λ j e _ bad _. absurd (cc)) (λ e bad. absurd (cc)) (λ l. taken_change r.phase r.due r.due c ph l r.hand (λ e bad. absurd (cc)) (λ _ _. refl)) (λ _ e. e) r.mode r.log_is);
           one_chosen = λ j e. put_at r.phase c ph (λ i f. f ≡ chosen e → r.mode ≡ waits i) j (λ _ bad. absurd (cc)) (λ _ ok. r.one_chosen j e ok);
           kept = r.kept;
-          coded = λ e is. subst (λ (z : Entry Q). z.code ≡ stands.code_of z.asked) is is_code;
+          coded = λ e is. subst (λ (z : Entry Q). stands.asks z.asked z.code) is is_asked;
           account = acc.0;
           has_cut = cut_stays r.account.log acc.0.log r.hand r.phase c ph (ap (λ (x : Core Q P). x.1) acc.1.1) r.mode (λ _ e bad. absurd (cc)) r.has_cut;
           owing_is = owing_stays r.phase r.due r.account.owing r.owing_is acc.0.owing r.due c ph (ap (λ (x : Core Q P). x.3) acc.1.1) (ap (λ f. untold f (r.due c)) (sym now)) (λ _ _. refl);
@@ -419,15 +419,15 @@ module _ {Q P L M : Type 0} (stands : Laws Q P L M) (n : ℕ) where
               ),
         )
 
-  pub enters_is : (slots id : ℕ) (me : Sat Q P L M) (c w old code : ℕ) (q : Q) (mine : List (Q × P)) (said : Option (Content Q P L M)) → w ≡ pack old code → At c (Preparing w) mine me → me.1 ≡ (c, Asked q) ∷ [] → code ≡ stands.code_of q
+  pub enters_is : (slots id : ℕ) (me : Sat Q P L M) (c w old code : ℕ) (q : Q) (mine : List (Q × P)) (said : Option (Content Q P L M)) → w ≡ pack old code → At c (Preparing w) mine me → me.1 ≡ (c, Asked q) ∷ [] → stands.asks q code
       → StepIs stands n (IsLink old (entry c code q)) slots id me 0 (λ y. either (eqb y old) c y) (entered stands.logs (step slots 0 old c said) me)
-  enters_is slots id me c w old code q mine said packs mid slot is_code s r long at fits = exchanged (get_or s.words 0 0) old c (Goes stands n (IsLink old (entry c code q)) s r 0 id me (entered stands.logs (step slots 0 old c said) me))
-      (λ hit. dite (ℕ_discrete old 0) (enters_first slots id me c w old code q mine said packs mid slot is_code s r at hit) (enters_later slots id me c w old code q mine said packs mid slot is_code s r at hit))
+  enters_is slots id me c w old code q mine said packs mid slot is_asked s r long at fits = exchanged (get_or s.words 0 0) old c (Goes stands n (IsLink old (entry c code q)) s r 0 id me (entered stands.logs (step slots 0 old c said) me))
+      (λ hit. dite (ℕ_discrete old 0) (enters_first slots id me c w old code q mine said packs mid slot is_asked s r at hit) (enters_later slots id me c w old code q mine said packs mid slot is_asked s r at hit))
       (λ miss. (me.0, keeps, tt, unmoved stands n (IsLink old (entry c code q) (get_or s.words 0 0)) s 0 id me.1 me.0 at r ((λ hit _. absurd (miss hit)), (λ hit _. absurd (miss hit)), λ _. refl), λ _ _ _ _ _ _. ((λ hit _. absurd (miss hit)), (λ hit _. absurd (miss hit)), λ _. refl)))
 
-  pub enters : (slots id : ℕ) (me : Sat Q P L M) (c w old code : ℕ) (q : Q) (mine : List (Q × P)) (said : Option (Content Q P L M)) → w ≡ pack old code → At c (Preparing w) mine me → me.1 ≡ (c, Asked q) ∷ [] → code ≡ stands.code_of q
+  pub enters : (slots id : ℕ) (me : Sat Q P L M) (c w old code : ℕ) (q : Q) (mine : List (Q × P)) (said : Option (Content Q P L M)) → w ≡ pack old code → At c (Preparing w) mine me → me.1 ≡ (c, Asked q) ∷ [] → stands.asks q code
       → Allows (Listed stands n) slots id me 0 (λ y. either (eqb y old) c y) (entered stands.logs (step slots 0 old c said) me)
-  enters slots id me c w old code q mine said packs mid slot is_code = allows stands n (IsLink old (entry c code q)) slots id me 0 (λ y. either (eqb y old) c y) (entered stands.logs (step slots 0 old c said) me) (enters_is slots id me c w old code q mine said packs mid slot is_code)
+  enters slots id me c w old code q mine said packs mid slot is_asked = allows stands n (IsLink old (entry c code q)) slots id me 0 (λ y. either (eqb y old) c y) (entered stands.logs (step slots 0 old c said) me) (enters_is slots id me c w old code q mine said packs mid slot is_asked)
 
   module _ (slots id : ℕ) (me : Sat Q P L M) (c k : ℕ) (q : Q) (mine : List (Q × P)) (is : k ≡ state_at c) (mid : At c (Waiting q) mine me) (empty : me.1 ≡ [])
       (s : St stands n) (r : Listed stands n s) (at : get_elem? s.views id ≡ some me.0) where
@@ -566,9 +566,9 @@ module _ {Q P L M : Type 0} (stands : Laws Q P L M) (n : ℕ) where
   pub looks : (slots id : ℕ) (me : Sat Q P L M) (c k : ℕ) (q : Q) (mine : List (Q × P)) → k ≡ state_at c → At c (Waiting q) mine me → me.1 ≡ [] → Allows (Listed stands n) slots id me k (λ y. y) (looked stands.logs stands.kept (step slots k 0 0 none) me)
   looks slots id me c k q mine is mid empty = allows stands n (HappensWhere 2 (IsElect c q)) slots id me k (λ y. y) (looked stands.logs stands.kept (step slots k 0 0 none) me) (looks_is slots id me c k q mine is mid empty)
 
-  pub enters_as : (stood : L → List (Handling Q P) → Type 0) → stands.logs ≡ stood → (slots id : ℕ) (me : Sat Q P L M) (c w old code : ℕ) (q : Q) (mine : List (Q × P)) (said : Option (Content Q P L M)) → w ≡ pack old code → At c (Preparing w) mine me → me.1 ≡ (c, Asked q) ∷ [] → code ≡ stands.code_of q
+  pub enters_as : (stood : L → List (Handling Q P) → Type 0) → stands.logs ≡ stood → (slots id : ℕ) (me : Sat Q P L M) (c w old code : ℕ) (q : Q) (mine : List (Q × P)) (said : Option (Content Q P L M)) → w ≡ pack old code → At c (Preparing w) mine me → me.1 ≡ (c, Asked q) ∷ [] → stands.asks q code
       → Allows (Listed stands n) slots id me 0 (λ y. either (eqb y old) c y) (entered stood (step slots 0 old c said) me)
-  enters_as stood is slots id me c w old code q mine said packs mid slot is_code = subst (λ z. Allows (Listed stands n) slots id me 0 (λ y. either (eqb y old) c y) (entered z (step slots 0 old c said) me)) is (enters slots id me c w old code q mine said packs mid slot is_code)
+  enters_as stood is slots id me c w old code q mine said packs mid slot is_asked = subst (λ z. Allows (Listed stands n) slots id me 0 (λ y. either (eqb y old) c y) (entered z (step slots 0 old c said) me)) is (enters slots id me c w old code q mine said packs mid slot is_asked)
 
   pub looks_as : (stood : L → List (Handling Q P) → Type 0) (kept : List (Handling Q P) → Type 0) → stands.logs ≡ stood → stands.kept ≡ kept → (slots id : ℕ) (me : Sat Q P L M) (c k : ℕ) (q : Q) (mine : List (Q × P)) → k ≡ state_at c → At c (Waiting q) mine me → me.1 ≡ []
       → Allows (Listed stands n) slots id me k (λ y. y) (looked stood kept (step slots k 0 0 none) me)

@@ -217,16 +217,16 @@ module _ {Q P L M : Type 0} (stands : Laws Q P L M) (n : ℕ) where
         ),
       )
 
-  coded_in : (s : St stands n) (r : Listed stands n s) (es : List (Entry Q)) → Stand r.phase es → AllCoded stands.code_of es
+  coded_in : (s : St stands n) (r : Listed stands n s) (es : List (Entry Q)) → Stand r.phase es → AllCoded stands.asks es
   coded_in s r [] ok = tt
   coded_in s r (e ∷ es) ok = (r.coded e.by e ok.0, coded_in s r es ok.1)
 
-  all_coded : (s : St stands n) (r : Listed stands n s) (front es : List (Entry Q)) → Stand r.phase (front ++ es) → AllCoded stands.code_of es
+  all_coded : (s : St stands n) (r : Listed stands n s) (front es : List (Entry Q)) → Stand r.phase (front ++ es) → AllCoded stands.asks es
   all_coded s r [] es ok = coded_in s r es ok
   all_coded s r (f ∷ front) es ok = all_coded s r front es ok.1
 
   -- the leader reads the queue, and so builds its group
-  pub reads_is : (slots id : ℕ) (me : Sat Q P L M) (max c : ℕ) (own0 : Entry Q) (seen : List (Handling Q P)) (mine : List (Q × P)) → At c (Fresh own0 seen) mine me → StepIs stands n (λ _. IsBuild max own0) slots id me 0 (λ y. y) (read_once stands.code_of max (step slots 0 0 0 none) me)
+  pub reads_is : (slots id : ℕ) (me : Sat Q P L M) (max c : ℕ) (own0 : Entry Q) (seen : List (Handling Q P)) (mine : List (Q × P)) → At c (Fresh own0 seen) mine me → StepIs stands n (λ _. IsBuild max own0) slots id me 0 (λ y. y) (read_once stands.asks max (step slots 0 0 0 none) me)
   reads_is slots id me max c o seen mine mid s r long at fits =
       let h : Hold Q P = hold c (Fresh o seen) mine in
       let at' : get_elem? s.views id ≡ some (h ∷ []) = at ∙ ap some mid in
@@ -290,7 +290,7 @@ module _ {Q P L M : Type 0} (stands : Laws Q P L M) (n : ℕ) where
         ),
         λ c' o' seen' mine' mid'. let e = one_hold c c' (Fresh o seen) (Fresh o' seen') mine mine' me.0 mid mid' in
             let f = one_fresh o o' seen seen' e.1 in
-            subst (λ (z : ℕ × Entry Q × List (Handling Q P) × List (Q × P)). Builds stands.code_of slots max z.0 z.1 z.2 z.3 (get_or s.words 0 0) me (w, me.1)) (λ i. (e.0 i, f.0 i, f.1 i, e.2 i)) (
+            subst (λ (z : ℕ × Entry Q × List (Handling Q P) × List (Q × P)). Builds stands.asks slots max z.0 z.1 z.2 z.3 (get_or s.words 0 0) me (w, me.1)) (λ i. (e.0 i, f.0 i, f.1 i, e.2 i)) (
               left,
               group,
               refl,
@@ -302,8 +302,11 @@ module _ {Q P L M : Type 0} (stands : Laws Q P L M) (n : ℕ) where
             ),
       )
 
-  pub reads : (slots id : ℕ) (me : Sat Q P L M) (max c : ℕ) (own0 : Entry Q) (seen : List (Handling Q P)) (mine : List (Q × P)) → At c (Fresh own0 seen) mine me → Allows (Listed stands n) slots id me 0 (λ y. y) (read_once stands.code_of max (step slots 0 0 0 none) me)
-  reads slots id me max c o seen mine mid = allows stands n (λ _. IsBuild max o) slots id me 0 (λ y. y) (read_once stands.code_of max (step slots 0 0 0 none) me) (reads_is slots id me max c o seen mine mid)
+  pub reads : (slots id : ℕ) (me : Sat Q P L M) (max c : ℕ) (own0 : Entry Q) (seen : List (Handling Q P)) (mine : List (Q × P)) → At c (Fresh own0 seen) mine me → Allows (Listed stands n) slots id me 0 (λ y. y) (read_once stands.asks max (step slots 0 0 0 none) me)
+  reads slots id me max c o seen mine mid = allows stands n (λ _. IsBuild max o) slots id me 0 (λ y. y) (read_once stands.asks max (step slots 0 0 0 none) me) (reads_is slots id me max c o seen mine mid)
+
+  pub reads_as : (asked : Q → ℕ → Type 0) → stands.asks ≡ asked → (slots id : ℕ) (me : Sat Q P L M) (max c : ℕ) (own0 : Entry Q) (seen : List (Handling Q P)) (mine : List (Q × P)) → At c (Fresh own0 seen) mine me → Allows (Listed stands n) slots id me 0 (λ y. y) (read_once asked max (step slots 0 0 0 none) me)
+  reads_as asked is slots id me max c o seen mine mid = subst (λ z. Allows (Listed stands n) slots id me 0 (λ y. y) (read_once z max (step slots 0 0 0 none) me)) is (reads slots id me max c o seen mine mid)
 
   pub traces_is : (slots id : ℕ) (me : Sat Q P L M) (k : ℕ) → StepIs stands n (λ _. Stays) slots id me k (λ y. y) (traced (step slots k 0 0 none) me)
   traces_is slots id me k s r long at fits = (

@@ -127,7 +127,7 @@ module _ {Q P L M : Type 0} (stands : Laws Q P L M) (n : ℕ) where
     pub back : KnowsBack two h.client h'.back
     pub else_back : (k : ℕ) → k ≢ h.client → (b : Back Q) → KnowsBack r.two k b → KnowsBack two k b
     pub kept : stands.kept handled
-    pub coded : (e : Entry Q) → InChain e ph → e.code ≡ stands.code_of e.asked
+    pub coded : (e : Entry Q) → InChain e ph → stands.asks e.asked e.code
     pub told_else : (k : ℕ) → k ≢ h.client → told k ≡ r.told k
     pub mine : h'.mine ≡ told h.client
     pub knows : Knows line hand handled mode (put r.phase m ph) due h.client h'.stage
@@ -173,7 +173,7 @@ module _ {Q P L M : Type 0} (stands : Laws Q P L M) (n : ℕ) where
           second = v.second;
           two = two;
           kept = v.kept;
-          coded = λ i e. put_at r.phase m ph (λ k f. InChain e f → e.code ≡ stands.code_of e.asked) i (λ _ is. v.coded e is) (λ _ is. r.coded i e is);
+          coded = λ i e. put_at r.phase m ph (λ k f. InChain e f → stands.asks e.asked e.code) i (λ _ is. v.coded e is) (λ _ is. r.coded i e is);
           seats = λ j x e. ⊎_elim
               (λ (t : (j ≡ id) × (h' ∷ [] ≡ x)). subst (λ (z : ℕ × List (Hold Q P)). AllFit n line hand handled mode (put r.phase m ph) due told two r.seat z.0 z.1) (λ i. (sym t.0 i, t.1 i)) (
                 (ap r.seat v.same_client ∙ mine.0, subst (λ (k : ℕ). 0 < k) (sym v.same_client) mine.1, subst (λ (k : ℕ). k ≤ n) (sym v.same_client) mine.2, v.mine ∙ ap told (sym v.same_client), subst (λ (k : ℕ). Knows line hand handled mode (put r.phase m ph) due k h'.stage) (sym v.same_client) v.knows, subst (λ (k : ℕ). KnowsBack two k h'.back) (sym v.same_client) v.back),

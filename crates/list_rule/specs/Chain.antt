@@ -44,10 +44,10 @@ module _ {Q : Type 0} where
   Distinct [] = Unit {0}
   Distinct (e ∷ es) = Absent e.by es × Distinct es
 
-  -- each writer's code is that of its request
-  abbrev pub AllCoded : (Q → ℕ) → List (Entry Q) → Type 0
-  AllCoded codes [] = Unit {0}
-  AllCoded codes (e ∷ es) = (e.code ≡ codes e.asked) × AllCoded codes es
+  -- of each writer's request and code holds what is asked of them
+  abbrev pub AllCoded : (Q → ℕ → Type 0) → List (Entry Q) → Type 0
+  AllCoded asks [] = Unit {0}
+  AllCoded asks (e ∷ es) = asks e.asked e.code × AllCoded asks es
 
   -- each writer has a client's number
   abbrev pub Within : ℕ → List (Entry Q) → Type 0

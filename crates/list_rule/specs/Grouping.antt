@@ -40,7 +40,7 @@ module _ {Q : Type 0} where
   abbrev pub IsGroup : ℕ → Entry Q → List (Entry Q) → List (Entry Q) → Type 0
   IsGroup max own group left = length (group ++ own ∷ []) ≡ group_len max (items (left ++ (group ++ own ∷ [])))
 
-  -- the same, of writers of different clients, whose codes are those of their requests
-  abbrev pub IsWhole : (Q → ℕ) → ℕ → Entry Q → List (Entry Q) → List (Entry Q) → Type 0
-  IsWhole code_of max own group left = IsGroup max own group left × Distinct (group ++ own ∷ [])
-      × AllCoded code_of (group ++ own ∷ [])
+  -- the same, of writers of different clients, of whose requests and codes holds what the list's law asks
+  abbrev pub IsWhole : (Q → ℕ → Type 0) → ℕ → Entry Q → List (Entry Q) → List (Entry Q) → Type 0
+  IsWhole asks max own group left = IsGroup max own group left × Distinct (group ++ own ∷ [])
+      × AllCoded asks (group ++ own ∷ [])

@@ -23,7 +23,17 @@ pub record Laws (Q P L M : Type 0) : Type 1 where
   -- what holds of what was handled, wherever the log is
   pub kept : List (Handling Q P) → Type 0
   pub keeps : (l : L) (hs : List (Handling Q P)) → logs l hs → kept hs
-  pub code_of : Q → ℕ
+  -- what the list's law asks of a request and its code
+  pub asks : Q → ℕ → Type 0
+
+-- the code is that of the request's item, and the request is lawful for what the law is about
+abbrev pub asks_for : {Q K : Type 0} → (Q → Item) → (K → Q → Type 0) → K → Q → ℕ → Type 0
+asks_for item_of lawful about q code = (code ≡ code_by item_of q) × lawful about q
+
+-- the same where what the law is about was picked
+abbrev pub asks_picked : {Q K : Type 0} → (Q → Item) → (K → Q → Type 0) → Picked K → Q → ℕ → Type 0
+asks_picked item_of lawful None = λ q code. code ≡ code_by item_of q
+asks_picked item_of lawful (Some about) = asks_for item_of lawful about
 
 -- the last number of the runs given, from this one on: a run is its first number and its count, and one with the count
 -- 0 is none
@@ -46,9 +56,9 @@ abbrev pub kept_picked : {Q P K : Type 0} → (K → List (Handling Q P) → Typ
 kept_picked kept None = λ hs. Unit {0}
 kept_picked kept (Some about) = kept about
 
-abbrev pub laws : {Q P L M : Type 0} → (Q → ℕ) → (L → List (Handling Q P) → Type 0) → (List (Handling Q P) → Type 0)
-    → (L → ℕ) → (P → ℕ × ℕ) → (M → ℕ) → ℕ → ℕ → Bool → Laws Q P L M
-laws code_of stands kept number run right_number start right_start piped = record {
+abbrev pub laws : {Q P L M : Type 0} → (Q → ℕ → Type 0) → (L → List (Handling Q P) → Type 0)
+    → (List (Handling Q P) → Type 0) → (L → ℕ) → (P → ℕ × ℕ) → (M → ℕ) → ℕ → ℕ → Bool → Laws Q P L M
+laws asks stands kept number run right_number start right_start piped = record {
   logs = logs_from stands kept number run start;
   rights = λ m k. right_number m ≡ k;
   last = last_run run start;
@@ -56,12 +66,13 @@ laws code_of stands kept number run right_number start right_start piped = recor
   piped = piped;
   kept = kept;
   keeps = λ l hs h. h.1;
-  code_of = code_of;
+  asks = asks;
 }
 
 -- the laws of a list that is opened so
-abbrev pub laws_for : {Q P L M K : Type 0} → (Q → Item) → (K → L → List (Handling Q P) → Type 0)
+abbrev pub laws_for : {Q P L M K : Type 0} → (Q → Item) → (K → Q → Type 0) → (K → L → List (Handling Q P) → Type 0)
     → (K → List (Handling Q P) → Type 0)
     → (L → ℕ) → (P → ℕ × ℕ) → (M → ℕ) → Start K → Laws Q P L M
-laws_for item_of stands kept number run right_number k =
-    laws (code_by item_of) (stands k.about) (kept k.about) number run right_number k.log k.right k.pipelined
+laws_for item_of lawful stands kept number run right_number k =
+    laws (asks_for item_of lawful k.about) (stands k.about) (kept k.about) number run right_number k.log k.right
+    k.pipelined

@@ -161,17 +161,17 @@ module _ {Q P L M : Type 0} where
       × AllBelow slots (queue ++ in_hand lead)
 
   -- the leader has read the queue: it has built its group, and these are left
-  abbrev pub Builds : (Q → ℕ) → ℕ → ℕ → ℕ → Entry Q → List (Handling Q P) → List (Q × P) → ℕ → Sat Q P L M → Sat Q P L M
-      → Type 0
-  Builds code_of slots max c own seen mine r m m' = (left group : List (Entry Q))
+  abbrev pub Builds : (Q → ℕ → Type 0) → ℕ → ℕ → ℕ → Entry Q → List (Handling Q P) → List (Q × P) → ℕ → Sat Q P L M
+      → Sat Q P L M → Type 0
+  Builds asks slots max c own seen mine r m m' = (left group : List (Entry Q))
       × At c (Leading (building own seen (left ++ (group ++ own ∷ [])) group)) mine m' × (m'.1 ≡ m.1)
-      × IsWhole code_of max own group left
+      × IsWhole asks max own group left
       × (r ≡ newest (left ++ (group ++ own ∷ []))) × (length (left ++ (group ++ own ∷ [])) + 1 < slots)
       × AllBelow slots (left ++ (group ++ own ∷ []))
 
-  abbrev pub read_once : (Q → ℕ) → ℕ → Step (Content Q P L M) → Sat Q P L M → ℕ → Sat Q P L M → Type 0
-  read_once code_of max st m r m' = (c : ℕ) (own : Entry Q) (seen : List (Handling Q P)) (mine : List (Q × P))
-      → At c (Fresh own seen) mine m → Builds code_of st.slots max c own seen mine r m m'
+  abbrev pub read_once : (Q → ℕ → Type 0) → ℕ → Step (Content Q P L M) → Sat Q P L M → ℕ → Sat Q P L M → Type 0
+  read_once asks max st m r m' = (c : ℕ) (own : Entry Q) (seen : List (Handling Q P)) (mine : List (Q × P))
+      → At c (Fresh own seen) mine m → Builds asks st.slots max c own seen mine r m m'
 
   -- a link of the walk
   abbrev pub traced : Step (Content Q P L M) → Sat Q P L M → ℕ → Sat Q P L M → Type 0

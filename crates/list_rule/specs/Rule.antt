@@ -20,7 +20,7 @@ use Rattle.list_rule.specs.Chain.{state_at, older_at, newest, newest_from, Links
 use Rattle.list_rule.specs.Standing.{Phase, idle, preparing, linked, chosen, leads, taken, completed, collecting, Mode, open_, waits, led, built, cut, marked, base_of, Holds, InFront, Place, away, parted, queued, called, serves, Turn, still, calls, held_by, passes, ahead, Two, line_of, flat, In, Apart, InStep, KnowsBack}
 use Rattle.list_rule.specs.Laws.{Laws}
 -- cited with the words of the rule by those who make the steps
-pub use Rattle.list_rule.specs.Laws.{Unnumbered, last_run, logs_from, logs_picked, kept_picked}
+pub use Rattle.list_rule.specs.Laws.{Unnumbered, last_run, logs_from, logs_picked, kept_picked, asks_for, asks_picked}
 
 module _ {Q P : Type 0} where
   -- the writer e stands in the list
@@ -266,7 +266,7 @@ module _ {Q P L M : Type 0} (stands : Laws Q P L M) where
     pub owing_is : (i : ℕ) → of i account.owing ≡ untold (phase i) (due i)
     pub second : Second n s.words s.homes phase mode (stands.last handled) two
     pub kept : stands.kept handled
-    pub coded : (i : ℕ) (e : Entry Q) → InChain e (phase i) → e.code ≡ stands.code_of e.asked
+    pub coded : (i : ℕ) (e : Entry Q) → InChain e (phase i) → stands.asks e.asked e.code
     pub seats : (j : ℕ) (v : List (Hold Q P)) → get_elem? s.views j ≡ some v
         → AllFit n line hand handled mode phase due told two seat j v
 

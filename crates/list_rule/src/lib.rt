@@ -28,6 +28,9 @@
 //! that it is none, say [`steps_and_events`] and [`second_steps_and_events`], and which event of the write path's core
 //! an event of the list is [`list_and_core`].
 //!
+//! Each request in the list is lawful for what the list's law is about (`lawful` of [`Ledger`]): who links it shows so,
+//! and its leader knows it.
+//!
 //! | Step | Who makes it | What it does | Event of the write path |
 //! |---|---|---|---|
 //! | store of 1 to STATE `i` ([`Begin`]) | client `i` | takes its empty slot | |

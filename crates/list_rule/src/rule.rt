@@ -21,6 +21,9 @@ pub trait Ledger<Q, P> {
     /// What holds of what was handled, wherever the log is.
     ghost kept: { Self.About → List (Handling Q P) → Type 0 };
 
+    /// What holds of each request that is in the list.
+    ghost lawful: { Self.About → Q → Type 0 };
+
     ghost number_of: { Self → ℕ };
 
     fn number(&self) -> u64
@@ -51,7 +54,7 @@ pub trait Itemized {
     ghost item_of: { Self → Item };
 }
 
-/// What the law of the log is about, and the number at opening, which the caller picks.
+/// What the law of the log is about, and a number, which the caller picks: the one at opening, or a group's bound.
 pub trait PickedAbout<K> {
     ghost use Rattle.std.specs.Prelude.{ℕ, Option};
 
@@ -86,7 +89,8 @@ impl<Q: Itemized, P: Given, L: Ledger<Q, P>, M: Numbered> TableRule<
     View<Q, P>,
     Start<L::About>,
 > for Order {
-    ghost holds = { λ k. Listed (laws_for Q.item_of L.stands L.kept L.number_of P.run_of M.number_of k) k.clients };
+    ghost holds = { λ k. Listed (laws_for Q.item_of L.lawful L.stands L.kept L.number_of P.run_of M.number_of k)
+        k.clients };
 
     ghost first = { λ k. newcomers k.clients };
 }

@@ -27,18 +27,18 @@ use crate::rule::{Given, Itemized, Ledger, Numbered};
 /// group is cut off from the first, are no events.
 pub fn second_steps_and_events<Q: Itemized, P: Given, L: Ledger<Q, P>, M: Numbered>()
     ensures read_newest { (z : Start L.About) (slots id : ℕ) (me : Sat Q P L M)
-        → StepIs (laws_for Q.item_of L.stands L.kept L.number_of P.run_of M.number_of z) z.clients (λ _. Stays)
+        → StepIs (laws_for Q.item_of L.lawful L.stands L.kept L.number_of P.run_of M.number_of z) z.clients (λ _. Stays)
         slots id me 1 (λ x. x) (peeked (step slots 1 0 0 none) me) }
     ensures cut_away { (z : Start L.About) (slots id word c from new : ℕ) (me : Sat Q P L M) (lead : Lead Q P)
         (mine : List (Q × P)) (newer : List (Entry Q)) (x : Entry Q)
         → At c (Leading lead) mine me → lead.taken ≡ lead.group → lead.walk ≡ newer ++ x ∷ in_hand lead
         → word ≡ older_at x.by → new ≡ pack 0 x.code
-        → StepIs (laws_for Q.item_of L.stands L.kept L.number_of P.run_of M.number_of z) z.clients (λ _. Stays)
+        → StepIs (laws_for Q.item_of L.lawful L.stands L.kept L.number_of P.run_of M.number_of z) z.clients (λ _. Stays)
         slots id me word (λ _. new) (λ _. cut_as (some from) (step slots word new 0 none) me new) }
     ensures mark { (z : Start L.About) (slots id c from member : ℕ) (me : Sat Q P L M) (lead : Lead Q P)
         (mine : List (Q × P))
         → At c (Leading lead) mine me → lead.taken ≡ lead.group → member ≡ newest (in_hand lead)
-        → StepIs (laws_for Q.item_of L.stands L.kept L.number_of P.run_of M.number_of z) z.clients (λ _. Stays)
+        → StepIs (laws_for Q.item_of L.lawful L.stands L.kept L.number_of P.run_of M.number_of z) z.clients (λ _. Stays)
         slots id me 0 (λ x. either (x == member) 255 x) (marked_off from (step slots 0 member 255 none) me) }
     ensures wake { (z : Start L.About) (slots id word c : ℕ) (me : Sat Q P L M) (lead : Lead Q P) (x : Entry Q)
         (mine : List (Q × P)) (back : Back Q) (gs : List (Entry Q × P)) (p : P) (l : L)
@@ -49,7 +49,7 @@ pub fn second_steps_and_events<Q: Itemized, P: Given, L: Ledger<Q, P>, M: Number
         → logs_picked L.stands L.kept L.number_of P.run_of z.log (Some z.about) l
         (lead.seen ++ all_answers lead.own p gs)
         → HandsOn z.pipelined (last_run P.run_of z.log) back lead.seen (lead.seen ++ all_answers lead.own p gs)
-        → StepIs (laws_for Q.item_of L.stands L.kept L.number_of P.run_of M.number_of z) z.clients
+        → StepIs (laws_for Q.item_of L.lawful L.stands L.kept L.number_of P.run_of M.number_of z) z.clients
         (λ _. IsExit lead.own p gs) slots id me word (λ _. 2) (λ _. woken_on (step slots word 2 0 none) me 2) }
     ensures free { (z : Start L.About) (slots id c : ℕ) (me : Sat Q P L M) (lead : Lead Q P)
         (mine : List (Q × P)) (back : Back Q) (gs : List (Entry Q × P)) (p : P) (l : L)
@@ -59,60 +59,60 @@ pub fn second_steps_and_events<Q: Itemized, P: Given, L: Ledger<Q, P>, M: Number
         → logs_picked L.stands L.kept L.number_of P.run_of z.log (Some z.about) l
         (lead.seen ++ all_answers lead.own p gs)
         → HandsOn z.pipelined (last_run P.run_of z.log) back lead.seen (lead.seen ++ all_answers lead.own p gs)
-        → StepIs (laws_for Q.item_of L.stands L.kept L.number_of P.run_of M.number_of z) z.clients
+        → StepIs (laws_for Q.item_of L.lawful L.stands L.kept L.number_of P.run_of M.number_of z) z.clients
         (HappensWhere 255 (IsExit lead.own p gs)) slots id me 0 (λ x. either (x == 255) 0 x)
         (freed (step slots 0 255 0 none) me) }
     ensures read_older_marked { (z : Start L.About) (slots id word : ℕ) (me : Sat Q P L M)
-        → StepIs (laws_for Q.item_of L.stands L.kept L.number_of P.run_of M.number_of z) z.clients (λ _. Stays)
+        → StepIs (laws_for Q.item_of L.lawful L.stands L.kept L.number_of P.run_of M.number_of z) z.clients (λ _. Stays)
         slots id me word (λ x. x) (traced_marked (step slots word 0 0 none) me) }
     ensures cut_behind_mark { (z : Start L.About) (slots id word c new : ℕ) (me : Sat Q P L M) (lead : Lead Q P)
         (mine : List (Q × P)) (back : Back Q) (newer : List (Entry Q)) (x : Entry Q)
         → AtWith c (Marking lead) mine back me → lead.walk ≡ newer ++ x ∷ []
         → word ≡ older_at x.by → new ≡ pack 0 x.code
-        → StepIs (laws_for Q.item_of L.stands L.kept L.number_of P.run_of M.number_of z) z.clients (λ _. Stays)
+        → StepIs (laws_for Q.item_of L.lawful L.stands L.kept L.number_of P.run_of M.number_of z) z.clients (λ _. Stays)
         slots id me word (λ _. new) (λ _. cut_marked (step slots word new 0 none) me new) }
     ensures aim_second { (z : Start L.About) (slots id word c saw named new : ℕ) (me : Sat Q P L M) (stage : Stage Q P)
         (mine : List (Q × P)) (g : Squad Q)
         → AtWith c stage mine (Parting g named) me → word ≡ older_at c → new ≡ pack saw g.own.code
-        → StepIs (laws_for Q.item_of L.stands L.kept L.number_of P.run_of M.number_of z) z.clients (λ _. Stays)
+        → StepIs (laws_for Q.item_of L.lawful L.stands L.kept L.number_of P.run_of M.number_of z) z.clients (λ _. Stays)
         slots id me word (λ _. new) (λ _. aimed_second (step slots word new 0 none) me new) }
     ensures join_second { (z : Start L.About) (slots id c saw new to : ℕ) (me : Sat Q P L M) (stage : Stage Q P)
         (lead : Lead Q P) (mine : List (Q × P)) (g : Squad Q)
         → z.pipelined ≡ true → AtWith c stage mine (Parting g saw) me → IsCut lead stage
         → g.from ≡ last_run P.run_of z.log lead.seen → new ≡ newest (line_of g)
-        → StepIs (laws_for Q.item_of L.stands L.kept L.number_of P.run_of M.number_of z) z.clients (λ _. Stays)
+        → StepIs (laws_for Q.item_of L.lawful L.stands L.kept L.number_of P.run_of M.number_of z) z.clients (λ _. Stays)
         slots id me 1 (λ x. either (x == saw) new x)
         (joined (λ m k. M.number_of m ≡ k) to (step slots 1 saw new none) me) }
     ensures summon { (z : Start L.About) (slots id word c : ℕ) (me : Sat Q P L M) (d : Debt Q P) (mine : List (Q × P))
         (g : Squad Q)
         → z.pipelined ≡ true → AtWith c (Settling d) mine (Queued g) me → word ≡ state_at c
-        → StepIs (laws_for Q.item_of L.stands L.kept L.number_of P.run_of M.number_of z) z.clients (λ _. Stays)
+        → StepIs (laws_for Q.item_of L.lawful L.stands L.kept L.number_of P.run_of M.number_of z) z.clients (λ _. Stays)
         slots id me word (λ x. x) (summoned (λ m k. M.number_of m ≡ k) (step slots word 0 0 none) me) }
     ensures make_parallel { (z : Start L.About) (slots id word c : ℕ) (me : Sat Q P L M) (member : Entry Q × P)
         (newer older : List (Entry Q × P)) (own : Entry Q) (p : P) (mine : List (Q × P)) (back : Back Q)
         → AtWith c (Settling (debt (newer ++ member ∷ older) own p)) mine back me
         → word ≡ state_at member.0.by → member.0.by ≤ z.clients
-        → StepIs (laws_for Q.item_of L.stands L.kept L.number_of P.run_of M.number_of z) z.clients (λ _. Stays)
+        → StepIs (laws_for Q.item_of L.lawful L.stands L.kept L.number_of P.run_of M.number_of z) z.clients (λ _. Stays)
         slots id me word (λ _. 8) (λ _. kept (step slots word 8 0 none) me 8) }
     ensures leave_second { (z : Start L.About) (slots id c member k : ℕ) (me : Sat Q P L M) (d : Debt Q P)
         (mine : List (Q × P)) (g : Squad Q) (walk : List (Entry Q)) (right : M) (more : List (ℕ × Content Q P L M))
         → z.pipelined ≡ true → AtWith c (Settling d) mine (Serving g walk) me → me.1 ≡ (k, Right right) ∷ more
         → k + 1 ≡ slots → member ≡ newest (line_of g) → M.number_of right ≡ g.to
-        → StepIs (laws_for Q.item_of L.stands L.kept L.number_of P.run_of M.number_of z) z.clients (λ _. Stays)
+        → StepIs (laws_for Q.item_of L.lawful L.stands L.kept L.number_of P.run_of M.number_of z) z.clients (λ _. Stays)
         slots id me 1 (λ x. either (x == member) 0 x) (left_second (step slots 1 member 0 none) me) }
     ensures read_older_second { (z : Start L.About) (slots id word : ℕ) (me : Sat Q P L M)
-        → StepIs (laws_for Q.item_of L.stands L.kept L.number_of P.run_of M.number_of z) z.clients (λ _. Stays)
+        → StepIs (laws_for Q.item_of L.lawful L.stands L.kept L.number_of P.run_of M.number_of z) z.clients (λ _. Stays)
         slots id me word (λ x. x) (traced_second (step slots word 0 0 none) me) }
     ensures clear_second { (z : Start L.About) (slots id word c new : ℕ) (me : Sat Q P L M) (d : Debt Q P)
         (mine : List (Q × P)) (g : Squad Q) (walk newer : List (Entry Q)) (x : Entry Q)
         → z.pipelined ≡ true → AtWith c (Settling d) mine (Serving g walk) me → walk ≡ newer ++ x ∷ line_of g
         → word ≡ older_at x.by → new ≡ pack 0 x.code
-        → StepIs (laws_for Q.item_of L.stands L.kept L.number_of P.run_of M.number_of z) z.clients (λ _. Stays)
+        → StepIs (laws_for Q.item_of L.lawful L.stands L.kept L.number_of P.run_of M.number_of z) z.clients (λ _. Stays)
         slots id me word (λ _. new) (λ _. cleared_second (step slots word new 0 none) me new) }
     ensures call_next { (z : Start L.About) (slots id word c k : ℕ) (me : Sat Q P L M) (stage : Stage Q P)
         (mine : List (Q × P)) (g : Squad Q) (x : Entry Q) (right : M) (more : List (ℕ × Content Q P L M))
         → AtWith c stage mine (Passing g x) me → me.1 ≡ (k, Right right) ∷ more → k + 1 ≡ slots
         → word ≡ state_at x.by → M.number_of right ≡ g.to
-        → StepIs (laws_for Q.item_of L.stands L.kept L.number_of P.run_of M.number_of z) z.clients (λ _. Stays)
+        → StepIs (laws_for Q.item_of L.lawful L.stands L.kept L.number_of P.run_of M.number_of z) z.clients (λ _. Stays)
         slots id me word (λ _. 4) (λ _. called_next (step slots word 4 0 none) me 4) }
 {}

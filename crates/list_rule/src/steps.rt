@@ -1,7 +1,6 @@
 // The steps of the list: which words and slots each may move, and what its seat knows then.
 ghost use Rattle.std.specs.Prelude.{◌≡◌};
-ghost use Rattle.list_rule.specs.Grouping.{code_by};
-ghost use Rattle.list_rule.specs.Laws.{logs_picked, kept_picked};
+ghost use Rattle.list_rule.specs.Laws.{logs_picked, kept_picked, asks_picked};
 ghost use Rattle.list_rule.specs.Plays.{begun, peeked, aimed, entered, looked, rested, read_once, traced, fetched, left, told_one, retired, cut_as, cut_off, woken_on, marked_off, freed, aimed_second, joined, summoned, left_second, traced_second, cleared_second, called_next, kept, traced_marked, cut_marked};
 ghost use mathlib.Core.Option.{some};
 
@@ -60,11 +59,15 @@ impl<Q, P, L, M> Play<Content<Q, P, L, M>, View<Q, P>> for Rest {
     ghost then = { rested };
 }
 
-/// A leader reads the newest writer, once, and so builds its group, under the bound that is picked.
+/// A leader reads the newest writer, once, and so builds its group, under the bound that is picked. What the law asks
+/// of each request holds of those of the group.
 pub struct Build<B>(PhantomData<B>);
 
-impl<Q: Itemized, P, L, M, B: Picked> Play<Content<Q, P, L, M>, View<Q, P>> for Build<B> {
-    ghost then = { read_once (code_by Q.item_of) B.number };
+impl<Q: Itemized, P, L: Ledger<Q, P>, M, B: PickedAbout<L::About>> Play<
+    Content<Q, P, L, M>,
+    View<Q, P>,
+> for Build<B> {
+    ghost then = { read_once (asks_picked Q.item_of L.lawful B.about) B.number };
 }
 
 /// A leader reads the older link of a writer that it walked past.

@@ -1,5 +1,5 @@
 -- Where those who take part stand.
-use Rattle.std.specs.Prelude.{◌≡◌, ℕ, ◌+◌, ◌-◌, ◌<◌, ◌≤◌, false, List, [], ◌∷◌, length, slice_index_or, vec_capacity}
+use Rattle.std.specs.Prelude.{◌≡◌, ℕ, ◌+◌, ◌-◌, ◌<◌, ◌≤◌, false, List, [], ◌∷◌, length, slice_index_or, vec_capacity, ⊤}
 use Rattle.list_rule.specs.declared.view.Entry.{Entry}
 use Rattle.list_rule.specs.declared.view.Handling.{Handling}
 use Rattle.writer_list.specs.declared.writer.Writer.{Writer}
@@ -7,7 +7,7 @@ use Rattle.writer_list.specs.declared.writer_list.WriterList.{WriterList}
 use Rattle.writer_list.specs.declared.room.Lists.{Lists}
 use Rattle.writer_list.specs.Roles.{asks}
 use Rattle.writer_list.specs.Rooms.{TakesReplies, HasRoom, AreReady}
-use Rattle.writer_list.specs.Seats.{clients_of, start_of, piped_of, law_of, Belongs, IsOut, IsIn, IsChosen, HasGroup}
+use Rattle.writer_list.specs.Seats.{clients_of, start_of, piped_of, law_of, asks_of, Belongs, IsOut, IsIn, IsChosen, HasGroup}
 use Rattle.writer_list.specs.Seats.{told}
 use Rattle.list_tests.specs.declared.counter.Ask.{Ask}
 use Rattle.list_tests.specs.declared.counter.Answer.{Answer}
@@ -29,6 +29,10 @@ IsSat list k w = Belongs list w × IsOut w × (w.client ≡ k)
 -- what a counter of this list says of the handlings: nothing
 abbrev pub law : Counted → Counter → List (Handling Ask Answer) → Type 0
 law list = law_of (λ about c hs. about ≡ about) (λ about hs. about ≡ about) (λ c. 0) (λ a. (0, 0)) list
+
+-- what is asked of a request in this list: that its code is that of its item
+abbrev pub asked : Counted → Ask → ℕ → Type 0
+asked list = asks_of (λ a. a.item) (λ _ _. ⊤) list
 
 -- it is in the list, with a request
 abbrev pub IsAsking : Counted → Writer Ask Answer Counter Nothing → Type 0
@@ -63,7 +67,7 @@ AreSat list n (w ∷ ws) = IsSat list n w × AreSat list (n - 1) ws
 abbrev pub HasRequests : Counted → Writer Ask Answer Counter Nothing → Lists Ask Answer → Type 0
 HasRequests list w lists = Belongs list w × ((max : ℕ) × (own : Entry Ask) × (group left : List (Entry Ask))
     × (seen : List (Handling Ask Answer))
-    × HasGroup (λ a. a.item) (clients_of list) max own group left seen (told w) w
+    × HasGroup (asked list) (clients_of list) max own group left seen (told w) w
     × (lists.requests.list.items ≡ asks own group))
     × (length lists.requests.list.items ≤ clients_of list) × (clients_of list ≤ vec_capacity lists.requests.list)
     × TakesReplies (clients_of list) lists.replies × HasRoom (clients_of list) lists.room

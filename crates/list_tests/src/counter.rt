@@ -1,5 +1,5 @@
 // A plain counter as the log, and who takes part.
-ghost use Rattle.std.specs.Prelude.{◌≡◌};
+ghost use Rattle.std.specs.Prelude.{◌≡◌, ⊤};
 
 use list_rule::{Given, Itemized, Ledger, Numbered};
 use wp_model::Item;
@@ -39,6 +39,8 @@ impl Ledger<Ask, Answer> for Counter {
     ghost stands = { λ about c hs. about ≡ about };
 
     ghost kept = { λ about hs. about ≡ about };
+
+    ghost lawful = { λ _ _. ⊤ };
 
     ghost number_of = { λ c. 0 };
 

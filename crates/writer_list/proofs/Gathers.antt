@@ -76,7 +76,7 @@ fits_small max leader sum code is =
     let test : nat_le (sum + code / 8) (cap max (item_of leader)) ≡ true = last_true _ _ is in
     let within : sum + code / 8 ≤ cap max (item_of leader) = grind (arith, nat_tests) in let k = cap_small max (item_of leader) in omega arith
 
-module _ {Q P L M : Type 0} (code_of : Q → ℕ) (n max leader c : ℕ) (was : Sat Q P L M) where
+module _ {Q P L M : Type 0} (law : Q → ℕ → Type 0) (n max leader c : ℕ) (was : Sat Q P L M) where
   abbrev pub gathering : Entry Q → List (Handling Q P) → List (Entry Q) → List (Entry Q) → List (Entry Q) → Lead Q P
   gathering own seen w group tk = record { own = own; walk = w; group = group; taken = tk; seen = seen }
 
@@ -95,7 +95,7 @@ module _ {Q P L M : Type 0} (code_of : Q → ℕ) (n max leader c : ℕ) (was : 
     pub reads : At c (Leading (gathering own seen (left ++ (group ++ own ∷ [])) group tk)) mine now
     pub by : own.by ≡ c
     pub lead_code : own.code ≡ leader
-    pub is_group : IsWhole code_of max own group left
+    pub is_group : IsWhole law max own group left
     pub queue : left ++ group ≡ pre ++ tk
     pub within : Within n (left ++ group)
     pub holds : now.1 ≡ blanks (bys tk) ((c, Empty) ∷ (0, Empty) ∷ [])
@@ -103,7 +103,7 @@ module _ {Q P L M : Type 0} (code_of : Q → ℕ) (n max leader c : ℕ) (was : 
     pub asked_is : asked ≡ asks own tk
     pub fit : fitting max leader ((leader / 8)) (reverse (codes (left ++ group))) ≡ length tk + fitting max leader sum (reverse (codes pre))
 
-  pub gathers : (walk : List (ℕ × ℕ)) (asked : List (ℕ × Q)) → Gathering code_of n max leader c was walk asked → Gathered was walk asked (leader / 8)
+  pub gathers : (walk : List (ℕ × ℕ)) (asked : List (ℕ × Q)) → Gathering law n max leader c was walk asked → Gathered was walk asked (leader / 8)
   gathers walk asked h = record {
     own = h.0;
     group = h.1;
@@ -127,8 +127,8 @@ module _ {Q P L M : Type 0} (code_of : Q → ℕ) (n max leader c : ℕ) (was : 
 
   module _ (now : Sat Q P L M) (walk : List (ℕ × ℕ)) (asked : List (ℕ × Q)) (sum : ℕ) (v : Gathered now walk asked sum) where
     -- where no more is taken, the group is whole
-    pub stops : length v.group ≡ length v.tk → (own : Entry Q) (group left : List (Entry Q)) (seen : List (Handling Q P)) (mine : List (Q × P)) → At c (Leading (building own seen (left ++ (group ++ own ∷ [])) group)) mine was → IsWhole code_of max own group left → 0 < c
-        → Grouped code_of n max c own group left seen mine now × (asked ≡ asks own group)
+    pub stops : length v.group ≡ length v.tk → (own : Entry Q) (group left : List (Entry Q)) (seen : List (Handling Q P)) (mine : List (Q × P)) → At c (Leading (building own seen (left ++ (group ++ own ∷ [])) group)) mine was → IsWhole law max own group left → 0 < c
+        → Grouped law n max c own group left seen mine now × (asked ≡ asks own group)
     stops len own group left seen mine at whole lo =
         let W : List (Entry Q) = v.left ++ (v.group ++ v.own ∷ []) in
         let e = one_hold c c (Leading (building v.own v.seen W v.group)) (Leading (building own seen (left ++ (group ++ own ∷ [])) group)) v.mine mine was.0 v.began at in

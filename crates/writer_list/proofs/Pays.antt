@@ -1,7 +1,10 @@
 -- Replies to a group.
 use Rattle.std.proofs.Common.{◌≡◌, ℕ, ◌+◌, ◌<◌, ◌≤◌, List, [], ◌∷◌, ◌++◌, length, refl, ap, ◌∙◌, arith, length-append}
 use Rattle.list_rule.specs.declared.view.Entry.{Entry}
-use Rattle.list_rule.specs.Chain.{Distinct, Within, heads}
+use Rattle.std.specs.List.{AllByRecursion}
+use Rattle.wp_model.specs.declared.group.Item.{Item}
+use Rattle.list_rule.specs.Chain.{Distinct, Within, AllCoded, heads}
+use Rattle.list_rule.specs.Rule.{asks_for}
 use Rattle.list_rule.proofs.Groups.{walk_bound}
 use Rattle.writer_list.specs.Roles.{asks, pays, firsts}
 
@@ -54,3 +57,12 @@ module _ {Q : Type 0} where
   pub few_ask : (n : ℕ) (own : Entry Q) (group : List (Entry Q)) → Within n group → 0 < own.by → own.by ≤ n → Distinct (group ++ own ∷ []) → length (asks own group) ≤ n
   few_ask n own group ok lo hi apart =
       let b = walk_bound n (group ++ own ∷ []) (within_both n group own ok lo hi) apart in let l = length-append group (own ∷ []) in let e = length-asks own group in omega arith
+
+lawful_both : {A : Type 0} (P : A → Type 0) (xs ys : List A) → AllByRecursion P xs → AllByRecursion P ys → AllByRecursion P (xs ++ ys)
+lawful_both P [] ys ok more = more
+lawful_both P (x ∷ xs) ys ok more = (ok.0, lawful_both P xs ys ok.1 more)
+
+-- what is asked of each of a group holds of what it asks
+pub lawful_asks : {Q K : Type 0} (item_of : Q → Item) (lawful : K → Q → Type 0) (about : K) (own : Entry Q) (group : List (Entry Q)) → AllCoded (asks_for item_of lawful about) (group ++ own ∷ []) → AllByRecursion (λ (x : ℕ × Q). lawful about x.1) (asks own group)
+lawful_asks item_of lawful about own [] ok = (ok.0.1, tt)
+lawful_asks {Q} item_of lawful about own (e ∷ es) ok = lawful_both (λ (x : ℕ × Q). lawful about x.1) (asks own es) ((e.by, e.asked) ∷ []) (lawful_asks item_of lawful about own es ok.1) (ok.0.1, tt)

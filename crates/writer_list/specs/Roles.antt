@@ -74,20 +74,21 @@ module _ {Q P L M : Type 0} where
   abbrev pub NextIs : ℕ → Lead Q P → List (Q × P) → List (Entry Q) → Entry Q → Sat Q P L M → Type 0
   NextIs c lead mine pre x m = At c (Leading lead) mine m × (lead.walk ≡ pre ++ x ∷ in_hand lead)
 
-  -- the leader has its group, which the bound gives it, and the requests; these were left when it read the list
-  abbrev pub Grouped : (Q → ℕ) → ℕ → ℕ → ℕ → Entry Q → List (Entry Q) → List (Entry Q) → List (Handling Q P)
+  -- the leader has its group, which the bound gives it, and the requests, of which the law holds; these were left when
+  -- it read the list
+  abbrev pub Grouped : (Q → ℕ → Type 0) → ℕ → ℕ → ℕ → Entry Q → List (Entry Q) → List (Entry Q) → List (Handling Q P)
       → List (Q × P) → Sat Q P L M → Type 0
-  Grouped code_of n max c own group left seen mine m = At c (Leading (grouped own seen left group)) mine m
-      × (own.by ≡ c) × (0 < c) × Within n group × IsWhole code_of max own group left
+  Grouped law n max c own group left seen mine m = At c (Leading (grouped own seen left group)) mine m
+      × (own.by ≡ c) × (0 < c) × Within n group × IsWhole law max own group left
       × (m.1 ≡ blanks (bys group) ((c, Empty) ∷ (0, Empty) ∷ []))
 
   -- the leader has its own request alone, and knows its group
-  abbrev pub Gathering : (Q → ℕ) → ℕ → ℕ → ℕ → ℕ → Sat Q P L M → List (ℕ × ℕ) → List (ℕ × Q) → Type 0
-  Gathering code_of n max leader c m walk asked = (own : Entry Q) × (group left : List (Entry Q))
+  abbrev pub Gathering : (Q → ℕ → Type 0) → ℕ → ℕ → ℕ → ℕ → Sat Q P L M → List (ℕ × ℕ) → List (ℕ × Q) → Type 0
+  Gathering law n max leader c m walk asked = (own : Entry Q) × (group left : List (Entry Q))
       × (seen : List (Handling Q P)) × (mine : List (Q × P))
       × At c (Leading (building own seen (left ++ (group ++ own ∷ [])) group)) mine m × (own.by ≡ c)
       × (own.code ≡ leader)
-      × IsWhole code_of max own group left × Within n (left ++ group) × (walk ≡ pairs (left ++ group))
+      × IsWhole law max own group left × Within n (left ++ group) × (walk ≡ pairs (left ++ group))
       × (asked ≡ (c, own.asked) ∷ []) × (m.1 ≡ (c, Empty) ∷ (0, Empty) ∷ [])
 
   -- the log's slot on top, and then those of the group with its replies; the log stands for what was seen and for

@@ -7,8 +7,7 @@ use Rattle.list_rule.specs.declared.view.Handling.{Handling}
 use Rattle.list_rule.specs.declared.view.Stage.TheVariants.{Idle}
 use Rattle.list_rule.specs.Chain.{of}
 use Rattle.list_rule.specs.declared.content.Start.{Start}
-use Rattle.list_rule.specs.Grouping.{code_by}
-use Rattle.list_rule.specs.Rule.{hold, logs_from, last_run, Unnumbered}
+use Rattle.list_rule.specs.Rule.{hold, logs_from, asks_for, last_run, Unnumbered}
 use Rattle.list_rule.specs.Plays.{At}
 use Rattle.wp_model.specs.declared.group.Item.{Item}
 use Rattle.writer_list.specs.declared.writer.Writer.{Writer}
@@ -62,6 +61,10 @@ module _ {Q P L M K : Type 0} where
   law_of stands kept number run list =
       logs_from (stands (about_of list)) (kept (about_of list)) number run (start_of list)
 
+  -- what holds of each request that is in this list, and of its code
+  abbrev pub asks_of : (Q → Item) → (K → Q → Type 0) → WriterList Q P L M K → Q → ℕ → Type 0
+  asks_of item_of lawful list = asks_for item_of lawful (about_of list)
+
   -- what holds of all that this list's leaders handle, wherever the log is
   abbrev pub kept_of : (K → List (Handling Q P) → Type 0) → WriterList Q P L M K → List (Handling Q P) → Type 0
   kept_of kept list = kept (about_of list)
@@ -100,12 +103,11 @@ module _ {Q P L M : Type 0} where
   abbrev pub IsChosen : Entry Q → List (Handling Q P) → List (Q × P) → Writer Q P L M → Type 0
   IsChosen own seen mine w = Chosen w.client own seen mine w.seat.me
 
-  -- it has the group that the bound gives it, and the requests; these writers were left
-  abbrev pub HasGroup : (Q → Item) → ℕ → ℕ → Entry Q → List (Entry Q) → List (Entry Q) → List (Handling Q P)
+  -- it has the group that the bound gives it, and the requests, of which the law holds; these writers were left
+  abbrev pub HasGroup : (Q → ℕ → Type 0) → ℕ → ℕ → Entry Q → List (Entry Q) → List (Entry Q) → List (Handling Q P)
       → List (Q × P)
       → Writer Q P L M → Type 0
-  HasGroup item_of n max own group left seen mine w =
-      Grouped (code_by item_of) n max w.client own group left seen mine w.seat.me
+  HasGroup law n max own group left seen mine w = Grouped law n max w.client own group left seen mine w.seat.me
 
   abbrev pub AllOut : TableId → List (Writer Q P L M) → Type 0
   AllOut table [] = Unit {0}

@@ -1,5 +1,6 @@
 // How a leader reads the queue and takes the requests of its group.
-ghost use Rattle.std.specs.Prelude.{◌≡◌, ℕ, ◌+◌, ◌/◌, ◌<◌, ◌≤◌, List, [], ◌∷◌, ◌++◌, vec_len, vec_capacity, length};
+ghost use Rattle.std.specs.Prelude.{◌≡◌, ℕ, ◌+◌, ◌/◌, ◌<◌, ◌≤◌, List, [], ◌∷◌, ◌++◌, vec_len, vec_capacity, length, Some};
+ghost use Rattle.std.specs.List.{AllByRecursion};
 ghost use Rattle.wp_model.specs.Grouping.{fits};
 ghost use Rattle.list_rule.specs.declared.content.Content.{Content};
 ghost use Rattle.list_rule.specs.declared.content.Content.TheVariants.{Empty, Asked};
@@ -8,23 +9,25 @@ ghost use Rattle.list_rule.specs.declared.view.Handling.{Handling};
 ghost use Rattle.list_rule.specs.declared.view.Lead.{Lead};
 ghost use Rattle.list_rule.specs.declared.view.Stage.TheVariants.{Fresh, Leading};
 ghost use Rattle.list_rule.specs.Chain.{pairs};
-ghost use Rattle.list_rule.specs.Grouping.{code_by, item_of, IsWhole};
+ghost use Rattle.list_rule.specs.Grouping.{item_of, IsWhole};
+ghost use Rattle.list_rule.specs.Rule.{asks_for, asks_picked};
 ghost use Rattle.list_rule.specs.Plays.{At, building, Builds, taking};
 ghost use Rattle.writer_list.specs.Roles.{Chosen, HasRead, CodesFit, NextIs, Grouped, Gathering, asks};
 ghost use Rattle.writer_list.specs.Rooms.{HasRoom, TakesRequests};
-ghost use Rattle.writer_list.specs.Seats.{client_of, clients_of, Belongs, IsChosen, HasGroup, Stays, told};
+ghost use Rattle.writer_list.specs.Seats.{about_of, asks_of, client_of, clients_of, Belongs, IsChosen, HasGroup, Stays, told};
 
 use crate::room::{Requests, Room};
 use crate::writer::Writer;
 use crate::writer_list::WriterList;
 use list_rule::{
-    Build, Content, Fetch, Given, Itemized, Ledger, Numbered, Picked, ReadOlder, item_of,
+    Build, Content, Fetch, Given, Itemized, Ledger, Numbered, PickedAbout, ReadOlder, item_of,
 };
 use std::marker::Brand;
 
 impl<Q: Itemized, P: Given, L: Ledger<Q, P>, M: Numbered> WriterList<Q, P, L, M> {
     /// Takes the requests of the leader's group in link order, its own first. The group is the grouping rule's of the
-    /// queue as it stands at one moment of this call; who links later doesn't change it.
+    /// queue as it stands at one moment of this call; who links later doesn't change it. Each request is lawful for
+    /// this list.
     pub fn group(
         &self,
         writer: &mut Writer<Q, P, L, M>,
@@ -41,15 +44,17 @@ impl<Q: Itemized, P: Given, L: Ledger<Q, P>, M: Numbered> WriterList<Q, P, L, M>
         ensures group { Belongs self.now writer.new × ((own : Entry Q) (seen : List (Handling Q P))
             → IsChosen own seen (told writer.old) writer.old
             → (group left : List (Entry Q))
-            × HasGroup Q.item_of (clients_of self.now) max own group left seen (told writer.old) writer.new
+            × HasGroup (asks_of Q.item_of L.lawful self.now) (clients_of self.now) max own group left seen
+            (told writer.old) writer.new
             × (requests.new.list.items ≡ asks own group)) }
+        ensures lawful { AllByRecursion (λ (x : ℕ × Q). L.lawful (about_of self.now) x.1) requests.new.list.items }
         ensures few { length requests.new.list.items ≤ clients_of self.now }
     {
         self.group_from::<Brand>(writer, max, &mut requests.list, room);
     }
 
-    // The bound is picked, since a load doesn't know it.
-    fn group_from<B: Picked>(
+    // The bound and what the law is about are picked, since a load knows neither.
+    fn group_from<B: PickedAbout<L::About>>(
         &self,
         writer: &mut Writer<Q, P, L, M>,
         max: u64,
@@ -57,6 +62,7 @@ impl<Q: Itemized, P: Given, L: Ledger<Q, P>, M: Numbered> WriterList<Q, P, L, M>
         room: &mut Room,
     )
         requires max { B.number ≡ max }
+        requires about { B.about ≡ Some self.now.table.shared.key.about }
         requires seat { (writer.old.seat.table_id ≡ self.now.table.shared.table_id)
             × (0 < writer.old.client) × (writer.old.client ≤ self.now.clients) }
         requires leads { (own : Entry Q) × (seen : List (Handling Q P)) × (mine : List (Q × P))
@@ -69,8 +75,8 @@ impl<Q: Itemized, P: Given, L: Ledger<Q, P>, M: Numbered> WriterList<Q, P, L, M>
         ensures group { (own : Entry Q) (seen : List (Handling Q P)) (mine : List (Q × P))
             → Chosen writer.old.client own seen mine writer.old.seat.me
             → (group left : List (Entry Q))
-            × Grouped (code_by Q.item_of) self.now.clients max writer.old.client own group left seen mine
-            writer.new.seat.me
+            × Grouped (asks_for Q.item_of L.lawful self.now.table.shared.key.about) self.now.clients max
+            writer.old.client own group left seen mine writer.new.seat.me
             × (requests.new.items ≡ asks own group) }
     {
         let first = self.build::<B>(writer);
@@ -85,15 +91,16 @@ impl<Q: Itemized, P: Given, L: Ledger<Q, P>, M: Numbered> WriterList<Q, P, L, M>
     }
 
     // Reads the newest writer, and so builds the group.
-    fn build<B: Picked>(&self, writer: &mut Writer<Q, P, L, M>) -> u64
+    fn build<B: PickedAbout<L::About>>(&self, writer: &mut Writer<Q, P, L, M>) -> u64
+        requires about { B.about ≡ Some self.now.table.shared.key.about }
         requires seat { writer.old.seat.table_id ≡ self.now.table.shared.table_id }
         requires leads { (own : Entry Q) × (seen : List (Handling Q P)) × (mine : List (Q × P))
             × At writer.old.client (Fresh own seen) mine writer.old.seat.me }
         ensures seat { Stays writer.new writer.old }
         ensures built { (own : Entry Q) (seen : List (Handling Q P)) (mine : List (Q × P))
             → At writer.old.client (Fresh own seen) mine writer.old.seat.me
-            → Builds (code_by Q.item_of) self.now.table.shared.table_id.slots B.number writer.old.client own seen mine
-            result writer.old.seat.me writer.new.seat.me }
+            → Builds (asks_picked Q.item_of L.lawful B.about) self.now.table.shared.table_id.slots B.number
+            writer.old.client own seen mine result writer.old.seat.me writer.new.seat.me }
     {
         self.table.shared.load::<Build<B>>(&mut writer.seat, 0)
     }
@@ -161,8 +168,8 @@ impl<Q: Itemized, P: Given, L: Ledger<Q, P>, M: Numbered> WriterList<Q, P, L, M>
     )
         requires seat { (writer.old.seat.table_id ≡ self.now.table.shared.table_id)
             × (0 < writer.old.client) × (writer.old.client ≤ self.now.clients) }
-        requires walk { Gathering (code_by Q.item_of) self.now.clients max leader writer.old.client
-            writer.old.seat.me walk.old.items asked.old.items }
+        requires walk { Gathering (asks_for Q.item_of L.lawful self.now.table.shared.key.about) self.now.clients max
+            leader writer.old.client writer.old.seat.me walk.old.items asked.old.items }
         requires room { (vec_len walk.old ≡ length walk.old.items) × (vec_len walk.old + 1 ≤ vec_capacity asked.old)
             × (vec_len asked.old ≡ 1) }
         ensures seat { (writer.new.seat.table_id ≡ writer.old.seat.table_id)
@@ -172,9 +179,9 @@ impl<Q: Itemized, P: Given, L: Ledger<Q, P>, M: Numbered> WriterList<Q, P, L, M>
             (mine : List (Q × P))
             → At writer.old.client (Leading (building own seen (left ++ (group ++ own ∷ [])) group)) mine
             writer.old.seat.me
-            → IsWhole (code_by Q.item_of) max own group left
-            → Grouped (code_by Q.item_of) self.now.clients max writer.old.client own group left seen mine
-            writer.new.seat.me
+            → IsWhole (asks_for Q.item_of L.lawful self.now.table.shared.key.about) max own group left
+            → Grouped (asks_for Q.item_of L.lawful self.now.table.shared.key.about) self.now.clients max
+            writer.old.client own group left seen mine writer.new.seat.me
             × (asked.new.items ≡ asks own group) }
     {
         let mut sum = leader / 8;

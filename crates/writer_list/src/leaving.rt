@@ -10,7 +10,7 @@ ghost use Rattle.list_rule.specs.Chain.{heads, Within, all_answers};
 ghost use Rattle.list_rule.specs.Plays.{At, debt, slots_of, blanks};
 ghost use Rattle.writer_list.specs.Roles.{Leaves, MayLeave, MayWake, MayHandOn, bys, pays, firsts, fills};
 ghost use Rattle.writer_list.specs.Rooms.{HasRoom};
-ghost use Rattle.writer_list.specs.Seats.{client_of, clients_of, law_of, flat_of, Belongs, IsOut, HasGroup, Stays, told};
+ghost use Rattle.writer_list.specs.Seats.{asks_of, client_of, clients_of, law_of, flat_of, Belongs, IsOut, HasGroup, Stays, told};
 
 use crate::room::{Replies, Room};
 use crate::writer::Writer;
@@ -31,7 +31,8 @@ impl<Q: Itemized, P: Given, L: Ledger<Q, P>, M: Numbered> WriterList<Q, P, L, M>
     ) -> P
         requires group { Belongs self.now writer.old × ((max : ℕ) × (own : Entry Q) × (group left : List (Entry Q))
             × (seen : List (Handling Q P)) × (gs : List (Entry Q × P)) × (p : P)
-            × HasGroup Q.item_of (clients_of self.now) max own group left seen (told writer.old) writer.old
+            × HasGroup (asks_of Q.item_of L.lawful self.now) (clients_of self.now) max own group left seen
+            (told writer.old) writer.old
             × (heads gs ≡ group) × (replies.old.list.items ≡ pays own p gs)
             × law_of L.stands L.kept L.number_of P.run_of self.now log (seen ++ all_answers own p gs)
             × flat_of P.run_of self.now seen (seen ++ all_answers own p gs)) }
@@ -41,7 +42,8 @@ impl<Q: Itemized, P: Given, L: Ledger<Q, P>, M: Numbered> WriterList<Q, P, L, M>
         ensures client { client_of writer.new ≡ client_of writer.old }
         ensures out { Belongs self.now writer.new × IsOut writer.new × ((max : ℕ) (own : Entry Q)
             (group left : List (Entry Q)) (seen : List (Handling Q P)) (gs : List (Entry Q × P)) (p : P)
-            → HasGroup Q.item_of (clients_of self.now) max own group left seen (told writer.old) writer.old
+            → HasGroup (asks_of Q.item_of L.lawful self.now) (clients_of self.now) max own group left seen
+            (told writer.old) writer.old
             → heads gs ≡ group → replies.old.list.items ≡ pays own p gs
             → (told writer.new ≡ told writer.old ++ (own.asked, p) ∷ []) × (result ≡ p)) }
     {

@@ -21,10 +21,12 @@ use std::sync::Wait;
 use wp_model::Item;
 
 impl<Q: Itemized, P: Given, L: Ledger<Q, P>, M: Numbered> WriterList<Q, P, L, M> {
-    /// Puts the writer, which is in no list, at the newest end, with a request of which grouping sees this item.
+    /// Puts the writer, which is in no list, at the newest end, with a request of which grouping sees this item, and
+    /// which is lawful for this list.
     pub fn link<R: Wait>(&self, rt: &R, writer: &mut Writer<Q, P, L, M>, item: Item, request: Q)
         requires out { Belongs self.now writer.old × IsOut writer.old }
         requires item { (item ≡ Q.item_of request) × (item.size ≤ 16777216) }
+        requires lawful { L.lawful (about_of self.now) request }
         ensures client { client_of writer.new ≡ client_of writer.old }
         ensures linked { Belongs self.now writer.new
             × IsIn (law_of L.stands L.kept L.number_of P.run_of self.now) request (told writer.old) writer.new }
@@ -58,6 +60,7 @@ impl<Q: Itemized, P: Given, L: Ledger<Q, P>, M: Numbered> WriterList<Q, P, L, M>
         requires seat { (writer.old.seat.table_id ≡ self.now.table.shared.table_id)
             × (0 < writer.old.client) × (writer.old.client ≤ self.now.clients) × (code < 2 ^ 40) }
         requires code { code ≡ code_by Q.item_of request }
+        requires lawful { L.lawful self.now.table.shared.key.about request }
         requires idle { (mine : List (Q × P))
             × At writer.old.client Idle mine writer.old.seat.me × (writer.old.seat.me.1 ≡ []) }
         ensures seat { Stays writer.new writer.old }

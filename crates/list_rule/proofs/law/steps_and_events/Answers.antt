@@ -1,7 +1,6 @@
 use Rattle.list_rule.proofs.Enters.{begins_is, aims_is, peeks_is, enters_is, looks_is, rests_is}
 use Rattle.list_rule.proofs.Leads.{reads_is, traces_is, fetches_is, leaves_is}
 use Rattle.list_rule.proofs.Settles.{cuts_is, wakes_is, tells_is, retires_is}
-use Rattle.std.proofs.Common.{refl}
 use mathlib.Core.Option.{none}
 use Rattle.list_rule.proofs.law.steps_and_events.Goals as goal
 
@@ -15,7 +14,7 @@ pub returns-clause-name_older : goal.returns-clause-name_older
 returns-clause-name_older g a z slots id word c w new me mine is at = aims_is _ z.clients slots id me c word w new mine is at
 
 pub returns-clause-link : goal.returns-clause-link
-returns-clause-link g a z slots id c w saw me q mine packs at slot = enters_is _ z.clients slots id me c w saw _ q mine none packs at slot refl
+returns-clause-link g a z slots id c w saw code me q mine packs at slot asked = enters_is _ z.clients slots id me c w saw code q mine none packs at slot asked
 
 pub returns-clause-read_state : goal.returns-clause-read_state
 returns-clause-read_state g a z slots id word c me q mine is at nil = looks_is _ z.clients slots id me c word q mine is at nil

@@ -1,5 +1,5 @@
 use Rattle.std.proofs.Common.{◌≡◌, ◌+◌, length, vec_len, vec_capacity}
-use Rattle.list_rule.specs.Grouping.{code_by}
+use Rattle.list_rule.specs.Rule.{asks_for}
 use Rattle.writer_list.proofs.Gathers.{Gathered}
 use Rattle.writer_list.proofs.writer_list.WriterList.gather.Given as goal
 
@@ -11,5 +11,5 @@ invariant-loop-step g l = record {
   walk_room : vec_capacity l.walk ≡ vec_capacity l.fn.walk;
   count : length l.walk.items + l.step ≡ length l.fn.walk.items;
   asked_len : vec_len l.asked ≡ l.step + 1;
-  so_far : Gathered (code_by g.Q.Itemized.item_of) l.self.clients l.max l.leader l.fn.writer.client l.fn.writer.seat.me l.writer.seat.me l.walk.items l.asked.items l.sum;
+  so_far : Gathered (asks_for g.Q.Itemized.item_of g.L.Ledger.lawful l.self.table.shared.key.about) l.self.clients l.max l.leader l.fn.writer.client l.fn.writer.seat.me l.writer.seat.me l.walk.items l.asked.items l.sum;
 }

@@ -46,7 +46,7 @@ compare_exchange-found-requires g c =
     let b = c.store-in-loop.ensures.2 k i.0 i.1 (ap (λ m. m.0) c.load-newest.ensures.2.0 ∙ i.3) in (
       c.store-in-loop.ensures.0 ∙ c.load-newest.ensures.0 ∙ c.loop.invariant.3 ∙ c.requires.seat.0,
       omega arith,
-      enters_as _ _ _ (λ i. logs_picked g.L.Ledger.stands g.L.Ledger.kept g.L.Ledger.number_of g.P.Given.run_of (sym c.requires.start i) (sym c.requires.about i)) _ _ c.store-in-loop.new.seat.me k _ c.load-newest.result c.args.code c.args.request i.1 none refl b.0 (b.1 ∙ ap (λ m. m.1) c.load-newest.ensures.2.0 ∙ c.loop.invariant.5) c.requires.code,
+      enters_as _ _ _ (λ i. logs_picked g.L.Ledger.stands g.L.Ledger.kept g.L.Ledger.number_of g.P.Given.run_of (sym c.requires.start i) (sym c.requires.about i)) _ _ c.store-in-loop.new.seat.me k _ c.load-newest.result c.args.code c.args.request i.1 none refl b.0 (b.1 ∙ ap (λ m. m.1) c.load-newest.ensures.2.0 ∙ c.loop.invariant.5) (c.requires.code, c.requires.lawful),
     )
 
 pub returns-then-found-newest-clause-seat : goal.returns-then-found-newest-clause-seat
