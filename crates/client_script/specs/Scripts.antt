@@ -44,7 +44,7 @@ line_len Unslow = 0
 abbrev pub IsShort : List ℕ → Type 0
 IsShort word = (1 ≤ length word) × (length word ≤ 1024)
 
--- what a line of a script may say: one of these commands, its words short
+-- what a line may say in every language: one of these commands, its words short
 abbrev pub IsScriptCommand : Command → Type 0
 IsScriptCommand (Put key v) = IsShort key × IsShort v
 IsScriptCommand (Delete key) = IsShort key

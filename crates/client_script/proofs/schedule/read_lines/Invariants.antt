@@ -1,7 +1,9 @@
 use Rattle.std.proofs.Common.{◌≡◌, ◌+◌, ◌≤◌, Ok, fold, length, option_copied}
 use Rattle.std.specs.List.{enumerate_from}
 use Rattle.core_model.specs.Schedule.{after_line, clients_grammar, first_event_words, lines_read}
-use Rattle.client_script.specs.Scripts.{script_len, HasScriptCommands}
+use Rattle.client_script.specs.declared.language.Language.TheVariants.{Replay}
+use Rattle.client_script.specs.Languages.{HasCommandsOf}
+use Rattle.client_script.specs.Scripts.{script_len}
 use Rattle.client_script.specs.ScriptWords.{parts_of, len_behind}
 use Rattle.client_script.specs.Schedules.{draft_of}
 use Rattle.client_script.proofs.schedule.read_lines.Given as goal
@@ -12,7 +14,7 @@ invariant-loop-rest l = record {
   counted : l.number + len_behind (option_copied l.rest) ≤ length l.text + 1;
   few : length l.draft.script.clients.items ≤ 16;
   small : script_len l.draft.script + len_behind (option_copied l.rest) ≤ length l.text + 1;
-  short : HasScriptCommands l.draft.script;
+  short : HasCommandsOf Replay l.draft.script;
 }
 
 abbrev pub decreases-loop-rest : goal.decreases-loop-rest
