@@ -11,7 +11,7 @@ use Rattle.client_calls.specs.declared.command.Command.{Command}
 use Rattle.client_calls.specs.declared.command.Command.TheVariants.{Put, Delete, SingleDelete, Note, Clear, Commit, Get, Many, Scan, Stop, Unstop, Slow, Unslow}
 use Rattle.client_script.specs.declared.script.Script.{Script}
 use Rattle.client_calls.specs.Commands.{command_of}
-use Rattle.client_script.specs.Scripts.{additions_of, FitsBatches, line_len, lines_len, script_len, IsShort, IsScriptCommand, HasScriptCommands}
+use Rattle.client_script.specs.Scripts.{additions_of, FitsBatches, line_len, lines_len, script_len, IsShort, IsScriptCommand, HasScriptCommands, IsClientsCommand, HasClientsCommands}
 
 -- a length of two bytes at most is spelled in two
 one_byte : (k n : ℕ) → n < 128 → length (varint_within (suc k) n) ≡ 1
@@ -52,7 +52,7 @@ with_record r c cs rs line words rest = record {
 without_record : (c : Command) (cs : List Command) (rs : List Record) → IsWithin rs (lines_len cs) → IsWithin rs (lines_len (c ∷ cs))
 without_record c cs rs rest = record { lines = omega (arith, rest.lines, sum_by-cons line_len c cs); words = rest.words }
 
-within : (cs : List Command) → AllByRecursion IsScriptCommand cs → IsWithin (additions_of (map command_of cs)) (lines_len cs)
+within : (cs : List Command) → AllByRecursion IsClientsCommand cs → IsWithin (additions_of (map command_of cs)) (lines_len cs)
 within [] short = record { lines = omega arith; words = omega arith }
 within (Put key v ∷ cs) short =
     let k = word_len key short.0.0 in
@@ -70,21 +70,21 @@ within (Note text ∷ cs) short =
 within (Clear ∷ cs) short = without_record Clear cs _ (within cs short.1)
 within (Commit options ∷ cs) short = without_record (Commit options) cs _ (within cs short.1)
 within (Get key ∷ cs) short = without_record (Get key) cs _ (within cs short.1)
-within (Many keys ∷ cs) short = absurd short.0
-within (Scan lo hi ∷ cs) short = absurd short.0
+within (Many keys ∷ cs) short = without_record (Many keys) cs _ (within cs short.1)
+within (Scan lo hi ∷ cs) short = without_record (Scan lo hi) cs _ (within cs short.1)
 within (Stop ∷ cs) short = absurd short.0
 within (Unstop ∷ cs) short = absurd short.0
 within (Slow rate ∷ cs) short = absurd short.0
 within (Unslow ∷ cs) short = absurd short.0
 
 -- Many records are shorter than their lines by as much as a header has; few are short.
-client_fits : (cs : List Command) → AllByRecursion IsScriptCommand cs → lines_len cs ≤ 16777217 → size_of_batch (additions_of (map command_of cs)) ≤ 16777216
+client_fits : (cs : List Command) → AllByRecursion IsClientsCommand cs → lines_len cs ≤ 16777217 → size_of_batch (additions_of (map command_of cs)) ≤ 16777216
 client_fits cs short lines =
     let rs = additions_of (map command_of cs) in
     let small = within cs short in
     omega (arith, small.lines, small.words, lines, length-append (header 0 (count_of rs)) (body rs))
 
-clients_fit : (clients : List (Vec Command Global)) → AllByRecursion (λ cs. AllByRecursion IsScriptCommand cs.items) clients → sum_by (λ cs. lines_len cs.items) clients ≤ 16777217
+clients_fit : (clients : List (Vec Command Global)) → AllByRecursion (λ cs. AllByRecursion IsClientsCommand cs.items) clients → sum_by (λ cs. lines_len cs.items) clients ≤ 16777217
     → AllByRecursion (λ cs. size_of_batch (additions_of cs) ≤ 16777216) (map (λ cs. map command_of cs.items) clients)
 clients_fit [] short lines = tt
 clients_fit (cs ∷ rest) short lines =
@@ -92,5 +92,33 @@ clients_fit (cs ∷ rest) short lines =
     (client_fits cs.items short.0 (omega (arith, lines, sum)), clients_fit rest short.1 (omega (arith, lines, sum)))
 
 -- what is read of a text of 16 MiB
+pub clients_fit_batches : (script : Script) → HasClientsCommands script → script_len script ≤ 16777217 → FitsBatches script
+clients_fit_batches script short lines = clients_fit script.clients.items short lines
+
+-- one client's commands are among those of several
+of_clients : (c : Command) → IsScriptCommand c → IsClientsCommand c
+of_clients (Put key v) short = short
+of_clients (Delete key) short = short
+of_clients (SingleDelete key) short = short
+of_clients (Note text) short = short
+of_clients Clear short = short
+of_clients (Commit options) short = short
+of_clients (Get key) short = short
+of_clients (Many keys) short = absurd short
+of_clients (Scan lo hi) short = absurd short
+of_clients Stop short = short
+of_clients Unstop short = short
+of_clients (Slow rate) short = short
+of_clients Unslow short = short
+
+all_of_clients : (cs : List Command) → AllByRecursion IsScriptCommand cs → AllByRecursion IsClientsCommand cs
+all_of_clients [] short = tt
+all_of_clients (c ∷ cs) short = (of_clients c short.0, all_of_clients cs short.1)
+
+each_of_clients : (clients : List (Vec Command Global)) → AllByRecursion (λ cs. AllByRecursion IsScriptCommand cs.items) clients
+    → AllByRecursion (λ cs. AllByRecursion IsClientsCommand cs.items) clients
+each_of_clients [] short = tt
+each_of_clients (cs ∷ rest) short = (all_of_clients cs.items short.0, each_of_clients rest short.1)
+
 pub fits_batches : (script : Script) → HasScriptCommands script → script_len script ≤ 16777217 → FitsBatches script
-fits_batches script short lines = clients_fit script.clients.items short lines
+fits_batches script short lines = clients_fit_batches script (each_of_clients script.clients.items short) lines

@@ -3,7 +3,7 @@ use Rattle.std.specs.Prelude.{◌≡◌, ℕ, List, [], ◌∷◌, ◌++◌, Opt
 use Rattle.std.specs.declared.alloc.Global.{Global}
 use Rattle.core_model.specs.declared.event.Event.{Event}
 use Rattle.core_model.specs.Schedule as model
-use Rattle.wp_model.specs.Script.{Fault, Read, ◌>>=◌, is_passed_over}
+use Rattle.wp_model.specs.Script.{Script, Fault, Read, ◌>>=◌, is_passed_over, line_of, with_line}
 use Rattle.client_script.specs.declared.script.ScriptError.{ScriptError}
 use Rattle.client_script.specs.declared.script.ScriptError.TheVariants as script_error
 use Rattle.client_script.specs.declared.schedule.Schedule.{Schedule}
@@ -23,14 +23,18 @@ schedule_of s = record { script = commands_of s.script; events = s.events.items 
 abbrev pub event_named : List model.EventWord → List ℕ → ℕ → Option Event
 event_named words w client = option_map (λ x. x.1 client) (find (λ x. bytes_eq w x.0) words)
 
+-- a script of several clients, and one more line, which isn't passed over
+abbrev pub said_added : Script → List ℕ → Read Script
+said_added script l = line_of model.clients_grammar.forms l >>= with_line model.clients_grammar.client_limit script
+
 -- what was read so far, and one more line
 abbrev pub line_added : model.Draft → List ℕ → Read model.Draft
 line_added d l = if is_passed_over l then Ok d
-    else model.line_added model.clients_grammar model.first_event_words d.script d.events l
+    else model.line_added model.clients_grammar model.event_words d.script d.events l
 
 -- the events of a schedule, and one more
 abbrev pub event_added : ℕ → List Event → List ℕ → Read (List Event)
-event_added clients events l = model.event_of clients model.first_event_words l >>= λ event. Ok (events ++ event ∷ [])
+event_added clients events l = model.event_of clients model.event_words l >>= λ event. Ok (events ++ event ∷ [])
 
 -- A fault and its line are those that are given. Want of memory says nothing of the text.
 abbrev pub IsScheduleFaultOf : {A : Type 0} → Result A Fault → ScriptError → Type 0

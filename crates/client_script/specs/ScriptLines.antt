@@ -11,7 +11,7 @@ use Rattle.client_script.specs.declared.lines.Line.TheVariants as line
 use Rattle.client_script.specs.declared.lines.LineError.{LineError}
 use Rattle.client_script.specs.declared.lines.LineError.TheVariants.{Fault, NoMemory}
 use Rattle.client_calls.specs.Commands.{command_of}
-use Rattle.client_script.specs.Scripts.{line_len, IsScriptCommand}
+use Rattle.client_script.specs.Scripts.{line_len, IsScriptCommand, IsClientsCommand}
 
 -- what a line says, in the definition's words
 abbrev pub line_said : Line → model.Line
@@ -27,6 +27,11 @@ said_len (line.Command c) = line_len c
 abbrev pub MayBeSaid : Line → Type 0
 MayBeSaid (line.Section n) = Unit {0}
 MayBeSaid (line.Command c) = IsScriptCommand c
+
+-- or one that a line of several clients may say
+abbrev pub ClientsMaySay : Line → Type 0
+ClientsMaySay (line.Section n) = Unit {0}
+ClientsMaySay (line.Command c) = IsClientsCommand c
 
 -- What is read is what the definition gives, and so is a fault. Want of memory says nothing of the text.
 abbrev pub Reads : {A B : Type 0} → (A → B) → model.Read B → Result A LineError → Type 0

@@ -5,6 +5,7 @@
 mod lines;
 mod numbers;
 mod parser;
+mod reads;
 mod schedule;
 mod script;
 mod words;

@@ -15,8 +15,8 @@ ghost use Rattle.std.specs.Prelude.{◌≡◌, ◌+◌, ◌-◌, ◌^◌, ◌<�
 ghost use Rattle.wp_model.specs.Script as model;
 ghost use Rattle.wp_model.specs.Script.{script_of, run_grammar, lines_read};
 ghost use Rattle.client_calls.specs.Commands.{command_of};
-ghost use Rattle.client_script.specs.Scripts.{commands_of, IsFaultOf, FitsBatches, script_len, line_len, HasScriptCommands, IsScriptCommand};
-ghost use Rattle.client_script.specs.ScriptLines.{Reads, said_added, line_added};
+ghost use Rattle.client_script.specs.Scripts.{commands_of, IsFaultOf, FitsBatches, script_len, line_len, HasScriptCommands, IsScriptCommand, HasClientsCommands, IsClientsCommand};
+ghost use Rattle.client_script.specs.ScriptLines.{Reads, said_added, line_added, line_said, said_len, MayBeSaid, ClientsMaySay};
 
 use crate::lines::{Line, LineError, is_passed_over, read_line};
 use crate::script::{Script, ScriptError};
@@ -94,27 +94,40 @@ fn add_line(alloc: Global, script: &mut Script, line: &[u8]) -> Result<(), LineE
     if is_passed_over(line) {
         return Ok(());
     }
-    add_said(alloc, script, CLIENT_LIMIT, line)
+    add_said(alloc, script, line)
 }
 
-/// Reads one more line, which is not passed over, of a script with so many clients at most. After
-/// an error the script is not used.
-pub fn add_said(
-    alloc: Global,
-    script: &mut Script,
-    client_limit: u64,
-    line: &[u8],
-) -> Result<(), LineError>
-    requires { client_limit < 2 ^ 64 - 1 }
+/// Reads one more line, which is not passed over. After an error the script is not used.
+fn add_said(alloc: Global, script: &mut Script, line: &[u8]) -> Result<(), LineError>
     ensures script { Reads (λ _. commands_of script.new)
-        (said_added client_limit (commands_of script.old) line.now) result }
-    ensures few { length script.old.clients.items ≤ client_limit
-        → OnOk result (length script.new.clients.items ≤ client_limit) }
+        (said_added CLIENT_LIMIT (commands_of script.old) line.now) result }
     ensures len { OnOk result
         (script_len script.new ≤ script_len script.old + length line.now + 1) }
     ensures commands { HasScriptCommands script.old → OnOk result (HasScriptCommands script.new) }
 {
-    match read_line(alloc, line)? {
+    let said = read_line(alloc, line)?;
+    add_read(alloc, script, CLIENT_LIMIT, said)
+}
+
+/// Adds what a line says to a script with so many clients at most. After an error the script is
+/// not used.
+pub fn add_read(
+    alloc: Global,
+    script: &mut Script,
+    client_limit: u64,
+    said: Line,
+) -> Result<(), LineError>
+    requires { client_limit < 2 ^ 64 - 1 }
+    ensures script { Reads (λ _. commands_of script.new)
+        (model.with_line client_limit (commands_of script.old) (line_said said)) result }
+    ensures few { length script.old.clients.items ≤ client_limit
+        → OnOk result (length script.new.clients.items ≤ client_limit) }
+    ensures len { OnOk result (script_len script.new ≡ script_len script.old + said_len said) }
+    ensures commands { HasScriptCommands script.old → MayBeSaid said → OnOk result (HasScriptCommands script.new) }
+    ensures clients { HasClientsCommands script.old → ClientsMaySay said
+        → OnOk result (HasClientsCommands script.new) }
+{
+    match said {
         Line::Section(number) => add_section(alloc, script, client_limit, number),
         Line::Command(command) => add_command(script, command),
     }
@@ -134,6 +147,7 @@ fn add_section(
         → OnOk result (length script.new.clients.items ≤ client_limit) }
     ensures len { OnOk result (script_len script.new ≡ script_len script.old) }
     ensures commands { HasScriptCommands script.old → OnOk result (HasScriptCommands script.new) }
+    ensures clients { HasClientsCommands script.old → OnOk result (HasClientsCommands script.new) }
 {
     if number != script.clients.len() as u64 + 1 {
         return Err(LineError::Fault(ScriptFault::Client));
@@ -153,6 +167,8 @@ fn add_command(script: &mut Script, command: Command) -> Result<(), LineError>
     ensures len { OnOk result (script_len script.new ≡ script_len script.old + line_len command) }
     ensures commands { HasScriptCommands script.old → IsScriptCommand command
         → OnOk result (HasScriptCommands script.new) }
+    ensures clients { HasClientsCommands script.old → IsClientsCommand command
+        → OnOk result (HasClientsCommands script.new) }
 {
     let Some(commands) = script.clients.last_mut() else {
         return Err(LineError::Fault(ScriptFault::Client));

@@ -1,22 +1,25 @@
 //! A script with a schedule after it: the events of the write path's core, one a line.
 //!
-//! The script's lines are those of `parser`. After them stands the line `schedule`, and after that a
-//! line for each event: its word and the number of a client of the script, as `link 1`. The words are
-//! `link`, `elect`, `build`, `log`, `fault`, `launch`, `insert`, `finish`, `publish`, `exit`,
-//! `complete` and `read`. Empty lines and comments are passed over there too.
+//! The script's lines are those of `parser`, and `many K K ..`, which reads one key or more at once,
+//! and `scan LO HI`, which reads the keys from one on and below another. After them stands the line
+//! `schedule`, and after that a line for each event: its word and the number of a client of the
+//! script, as `link 1`. The words are `link`, `elect`, `build`, `log`, `fault`, `boundary`, `second`,
+//! `next`, `launch`, `insert`, `finish`, `publish`, `exit`, `complete` and `read`. Empty lines and
+//! comments are passed over there too.
 
 ghost use Rattle.std.specs.Prelude.{◌≡◌, ◌+◌, ◌≤◌, ◌==◌, [], Ok, Err, length, if◌then◌else◌, IfOk, IfErr, OnOk, option_copied};
 ghost use Rattle.core_model.specs.Schedule as model;
 ghost use Rattle.wp_model.specs.Script.{words_of};
 ghost use Rattle.wp_model.specs.declared.script.ScriptFault.TheVariants.{Form};
-ghost use Rattle.client_script.specs.Scripts.{commands_of, FitsBatches, script_len, HasScriptCommands};
+ghost use Rattle.client_script.specs.Scripts.{commands_of, FitsBatches, script_len, HasClientsCommands};
 ghost use Rattle.client_script.specs.ScriptLines.{Reads};
 ghost use Rattle.client_script.specs.ScriptWords.{parts_of};
-ghost use Rattle.client_script.specs.Schedules.{draft_of, schedule_of, event_named, line_added, event_added, IsScheduleFaultOf};
+ghost use Rattle.client_script.specs.Schedules.{draft_of, schedule_of, event_named, said_added, line_added, event_added, IsScheduleFaultOf};
 
 use crate::lines::{LineError, are_plain, is_passed_over};
 use crate::numbers::number_of;
-use crate::parser::{TEXT_LIMIT, add_said};
+use crate::parser::{TEXT_LIMIT, add_read};
+use crate::reads::read_clients_line;
 use crate::script::{Script, ScriptError};
 use crate::words::split_once;
 use core_model::Event;
@@ -43,17 +46,17 @@ struct Draft {
 /// Parses a script of 1 to 16 clients and its schedule. Faults come as in [`parse`](crate::parse);
 /// without the line `schedule` the fault is `schedule`, after all others.
 pub fn parse_schedule(alloc: Global, text: &[u8]) -> Result<Schedule, ScriptError>
-    ensures schedule { IfOk result (λ s. model.schedule_of model.clients_grammar model.first_event_words text.now
+    ensures schedule { IfOk result (λ s. model.schedule_of model.clients_grammar model.event_words text.now
         ≡ Ok (schedule_of s)) }
     ensures fault { IfErr result (IsScheduleFaultOf
-        (model.schedule_of model.clients_grammar model.first_event_words text.now)) }
+        (model.schedule_of model.clients_grammar model.event_words text.now)) }
 
     // It has a client at least, all that each adds fits one batch, whatever becomes of its commits,
-    // and no command is of another form than a script's.
+    // and no command is of another form than one that a script of several clients may say.
     ensures clients { IfOk result (λ s. (1 ≤ length s.script.clients.items)
         × (length s.script.clients.items ≤ CLIENT_LIMIT)) }
     ensures fits { IfOk result (λ s. FitsBatches s.script) }
-    ensures commands { IfOk result (λ s. HasScriptCommands s.script) }
+    ensures commands { IfOk result (λ s. HasClientsCommands s.script) }
 {
     if text.len() > TEXT_LIMIT {
         return Err(ScriptError::Fault {
@@ -79,13 +82,13 @@ pub fn parse_schedule(alloc: Global, text: &[u8]) -> Result<Schedule, ScriptErro
 
 /// Reads all lines of a text, whatever its length.
 fn read_lines(alloc: Global, text: &[u8]) -> Result<Draft, ScriptError>
-    ensures draft { IfOk result (λ d. model.lines_read model.clients_grammar model.first_event_words text.now
+    ensures draft { IfOk result (λ d. model.lines_read model.clients_grammar model.event_words text.now
         ≡ Ok (draft_of d)) }
     ensures fault { IfErr result (IsScheduleFaultOf
-        (model.lines_read model.clients_grammar model.first_event_words text.now)) }
+        (model.lines_read model.clients_grammar model.event_words text.now)) }
     ensures few { IfOk result (λ d. length d.script.clients.items ≤ CLIENT_LIMIT) }
     ensures small { IfOk result (λ d. script_len d.script ≤ length text.now + 1) }
-    ensures commands { IfOk result (λ d. HasScriptCommands d.script) }
+    ensures commands { IfOk result (λ d. HasClientsCommands d.script) }
 {
     let mut draft = Draft {
         script: Script {
@@ -113,7 +116,7 @@ fn add_line(alloc: Global, draft: &mut Draft, line: &[u8]) -> Result<(), LineErr
     ensures few { OnOk result (length draft.new.script.clients.items ≤ CLIENT_LIMIT) }
     ensures len { OnOk result
         (script_len draft.new.script ≤ script_len draft.old.script + length line.now + 1) }
-    ensures commands { HasScriptCommands draft.old.script → OnOk result (HasScriptCommands draft.new.script) }
+    ensures commands { HasClientsCommands draft.old.script → OnOk result (HasClientsCommands draft.new.script) }
 {
     if is_passed_over(line) {
         return Ok(());
@@ -124,8 +127,22 @@ fn add_line(alloc: Global, draft: &mut Draft, line: &[u8]) -> Result<(), LineErr
             draft.events = Some(no_events(alloc, line)?);
             Ok(())
         }
-        None => add_said(alloc, &mut draft.script, CLIENT_LIMIT, line),
+        None => add_said(alloc, &mut draft.script, line),
     }
+}
+
+/// Reads one more line of the script, which is not passed over. After an error the script is not
+/// used.
+fn add_said(alloc: Global, script: &mut Script, line: &[u8]) -> Result<(), LineError>
+    ensures script { Reads (λ _. commands_of script.new) (said_added (commands_of script.old) line.now) result }
+    ensures few { length script.old.clients.items ≤ CLIENT_LIMIT
+        → OnOk result (length script.new.clients.items ≤ CLIENT_LIMIT) }
+    ensures len { OnOk result
+        (script_len script.new ≤ script_len script.old + length line.now + 1) }
+    ensures commands { HasClientsCommands script.old → OnOk result (HasClientsCommands script.new) }
+{
+    let said = read_clients_line(alloc, line)?;
+    add_read(alloc, script, CLIENT_LIMIT, said)
 }
 
 /// Whether a line's first word is `schedule`.
@@ -159,7 +176,7 @@ fn add_event(events: &mut Vec<Event>, clients: usize, line: &[u8]) -> Result<(),
 /// Reads a line of a schedule for a script with so many clients.
 fn read_event(clients: usize, line: &[u8]) -> Result<Event, LineError>
     requires { clients ≤ CLIENT_LIMIT }
-    ensures { Reads (λ event. event) (model.event_of clients model.first_event_words line.now) result }
+    ensures { Reads (λ event. event) (model.event_of clients model.event_words line.now) result }
 {
     if !are_plain(line) {
         return Err(LineError::Fault(ScriptFault::Byte));
@@ -193,7 +210,7 @@ fn client_alone(clients: usize, rest: Option<&[u8]>) -> Option<u32>
 
 /// The event that a word says of a client, if it is an event's.
 fn event_named(word: &[u8], client: u32) -> Option<Event>
-    ensures { result ≡ event_named model.first_event_words word.now client }
+    ensures { result ≡ event_named model.event_words word.now client }
 {
     let event = if word == b"link".as_slice() {
         Event::Link(client)
@@ -205,6 +222,12 @@ fn event_named(word: &[u8], client: u32) -> Option<Event>
         Event::Log(client)
     } else if word == b"fault".as_slice() {
         Event::Fault(client)
+    } else if word == b"boundary".as_slice() {
+        Event::Boundary(client)
+    } else if word == b"second".as_slice() {
+        Event::Second(client)
+    } else if word == b"next".as_slice() {
+        Event::Next(client)
     } else if word == b"launch".as_slice() {
         Event::Launch(client)
     } else if word == b"insert".as_slice() {
