@@ -122,10 +122,13 @@ fn reads_a_schedule(rt: HostRuntime) -> Result<(), Fail> {
         [Event::Link(2), Event::Elect(1), Event::Second(1)].as_slice()
     );
     assert_eq!(rt; schedule.script.clients.len(), 2);
-    let told = matches!(
-        schedule.script.clients[1].as_slice(),
-        [Command::Many { .. }, Command::Scan { .. }]
-    );
+    let told = match schedule.script.clients.last() {
+        Some(commands) => matches!(
+            commands.as_slice(),
+            [Command::Many { .. }, Command::Scan { .. }]
+        ),
+        None => false,
+    };
     assert!(rt; told);
     Ok(())
 }
