@@ -23,7 +23,7 @@ client_limit language = (grammar_of language).client_limit
 -- whether reads of several keys are among its lines
 abbrev pub has_reads : Language → Bool
 has_reads OneClient = false
-has_reads Replay = false
+has_reads Replay = true
 has_reads Whole = true
 
 -- whether a commit may have the flag `noslow`

@@ -30,7 +30,7 @@ impl Language {
     pub fn has_reads(self) -> bool
         ensures { result ≡ languages.has_reads self }
     {
-        matches!(self, Language::Whole)
+        matches!(self, Language::Replay | Language::Whole)
     }
 
     /// Whether the flag `noslow` may stand behind `commit`.

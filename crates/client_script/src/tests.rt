@@ -207,15 +207,23 @@ fn limits_are_heeded(rt: HostRuntime) -> Result<(), Fail> {
 #[test]
 fn reads_a_schedule(rt: HostRuntime) -> Result<(), Fail> {
     let text =
-        "client 1\nput a 1\ncommit\nclient 2\nschedule\n# the first event\nlink 2\n\nelect 1\n";
+        "client 1\nput a 1\ncommit\nclient 2\nmany a b\nscan a b\nschedule\n# the first event\nlink 2\n\nelect 1\nsecond 1\n";
     let Ok(schedule) = parse_schedule(rt.alloc(), text.as_bytes()) else {
         return Err(Fail::new("no schedule was read"));
     };
     assert_eq!(rt;
         schedule.events.as_slice(),
-        [Event::Link(2), Event::Elect(1)].as_slice()
+        [Event::Link(2), Event::Elect(1), Event::Second(1)].as_slice()
     );
     assert_eq!(rt; schedule.script.clients.len(), 2);
+    let told = match schedule.script.clients.last() {
+        Some(commands) => matches!(
+            commands.as_slice(),
+            [Command::Many { .. }, Command::Scan { .. }]
+        ),
+        None => false,
+    };
+    assert!(rt; told);
     Ok(())
 }
 
@@ -231,6 +239,12 @@ fn tells_the_first_fault_of_a_schedule(rt: HostRuntime) {
         ("client 1\nschedule 1\n", fault(2, ScriptFault::Form)),
         ("client 1\nschedule \n", fault(2, ScriptFault::Form)),
         ("client 1\nstop\nschedule\n", fault(2, ScriptFault::Word)),
+        ("client 1\nmany\nschedule\n", fault(2, ScriptFault::Form)),
+        ("client 1\nmany a \nschedule\n", fault(2, ScriptFault::Form)),
+        (
+            "client 1\nscan a b c\nschedule\n",
+            fault(2, ScriptFault::Form),
+        ),
         ("client 1\nschedule\nlink 2\n", fault(3, ScriptFault::Form)),
         ("client 1\nschedule\nlink 0\n", fault(3, ScriptFault::Form)),
         ("client 1\nschedule\nlink 01\n", fault(3, ScriptFault::Form)),
