@@ -1,3 +1,4 @@
+pub mod Languages
 pub mod Schedules
 pub mod ScriptLines
 pub mod ScriptWords
