@@ -3,17 +3,17 @@ use Rattle.std.specs.Prelude.{◌≡◌, ℕ, Bool, true, false, List, [], ◌++
 use Rattle.std.specs.List.{AllByRecursion}
 use Rattle.wp_model.specs.Script as model
 use Rattle.wp_model.specs.Script.{Grammar, run_grammar, whole_grammar}
-use Rattle.core_model.specs.Schedule.{clients_grammar}
 use Rattle.client_calls.specs.declared.command.Command.{Command}
 use Rattle.client_calls.specs.declared.command.Command.TheVariants.{Many, Scan, Stop, Unstop, Slow, Unslow}
 use Rattle.client_script.specs.declared.language.Language.{Language}
 use Rattle.client_script.specs.declared.language.Language.TheVariants.{OneClient, Replay, Whole}
 use Rattle.client_script.specs.declared.script.Script.{Script}
 use Rattle.client_script.specs.Scripts.{IsShort, IsScriptCommand}
+use Rattle.client_script.specs.ReplayLanguage.{replay_grammar}
 
 abbrev pub grammar_of : Language → Grammar
 grammar_of OneClient = run_grammar
-grammar_of Replay = clients_grammar
+grammar_of Replay = replay_grammar
 grammar_of Whole = whole_grammar
 
 -- how many clients its grammar lets a script have
@@ -29,7 +29,7 @@ has_reads Whole = true
 -- whether a commit may have the flag `noslow`
 abbrev pub has_no_slowdown : Language → Bool
 has_no_slowdown OneClient = false
-has_no_slowdown Replay = false
+has_no_slowdown Replay = true
 has_no_slowdown Whole = true
 
 -- whether the write controller's tokens are among its lines

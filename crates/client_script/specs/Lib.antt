@@ -1,3 +1,4 @@
+pub mod ReplayLanguage
 pub mod Languages
 pub mod Schedules
 pub mod ScriptLines

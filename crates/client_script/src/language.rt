@@ -37,7 +37,7 @@ impl Language {
     pub fn has_no_slowdown(self) -> bool
         ensures { result ≡ languages.has_no_slowdown self }
     {
-        matches!(self, Language::Whole)
+        matches!(self, Language::Replay | Language::Whole)
     }
 
     /// Whether it has the write controller's tokens, `stop`, `unstop`, `slow` and `unslow`.

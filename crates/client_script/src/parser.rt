@@ -22,7 +22,7 @@
 //! | Read by | Clients | `many`, `scan` | `noslow` | `stop`, `unstop`, `slow`, `unslow` | all others |
 //! |---|---|---|---|---|---|
 //! | [`parse`] | 1 | no | no | no | yes |
-//! | [`parse_schedule`](crate::parse_schedule) | 1 to 16 | yes | no | no | yes |
+//! | [`parse_schedule`](crate::parse_schedule) | 1 to 16 | yes | yes | no | yes |
 //! | [`parse_clients`] | 1 to 16 | yes | yes | yes | yes |
 
 ghost use Rattle.std.specs.Prelude.{◌≡◌, ◌+◌, ◌-◌, ◌^◌, ◌<◌, ◌≤◌, Ok, length, IfOk, IfErr, OnOk};

@@ -15,6 +15,7 @@ ghost use Rattle.client_script.specs.Scripts.{commands_of, FitsBatches, script_l
 ghost use Rattle.client_script.specs.ScriptLines.{Reads};
 ghost use Rattle.client_script.specs.ScriptWords.{parts_of};
 ghost use Rattle.client_script.specs.Schedules.{draft_of, schedule_of, event_named, line_added, event_added, IsScheduleFaultOf};
+ghost use Rattle.client_script.specs.ReplayLanguage.{replay_grammar, event_words};
 
 use crate::language::Language;
 use crate::lines::{LineError, are_plain, is_passed_over};
@@ -43,10 +44,10 @@ struct Draft {
 /// Parses a script of 1 to 16 clients and its schedule. Faults come as in [`parse`](crate::parse);
 /// without the line `schedule` the fault is `schedule`, after all others.
 pub fn parse_schedule(alloc: Global, text: &[u8]) -> Result<Schedule, ScriptError>
-    ensures schedule { IfOk result (λ s. model.schedule_of model.clients_grammar model.event_words text.now
+    ensures schedule { IfOk result (λ s. model.schedule_of replay_grammar event_words text.now
         ≡ Ok (schedule_of s)) }
     ensures fault { IfErr result (IsScheduleFaultOf
-        (model.schedule_of model.clients_grammar model.event_words text.now)) }
+        (model.schedule_of replay_grammar event_words text.now)) }
 
     // It has a client at least, all that each adds fits one batch, whatever becomes of its commits,
     // and no command is of another form than one that a script of several clients may say.
@@ -79,10 +80,10 @@ pub fn parse_schedule(alloc: Global, text: &[u8]) -> Result<Schedule, ScriptErro
 
 /// Reads all lines of a text, whatever its length.
 fn read_lines(alloc: Global, text: &[u8]) -> Result<Draft, ScriptError>
-    ensures draft { IfOk result (λ d. model.lines_read model.clients_grammar model.event_words text.now
+    ensures draft { IfOk result (λ d. model.lines_read replay_grammar event_words text.now
         ≡ Ok (draft_of d)) }
     ensures fault { IfErr result (IsScheduleFaultOf
-        (model.lines_read model.clients_grammar model.event_words text.now)) }
+        (model.lines_read replay_grammar event_words text.now)) }
     ensures few { IfOk result (λ d. length d.script.clients.items ≤ 16) }
     ensures small { IfOk result (λ d. script_len d.script ≤ length text.now + 1) }
     ensures commands { IfOk result (λ d. HasCommandsOf Language.Replay d.script) }
@@ -160,7 +161,7 @@ fn add_event(events: &mut Vec<Event>, clients: usize, line: &[u8]) -> Result<(),
 /// Reads a line of a schedule for a script with so many clients.
 fn read_event(clients: usize, line: &[u8]) -> Result<Event, LineError>
     requires { clients ≤ 16 }
-    ensures { Reads (λ event. event) (model.event_of clients model.event_words line.now) result }
+    ensures { Reads (λ event. event) (model.event_of clients event_words line.now) result }
 {
     if !are_plain(line) {
         return Err(LineError::Fault(ScriptFault::Byte));
@@ -194,7 +195,7 @@ fn client_alone(clients: usize, rest: Option<&[u8]>) -> Option<u32>
 
 /// The event that a word says of a client, if it is an event's.
 fn event_named(word: &[u8], client: u32) -> Option<Event>
-    ensures { result ≡ event_named model.event_words word.now client }
+    ensures { result ≡ event_named event_words word.now client }
 {
     let event = if word == b"link".as_slice() {
         Event::Link(client)

@@ -2,7 +2,7 @@
 use Rattle.std.specs.Prelude.{ℕ, Bool, false, ◌&&◌, List, [], ◌∷◌, ◌++◌, length, fold, Option, Some, None, Result, Ok, Err, codes, bytes_eq, nat_lt, nat_le, ◌==◌, if◌then◌else◌, option_and_then, find}
 use Rattle.std.specs.List.{enumerate_from}
 use Rattle.wp_model.specs.declared.script.ScriptFault.TheVariants.{Long, Byte, Word, Form, NoClient, NoSchedule}
-use Rattle.wp_model.specs.Script.{Script, Read, ◌>>=◌, Grammar, forms, read_forms, Fault, at_line, lines_of, words_of, are_plain, is_passed_over, number_of, line_of, with_line}
+use Rattle.wp_model.specs.Script.{Script, Read, ◌>>=◌, Grammar, forms, Fault, at_line, lines_of, words_of, are_plain, is_passed_over, number_of, line_of, with_line}
 use Rattle.core_model.specs.declared.event.Event.{Event}
 use Rattle.core_model.specs.declared.event.Event.TheVariants as e
 
@@ -10,12 +10,11 @@ use Rattle.core_model.specs.declared.event.Event.TheVariants as e
 abbrev pub EventWord : Type 0
 EventWord = List ℕ × (ℕ → Event)
 
--- all events but the write controller's have one; `boundary`, `second` and `next` may come in a pipelined path alone
-abbrev pub event_words : List EventWord
-event_words =
+-- those of a write path in a single stage
+abbrev pub first_event_words : List EventWord
+first_event_words =
     (codes "link", e.Link) ∷ (codes "elect", e.Elect) ∷ (codes "build", e.Build) ∷ (codes "log", e.Log)
-    ∷ (codes "fault", e.Fault) ∷ (codes "boundary", e.Boundary) ∷ (codes "second", e.Second) ∷ (codes "next", e.Next)
-    ∷ (codes "launch", e.Launch) ∷ (codes "insert", e.Insert) ∷ (codes "finish", e.Finish)
+    ∷ (codes "fault", e.Fault) ∷ (codes "launch", e.Launch) ∷ (codes "insert", e.Insert) ∷ (codes "finish", e.Finish)
     ∷ (codes "publish", e.Publish) ∷ (codes "exit", e.Exit) ∷ (codes "complete", e.Complete)
     ∷ (codes "read", e.Read) ∷ []
 
@@ -102,6 +101,6 @@ schedule_of g words text =
     if nat_lt g.text_limit (length text) then Err (record { line = 0; kind = Long })
     else finished (lines_read g words text)
 
--- a script of several clients, whose lines are those of one client's, and reads of several keys besides
+-- a script of several clients, whose lines are those of one client's
 abbrev pub clients_grammar : Grammar
-clients_grammar = record { text_limit = 16777216; client_limit = 16; forms = forms ++ read_forms }
+clients_grammar = record { text_limit = 16777216; client_limit = 16; forms = forms }

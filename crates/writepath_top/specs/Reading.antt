@@ -10,6 +10,7 @@ use Rattle.client_script.specs.Schedules.{schedule_of}
 use Rattle.core_model.specs.Schedule as schedules
 use Rattle.client_script.specs.Scripts.{commands_of, FitsBatches, HasScriptCommands, HasClientsCommands}
 use Rattle.run_model.specs.Running.{IsReached}
+use Rattle.client_script.specs.ReplayLanguage.{replay_grammar, event_words}
 
 -- it was read to its end, or to one byte past the limit of 16,777,216
 pub record HasRead (old new : Option (List ℕ)) (text : List ℕ) : Type 0 where
@@ -40,7 +41,7 @@ IsScriptError old before now NoMemory = Unit {0}
 
 -- the source had just this script, of one to sixteen clients, and its schedule
 pub record HasSchedule (old new : Option (List ℕ)) (s : Schedule) : Type 0 where
-  pub said : IfSome old (λ text. schedules.schedule_of schedules.clients_grammar schedules.event_words text
+  pub said : IfSome old (λ text. schedules.schedule_of replay_grammar event_words text
       ≡ Ok (schedule_of s))
   pub ended : IsAtEnd new
   pub clients : (1 ≤ length s.script.clients.items) × (length s.script.clients.items ≤ 16)
@@ -50,6 +51,6 @@ pub record HasSchedule (old new : Option (List ℕ)) (s : Schedule) : Type 0 whe
 abbrev pub IsScheduleError : Option (List ℕ) → ℕ → ℕ → ReadError → Type 0
 IsScheduleError old before now (Fault count) = IsReached before count now
 IsScheduleError old before now (Script line kind) =
-    IfSome old (λ text. schedules.schedule_of schedules.clients_grammar schedules.event_words text
+    IfSome old (λ text. schedules.schedule_of replay_grammar event_words text
     ≡ Err (record { line = line; kind = kind }))
 IsScheduleError old before now NoMemory = Unit {0}

@@ -4,7 +4,7 @@ ghost use Rattle.std.specs.Prelude.{◌≡◌, ◌≢◌, ◌⊎◌, ◌<◌, �
 ghost use Rattle.wp_model.specs.Counts.{Rose};
 ghost use Rattle.wp_model.specs.Script.{Script, Fault, script_of, run_grammar};
 ghost use Rattle.writepath_top.specs.Asking.{AskNothing, AskToRun, AskToRecover, AskToReplay};
-ghost use Rattle.core_model.specs.Schedule.{Schedule, schedule_of, clients_grammar, event_words};
+ghost use Rattle.core_model.specs.Schedule.{Schedule, schedule_of};
 ghost use Rattle.writepath_top.specs.Recovers.{TellsDisk, Recovers, RecoversFront, RecoveryRefused};
 ghost use Rattle.writepath_top.specs.Texts.{Stood, SaysTo};
 ghost use Rattle.printed_text.specs.Refusals.{usage, script_fault, source_fault, not_empty};
@@ -12,6 +12,7 @@ ghost use Rattle.run_model.specs.Running.{IsReached};
 ghost use Rattle.writepath_top.specs.Replays.{TellsText, Replays, ReplaysFront};
 ghost use Rattle.writepath_top.specs.Telling.{code};
 ghost use Rattle.writepath_top.specs.Outcomes.{observed, RanWhole, DiskFailed, RanToSinkFault, RanOutOfMemory};
+ghost use Rattle.client_script.specs.ReplayLanguage.{replay_grammar, event_words};
 
 use crate::reading::{read_schedule, read_script};
 use crate::telling::{Status, refuse, tell_end, tell_read_error, tell_recovery, tell_replay};
@@ -91,11 +92,11 @@ pub fn run<S: Source, D: Disk + Send, K: Sink, C: Clock + Send + Drop>(
         → Stood (S.faults source.old) (S.faults source.new)
         → IfSome (S.left source.old) (λ text. (f : Fault) → script_of run_grammar text ≡ Err f → result.status ≡ 2) }
     ensures schedule { (options : CoreOptions) → AskToReplay words.now options → result.status ≡ 2
-        → IfSome (S.left source.old) (λ text. (f : Fault) × (schedule_of clients_grammar event_words text ≡ Err f)
+        → IfSome (S.left source.old) (λ text. (f : Fault) × (schedule_of replay_grammar event_words text ≡ Err f)
         × SaysTo (K.taken sink.old) (K.taken sink.new) (script_fault f) (K.faults sink.old) (K.faults sink.new)) }
     ensures other_schedule { (options : CoreOptions) → AskToReplay words.now options → result.status ≢ 6
         → Stood (S.faults source.old) (S.faults source.new) → IfSome (S.left source.old) (λ text. (f : Fault)
-        → schedule_of clients_grammar event_words text ≡ Err f → result.status ≡ 2) }
+        → schedule_of replay_grammar event_words text ≡ Err f → result.status ≡ 2) }
 
     // 0: no device failed in this call. 3 to 5: one did.
     ensures no_fault { result.status ≡ 0 → (S.faults source.new ≡ S.faults source.old)
@@ -179,7 +180,7 @@ pub fn run<S: Source, D: Disk + Send, K: Sink, C: Clock + Send + Drop>(
     ensures replays { (options : CoreOptions) → AskToReplay words.now options
         → Stood (S.faults source.old) (S.faults source.new) → Stood (K.faults sink.old) (K.faults sink.new)
         → IfSome (S.left source.old) (λ text. (schedule : Schedule)
-        → schedule_of clients_grammar event_words text ≡ Ok schedule
+        → schedule_of replay_grammar event_words text ≡ Ok schedule
         → (result.status ≡ 0) ⊎ (result.status ≡ 6)) }
 {
     match read_words(alloc, words) {
