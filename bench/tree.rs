@@ -1,7 +1,8 @@
 //! Times Rust's BTreeMap as `tree_program` beside this file times the memtable's tree: the same versions in the same order,
 //! and the same lookups.
 //!
-//! The argument is how many thousand. What is printed is the microseconds of both, and how many lookups found a value.
+//! The arguments are how many thousand, and of how many keys, a quarter as many if left out. What is printed is the
+//! microseconds of both, and how many lookups found a value.
 
 use std::cmp::Reverse;
 use std::collections::BTreeMap;
@@ -19,9 +20,13 @@ type Version = (Vec<u8>, Reverse<u64>);
 type Versions = BTreeMap<Version, Option<Vec<u8>>>;
 
 fn main() -> Result<(), Box<dyn Error>> {
-    let batches = env::args().nth(1).ok_or("how many thousand?")?.parse::<u64>()?;
+    let mut words = env::args().skip(1);
+    let batches = words.next().ok_or("how many thousand?")?.parse::<u64>()?;
     let versions = batches * BATCH;
-    let keys = versions / 4 + 1;
+    let keys = match words.next() {
+        Some(word) => word.parse::<u64>()?.max(1),
+        None => versions / 4 + 1,
+    };
     let mut random = Random { state: 1 };
     let mut tree = Versions::new();
     let mut inserting = Duration::ZERO;

@@ -408,6 +408,67 @@ fn schedules_are_replayed(rt: HostRuntime) -> Result<(), Fail> {
     Ok(())
 }
 
+/// Two clients write, and a third reads.
+const THREE_CLIENTS: &[u8] =
+    b"client 1\nput a 1\ncommit\nclient 2\nput b 2\ncommit\nget a\nclient 3\nget a\nget b\nschedule\nlink 1\nelect 1\nbuild 1\nlink 2\nlog 1\nboundary 1\nsecond 1\nnext 1\nelect 2\nbuild 2\nlog 2\nlaunch 1\nread 2\ninsert 1\nread 3\nboundary 2\nsecond 2\nnext 2\nlaunch 2\nfinish 1\npublish 1\nread 3\nexit 1\nlaunch 2\ncomplete 1\ninsert 2\nfinish 2\npublish 2\nexit 2\ncomplete 2\nread 2\n";
+
+/// The second group is logged while the first is inserted, and isn't launched before that has left. In a single stage
+/// the log isn't handed on: the second isn't even elected before the first has left.
+#[test]
+fn groups_are_logged_while_others_are_inserted(rt: HostRuntime) -> Result<(), Fail> {
+    let rows: [(&str, &[u8]); 2] = [
+        (
+            "writepath replay --pipelined",
+            b"events 29 skipped 2\nclient 1\nok 1 1\nclient 2\nok 2 2\nval 2 1\nclient 3\nnil 0\nnil 1\nhistory 2\n1 1 1 1 log 0100000000000000010000000101610131\n2 2 2 1 log 0200000000000000010000000101620132\nstate 2 2\na 1\nb 2\ngroups 2\n",
+        ),
+        (
+            "writepath replay",
+            b"events 13 skipped 18\nclient 1\nok 1 1\nclient 2\nclient 3\nnil 0\nnil 1\nhistory 1\n1 1 1 1 log 0100000000000000010000000101610131\nstate 1 1\na 1\ngroups 1\n",
+        ),
+    ];
+    for (words, want) in rows {
+        let given = Given {
+            words,
+            text: THREE_CLIENTS,
+            ..PLAIN
+        };
+        ended(&rt, rt.alloc(), given, 0, want)?;
+    }
+    Ok(())
+}
+
+/// A client reads several keys at once, before and after the batch of another is published.
+const READS: &[u8] =
+    b"client 1\nput a 1\nput b 2\ncommit\nclient 2\nmany b a x\nscan a c\nmany b x\nscan a b\nschedule\nread 2\nlink 1\nelect 1\nbuild 1\nlog 1\nlaunch 1\ninsert 1\nread 2\nfinish 1\npublish 1\nread 2\nread 2\nexit 1\ncomplete 1\n";
+
+#[test]
+fn several_keys_are_read_at_one_sequence(rt: HostRuntime) -> Result<(), Fail> {
+    let rows: [(&[u8], u8, &[u8]); 5] = [
+        (
+            READS,
+            0,
+            b"events 14 skipped 0\nclient 1\nok 1 2\nclient 2\nmany 0 3 - - -\nscan 0 0\nmany 2 2 =2 -\nscan 2 1 a 1\nhistory 1\n1 2 1 1 log 01000000000000000200000001016101310101620132\nstate 2 2\na 1\nb 2\ngroups 1\n",
+        ),
+        (b"client 1\nmany\nschedule\n", 2, b"script 2 form\n"),
+        (b"client 1\nscan a\nschedule\n", 2, b"script 2 form\n"),
+        (b"client 1\nstop\nschedule\n", 2, b"script 2 word\n"),
+        (
+            b"client 1\ncommit noslow\nschedule\n",
+            2,
+            b"script 2 form\n",
+        ),
+    ];
+    for (text, status, want) in rows {
+        let given = Given {
+            words: "writepath replay",
+            text,
+            ..PLAIN
+        };
+        ended(&rt, rt.alloc(), given, status, want)?;
+    }
+    Ok(())
+}
+
 /// A batch of three and one of one, in one group.
 const BATCHES: &[u8] =
     b"client 1\nput a 1\nput b 2\nput c 3\ncommit\nclient 2\nput d 4\ncommit\nschedule\nlink 1\nlink 2\nelect 1\nbuild 1\nlog 1\nlaunch 1\ninsert 1\ninsert 2\nfinish 1\nfinish 2\npublish 2\nexit 1\ncomplete 1\ncomplete 2\n";

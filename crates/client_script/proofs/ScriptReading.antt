@@ -2,7 +2,7 @@
 use Rattle.std.proofs.Common.{◌≡◌, ℕ, ◌-◌, ◌+◌, ◌<◌, true, false, cond, List, ◌∷◌, [], ◌++◌, length, get_or, set, map, fold, Result, Ok, Err, refl, ap, sym, ◌∙◌, arith}
 use Rattle.std.specs.List.{enumerate_from}
 use Rattle.wp_model.specs.Calls.{Command}
-use Rattle.wp_model.specs.Script.{Script, Fault, Grammar, run_grammar, add_to_last, with_command, with_line, line_of, forms, ◌>>=◌, after_line, at_line, without_empty_end, is_passed_over}
+use Rattle.wp_model.specs.Script.{Script, Fault, Grammar, add_to_last, with_command, with_line, line_of, ◌>>=◌, after_line, at_line, without_empty_end, is_passed_over}
 use Rattle.client_script.specs.declared.lines.LineError.{LineError}
 use Rattle.client_script.specs.declared.lines.LineError.TheVariants as error
 use Rattle.client_script.specs.Scripts.{IsFaultOf}
@@ -21,9 +21,9 @@ with_command-set f (y ∷ ys) n x d c len some is =
     rw last (ap Ok (add_to_last-set f y ys x d c (rw last at is)))
 
 -- a line behind others
-pub after_line-is : (script : Script) (n : ℕ) (l : List ℕ) → after_line run_grammar (Ok script) (n, l) ≡ at_line n (line_added 1 script l)
-after_line-is script n l =
-    elim (is_passed_over l) as (λ v. cond v (Ok script) (at_line n (line_of forms l >>= with_line 1 script)) ≡ at_line n (cond v (Ok script) (line_of forms l >>= with_line 1 script))) [ true ↦ refl | false ↦ refl ]
+pub after_line-is : (g : Grammar) (script : Script) (n : ℕ) (l : List ℕ) → after_line g (Ok script) (n, l) ≡ at_line n (line_added g script l)
+after_line-is g script n l =
+    elim (is_passed_over l) as (λ v. cond v (Ok script) (at_line n (line_of g.forms l >>= with_line g.client_limit script)) ≡ at_line n (cond v (Ok script) (line_of g.forms l >>= with_line g.client_limit script))) [ true ↦ refl | false ↦ refl ]
 
 -- after a fault nothing is read
 pub fold_after_line-err : (g : Grammar) (fault : Fault) (ls : List (ℕ × List ℕ)) → fold (after_line g) (Err fault) ls ≡ Err fault
@@ -43,8 +43,8 @@ fold_after_line-without_empty_end g r n ((b ∷ bs) ∷ []) = refl
 fold_after_line-without_empty_end g r n (l ∷ m ∷ ls) = fold_after_line-without_empty_end g (after_line g r (n, l)) (n + 1) (m ∷ ls)
 
 -- the first fault of a script is that of the first line with one
-pub first_fault : (script : Script) (n : ℕ) (l : List ℕ) (ls : List (List ℕ)) (given : Result Script Fault) (e : LineError) → Reads {A = Script} {B = Script} (λ s. s) (line_added 1 script l) (Err e) → fold (after_line run_grammar) (Ok script) (enumerate_from n (l ∷ ls)) ≡ given → IsFaultOf given (error_at n e)
-first_fault script n l ls given (error.Fault kind) reads is =
-    let faulty : after_line run_grammar (Ok script) (n, l) ≡ Err (record { line = n; kind = kind }) = after_line-is script n l ∙ ap (at_line n) reads in
-    sym is ∙ (ap (λ r. fold (after_line run_grammar) r (enumerate_from (n + 1) ls)) faulty ∙ fold_after_line-err run_grammar (record { line = n; kind = kind }) (enumerate_from (n + 1) ls))
-first_fault script n l ls given error.NoMemory reads is = tt
+pub first_fault : (g : Grammar) (script : Script) (n : ℕ) (l : List ℕ) (ls : List (List ℕ)) (given : Result Script Fault) (e : LineError) → Reads {A = Script} {B = Script} (λ s. s) (line_added g script l) (Err e) → fold (after_line g) (Ok script) (enumerate_from n (l ∷ ls)) ≡ given → IsFaultOf given (error_at n e)
+first_fault g script n l ls given (error.Fault kind) reads is =
+    let faulty : after_line g (Ok script) (n, l) ≡ Err (record { line = n; kind = kind }) = after_line-is g script n l ∙ ap (at_line n) reads in
+    sym is ∙ (ap (λ r. fold (after_line g) r (enumerate_from (n + 1) ls)) faulty ∙ fold_after_line-err g (record { line = n; kind = kind }) (enumerate_from (n + 1) ls))
+first_fault g script n l ls given error.NoMemory reads is = tt

@@ -11,7 +11,9 @@ use Rattle.client_calls.specs.declared.command.Command.{Command}
 use Rattle.client_calls.specs.declared.command.Command.TheVariants.{Put, Delete, SingleDelete, Note, Clear, Commit, Get, Many, Scan, Stop, Unstop, Slow, Unslow}
 use Rattle.client_script.specs.declared.script.Script.{Script}
 use Rattle.client_calls.specs.Commands.{command_of}
-use Rattle.client_script.specs.Scripts.{additions_of, FitsBatches, line_len, lines_len, script_len, IsShort, IsScriptCommand, HasScriptCommands}
+use Rattle.client_script.specs.declared.language.Language.{Language}
+use Rattle.client_script.specs.Languages.{IsCommandOf, HasCommandsOf}
+use Rattle.client_script.specs.Scripts.{additions_of, FitsBatches, line_len, lines_len, script_len, IsShort}
 
 -- a length of two bytes at most is spelled in two
 one_byte : (k n : ℕ) → n < 128 → length (varint_within (suc k) n) ≡ 1
@@ -52,45 +54,45 @@ with_record r c cs rs line words rest = record {
 without_record : (c : Command) (cs : List Command) (rs : List Record) → IsWithin rs (lines_len cs) → IsWithin rs (lines_len (c ∷ cs))
 without_record c cs rs rest = record { lines = omega (arith, rest.lines, sum_by-cons line_len c cs); words = rest.words }
 
-within : (cs : List Command) → AllByRecursion IsScriptCommand cs → IsWithin (additions_of (map command_of cs)) (lines_len cs)
-within [] short = record { lines = omega arith; words = omega arith }
-within (Put key v ∷ cs) short =
+within : (language : Language) (cs : List Command) → AllByRecursion (IsCommandOf language) cs → IsWithin (additions_of (map command_of cs)) (lines_len cs)
+within language [] short = record { lines = omega arith; words = omega arith }
+within language (Put key v ∷ cs) short =
     let k = word_len key short.0.0 in
     let w = word_len v short.0.1 in
-    with_record (value key v) (Put key v) cs _ (omega (arith, k, w, two_len 1 key v)) (omega (arith, k, w, two_len 1 key v)) (within cs short.1)
-within (Delete key ∷ cs) short =
+    with_record (value key v) (Put key v) cs _ (omega (arith, k, w, two_len 1 key v)) (omega (arith, k, w, two_len 1 key v)) (within language cs short.1)
+within language (Delete key ∷ cs) short =
     let k = word_len key short.0 in
-    with_record (deletion key) (Delete key) cs _ (omega (arith, k, one_len 0 key)) (omega (arith, k, one_len 0 key)) (within cs short.1)
-within (SingleDelete key ∷ cs) short =
+    with_record (deletion key) (Delete key) cs _ (omega (arith, k, one_len 0 key)) (omega (arith, k, one_len 0 key)) (within language cs short.1)
+within language (SingleDelete key ∷ cs) short =
     let k = word_len key short.0 in
-    with_record (single_deletion key) (SingleDelete key) cs _ (omega (arith, k, one_len 7 key)) (omega (arith, k, one_len 7 key)) (within cs short.1)
-within (Note text ∷ cs) short =
+    with_record (single_deletion key) (SingleDelete key) cs _ (omega (arith, k, one_len 7 key)) (omega (arith, k, one_len 7 key)) (within language cs short.1)
+within language (Note text ∷ cs) short =
     let k = word_len text short.0 in
-    with_record (log_data text) (Note text) cs _ (omega (arith, k, one_len 3 text)) (omega (arith, k, one_len 3 text)) (within cs short.1)
-within (Clear ∷ cs) short = without_record Clear cs _ (within cs short.1)
-within (Commit options ∷ cs) short = without_record (Commit options) cs _ (within cs short.1)
-within (Get key ∷ cs) short = without_record (Get key) cs _ (within cs short.1)
-within (Many keys ∷ cs) short = absurd short.0
-within (Scan lo hi ∷ cs) short = absurd short.0
-within (Stop ∷ cs) short = absurd short.0
-within (Unstop ∷ cs) short = absurd short.0
-within (Slow rate ∷ cs) short = absurd short.0
-within (Unslow ∷ cs) short = absurd short.0
+    with_record (log_data text) (Note text) cs _ (omega (arith, k, one_len 3 text)) (omega (arith, k, one_len 3 text)) (within language cs short.1)
+within language (Clear ∷ cs) short = without_record Clear cs _ (within language cs short.1)
+within language (Commit options ∷ cs) short = without_record (Commit options) cs _ (within language cs short.1)
+within language (Get key ∷ cs) short = without_record (Get key) cs _ (within language cs short.1)
+within language (Many keys ∷ cs) short = without_record (Many keys) cs _ (within language cs short.1)
+within language (Scan lo hi ∷ cs) short = without_record (Scan lo hi) cs _ (within language cs short.1)
+within language (Stop ∷ cs) short = without_record Stop cs _ (within language cs short.1)
+within language (Unstop ∷ cs) short = without_record Unstop cs _ (within language cs short.1)
+within language (Slow rate ∷ cs) short = without_record (Slow rate) cs _ (within language cs short.1)
+within language (Unslow ∷ cs) short = without_record Unslow cs _ (within language cs short.1)
 
 -- Many records are shorter than their lines by as much as a header has; few are short.
-client_fits : (cs : List Command) → AllByRecursion IsScriptCommand cs → lines_len cs ≤ 16777217 → size_of_batch (additions_of (map command_of cs)) ≤ 16777216
-client_fits cs short lines =
+client_fits : (language : Language) (cs : List Command) → AllByRecursion (IsCommandOf language) cs → lines_len cs ≤ 16777217 → size_of_batch (additions_of (map command_of cs)) ≤ 16777216
+client_fits language cs short lines =
     let rs = additions_of (map command_of cs) in
-    let small = within cs short in
+    let small = within language cs short in
     omega (arith, small.lines, small.words, lines, length-append (header 0 (count_of rs)) (body rs))
 
-clients_fit : (clients : List (Vec Command Global)) → AllByRecursion (λ cs. AllByRecursion IsScriptCommand cs.items) clients → sum_by (λ cs. lines_len cs.items) clients ≤ 16777217
+clients_fit : (language : Language) (clients : List (Vec Command Global)) → AllByRecursion (λ cs. AllByRecursion (IsCommandOf language) cs.items) clients → sum_by (λ cs. lines_len cs.items) clients ≤ 16777217
     → AllByRecursion (λ cs. size_of_batch (additions_of cs) ≤ 16777216) (map (λ cs. map command_of cs.items) clients)
-clients_fit [] short lines = tt
-clients_fit (cs ∷ rest) short lines =
+clients_fit language [] short lines = tt
+clients_fit language (cs ∷ rest) short lines =
     let sum = sum_by-cons (λ (c : Vec Command Global). lines_len c.items) cs rest in
-    (client_fits cs.items short.0 (omega (arith, lines, sum)), clients_fit rest short.1 (omega (arith, lines, sum)))
+    (client_fits language cs.items short.0 (omega (arith, lines, sum)), clients_fit language rest short.1 (omega (arith, lines, sum)))
 
 -- what is read of a text of 16 MiB
-pub fits_batches : (script : Script) → HasScriptCommands script → script_len script ≤ 16777217 → FitsBatches script
-fits_batches script short lines = clients_fit script.clients.items short lines
+pub fits_batches : (language : Language) (script : Script) → HasCommandsOf language script → script_len script ≤ 16777217 → FitsBatches script
+fits_batches language script short lines = clients_fit language script.clients.items short lines

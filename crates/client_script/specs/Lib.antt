@@ -1,3 +1,5 @@
+pub mod ReplayLanguage
+pub mod Languages
 pub mod Schedules
 pub mod ScriptLines
 pub mod ScriptWords

@@ -9,6 +9,7 @@ use Rattle.client_script.specs.declared.script.ScriptError.TheVariants as script
 use Rattle.client_script.specs.declared.schedule.Schedule.{Schedule}
 use Rattle.client_script.specs.declared.schedule.Draft.{Draft}
 use Rattle.client_script.specs.Scripts.{commands_of}
+use Rattle.client_script.specs.ReplayLanguage.{replay_grammar, event_words}
 
 abbrev pub events_of : Option (Vec Event Global) → Option (List Event)
 events_of events = option_map (λ v. v.items) events
@@ -26,11 +27,11 @@ event_named words w client = option_map (λ x. x.1 client) (find (λ x. bytes_eq
 -- what was read so far, and one more line
 abbrev pub line_added : model.Draft → List ℕ → Read model.Draft
 line_added d l = if is_passed_over l then Ok d
-    else model.line_added model.clients_grammar model.first_event_words d.script d.events l
+    else model.line_added replay_grammar event_words d.script d.events l
 
 -- the events of a schedule, and one more
 abbrev pub event_added : ℕ → List Event → List ℕ → Read (List Event)
-event_added clients events l = model.event_of clients model.first_event_words l >>= λ event. Ok (events ++ event ∷ [])
+event_added clients events l = model.event_of clients event_words l >>= λ event. Ok (events ++ event ∷ [])
 
 -- A fault and its line are those that are given. Want of memory says nothing of the text.
 abbrev pub IsScheduleFaultOf : {A : Type 0} → Result A Fault → ScriptError → Type 0

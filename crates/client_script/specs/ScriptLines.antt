@@ -3,7 +3,7 @@ use Rattle.std.specs.Prelude.{◌≡◌, ℕ, List, Result, Ok, Err, if◌then�
 use Rattle.std.specs.List.{list_all}
 use Rattle.wp_model.specs.declared.script.ScriptFault.TheVariants.{Form}
 use Rattle.wp_model.specs.Script as model
-use Rattle.wp_model.specs.Script.{section, command, line_of, with_line, ◌>>=◌}
+use Rattle.wp_model.specs.Script.{Grammar, section, command, line_of, with_line, ◌>>=◌}
 use Rattle.client_script.specs.declared.script.ScriptError.{ScriptError}
 use Rattle.client_script.specs.declared.script.ScriptError.TheVariants as script_error
 use Rattle.client_script.specs.declared.lines.Line.{Line}
@@ -11,7 +11,10 @@ use Rattle.client_script.specs.declared.lines.Line.TheVariants as line
 use Rattle.client_script.specs.declared.lines.LineError.{LineError}
 use Rattle.client_script.specs.declared.lines.LineError.TheVariants.{Fault, NoMemory}
 use Rattle.client_calls.specs.Commands.{command_of}
-use Rattle.client_script.specs.Scripts.{line_len, IsScriptCommand}
+use Rattle.client_script.specs.declared.language.Language.{Language}
+use Rattle.client_script.specs.Languages.{IsCommandOf}
+use Rattle.client_script.specs.ScriptWords.{alone}
+use Rattle.client_script.specs.Scripts.{line_len}
 
 -- what a line says, in the definition's words
 abbrev pub line_said : Line → model.Line
@@ -23,10 +26,10 @@ abbrev pub said_len : Line → ℕ
 said_len (line.Section n) = 0
 said_len (line.Command c) = line_len c
 
--- a command is one that a line may say
-abbrev pub MayBeSaid : Line → Type 0
-MayBeSaid (line.Section n) = Unit {0}
-MayBeSaid (line.Command c) = IsScriptCommand c
+-- a command is one that a line of the language may say
+abbrev pub MayBeSaid : Language → Line → Type 0
+MayBeSaid language (line.Section n) = Unit {0}
+MayBeSaid language (line.Command c) = IsCommandOf language c
 
 -- What is read is what the definition gives, and so is a fault. Want of memory says nothing of the text.
 abbrev pub Reads : {A B : Type 0} → (A → B) → model.Read B → Result A LineError → Type 0
@@ -34,17 +37,25 @@ Reads view given (Ok x) = given ≡ Ok (view x)
 Reads view given (Err (Fault kind)) = given ≡ Err kind
 Reads view given (Err NoMemory) = Unit {0}
 
+-- all these parts, if each is a word
+abbrev pub all_words : List (List ℕ) → model.Read (List (List ℕ))
+all_words ws = if list_all model.is_word ws then Ok ws else Err Form
+
+-- the number that one word is, where there is no other
+abbrev pub number_alone : List (List ℕ) → model.Read ℕ
+number_alone ws = model.or_form (alone ws) >>= λ w. model.or_form (model.number_of w)
+
 -- what is read after the first word of a form
 abbrev pub behind_word : (List (List ℕ) → model.Read model.Line) → List (List ℕ) → model.Read model.Line
 behind_word rest ws = if list_all model.is_word ws then rest ws else Err Form
 
--- a script of so many clients at most, and one more line, which isn't passed over
-abbrev pub said_added : ℕ → model.Script → List ℕ → model.Read model.Script
-said_added most script l = line_of model.forms l >>= with_line most script
+-- a script in this grammar, and one more line, which isn't passed over
+abbrev pub said_added : Grammar → model.Script → List ℕ → model.Read model.Script
+said_added g script l = line_of g.forms l >>= with_line g.client_limit script
 
 -- the same of any line
-abbrev pub line_added : ℕ → model.Script → List ℕ → model.Read model.Script
-line_added most script l = if model.is_passed_over l then Ok script else said_added most script l
+abbrev pub line_added : Grammar → model.Script → List ℕ → model.Read model.Script
+line_added g script l = if model.is_passed_over l then Ok script else said_added g script l
 
 -- the error in a script that is one in its line of this number
 abbrev pub error_at : ℕ → LineError → ScriptError

@@ -44,7 +44,7 @@ line_len Unslow = 0
 abbrev pub IsShort : List ℕ → Type 0
 IsShort word = (1 ≤ length word) × (length word ≤ 1024)
 
--- what a line of a script may say: one of these commands, its words short
+-- what a line may say in every language: one of these commands, its words short
 abbrev pub IsScriptCommand : Command → Type 0
 IsScriptCommand (Put key v) = IsShort key × IsShort v
 IsScriptCommand (Delete key) = IsShort key
@@ -60,6 +60,12 @@ IsScriptCommand Unstop = ⊥
 IsScriptCommand (Slow rate) = ⊥
 IsScriptCommand Unslow = ⊥
 
+-- a script of several clients may have reads of several keys besides
+abbrev pub IsClientsCommand : Command → Type 0
+IsClientsCommand (Many keys) = AllByRecursion IsShort keys.items
+IsClientsCommand (Scan lo hi) = IsShort lo × IsShort hi
+IsClientsCommand other = IsScriptCommand other
+
 -- how long the lines of a client are that add records
 abbrev pub lines_len : List Command → ℕ
 lines_len cs = sum_by line_len cs
@@ -71,6 +77,10 @@ script_len script = sum_by (λ cs. lines_len cs.items) script.clients.items
 -- each command is one that a line may say
 abbrev pub HasScriptCommands : Script → Type 0
 HasScriptCommands script = AllByRecursion (λ cs. AllByRecursion IsScriptCommand cs.items) script.clients.items
+
+-- the same of several clients
+abbrev pub HasClientsCommands : Script → Type 0
+HasClientsCommands script = AllByRecursion (λ cs. AllByRecursion IsClientsCommand cs.items) script.clients.items
 
 -- A fault and its line are those that are given. Want of memory says nothing of the text.
 abbrev pub IsFaultOf : Result model.Script model.Fault → ScriptError → Type 0

@@ -2,6 +2,7 @@
 //! script, and `schedule` that of a script with a schedule.
 #![tactic(auto)]
 
+mod language;
 mod lines;
 mod numbers;
 mod parser;
@@ -9,7 +10,8 @@ mod schedule;
 mod script;
 mod words;
 
-pub use parser::{TEXT_LIMIT, parse};
+pub use numbers::value_of_digits;
+pub use parser::{TEXT_LIMIT, parse, parse_clients};
 pub use schedule::{Schedule, parse_schedule};
 pub use script::{Script, ScriptError};
 

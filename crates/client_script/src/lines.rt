@@ -1,16 +1,20 @@
 //! One line of a script.
 
-ghost use Rattle.std.specs.Prelude.{◌≡◌, ◌+◌, ◌≤◌, length, IfOk, option_copied};
+ghost use Rattle.std.specs.Prelude.{◌≡◌, ◌+◌, ◌≤◌, ◌&&◌, true, length, IfOk, option_copied};
+ghost use Rattle.std.specs.List.{AllByRecursion};
 ghost use Rattle.wp_model.specs.Batch.{value, deletion, single_deletion, log_data};
 ghost use Rattle.wp_model.specs.Calls as calls;
 ghost use Rattle.wp_model.specs.Script as model;
-ghost use Rattle.client_script.specs.Scripts.{IsShort};
+ghost use Rattle.client_script.specs.Languages.{grammar_of, has_reads, has_no_slowdown, has_tokens, other_forms, commit_flags_of, IsCommandOf};
+ghost use Rattle.client_script.specs.Scripts.{IsShort, line_len};
+ghost use Rattle.client_calls.specs.Commands.{command_of};
 ghost use Rattle.client_script.specs.ScriptWords.{parts_of, len_behind, alone};
-ghost use Rattle.client_script.specs.ScriptLines.{line_said, said_len, MayBeSaid, Reads, behind_word, error_at};
+ghost use Rattle.client_script.specs.ScriptLines.{line_said, said_len, MayBeSaid, Reads, all_words, number_alone, behind_word, error_at};
 
+use crate::language::Language;
 use crate::numbers::number_of;
 use crate::script::ScriptError;
-use crate::words::{one_word, split_once, two_words};
+use crate::words::{is_word, one_word, split_once, two_words};
 use client_calls::Command;
 use std::alloc::{AllocFailed, Global};
 use wp_coding::Bytes;
@@ -75,15 +79,30 @@ pub fn is_passed_over(line: &[u8]) -> bool
 }
 
 /// Reads a line that is not passed over.
-pub fn read_line(alloc: Global, line: &[u8]) -> Result<Line, LineError>
-    ensures line { Reads line_said (model.line_of model.forms line.now) result }
+pub fn read_line(alloc: Global, language: Language, line: &[u8]) -> Result<Line, LineError>
+    ensures line { Reads line_said (model.line_of (grammar_of language).forms line.now) result }
     ensures len { IfOk result (λ l. said_len l ≤ length line.now + 1) }
-    ensures command { IfOk result MayBeSaid }
+    ensures command { IfOk result (MayBeSaid language) }
 {
     if !are_plain(line) {
         return Err(LineError::Fault(ScriptFault::Byte));
     }
     let (word, rest) = split_once(line, b' ');
+    read_words(alloc, language, word, rest)
+}
+
+/// Reads a line by its first word and what stands behind it.
+fn read_words(
+    alloc: Global,
+    language: Language,
+    word: &[u8],
+    rest: Option<&[u8]>,
+) -> Result<Line, LineError>
+    ensures line { let words = parts_of 32 (option_copied rest.entry) in
+        Reads line_said (model.by_form (grammar_of language).forms word.now words) result }
+    ensures len { IfOk result (λ l. said_len l ≤ length word.now + len_behind (option_copied rest.entry) + 1) }
+    ensures command { IfOk result (MayBeSaid language) }
+{
     if word == b"client".as_slice() {
         return read_section(rest);
     }
@@ -100,13 +119,48 @@ pub fn read_line(alloc: Global, line: &[u8]) -> Result<Line, LineError>
         return read_note(alloc, rest);
     }
     if word == b"clear".as_slice() {
-        return read_clear(rest);
+        return read_alone(Command::Clear, rest);
     }
     if word == b"commit".as_slice() {
-        return read_commit(rest);
+        return read_commit(language, rest);
     }
     if word == b"get".as_slice() {
         return read_get(alloc, rest);
+    }
+    read_other(alloc, language, word, rest)
+}
+
+/// Reads a line whose first word isn't one of every language's.
+fn read_other(
+    alloc: Global,
+    language: Language,
+    word: &[u8],
+    rest: Option<&[u8]>,
+) -> Result<Line, LineError>
+    ensures line { let words = parts_of 32 (option_copied rest.entry) in
+        Reads line_said (model.by_form (other_forms language) word.now words) result }
+    ensures len { IfOk result (λ l. said_len l ≡ 0) }
+    ensures command { IfOk result (MayBeSaid language) }
+{
+    let reads = language.has_reads();
+    if reads && word == b"many".as_slice() {
+        return read_many(alloc, rest);
+    }
+    if reads && word == b"scan".as_slice() {
+        return read_scan(alloc, rest);
+    }
+    let tokens = language.has_tokens();
+    if tokens && word == b"stop".as_slice() {
+        return read_alone(Command::Stop, rest);
+    }
+    if tokens && word == b"unstop".as_slice() {
+        return read_alone(Command::Unstop, rest);
+    }
+    if tokens && word == b"slow".as_slice() {
+        return read_slow(rest);
+    }
+    if tokens && word == b"unslow".as_slice() {
+        return read_alone(Command::Unslow, rest);
     }
     Err(LineError::Fault(ScriptFault::Word))
 }
@@ -123,10 +177,9 @@ fn read_section(rest: Option<&[u8]>) -> Result<Line, LineError>
     ensures line { let words = parts_of 32 (option_copied rest.entry) in
         Reads line_said (behind_word (model.one_number model.section) words) result }
     ensures len { IfOk result (λ l. said_len l ≡ 0) }
-    ensures command { IfOk result MayBeSaid }
+    ensures command { (language : Language) → IfOk result (MayBeSaid language) }
 {
-    let word = one_word(rest).ok_or(LineError::FORM)?;
-    let number = number_of(word).ok_or(LineError::FORM)?;
+    let number = read_number(rest)?;
     Ok(Line::Section(number))
 }
 
@@ -136,7 +189,7 @@ fn read_put(alloc: Global, rest: Option<&[u8]>) -> Result<Line, LineError>
         let put = model.two_words (λ k v. model.command (calls.add (value k v))) in
         Reads line_said (behind_word put words) result }
     ensures len { IfOk result (λ l. said_len l ≡ len_behind (option_copied rest.entry) + 4) }
-    ensures command { IfOk result MayBeSaid }
+    ensures command { (language : Language) → IfOk result (MayBeSaid language) }
 {
     let (key, value) = two_words(rest).ok_or(LineError::FORM)?;
     let key = Bytes::copy(alloc, key)?;
@@ -150,7 +203,7 @@ fn read_delete(alloc: Global, rest: Option<&[u8]>) -> Result<Line, LineError>
         let delete = model.one_word (λ k. model.command (calls.add (deletion k))) in
         Reads line_said (behind_word delete words) result }
     ensures len { IfOk result (λ l. said_len l ≡ len_behind (option_copied rest.entry) + 4) }
-    ensures command { IfOk result MayBeSaid }
+    ensures command { (language : Language) → IfOk result (MayBeSaid language) }
 {
     let key = read_word(alloc, rest)?;
     Ok(Line::Command(Command::Delete { key }))
@@ -162,7 +215,7 @@ fn read_single_delete(alloc: Global, rest: Option<&[u8]>) -> Result<Line, LineEr
         let single_delete = model.one_word (λ k. model.command (calls.add (single_deletion k))) in
         Reads line_said (behind_word single_delete words) result }
     ensures len { IfOk result (λ l. said_len l ≡ len_behind (option_copied rest.entry) + 5) }
-    ensures command { IfOk result MayBeSaid }
+    ensures command { (language : Language) → IfOk result (MayBeSaid language) }
 {
     let key = read_word(alloc, rest)?;
     Ok(Line::Command(Command::SingleDelete { key }))
@@ -174,41 +227,42 @@ fn read_note(alloc: Global, rest: Option<&[u8]>) -> Result<Line, LineError>
         let note = model.one_word (λ t. model.command (calls.add (log_data t))) in
         Reads line_said (behind_word note words) result }
     ensures len { IfOk result (λ l. said_len l ≡ len_behind (option_copied rest.entry) + 5) }
-    ensures command { IfOk result MayBeSaid }
+    ensures command { (language : Language) → IfOk result (MayBeSaid language) }
 {
     let text = read_word(alloc, rest)?;
     Ok(Line::Command(Command::Note { text }))
 }
 
-/// Reads what stands after `clear`.
-fn read_clear(rest: Option<&[u8]>) -> Result<Line, LineError>
+/// Reads what stands after the word of a command that has no other.
+fn read_alone(said: Command, rest: Option<&[u8]>) -> Result<Line, LineError>
     ensures line { let words = parts_of 32 (option_copied rest.entry) in
-        Reads line_said (behind_word (model.no_word (model.command calls.clear)) words) result }
-    ensures len { IfOk result (λ l. said_len l ≡ 0) }
-    ensures command { IfOk result MayBeSaid }
+        Reads line_said (behind_word (model.no_word (model.command (command_of said))) words) result }
+    ensures len { IfOk result (λ l. said_len l ≡ line_len said) }
+    ensures command { (language : Language) → IsCommandOf language said → IfOk result (MayBeSaid language) }
 {
     if rest.is_some() {
         return Err(LineError::FORM);
     }
-    Ok(Line::Command(Command::Clear))
+    Ok(Line::Command(said))
 }
 
 /// Reads what stands after `commit`.
-fn read_commit(rest: Option<&[u8]>) -> Result<Line, LineError>
+fn read_commit(language: Language, rest: Option<&[u8]>) -> Result<Line, LineError>
     ensures line { let words = parts_of 32 (option_copied rest.entry) in
-        Reads line_said (behind_word model.commit_flags words) result }
+        Reads line_said (behind_word (commit_flags_of language) words) result }
     ensures len { IfOk result (λ l. said_len l ≡ 0) }
-    ensures command { IfOk result MayBeSaid }
+    ensures command { IfOk result (MayBeSaid language) }
 {
     let (sync, rest) = take_flag(rest, b"sync");
     let (no_log, rest) = take_flag(rest, b"nolog");
+    let (no_slowdown, rest) = take_flag_if(language.has_no_slowdown(), rest, b"noslow");
     if rest.is_some() {
         return Err(LineError::FORM);
     }
     let options = WriteOptions {
         sync,
         no_log,
-        no_slowdown: false,
+        no_slowdown,
     };
     Ok(Line::Command(Command::Commit { options }))
 }
@@ -219,10 +273,51 @@ fn read_get(alloc: Global, rest: Option<&[u8]>) -> Result<Line, LineError>
         let get = model.one_word (λ k. model.command (calls.get k)) in
         Reads line_said (behind_word get words) result }
     ensures len { IfOk result (λ l. said_len l ≡ 0) }
-    ensures command { IfOk result MayBeSaid }
+    ensures command { (language : Language) → IfOk result (MayBeSaid language) }
 {
     let key = read_word(alloc, rest)?;
     Ok(Line::Command(Command::Get { key }))
+}
+
+/// Reads what stands after `many`.
+fn read_many(alloc: Global, rest: Option<&[u8]>) -> Result<Line, LineError>
+    ensures line { let words = parts_of 32 (option_copied rest.entry) in
+        let many = model.some_words (λ keys. model.command (calls.many keys)) in
+        Reads line_said (behind_word many words) result }
+    ensures len { IfOk result (λ l. said_len l ≡ 0) }
+    ensures command { (language : Language) → has_reads language ≡ true → IfOk result (MayBeSaid language) }
+{
+    let keys = read_all_words(alloc, rest)?;
+    if keys.is_empty() {
+        return Err(LineError::FORM);
+    }
+    Ok(Line::Command(Command::Many { keys }))
+}
+
+/// Reads what stands after `scan`.
+fn read_scan(alloc: Global, rest: Option<&[u8]>) -> Result<Line, LineError>
+    ensures line { let words = parts_of 32 (option_copied rest.entry) in
+        let scan = model.two_words (λ lo hi. model.command (calls.scan lo hi)) in
+        Reads line_said (behind_word scan words) result }
+    ensures len { IfOk result (λ l. said_len l ≡ 0) }
+    ensures command { (language : Language) → has_reads language ≡ true → IfOk result (MayBeSaid language) }
+{
+    let (lo, hi) = two_words(rest).ok_or(LineError::FORM)?;
+    let lo = Bytes::copy(alloc, lo)?;
+    let hi = Bytes::copy(alloc, hi)?;
+    Ok(Line::Command(Command::Scan { lo, hi }))
+}
+
+/// Reads what stands after `slow`.
+fn read_slow(rest: Option<&[u8]>) -> Result<Line, LineError>
+    ensures line { let words = parts_of 32 (option_copied rest.entry) in
+        let slow = model.one_number (λ rate. model.command (calls.slow rate)) in
+        Reads line_said (behind_word slow words) result }
+    ensures len { IfOk result (λ l. said_len l ≡ 0) }
+    ensures command { (language : Language) → has_tokens language ≡ true → IfOk result (MayBeSaid language) }
+{
+    let rate = read_number(rest)?;
+    Ok(Line::Command(Command::Slow { rate }))
 }
 
 /// Whether a flag stands first in what is left of a line, and what is left without it.
@@ -242,6 +337,19 @@ fn take_flag<'a>(rest: Option<&'a [u8]>, flag: &[u8]) -> (bool, Option<&'a [u8]>
     }
 }
 
+/// The same of a flag that may stand there, or may not.
+fn take_flag_if<'a>(allowed: bool, rest: Option<&'a [u8]>, flag: &[u8]) -> (bool, Option<&'a [u8]>)
+    ensures flag { result.0 ≡ (allowed && model.is_first flag.now (parts_of 32 (option_copied rest.entry))) }
+    ensures behind { parts_of 32 (option_copied result.1)
+        ≡ model.behind_first result.0 (parts_of 32 (option_copied rest.entry)) }
+{
+    if allowed {
+        take_flag(rest, flag)
+    } else {
+        (false, rest)
+    }
+}
+
 /// Reads the one word that stands after a command's.
 fn read_word(alloc: Global, rest: Option<&[u8]>) -> Result<Bytes, LineError>
     ensures word { Reads (λ w. w) (model.or_form (alone (parts_of 32 (option_copied rest.entry)))) result }
@@ -251,4 +359,30 @@ fn read_word(alloc: Global, rest: Option<&[u8]>) -> Result<Bytes, LineError>
     let word = one_word(rest).ok_or(LineError::FORM)?;
     let word = Bytes::copy(alloc, word)?;
     Ok(word)
+}
+
+/// Reads all words that are left of a line.
+fn read_all_words(alloc: Global, rest: Option<&[u8]>) -> Result<Vec<Bytes>, LineError>
+    ensures words { Reads (λ v. v.items) (all_words (parts_of 32 (option_copied rest.entry))) result }
+    ensures short { IfOk result (λ v. AllByRecursion IsShort v.items) }
+{
+    let mut words = Vec::new(alloc);
+    let mut left = rest;
+    while let Some(text) = left {
+        let (word, behind) = split_once(text, b' ');
+        if !is_word(word) {
+            return Err(LineError::FORM);
+        }
+        words.push(Bytes::copy(alloc, word)?)?;
+        left = behind;
+    }
+    Ok(words)
+}
+
+/// Reads the one number that stands after a command's word.
+fn read_number(rest: Option<&[u8]>) -> Result<u64, LineError>
+    ensures { Reads (λ n. n) (number_alone (parts_of 32 (option_copied rest.entry))) result }
+{
+    let word = one_word(rest).ok_or(LineError::FORM)?;
+    number_of(word).ok_or(LineError::FORM)
 }

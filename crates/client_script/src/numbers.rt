@@ -16,7 +16,7 @@ pub fn number_of(word: &[u8]) -> Option<u64>
 
 /// The value of digits, if it is below `2^64`. Any other byte is read as some value too: only
 /// what is printed for the value tells it from a digit.
-fn value_of_digits(word: &[u8]) -> Option<u64>
+pub fn value_of_digits(word: &[u8]) -> Option<u64>
     ensures { result ≡ (if nat_lt (model.value_of_digits word.now) (2 ^ 64)
         then Some (model.value_of_digits word.now) else None) }
 {

@@ -4,20 +4,36 @@
 //! begin with `#` are passed over whole. The others are words of 1 to 1024 printing characters, with
 //! one space between them:
 //!
-//! - `client N` begins the section of a client;
+//! - `client N` begins the section of client N: 1, then 2, and so on;
 //! - `put K V`, `del K`, `sdel K` and `note T` add a value, a deletion, a single deletion and log
 //!   data to its batch;
 //! - `clear` empties the batch;
-//! - `commit` writes the batch, and after it may stand `sync`, `nolog`, or both in this order;
-//! - `get K` reads a key.
+//! - `commit` writes the batch, and after it may stand `sync`, `nolog` and `noslow`, each or not, in
+//!   this order;
+//! - `get K` reads a key, `many K K ..` one key or more at one sequence, and `scan LO HI` the keys
+//!   from LO on and below HI;
+//! - `stop` and `slow R` take the write controller's stop token and its delay token, at R bytes a
+//!   second, and `unstop` and `unslow` give them back.
+//!
+//! A number is decimal digits without a sign or a leading zero, and below 2^64.
+//!
+//! Three languages have these lines:
+//!
+//! | Read by | Clients | `many`, `scan` | `noslow` | `stop`, `unstop`, `slow`, `unslow` | all others |
+//! |---|---|---|---|---|---|
+//! | [`parse`] | 1 | no | no | no | yes |
+//! | [`parse_schedule`](crate::parse_schedule) | 1 to 16 | yes | yes | no | yes |
+//! | [`parse_clients`] | 1 to 16 | yes | yes | yes | yes |
 
 ghost use Rattle.std.specs.Prelude.{◌≡◌, ◌+◌, ◌-◌, ◌^◌, ◌<◌, ◌≤◌, Ok, length, IfOk, IfErr, OnOk};
 ghost use Rattle.wp_model.specs.Script as model;
-ghost use Rattle.wp_model.specs.Script.{script_of, run_grammar, lines_read};
+ghost use Rattle.wp_model.specs.Script.{script_of, run_grammar, whole_grammar, lines_read};
 ghost use Rattle.client_calls.specs.Commands.{command_of};
-ghost use Rattle.client_script.specs.Scripts.{commands_of, IsFaultOf, FitsBatches, script_len, line_len, HasScriptCommands, IsScriptCommand};
+ghost use Rattle.client_script.specs.Languages.{grammar_of, client_limit, IsCommandOf, HasCommandsOf};
+ghost use Rattle.client_script.specs.Scripts.{commands_of, IsFaultOf, FitsBatches, script_len, line_len, HasScriptCommands};
 ghost use Rattle.client_script.specs.ScriptLines.{Reads, said_added, line_added};
 
+use crate::language::Language;
 use crate::lines::{Line, LineError, is_passed_over, read_line};
 use crate::script::{Script, ScriptError};
 use crate::words::split_once;
@@ -28,12 +44,9 @@ use wp_model::ScriptFault;
 /// How many bytes a script may have.
 pub const TEXT_LIMIT: usize = 16_777_216;
 
-/// How many clients a script may have.
-const CLIENT_LIMIT: u64 = 1;
-
-/// Parses a script. The first fault in its lines decides, and within a line the first kind in the
-/// order byte, word, form, client, clients. The text as a whole may be too long, before all else,
-/// or have no client, after all else.
+/// Parses a script of one client. The first fault in its lines decides, and within a line the first
+/// kind in the order byte, word, form, client, clients. The text as a whole may be too long, before
+/// all else, or have no client, after all else.
 pub fn parse(alloc: Global, text: &[u8]) -> Result<Script, ScriptError>
     ensures script { IfOk result (λ s. script_of run_grammar text.now ≡ Ok (commands_of s)) }
     ensures fault { IfErr result (IsFaultOf (script_of run_grammar text.now)) }
@@ -44,13 +57,40 @@ pub fn parse(alloc: Global, text: &[u8]) -> Result<Script, ScriptError>
     // No command is of another form than these, and its words are short.
     ensures commands { IfOk result HasScriptCommands }
 {
+    read_script(alloc, Language::OneClient, text)
+}
+
+/// Parses a script of 1 to 16 clients, which may have every line. Faults come as in [`parse`].
+pub fn parse_clients(alloc: Global, text: &[u8]) -> Result<Script, ScriptError>
+    ensures script { IfOk result (λ s. script_of whole_grammar text.now ≡ Ok (commands_of s)) }
+    ensures fault { IfErr result (IsFaultOf (script_of whole_grammar text.now)) }
+    ensures clients { IfOk result (λ s. (1 ≤ length s.clients.items) × (length s.clients.items ≤ 16)) }
+
+    // All that a client adds fits one batch, whatever becomes of its commits.
+    ensures fits { IfOk result FitsBatches }
+
+    // The words of the commands are short.
+    ensures commands { IfOk result (HasCommandsOf Language.Whole) }
+{
+    read_script(alloc, Language::Whole, text)
+}
+
+/// Reads a script in a language.
+fn read_script(alloc: Global, language: Language, text: &[u8]) -> Result<Script, ScriptError>
+    ensures script { IfOk result (λ s. script_of (grammar_of language) text.now ≡ Ok (commands_of s)) }
+    ensures fault { IfErr result (IsFaultOf (script_of (grammar_of language) text.now)) }
+    ensures clients { IfOk result
+        (λ s. (1 ≤ length s.clients.items) × (length s.clients.items ≤ client_limit language)) }
+    ensures fits { IfOk result FitsBatches }
+    ensures commands { IfOk result (HasCommandsOf language) }
+{
     if text.len() > TEXT_LIMIT {
         return Err(ScriptError::Fault {
             line: 0,
             kind: ScriptFault::Long,
         });
     }
-    let script = read_lines(alloc, text)?;
+    let script = read_lines(alloc, language, text)?;
     if script.clients.is_empty() {
         return Err(ScriptError::Fault {
             line: 0,
@@ -61,11 +101,12 @@ pub fn parse(alloc: Global, text: &[u8]) -> Result<Script, ScriptError>
 }
 
 /// Reads all lines of a text, whatever its length.
-fn read_lines(alloc: Global, text: &[u8]) -> Result<Script, ScriptError>
-    ensures script { IfOk result (λ s. lines_read run_grammar text.now ≡ Ok (commands_of s)) }
-    ensures fault { IfErr result (IsFaultOf (lines_read run_grammar text.now)) }
+fn read_lines(alloc: Global, language: Language, text: &[u8]) -> Result<Script, ScriptError>
+    ensures script { IfOk result (λ s. lines_read (grammar_of language) text.now ≡ Ok (commands_of s)) }
+    ensures fault { IfErr result (IsFaultOf (lines_read (grammar_of language) text.now)) }
+    ensures few { IfOk result (λ s. length s.clients.items ≤ client_limit language) }
     ensures small { IfOk result (λ s. script_len s ≤ length text.now + 1) }
-    ensures commands { IfOk result HasScriptCommands }
+    ensures commands { IfOk result (HasCommandsOf language) }
 {
     let mut script = Script {
         clients: Vec::new(alloc),
@@ -75,7 +116,7 @@ fn read_lines(alloc: Global, text: &[u8]) -> Result<Script, ScriptError>
     while let Some(lines) = rest {
         let (line, behind) = split_once(lines, b'\n');
         number += 1;
-        if let Err(error) = add_line(alloc, &mut script, line) {
+        if let Err(error) = add_line(alloc, language, &mut script, line) {
             return Err(error.at_line(number));
         }
         rest = behind;
@@ -84,61 +125,62 @@ fn read_lines(alloc: Global, text: &[u8]) -> Result<Script, ScriptError>
 }
 
 /// Reads one more line. After an error the script is not used.
-fn add_line(alloc: Global, script: &mut Script, line: &[u8]) -> Result<(), LineError>
+fn add_line(
+    alloc: Global,
+    language: Language,
+    script: &mut Script,
+    line: &[u8],
+) -> Result<(), LineError>
     ensures script { Reads (λ _. commands_of script.new)
-        (line_added CLIENT_LIMIT (commands_of script.old) line.now) result }
+        (line_added (grammar_of language) (commands_of script.old) line.now) result }
+    ensures few { length script.old.clients.items ≤ client_limit language
+        → OnOk result (length script.new.clients.items ≤ client_limit language) }
     ensures len { OnOk result
         (script_len script.new ≤ script_len script.old + length line.now + 1) }
-    ensures commands { HasScriptCommands script.old → OnOk result (HasScriptCommands script.new) }
+    ensures commands { HasCommandsOf language script.old → OnOk result (HasCommandsOf language script.new) }
 {
     if is_passed_over(line) {
         return Ok(());
     }
-    add_said(alloc, script, CLIENT_LIMIT, line)
+    add_said(alloc, language, script, line)
 }
 
-/// Reads one more line, which is not passed over, of a script with so many clients at most. After
-/// an error the script is not used.
+/// Reads one more line, which is not passed over. After an error the script is not used.
 pub fn add_said(
     alloc: Global,
+    language: Language,
     script: &mut Script,
-    client_limit: u64,
     line: &[u8],
 ) -> Result<(), LineError>
-    requires { client_limit < 2 ^ 64 - 1 }
     ensures script { Reads (λ _. commands_of script.new)
-        (said_added client_limit (commands_of script.old) line.now) result }
-    ensures few { length script.old.clients.items ≤ client_limit
-        → OnOk result (length script.new.clients.items ≤ client_limit) }
+        (said_added (grammar_of language) (commands_of script.old) line.now) result }
+    ensures few { length script.old.clients.items ≤ client_limit language
+        → OnOk result (length script.new.clients.items ≤ client_limit language) }
     ensures len { OnOk result
         (script_len script.new ≤ script_len script.old + length line.now + 1) }
-    ensures commands { HasScriptCommands script.old → OnOk result (HasScriptCommands script.new) }
+    ensures commands { HasCommandsOf language script.old → OnOk result (HasCommandsOf language script.new) }
 {
-    match read_line(alloc, line)? {
-        Line::Section(number) => add_section(alloc, script, client_limit, number),
+    match read_line(alloc, language, line)? {
+        Line::Section(number) => add_section(alloc, language.client_limit(), script, number),
         Line::Command(command) => add_command(script, command),
     }
 }
 
-/// Begins the section of a client after the others.
-fn add_section(
-    alloc: Global,
-    script: &mut Script,
-    client_limit: u64,
-    number: u64,
-) -> Result<(), LineError>
-    requires { client_limit < 2 ^ 64 - 1 }
+/// Begins the section of a client after the others, of whom there may be so many.
+fn add_section(alloc: Global, most: u64, script: &mut Script, number: u64) -> Result<(), LineError>
+    requires { most < 2 ^ 64 - 1 }
     ensures script { Reads (λ _. commands_of script.new)
-        (model.with_section client_limit (commands_of script.old) number) result }
-    ensures few { length script.old.clients.items ≤ client_limit
-        → OnOk result (length script.new.clients.items ≤ client_limit) }
+        (model.with_section most (commands_of script.old) number) result }
+    ensures few { length script.old.clients.items ≤ most
+        → OnOk result (length script.new.clients.items ≤ most) }
     ensures len { OnOk result (script_len script.new ≡ script_len script.old) }
-    ensures commands { HasScriptCommands script.old → OnOk result (HasScriptCommands script.new) }
+    ensures commands { (language : Language) → HasCommandsOf language script.old
+        → OnOk result (HasCommandsOf language script.new) }
 {
     if number != script.clients.len() as u64 + 1 {
         return Err(LineError::Fault(ScriptFault::Client));
     }
-    if number == client_limit + 1 {
+    if number == most + 1 {
         return Err(LineError::Fault(ScriptFault::Clients));
     }
     script.clients.push(Vec::new(alloc))?;
@@ -151,8 +193,8 @@ fn add_command(script: &mut Script, command: Command) -> Result<(), LineError>
         (model.with_command (commands_of script.old) (command_of command)) result }
     ensures few { OnOk result (length script.new.clients.items ≡ length script.old.clients.items) }
     ensures len { OnOk result (script_len script.new ≡ script_len script.old + line_len command) }
-    ensures commands { HasScriptCommands script.old → IsScriptCommand command
-        → OnOk result (HasScriptCommands script.new) }
+    ensures commands { (language : Language) → HasCommandsOf language script.old → IsCommandOf language command
+        → OnOk result (HasCommandsOf language script.new) }
 {
     let Some(commands) = script.clients.last_mut() else {
         return Err(LineError::Fault(ScriptFault::Client));

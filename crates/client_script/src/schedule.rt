@@ -1,19 +1,23 @@
 //! A script with a schedule after it: the events of the write path's core, one a line.
 //!
-//! The script's lines are those of `parser`. After them stands the line `schedule`, and after that a
-//! line for each event: its word and the number of a client of the script, as `link 1`. The words are
-//! `link`, `elect`, `build`, `log`, `fault`, `launch`, `insert`, `finish`, `publish`, `exit`,
-//! `complete` and `read`. Empty lines and comments are passed over there too.
+//! The script's lines are those that `parser` tells. After them stands the line `schedule`, and after
+//! that a line for each event: its word and the number of a client of the script, as `link 1`. The
+//! words are `link`, `elect`, `build`, `log`, `fault`, `boundary`, `second`, `next`, `launch`, `insert`,
+//! `finish`, `publish`, `exit`, `complete` and `read`. Empty lines and comments are passed over there
+//! too.
 
 ghost use Rattle.std.specs.Prelude.{◌≡◌, ◌+◌, ◌≤◌, ◌==◌, [], Ok, Err, length, if◌then◌else◌, IfOk, IfErr, OnOk, option_copied};
 ghost use Rattle.core_model.specs.Schedule as model;
 ghost use Rattle.wp_model.specs.Script.{words_of};
 ghost use Rattle.wp_model.specs.declared.script.ScriptFault.TheVariants.{Form};
-ghost use Rattle.client_script.specs.Scripts.{commands_of, FitsBatches, script_len, HasScriptCommands};
+ghost use Rattle.client_script.specs.Languages.{HasCommandsOf};
+ghost use Rattle.client_script.specs.Scripts.{commands_of, FitsBatches, script_len, HasClientsCommands};
 ghost use Rattle.client_script.specs.ScriptLines.{Reads};
 ghost use Rattle.client_script.specs.ScriptWords.{parts_of};
 ghost use Rattle.client_script.specs.Schedules.{draft_of, schedule_of, event_named, line_added, event_added, IsScheduleFaultOf};
+ghost use Rattle.client_script.specs.ReplayLanguage.{replay_grammar, event_words};
 
+use crate::language::Language;
 use crate::lines::{LineError, are_plain, is_passed_over};
 use crate::numbers::number_of;
 use crate::parser::{TEXT_LIMIT, add_said};
@@ -22,9 +26,6 @@ use crate::words::split_once;
 use core_model::Event;
 use std::alloc::Global;
 use wp_model::ScriptFault;
-
-/// How many clients a script with a schedule may have.
-const CLIENT_LIMIT: u64 = 16;
 
 /// A script, and the events of its schedule in order.
 #[derive(Debug, Drop)]
@@ -43,17 +44,17 @@ struct Draft {
 /// Parses a script of 1 to 16 clients and its schedule. Faults come as in [`parse`](crate::parse);
 /// without the line `schedule` the fault is `schedule`, after all others.
 pub fn parse_schedule(alloc: Global, text: &[u8]) -> Result<Schedule, ScriptError>
-    ensures schedule { IfOk result (λ s. model.schedule_of model.clients_grammar model.first_event_words text.now
+    ensures schedule { IfOk result (λ s. model.schedule_of replay_grammar event_words text.now
         ≡ Ok (schedule_of s)) }
     ensures fault { IfErr result (IsScheduleFaultOf
-        (model.schedule_of model.clients_grammar model.first_event_words text.now)) }
+        (model.schedule_of replay_grammar event_words text.now)) }
 
     // It has a client at least, all that each adds fits one batch, whatever becomes of its commits,
-    // and no command is of another form than a script's.
+    // and no command is of another form than one that a script of several clients may say.
     ensures clients { IfOk result (λ s. (1 ≤ length s.script.clients.items)
-        × (length s.script.clients.items ≤ CLIENT_LIMIT)) }
+        × (length s.script.clients.items ≤ 16)) }
     ensures fits { IfOk result (λ s. FitsBatches s.script) }
-    ensures commands { IfOk result (λ s. HasScriptCommands s.script) }
+    ensures commands { IfOk result (λ s. HasClientsCommands s.script) }
 {
     if text.len() > TEXT_LIMIT {
         return Err(ScriptError::Fault {
@@ -79,13 +80,13 @@ pub fn parse_schedule(alloc: Global, text: &[u8]) -> Result<Schedule, ScriptErro
 
 /// Reads all lines of a text, whatever its length.
 fn read_lines(alloc: Global, text: &[u8]) -> Result<Draft, ScriptError>
-    ensures draft { IfOk result (λ d. model.lines_read model.clients_grammar model.first_event_words text.now
+    ensures draft { IfOk result (λ d. model.lines_read replay_grammar event_words text.now
         ≡ Ok (draft_of d)) }
     ensures fault { IfErr result (IsScheduleFaultOf
-        (model.lines_read model.clients_grammar model.first_event_words text.now)) }
-    ensures few { IfOk result (λ d. length d.script.clients.items ≤ CLIENT_LIMIT) }
+        (model.lines_read replay_grammar event_words text.now)) }
+    ensures few { IfOk result (λ d. length d.script.clients.items ≤ 16) }
     ensures small { IfOk result (λ d. script_len d.script ≤ length text.now + 1) }
-    ensures commands { IfOk result (λ d. HasScriptCommands d.script) }
+    ensures commands { IfOk result (λ d. HasCommandsOf Language.Replay d.script) }
 {
     let mut draft = Draft {
         script: Script {
@@ -108,12 +109,13 @@ fn read_lines(alloc: Global, text: &[u8]) -> Result<Draft, ScriptError>
 
 /// Reads one more line. After an error the draft is not used.
 fn add_line(alloc: Global, draft: &mut Draft, line: &[u8]) -> Result<(), LineError>
-    requires few { length draft.old.script.clients.items ≤ CLIENT_LIMIT }
+    requires few { length draft.old.script.clients.items ≤ 16 }
     ensures draft { Reads (λ _. draft_of draft.new) (line_added (draft_of draft.old) line.now) result }
-    ensures few { OnOk result (length draft.new.script.clients.items ≤ CLIENT_LIMIT) }
+    ensures few { OnOk result (length draft.new.script.clients.items ≤ 16) }
     ensures len { OnOk result
         (script_len draft.new.script ≤ script_len draft.old.script + length line.now + 1) }
-    ensures commands { HasScriptCommands draft.old.script → OnOk result (HasScriptCommands draft.new.script) }
+    ensures commands { HasCommandsOf Language.Replay draft.old.script
+        → OnOk result (HasCommandsOf Language.Replay draft.new.script) }
 {
     if is_passed_over(line) {
         return Ok(());
@@ -124,7 +126,7 @@ fn add_line(alloc: Global, draft: &mut Draft, line: &[u8]) -> Result<(), LineErr
             draft.events = Some(no_events(alloc, line)?);
             Ok(())
         }
-        None => add_said(alloc, &mut draft.script, CLIENT_LIMIT, line),
+        None => add_said(alloc, Language::Replay, &mut draft.script, line),
     }
 }
 
@@ -148,7 +150,7 @@ fn no_events(alloc: Global, line: &[u8]) -> Result<Vec<Event>, LineError>
 
 /// Reads one more event of a script with so many clients.
 fn add_event(events: &mut Vec<Event>, clients: usize, line: &[u8]) -> Result<(), LineError>
-    requires { clients ≤ CLIENT_LIMIT }
+    requires { clients ≤ 16 }
     ensures { Reads (λ _. events.new.items) (event_added clients events.old.items line.now) result }
 {
     let event = read_event(clients, line)?;
@@ -158,8 +160,8 @@ fn add_event(events: &mut Vec<Event>, clients: usize, line: &[u8]) -> Result<(),
 
 /// Reads a line of a schedule for a script with so many clients.
 fn read_event(clients: usize, line: &[u8]) -> Result<Event, LineError>
-    requires { clients ≤ CLIENT_LIMIT }
-    ensures { Reads (λ event. event) (model.event_of clients model.first_event_words line.now) result }
+    requires { clients ≤ 16 }
+    ensures { Reads (λ event. event) (model.event_of clients event_words line.now) result }
 {
     if !are_plain(line) {
         return Err(LineError::Fault(ScriptFault::Byte));
@@ -177,7 +179,7 @@ fn read_event(clients: usize, line: &[u8]) -> Result<Event, LineError>
 
 /// The one word that is left of a line, as the number of a client of so many.
 fn client_alone(clients: usize, rest: Option<&[u8]>) -> Option<u32>
-    requires { clients ≤ CLIENT_LIMIT }
+    requires { clients ≤ 16 }
     ensures { result ≡ model.client_alone clients (parts_of 32 (option_copied rest.entry)) }
 {
     let (word, behind) = split_once(rest?, b' ');
@@ -193,7 +195,7 @@ fn client_alone(clients: usize, rest: Option<&[u8]>) -> Option<u32>
 
 /// The event that a word says of a client, if it is an event's.
 fn event_named(word: &[u8], client: u32) -> Option<Event>
-    ensures { result ≡ event_named model.first_event_words word.now client }
+    ensures { result ≡ event_named event_words word.now client }
 {
     let event = if word == b"link".as_slice() {
         Event::Link(client)
@@ -205,6 +207,12 @@ fn event_named(word: &[u8], client: u32) -> Option<Event>
         Event::Log(client)
     } else if word == b"fault".as_slice() {
         Event::Fault(client)
+    } else if word == b"boundary".as_slice() {
+        Event::Boundary(client)
+    } else if word == b"second".as_slice() {
+        Event::Second(client)
+    } else if word == b"next".as_slice() {
+        Event::Next(client)
     } else if word == b"launch".as_slice() {
         Event::Launch(client)
     } else if word == b"insert".as_slice() {

@@ -10,13 +10,13 @@ use Rattle.clap.specs.Simple.{entered, filled, label_of, names_of, rows_at}
 use Rattle.clap.specs.Walk.{Names, Walk, answers_to, finished, has_row, nothing_held, rows_after, settled, walk, walk_from, walked, with_default}
 use Rattle.clap.proofs.FaultLemmas.{stopped_fault}
 use Rattle.clap.proofs.OnLiterals.{clap_on_literals}
-use Rattle.command_line.specs.Definition.{batch_bytes, group_bytes, last, recover, replay, run, writepath}
+use Rattle.command_line.specs.Definition.{batch_bytes, group_bytes, last, pipelined, recover, replay, run, writepath}
 use Rattle.command_line.specs.Lawful.{Options, command_asked, lawful_in, options_of, recover_with, replay_with, run_with}
 use Rattle.command_line.specs.Meaning.{asked_by, asked_in, is_taken, number_in, replay_by, run_by}
 use Rattle.command_line.specs.declared.asked.Asked.{Asked}
 use Rattle.command_line.specs.declared.asked.Asked.TheVariants.{Run, Recover, Replay}
-use Rattle.command_line.proofs.LeafWalks.{leaf, replay_batch, replay_group, replay_last, run_batch, run_last}
-use Rattle.command_line.proofs.LeafOptions.{EndsWith, HasOptions, HoldsNumbers, default_batch, default_group, default_last, options_end}
+use Rattle.command_line.proofs.LeafWalks.{leaf, replay_batch, replay_group, replay_last, replay_pipelined, run_batch, run_last}
+use Rattle.command_line.proofs.LeafOptions.{EndsWith, HasOptions, Holds, default_batch, default_flag, default_group, default_last, options_end}
 
 -- ---- the walk over the command and the words behind it
 
@@ -135,34 +135,37 @@ level_passes s words o once ends defaults checks =
 replay_defaults : (rows : List Row) → defaults_fault rows (leaf replay.top).rules ≡ []
 unfolding clap_on_literals
 replay_defaults rows =
-    let second = with_default rows (filled group_bytes) in
+    let first = with_default rows (filled pipelined) in
+    let second = with_default first (filled group_bytes) in
     let third = with_default second (filled batch_bytes) in
-    ap (λ (kinds : Kinds). or_else kinds (or_else (default_fault second (filled batch_bytes)) (or_else (default_fault third (filled last)) []))) (either_way (has_row (codes "group-bytes") rows) (given_default_fault (filled group_bytes) (codes "1048576" ∷ [])) refl)
+    ap (λ (kinds : Kinds). or_else kinds (or_else (default_fault first (filled group_bytes)) (or_else (default_fault second (filled batch_bytes)) (or_else (default_fault third (filled last)) [])))) (either_way (has_row (codes "pipelined") rows) (given_default_fault (filled pipelined) (codes "false" ∷ [])) refl)
+    ∙ ap (λ (kinds : Kinds). or_else kinds (or_else (default_fault second (filled batch_bytes)) (or_else (default_fault third (filled last)) []))) (either_way (has_row (codes "group-bytes") first) (given_default_fault (filled group_bytes) (codes "1048576" ∷ [])) refl)
     ∙ ap (λ (kinds : Kinds). or_else kinds (or_else (default_fault third (filled last)) [])) (either_way (has_row (codes "batch-bytes") second) (given_default_fault (filled batch_bytes) (codes "16777216" ∷ [])) refl)
     ∙ ap (λ (kinds : Kinds). or_else kinds []) (either_way (has_row (codes "last") third) (given_default_fault (filled last) (codes "0" ∷ [])) refl)
 
-run_numbers : (o : Options) (rows : List Row) → HoldsNumbers o rows → run_by (fold with_default rows (leaf run.top).rules) ≡ Some (run_with o)
+run_numbers : (o : Options) (rows : List Row) → Holds o rows → run_by (fold with_default rows (leaf run.top).rules) ≡ Some (run_with o)
 run_numbers o rows h =
     let all = default_last _ _ (default_batch o rows h) in
     ap (λ (b : Option ℕ). option_and_then (λ (m : ℕ). option_map (λ (n : ℕ). Run m n) (number_in (codes "last") (fold with_default rows (leaf run.top).rules))) b) all.batch
     ∙ ap (λ (n : Option ℕ). option_map (λ (k : ℕ). Run (unwrap_or o.batch_bytes 16777216) k) n) all.first
 
-replay_numbers : (o : Options) (rows : List Row) → HoldsNumbers o rows → replay_by (fold with_default rows (leaf replay.top).rules) ≡ Some (replay_with o)
+replay_numbers : (o : Options) (rows : List Row) → Holds o rows → replay_by (fold with_default rows (leaf replay.top).rules) ≡ Some (replay_with o)
 replay_numbers o rows h =
-    let all = default_last _ _ (default_batch _ _ (default_group o rows h)) in
+    let all = default_last _ _ (default_batch _ _ (default_group o _ (default_flag o rows h))) in
     let end = fold with_default rows (leaf replay.top).rules in
-    ap (λ (g : Option ℕ). option_and_then (λ (i : ℕ). option_and_then (λ (m : ℕ). option_map (λ (n : ℕ). Replay i m n) (number_in (codes "last") end)) (number_in (codes "batch-bytes") end)) g) all.group
-    ∙ ap (λ (b : Option ℕ). option_and_then (λ (m : ℕ). option_map (λ (n : ℕ). Replay (unwrap_or o.group_bytes 1048576) m n) (number_in (codes "last") end)) b) all.batch
-    ∙ ap (λ (n : Option ℕ). option_map (λ (k : ℕ). Replay (unwrap_or o.group_bytes 1048576) (unwrap_or o.batch_bytes 16777216) k) n) all.first
+    ap (λ (f : Option Bool). option_and_then (λ (p : Bool). option_and_then (λ (i : ℕ). option_and_then (λ (m : ℕ). option_map (λ (n : ℕ). Replay p i m n) (number_in (codes "last") end)) (number_in (codes "batch-bytes") end)) (number_in (codes "group-bytes") end)) f) all.flag
+    ∙ ap (λ (g : Option ℕ). option_and_then (λ (i : ℕ). option_and_then (λ (m : ℕ). option_map (λ (n : ℕ). Replay o.pipelined i m n) (number_in (codes "last") end)) (number_in (codes "batch-bytes") end)) g) all.group
+    ∙ ap (λ (b : Option ℕ). option_and_then (λ (m : ℕ). option_map (λ (n : ℕ). Replay o.pipelined (unwrap_or o.group_bytes 1048576) m n) (number_in (codes "last") end)) b) all.batch
+    ∙ ap (λ (n : Option ℕ). option_map (λ (k : ℕ). Replay o.pipelined (unwrap_or o.group_bytes 1048576) (unwrap_or o.batch_bytes 16777216) k) n) all.first
 
 run_options : HasOptions false (leaf run.top)
-run_options = record { group = λ e. cc; batch = run_batch; first = run_last }
+run_options = record { flag = λ e. cc; group = λ e. cc; batch = run_batch; first = run_last }
 
 replay_options : HasOptions true (leaf replay.top)
-replay_options = record { group = λ e. replay_group; batch = replay_batch; first = replay_last }
+replay_options = record { flag = λ e. replay_pipelined; group = λ e. replay_group; batch = replay_batch; first = replay_last }
 
-none_held : HoldsNumbers (record { group_bytes = None; batch_bytes = None; last = None }) []
-none_held = record { group_row = refl; batch_row = refl; last_row = refl; group = refl; batch = refl; first = refl }
+none_held : Holds (record { pipelined = false; group_bytes = None; batch_bytes = None; last = None }) []
+none_held = record { flag_row = refl; flag = refl; group_row = refl; batch_row = refl; last_row = refl; group = refl; batch = refl; first = refl }
 
 -- ---- the three commands
 

@@ -12,9 +12,9 @@ use Rattle.clap.specs.declared.builder.value_parser.Reading.TheVariants.{AsWritt
 use Rattle.clap.specs.declared.builder.value_parser.ValueParser.TheVariants.{Unsigned}
 use Rattle.clap.specs.declared.parser.matches.ValueSource.TheVariants.{CommandLine}
 use Rattle.clap.proofs.OnLiterals.{clap_on_literals}
-use Rattle.command_line.specs.Definition.{batch_bytes, group_bytes, last, replay, run, writepath}
+use Rattle.command_line.specs.Definition.{batch_bytes, group_bytes, last, pipelined, replay, run, writepath}
 use Rattle.command_line.proofs.NumberTexts.{IsNumberText}
-use Rattle.command_line.proofs.Rows.{at_row-absent, number_row}
+use Rattle.command_line.proofs.Rows.{at_row-absent, value_row}
 
 -- a command as clap builds it
 abbrev pub leaf : Shape → Shape
@@ -62,6 +62,46 @@ replay_batch = record { met = λ rows pending. refl; met_fault = λ rows pending
 pub replay_last : IsNumberOption (leaf replay.top) (codes "--last") (filled last) 0 72057594037927935
 unfolding clap_on_literals
 replay_last = record { met = λ rows pending. refl; met_fault = λ rows pending. refl; by_id = refl; taken = λ rows value. refl; use_is = λ rows value. refl; fault_is = λ rows value. refl }
+
+-- `word` is the flag `a` of the command, which stands for `true`
+pub record IsFlag (s : Shape) (word : Text) (a : Rule) : Type 0 where
+  pub met : (rows : List Row) (pending : Pending) → walked s.rules [] (between rows pending) word ≡ between (used a [] (settled_rows s.rules pending rows)) None
+  pub met_fault : (rows : List Row) (pending : Pending) → turn_fault s [] (between rows pending) word
+      ≡ or_else (or_else (settle_fault s.rules false (held rows pending)) (use_fault false a [] (settled_rows s.rules pending rows))) []
+  pub use_is : (rows : List Row) → used a [] rows ≡ with_values a.id AsWritten CommandLine (codes "true" ∷ []) (without a.id rows)
+  pub fault_is : (rows : List Row) → use_fault false a [] rows ≡ or_else (repeat_fault false a.id rows) []
+
+pub replay_pipelined : IsFlag (leaf replay.top) (codes "--pipelined") (filled pipelined)
+unfolding clap_on_literals
+replay_pipelined = record { met = λ rows pending. refl; met_fault = λ rows pending. refl; use_is = λ rows. refl; fault_is = λ rows. refl }
+
+-- the first use of a flag leaves one row more
+pub flag_settles : (s : Shape) (word : Text) (a : Rule) → IsFlag s word a → (rows : List Row) → has_row a.id rows ≡ false
+    → used a [] rows ≡ rows ++ value_row a.id CommandLine (codes "true") ∷ []
+flag_settles s word a flag_is rows unused =
+    flag_is.use_is rows
+    ∙ ap (with_values a.id AsWritten CommandLine (codes "true" ∷ [])) (at_row-absent a.id (λ _. []) [] rows unused ∙ append-nil rows)
+    ∙ at_row-absent a.id (more_values CommandLine (codes "true" ∷ [])) (value_row a.id CommandLine (codes "true") ∷ []) rows unused
+
+pub walked_flag : (s : Shape) (word : Text) (a : Rule) → IsFlag s word a → (rows : List Row) (pending : Pending)
+    → has_row a.id (settled_rows s.rules pending rows) ≡ false
+    → walked s.rules [] (between rows pending) word ≡ between (settled_rows s.rules pending rows ++ value_row a.id CommandLine (codes "true") ∷ []) None
+walked_flag s word a flag_is rows pending unused =
+    flag_is.met rows pending ∙ ap (λ (r : List Row). between r None) (flag_settles s word a flag_is (settled_rows s.rules pending rows) unused)
+
+-- what it fails by is what the words behind it fail by
+pub flag_fault : (s : Shape) (word : Text) (a : Rule) → IsFlag s word a → (rows : List Row) (pending : Pending) (words : List Text)
+    → settle_fault s.rules false (held rows pending) ≡ [] → has_row a.id (settled_rows s.rules pending rows) ≡ false
+    → walk_fault s [] (between rows pending) (word ∷ words)
+    ≡ walk_fault s [] (between (settled_rows s.rules pending rows ++ value_row a.id CommandLine (codes "true") ∷ []) None) words
+unfolding walk_fault
+flag_fault s word a flag_is rows pending words settles unused =
+    let now = settled_rows s.rules pending rows in
+    let used_passes : use_fault false a [] now ≡ [] = flag_is.fault_is now ∙ rw unused refl in
+    let first : turn_fault s [] (between rows pending) word ≡ [] =
+    flag_is.met_fault rows pending ∙ ap (λ (kinds : Kinds). or_else (or_else kinds (use_fault false a [] now)) []) settles ∙ ap (λ (kinds : Kinds). or_else kinds []) used_passes in
+    ap (λ (kinds : Kinds). or_else kinds (walk_fault s [] (walked s.rules [] (between rows pending) word) words)) first
+    ∙ ap (λ (w : Walk). walk_fault s [] w words) (walked_flag s word a flag_is rows pending unused)
 
 -- the value of an option
 value_met : (c : List Rule) (id : Text) (value : Text) (h : Held) → bytes_eq value (45 ∷ 45 ∷ []) ≡ false → long_of value ≡ None → short_of value ≡ None
@@ -131,9 +171,9 @@ use_passes s word a least most option_is value n number rows unused =
 -- and leaves one row more
 pub use_settles : (s : Shape) (word : Text) (a : Rule) (least most : ℕ) → IsNumberOption s word a least most
     → (value : Text) (rows : List Row) → has_row a.id rows ≡ false
-    → settled_rows s.rules (Some (a.id, value ∷ [])) rows ≡ rows ++ number_row a.id CommandLine value ∷ []
+    → settled_rows s.rules (Some (a.id, value ∷ [])) rows ≡ rows ++ value_row a.id CommandLine value ∷ []
 use_settles s word a least most option_is value rows unused =
     ap (λ (found : Option Rule). used_by_id found (value ∷ []) rows) option_is.by_id
     ∙ option_is.use_is rows value
     ∙ ap (with_values a.id AsWritten CommandLine (value ∷ [])) (at_row-absent a.id (λ _. []) [] rows unused ∙ append-nil rows)
-    ∙ at_row-absent a.id (more_values CommandLine (value ∷ [])) (number_row a.id CommandLine value ∷ []) rows unused
+    ∙ at_row-absent a.id (more_values CommandLine (value ∷ [])) (value_row a.id CommandLine value ∷ []) rows unused

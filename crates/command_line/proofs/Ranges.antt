@@ -1,5 +1,5 @@
 -- What words ask for keeps the limits.
-use Rattle.std.proofs.Common.{◌≡◌, ◌∙◌, ◌&&◌, ◌^◌, ◌<◌, ◌≤◌, ℕ, Bool, true, false, List, [], ◌∷◌, Option, Some, None, cond, refl, sym, ap, subst, arith, codes}
+use Rattle.std.proofs.Common.{◌≡◌, ◌∙◌, inl, inr, ◌&&◌, ◌^◌, ◌<◌, ◌≤◌, ℕ, Bool, true, false, List, [], ◌∷◌, Option, Some, None, cond, refl, sym, ap, subst, arith, codes}
 use Rattle.std.proofs.lemmas.Bool.{leb-true}
 use Rattle.std.proofs.lemmas.Slice.Eq.{bytes_eq-Decides}
 use Rattle.std.specs.Prelude.{bytes_eq, find, is_some, nat_lt, not, option_and_then, option_map, slice_get}
@@ -18,9 +18,9 @@ use Rattle.clap.specs.declared.builder.value_parser.Reading.TheVariants.{AsWritt
 use Rattle.clap.specs.declared.parser.matches.ValueSource.TheVariants.{DefaultValue}
 use Rattle.clap.proofs.OnLiterals.{clap_on_literals}
 use Rattle.clap.proofs.WalkLemmas.{both}
-use Rattle.command_line.specs.Definition.{batch_bytes, group_bytes, last, recover, replay, run, writepath}
+use Rattle.command_line.specs.Definition.{batch_bytes, group_bytes, last, pipelined, recover, replay, run, writepath}
 use Rattle.command_line.specs.Limits.{KeepsLimits}
-use Rattle.command_line.specs.Meaning.{asked_by, asked_in, is_taken, number_in, whole_number}
+use Rattle.command_line.specs.Meaning.{asked_by, asked_in, flag_in, is_taken, number_in, whole_number}
 use Rattle.command_line.specs.declared.asked.Asked.{Asked}
 use Rattle.command_line.specs.declared.asked.Asked.TheVariants.{Run, Recover, Replay}
 use Rattle.command_line.proofs.LeafWalks.{leaf}
@@ -87,7 +87,7 @@ find_holds P p (y ∷ xs) all x e = go (p y) e (find_holds P p xs all.1 x)
 
 run_set : Each (IsSetOption (leaf run.top).rules) (leaf run.top).rules
 unfolding clap_on_literals
-run_set = (record { itself = refl; sets = refl }, (record { itself = refl; sets = refl }, tt))
+run_set = (record { itself = refl; sets = inl refl }, (record { itself = refl; sets = inl refl }, tt))
 
 run_are : AreOptions (leaf run.top).rules
 unfolding clap_on_literals
@@ -100,7 +100,8 @@ run_are = record {
 
 replay_set : Each (IsSetOption (leaf replay.top).rules) (leaf replay.top).rules
 unfolding clap_on_literals
-replay_set = (record { itself = refl; sets = refl }, (record { itself = refl; sets = refl }, (record { itself = refl; sets = refl }, tt)))
+replay_set =
+    (record { itself = refl; sets = inr refl }, (record { itself = refl; sets = inl refl }, (record { itself = refl; sets = inl refl }, (record { itself = refl; sets = inl refl }, tt))))
 
 replay_are : AreOptions (leaf replay.top).rules
 unfolding clap_on_literals
@@ -144,10 +145,12 @@ unfolding clap_on_literals
 replay_rows words none =
     let c = (leaf replay.top).rules in
     let first = (settled c (walk c [] nothing_held words).held).rows in
-    let second = with_default first (filled group_bytes) in
-    default_passes c (filled last) (codes "0") replay_set.1.1.0 refl (with_default second (filled batch_bytes))
-    (default_passes c (filled batch_bytes) (codes "16777216") replay_set.1.0 refl second
-    (default_passes c (filled group_bytes) (codes "1048576") replay_set.0 refl first (settled_level (leaf replay.top) replay_are refl words none)))
+    let second = with_default first (filled pipelined) in
+    let third = with_default second (filled group_bytes) in
+    default_passes c (filled last) (codes "0") replay_set.1.1.1.0 refl (with_default third (filled batch_bytes))
+    (default_passes c (filled batch_bytes) (codes "16777216") replay_set.1.1.0 refl third
+    (default_passes c (filled group_bytes) (codes "1048576") replay_set.1.0 refl second
+    (default_passes c (filled pipelined) (codes "false") replay_set.0 refl first (settled_level (leaf replay.top) replay_are refl words none))))
 
 some_of : {X Y : Type 0} (f : X → Option Y) (o : Option X) (y : Y) → option_and_then f o ≡ Some y → (x : X) × (o ≡ Some x) × (f x ≡ Some y)
 some_of f None y e = cc
@@ -184,14 +187,15 @@ replay_keeps words asked none is =
     let c = (leaf replay.top).rules in
     let rows = rows_after c [] words in
     let pass = replay_rows words none in
-    let g = some_of (λ (k : ℕ). option_and_then (λ (m : ℕ). option_map (λ (n : ℕ). Replay k m n) (number_in (codes "last") rows)) (number_in (codes "batch-bytes") rows)) (number_in (codes "group-bytes") rows) asked is in
-    let b = some_of (λ (m : ℕ). option_map (λ (n : ℕ). Replay g.0 m n) (number_in (codes "last") rows)) (number_in (codes "batch-bytes") rows) asked g.2 in
-    let l = mapped_of (λ (n : ℕ). Replay g.0 b.0 n) (number_in (codes "last") rows) asked b.2 in
+    let f = some_of (λ (p : Bool). option_and_then (λ (k : ℕ). option_and_then (λ (m : ℕ). option_map (λ (n : ℕ). Replay p k m n) (number_in (codes "last") rows)) (number_in (codes "batch-bytes") rows)) (number_in (codes "group-bytes") rows)) (flag_in (codes "pipelined") rows) asked is in
+    let g = some_of (λ (k : ℕ). option_and_then (λ (m : ℕ). option_map (λ (n : ℕ). Replay f.0 k m n) (number_in (codes "last") rows)) (number_in (codes "batch-bytes") rows)) (number_in (codes "group-bytes") rows) asked f.2 in
+    let b = some_of (λ (m : ℕ). option_map (λ (n : ℕ). Replay f.0 g.0 m n) (number_in (codes "last") rows)) (number_in (codes "batch-bytes") rows) asked g.2 in
+    let l = mapped_of (λ (n : ℕ). Replay f.0 g.0 b.0 n) (number_in (codes "last") rows) asked b.2 in
     let in_g = number_in_range c (codes "group-bytes") 1 16777216 (record { rule = filled group_bytes; found = refl; reads = refl; tests = λ text. refl }) rows pass g.0 g.1 in
     let in_b = number_in_range c (codes "batch-bytes") 12 16777216 (record { rule = filled batch_bytes; found = refl; reads = refl; tests = λ text. refl }) rows pass b.0 b.1 in
     let in_l = number_in_range c (codes "last") 0 72057594037927935 (record { rule = filled last; found = refl; reads = refl; tests = λ text. refl }) rows pass l.0 l.1 in
     let below : l.0 < 2 ^ 56 = omega (arith, in_l.1) in
-    subst KeepsLimits l.2 (in_g.0, in_g.1, in_b.0, in_b.1, below)
+    subst KeepsLimits {x = Replay f.0 g.0 b.0 l.0} l.2 (in_g.0, in_g.1, in_b.0, in_b.1, below)
 
 commands_keep : Each LevelKeeps (built writepath).subs
 unfolding clap_on_literals

@@ -1,5 +1,5 @@
 -- Where no step of a parse fails, each row's values passed the parser of their option.
-use Rattle.std.proofs.Common.{◌≡◌, ◌∙◌, ◌&&◌, ℕ, Bool, true, false, zero, suc, List, [], ◌∷◌, ◌++◌, Option, Some, None, cond, fold, refl, sym, ap, subst}
+use Rattle.std.proofs.Common.{◌≡◌, ◌⊎◌, ◌∙◌, ◌&&◌, inl, inr, ℕ, Bool, true, false, zero, suc, List, [], ◌∷◌, ◌++◌, Option, Some, None, cond, fold, refl, sym, ap, subst}
 use Rattle.std.proofs.lemmas.List.Folds.{list_all-append}
 use Rattle.std.proofs.lemmas.Slice.Eq.{bytes_eq-Decides}
 use Rattle.std.specs.Prelude.{bytes_eq, encode_utf8, slice_get, drop, length, is_some}
@@ -16,7 +16,7 @@ use Rattle.clap.specs.Facts.{parser_of_value, unwrap_or_range}
 use Rattle.clap.specs.Faults.{action_fault, flag_word_fault, long_fault, option_fault, other_fault, react_fault, repeat_fault, settle_fault, step_fault, turn_fault, use_fault, values_fault, walk_fault, word_fault}
 use Rattle.clap.specs.Walk.{Held, Outcome, Step, Waiting, Walk, action_of, after_flag, after_step, arg_by_id, arg_by_index, arg_by_long, arg_by_short, at_row, bundle, bundle_met, bundle_step, done, flag_met, idle, long_met, long_or_other, more_values, most_values, next, option, option_met, option_word, plain, plain_word, positional, reading_by, refused, settled, settled_rows, short_met, short_or_plain, subcommand, subcommand_met, subcommand_or_other, takes_values, to_positional, trailing, used, used_as, used_by_id, value, values_or_missing, waits, walked, walked_from, with_values, without, word_met}
 use Rattle.clap.specs.declared.builder.action.ArgAction.{ArgAction}
-use Rattle.clap.specs.declared.builder.action.ArgAction.TheVariants.{Set}
+use Rattle.clap.specs.declared.builder.action.ArgAction.TheVariants.{Set, SetTrue}
 use Rattle.clap.specs.declared.builder.value_parser.ValueParser.{ValueParser}
 use Rattle.clap.specs.declared.error.kind.ErrorKind.TheVariants.{TooManyValues}
 use Rattle.clap.specs.declared.parser.matches.ValueSource.{ValueSource}
@@ -30,10 +30,10 @@ abbrev pub RowsPass : List Rule → List Row → Type 0
 RowsPass c [] = Unit {0}
 RowsPass c (r ∷ rows) = RowPasses c r × RowsPass c rows
 
--- the argument is set by its last use, and is the one with its id
+-- the argument is set by its last use, with a value or as a flag, and is the one with its id
 pub record IsSetOption (c : List Rule) (a : Rule) : Type 0 where
   pub itself : arg_by_id c a.id ≡ Some a
-  pub sets : action_of a ≡ Set
+  pub sets : (action_of a ≡ Set) ⊎ (action_of a ≡ SetTrue)
 
 -- the arguments are options with long names alone
 pub record AreOptions (c : List Rule) : Type 0 where
@@ -108,10 +108,13 @@ used_passes : (c : List Rule) (a : Rule) → IsSetOption c a → (values : List 
 used_passes c a is values rows none p =
     let given = values_or_missing a values in
     let acts = (first_empty (range_kinds (unwrap_or_range a.range).start_inclusive (most_values a) (length values)) (action_fault (action_of a) false a given rows) none).1 in
-    let sets : action_fault Set false a given rows ≡ [] = subst (λ (x : ArgAction). action_fault x false a given rows ≡ []) is.sets acts in
-    let told = values_told a.ignore_case (parser_of_value a.parser) given (first_empty (repeat_fault false a.id rows) (values_fault a given) sets).1 in
-    subst (λ (x : ArgAction). RowsPass c (used_as x a.id (reading_by a) given rows)) (sym is.sets)
-    (with_values_pass c a is CommandLine given told (without a.id rows) (without_passes c a.id rows p))
+    let passes : or_else (repeat_fault false a.id rows) (values_fault a given) ≡ [] → RowsPass c (with_values a.id (reading_by a) CommandLine given (without a.id rows)) = λ sets.
+    (let told = values_told a.ignore_case (parser_of_value a.parser) given (first_empty (repeat_fault false a.id rows) (values_fault a given) sets).1 in
+    with_values_pass c a is CommandLine given told (without a.id rows) (without_passes c a.id rows p)) in
+    elim is.sets [
+      | inl e ↦ subst (λ (x : ArgAction). RowsPass c (used_as x a.id (reading_by a) given rows)) (sym e) (passes (subst (λ (x : ArgAction). action_fault x false a given rows ≡ []) e acts))
+      | inr e ↦ subst (λ (x : ArgAction). RowsPass c (used_as x a.id (reading_by a) given rows)) (sym e) (passes (subst (λ (x : ArgAction). action_fault x false a given rows ≡ []) e acts))
+    ]
 
 settled_passes : (c : List Rule) → AreOptions c → (h : Held) → settle_fault c false h ≡ [] → RowsPass c h.rows → RowsPass c (settled_rows c h.pending h.rows)
 settled_passes c are h none p = go h.pending none

@@ -8,11 +8,11 @@ use Rattle.clap.specs.Words.{Row, Text}
 use Rattle.clap.specs.Walk.{at_row, has_row, row_text}
 use Rattle.clap.specs.declared.builder.value_parser.Reading.TheVariants.{AsWritten}
 use Rattle.clap.specs.declared.parser.matches.ValueSource.{ValueSource}
-use Rattle.command_line.specs.Meaning.{number_in, whole_number}
+use Rattle.command_line.specs.Meaning.{bool_of, flag_in, number_in, whole_number}
 
--- the row of an option's number
-abbrev pub number_row : Text → ValueSource → Text → Row
-number_row id source value = record { id = id; values = value ∷ []; count = None; source = Some source; reading = AsWritten }
+-- the row of an option with one value, a number or what a flag stands for
+abbrev pub value_row : Text → ValueSource → Text → Row
+value_row id source value = record { id = id; values = value ∷ []; count = None; source = Some source; reading = AsWritten }
 
 neither : (a b : Bool) → (a || b) ≡ false → (a ≡ false) × (b ≡ false)
 neither true b e = cc
@@ -43,27 +43,39 @@ or_true : (b : Bool) → (b || true) ≡ true
 or_true true = refl
 or_true false = refl
 
--- another id has its number and its row as before
-pub number_in-other : (id : Text) (rows : List Row) (r : Row) → bytes_eq r.id id ≡ false → number_in id (rows ++ r ∷ []) ≡ number_in id rows
-number_in-other id rows r other =
+-- another id has its value and its row as before
+row-other : (id : Text) (rows : List Row) (r : Row) → bytes_eq r.id id ≡ false → find (λ (x : Row). bytes_eq x.id id) (rows ++ r ∷ []) ≡ find (λ (x : Row). bytes_eq x.id id) rows
+row-other id rows r other =
     let last : find (λ (x : Row). bytes_eq x.id id) (r ∷ []) ≡ None = rw other refl in
-    ap (λ (o : Option Row). option_and_then whole_number (option_and_then row_text o))
-    (find-append (λ (x : Row). bytes_eq x.id id) rows (r ∷ []) ∙ ap (option_or (find (λ (x : Row). bytes_eq x.id id) rows)) last ∙ or_none _)
+    find-append (λ (x : Row). bytes_eq x.id id) rows (r ∷ []) ∙ ap (option_or (find (λ (x : Row). bytes_eq x.id id) rows)) last ∙ or_none _
+
+pub number_in-other : (id : Text) (rows : List Row) (r : Row) → bytes_eq r.id id ≡ false → number_in id (rows ++ r ∷ []) ≡ number_in id rows
+number_in-other id rows r other = ap (λ (o : Option Row). option_and_then whole_number (option_and_then row_text o)) (row-other id rows r other)
+
+pub flag_in-other : (id : Text) (rows : List Row) (r : Row) → bytes_eq r.id id ≡ false → flag_in id (rows ++ r ∷ []) ≡ flag_in id rows
+flag_in-other id rows r other = ap (λ (o : Option Row). option_and_then bool_of (option_and_then row_text o)) (row-other id rows r other)
 
 pub has_row-other : (id : Text) (rows : List Row) (r : Row) → bytes_eq r.id id ≡ false → has_row id (rows ++ r ∷ []) ≡ has_row id rows
 has_row-other id rows r other =
     list_any-append (λ (x : Row). bytes_eq x.id id) rows (r ∷ []) ∙ rw other (or_false (has_row id rows))
 
--- the id of the new row has its number
-pub number_in-new : (id : Text) (rows : List Row) (source : ValueSource) (value : Text) → bytes_eq id id ≡ true → has_row id rows ≡ false
-    → number_in id (rows ++ number_row id source value ∷ []) ≡ whole_number value
-number_in-new id rows source value same unused =
-    let last : find (λ (x : Row). bytes_eq x.id id) (number_row id source value ∷ []) ≡ Some (number_row id source value) = rw same refl in
-    ap (λ (o : Option Row). option_and_then whole_number (option_and_then row_text o))
-    (find-append (λ (x : Row). bytes_eq x.id id) rows (number_row id source value ∷ [])
-    ∙ ap (λ (o : Option Row). option_or o (find (λ (x : Row). bytes_eq x.id id) (number_row id source value ∷ []))) (find-absent (λ (x : Row). bytes_eq x.id id) rows unused)
-    ∙ last)
+-- the id of the new row has its value
+row-new : (id : Text) (rows : List Row) (source : ValueSource) (value : Text) → bytes_eq id id ≡ true → has_row id rows ≡ false
+    → find (λ (x : Row). bytes_eq x.id id) (rows ++ value_row id source value ∷ []) ≡ Some (value_row id source value)
+row-new id rows source value same unused =
+    let last : find (λ (x : Row). bytes_eq x.id id) (value_row id source value ∷ []) ≡ Some (value_row id source value) = rw same refl in
+    find-append (λ (x : Row). bytes_eq x.id id) rows (value_row id source value ∷ [])
+    ∙ ap (λ (o : Option Row). option_or o (find (λ (x : Row). bytes_eq x.id id) (value_row id source value ∷ []))) (find-absent (λ (x : Row). bytes_eq x.id id) rows unused)
+    ∙ last
 
-pub has_row-new : (id : Text) (rows : List Row) (source : ValueSource) (value : Text) → bytes_eq id id ≡ true → has_row id (rows ++ number_row id source value ∷ []) ≡ true
+pub number_in-new : (id : Text) (rows : List Row) (source : ValueSource) (value : Text) → bytes_eq id id ≡ true → has_row id rows ≡ false
+    → number_in id (rows ++ value_row id source value ∷ []) ≡ whole_number value
+number_in-new id rows source value same unused = ap (λ (o : Option Row). option_and_then whole_number (option_and_then row_text o)) (row-new id rows source value same unused)
+
+pub flag_in-new : (id : Text) (rows : List Row) (source : ValueSource) (value : Text) → bytes_eq id id ≡ true → has_row id rows ≡ false
+    → flag_in id (rows ++ value_row id source value ∷ []) ≡ bool_of value
+flag_in-new id rows source value same unused = ap (λ (o : Option Row). option_and_then bool_of (option_and_then row_text o)) (row-new id rows source value same unused)
+
+pub has_row-new : (id : Text) (rows : List Row) (source : ValueSource) (value : Text) → bytes_eq id id ≡ true → has_row id (rows ++ value_row id source value ∷ []) ≡ true
 has_row-new id rows source value same =
-    list_any-append (λ (x : Row). bytes_eq x.id id) rows (number_row id source value ∷ []) ∙ rw same (or_true (has_row id rows))
+    list_any-append (λ (x : Row). bytes_eq x.id id) rows (value_row id source value ∷ []) ∙ rw same (or_true (has_row id rows))

@@ -1,5 +1,6 @@
 -- The command of `clap` that reads the words of a call, as what clap's parse reads of a command.
 use Rattle.std.specs.Prelude.{ℕ, [], ◌∷◌, Some, true, codes}
+use Rattle.clap.specs.declared.builder.action.ArgAction.TheVariants.{SetTrue}
 use Rattle.clap.specs.Words.{App, Rule, Text, new_app, new_rule, with_rule, with_subcommand}
 use Rattle.clap.specs.declared.builder.value_parser.ValueParser.TheVariants.{Unsigned}
 
@@ -7,6 +8,14 @@ use Rattle.clap.specs.declared.builder.value_parser.ValueParser.TheVariants.{Uns
 abbrev pub number_option : Text → ℕ → ℕ → Text → Rule
 number_option name least most default =
     record (new_rule name) { long = Some name; parser = Some (Unsigned least most); defaults = default ∷ [] }
+
+-- a flag `--name`, which takes no value
+abbrev pub flag : Text → Rule
+flag name = record (new_rule name) { long = Some name; action = Some SetTrue }
+
+-- whether the log is handed on before a group is inserted
+abbrev pub pipelined : Rule
+pipelined = flag (codes "pipelined")
 
 -- the most bytes of a batch
 abbrev pub batch_bytes : Rule
@@ -29,7 +38,7 @@ abbrev pub recover : App
 recover = new_app (codes "recover")
 
 abbrev pub replay : App
-replay = with_rule (with_rule (with_rule (new_app (codes "replay")) group_bytes) batch_bytes) last
+replay = with_rule (with_rule (with_rule (with_rule (new_app (codes "replay")) pipelined) group_bytes) batch_bytes) last
 
 -- the program, which wants a command, and has no help
 abbrev pub program : App

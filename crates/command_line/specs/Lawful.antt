@@ -1,13 +1,14 @@
 -- The lawful words of a call, in plain words: the program's name, a command, and its options in any order, each at most
--- once and with its value in a word of its own.
-use Rattle.std.specs.Prelude.{ℕ, ◌-◌, ◌^◌, ◌&&◌, Bool, true, false, List, [], ◌∷◌, Option, Some, None, String, string_bytes, map, codes, bytes_eq, nat_le, if◌then◌else◌, unwrap_or, is_none, option_and_then, option_map}
+-- once, and with its value in a word of its own where it has one.
+use Rattle.std.specs.Prelude.{ℕ, ◌-◌, ◌^◌, ◌&&◌, Bool, true, false, not, List, [], ◌∷◌, Option, Some, None, String, string_bytes, map, codes, bytes_eq, nat_le, if◌then◌else◌, unwrap_or, is_none, option_and_then, option_map}
 use Rattle.std.specs.declared.alloc.Global.{Global}
 use Rattle.wp_model.specs.Script.{number_of}
 use Rattle.command_line.specs.declared.asked.Asked.{Asked}
 use Rattle.command_line.specs.declared.asked.Asked.TheVariants.{Run, Recover, Replay}
 
--- the numbers that the options give
+-- what the options give: whether the flag is there, and their numbers
 pub record Options : Type 0 where
+  pub pipelined : Bool
   pub group_bytes : Option ℕ
   pub batch_bytes : Option ℕ
   pub last : Option ℕ
@@ -28,24 +29,33 @@ with_option is_replay o name value =
     then option_map (λ n. record o { group_bytes = Some n }) (within 1 16777216 value)
     else None
 
--- the words are options with their values, and nothing else
+-- a flag, which has no value, where it has not come before; only `replay` has one
+abbrev pub is_flag : List ℕ → Bool
+is_flag name = bytes_eq name (codes "--pipelined")
+
+abbrev pub with_flag : Bool → Options → Option Options
+with_flag is_replay o = if is_replay && not o.pipelined then Some (record o { pipelined = true }) else None
+
+-- the words are flags, and options with their values, and nothing else
 abbrev pub with_options : Bool → List (List ℕ) → Options → Option Options
 with_options is_replay [] o = Some o
-with_options is_replay (name ∷ []) o = None
+with_options is_replay (name ∷ []) o = if is_flag name then with_flag is_replay o else None
 with_options is_replay (name ∷ value ∷ words) o =
-    option_and_then (with_options is_replay words) (with_option is_replay o name value)
+    if is_flag name then option_and_then (with_options is_replay (value ∷ words)) (with_flag is_replay o)
+    else option_and_then (with_options is_replay words) (with_option is_replay o name value)
 
 -- the options behind a command
 abbrev pub options_of : Bool → List (List ℕ) → Option Options
 options_of is_replay words = with_options is_replay words
-    (record { group_bytes = None; batch_bytes = None; last = None })
+    (record { pipelined = false; group_bytes = None; batch_bytes = None; last = None })
 
 -- an option that is not given has its default
 abbrev pub run_with : Options → Asked
 run_with o = Run (unwrap_or o.batch_bytes 16777216) (unwrap_or o.last 0)
 
 abbrev pub replay_with : Options → Asked
-replay_with o = Replay (unwrap_or o.group_bytes 1048576) (unwrap_or o.batch_bytes 16777216) (unwrap_or o.last 0)
+replay_with o = Replay o.pipelined (unwrap_or o.group_bytes 1048576) (unwrap_or o.batch_bytes 16777216)
+    (unwrap_or o.last 0)
 
 -- `recover` has no options
 abbrev pub recover_with : List (List ℕ) → Option Asked

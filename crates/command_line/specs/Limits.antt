@@ -7,5 +7,5 @@ use Rattle.command_line.specs.declared.asked.Asked.TheVariants.{Run, Recover, Re
 abbrev pub KeepsLimits : Asked → Type 0
 KeepsLimits (Run batch_bytes last) = (12 ≤ batch_bytes) × (batch_bytes ≤ 16777216) × (last < 2 ^ 56)
 KeepsLimits Recover = ⊤
-KeepsLimits (Replay group_bytes batch_bytes last) = (1 ≤ group_bytes) × (group_bytes ≤ 16777216) × (12 ≤ batch_bytes)
+KeepsLimits (Replay pipelined group_bytes batch_bytes last) = (1 ≤ group_bytes) × (group_bytes ≤ 16777216) × (12 ≤ batch_bytes)
     × (batch_bytes ≤ 16777216) × (last < 2 ^ 56)

@@ -27,6 +27,15 @@ whole_number text =
 abbrev pub number_in : Text → List Row → Option ℕ
 number_in id rows = option_and_then whole_number (one_of id rows)
 
+-- what `bool` reads from a text
+abbrev pub bool_of : Text → Option Bool
+bool_of text = if bytes_eq text (codes "true") then Some true
+    else if bytes_eq text (codes "false") then Some false else None
+
+-- whether the matches have a flag
+abbrev pub flag_in : Text → List Row → Option Bool
+flag_in id rows = option_and_then bool_of (one_of id rows)
+
 -- what `run` asks for, by its matches
 abbrev pub run_by : List Row → Option Asked
 run_by rows = option_and_then (λ batch_bytes. option_map (λ last. Run batch_bytes last)
@@ -35,9 +44,10 @@ run_by rows = option_and_then (λ batch_bytes. option_map (λ last. Run batch_by
 -- and `replay`
 abbrev pub replay_by : List Row → Option Asked
 replay_by rows =
-    option_and_then (λ group_bytes. option_and_then
-    (λ batch_bytes. option_map (λ last. Replay group_bytes batch_bytes last)
-    (number_in (codes "last") rows)) (number_in (codes "batch-bytes") rows)) (number_in (codes "group-bytes") rows)
+    option_and_then (λ pipelined. option_and_then (λ group_bytes. option_and_then
+    (λ batch_bytes. option_map (λ last. Replay pipelined group_bytes batch_bytes last)
+    (number_in (codes "last") rows)) (number_in (codes "batch-bytes") rows)) (number_in (codes "group-bytes") rows))
+    (flag_in (codes "pipelined") rows)
 
 -- what a command and its matches ask for
 abbrev pub asked_by : Text → List Row → Option Asked

@@ -27,6 +27,8 @@ pub enum Asked {
     Recover,
     /// To run a schedule on the core.
     Replay {
+        /// Whether the log is handed on before a group is inserted.
+        pipelined: bool,
         /// The most bytes of a write group.
         group_bytes: u64,
         /// The most bytes of a batch.
@@ -101,10 +103,18 @@ fn replay_by(options: &ArgMatches) -> Option<Asked>
     ensures { result ≡ meaning.replay_by (rows_of (found_of options.now)) }
 {
     Some(Asked::Replay {
+        pipelined: flag_in("pipelined", options)?,
         group_bytes: number_in("group-bytes", options)?,
         batch_bytes: number_in("batch-bytes", options)?,
         last: number_in("last", options)?,
     })
+}
+
+/// Whether the matches have a flag.
+fn flag_in(id: &str, options: &ArgMatches) -> Option<bool>
+    ensures { result ≡ meaning.flag_in id.now (rows_of (found_of options.now)) }
+{
+    options.get_one::<bool>(id)
 }
 
 /// The number that the matches have for an option.

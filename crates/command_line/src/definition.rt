@@ -6,7 +6,7 @@ ghost use Rattle.clap.specs.declared.builder.command.Command.TheViews.{out-Comma
 ghost use Rattle.command_line.specs.Definition as clap_words;
 
 use clap::builder::ValueParser;
-use clap::{Arg, Command};
+use clap::{Arg, ArgAction, Command};
 use std::alloc::{AllocError, Global};
 
 /// The whole command.
@@ -50,9 +50,20 @@ fn replay<'a>(alloc: Global) -> Result<Command<'a>, AllocError>
     ensures local { IfOk result (λ command. (out-Command command).has_globals ≡ false) }
 {
     Command::new(alloc, "replay")
+        .arg(pipelined(alloc))?
         .arg(group_bytes(alloc))?
         .arg(batch_bytes(alloc))?
         .arg(last(alloc))
+}
+
+/// Whether the log is handed on before a group is inserted.
+fn pipelined<'a>(alloc: Global) -> Arg<'a>
+    ensures rule { rule_of result ≡ clap_words.pipelined }
+    ensures local { result.global ≡ false }
+{
+    Arg::new(alloc, "pipelined")
+        .long("pipelined")
+        .action(ArgAction::SetTrue)
 }
 
 /// The most bytes of a batch: its head alone has 12.

@@ -1,6 +1,6 @@
 //! What the words mean, as laws that have no code.
 
-ghost use Rattle.std.specs.Prelude.{◌≡◌, List, [], ◌∷◌, Some, None, String, codes};
+ghost use Rattle.std.specs.Prelude.{◌≡◌, List, [], ◌∷◌, Some, None, true, false, String, codes};
 ghost use Rattle.std.specs.declared.alloc.Global.{Global};
 ghost use Rattle.command_line.specs.declared.asked.Asked.{Asked};
 ghost use Rattle.command_line.specs.declared.asked.Asked.TheVariants.{Run, Recover, Replay};
@@ -18,7 +18,9 @@ pub fn words_that_ask()
     ensures run { asked_in (codes "writepath" ∷ codes "run" ∷ []) ≡ Some (Run 16777216 0) }
     ensures recover { asked_in (codes "writepath" ∷ codes "recover" ∷ []) ≡ Some Recover }
     ensures replay { asked_in (codes "writepath" ∷ codes "replay" ∷ codes "--last" ∷ codes "7" ∷ codes "--group-bytes"
-        ∷ codes "1" ∷ []) ≡ Some (Replay 1 16777216 7) }
+        ∷ codes "1" ∷ []) ≡ Some (Replay false 1 16777216 7) }
+    ensures pipelined { asked_in (codes "writepath" ∷ codes "replay" ∷ codes "--last" ∷ codes "7" ∷ codes "--pipelined"
+        ∷ []) ≡ Some (Replay true 1048576 16777216 7) }
     ensures with_equals_sign { asked_in (codes "writepath" ∷ codes "run" ∷ codes "--last=4" ∷ [])
         ≡ Some (Run 16777216 4) }
     ensures with_leading_zero { asked_in (codes "writepath" ∷ codes "run" ∷ codes "--last" ∷ codes "04" ∷ [])
@@ -35,6 +37,9 @@ pub fn words_that_do_not_ask()
     ensures option_without_value { asked_in (codes "writepath" ∷ codes "run" ∷ codes "--last" ∷ []) ≡ None }
     ensures option_twice { asked_in (codes "writepath" ∷ codes "run" ∷ codes "--last" ∷ codes "1" ∷ codes "--last"
         ∷ codes "2" ∷ []) ≡ None }
+    ensures flag_twice { asked_in (codes "writepath" ∷ codes "replay" ∷ codes "--pipelined" ∷ codes "--pipelined" ∷ [])
+        ≡ None }
+    ensures flag_of_another_command { asked_in (codes "writepath" ∷ codes "run" ∷ codes "--pipelined" ∷ []) ≡ None }
     ensures below_range { asked_in (codes "writepath" ∷ codes "run" ∷ codes "--batch-bytes" ∷ codes "11" ∷ []) ≡ None }
     ensures above_range { asked_in (codes "writepath" ∷ codes "run" ∷ codes "--last" ∷ codes "72057594037927936" ∷ [])
         ≡ None }

@@ -17,8 +17,14 @@ fn run(batch_bytes: u64, last: u64) -> Result<Asked, WordsError> {
     Ok(Asked::Run { batch_bytes, last })
 }
 
-fn replay(group_bytes: u64, batch_bytes: u64, last: u64) -> Result<Asked, WordsError> {
+fn replay(
+    pipelined: bool,
+    group_bytes: u64,
+    batch_bytes: u64,
+    last: u64,
+) -> Result<Asked, WordsError> {
     Ok(Asked::Replay {
+        pipelined,
         group_bytes,
         batch_bytes,
         last,
@@ -33,7 +39,7 @@ fn reads_words(rt: HostRuntime) -> Result<(), Fail> {
         ("writepath walk", refused),
         ("writepath run", run(16777216, 0)),
         ("writepath recover", Ok(Asked::Recover)),
-        ("writepath replay", replay(1048576, 16777216, 0)),
+        ("writepath replay", replay(false, 1048576, 16777216, 0)),
         (
             "writepath run --last 72057594037927935",
             run(16777216, 72057594037927935),
@@ -55,8 +61,16 @@ fn reads_words(rt: HostRuntime) -> Result<(), Fail> {
         ("writepath replay --group-bytes 0", refused),
         (
             "writepath replay --last 3 --group-bytes 1 --batch-bytes 12",
-            replay(1, 12, 3),
+            replay(false, 1, 12, 3),
         ),
+        (
+            "writepath replay --last 3 --pipelined --batch-bytes 12",
+            replay(true, 1048576, 12, 3),
+        ),
+        ("writepath replay --pipelined --pipelined", refused),
+        ("writepath replay --pipelined 1", refused),
+        ("writepath replay --pipelined=true", refused),
+        ("writepath run --pipelined", refused),
         ("writepath run --last=4", run(16777216, 4)),
         ("writepath run --last +4", run(16777216, 4)),
         ("writepath run --last 04", run(16777216, 4)),

@@ -1,6 +1,7 @@
 //! What the write path's core shows of its history: the batches of its entries, and the maps that they make.
 #![tactic(auto)]
 
+mod answers;
 mod maps;
 mod reading;
 

@@ -1,9 +1,9 @@
 //! A map that moves on from read to read.
 
-ghost use Rattle.std.specs.Prelude.{◌≡◌, ◌≤◌, ◌+◌, nat_le, List, length, drop, take_while, IfOk, OnOk};
+ghost use Rattle.std.specs.Prelude.{◌≡◌, ◌≤◌, ◌+◌, nat_le, List, length, map, drop, take_while, IfOk, OnOk};
 ghost use Rattle.std.specs.List.{prefix_len};
 ghost use Rattle.wp_model.specs.History as history;
-ghost use Rattle.wp_model.specs.Map.{value_at};
+ghost use Rattle.wp_model.specs.Map.{rows_within, value_at};
 ghost use Rattle.wp_coding.specs.Answers.{found_value};
 ghost use Rattle.core_model.specs.Core as core;
 ghost use Rattle.core_model.specs.CoreLaw.{IsCore};
@@ -11,11 +11,12 @@ ghost use Rattle.write_core.specs.Shown.{CoreEntry};
 ghost use Rattle.write_core.specs.Shows.{Shows};
 ghost use Rattle.core_views.specs.Maps.{IsMapOf, map_up_to};
 
+use crate::answers::{rows_in, value_in, values_in};
 use crate::maps::write_entries;
 use client_calls::Entry;
 use core_plans::Lines;
 use std::alloc::Global;
-use wp_coding::{Bytes, Found, PairMap};
+use wp_coding::{Bytes, Found, FoundList, PairList, PairMap};
 use wp_model::NoMemory;
 use write_core::State;
 
@@ -54,10 +55,41 @@ impl MapUpTo {
             → IsMapOf s.entries self.new }
     {
         self.move_to(state, at)?;
-        match self.map.get(key) {
-            Some(value) => Ok(Found::Value(Bytes::copy(self.alloc, value)?)),
-            None => Ok(Found::Absent),
-        }
+        value_in(self.alloc, &self.map, key)
+    }
+
+    /// The values of several keys there, in the order of the keys, all at that one sequence. The map moves there as for
+    /// one key.
+    pub fn values(&mut self, state: &State, keys: &[Bytes], at: u64) -> Result<FoundList, NoMemory>
+        ensures values { (o : core.Options) (s : core.State) → IsCore o s → Shows state.now o s
+            → IsMapOf s.entries self.old
+            → IfOk result (λ values. values ≡ map (value_at (map_up_to at s.entries)) keys.now) }
+        ensures kept { (o : core.Options) (s : core.State) → IsCore o s → Shows state.now o s
+            → IsMapOf s.entries self.old
+            → IsMapOf s.entries self.new }
+    {
+        self.move_to(state, at)?;
+        values_in(self.alloc, &self.map, keys)
+    }
+
+    /// The keys from `lo` on and below `hi` with their values there, in the byte order of the keys. The map moves there
+    /// as for one key.
+    pub fn rows(
+        &mut self,
+        state: &State,
+        lo: &[u8],
+        hi: &[u8],
+        at: u64,
+    ) -> Result<PairList, NoMemory>
+        ensures rows { (o : core.Options) (s : core.State) → IsCore o s → Shows state.now o s
+            → IsMapOf s.entries self.old
+            → IfOk result (λ rows. rows ≡ rows_within lo.now hi.now (map_up_to at s.entries)) }
+        ensures kept { (o : core.Options) (s : core.State) → IsCore o s → Shows state.now o s
+            → IsMapOf s.entries self.old
+            → IsMapOf s.entries self.new }
+    {
+        self.move_to(state, at)?;
+        rows_in(self.alloc, &self.map, lo, hi)
     }
 
     /// The map as it stands.

@@ -1,7 +1,6 @@
 pub mod Order
 pub mod VersionOrder
 pub mod Keyed
-pub mod Words
 pub mod Searching
 pub mod Inserting
 pub mod Finding

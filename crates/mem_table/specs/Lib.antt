@@ -7,4 +7,3 @@ pub mod Newest
 pub mod Batches
 pub mod Rows
 pub mod Parts
-pub mod Prefixes

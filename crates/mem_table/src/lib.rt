@@ -4,7 +4,6 @@
 
 mod calls;
 mod insertion;
-mod key;
 mod lookup;
 mod node;
 mod nodes;

@@ -7,8 +7,8 @@ ghost use Rattle.mem_table.specs.Shapes.{chains_in, versions_in};
 ghost use Rattle.mem_table.specs.Nodes.{chain_of};
 ghost use Rattle.mem_table.specs.Newest.{newest, first_up_to, chain_at};
 
-use crate::key::Prefix;
 use crate::node::{Node, Nodes, Subtree};
+use byte_key::Front;
 use std::cmp::Ordering;
 use wp_coding::Bytes;
 
@@ -26,10 +26,10 @@ impl Subtree {
         requires { AreSorted (chains_in self.now) }
         ensures { option_map chain_of (option_copied result) ≡ chain_at key.now (chains_in self.now) }
     {
-        let prefix = Prefix::of(key);
+        let front = Front::of(key);
         let mut below = self;
         while let Some(node) = &below.root {
-            match node.key.order_of(key, prefix) {
+            match node.key.order_of(key, front) {
                 Ordering::Less => below = &node.left,
                 Ordering::Equal => return Some(node),
                 Ordering::Greater => below = &node.right,

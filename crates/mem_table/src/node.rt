@@ -5,7 +5,7 @@ ghost use Rattle.mem_table.specs.Shapes.{leaf, fork, height, IsBalanced};
 ghost use Rattle.mem_table.specs.Nodes.{version_of, chain_of, HasBalance};
 ghost use Rattle.mem_table.specs.Chains.{alone};
 
-use crate::key::Key;
+use byte_key::Key;
 use std::marker::Model;
 use std::mem;
 use wp_coding::Bytes;

@@ -8,8 +8,8 @@ ghost use Rattle.mem_table.specs.Batches.{made, numbered};
 ghost use Rattle.table_rule.specs.declared.content.Version.{Version};
 ghost use Rattle.mem_table.specs.Chains.{insert_older};
 
-use crate::key::Key;
 use crate::node::{Balance, Node, Nodes, Subtree};
+use byte_key::Key;
 use std::alloc::Global;
 use std::mem;
 use wp_coding::Bytes;

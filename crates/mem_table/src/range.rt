@@ -1,6 +1,6 @@
 //! How the rows of a range are gathered.
 
-ghost use Rattle.std.specs.Prelude.{◌≡◌, ◌++◌, IfOk};
+ghost use Rattle.std.specs.Prelude.{◌≡◌, ◌++◌, ◌^◌, ◌<◌, length, IfOk};
 ghost use Rattle.std.specs.Ordering.{is_lt};
 ghost use Rattle.wp_model.specs.Map.{byte_order};
 ghost use Rattle.mem_table.specs.Chains.{AreSorted, chain_versions};
@@ -44,6 +44,28 @@ impl Node {
 }
 
 impl Subtree {
+    /// How many keys of a range it has, if a `usize` can say so.
+    pub(crate) fn count_within(&self, range: Range<'_>) -> usize
+        requires { AreSorted (chains_in self.now) }
+        ensures { length (between range.entry.lo.now range.entry.hi.now (chains_in self.now)) < 2 ^ 64
+            → result ≡ length (between range.entry.lo.now range.entry.hi.now (chains_in self.now)) }
+    {
+        let Some(node) = &self.root else {
+            return 0;
+        };
+        let Range { lo, hi, .. } = range;
+        let key = node.key.as_slice();
+        if is_below(key, lo) {
+            return node.right.count_within(range);
+        }
+        if !is_below(key, hi) {
+            return node.left.count_within(range);
+        }
+        let left = node.left.count_within(range);
+        let right = node.right.count_within(range);
+        left.saturating_add(1).saturating_add(right)
+    }
+
     /// Puts the rows of a range behind others.
     pub(crate) fn gather(
         &self,

@@ -80,8 +80,11 @@ impl Tree {
         ensures rows { IfOk result (λ rows. (history : List Version) → IsOrderUpTo at (versions_in self.now) history
             → rows.rows ≡ rows_within lo.now hi.now (map_of history)) }
     {
-        let mut rows = PairList::new(alloc);
-        self.root.gather(alloc, Range { lo, hi, at }, &mut rows)?;
+        let range = Range { lo, hi, at };
+        // Room for a row of each key at once.
+        let room = self.root.count_within(range);
+        let mut rows = PairList::from_vec(Vec::with_capacity(alloc, room)?);
+        self.root.gather(alloc, range, &mut rows)?;
         Ok(Rows { at, rows })
     }
 }

@@ -9,19 +9,19 @@ use Rattle.std.proofs.lemmas.List.Sums.{take_while-cons}
 use Rattle.std.proofs.lemmas.Option.{MatchOption-at_some, same_Some, slice_get-map, slice_get_read, slice_get_within}
 use Rattle.wp_model.specs.declared.write.Refusal.{Refusal}
 use Rattle.wp_model.specs.declared.write.WriteOptions.{WriteOptions}
-use Rattle.wp_model.specs.Map.{value_at}
+use Rattle.wp_model.specs.Map.{rows_within, value_at}
 use Rattle.wp_model.specs.History.{Entry, IsHistory, IsUpTo, last_sequence, last_of, map_of}
 use Rattle.wp_model.specs.Progress.{early_refusal, batch_after}
 use Rattle.wp_model.specs.Calls as calls
 use Rattle.wp_model.specs.Runs.{commands_of}
 use Rattle.core_model.specs.Core.{Options, Client, State}
-use Rattle.core_model.specs.Replies.{AreRight, AreRepliesOf, IsAnswered, IsHandled, MayReply, Gets}
+use Rattle.core_model.specs.Replies.{AreRight, AreRepliesOf, IsAnswered, IsHandled, MayReply, Gets, GetsMany, Scans}
 use Rattle.core_laws.proofs.Histories.{history_rises, history_front}
 use Rattle.client_calls.specs.declared.command.Command.{Command}
 use Rattle.client_calls.specs.declared.command.Command.TheVariants.{Put, Delete, SingleDelete, Note, Clear, Commit, Get, Many, Scan, Stop, Unstop, Slow, Unslow}
 use Rattle.client_calls.specs.Commands.{command_of}
 use Rattle.client_calls.specs.declared.reply.Reply.{Reply}
-use Rattle.client_script.specs.Scripts.{IsScriptCommand}
+use Rattle.client_script.specs.Scripts.{IsClientsCommand}
 use Rattle.core_plans.specs.declared.plan.ClientPlan.{ClientPlan}
 use Rattle.write_core.specs.declared.writer.CoreReply.{CoreReply}
 use Rattle.write_core.specs.declared.writer.CoreReply.TheVariants.{Accepted, Refused, ReadAt}
@@ -62,6 +62,8 @@ IsTold entries Clear calls.quiet = ⊤
 IsTold entries (Commit how) (calls.accepted a b records) = ⊤
 IsTold entries (Commit how) (calls.refused why) = ⊤
 IsTold entries (Get key) (calls.found at v) = v ≡ value_at (map_up_to at entries) key
+IsTold entries (Many keys) (calls.found_each at vs) = vs ≡ map (value_at (map_up_to at entries)) keys.items
+IsTold entries (Scan lo hi) (calls.rows at pairs) = pairs ≡ rows_within lo hi (map_up_to at entries)
 IsTold entries x r = ⊥
 
 attempts : (o : Options) (s : State) (before : List calls.Call) (how : WriteOptions) (r : calls.Reply) → IsHandled o s before how r → IsTold s.entries (Commit how) r
@@ -78,7 +80,15 @@ got : (o : Options) (s : State) (before : List calls.Call) (key : List ℕ) (r :
 got o s before key (calls.found at v) history is = is.answer ∙ ap (λ m. value_at m key) (map_at o.start s.entries is.front at history is.is_front)
 got o s before key other history is = absurd is
 
-told_of : (o : Options) (s : State) (before : List calls.Call) (x : Command) (r : calls.Reply) → IsHistory o.start s.entries → IsScriptCommand x → MayReply o s before (command_of x) r → IsTold s.entries x r
+got_many : (o : Options) (s : State) (before : List calls.Call) (keys : Vec (List ℕ) Global) (r : calls.Reply) → IsHistory o.start s.entries → GetsMany o s before keys.items r → IsTold s.entries (Many keys) r
+got_many o s before keys (calls.found_each at vs) history is = is.answer ∙ ap (λ m. map (value_at m) keys.items) (map_at o.start s.entries is.front at history is.is_front)
+got_many o s before keys other history is = absurd is
+
+scanned : (o : Options) (s : State) (before : List calls.Call) (lo hi : List ℕ) (r : calls.Reply) → IsHistory o.start s.entries → Scans o s before lo hi r → IsTold s.entries (Scan lo hi) r
+scanned o s before lo hi (calls.rows at pairs) history is = is.answer ∙ ap (λ m. rows_within lo hi m) (map_at o.start s.entries is.front at history is.is_front)
+scanned o s before lo hi other history is = absurd is
+
+told_of : (o : Options) (s : State) (before : List calls.Call) (x : Command) (r : calls.Reply) → IsHistory o.start s.entries → IsClientsCommand x → MayReply o s before (command_of x) r → IsTold s.entries x r
 told_of o s before (Put key v) r history said may = subst (IsTold s.entries (Put key v)) (sym may) tt
 told_of o s before (Delete key) r history said may = subst (IsTold s.entries (Delete key)) (sym may) tt
 told_of o s before (SingleDelete key) r history said may = subst (IsTold s.entries (SingleDelete key)) (sym may) tt
@@ -86,8 +96,8 @@ told_of o s before (Note text) r history said may = subst (IsTold s.entries (Not
 told_of o s before Clear r history said may = subst (IsTold s.entries Clear) (sym may) tt
 told_of o s before (Commit how) r history said may = committed o s before how r (early_refusal o.batch_bytes false (batch_after before) how) may
 told_of o s before (Get key) r history said may = got o s before key r history may
-told_of o s before (Many keys) r history said may = absurd said
-told_of o s before (Scan lo hi) r history said may = absurd said
+told_of o s before (Many keys) r history said may = got_many o s before keys r history may
+told_of o s before (Scan lo hi) r history said may = scanned o s before lo hi r history may
 told_of o s before Stop r history said may = absurd said
 told_of o s before Unstop r history said may = absurd said
 told_of o s before (Slow rate) r history said may = absurd said
@@ -129,10 +139,18 @@ one_shown entries (Get key) xs command (calls.found at v) cs (ReadAt n ∷ ts) i
     (subst (λ m. calls.found at v ≡ calls.found m (value_at (map_up_to m entries) key)) (sym are.0) (ap (calls.found at) is), rest ts are.1)
 one_shown entries (Get key) xs command (calls.found at v) cs (t ∷ ts) is are rest = absurd are.0
 one_shown entries (Get key) xs command (calls.found at v) cs [] is are rest = absurd are
+one_shown entries (Many keys) xs command (calls.found_each at vs) cs (ReadAt n ∷ ts) is are rest =
+    (subst (λ m. calls.found_each at vs ≡ calls.found_each m (map (value_at (map_up_to m entries)) keys.items)) (sym are.0) (ap (calls.found_each at) is), rest ts are.1)
+one_shown entries (Many keys) xs command (calls.found_each at vs) cs (t ∷ ts) is are rest = absurd are.0
+one_shown entries (Many keys) xs command (calls.found_each at vs) cs [] is are rest = absurd are
+one_shown entries (Scan lo hi) xs command (calls.rows at pairs) cs (ReadAt n ∷ ts) is are rest =
+    (subst (λ m. calls.rows at pairs ≡ calls.rows m (rows_within lo hi (map_up_to m entries))) (sym are.0) (ap (calls.rows at) is), rest ts are.1)
+one_shown entries (Scan lo hi) xs command (calls.rows at pairs) cs (t ∷ ts) is are rest = absurd are.0
+one_shown entries (Scan lo hi) xs command (calls.rows at pairs) cs [] is are rest = absurd are
 one_shown entries x xs command r cs told is are rest = absurd is
 
 told_shown : (o : Options) (s : State) (whole before cs : List calls.Call) (xs : List Command) (rest : List calls.Command) (told : List CoreReply) → IsHistory o.start s.entries → AreRight o s whole
-    → AllByRecursion IsScriptCommand xs → whole ≡ before ++ cs → map command_of xs ≡ commands_of cs ++ rest → AreReplies told (answers_of cs) → AllZip ShowsReply (replies_by s.entries xs told) (with_lines cs)
+    → AllByRecursion IsClientsCommand xs → whole ≡ before ++ cs → map command_of xs ≡ commands_of cs ++ rest → AreReplies told (answers_of cs) → AllZip ShowsReply (replies_by s.entries xs told) (with_lines cs)
 told_shown o s whole before [] xs rest [] history right said split same are = subst (λ rs. AllZip ShowsReply rs []) (sym (none_told s.entries xs)) tt
 told_shown o s whole before [] xs rest (t ∷ ts) history right said split same are = absurd are
 told_shown o s whole before (c ∷ cs) [] rest told history right said split same are = absurd (cc same)
@@ -144,7 +162,7 @@ told_shown o s whole before (c ∷ cs) (x ∷ xs) rest told history right said s
     one_shown s.entries x xs c.command c.reply cs told (told_of o s before x c.reply history said.0 may) are
     (λ left all. told_shown o s whole (before ++ c ∷ []) cs xs rest left history right said.1 next others all)
 
-client_shown : (o : Options) (s : State) (n : ℕ) (commands : List Command) (replies : List Reply) (client : Client) → IsHistory o.start s.entries → AllByRecursion IsScriptCommand commands
+client_shown : (o : Options) (s : State) (n : ℕ) (commands : List Command) (replies : List Reply) (client : Client) → IsHistory o.start s.entries → AllByRecursion IsClientsCommand commands
     → slice_get s.clients n ≡ Some client → IsAnswered o s (suc n) (map command_of commands) client → IsTranscript s (suc n) commands replies → AllZip ShowsReply replies (with_lines client.calls)
 client_shown o s n commands replies client history said there answered t =
     let are : AreReplies t.told (answers_of client.calls) = MatchOption-at_some (t.told ≡ []) (λ (c : Client). AreReplies t.told (answers_of c.calls)) client there t.is_told in
@@ -167,7 +185,7 @@ some_at (x ∷ xs) (suc i) lt = some_at xs i (omega (arith, lt))
 
 -- each command is one that a script may say
 abbrev pub AreSaid : ClientPlan → Type 0
-AreSaid plan = AllByRecursion IsScriptCommand plan.lines.items
+AreSaid plan = AllByRecursion IsClientsCommand plan.lines.items
 
 all_at : {A : Type 0} (P : A → Type 0) (xs : List A) (i : ℕ) (x : A) → AllByRecursion P xs → slice_get xs i ≡ Some x → P x
 all_at P [] i x all e = absurd (cc e)

@@ -9,42 +9,42 @@ use Rattle.core_model.specs.Replies.{AreRepliesOf}
 use Rattle.core_laws.proofs.Kept.{every_list}
 use Rattle.core_laws.proofs.Answered.{replies}
 use Rattle.client_calls.specs.Commands.{command_of}
-use Rattle.client_calls.specs.declared.options.Options.{Options}
+use Rattle.write_core.specs.declared.state.CoreOptions.{CoreOptions}
+use Rattle.write_core.specs.Shown.{options_of}
 use Rattle.client_script.specs.declared.schedule.Schedule.{Schedule}
 use Rattle.client_script.specs.declared.script.Script.{Script}
 use Rattle.client_script.specs.Schedules.{schedule_of}
-use Rattle.client_script.specs.Scripts.{HasScriptCommands, IsScriptCommand, commands_of}
+use Rattle.client_script.specs.Scripts.{HasClientsCommands, IsClientsCommand, commands_of}
 use Rattle.core_plans.specs.declared.plan.ClientPlan.{ClientPlan}
 use Rattle.write_core.specs.declared.state.State as code
 use Rattle.write_core.specs.declared.step.Counts.{Counts}
 use Rattle.write_core.specs.Replay.{IsReplay, Replays}
 use Rattle.core_plans.specs.Plans.{plans_of}
 use Rattle.write_core.specs.Shows.{Shows}
-use Rattle.schedule_run.specs.Replayed.{core_options, replayed_of}
+use Rattle.schedule_run.specs.Replayed.{replayed_of}
 use Rattle.schedule_run.proofs.ReplayedClients.{AreSaid}
 
 -- the plans hold the script's commands
 pub same_commands : (plans : List ClientPlan) (script : Script) → map (λ (p : ClientPlan). p.lines) plans ≡ script.clients.items → plans_of plans ≡ commands_of script
 same_commands plans script same = sym (map-map (λ cs. map command_of cs.items) (λ (p : ClientPlan). p.lines) plans) ∙ ap (map (λ cs. map command_of cs.items)) same
 
-each_said : (plans : List ClientPlan) → AllByRecursion (λ cs. AllByRecursion IsScriptCommand cs.items) (map (λ (p : ClientPlan). p.lines) plans) → AllByRecursion AreSaid plans
+each_said : (plans : List ClientPlan) → AllByRecursion (λ cs. AllByRecursion IsClientsCommand cs.items) (map (λ (p : ClientPlan). p.lines) plans) → AllByRecursion AreSaid plans
 each_said [] said = tt
 each_said (p ∷ plans) said = (said.0, each_said plans said.1)
 
-pub are_said : (plans : List ClientPlan) (script : Script) → map (λ (p : ClientPlan). p.lines) plans ≡ script.clients.items → HasScriptCommands script → AllByRecursion AreSaid plans
-are_said plans script same said = each_said plans (subst (AllByRecursion (λ cs. AllByRecursion IsScriptCommand cs.items)) (sym same) said)
+pub are_said : (plans : List ClientPlan) (script : Script) → map (λ (p : ClientPlan). p.lines) plans ≡ script.clients.items → HasClientsCommands script → AllByRecursion AreSaid plans
+are_said plans script same said = each_said plans (subst (AllByRecursion (λ cs. AllByRecursion IsClientsCommand cs.items)) (sym same) said)
 
 -- the core was opened with the script's commands, and took its events
-pub is_replay : (o : Options) (given : machine.Options) (s : Schedule) (plans : List ClientPlan) (old new : code.State) (counts : Counts) → given ≡ core_options o → plans_of plans ≡ commands_of s.script
-    → Shows old given (opened given (plans_of plans)) → Replays s.events.items old counts new → IsReplay (core_options o) counts new (replayed_of o (schedule_of s))
-is_replay o given s plans old new counts is same shows run =
-    let core = core_options o in
-    let opening : Shows old core (opened core (plans_of plans)) = subst (λ (c : machine.Options). Shows old c (opened c (plans_of plans))) is shows in
-    run core (opened core (commands_of s.script)) (every_list core (commands_of s.script) []) (subst (λ lines. Shows old core (opened core lines)) same opening)
+pub is_replay : (o : CoreOptions) (s : Schedule) (plans : List ClientPlan) (old new : code.State) (counts : Counts) → plans_of plans ≡ commands_of s.script
+    → Shows old (options_of o) (opened (options_of o) (plans_of plans)) → Replays s.events.items old counts new → IsReplay (options_of o) counts new (replayed_of o (schedule_of s))
+is_replay o s plans old new counts same shows run =
+    let core = options_of o in
+    run core (opened core (commands_of s.script)) (every_list core (commands_of s.script) []) (subst (λ lines. Shows old core (opened core lines)) same shows)
 
-pub is_core : (o : Options) (s : Schedule) → IsCore (core_options o) (replayed_of o (schedule_of s)).state
-is_core o s = every_list (core_options o) (commands_of s.script) s.events.items
+pub is_core : (o : CoreOptions) (s : Schedule) → IsCore (options_of o) (replayed_of o (schedule_of s)).state
+is_core o s = every_list (options_of o) (commands_of s.script) s.events.items
 
-pub has_replies : (o : Options) (s : Schedule) (plans : List ClientPlan) → plans_of plans ≡ commands_of s.script → AreRepliesOf (core_options o) (plans_of plans) (replayed_of o (schedule_of s)).state
+pub has_replies : (o : CoreOptions) (s : Schedule) (plans : List ClientPlan) → plans_of plans ≡ commands_of s.script → AreRepliesOf (options_of o) (plans_of plans) (replayed_of o (schedule_of s)).state
 has_replies o s plans same =
-    subst (λ lines. AreRepliesOf (core_options o) lines (replayed_of o (schedule_of s)).state) (sym same) (replies (core_options o) (commands_of s.script) s.events.items)
+    subst (λ lines. AreRepliesOf (options_of o) lines (replayed_of o (schedule_of s)).state) (sym same) (replies (options_of o) (commands_of s.script) s.events.items)

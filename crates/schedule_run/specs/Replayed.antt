@@ -2,21 +2,17 @@
 use Rattle.std.specs.Prelude.{◌≡◌, Bool, true, false, not, List, length, map, filter}
 use Rattle.std.specs.List.{AllZip}
 use Rattle.wp_model.specs.Calls as calls
-use Rattle.core_model.specs.Core as machine
 use Rattle.core_model.specs.Core.{Client, opened, published_map}
 use Rattle.core_model.specs.Step as core
 use Rattle.core_model.specs.Schedule.{Schedule}
-use Rattle.client_calls.specs.declared.options.Options.{Options}
+use Rattle.write_core.specs.declared.state.CoreOptions.{CoreOptions}
+use Rattle.write_core.specs.Shown.{options_of}
 use Rattle.schedule_run.specs.declared.replaying.Replayed.{Replayed}
 use Rattle.client_calls.specs.Shows.{ShowsReply, ShowsEntry}
 
--- the core of a single stage with these options
-abbrev pub core_options : Options → machine.Options
-core_options o = record { pipelined = false; group_bytes = o.group_bytes; batch_bytes = o.batch_bytes; start = o.last }
-
--- the schedule, run on it from its opening
-abbrev pub replayed_of : Options → Schedule → core.Replayed
-replayed_of o s = core.replay (core_options o) (opened (core_options o) s.script) s.events
+-- the schedule, run on the core with these options from its opening
+abbrev pub replayed_of : CoreOptions → Schedule → core.Replayed
+replayed_of o s = core.replay (options_of o) (opened (options_of o) s.script) s.events
 
 -- a call that has a reply line: a commit or a read
 abbrev pub is_quiet : calls.Reply → Bool

@@ -1,13 +1,13 @@
 -- What a schedule's clients were told, and the history of their batches, from what the core shows.
-use Rattle.std.specs.Prelude.{◌≡◌, ℕ, suc, List, [], ◌∷◌, ◌++◌, length, drop, Some, slice_get, MatchOption, Vec}
+use Rattle.std.specs.Prelude.{◌≡◌, ℕ, suc, List, [], ◌∷◌, ◌++◌, length, map, drop, Some, slice_get, MatchOption, Vec}
 use Rattle.std.specs.declared.alloc.Global.{Global}
-use Rattle.wp_model.specs.Map.{value_at}
+use Rattle.wp_model.specs.Map.{rows_within, value_at}
 use Rattle.wp_model.specs.History as history
 use Rattle.core_model.specs.Core as machine
 use Rattle.core_model.specs.Core.{client_at}
 use Rattle.core_model.specs.CoreLaw.{IsCore}
 use Rattle.client_calls.specs.declared.command.Command.{Command}
-use Rattle.client_calls.specs.declared.command.Command.TheVariants.{Commit, Get}
+use Rattle.client_calls.specs.declared.command.Command.TheVariants.{Commit, Get, Many, Scan}
 use Rattle.client_calls.specs.declared.reply.Reply.{Reply}
 use Rattle.client_calls.specs.declared.reply.Reply.TheVariants as reply
 use Rattle.client_calls.specs.declared.entry.Entry.{Entry}
@@ -29,9 +29,11 @@ InEachShown core is = (o : machine.Options) (s : machine.State) → IsCore o s �
 
 -- Replies
 
--- a read is answered by the map at its sequence
+-- a read is answered by the map at its sequence, also one of several keys
 abbrev pub read_by : List history.Entry → ℕ → Command → Reply
 read_by entries at (Get key) = reply.Found at (value_at (map_up_to at entries) key)
+read_by entries at (Many keys) = reply.FoundEach at (map (value_at (map_up_to at entries)) keys.items)
+read_by entries at (Scan lo hi) = reply.Rows at (rows_within lo hi (map_up_to at entries))
 read_by entries at other = reply.Quiet
 
 abbrev pub reply_by : List history.Entry → Command → CoreReply → Reply
@@ -48,6 +50,8 @@ first_reply entries command (r ∷ rs) = reply_by entries command r ∷ []
 abbrev pub next_reply : List history.Entry → List CoreReply → Command → List Reply
 next_reply entries told (Commit options) = first_reply entries (Commit options) told
 next_reply entries told (Get key) = first_reply entries (Get key) told
+next_reply entries told (Many keys) = first_reply entries (Many keys) told
+next_reply entries told (Scan lo hi) = first_reply entries (Scan lo hi) told
 next_reply entries told other = []
 
 -- commits and reads have these replies, in order

@@ -2,14 +2,13 @@
 
 ghost use Rattle.std.specs.Prelude.{◌≡◌, ◌≤◌, ◌-◌, ◌^◌, length, IfOk};
 ghost use Rattle.client_script.specs.Schedules.{schedule_of};
-ghost use Rattle.client_script.specs.Scripts.{FitsBatches, HasScriptCommands};
-ghost use Rattle.write_core.specs.Shown.{options_of};
-ghost use Rattle.schedule_run.specs.Replayed.{ShowsReplayed, core_options, replayed_of};
+ghost use Rattle.client_script.specs.Scripts.{FitsBatches, HasClientsCommands};
+ghost use Rattle.schedule_run.specs.Replayed.{ShowsReplayed, replayed_of};
 
 use crate::history::history_of;
 use crate::plans::plans_of;
 use crate::replies::transcripts_of;
-use client_calls::{Entry, Options, Reply};
+use client_calls::{Entry, Reply};
 use client_script::Schedule;
 use core_views::map;
 use std::alloc::Global;
@@ -34,35 +33,23 @@ pub struct Replayed {
     pub groups: u64,
 }
 
-/// The options of a core with a single stage.
-fn single_stage(options: Options) -> CoreOptions
-    ensures { options_of result ≡ core_options options }
-{
-    CoreOptions {
-        pipelined: false,
-        group_bytes: options.group_bytes,
-        batch_bytes: options.batch_bytes,
-        last: options.last,
-    }
-}
-
 /// Runs a schedule on the core of its script's clients, of which there are 1 to 16. Their commands are
 /// those that a script may say, and all that each adds fits one batch of 16 MiB.
 pub fn replay_schedule(
     alloc: Global,
     schedule: Schedule,
-    options: Options,
+    options: CoreOptions,
 ) -> Result<Replayed, NoMemory>
     requires some { 1 ≤ length schedule.script.clients.items }
     requires few { length schedule.script.clients.items ≤ 16 }
     requires fits { FitsBatches schedule.script }
-    requires commands { HasScriptCommands schedule.script }
+    requires commands { HasClientsCommands schedule.script }
     requires last { options.last ≤ 2 ^ 56 - 1 }
     ensures { IfOk result (λ shown. ShowsReplayed shown (replayed_of options (schedule_of schedule))) }
 {
     let Schedule { script, events } = schedule;
     let plans = plans_of(alloc, script)?;
-    let mut core = State::new(alloc, plans, single_stage(options))?;
+    let mut core = State::new(alloc, plans, options)?;
     let counts = replay(&mut core, &events);
     Ok(Replayed {
         counts,

@@ -64,16 +64,12 @@ fn add_reply(
         | Command::SingleDelete { .. }
         | Command::Note { .. }
         | Command::Clear => Ok(()),
-        // No script with a schedule says these yet.
-        Command::Many { .. }
-        | Command::Scan { .. }
-        | Command::Stop
-        | Command::Unstop
-        | Command::Slow { .. }
-        | Command::Unslow => Ok(()),
-        Command::Commit { .. } | Command::Get { .. } => {
-            add_next(replies, reads, command, told, core)
-        }
+        // The core knows no write controller, so no script with a schedule says these.
+        Command::Stop | Command::Unstop | Command::Slow { .. } | Command::Unslow => Ok(()),
+        Command::Commit { .. }
+        | Command::Get { .. }
+        | Command::Many { .. }
+        | Command::Scan { .. } => add_next(replies, reads, command, told, core),
     }
 }
 
@@ -130,13 +126,30 @@ fn read_of(reads: &mut MapUpTo, command: &Command, at: u64, core: &State) -> Res
     ensures reply { InEachShown core.now (λ s. IsMapOf s.entries reads.old
         → IfOk result (λ reply. reply ≡ read_by s.entries at command.now)) }
 {
-    let Command::Get { key } = command else {
-        return Ok(Reply::Quiet);
-    };
-    Ok(Reply::Found {
-        at,
-        value: found(reads.value(core, key.as_slice(), at)?),
-    })
+    match command {
+        Command::Get { key } => Ok(Reply::Found {
+            at,
+            value: found(reads.value(core, key.as_slice(), at)?),
+        }),
+        Command::Many { keys } => Ok(Reply::FoundEach {
+            at,
+            values: reads.values(core, keys, at)?,
+        }),
+        Command::Scan { lo, hi } => Ok(Reply::Rows {
+            at,
+            rows: reads.rows(core, lo.as_slice(), hi.as_slice(), at)?,
+        }),
+        Command::Put { .. }
+        | Command::Delete { .. }
+        | Command::SingleDelete { .. }
+        | Command::Note { .. }
+        | Command::Clear
+        | Command::Commit { .. }
+        | Command::Stop
+        | Command::Unstop
+        | Command::Slow { .. }
+        | Command::Unslow => Ok(Reply::Quiet),
+    }
 }
 
 fn found(answer: Found) -> Option<Bytes>

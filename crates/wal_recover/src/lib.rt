@@ -6,7 +6,6 @@
 #![tactic(auto)]
 
 mod kept;
-mod key;
 mod recovered_map;
 mod recovery;
 

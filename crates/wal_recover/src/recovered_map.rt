@@ -5,7 +5,7 @@ ghost use Rattle.std.specs.BTreeMap.{insert_entry, is_at};
 ghost use Rattle.std.specs.Map.{remove_entry};
 ghost use Rattle.wp_model.specs.Map.{byte_order};
 
-use crate::key::Key;
+use byte_key::Key;
 use std::alloc::Global;
 use std::collections::{BTreeMap, btree_map};
 use std::marker::Model;

@@ -1,13 +1,13 @@
 //! CRC-32C, the checksum of the records of a log.
 
-ghost use Rattle.std.specs.Prelude.{◌≡◌, ℕ, List, ◌++◌, fold};
+ghost use Rattle.std.specs.Int.{w32, from_le_bytes};
+ghost use Rattle.std.specs.Prelude.{◌≡◌, ℕ, ◌^◌, ◌<◌, List, ◌++◌, fold, map, slice_index};
+ghost use Rattle.std.specs.Simd.{first_chunks};
 ghost use Rattle.wp_model.specs.Checksum as checksum;
 ghost use Rattle.wp_coding.specs.Register.{shift, take_in_byte};
 
-use crate::far_tables::{
-    TABLE_8, TABLE_9, TABLE_10, TABLE_11, TABLE_12, TABLE_13, TABLE_14, TABLE_15,
-};
-use crate::tables::{TABLE_0, TABLE_1, TABLE_2, TABLE_3, TABLE_4, TABLE_5, TABLE_6, TABLE_7};
+use crate::tables::TABLES;
+use std::simd::{u8x16, u32x4};
 
 // Added to a checksum before it is kept, as `kMaskDelta` of RocksDB's util/crc32c.h.
 const MASK_DELTA: u32 = 0xa282ead8;
@@ -39,7 +39,7 @@ fn take_in_bytes(first: u32, bytes: &[u8]) -> u32
     let mut register = first;
     for byte in bytes {
         let index = (register ^ u32::from(*byte)) & 0xff;
-        register = TABLE_0[index as usize] ^ (register >> 8);
+        register = TABLES[0][index as usize] ^ (register >> 8);
     }
     register
 }
@@ -61,51 +61,61 @@ fn take_in_chunks(first: u32, chunks: &[[u8; 16]]) -> u32
 fn take_in_chunk(register: u32, chunk: &[u8; 16]) -> u32
     ensures { result ≡ fold take_in_byte register chunk.now }
 {
-    let later = over_12_bytes(u32::from_le_bytes([chunk[4], chunk[5], chunk[6], chunk[7]]))
-        ^ over_8_bytes(u32::from_le_bytes([chunk[8], chunk[9], chunk[10], chunk[11]]))
-        ^ over_4_bytes(u32::from_le_bytes([chunk[12], chunk[13], chunk[14], chunk[15]]));
-    let first = register ^ u32::from_le_bytes([chunk[0], chunk[1], chunk[2], chunk[3]]);
+    let words = words_of(chunk);
+    let later = over_12_bytes(words[1]) ^ over_8_bytes(words[2]) ^ over_4_bytes(words[3]);
+    let first = register ^ words[0];
     later ^ over_16_bytes(first)
+}
+
+/// The words of a chunk, each with its lowest byte first.
+///
+/// They are read at once, as a vector: to read each byte by itself is to wait for the reads. Nothing is known of the
+/// lanes of a vector, so it has to be said that they are bytes.
+fn words_of(chunk: &[u8; 16]) -> [u32; 4]
+    requires bytes { (i : ℕ) → slice_index chunk.now i < 2 ^ 8 }
+    ensures { result ≡ map (from_le_bytes w32) (first_chunks 4 4 chunk.now) }
+{
+    u32x4::from_le_bytes(u8x16::from_array(*chunk)).to_array()
 }
 
 /// What the register comes to after 32 steps, the length of 4 bytes.
 fn over_4_bytes(register: u32) -> u32
     ensures { result ≡ shift 32 register }
 {
-    TABLE_3[(register & 0xff) as usize]
-        ^ TABLE_2[((register >> 8) & 0xff) as usize]
-        ^ TABLE_1[((register >> 16) & 0xff) as usize]
-        ^ TABLE_0[(register >> 24) as usize]
+    TABLES[3][(register & 0xff) as usize]
+        ^ TABLES[2][((register >> 8) & 0xff) as usize]
+        ^ TABLES[1][((register >> 16) & 0xff) as usize]
+        ^ TABLES[0][(register >> 24) as usize]
 }
 
 /// The same for 8 bytes.
 fn over_8_bytes(register: u32) -> u32
     ensures { result ≡ shift 64 register }
 {
-    TABLE_7[(register & 0xff) as usize]
-        ^ TABLE_6[((register >> 8) & 0xff) as usize]
-        ^ TABLE_5[((register >> 16) & 0xff) as usize]
-        ^ TABLE_4[(register >> 24) as usize]
+    TABLES[7][(register & 0xff) as usize]
+        ^ TABLES[6][((register >> 8) & 0xff) as usize]
+        ^ TABLES[5][((register >> 16) & 0xff) as usize]
+        ^ TABLES[4][(register >> 24) as usize]
 }
 
 /// The same for 12 bytes.
 fn over_12_bytes(register: u32) -> u32
     ensures { result ≡ shift 96 register }
 {
-    TABLE_11[(register & 0xff) as usize]
-        ^ TABLE_10[((register >> 8) & 0xff) as usize]
-        ^ TABLE_9[((register >> 16) & 0xff) as usize]
-        ^ TABLE_8[(register >> 24) as usize]
+    TABLES[11][(register & 0xff) as usize]
+        ^ TABLES[10][((register >> 8) & 0xff) as usize]
+        ^ TABLES[9][((register >> 16) & 0xff) as usize]
+        ^ TABLES[8][(register >> 24) as usize]
 }
 
 /// The same for 16 bytes.
 fn over_16_bytes(register: u32) -> u32
     ensures { result ≡ shift 128 register }
 {
-    TABLE_15[(register & 0xff) as usize]
-        ^ TABLE_14[((register >> 8) & 0xff) as usize]
-        ^ TABLE_13[((register >> 16) & 0xff) as usize]
-        ^ TABLE_12[(register >> 24) as usize]
+    TABLES[15][(register & 0xff) as usize]
+        ^ TABLES[14][((register >> 8) & 0xff) as usize]
+        ^ TABLES[13][((register >> 16) & 0xff) as usize]
+        ^ TABLES[12][(register >> 24) as usize]
 }
 
 /// A checksum as it is kept in a log: turned right by 15 bits, plus a constant, so that a

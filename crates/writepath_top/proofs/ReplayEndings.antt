@@ -2,11 +2,11 @@
 use Rattle.std.proofs.Common.{◌≡◌, ⊎_elim, ℕ, List, Option, Some, Result, Ok, Err, IfSome, ap, ◌∙◌, arith}
 use Rattle.std.specs.Prelude.{IfOk, take, ◌++◌}
 use Rattle.wp_model.specs.declared.memory.NoMemory.{NoMemory}
-use Rattle.core_model.specs.Schedule.{Schedule, schedule_of, clients_grammar, first_event_words}
+use Rattle.core_model.specs.Schedule.{Schedule, schedule_of}
 use Rattle.writepath_top.specs.declared.reading.ReadError.{ReadError}
 use Rattle.writepath_top.specs.declared.reading.ReadError.TheVariants as read
 use Rattle.schedule_run.specs.declared.replaying.Replayed.{Replayed}
-use Rattle.client_calls.specs.declared.options.Options.{Options}
+use Rattle.write_core.specs.declared.state.CoreOptions.{CoreOptions}
 use Rattle.writepath_top.specs.declared.telling.Status.{Status}
 use Rattle.writepath_top.specs.declared.telling.Status.TheVariants as status
 use Rattle.writepath_top.specs.Reading.{IsScheduleError}
@@ -17,9 +17,10 @@ use Rattle.writepath_top.specs.Texts.{SaysTo}
 use Rattle.printed_text.specs.Refusals.{source_fault}
 use Rattle.run_model.specs.Running.{IsReached}
 use Rattle.writepath_top.proofs.Endings.{refused_as}
+use Rattle.client_script.specs.ReplayLanguage.{replay_grammar, event_words}
 
-pub replays_whole : (options : Options) (s : Schedule) (found : Result Replayed NoMemory) (kf kfs n : ℕ) (given : Status) (left sold snew : Option (List ℕ)) → n ≡ code given
-    → IfSome left (λ text. schedule_of clients_grammar first_event_words text ≡ Ok s) → IfOk found (λ shown. ShowsReplayed shown (replayed_of options s)) → TellsReplay sold snew kf kfs found given
+pub replays_whole : (options : CoreOptions) (s : Schedule) (found : Result Replayed NoMemory) (kf kfs n : ℕ) (given : Status) (left sold snew : Option (List ℕ)) → n ≡ code given
+    → IfSome left (λ text. schedule_of replay_grammar event_words text ≡ Ok s) → IfOk found (λ shown. ShowsReplayed shown (replayed_of options s)) → TellsReplay sold snew kf kfs found given
     → TellsText left sold snew (λ text before after. n ≡ 0 → Replays options before after text)
 replays_whole options s (Ok shown) kf kfs n status.Done (Some text) (Some before) (Some after) is said shows tells =
     λ zero. record { schedule = s; said = said; printed = tells.2 ∙ ap (λ t. before ++ t) (tells.1 (replayed_of options s) shows) }
@@ -27,8 +28,8 @@ replays_whole options s (Ok shown) kf kfs n given (Some text) (Some before) (Som
 replays_whole options s (Err why) kf kfs n given (Some text) (Some before) (Some after) is said shows tells = λ zero. absurd (let a : n ≡ 6 = is ∙ ap code tells.0 in omega (arith, a, zero))
 replays_whole options s found kf kfs n given left sold snew is said shows tells = tt
 
-pub replays_front : (options : Options) (s : Schedule) (found : Result Replayed NoMemory) (kf kfs n : ℕ) (given : Status) (left sold snew : Option (List ℕ)) → n ≡ code given
-    → IfSome left (λ text. schedule_of clients_grammar first_event_words text ≡ Ok s) → IfOk found (λ shown. ShowsReplayed shown (replayed_of options s)) → TellsReplay sold snew kf kfs found given
+pub replays_front : (options : CoreOptions) (s : Schedule) (found : Result Replayed NoMemory) (kf kfs n : ℕ) (given : Status) (left sold snew : Option (List ℕ)) → n ≡ code given
+    → IfSome left (λ text. schedule_of replay_grammar event_words text ≡ Ok s) → IfOk found (λ shown. ShowsReplayed shown (replayed_of options s)) → TellsReplay sold snew kf kfs found given
     → TellsText left sold snew (λ text before after. n ≡ 5 → ReplaysFront options before after text)
 replays_front options s (Ok shown) kf kfs n status.Sink (Some text) (Some before) (Some after) is said shows tells =
     λ five. record { schedule = s; said = said; printed = (tells.3, tells.4 ∙ ap (λ t. before ++ take tells.3 t) (tells.2 (replayed_of options s) shows)) }

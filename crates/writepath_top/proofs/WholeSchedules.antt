@@ -3,31 +3,32 @@ use Rattle.std.proofs.Common.{◌≡◌, ℕ, ◌≤◌, Bool, true, false, cond
 use Rattle.std.proofs.lemmas.Bool.{ltb-false}
 use Rattle.wp_model.specs.declared.script.ScriptFault.TheVariants.{Long}
 use Rattle.core_model.specs.Schedule as model
-use Rattle.core_model.specs.Schedule.{schedule_of, clients_grammar, first_event_words, lines_read, finished}
+use Rattle.core_model.specs.Schedule.{schedule_of, lines_read, finished}
 use Rattle.client_script.specs.declared.schedule.Schedule.{Schedule}
 use Rattle.client_script.specs.Schedules as parsed
-use Rattle.client_script.specs.Scripts.{FitsBatches, HasScriptCommands}
+use Rattle.client_script.specs.Scripts.{FitsBatches, HasClientsCommands}
 use Rattle.writepath_top.specs.Reading.{HasRead, HasSchedule}
+use Rattle.client_script.specs.ReplayLanguage.{replay_grammar, event_words}
 
 -- a longer text has a fault
-said_len : (text : List ℕ) (s : model.Schedule) → schedule_of clients_grammar first_event_words text ≡ Ok s → length text ≤ 16777216
+said_len : (text : List ℕ) (s : model.Schedule) → schedule_of replay_grammar event_words text ≡ Ok s → length text ≤ 16777216
 said_len text s e = by_test (nat_lt 16777216 (length text)) refl e
   where
-    by_test : (b : Bool) → nat_lt 16777216 (length text) ≡ b → cond b (Err (record { line = 0; kind = Long })) (finished (lines_read clients_grammar first_event_words text)) ≡ Ok s → length text ≤ 16777216
+    by_test : (b : Bool) → nat_lt 16777216 (length text) ≡ b → cond b (Err (record { line = 0; kind = Long })) (finished (lines_read replay_grammar event_words text)) ≡ Ok s → length text ≤ 16777216
     by_test true is e = absurd (cc e)
     by_test false is e = let a = ltb-false 16777216 (length text) is in omega (arith, a)
 
-whole : (old new : Option (List ℕ)) (text : List ℕ) (s : model.Schedule) → HasRead old new text → length text ≤ 16777216 → schedule_of clients_grammar first_event_words text ≡ Ok s
-    → IfSome old (λ t. schedule_of clients_grammar first_event_words t ≡ Ok s)
+whole : (old new : Option (List ℕ)) (text : List ℕ) (s : model.Schedule) → HasRead old new text → length text ≤ 16777216 → schedule_of replay_grammar event_words text ≡ Ok s
+    → IfSome old (λ t. schedule_of replay_grammar event_words t ≡ Ok s)
 whole None new text s has short e = tt
 whole (Some xs) None text s has short e = absurd has.consumed
 whole (Some xs) (Some ys) text s has short e =
     let none : ys ≡ [] = has.whole short in
     let same : xs ≡ text = has.consumed ∙ ap (λ r. text ++ r) none ∙ append-nil text in
-    ap (schedule_of clients_grammar first_event_words) same ∙ e
+    ap (schedule_of replay_grammar event_words) same ∙ e
 
-pub has_schedule : (old new : Option (List ℕ)) (text : List ℕ) (s : Schedule) → HasRead old new text → schedule_of clients_grammar first_event_words text ≡ Ok (parsed.schedule_of s)
-    → (1 ≤ length s.script.clients.items) × (length s.script.clients.items ≤ 16) → FitsBatches s.script → HasScriptCommands s.script → HasSchedule old new s
+pub has_schedule : (old new : Option (List ℕ)) (text : List ℕ) (s : Schedule) → HasRead old new text → schedule_of replay_grammar event_words text ≡ Ok (parsed.schedule_of s)
+    → (1 ≤ length s.script.clients.items) × (length s.script.clients.items ≤ 16) → FitsBatches s.script → HasClientsCommands s.script → HasSchedule old new s
 has_schedule old new text s has e clients fits commands =
     let short = said_len text (parsed.schedule_of s) e in
     record {

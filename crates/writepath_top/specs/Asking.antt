@@ -4,6 +4,7 @@ use Rattle.std.specs.declared.alloc.Global.{Global}
 use Rattle.command_line.specs.declared.asked.Asked.TheVariants.{Run, Recover, Replay}
 use Rattle.command_line.specs.Meaning.{asked_of}
 use Rattle.client_calls.specs.declared.options.Options.{Options}
+use Rattle.write_core.specs.declared.state.CoreOptions.{CoreOptions}
 
 -- they aren't lawful
 abbrev pub AskNothing : List (String Global) → Type 0
@@ -23,5 +24,6 @@ abbrev pub AskToRecover : List (String Global) → Type 0
 AskToRecover words = asked_of words ≡ Some Recover
 
 -- to run a schedule on the core
-abbrev pub AskToReplay : List (String Global) → Options → Type 0
-AskToReplay words options = asked_of words ≡ Some (Replay options.group_bytes options.batch_bytes options.last)
+abbrev pub AskToReplay : List (String Global) → CoreOptions → Type 0
+AskToReplay words options =
+    asked_of words ≡ Some (Replay options.pipelined options.group_bytes options.batch_bytes options.last)

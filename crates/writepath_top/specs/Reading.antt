@@ -8,8 +8,9 @@ use Rattle.client_script.specs.declared.script.Script as script
 use Rattle.client_script.specs.declared.schedule.Schedule.{Schedule}
 use Rattle.client_script.specs.Schedules.{schedule_of}
 use Rattle.core_model.specs.Schedule as schedules
-use Rattle.client_script.specs.Scripts.{commands_of, FitsBatches, HasScriptCommands}
+use Rattle.client_script.specs.Scripts.{commands_of, FitsBatches, HasScriptCommands, HasClientsCommands}
 use Rattle.run_model.specs.Running.{IsReached}
+use Rattle.client_script.specs.ReplayLanguage.{replay_grammar, event_words}
 
 -- it was read to its end, or to one byte past the limit of 16,777,216
 pub record HasRead (old new : Option (List ℕ)) (text : List ℕ) : Type 0 where
@@ -40,16 +41,16 @@ IsScriptError old before now NoMemory = Unit {0}
 
 -- the source had just this script, of one to sixteen clients, and its schedule
 pub record HasSchedule (old new : Option (List ℕ)) (s : Schedule) : Type 0 where
-  pub said : IfSome old (λ text. schedules.schedule_of schedules.clients_grammar schedules.first_event_words text
+  pub said : IfSome old (λ text. schedules.schedule_of replay_grammar event_words text
       ≡ Ok (schedule_of s))
   pub ended : IsAtEnd new
   pub clients : (1 ≤ length s.script.clients.items) × (length s.script.clients.items ≤ 16)
   pub fits : FitsBatches s.script
-  pub commands : HasScriptCommands s.script
+  pub commands : HasClientsCommands s.script
 
 abbrev pub IsScheduleError : Option (List ℕ) → ℕ → ℕ → ReadError → Type 0
 IsScheduleError old before now (Fault count) = IsReached before count now
 IsScheduleError old before now (Script line kind) =
-    IfSome old (λ text. schedules.schedule_of schedules.clients_grammar schedules.first_event_words text
+    IfSome old (λ text. schedules.schedule_of replay_grammar event_words text
     ≡ Err (record { line = line; kind = kind }))
 IsScheduleError old before now NoMemory = Unit {0}

@@ -4,7 +4,7 @@ ghost use Rattle.std.specs.Prelude.{◌≡◌, ◌≢◌, ◌⊎◌, ◌<◌, �
 ghost use Rattle.wp_model.specs.Counts.{Rose};
 ghost use Rattle.wp_model.specs.Script.{Script, Fault, script_of, run_grammar};
 ghost use Rattle.writepath_top.specs.Asking.{AskNothing, AskToRun, AskToRecover, AskToReplay};
-ghost use Rattle.core_model.specs.Schedule.{Schedule, schedule_of, clients_grammar, first_event_words};
+ghost use Rattle.core_model.specs.Schedule.{Schedule, schedule_of};
 ghost use Rattle.writepath_top.specs.Recovers.{TellsDisk, Recovers, RecoversFront, RecoveryRefused};
 ghost use Rattle.writepath_top.specs.Texts.{Stood, SaysTo};
 ghost use Rattle.printed_text.specs.Refusals.{usage, script_fault, source_fault, not_empty};
@@ -12,6 +12,7 @@ ghost use Rattle.run_model.specs.Running.{IsReached};
 ghost use Rattle.writepath_top.specs.Replays.{TellsText, Replays, ReplaysFront};
 ghost use Rattle.writepath_top.specs.Telling.{code};
 ghost use Rattle.writepath_top.specs.Outcomes.{observed, RanWhole, DiskFailed, RanToSinkFault, RanOutOfMemory};
+ghost use Rattle.client_script.specs.ReplayLanguage.{replay_grammar, event_words};
 
 use crate::reading::{read_schedule, read_script};
 use crate::telling::{Status, refuse, tell_end, tell_read_error, tell_recovery, tell_replay};
@@ -23,6 +24,7 @@ use schedule_run::replay_schedule;
 use std::alloc::Global;
 use wal_recover::recover;
 use wp_edge::{Clock, Disk, Sink, Source};
+use write_core::CoreOptions;
 
 /// The most bytes of a write group where no word names them.
 const DEFAULT_GROUP_BYTES: u64 = 1_048_576;
@@ -60,6 +62,7 @@ pub struct Ended<D> {
 /// | `--batch-bytes` | `run`, `replay` | 12 to 16777216 | 16777216 | the most bytes of a batch |
 /// | `--group-bytes` | `replay` | 1 to 16777216 | 1048576 | the most bytes of a write group |
 /// | `--last` | `run`, `replay` | 0 to 2^56 - 1 | 0 | the sequence before the first batch |
+/// | `--pipelined` | `replay` | no value | a single stage | the log is handed on before a group is inserted |
 ///
 /// A text has at most 16777216 bytes.
 pub fn run<S: Source, D: Disk + Send, K: Sink, C: Clock + Send + Drop>(
@@ -73,7 +76,7 @@ pub fn run<S: Source, D: Disk + Send, K: Sink, C: Clock + Send + Drop>(
     ensures status { result.status < 8 }
     ensures recovery_status { AskToRecover words.now
         → (result.status ≡ 0) ⊎ (result.status ≡ 3) ⊎ (result.status ≡ 5) ⊎ (result.status ≡ 6) }
-    ensures replay_status { (options : Options) → AskToReplay words.now options
+    ensures replay_status { (options : CoreOptions) → AskToReplay words.now options
         → (result.status ≡ 0) ⊎ (result.status ≡ 2) ⊎ (result.status ≡ 4) ⊎ (result.status ≡ 5) ⊎ (result.status ≡ 6) }
 
     // 1: the words aren't lawful. For lack of memory that isn't found out.
@@ -88,12 +91,12 @@ pub fn run<S: Source, D: Disk + Send, K: Sink, C: Clock + Send + Drop>(
     ensures other_script { (options : Options) → AskToRun words.now options → result.status ≢ 6
         → Stood (S.faults source.old) (S.faults source.new)
         → IfSome (S.left source.old) (λ text. (f : Fault) → script_of run_grammar text ≡ Err f → result.status ≡ 2) }
-    ensures schedule { (options : Options) → AskToReplay words.now options → result.status ≡ 2
-        → IfSome (S.left source.old) (λ text. (f : Fault) × (schedule_of clients_grammar first_event_words text ≡ Err f)
+    ensures schedule { (options : CoreOptions) → AskToReplay words.now options → result.status ≡ 2
+        → IfSome (S.left source.old) (λ text. (f : Fault) × (schedule_of replay_grammar event_words text ≡ Err f)
         × SaysTo (K.taken sink.old) (K.taken sink.new) (script_fault f) (K.faults sink.old) (K.faults sink.new)) }
-    ensures other_schedule { (options : Options) → AskToReplay words.now options → result.status ≢ 6
+    ensures other_schedule { (options : CoreOptions) → AskToReplay words.now options → result.status ≢ 6
         → Stood (S.faults source.old) (S.faults source.new) → IfSome (S.left source.old) (λ text. (f : Fault)
-        → schedule_of clients_grammar first_event_words text ≡ Err f → result.status ≡ 2) }
+        → schedule_of replay_grammar event_words text ≡ Err f → result.status ≡ 2) }
 
     // 0: no device failed in this call. 3 to 5: one did.
     ensures no_fault { result.status ≡ 0 → (S.faults source.new ≡ S.faults source.old)
@@ -111,7 +114,7 @@ pub fn run<S: Source, D: Disk + Send, K: Sink, C: Clock + Send + Drop>(
     // words and a schedule never come to the disk.
     ensures source_untouched { AskNothing words.now ⊎ AskToRecover words.now → source.new ≡ source.old }
     ensures disk_untouched { AskNothing words.now ⊎ (result.status ≡ 2) ⊎ (result.status ≡ 4) → result.disk ≡ disk }
-    ensures disk_unasked { (options : Options) → AskToReplay words.now options → result.disk ≡ disk }
+    ensures disk_unasked { (options : CoreOptions) → AskToReplay words.now options → result.disk ≡ disk }
     ensures disk_as_before { (result.status ≡ 7) ⊎ AskToRecover words.now → D.told result.disk ≡ D.told disk }
 
     // The texts of the refusals, of which a sink that fails takes a prefix.
@@ -141,18 +144,18 @@ pub fn run<S: Source, D: Disk + Send, K: Sink, C: Clock + Send + Drop>(
     ensures read_to_end { (options : Options) → AskToRun words.now options
         → (result.status ≡ 0) ⊎ (result.status ≡ 3) ⊎ (result.status ≡ 5) ⊎ (result.status ≡ 7)
         → IfSome (S.left source.new) (λ left. left ≡ []) }
-    ensures replay_read_to_end { (options : Options) → AskToReplay words.now options
+    ensures replay_read_to_end { (options : CoreOptions) → AskToReplay words.now options
         → (result.status ≡ 0) ⊎ (result.status ≡ 5) → IfSome (S.left source.new) (λ left. left ≡ []) }
 
     // What a schedule comes to on the core is printed: each client's replies, the one history, the map at the published
     // sequence.
-    ensures replayed { (options : Options) → AskToReplay words.now options
+    ensures replayed { (options : CoreOptions) → AskToReplay words.now options
         → TellsText (S.left source.old) (K.taken sink.old) (K.taken sink.new)
         (λ text before after. result.status ≡ 0 → Replays options before after text) }
-    ensures replayed_front { (options : Options) → AskToReplay words.now options
+    ensures replayed_front { (options : CoreOptions) → AskToReplay words.now options
         → TellsText (S.left source.old) (K.taken sink.old) (K.taken sink.new)
         (λ text before after. result.status ≡ 5 → ReplaysFront options before after text) }
-    ensures replay_silent { (options : Options) → AskToReplay words.now options → result.status ≡ 6
+    ensures replay_silent { (options : CoreOptions) → AskToReplay words.now options → result.status ≡ 6
         → K.taken sink.new ≡ K.taken sink.old }
 
     // What the log recovers is printed, whatever its bytes are.
@@ -174,10 +177,10 @@ pub fn run<S: Source, D: Disk + Send, K: Sink, C: Clock + Send + Drop>(
         → script_of run_grammar text ≡ Ok script → length d.content ≡ 0 → (result.status ≡ 0) ⊎ (result.status ≡ 6))) }
     ensures recovers { AskToRecover words.now → Stood (K.faults sink.old) (K.faults sink.new)
         → Stood (D.faults disk) (D.faults result.disk) → (result.status ≡ 0) ⊎ (result.status ≡ 6) }
-    ensures replays { (options : Options) → AskToReplay words.now options
+    ensures replays { (options : CoreOptions) → AskToReplay words.now options
         → Stood (S.faults source.old) (S.faults source.new) → Stood (K.faults sink.old) (K.faults sink.new)
         → IfSome (S.left source.old) (λ text. (schedule : Schedule)
-        → schedule_of clients_grammar first_event_words text ≡ Ok schedule
+        → schedule_of replay_grammar event_words text ≡ Ok schedule
         → (result.status ≡ 0) ⊎ (result.status ≡ 6)) }
 {
     match read_words(alloc, words) {
@@ -195,13 +198,15 @@ pub fn run<S: Source, D: Disk + Send, K: Sink, C: Clock + Send + Drop>(
         },
         Ok(
             Asked::Replay {
+                pipelined,
                 group_bytes,
                 batch_bytes,
                 last,
             },
         ) => match read_schedule(alloc, source) {
             Ok(schedule) => {
-                let options = Options {
+                let options = CoreOptions {
+                    pipelined,
                     group_bytes,
                     batch_bytes,
                     last,

@@ -1,6 +1,8 @@
 -- A word is shifted by four looks at tables, and a chunk of four words is taken in.
-use Rattle.std.proofs.Common.{◌≡◌, ℕ, zero, suc, ◌+◌, ◌*◌, ◌/◌, ◌%◌, ◌^◌, ◌<◌, List, [], ◌∷◌, length, take, drop, get_or, fold, sym, ap, ap₂, ◌∙◌, arith, add_comm, take-append-drop}
+use Rattle.std.proofs.Common.{◌≡◌, ℕ, zero, suc, ◌+◌, ◌*◌, ◌/◌, ◌%◌, ◌^◌, ◌<◌, List, [], ◌∷◌, length, map, take, drop, get_or, fold, refl, sym, ap, ap₂, ◌∙◌, arith, add_comm, take-append-drop}
 use Rattle.std.specs.Simd.{first_chunks}
+use lib.Lanes.{number_l, digits_l}
+use Rattle.std.proofs.lemmas.Simd.{get_or_wider}
 use Rattle.std.proofs.lemmas.List.{drop-drop}
 use Rattle.std.proofs.lemmas.List.Sums.{fold-append}
 use Rattle.std.specs.Int.{w32, from_le_bytes}
@@ -64,23 +66,44 @@ take_in_words r w x y z =
     ∙ xor_assoc (shift 128 s) (bit_xor (shift 96 x) (shift 64 y)) (shift 32 z)
     ∙ xor_comm (shift 128 s) (bit_xor (bit_xor (shift 96 x) (shift 64 y)) (shift 32 z))
 
--- the word of four bytes from a place on
-abbrev pub word_at : List ℕ → ℕ → ℕ
-word_at bytes i = from_le_bytes w32 (get_or bytes i 0 ∷ get_or bytes (i + 1) 0 ∷ get_or bytes (i + 2) 0 ∷ get_or bytes (i + 3) 0 ∷ [])
+-- the words of four bytes each
+abbrev pub words_in : List ℕ → List ℕ
+words_in bytes = map (from_le_bytes w32) (first_chunks 4 4 bytes)
+
+-- one of them
+abbrev pub word_in : List ℕ → ℕ → ℕ
+word_in bytes i = get_or (words_in bytes) i 0
+
+-- four digits by 256 spell a word
+number_l-word : (a b c d : ℕ) → number_l 256 (a ∷ b ∷ c ∷ d ∷ []) ≡ from_le_bytes w32 (a ∷ b ∷ c ∷ d ∷ [])
+number_l-word a b c d = omega arith
+
+-- A number's digits by 2 ^ 32 are the words of its bytes.
+pub digits-words_in : (bytes : List ℕ) → length bytes ≡ 16 → AreBytes bytes
+    → digits_l 4294967296 4 (number_l 256 bytes) ≡ words_in bytes
+digits-words_in (a ∷ b ∷ c ∷ d ∷ e ∷ f ∷ g ∷ h ∷ i ∷ j ∷ k ∷ l ∷ m ∷ n ∷ o ∷ p ∷ []) long are =
+    let bytes : List ℕ = a ∷ b ∷ c ∷ d ∷ e ∷ f ∷ g ∷ h ∷ i ∷ j ∷ k ∷ l ∷ m ∷ n ∷ o ∷ p ∷ [] in
+    let one = get_or_wider 256 4 4294967296 4 bytes 0 refl are (omega arith) ∙ number_l-word a b c d in
+    let two = get_or_wider 256 4 4294967296 4 bytes 1 refl are (omega arith) ∙ number_l-word e f g h in
+    let three = get_or_wider 256 4 4294967296 4 bytes 2 refl are (omega arith) ∙ number_l-word i j k l in
+    let four = get_or_wider 256 4 4294967296 4 bytes 3 refl are (omega arith) ∙ number_l-word m n o p in
+    ap₂ (λ (x : ℕ) (xs : List ℕ). x ∷ xs) one
+    (ap₂ (λ (x : ℕ) (xs : List ℕ). x ∷ xs) two (ap₂ (λ (x : ℕ) (xs : List ℕ). x ∷ xs) three (ap (λ (x : ℕ). x ∷ []) four)))
+digits-words_in bytes long are = absurd (omega (arith, long))
 
 -- Sixteen bytes are taken in as four words.
 pub take_in_sixteen : (r : ℕ) (bytes : List ℕ) → length bytes ≡ 16 → AreBytes bytes
-    → bit_xor (bit_xor (bit_xor (shift 96 (word_at bytes 4)) (shift 64 (word_at bytes 8))) (shift 32 (word_at bytes 12))) (shift 128 (bit_xor r (word_at bytes 0))) ≡ fold take_in_byte r bytes
+    → bit_xor (bit_xor (bit_xor (shift 96 (word_in bytes 1)) (shift 64 (word_in bytes 2))) (shift 32 (word_in bytes 3))) (shift 128 (bit_xor r (word_in bytes 0))) ≡ fold take_in_byte r bytes
 take_in_sixteen r (a ∷ b ∷ c ∷ d ∷ e ∷ f ∷ g ∷ h ∷ i ∷ j ∷ k ∷ l ∷ m ∷ n ∷ o ∷ p ∷ []) long are =
     let bytes : List ℕ = a ∷ b ∷ c ∷ d ∷ e ∷ f ∷ g ∷ h ∷ i ∷ j ∷ k ∷ l ∷ m ∷ n ∷ o ∷ p ∷ [] in
     let one = take_in_four r a b c d (are.0, (are.1.0, (are.1.1.0, (are.1.1.1.0, tt)))) in
     let later = are.1.1.1.1 in
-    let two = take_in_four (shift 32 (bit_xor r (word_at bytes 0))) e f g h (later.0, (later.1.0, (later.1.1.0, (later.1.1.1.0, tt)))) in
+    let two = take_in_four (shift 32 (bit_xor r (word_in bytes 0))) e f g h (later.0, (later.1.0, (later.1.1.0, (later.1.1.1.0, tt)))) in
     let behind = later.1.1.1.1 in
-    let three = take_in_four (shift 32 (bit_xor (shift 32 (bit_xor r (word_at bytes 0))) (word_at bytes 4))) i j k l (behind.0, (behind.1.0, (behind.1.1.0, (behind.1.1.1.0, tt)))) in
+    let three = take_in_four (shift 32 (bit_xor (shift 32 (bit_xor r (word_in bytes 0))) (word_in bytes 1))) i j k l (behind.0, (behind.1.0, (behind.1.1.0, (behind.1.1.1.0, tt)))) in
     let last = behind.1.1.1.1 in
-    let four = take_in_four (shift 32 (bit_xor (shift 32 (bit_xor (shift 32 (bit_xor r (word_at bytes 0))) (word_at bytes 4))) (word_at bytes 8))) m n o p last in
-    sym (take_in_words r (word_at bytes 0) (word_at bytes 4) (word_at bytes 8) (word_at bytes 12))
+    let four = take_in_four (shift 32 (bit_xor (shift 32 (bit_xor (shift 32 (bit_xor r (word_in bytes 0))) (word_in bytes 1))) (word_in bytes 2))) m n o p last in
+    sym (take_in_words r (word_in bytes 0) (word_in bytes 1) (word_in bytes 2) (word_in bytes 3))
     ∙ sym (ap (λ x. fold take_in_byte x (e ∷ f ∷ g ∷ h ∷ i ∷ j ∷ k ∷ l ∷ m ∷ n ∷ o ∷ p ∷ [])) one
     ∙ ap (λ x. fold take_in_byte x (i ∷ j ∷ k ∷ l ∷ m ∷ n ∷ o ∷ p ∷ [])) two
     ∙ ap (λ x. fold take_in_byte x (m ∷ n ∷ o ∷ p ∷ [])) three

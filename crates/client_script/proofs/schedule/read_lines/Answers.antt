@@ -1,13 +1,14 @@
 use Rattle.std.proofs.Common.{arith, sym, Ok, [], ◌==◌, option_copied}
 use Rattle.std.specs.List.{slice_split}
-use Rattle.core_model.specs.Schedule.{clients_grammar, first_event_words, in_script}
+use Rattle.core_model.specs.Schedule.{in_script}
 use Rattle.client_script.specs.ScriptWords.{parts_of}
 use Rattle.client_script.proofs.ScheduleReading.{fold_after_line-without_empty_end, first_fault}
 use Rattle.client_script.proofs.schedule.read_lines.Goals as goal
+use Rattle.client_script.specs.ReplayLanguage.{replay_grammar, event_words}
 
 pub loop-rest-init : goal.loop-rest-init
 loop-rest-init c = record {
-  goes_on = rw c.new.ensures.items (sym (fold_after_line-without_empty_end clients_grammar first_event_words (Ok (in_script [])) 1 (slice_split (λ b. b == 10) c.args.text.now)));
+  goes_on = rw c.new.ensures.items (sym (fold_after_line-without_empty_end replay_grammar event_words (Ok (in_script [])) 1 (slice_split (λ b. b == 10) c.args.text.now)));
   counted = omega arith;
   few = rw c.new.ensures.items (omega arith);
   small = rw c.new.ensures.items (omega arith);

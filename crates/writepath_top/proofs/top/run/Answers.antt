@@ -2,6 +2,7 @@
 use Rattle.client_script.specs.Scripts.{commands_of}
 use Rattle.run_model.specs.Crashes.{IsImageSince}
 use Rattle.client_calls.specs.declared.options.Options.{Options}
+use Rattle.write_core.specs.declared.state.CoreOptions.{CoreOptions}
 use Rattle.command_line.specs.Meaning.{asked_of}
 use Rattle.writepath_top.specs.Asking.{default_group_bytes}
 use Rattle.writepath_top.proofs.Asked.{of_run, of_replay}
@@ -85,8 +86,8 @@ returns-in-Ok-Recover-clause-recovery_refused g c = λ asked.
 
 pub returns-in-Ok-read_schedule-clause-replayed_front : goal.returns-in-Ok-read_schedule-clause-replayed_front
 returns-in-Ok-read_schedule-clause-replayed_front g c = λ wanted asked.
-    let options : Options = record { group_bytes = c.in-Ok-Replay.group_bytes; batch_bytes = c.in-Ok-Replay.batch_bytes; last = c.in-Ok-Replay.last } in
-    let same = of_replay (asked_of c.args.words.now) c.in-Ok-Replay.group_bytes c.in-Ok-Replay.batch_bytes c.in-Ok-Replay.last wanted (rw c.in-Ok-Replay.field-0-is at c.in-Ok-Replay.ensures.ok) asked in
+    let options : CoreOptions = record { pipelined = c.in-Ok-Replay.pipelined; group_bytes = c.in-Ok-Replay.group_bytes; batch_bytes = c.in-Ok-Replay.batch_bytes; last = c.in-Ok-Replay.last } in
+    let same = of_replay (asked_of c.args.words.now) c.in-Ok-Replay.pipelined c.in-Ok-Replay.group_bytes c.in-Ok-Replay.batch_bytes c.in-Ok-Replay.last wanted (rw c.in-Ok-Replay.field-0-is at c.in-Ok-Replay.ensures.ok) asked in
     rw same (replays_front options (schedule_of c.in-Ok-read_schedule.schedule) c.replay_schedule-replayed.result (g.K.Sink.faults c.args.sink.now) (g.K.Sink.faults c.tell_replay.new.sink)
     c.end_with-in-Ok-read_schedule.result.status c.tell_replay.result (g.S.Source.left c.args.source.now) (g.K.Sink.taken c.args.sink.now) (g.K.Sink.taken c.tell_replay.new.sink)
     c.end_with-in-Ok-read_schedule.ensures.status c.in-Ok-read_schedule.ensures.schedule.said c.replay_schedule-replayed.ensures c.tell_replay.ensures)

@@ -1,0 +1,16 @@
+use Rattle.std.proofs.Common.{◌≡◌, ◌++◌, true, option_copied}
+use Rattle.std.specs.List.{AllByRecursion, list_all}
+use Rattle.wp_model.specs.Script.{is_word}
+use Rattle.client_script.specs.Scripts.{IsShort}
+use Rattle.client_script.specs.ScriptWords.{parts_of, len_behind}
+use Rattle.client_script.proofs.lines.read_all_words.Given as goal
+
+abbrev pub invariant-loop-left : goal.invariant-loop-left
+invariant-loop-left l = record {
+  all : parts_of 32 (option_copied l.fn.rest) ≡ l.words.items ++ parts_of 32 (option_copied l.left);
+  are_words : list_all is_word l.words.items ≡ true;
+  short : AllByRecursion IsShort l.words.items;
+}
+
+abbrev pub decreases-loop-left : goal.decreases-loop-left
+decreases-loop-left l = len_behind (option_copied l.left)

@@ -1,0 +1,4 @@
+pub mod Drawn
+pub mod Said
+pub mod Sizes
+pub mod Values
