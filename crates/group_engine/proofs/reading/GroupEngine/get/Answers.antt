@@ -1,10 +1,10 @@
 use Rattle.std.proofs.Common.{rules, ◌≡◌, ◌≤◌, ◌<◌, ◌+◌, ℕ, List, [], ◌∷◌, ◌++◌, Result, Ok, Err, IfOk, refl, sym, ap, ◌∙◌, subst, arith}
 use Rattle.table_rule.specs.Histories.{last_of}
-use Rattle.group_engine.proofs.engine.GroupEngine.scan.Goals as goal
+use Rattle.group_engine.proofs.reading.GroupEngine.get.Goals as goal
 use Rattle.group_engine.proofs.Answered.{if_both}
 
 pub returns-clause-belongs : goal.returns-clause-belongs
-returns-clause-belongs g c = let S = c.requires.seated in let R = c.scan.ensures in record {
+returns-clause-belongs g c = let S = c.requires.seated in let R = c.read.ensures in record {
   seated = record {
     is_engine = S.is_engine;
     writer = S.writer;
@@ -24,10 +24,10 @@ returns-clause-keeps g c = record {
   mine = refl;
   asked = refl;
   attempts = refl;
-  seen = record { start = refl; published = c.scan.ensures.seen.seen; controller_calls = ([], refl) };
+  seen = record { start = refl; published = c.read.ensures.seen.seen; controller_calls = ([], refl) };
 }
 
 pub returns-clause-ok : goal.returns-clause-ok
 returns-clause-ok g c =
-    let seen = (g.T.Table.account c.scan.new.seat).seen in
-    if_both c.scan.result (λ read at value. record { at_is = subst (λ (n : ℕ). read.at ≡ last_of n seen) (sym c.requires.seated.start) at; answer = value }) c.scan.ensures.at c.scan.ensures.rows
+    let seen = (g.T.Table.account c.read.new.seat).seen in
+    if_both c.read.result (λ read at value. record { at_is = subst (λ (n : ℕ). read.at ≡ last_of n seen) (sym c.requires.seated.start) at; answer = value }) c.read.ensures.at c.read.ensures.value
