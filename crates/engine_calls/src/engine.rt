@@ -78,7 +78,7 @@ pub trait Engine {
         ensures back { IfOk result (λ r. (r.batch ≡ record batch { sequence = r.first })
             × (r.count ≡ model.count_of batch.records)) }
         // a batch that was to be synced was written by a call of the log writer that synced
-        ensures synced { IfOk result (λ r. options.sync ≡ true → (calls : List GroupCall) × (log : Log)
+        ensures synced { IfOk result (λ r. options.sync ≡ true → (calls : List GroupCall) × (log : Self.Log)
             × wrote self.now calls log × HaveSynced r.first batch.records calls) }
         ensures err { IfErr result (λ e. Refuses (settings self.now) (account client.old) batch.records options e.why
             (account client.new)) }
