@@ -7,7 +7,7 @@ use Rattle.group_engine.specs.declared.requests.Request.{Request}
 use Rattle.group_engine.specs.declared.requests.Reply.{Reply}
 use Rattle.engine_calls.specs.declared.answers.Receipt.{Receipt}
 use Rattle.engine_calls.specs.declared.answers.Refused.{Refused}
-use Rattle.group_engine.proofs.writing.GroupEngine.write.Goals as goal
+use Rattle.group_engine.proofs.engine.GroupEngine.write.Goals as goal
 use Rattle.account_model.specs.Accounts.{Account, Refuses, Wrote}
 use Rattle.group_engine.specs.Clients.{account_in, own_commits, settings_of}
 use Rattle.group_engine.specs.Handled.{AreHandled, ComesBack}

@@ -1,6 +1,6 @@
 use Rattle.std.proofs.Common.{◌≡◌, ℕ}
 use Rattle.table_rule.specs.Histories.{Begins}
-use Rattle.group_engine.proofs.writing.GroupEngine.await_seen.Given as goal
+use Rattle.group_engine.proofs.engine.GroupEngine.await_seen.Given as goal
 use Rattle.group_engine.specs.Clients.{IsClientOf}
 
 abbrev pub invariant-loop : goal.invariant-loop

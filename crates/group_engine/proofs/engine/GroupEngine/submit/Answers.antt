@@ -7,7 +7,7 @@ use Rattle.list_rule.specs.Rule.{logs_from, hold}
 use Rattle.writer_list.specs.Seats.{told, told_in_first, IsOut, IsIn, IsChosen, about_of, start_of}
 use Rattle.group_engine.specs.declared.requests.Request.{Request}
 use Rattle.group_engine.specs.declared.requests.Reply.{Reply}
-use Rattle.group_engine.proofs.writing.GroupEngine.submit.Goals as goal
+use Rattle.group_engine.proofs.engine.GroupEngine.submit.Goals as goal
 use Rattle.group_engine.specs.Handled.{AreHandled}
 use Rattle.group_engine.specs.Law.{StandsFor}
 use Rattle.group_engine.proofs.Leads.{as_done, as_leader, linked_told, stands_as}

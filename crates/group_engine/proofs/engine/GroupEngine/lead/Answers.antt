@@ -10,7 +10,7 @@ use Rattle.writer_list.specs.Seats.{told, told_in_first, clients_of}
 use Rattle.group_engine.specs.declared.requests.Request.{Request}
 use Rattle.group_engine.specs.declared.requests.Reply.{Reply}
 use Rattle.list_rule.specs.declared.view.Stage.TheVariants.{Fresh}
-use Rattle.group_engine.proofs.writing.GroupEngine.lead.Goals as goal
+use Rattle.group_engine.proofs.engine.GroupEngine.lead.Goals as goal
 use Rattle.group_engine.specs.Clients.{IsAnswered}
 use Rattle.group_engine.specs.Handled.{AreHandled, HandsBack, InOrder, handled_with}
 use Rattle.group_engine.specs.Law.{StandsFor}
