@@ -3,6 +3,7 @@ pub mod Plans
 pub mod OneGroup
 pub mod Reaching
 pub mod Own
+pub mod Synced
 pub mod Steps
 pub mod Leaders
 pub mod Closing

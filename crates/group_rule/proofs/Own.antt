@@ -83,7 +83,7 @@ all_live : (cs : List Commit) → fault_after_all None cs ≡ None → AllByRecu
 all_live [] e = tt
 all_live (c ∷ cs) e = let t = live_by (place_of c) cs c.answer e in (t.0, all_live cs t.1)
 
-all_filter : {A : Type 0} (P : A → Type 0) (p : A → Bool) (xs : List A) → AllByRecursion P xs → AllByRecursion P (filter p xs)
+pub all_filter : {A : Type 0} (P : A → Type 0) (p : A → Bool) (xs : List A) → AllByRecursion P xs → AllByRecursion P (filter p xs)
 all_filter P p [] h = tt
 all_filter P p (x ∷ xs) h = by (p x) (all_filter P p xs h.1)
   where
@@ -142,8 +142,7 @@ handled_as old c v is = handled_more old c ∙ ap (λ w. map attempt_of old ++ r
 mine_same : (k : ℕ) (old : List Commit) (c : Commit) (v : Answer) → c.answer ≡ v → entry_with k (mine_after k [] old) c v ≡ [] → mine_after k [] (old ++ c ∷ []) ≡ mine_after k [] old
 mine_same k old c v is none = mine_more k [] old c ∙ (ap (λ w. mine_after k [] old ++ entry_with k (mine_after k [] old) c w) is ∙ (ap (λ es. mine_after k [] old ++ es) none ∙ append-nil (mine_after k [] old)))
 
-module _ (start k : ℕ) (cs old : List Commit) (c : Commit) (right : AreAnswered start None cs) (is : commits_of k cs ≡ old ++ c ∷ []) (before after : List (List MemberVersions)) (sees : Begins before after)
-    (known now : List ControllerCall) (more : SeesMore k known now) where
+module _ (start k : ℕ) (old : List Commit) (c : Commit) (before after : List (List MemberVersions)) (sees : Begins before after) (known now : List ControllerCall) (more : SeesMore k known now) where
   abbrev was : Account
   was = account_of start k old before known
 
@@ -152,23 +151,6 @@ module _ (start k : ℕ) (cs old : List Commit) (c : Commit) (right : AreAnswere
 
   saw : Sees was.seen becomes.seen
   saw = record { start = refl; published = sees; controller_calls = more.begins }
-
-  pub wrote : (settings : Settings) (first end : ℕ) → c.answer ≡ accepted first end → early_refusal settings.batch_bytes (holds_stop (tokens_of k known)) c.records c.options ≡ None → end ≤ last_of_groups start after
-      → Wrote settings was c.records c.options first end becomes
-  wrote settings first end given_is passed reached =
-      let v = subst (IsAnswer (last_after_all start (at start k cs old c right is).front) (fault_after_all None (at start k cs old c right is).front) (count_of c.records)) given_is (answer start k cs old c right is).1 in
-      record {
-        number = refl;
-        mine = mine_more k [] old c ∙ ap (λ w. mine_after k [] old ++ entry_with k (mine_after k [] old) c w) given_is;
-        asked = more.tokens;
-        attempts = handled_as old c (accepted first end) given_is;
-        seen = saw;
-        some = v.1;
-        passed = passed;
-        alive = is_alive start k cs old c right is v.0;
-        within = (let a = v.2 in let b = v.4 in omega (arith, a, b));
-        reached = reached;
-      }
 
   pub refused_held_up : (numbers : Look) (by moment bytes : ℕ) → c.answer ≡ held_up numbers → c.options.no_slowdown ≡ true → HoldUp numbers
       → IsLater now (length known) (place_of c) (record { client = by; action = delay moment bytes; told = Some numbers })
@@ -194,18 +176,36 @@ module _ (start k : ℕ) (cs old : List Commit) (c : Commit) (right : AreAnswere
     seen = saw;
   }
 
-  pub refused_full : (l : ℕ) → c.answer ≡ no_room l → IsRefused was c.records c.options (no.SequenceFull l) becomes
-  refused_full l full_is =
-      let v = subst (IsAnswer (last_after_all start (at start k cs old c right is).front) (fault_after_all None (at start k cs old c right is).front) (count_of c.records)) full_is (answer start k cs old c right is).1 in
-      record {
-        status = Some (full l);
-        may = (refl, is_alive start k cs old c right is v.0, subst (AreUpTo (mine_after k [] old)) (sym v.1) (are_up_to start k cs old c right is), subst (λ m. max_sequence < m + count_of c.records) (sym v.1) v.2);
-        number = refl;
-        mine = mine_same k old c (no_room l) full_is refl;
-        asked = more.tokens;
-        attempts = handled_as old c (no_room l) full_is;
-        seen = saw;
-      }
+  module _ (cs : List Commit) (right : AreAnswered start None cs) (is : commits_of k cs ≡ old ++ c ∷ []) where
+    pub wrote : (settings : Settings) (first end : ℕ) → c.answer ≡ accepted first end → early_refusal settings.batch_bytes (holds_stop (tokens_of k known)) c.records c.options ≡ None → end ≤ last_of_groups start after
+        → Wrote settings was c.records c.options first end becomes
+    wrote settings first end given_is passed reached =
+        let v = subst (IsAnswer (last_after_all start (at start k cs old c right is).front) (fault_after_all None (at start k cs old c right is).front) (count_of c.records)) given_is (answer start k cs old c right is).1 in
+        record {
+          number = refl;
+          mine = mine_more k [] old c ∙ ap (λ w. mine_after k [] old ++ entry_with k (mine_after k [] old) c w) given_is;
+          asked = more.tokens;
+          attempts = handled_as old c (accepted first end) given_is;
+          seen = saw;
+          some = v.1;
+          passed = passed;
+          alive = is_alive start k cs old c right is v.0;
+          within = (let a = v.2 in let b = v.4 in omega (arith, a, b));
+          reached = reached;
+        }
+
+    pub refused_full : (l : ℕ) → c.answer ≡ no_room l → IsRefused was c.records c.options (no.SequenceFull l) becomes
+    refused_full l full_is =
+        let v = subst (IsAnswer (last_after_all start (at start k cs old c right is).front) (fault_after_all None (at start k cs old c right is).front) (count_of c.records)) full_is (answer start k cs old c right is).1 in
+        record {
+          status = Some (full l);
+          may = (refl, is_alive start k cs old c right is v.0, subst (AreUpTo (mine_after k [] old)) (sym v.1) (are_up_to start k cs old c right is), subst (λ m. max_sequence < m + count_of c.records) (sym v.1) v.2);
+          number = refl;
+          mine = mine_same k old c (no_room l) full_is refl;
+          asked = more.tokens;
+          attempts = handled_as old c (no_room l) full_is;
+          seen = saw;
+        }
 
 -- who looked itself made no commit of it
 pub refused_looked : (start k : ℕ) (own : List Commit) (records : List Record) (how : WriteOptions) (before after : List (List MemberVersions)) (known now : List ControllerCall) (numbers : Look) → Begins before after

@@ -1,7 +1,7 @@
 //! What follows of the commits: for each client at its newest answer, and for all clients at the closing.
 
 ghost use mathlib.Core.List.{IsPrefix};
-ghost use Rattle.std.specs.Prelude.{◌≡◌, ◌+◌, ◌≤◌, ℕ, List, [], ◌∷◌, ◌++◌, length, Option, None, Some, true, slice_get, IfSome, ⊤};
+ghost use Rattle.std.specs.Prelude.{◌≡◌, ◌+◌, ◌≤◌, ℕ, List, [], ◌∷◌, ◌++◌, length, Option, None, Some, true, false, slice_get, IfSome, ⊤};
 ghost use Rattle.wp_model.specs.declared.write.Refusal.TheVariants.{Incomplete, LogFault, SequenceFull};
 ghost use Rattle.wp_model.specs.declared.write.WriteOptions.{WriteOptions};
 ghost use Rattle.wp_model.specs.History.{max_sequence};
@@ -18,11 +18,12 @@ ghost use Rattle.table_rule.specs.declared.content.MemberVersions.{MemberVersion
 ghost use Rattle.table_rule.specs.Histories.{Begins, made_by, last_of};
 ghost use Rattle.account_model.specs.Accounts.{Account, Wrote, IsRefused};
 ghost use Rattle.account_model.specs.Closing.{all_attempts, IsClosing};
-ghost use Rattle.account_model.specs.Written.{WritesLog};
+ghost use Rattle.account_model.specs.Written.{WritesLog, HaveSynced};
 ghost use Rattle.write_controller.specs.Passes.{EndsWith};
 ghost use Rattle.group_rule.specs.Commits.{Commit, accepted, held_up, failed, no_room, last_after_all, AreAnswered, commits_of};
 ghost use Rattle.group_rule.specs.Asked.{place_of};
-ghost use Rattle.group_rule.specs.Entries.{trace_of, versions_made, account_of, HasPart, SeesMore, AreCallsOf};
+ghost use Rattle.group_rule.specs.Entries.{trace_of, entries_of, versions_made, account_of, HasPart, SeesMore, AreCallsOf};
+ghost use Rattle.group_rule.specs.LogCalls.{WroteParts};
 ghost use Rattle.group_rule.specs.Consistent.{AreConsistent};
 
 /// The commits' versions reach from the sequence before the first up to the one given last, which isn't above the
@@ -46,20 +47,18 @@ pub fn accounts_of_the_commits()
         → group_last ≤ last_of start after
         → Wrote settings (account_of start client own before known) c.records c.options first group_last
         (account_of start client (own ++ c ∷ []) after now) }
-    ensures held_up { (start client : ℕ) (commits own : List Commit) (c : Commit)
+    // where writes are held up, or the log failed, the answer alone says so
+    ensures held_up { (start client : ℕ) (own : List Commit) (c : Commit)
         (before after : List (List MemberVersions)) (known now : List ControllerCall) (numbers : Look)
-        (by moment bytes : ℕ) → AreAnswered start None commits
-        → commits_of client commits ≡ own ++ c ∷ [] → Begins before after → SeesMore client known now
+        (by moment bytes : ℕ) → Begins before after → SeesMore client known now
         → c.answer ≡ held_up numbers → c.options.no_slowdown ≡ true → HoldUp numbers
         → IsLater now (length known) (place_of c)
         (record { client = by; action = delay moment bytes; told = Some numbers })
         → IsRefused (account_of start client own before known) c.records c.options
         (Incomplete numbers.stops numbers.delays numbers.wait) (account_of start client (own ++ c ∷ []) after now) }
-    ensures failed { (start client : ℕ) (commits own : List Commit) (c : Commit)
+    ensures failed { (start client : ℕ) (own : List Commit) (c : Commit)
         (before after : List (List MemberVersions)) (known now : List ControllerCall) (count : ℕ)
-        → AreAnswered start None commits
-        → commits_of client commits ≡ own ++ c ∷ [] → Begins before after → SeesMore client known now
-        → c.answer ≡ failed count
+        → Begins before after → SeesMore client known now → c.answer ≡ failed count
         → IsRefused (account_of start client own before known) c.records c.options (LogFault count)
         (account_of start client (own ++ c ∷ []) after now) }
     ensures full { (start client : ℕ) (commits own : List Commit) (c : Commit)
@@ -76,6 +75,14 @@ pub fn accounts_of_the_commits()
         → HoldUp numbers
         → IsRefused (account_of start client own before known) records how
         (Incomplete numbers.stops numbers.delays numbers.wait) (account_of start client own after now) }
+{}
+
+/// A commit that was to be synced, and has a run, was written by a call that synced.
+pub fn synced_commits()
+    ensures synced { (start client : ℕ) (commits own : List Commit) (c : Commit) (calls : List GroupCall)
+        (first group_last : ℕ) → AreAnswered start None commits → WroteParts (entries_of commits) calls
+        → commits_of client commits ≡ own ++ c ∷ [] → c.answer ≡ accepted first group_last
+        → c.options.sync ≡ true → c.options.no_log ≡ false → HaveSynced first c.records calls }
 {}
 
 /// Once all clients are at rest, their accounts are parts of the one trace of the commits and of the controller's one

@@ -220,5 +220,6 @@ module _ (id c : ℕ) (seen : List Call) (a : Action) (may : MayCall a (asked_in
           view = ap (λ l. client_view c (l ++ call c a ∷ [])) (sym mine.begins);
           others = all_map (IsOfOthers (Client c)) (λ (k : Call). k.client ≢ c) (λ k h. not_that_client k.client c h) mine.rest mine.behind;
           numbers = r.numbers ∙ ap numbers_at (sym mine.begins);
+          own_stop = λ holds. subst (λ b. weight b ≤ x.stops) holds stop;
         },
       )

@@ -83,6 +83,7 @@ follows_makes v w u a x f m =
       view = m.view ∙ (λ i. client_view (client i) (all i ++ call (client i) a ∷ []));
       others = all_append (λ (k : Call). k.client ≢ client_in v) f.between m.between f.others (subst (λ c. AreNotOf c m.between) client m.others);
       numbers = m.numbers ∙ ap numbers_at all;
+      own_stop = λ holds. m.own_stop (ap holds_stop (follows_asked v w f) ∙ holds);
     }
 
 module _ (a : Action) (v : List Observer) (x : Numbers) (w : List Observer) (m : Makes a v x w) where

@@ -189,6 +189,8 @@ pub record Makes (action : Action) (v : List Observer) (x : Numbers) (w : List O
   pub view : w ≡ client_view (client_in v) ((seen_in v ++ between) ++ call (client_in v) action ∷ [])
   pub others : AreNotOf (client_in v) between
   pub numbers : numbers_of x ≡ numbers_at (seen_in v ++ between)
+  -- a stop token of its own is among the stops
+  pub own_stop : holds_stop (asked_in (client_in v) (seen_in v)) ≡ true → 1 ≤ x.stops
 
 -- an exchange makes the call where it finds what was found before, also where the call changes no number
 pub record Exchanges (action : Action) (found : Numbers) (v : List Observer) (x : Numbers) (w : List Observer) : Type 0

@@ -1,10 +1,12 @@
 //! The calls of who writes, and how what one pass has seen comes to another.
 
-ghost use Rattle.std.specs.Prelude.{◌≡◌, ℕ, Some, IfSome};
+ghost use Rattle.std.specs.Prelude.{◌≡◌, ◌≤◌, ℕ, true, Some, IfSome};
 ghost use mathlib.Core.List.{IsPrefix};
 ghost use Rattle.wp_model.specs.Controller.{delay, look};
+ghost use Rattle.wp_model.specs.Tokens.{holds_stop};
 ghost use Rattle.write_controller.specs.Looks.{look_of};
-ghost use Rattle.write_controller.specs.Passes.{client_of, seen_by, noted, IsPassOf, IsNoteOf, GoesOn, EndsWith};
+ghost use Rattle.write_controller.specs.Passes.{client_of, seen_by, asked_by, noted};
+ghost use Rattle.write_controller.specs.Passes.{IsPassOf, IsNoteOf, GoesOn, EndsWith};
 
 use crate::controller::Controller;
 use crate::look::Look;
@@ -27,12 +29,13 @@ impl<C: Clock> Controller<C> {
         self.call(rt, &mut pass.seat, Action::Delay { now, bytes })
     }
 
-    /// Reads how many clients stop and slow writes.
+    /// Reads how many clients stop and slow writes. A client that stops them itself is among these.
     pub fn look<R: Wait>(&self, rt: &R, pass: &mut Pass) -> Look
         requires own { IsPassOf self.now pass.old }
         ensures own { IsPassOf self.now pass.new × (client_of pass.new ≡ client_of pass.old) }
         ensures asked { EndsWith (client_of pass.old) (seen_by pass.old) look (Some (look_of result))
             (seen_by pass.new) }
+        ensures stopped { holds_stop (asked_by pass.old) ≡ true → 1 ≤ (look_of result).stops }
     {
         let found = self.cell.load_as::<Looking, R>(rt, &mut pass.seat);
         Look::new(found.stops, found.delays, 0)

@@ -1,5 +1,6 @@
-use Rattle.std.proofs.Common.{rules, sym, ◌∙◌}
+use Rattle.std.proofs.Common.{◌≤◌, rules, sym, ◌∙◌, subst}
 use Rattle.crossbeam_utils.specs.Seq.{cell_view}
+use Rattle.wp_model.specs.Controller as controller
 use Rattle.wp_model.specs.Controller.{look}
 use Rattle.write_controller.specs.Rule.{seen_in, history_of}
 use Rattle.write_controller.specs.Looks.{look_of, look_at}
@@ -33,3 +34,6 @@ returns-clause-asked g c =
     let old = c.args.pass.now in
     let told = c.load_as-found.ensures in
     ends_told (client_of old) (seen_by old) look (look_at (numbers_of c.load_as-found.result) look) (look_of c.new.result) (history_of (seen_in (cell_view c.load_as-found.new.pass))) c.new.ensures (made_ends _ _ _ _ told.rule)
+
+pub returns-clause-stopped : goal.returns-clause-stopped
+returns-clause-stopped g c = λ holds. subst (λ (l : controller.Look). 1 ≤ l.stops) (sym c.new.ensures) (c.load_as-found.ensures.rule.own_stop holds)
