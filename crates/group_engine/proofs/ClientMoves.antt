@@ -13,14 +13,16 @@ use Rattle.table_calls.specs.Account.{Account as TableAccount, Learns}
 use Rattle.account_model.specs.Accounts.{Keeps, Asks, GivesBack}
 use Rattle.write_controller.specs.declared.pass.Pass.{Pass}
 use Rattle.write_controller.specs.Delays.{delays_of, place_if}
-use Rattle.write_controller.specs.Passes.{IsPassOf, EndsWith, GivesBack as GivesBackIn, asked_by, seen_by, token_in, client_of as pass_client}
-use Rattle.write_controller.proofs.Account.{ends_begins, ends_tokens, ends_last}
-use Rattle.write_controller.proofs.Places.{ends_delays}
+use Rattle.write_controller.specs.Passes.{IsPassOf, EndsWith, GoesOn, GivesBack as GivesBackIn, asked_by, seen_by, token_in, client_of as pass_client}
+use Rattle.write_controller.proofs.Account.{ends_begins, ends_tokens, ends_last, goes_begins, goes_tokens}
+use Rattle.write_controller.proofs.Places.{ends_delays, goes_delays}
 use Rattle.group_rule.specs.Asked.{HasAsked, place_of}
 use Rattle.group_rule.specs.Commits.{Commit}
+use Rattle.group_rule.specs.Entries.{SeesMore}
 use Rattle.group_engine.specs.declared.engine.GroupEngine.{GroupEngine}
 use Rattle.group_engine.specs.declared.engine.Client.{Client}
 use Rattle.group_engine.specs.Clients.{IsClientOf, account_in, own_commits, told_of}
+use Rattle.group_engine.proofs.Answered.{begins_self}
 
 pub if_both : {A B : Type 0} {P Q W : A → Type 0} (r : Result A B) → ((x : A) → P x → Q x → W x) → IfOk r P → IfOk r Q → IfOk r W
 if_both (Ok x) f p q = f x p q
@@ -33,9 +35,6 @@ on_ok (Err e) f p = tt
 pub on_err : {A B : Type 0} {P Q : Type 0} (r : Result A B) → (P → Q) → OnErr r P → OnErr r Q
 on_err (Ok x) f p = tt
 on_err (Err e) f p = f p
-
-begins_self : {A : Type 0} (xs : List A) → Begins xs xs
-begins_self xs = ([], sym (append-nil xs))
 
 -- where a client ends its calls, what it had seen begins what it has seen then, and it asked for no delay
 back_begins : (b : Bool) (client : ℕ) (seen : List ControllerCall) (action : Action) (after : List ControllerCall) → GivesBackIn b client seen action after → IsPrefix seen after
@@ -108,13 +107,16 @@ module _ {D T C G S U P : Type 0} {ghosts : Ghosts D} (opening : T → Opening) 
     seen = record { start = refl; published = begins_self (account c.seat).seen; controller_calls = subst (IsPrefix (seen_by c.pass)) (sym same) (prefix_self (seen_by c.pass)) };
   }
 
+  -- it made a call that is no delay
+  pub no_delays : (pass : Pass) (action : Action) (told : Option Look) → EndsWith (pass_client c.pass) (seen_by c.pass) action told (seen_by pass) → is_delay action ≡ false → delays_of c.number (seen_by pass) ≡ delays_of c.number (seen_by c.pass)
+  no_delays pass action told ends still =
+      let own = subst (λ (k : ℕ). EndsWith k (seen_by c.pass) action told (seen_by pass)) fits.seated.pass_number ends in
+      ends_delays c.number (seen_by c.pass) action told (seen_by pass) own ∙ (ap (λ (b : Bool). delays_of c.number (seen_by c.pass) ++ place_if b (length (seen_by pass) - 1)) still ∙ append-nil (delays_of c.number (seen_by c.pass)))
+
   -- it took a token or gave one back
   module _ (pass : Pass) (action : Action) (ends : EndsWith (pass_client c.pass) (seen_by c.pass) action None (seen_by pass)) where
     ends_own : EndsWith c.number (seen_by c.pass) action None (seen_by pass)
     ends_own = subst (λ (k : ℕ). EndsWith k (seen_by c.pass) action None (seen_by pass)) fits.seated.pass_number ends
-
-    pub no_delays : is_delay action ≡ false → delays_of c.number (seen_by pass) ≡ delays_of c.number (seen_by c.pass)
-    no_delays still = ends_delays c.number (seen_by c.pass) action None (seen_by pass) ends_own ∙ (ap (λ (b : Bool). delays_of c.number (seen_by c.pass) ++ place_if b (length (seen_by pass) - 1)) still ∙ append-nil (delays_of c.number (seen_by c.pass)))
 
     pub pass_asks : token_in action ≡ action ∷ [] → Asks (account_in opening ours account c) action (account_in opening ours account (record c { pass = pass }))
     pass_asks is =
@@ -141,7 +143,7 @@ module _ {D T C G S U P : Type 0} {ghosts : Ghosts D} (opening : T → Opening) 
   pub token_delays : {A B : Type 0} (P Q : Type 0) (r : Result A B) (pass : Pass) (action : Action) → is_delay action ≡ false
       → OnOk r (P × EndsWith (pass_client c.pass) (seen_by c.pass) action None (seen_by pass)) → OnErr r (Q × (seen_by pass ≡ seen_by c.pass))
       → delays_of c.number (seen_by pass) ≡ delays_of c.number (seen_by c.pass)
-  token_delays P Q (Ok x) pass action still done held = no_delays pass action done.1 still
+  token_delays P Q (Ok x) pass action still done held = no_delays pass action None done.1 still
   token_delays P Q (Err x) pass action still done held = ap (delays_of c.number) held.1
 
   -- it gave back what it held
@@ -165,3 +167,14 @@ module _ {D T C G S U P : Type 0} {ghosts : Ghosts D} (opening : T → Opening) 
         controller_calls = prefix_trans (seen_by c.pass) middle (seen_by pass) (back_begins a (pass_client c.pass) (seen_by c.pass) unstop middle first) (back_begins b (pass_client c.pass) middle unslow (seen_by pass) second);
       };
     }
+
+  -- its pass has seen more of others' calls
+  module _ (pass : Pass) (goes : GoesOn (pass_client c.pass) (seen_by c.pass) (seen_by pass)) where
+    goes_own : GoesOn c.number (seen_by c.pass) (seen_by pass)
+    goes_own = subst (λ (k : ℕ). GoesOn k (seen_by c.pass) (seen_by pass)) fits.seated.pass_number goes
+
+    pub learn_moved : IsPassOf e.controller pass → pass_client pass ≡ pass_client c.pass → IsClientOf opening ours account e (record c { pass = pass })
+    learn_moved own same = pass_moved pass own same (goes_delays c.number (seen_by c.pass) (seen_by pass) goes_own)
+
+    pub learn_sees : SeesMore c.number (seen_by c.pass) (seen_by pass)
+    learn_sees = record { begins = goes_begins c.number (seen_by c.pass) (seen_by pass) goes_own; tokens = goes_tokens c.number (seen_by c.pass) (seen_by pass) goes_own }
