@@ -47,17 +47,14 @@ all_front P (x ∷ xs) ys h = (h.0, all_front P xs ys h.1)
 
 -- What the list's law is about, and what its leaders keep
 module _ {D T C S U P : Type 0} {ghosts : Ghosts D} where
-  abbrev pub List_ : Type 0
-  List_ = WriterList Request Reply (Held D T C S U P ghosts) NoRight (About D T C ghosts)
-
-  abbrev pub kept_in : List_ → List (Handling Request Reply) → Type 0
+  abbrev pub kept_in : WriterList Request Reply (Held D T C S U P ghosts) NoRight (About D T C ghosts) → List (Handling Request Reply) → Type 0
   kept_in list = AreHandled (about_of list).controller.value (about_of list).opened.value (about_of list).start
 
-  abbrev pub law_in : (T → U → Type 0) → (U → List (List MemberVersions)) → List_ → Held D T C S U P ghosts → List (Handling Request Reply) → Type 0
+  abbrev pub law_in : (T → U → Type 0) → (U → List (List MemberVersions)) → WriterList Request Reply (Held D T C S U P ghosts) NoRight (About D T C ghosts) → Held D T C S U P ghosts → List (Handling Request Reply) → Type 0
   law_in our_turn history list = logs_from (λ l hs. HeldStandsFor our_turn history (about_of list) l hs) (kept_in list) (λ l. l.path.last) run (start_of list)
 
   -- what is asked of a request and its code
-  abbrev pub wanted_in : List_ → Request → ℕ → Type 0
+  abbrev pub wanted_in : WriterList Request Reply (Held D T C S U P ghosts) NoRight (About D T C ghosts) → Request → ℕ → Type 0
   wanted_in list = asks_for (λ (q : Request). item_with q.batch.records q.options) (λ (a : About D T C ghosts) (q : Request). IsNoted a.controller.value q) (about_of list)
 
   module _ (our_turn : T → U → Type 0) (history : U → List (List MemberVersions)) (about : About D T C ghosts) (held : Held D T C S U P ghosts) where
