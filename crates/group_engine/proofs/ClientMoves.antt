@@ -24,10 +24,6 @@ use Rattle.group_engine.specs.declared.engine.Client.{Client}
 use Rattle.group_engine.specs.Clients.{IsClientOf, account_in, own_commits, told_of}
 use Rattle.group_engine.proofs.Answered.{begins_self}
 
-pub if_both : {A B : Type 0} {P Q W : A → Type 0} (r : Result A B) → ((x : A) → P x → Q x → W x) → IfOk r P → IfOk r Q → IfOk r W
-if_both (Ok x) f p q = f x p q
-if_both (Err e) f p q = tt
-
 pub on_ok : {A B : Type 0} {P Q : Type 0} (r : Result A B) → (P → Q) → OnOk r P → OnOk r Q
 on_ok (Ok x) f p = f p
 on_ok (Err e) f p = tt
@@ -36,7 +32,7 @@ pub on_err : {A B : Type 0} {P Q : Type 0} (r : Result A B) → (P → Q) → On
 on_err (Ok x) f p = tt
 on_err (Err e) f p = f p
 
--- where a client ends its calls, what it had seen begins what it has seen then, and it asked for no delay
+-- who gives back what it holds has seen no less then, and asked for no delay
 back_begins : (b : Bool) (client : ℕ) (seen : List ControllerCall) (action : Action) (after : List ControllerCall) → GivesBackIn b client seen action after → IsPrefix seen after
 back_begins true client seen action after h = ends_begins client seen action None after h
 back_begins false client seen action after h = subst (λ (l : List ControllerCall). IsPrefix seen l) (sym h) (prefix_self seen)

@@ -1,4 +1,4 @@
-use Rattle.std.proofs.Common.{◌≡◌, ℕ}
+use Rattle.std.proofs.Common.{◌≡◌}
 use Rattle.table_rule.specs.Histories.{Begins}
 use Rattle.group_engine.proofs.engine.GroupEngine.await_seen.Given as goal
 use Rattle.group_engine.specs.Clients.{IsClientOf}

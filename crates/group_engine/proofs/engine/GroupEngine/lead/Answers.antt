@@ -1,16 +1,13 @@
-use Rattle.std.proofs.Common.{◌≡◌, ◌≤◌, ◌<◌, ◌+◌, ℕ, List, [], ◌∷◌, ◌++◌, length, vec_len, vec_capacity, refl, sym, ap, ◌∙◌, subst, arith}
+use Rattle.std.proofs.Common.{◌≡◌, ◌≤◌, ◌<◌, ℕ, List, [], ◌∷◌, ◌++◌, length, sym, ap, ◌∙◌, subst, arith}
 use Rattle.std.specs.List.{AllByRecursion}
 use Rattle.list_rule.specs.declared.view.Entry.{Entry}
-use Rattle.list_rule.specs.declared.view.Handling.{Handling}
-use Rattle.list_rule.specs.Chain.{all_answers, of}
+use Rattle.list_rule.specs.Chain.{all_answers}
 use Rattle.list_rule.specs.Rule.{last_run}
-use Rattle.writer_list.specs.Roles.{asks}
 use Rattle.writer_list.specs.Seats.{about_of, client_of, clients_of, told, told_in_first}
 use Rattle.writer_list.specs.Rooms.{HasRoom}
 use Rattle.write_controller.specs.Passes.{seen_by}
 use Rattle.group_rule.specs.Asked.{HasAsked}
 use Rattle.group_engine.specs.declared.requests.Request.{Request}
-use Rattle.group_engine.specs.declared.requests.Reply.{Reply}
 use Rattle.group_engine.specs.Clients.{own_commits}
 use Rattle.group_engine.specs.Handled.{seen_for}
 use Rattle.group_engine.specs.Led.{IsLedGroup}

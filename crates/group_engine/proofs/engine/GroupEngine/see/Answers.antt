@@ -1,4 +1,4 @@
-use Rattle.std.proofs.Common.{◌≡◌, ℕ, subst}
+use Rattle.std.proofs.Common.{ℕ, subst}
 use Rattle.write_controller.specs.declared.pass.Pass.{Pass}
 use Rattle.write_controller.specs.Passes.{seen_by}
 use Rattle.group_rule.specs.Entries.{SeesMore}

@@ -1,5 +1,5 @@
 use Rattle.std.proofs.Common.{◌≡◌, ℕ, List, [], ◌∷◌, ◌++◌, refl, sym, ap, ◌∙◌, subst}
-use Rattle.list_rule.specs.declared.view.Stage.TheVariants.{Fresh, Idle}
+use Rattle.list_rule.specs.declared.view.Stage.TheVariants.{Idle}
 use Rattle.list_rule.specs.Chain.{of}
 use Rattle.list_rule.specs.Rule.{hold}
 use Rattle.writer_list.specs.Seats.{told, told_in_first, IsIn, IsChosen}

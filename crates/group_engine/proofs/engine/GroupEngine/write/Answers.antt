@@ -1,20 +1,19 @@
-use Rattle.std.proofs.Common.{◌≡◌, ◌≤◌, ◌<◌, ℕ, Bool, true, false, List, [], ◌∷◌, ◌++◌, None, Some, IfOk, inl, inr, refl, sym, ap, ◌∙◌, subst, arith}
+use Rattle.std.proofs.Common.{◌≡◌, ◌≤◌, ℕ, Bool, true, List, None, Some, IfOk, inl, inr, refl, sym, ap, ◌∙◌, subst}
 use Rattle.wp_model.specs.Controller.{look, ControllerCall}
 use Rattle.wp_model.specs.Progress.{early_refusal}
 use Rattle.wp_model.specs.Tokens.{holds_stop, tokens_of}
 use Rattle.table_rule.specs.Histories.{last_of}
 use Rattle.writer_list.specs.Seats.{told}
 use Rattle.write_controller.specs.Looks.{look_of}
-use Rattle.write_controller.specs.Passes.{asked_by, seen_by, EndsWith}
+use Rattle.write_controller.specs.Passes.{seen_by, EndsWith}
 use Rattle.engine_calls.specs.declared.answers.Receipt.{Receipt}
 use Rattle.engine_calls.specs.declared.answers.Refused.{Refused}
 use Rattle.account_model.specs.Accounts.{Account, Refuses}
-use Rattle.write_controller.specs.Delays.{delays_of}
 use Rattle.group_rule.specs.Entries.{account_of, SeesMore}
 use Rattle.group_rule.proofs.Own.{refused_looked}
 use Rattle.group_engine.specs.Clients.{account_in, opened_log, own_commits, settings_of}
 use Rattle.group_engine.specs.Handled.{AreHandled, ShowsDelay}
-use Rattle.group_engine.proofs.Answered.{Concludes, begins_on, begins_self, concludes, impatient_if, keeps_self, newest, none_is, note_of, refuses_early, refuses_late, sees_on}
+use Rattle.group_engine.proofs.Answered.{Concludes, begins_on, begins_self, concludes, impatient_if, newest, none_is, note_of, refuses_late, sees_on}
 use Rattle.group_engine.proofs.ClientMoves.{no_delays, pass_moved, same_tokens}
 use Rattle.group_engine.proofs.engine.GroupEngine.write.Goals as goal
 
