@@ -149,10 +149,6 @@ map_map : (xs : List (ℕ × Request)) → map item_of_request (commit_requests_
 map_map [] = refl
 map_map (x ∷ xs) = ap (λ l. item_at x ∷ l) (map_map xs)
 
--- a leader has its group also where what its client was told is the same by another name
-pub retold : {L M : Type 0} (wanted : Request → ℕ → Type 0) (n max : ℕ) (own : Entry Request) (group left : List (Entry Request)) (seen : List (Handling Request Reply)) (m m' : List (Request × Reply)) (w : Writer Request Reply L M) → m ≡ m' → HasGroup wanted n max own group left seen m w → HasGroup wanted n max own group left seen m' w
-retold wanted n max own group left seen m m' w e has = subst (λ (x : List (Request × Reply)). HasGroup wanted n max own group left seen x w) e has
-
 pub led_of : ((item : Item) → item_of (code_of item) ≡ item) → {wanted : Request → ℕ → Type 0} → ((q : Request) (code : ℕ) → wanted q code → code ≡ code_by item_in q) → (max n : ℕ) (own : Entry Request) (group left : List (Entry Request)) → IsWhole wanted max own group left → 0 < own.by → own.by ≤ n → Within n group → IsLedGroup max n (asks own group)
 led_of law coded max n own group left whole low high within =
     let leader : ℕ × Request = (own.by, own.asked) in let ts : List (ℕ × Request) = rev_asks group in

@@ -1,6 +1,6 @@
 //! A client's write.
 
-ghost use Rattle.std.specs.Prelude.{◌≡◌, false, ◌≤◌, ℕ, List, [], ◌∷◌, ◌++◌, Ok, Err, IfOk, IfErr, IfSome};
+ghost use Rattle.std.specs.Prelude.{◌≡◌, true, false, ◌≤◌, ℕ, List, [], ◌∷◌, ◌++◌, Ok, Err, IfOk, IfErr, IfSome};
 ghost use Rattle.table_rule.specs.Histories.{Begins, last_of};
 ghost use Rattle.list_rule.specs.declared.view.Entry.{Entry};
 ghost use Rattle.list_rule.specs.declared.view.Handling.{Handling};
@@ -251,11 +251,29 @@ impl<D: Disk, T: Table<Nodes, Parts>, C: Clock + Drop, G: Gate + Drop> GroupEngi
             ≤ last_of (T.opening self.now.table).start (T.account client.new.seat).seen) }
         ensures noted { IfSome note (λ n. IsPrefix (noted n) (seen_by client.new.pass)) }
     {
-        if let Ok(receipt) = answer {
-            self.await_seen(rt, client, receipt.group_last);
-        }
+        self.await_answer(rt, client, answer);
         if let Some(note) = note {
             self.controller.learn(rt, &mut client.pass, note);
+        }
+    }
+
+    /// Waits until the client has seen its group published, if its batch was accepted.
+    fn await_answer<R: Wait>(
+        &self,
+        rt: &R,
+        client: &mut Client<D, T, C>,
+        answer: &Result<Receipt, Refused>,
+    )
+        requires { IsClientOf T.opening T.ours T.account self.now client.old }
+        ensures fits { IsClientOf T.opening T.ours T.account self.now client.new }
+        ensures same { (client.new.number ≡ client.old.number) × (client.new.start ≡ client.old.start)
+            × (client.new.writer ≡ client.old.writer) × (client.new.pass ≡ client.old.pass) }
+        ensures seen { Begins (T.account client.old.seat).seen (T.account client.new.seat).seen }
+        ensures published { IfOk answer.now (λ r. r.group_last
+            ≤ last_of (T.opening self.now.table).start (T.account client.new.seat).seen) }
+    {
+        if let Ok(receipt) = answer {
+            self.await_seen(rt, client, receipt.group_last);
         }
     }
 
