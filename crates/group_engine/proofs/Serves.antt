@@ -1,5 +1,5 @@
 -- What a leader that has asked for its group comes to, once its group is refused or written.
-use Rattle.std.proofs.Common.{◌≡◌, ℕ, ◌+◌, ◌-◌, ◌≤◌, Bool, true, false, not, get_or, take, drop, map, slice_get, Option, Some, None, IfSome, Result, Ok, Err, List, [], ◌∷◌, ◌++◌, length, refl, sym, ap, ◌∙◌, subst, arith, append_assoc, append-nil, length-append}
+use Rattle.std.proofs.Common.{◌≡◌, ℕ, ◌+◌, ◌-◌, ◌≤◌, true, get_or, take, drop, map, slice_get, Option, Some, None, IfSome, Result, Ok, Err, List, [], ◌∷◌, ◌++◌, length, refl, sym, ap, ◌∙◌, subst, arith, append_assoc, append-nil, length-append}
 use Rattle.std.specs.List.{AllByRecursion, AllZip}
 use Rattle.std.proofs.lemmas.List.{map-append, length-map, drop_all, take_all}
 use mathlib.Core.List.{IsPrefix}
@@ -126,14 +126,10 @@ first_flag group_bytes clients requests led new x is at =
     let one : x ≡ unnoted led.first = at ∙ ap (λ (l : List (ℕ × Request)). get_or l 0 x) (is ∙ ap all_seen led.leads) in
     sym (ap (λ (y : ℕ × Request). y.1.options) one)
 
-pub not_false : (b : Bool) → not b ≡ false → b ≡ true
-not_false true e = refl
-not_false false e = absurd (cc)
-
 -- the list that they were taken from has them again
 pub put_back : (xs new : List (ℕ × Request)) (len : ℕ) → len ≡ length xs → new ≡ all_seen xs → take len (new ++ drop (length new) xs) ≡ all_seen xs
 put_back xs new len l is =
-    let n : length (all_seen xs) ≡ length xs = length-map unnoted xs in
+    let n : length (all_seen xs) ≡ length xs = length-map xs unnoted in
     let none : drop (length (all_seen xs)) xs ≡ [] = drop_all (length (all_seen xs)) xs (omega (arith, n)) in
     ap (λ (ys : List (ℕ × Request)). take len (ys ++ drop (length ys) xs)) is
     ∙ (ap (λ (t : List (ℕ × Request)). take len (all_seen xs ++ t)) none ∙ (ap (take len) (append-nil (all_seen xs)) ∙ take_all len (all_seen xs) (omega (arith, n, l))))
