@@ -92,15 +92,15 @@ all_each : {A : Type 0} (P : A → Type 0) (xs : List A) → ((k : ℕ) (x : A) 
 all_each P [] h = tt
 all_each P (x ∷ xs) h = (h 0 x refl, all_each P xs (λ k y e. h (suc k) y e))
 
-joins : (max : ℕ) (leader : Item) (behind : List Item) → group_len max (leader ∷ behind) ≡ length (leader ∷ behind) → AllByRecursion (λ (i : Item). (i.no_log ≡ leader.no_log) × (i.sync ≡ true → leader.sync ≡ true)) behind
+joins : (max : ℕ) (leader : Item) (behind : List Item) → group_len max (leader ∷ behind) ≡ length (leader ∷ behind) → AllByRecursion (λ (i : Item). (i.no_log ≡ leader.no_log) × (i.sync ≡ true → leader.sync ≡ true) × (i.no_slowdown ≡ leader.no_slowdown)) behind
 joins max leader behind len =
     let l = longest max leader behind in
-    all_each (λ (i : Item). (i.no_log ≡ leader.no_log) × (i.sync ≡ true → leader.sync ≡ true)) behind
-    (λ k i e. let j = l.joined (suc k) i (omega arith) (let h = get_in behind k i e in omega (arith, h, len)) e in (j.no_log, j.sync))
+    all_each (λ (i : Item). (i.no_log ≡ leader.no_log) × (i.sync ≡ true → leader.sync ≡ true) × (i.no_slowdown ≡ leader.no_slowdown)) behind
+    (λ k i e. let j = l.joined (suc k) i (omega arith) (let h = get_in behind k i e in omega (arith, h, len)) e in (j.no_log, j.sync, j.no_slowdown))
 
 -- the same of the requests
-of_requests : (leader : Item) (ts : List (ℕ × Request)) → AllByRecursion (λ (i : Item). (i.no_log ≡ leader.no_log) × (i.sync ≡ true → leader.sync ≡ true)) (map item_at ts)
-    → AllByRecursion (λ (a : CommitRequest). (a.options.no_log ≡ leader.no_log) × (a.options.sync ≡ true → leader.sync ≡ true)) (commit_requests_of ts)
+of_requests : (leader : Item) (ts : List (ℕ × Request)) → AllByRecursion (λ (i : Item). (i.no_log ≡ leader.no_log) × (i.sync ≡ true → leader.sync ≡ true) × (i.no_slowdown ≡ leader.no_slowdown)) (map item_at ts)
+    → AllByRecursion (λ (a : CommitRequest). (a.options.no_log ≡ leader.no_log) × (a.options.sync ≡ true → leader.sync ≡ true) × (a.options.no_slowdown ≡ leader.no_slowdown)) (commit_requests_of ts)
 of_requests leader [] h = tt
 of_requests leader (x ∷ ts) h = (h.0, of_requests leader ts h.1)
 
@@ -167,7 +167,8 @@ led_of law coded max n own group left whole low high within =
         whole = ap (group_len max) items_of ∙ (len ∙ (sym (ap length items_of) ∙ map_size item_of_request (commit_requests_of (leader ∷ ts))));
         of_others = (other_way own.by (commit_requests_of ts) (absent_asks own.by group d.1), apart_asks group d.0);
       };
-      logged = λ e. (e, weaker (λ (a : CommitRequest). (a.options.no_log ≡ own.asked.options.no_log) × (a.options.sync ≡ true → own.asked.options.sync ≡ true)) (λ (a : CommitRequest). a.options.no_log ≡ false) (λ a t. t.0 ∙ e) (commit_requests_of ts) flags);
-      unlogged = λ e. (e, weaker (λ (a : CommitRequest). (a.options.no_log ≡ own.asked.options.no_log) × (a.options.sync ≡ true → own.asked.options.sync ≡ true)) (λ (a : CommitRequest). a.options.no_log ≡ true) (λ a t. t.0 ∙ e) (commit_requests_of ts) flags);
-      syncs = ((λ e. e), weaker (λ (a : CommitRequest). (a.options.no_log ≡ own.asked.options.no_log) × (a.options.sync ≡ true → own.asked.options.sync ≡ true)) (λ (a : CommitRequest). a.options.sync ≡ true → own.asked.options.sync ≡ true) (λ a t. t.1) (commit_requests_of ts) flags);
+      logged = λ e. (e, weaker (λ (a : CommitRequest). (a.options.no_log ≡ own.asked.options.no_log) × (a.options.sync ≡ true → own.asked.options.sync ≡ true) × (a.options.no_slowdown ≡ own.asked.options.no_slowdown)) (λ (a : CommitRequest). a.options.no_log ≡ false) (λ a t. t.0 ∙ e) (commit_requests_of ts) flags);
+      unlogged = λ e. (e, weaker (λ (a : CommitRequest). (a.options.no_log ≡ own.asked.options.no_log) × (a.options.sync ≡ true → own.asked.options.sync ≡ true) × (a.options.no_slowdown ≡ own.asked.options.no_slowdown)) (λ (a : CommitRequest). a.options.no_log ≡ true) (λ a t. t.0 ∙ e) (commit_requests_of ts) flags);
+      syncs = ((λ e. e), weaker (λ (a : CommitRequest). (a.options.no_log ≡ own.asked.options.no_log) × (a.options.sync ≡ true → own.asked.options.sync ≡ true) × (a.options.no_slowdown ≡ own.asked.options.no_slowdown)) (λ (a : CommitRequest). a.options.sync ≡ true → own.asked.options.sync ≡ true) (λ a t. t.1) (commit_requests_of ts) flags);
+      slowdown = λ e. (e, weaker (λ (a : CommitRequest). (a.options.no_log ≡ own.asked.options.no_log) × (a.options.sync ≡ true → own.asked.options.sync ≡ true) × (a.options.no_slowdown ≡ own.asked.options.no_slowdown)) (λ (a : CommitRequest). a.options.no_slowdown ≡ true) (λ a t. t.2 ∙ e) (commit_requests_of ts) flags);
     }

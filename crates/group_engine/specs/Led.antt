@@ -1,13 +1,13 @@
 -- The group that a leader has in hand.
 use Rattle.std.specs.Prelude.{◌≡◌, ℕ, true, false, List, [], ◌∷◌}
 use Rattle.wp_model.specs.declared.write.WriteOptions.{WriteOptions}
-use Rattle.group_rule.specs.Plans.{CommitRequest, AreLawful, AreLogged, AreUnlogged, IsWholeGroup}
+use Rattle.group_rule.specs.Plans.{CommitRequest, AreLawful, AreLogged, AreUnlogged, IsWholeGroup, MayNotWait}
 use Rattle.group_rule.specs.LogCalls.{SyncsFor}
 use Rattle.group_engine.specs.declared.requests.Request.{Request}
 use Rattle.group_engine.specs.Handled.{commit_requests_of}
 
--- The requests of a whole group, its leader's first. All are logged or none is, and where one asks for a sync its
--- leader does.
+-- The requests of a whole group, its leader's first. All are logged or none is, where one asks for a sync its leader
+-- does, and where the leader may not wait none may.
 pub record IsLedGroup (group_bytes clients : ℕ) (requests : List (ℕ × Request)) : Type 0 where
   pub first : ℕ × Request
   pub rest : List (ℕ × Request)
@@ -17,3 +17,4 @@ pub record IsLedGroup (group_bytes clients : ℕ) (requests : List (ℕ × Reque
   pub logged : first.1.options.no_log ≡ false → AreLogged (commit_requests_of requests)
   pub unlogged : first.1.options.no_log ≡ true → AreUnlogged (commit_requests_of requests)
   pub syncs : SyncsFor (commit_requests_of requests) first.1.options.sync
+  pub slowdown : first.1.options.no_slowdown ≡ true → MayNotWait (commit_requests_of requests)

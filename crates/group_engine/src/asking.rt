@@ -64,7 +64,8 @@ fn learn_all<C: Clock, R: Wait>(
     ensures requests { requests.new ≡ all_seen requests.old }
 {
     for i in 0..requests.len() {
-        if let Some(note) = requests[i].1.note.take() {
+        let member = &mut requests[i];
+        if let Some(note) = member.1.note.take() {
             controller.learn(rt, pass, note);
         }
     }

@@ -107,8 +107,9 @@ impl<D: Disk, T: Table<Nodes, Parts>, C: Clock + Drop, G: Gate + Drop> GroupEngi
         let delay = Delay {
             pass: Snapshot::of(&client.pass),
         };
-        let may_wait = !requests[0].1.options.no_slowdown;
-        if !may_wait && holds_up(look) {
+        if !requests[0].1.options.no_slowdown {
+            wait_out(rt, &self.controller, &mut client.pass, &mut clock, look);
+        } else if holds_up(look) {
             refuse_held_up(
                 &self.controller,
                 &mut client.pass,
@@ -118,9 +119,6 @@ impl<D: Disk, T: Table<Nodes, Parts>, C: Clock + Drop, G: Gate + Drop> GroupEngi
                 replies,
             );
             return Held { path, clock, asked };
-        }
-        if may_wait {
-            wait_out(rt, &self.controller, &mut client.pass, &mut clock, look);
         }
         let path = handle(
             rt,

@@ -1,0 +1,33 @@
+use Rattle.std.proofs.Common.{◌≡◌, ◌∙◌, subst, Some}
+use Rattle.wp_model.specs.Controller.{look}
+use Rattle.write_controller.specs.Looks.{look_of}
+use Rattle.write_controller.specs.Passes.{client_of, seen_by, EndsWith}
+use Rattle.group_engine.proofs.Views.{only_none, only_more}
+use Rattle.group_engine.proofs.asking.wait_out.Goals as goal
+
+pub returns-then-stops-eq0-clause-pass : goal.returns-then-stops-eq0-clause-pass
+returns-then-stops-eq0-clause-pass g c = (c.loop.invariant.pass, c.loop.invariant.client)
+
+pub returns-then-stops-eq0-clause-looks : goal.returns-then-stops-eq0-clause-looks
+returns-then-stops-eq0-clause-looks g c = c.loop.invariant.looks
+
+pub loop-init : goal.loop-init
+loop-init g c = record {
+  next = tt;
+  finite = tt;
+  pass = c.requires.pass;
+  client = λ i. client_of c.args.pass.now;
+  looks = only_none (client_of c.args.pass.now) (seen_by c.args.pass.now);
+}
+
+pub loop-preserved : goal.loop-preserved
+loop-preserved g c =
+    let v = c.loop.invariant in let n = c.look.ensures in let was = c.args.pass.now in
+    record {
+      next = tt;
+      finite = tt;
+      pass = n.own.0;
+      client = n.own.1 ∙ v.client;
+      looks = only_more (client_of was) (seen_by was) (seen_by c.loop.pass) (seen_by c.look.new.pass) (Some (look_of c.look.result)) v.looks
+      (subst (λ k. EndsWith k (seen_by c.loop.pass) look (Some (look_of c.look.result)) (seen_by c.look.new.pass)) v.client n.asked);
+    }

@@ -1,0 +1,200 @@
+use Rattle.std.proofs.Common.{◌≡◌, ◌≤◌, ◌-◌, ℕ, List, [], ◌∷◌, ◌++◌, length, refl, sym, ap, ◌∙◌, subst, vec_capacity, take, drop}
+use Rattle.std.specs.List.{AllByRecursion, AllZip}
+use Rattle.wp_model.specs.Controller.{ControllerCall, Look}
+use Rattle.wp_model.specs.Replies.{HoldUp}
+use Rattle.list_rule.specs.declared.view.Handling.{Handling}
+use Rattle.writer_list.specs.Seats.{about_of, clients_of}
+use Rattle.write_controller.specs.Delays.{delays_of}
+use Rattle.write_controller.specs.Looks.{look_of}
+use Rattle.write_controller.specs.Passes.{client_of, seen_by, noted, IsNoteOf, IsPassOf}
+use Rattle.write_controller.specs.declared.pass.Pass.{Pass}
+use Rattle.group_rule.specs.Entries.{SeesMore}
+use Rattle.group_rule.specs.Plans.{CommitRequest, ComesAfter, IsAskedFor, MayNotWait}
+use Rattle.group_engine.specs.declared.requests.Delay.{Delay}
+use Rattle.group_engine.specs.declared.requests.Request.{Request}
+use Rattle.group_engine.specs.declared.requests.Reply.{Reply}
+use Rattle.group_engine.specs.Asking.{HasAskedFor, OnlyLooks, all_seen}
+use Rattle.group_engine.specs.Handled.{HandsBack, InOrder, IsHeldUp, commit_requests_of, handled_with, seen_at}
+use Rattle.group_engine.specs.Law.{StandsFor}
+use Rattle.group_engine.specs.Layout.{IsClear}
+use Rattle.group_engine.specs.Led.{IsLedGroup}
+use Rattle.group_engine.proofs.Serves.{asked_after, asked_delays, asked_is, asked_sees, asked_shown, back_unnoted, first_flag, held_at, held_back, held_order, held_shown, led_unnoted, looks_sees, order_unnoted, put_back, replies_at, replies_shown, stands_by, stands_held_up, stands_noted}
+use Rattle.group_engine.proofs.Views.{only_none, unseen_commits}
+use Rattle.group_engine.proofs.engine.GroupEngine.serve.Goals as goal
+use Rattle.group_engine.proofs.engine.GroupEngine.serve.Goals.{then-not-index, else-not-index+else-holds_up}
+
+pub returns-then-holds_up-clause-served : goal.returns-then-holds_up-clause-served
+returns-then-holds_up-clause-served g c =
+    let S = c.requires.served in let q = S.seats in let e = c.args.self.now in let v = c.args.client.now in
+    let xs : List (ℕ × Request) = v.lists.requests.list.items in let k : ℕ = v.number in let was : List ControllerCall = seen_by v.pass in
+    let asked : List ControllerCall = noted c.args.held.asked in
+    let A = c.ask-asked.ensures in let R = c.refuse_held_up.ensures in
+    let n : Look = look_of c.ask-asked.result.0 in let known : List ControllerCall = seen_by c.ask-asked.new.pass in
+    let L = v.lists.requests.list in let new : List (ℕ × Request) = c.ask-asked.new.requests in let same = c.deref_mut.ensures.value in
+    let h : HasAskedFor k was asked xs n known = subst (λ (z : ℕ × List (ℕ × Request)). HasAskedFor z.0 was asked z.1 n known) (λ i. (q.pass_number i, same i)) A.asked in
+    let left : List (ℕ × Request) = take L.len (new ++ drop (length new) L.items) in
+    let left_is : left ≡ all_seen xs = put_back xs new L.len L.ok.0 (A.requests ∙ ap all_seen same) in
+    let d : Delay = record { pass = c.of.result } in
+    let is : seen_at d ≡ known = ap seen_by c.of.ensures in
+    let ys : List (ℕ × Reply) = c.refuse_held_up.new.replies.items in
+    let zip : AllZip (IsHeldUp e.controller d n) (all_seen xs) ys = subst (λ l. AllZip (IsHeldUp e.controller d n) l ys) left_is R.replies in
+    let may : MayNotWait (commit_requests_of xs) = S.led.slowdown (ap (λ o. o.no_slowdown) (first_flag e.group_bytes (clients_of e.list) xs S.led left c.index.result.now left_is c.index.ensures) ∙ c.if-not-index.false) in
+    let hold : HoldUp n = c.holds_up.ensures.held_up c.if-holds_up.true in
+    record {
+      seats = record {
+        is_engine = q.is_engine;
+        seat = q.seat;
+        ready = q.ready;
+        seat_number = q.seat_number;
+        pass = R.pass.0;
+        pass_number = R.pass.1 ∙ (A.pass.1 ∙ q.pass_number);
+        number = q.number;
+        layout = q.layout;
+      };
+      number = refl;
+      start = refl;
+      writer = refl;
+      room_same = refl;
+      in_order = held_order e.controller d n xs ys zip;
+      handed_back = held_back e.controller d n xs ys zip;
+      shown = held_shown e.controller d n known h.before is hold (asked_shown k was asked known xs n h) xs ys zip may h.members;
+      taken = R.taken;
+      requests_room = R.room.0;
+      replies_room = R.room.1;
+      sees_more = subst (SeesMore k was) (sym R.pass.2) (asked_sees k was asked known xs n h);
+      known = known;
+      delays = subst (λ (l : List ControllerCall). delays_of k l ≡ delays_of k was ++ (length known - 1) ∷ []) (sym R.pass.2) (asked_delays k was asked known xs n h);
+      of_delay = held_at e.controller d n known is xs ys zip;
+    }
+
+pub returns-then-holds_up-clause-held : goal.returns-then-holds_up-clause-held
+returns-then-holds_up-clause-held g c hs st =
+    let S = c.requires.served in let q = S.seats in let e = c.args.self.now in let v = c.args.client.now in let about = about_of e.list in let path = c.args.held.path in
+    let xs : List (ℕ × Request) = v.lists.requests.list.items in let k : ℕ = v.number in let was : List ControllerCall = seen_by v.pass in
+    let asked : List ControllerCall = noted c.args.held.asked in
+    let A = c.ask-asked.ensures in let R = c.refuse_held_up.ensures in
+    let n : Look = look_of c.ask-asked.result.0 in let known : List ControllerCall = seen_by c.ask-asked.new.pass in
+    let L = v.lists.requests.list in let new : List (ℕ × Request) = c.ask-asked.new.requests in let same = c.deref_mut.ensures.value in
+    let h : HasAskedFor k was asked xs n known = subst (λ (z : ℕ × List (ℕ × Request)). HasAskedFor z.0 was asked z.1 n known) (λ i. (q.pass_number i, same i)) A.asked in
+    let left : List (ℕ × Request) = take L.len (new ++ drop (length new) L.items) in
+    let left_is : left ≡ all_seen xs = put_back xs new L.len L.ok.0 (A.requests ∙ ap all_seen same) in
+    let d : Delay = record { pass = c.of.result } in
+    let is : seen_at d ≡ known = ap seen_by c.of.ensures in
+    let ys : List (ℕ × Reply) = c.refuse_held_up.new.replies.items in
+    let zip : AllZip (IsHeldUp e.controller d n) (all_seen xs) ys = subst (λ l. AllZip (IsHeldUp e.controller d n) l ys) left_is R.replies in
+    let may : MayNotWait (commit_requests_of xs) = S.led.slowdown (ap (λ o. o.no_slowdown) (first_flag e.group_bytes (clients_of e.list) xs S.led left c.index.result.now left_is c.index.ensures) ∙ c.if-not-index.false) in
+    let hold : HoldUp n = c.holds_up.ensures.held_up c.if-holds_up.true in
+    let led : IsLedGroup about.group_bytes about.clients xs = subst (λ (z : ℕ × ℕ). IsLedGroup z.0 z.1 xs) (λ i. (sym q.is_engine.group_bytes i, sym q.is_engine.about_clients i)) S.led in
+    record {
+      note = subst (λ ctl. IsNoteOf ctl c.ask-asked.result.1) (sym q.is_engine.controller) A.note.0;
+      path = stands_by g.T.Table.our_turn g.T.Table.history about.opened.value path.log path.turn path.last about.table.value about.table.value about.start about.start about.clients about.clients about.group_bytes about.group_bytes known (noted c.ask-asked.result.1) (hs ++ handled_with xs ys) refl refl refl refl (sym A.note.1)
+      (stands_held_up g.T.Table.our_turn g.T.Table.history about.opened.value path.log path.turn path.last e.controller d n about.table.value about.start about.clients about.group_bytes asked known hs xs ys zip is led (asked_is k was asked known xs n h about.group_bytes about.clients led S.leads) (asked_after k was asked known xs n h) hold may st.path);
+    }
+
+pub handle-path-requires-clause-group : goal.handle-path-requires-clause-group
+handle-path-requires-clause-group g c =
+    let S = c.requires.served in let q = S.seats in let e = c.args.self.now in
+    let xs : List (ℕ × Request) = c.args.client.now.lists.requests.list.items in
+    let L = c.args.client.now.lists.requests.list in let new : List (ℕ × Request) = c.ask-asked.new.requests in
+    let left : List (ℕ × Request) = take L.len (new ++ drop (length new) L.items) in
+    let left_is : left ≡ all_seen xs = put_back xs new L.len L.ok.0 (c.ask-asked.ensures.requests ∙ ap all_seen c.deref_mut.ensures.value) in
+    let led = subst (λ (z : ℕ × List (ℕ × Request)). IsLedGroup e.group_bytes z.0 z.1) (λ i. (sym q.is_engine.clients i, sym left_is i)) (led_unnoted e.group_bytes (clients_of e.list) xs S.led) in
+    (e.group_bytes, led)
+
+pub handle-path-requires-clause-path : goal.handle-path-requires-clause-path
+handle-path-requires-clause-path g c =
+    let q = c.requires.served.seats in let e = c.args.self.now in let about = about_of e.list in let path = c.args.held.path in let home = g.T.Table.opening e.table in let E = q.is_engine in
+    let asked : List ControllerCall = noted c.args.held.asked in let hs = c.requires.held.0 in
+    (
+      about.opened.value,
+      e.group_bytes,
+      asked,
+      hs,
+      stands_by g.T.Table.our_turn g.T.Table.history about.opened.value path.log path.turn path.last about.table.value e.table about.start home.start about.clients home.clients about.group_bytes e.group_bytes asked asked hs E.table E.start (E.about_clients ∙ sym E.clients) E.group_bytes refl c.requires.held.1.path,
+    )
+
+pub returns-clause-served : goal.returns-clause-served
+returns-clause-served g c =
+    let S = c.requires.served in let q = S.seats in let e = c.args.self.now in let v = c.args.client.now in
+    let xs : List (ℕ × Request) = v.lists.requests.list.items in let k : ℕ = v.number in let was : List ControllerCall = seen_by v.pass in
+    let asked : List ControllerCall = noted c.args.held.asked in
+    let A = c.ask-asked.ensures in let H = c.handle-path.ensures in
+    let n : Look = look_of c.ask-asked.result.0 in let known : List ControllerCall = seen_by c.ask-asked.new.pass in
+    let L = v.lists.requests.list in let new : List (ℕ × Request) = c.ask-asked.new.requests in let same = c.deref_mut.ensures.value in
+    let h : HasAskedFor k was asked xs n known = subst (λ (z : ℕ × List (ℕ × Request)). HasAskedFor z.0 was asked z.1 n known) (λ i. (q.pass_number i, same i)) A.asked in
+    let left : List (ℕ × Request) = take L.len (new ++ drop (length new) L.items) in
+    let left_is : left ≡ all_seen xs = put_back xs new L.len L.ok.0 (A.requests ∙ ap all_seen same) in
+    let d : Delay = record { pass = c.of.result } in
+    let is : seen_at d ≡ known = ap seen_by c.of.ensures in
+    let ys : List (ℕ × Reply) = c.handle-path.new.replies.items in
+    let own : client_of c.ask-asked.new.pass ≡ k = A.pass.1 ∙ q.pass_number in
+    let now : Pass = c.if-not-index.client.1.1.1.1.1.0 in
+    let waits = elim c.if-not-index.branch as (λ _. IsPassOf e.controller now × (client_of now ≡ k) × OnlyLooks k known (seen_by now)) [
+      | then-not-index w ↦
+          let now_is : now ≡ w.wait_out.new.pass = λ i. (w.client-is i).1.1.1.1.1.0 in
+          subst (λ (p : Pass). IsPassOf e.controller p × (client_of p ≡ k) × OnlyLooks k known (seen_by p)) (sym now_is)
+          (w.wait_out.ensures.pass.0, w.wait_out.ensures.pass.1 ∙ own, subst (λ j. OnlyLooks j known (seen_by w.wait_out.new.pass)) own w.wait_out.ensures.looks)
+      | else-not-index+else-holds_up w ↦
+          let now_is : now ≡ c.ask-asked.new.pass = λ i. (w.client-is i).1.1.1.1.1.0 in
+          subst (λ (p : Pass). IsPassOf e.controller p × (client_of p ≡ k) × OnlyLooks k known (seen_by p)) (sym now_is) (A.pass.0, own, only_none k known)
+    ] in
+    let few = q.is_engine.clients in let layout = c.handle-path.new.layout in
+    record {
+      seats = record {
+        is_engine = q.is_engine;
+        seat = H.seat.0;
+        ready = H.seat.1;
+        seat_number = H.seat.2;
+        pass = waits.0;
+        pass_number = waits.1;
+        number = q.number;
+        layout = record {
+          clear = subst (λ m. IsClear m layout) few H.taken.1;
+          plans = subst (λ m. clients_of e.list ≤ m) (sym H.room.1) q.layout.plans;
+          batches = subst (λ m. clients_of e.list ≤ m) (sym H.room.2) q.layout.batches;
+        };
+      };
+      number = refl;
+      start = refl;
+      writer = refl;
+      room_same = refl;
+      in_order = order_unnoted xs ys (subst (λ l. InOrder l ys) left_is H.replies.0);
+      handed_back = back_unnoted xs ys (subst (λ l. AllByRecursion HandsBack (handled_with l ys)) left_is H.replies.1);
+      shown = replies_shown e.controller d xs ys H.replies.2;
+      taken = H.taken.0;
+      requests_room = H.room.0;
+      replies_room = H.room.3;
+      sees_more = looks_sees k was known (seen_by now) (asked_sees k was asked known xs n h) waits.2;
+      known = known;
+      delays = waits.2.delays ∙ asked_delays k was asked known xs n h;
+      of_delay = replies_at e.controller d known is ys H.replies.2;
+    }
+
+pub returns-clause-held : goal.returns-clause-held
+returns-clause-held g c hs st =
+    let S = c.requires.served in let q = S.seats in let E = q.is_engine in let e = c.args.self.now in let v = c.args.client.now in let about = about_of e.list in let path = c.args.held.path in let home = g.T.Table.opening e.table in
+    let xs : List (ℕ × Request) = v.lists.requests.list.items in let k : ℕ = v.number in let was : List ControllerCall = seen_by v.pass in
+    let asked : List ControllerCall = noted c.args.held.asked in
+    let A = c.ask-asked.ensures in let H = c.handle-path.ensures in
+    let n : Look = look_of c.ask-asked.result.0 in let known : List ControllerCall = seen_by c.ask-asked.new.pass in
+    let L = v.lists.requests.list in let new : List (ℕ × Request) = c.ask-asked.new.requests in let same = c.deref_mut.ensures.value in
+    let h : HasAskedFor k was asked xs n known = subst (λ (z : ℕ × List (ℕ × Request)). HasAskedFor z.0 was asked z.1 n known) (λ i. (q.pass_number i, same i)) A.asked in
+    let left : List (ℕ × Request) = take L.len (new ++ drop (length new) L.items) in
+    let left_is : left ≡ all_seen xs = put_back xs new L.len L.ok.0 (A.requests ∙ ap all_seen same) in
+    let d : Delay = record { pass = c.of.result } in
+    let is : seen_at d ≡ known = ap seen_by c.of.ensures in
+    let ys : List (ℕ × Reply) = c.handle-path.new.replies.items in
+    let led : IsLedGroup e.group_bytes home.clients left = subst (λ (z : ℕ × List (ℕ × Request)). IsLedGroup e.group_bytes z.0 z.1) (λ i. (sym E.clients i, sym left_is i)) (led_unnoted e.group_bytes (clients_of e.list) xs S.led) in
+    let comes : ComesAfter asked (seen_at d) = subst (ComesAfter asked) (sym is) (asked_after k was asked known xs n h) in
+    let alike : commit_requests_of left ≡ commit_requests_of xs = ap commit_requests_of left_is ∙ unseen_commits xs in
+    let is_for : IsAskedFor (commit_requests_of left) n (seen_at d) = subst (λ (z : List CommitRequest × List ControllerCall). IsAskedFor z.0 n z.1) (λ i. (sym alike i, sym is i)) (asked_is k was asked known xs n h e.group_bytes (clients_of e.list) S.led S.leads) in
+    let before = stands_by g.T.Table.our_turn g.T.Table.history about.opened.value path.log path.turn path.last about.table.value e.table about.start home.start about.clients home.clients about.group_bytes e.group_bytes asked asked hs E.table E.start (E.about_clients ∙ sym E.clients) E.group_bytes refl st.path in
+    let p = c.handle-path.result in
+    let after = H.path about.opened.value e.group_bytes asked hs n led comes is_for before in
+    let unnoted = subst (λ l. StandsFor g.T.Table.our_turn g.T.Table.history e.table about.opened.value home.start home.clients e.group_bytes (seen_at d) p.log p.turn p.last (hs ++ handled_with l ys)) left_is after in
+    let as_was = stands_noted g.T.Table.our_turn g.T.Table.history about.opened.value p.log p.turn p.last e.table home.start home.clients e.group_bytes (seen_at d) hs xs ys unnoted in
+    record {
+      note = subst (λ ctl. IsNoteOf ctl c.ask-asked.result.1) (sym E.controller) A.note.0;
+      path = stands_by g.T.Table.our_turn g.T.Table.history about.opened.value p.log p.turn p.last e.table about.table.value home.start about.start home.clients about.clients e.group_bytes about.group_bytes (seen_at d) (noted c.ask-asked.result.1) (hs ++ handled_with xs ys)
+      (sym E.table) (sym E.start) (E.clients ∙ sym E.about_clients) (sym E.group_bytes) (is ∙ sym A.note.1) as_was;
+    }
