@@ -18,11 +18,12 @@ ghost use Rattle.table_rule.specs.declared.content.MemberVersions.{MemberVersion
 ghost use Rattle.table_rule.specs.Histories.{Begins, made_by, last_of};
 ghost use Rattle.account_model.specs.Accounts.{Account, Wrote, IsRefused};
 ghost use Rattle.account_model.specs.Closing.{all_attempts, IsClosing};
-ghost use Rattle.account_model.specs.Written.{WritesLog};
+ghost use Rattle.account_model.specs.Written.{WritesLog, HaveSynced};
 ghost use Rattle.write_controller.specs.Passes.{EndsWith};
 ghost use Rattle.group_rule.specs.Commits.{Commit, accepted, held_up, failed, no_room, last_after_all, AreAnswered, commits_of};
 ghost use Rattle.group_rule.specs.Asked.{place_of};
-ghost use Rattle.group_rule.specs.Entries.{trace_of, versions_made, account_of, HasPart, SeesMore, AreCallsOf};
+ghost use Rattle.group_rule.specs.Entries.{trace_of, entries_of, versions_made, account_of, HasPart, SeesMore, AreCallsOf};
+ghost use Rattle.group_rule.specs.LogCalls.{WroteParts};
 ghost use Rattle.group_rule.specs.Consistent.{AreConsistent};
 
 /// The commits' versions reach from the sequence before the first up to the one given last, which isn't above the
@@ -74,6 +75,14 @@ pub fn accounts_of_the_commits()
         → HoldUp numbers
         → IsRefused (account_of start client own before known) records how
         (Incomplete numbers.stops numbers.delays numbers.wait) (account_of start client own after now) }
+{}
+
+/// A commit that was to be synced, and has a run, was written by a call that synced.
+pub fn synced_commits()
+    ensures synced { (start client : ℕ) (commits own : List Commit) (c : Commit) (calls : List GroupCall)
+        (first group_last : ℕ) → AreAnswered start None commits → WroteParts (entries_of commits) calls
+        → commits_of client commits ≡ own ++ c ∷ [] → c.answer ≡ accepted first group_last
+        → c.options.sync ≡ true → c.options.no_log ≡ false → HaveSynced first c.records calls }
 {}
 
 /// Once all clients are at rest, their accounts are parts of the one trace of the commits and of the controller's one

@@ -16,5 +16,5 @@
 mod ends;
 mod groups;
 
-pub use ends::{accounts_of_the_commits, closings, numbers_of_commits};
+pub use ends::{accounts_of_the_commits, closings, numbers_of_commits, synced_commits};
 pub use groups::{groups_stay_consistent, runs_of_a_group};
