@@ -11,10 +11,10 @@ use Rattle.wp_model.specs.Tokens.{tokens_of}
 use Rattle.table_rule.specs.Batches.{made}
 use Rattle.table_rule.specs.declared.content.Version.{Version}
 use Rattle.write_controller.specs.Delays.{delays_of}
-use Rattle.write_controller.specs.Passes.{AreOfOthers, GoesOn, EndsWith, noted, seen_by}
+use Rattle.write_controller.specs.Passes.{GoesOn, EndsWith, seen_by}
 use Rattle.write_controller.specs.declared.pass.Note.{Note}
 use Rattle.write_controller.specs.declared.pass.Pass.{Pass}
-use Rattle.write_controller.specs.Rule.{history_of, seen_in}
+use Rattle.write_controller.specs.Rule.{seen_in}
 use Rattle.crossbeam_utils.specs.Seq.{cell_view}
 use Rattle.write_controller.proofs.Account.{ends_begins, ends_tokens}
 use Rattle.write_controller.proofs.Places.{ends_delays}

@@ -22,8 +22,8 @@ loop-client-preserved-in-Some g c =
         taken ++ x ∷ [],
         append_assoc taken (x ∷ []) c.take_first.new.items.items ∙ (ap (λ l. taken ++ l) (sym was) ∙ v.replies.1),
         subst (AllZip (IsHeldUp c.args.controller.now c.args.delay.now (look_of c.args.look)) (taken ++ x ∷ [])) (sym {A = List (ℕ × Reply)} put)
-        (zip_snoc (IsHeldUp c.args.controller.now c.args.delay.now (look_of c.args.look)) taken c.loop-client.replies.items x y v.replies.2
-        (refl, ap Err c.refused_by.ensures, c.of.ensures, (c.note.result, refl, n.note.0, n.note.1 ∙ (v.seen ∙ c.requires.pass.1)))),
+            (zip_snoc (IsHeldUp c.args.controller.now c.args.delay.now (look_of c.args.look)) taken c.loop-client.replies.items x y v.replies.2
+            (refl, ap Err c.refused_by.ensures, c.of.ensures, (c.note.result, refl, n.note.0, n.note.1 ∙ (v.seen ∙ c.requires.pass.1)))),
       );
       count = (let a = ap length put in let l = length-append c.loop-client.replies.items (y ∷ []) in let b = ap length was in let k = v.count in omega (arith, a, l, b, k));
       requests_room = c.take_first.ensures.room ∙ v.requests_room;
@@ -45,8 +45,8 @@ loop-client-preserved g c =
         taken ++ x ∷ [],
         append_assoc taken (x ∷ []) c.take_first.new.items.items ∙ (ap (λ l. taken ++ l) (sym was) ∙ v.replies.1),
         subst (AllZip (IsHeldUp c.args.controller.now c.args.delay.now (look_of c.args.look)) (taken ++ x ∷ [])) (sym {A = List (ℕ × Reply)} put)
-        (zip_snoc (IsHeldUp c.args.controller.now c.args.delay.now (look_of c.args.look)) taken c.loop-client.replies.items x y v.replies.2
-        (refl, ap Err c.refused_by.ensures, c.of.ensures, (c.note.result, refl, n.note.0, n.note.1 ∙ (v.seen ∙ c.requires.pass.1)))),
+            (zip_snoc (IsHeldUp c.args.controller.now c.args.delay.now (look_of c.args.look)) taken c.loop-client.replies.items x y v.replies.2
+            (refl, ap Err c.refused_by.ensures, c.of.ensures, (c.note.result, refl, n.note.0, n.note.1 ∙ (v.seen ∙ c.requires.pass.1)))),
       );
       count = (let a = ap length put in let l = length-append c.loop-client.replies.items (y ∷ []) in let b = ap length was in let k = v.count in omega (arith, a, l, b, k));
       requests_room = c.take_first.ensures.room ∙ v.requests_room;
