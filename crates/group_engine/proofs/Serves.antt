@@ -1,19 +1,16 @@
 -- What a leader that has asked for its group comes to, once its group is refused or written.
-use Rattle.std.proofs.Common.{◌≡◌, ℕ, ◌+◌, ◌-◌, ◌≤◌, true, get_or, take, drop, map, slice_get, Option, Some, None, IfSome, Result, Ok, Err, List, [], ◌∷◌, ◌++◌, length, refl, sym, ap, ◌∙◌, subst, arith, append_assoc, append-nil, length-append}
+use Rattle.std.proofs.Common.{◌≡◌, ℕ, ◌+◌, ◌-◌, true, get_or, take, drop, map, slice_get, Option, Some, IfSome, List, [], ◌∷◌, ◌++◌, length, refl, sym, ap, ◌∙◌, subst, arith, append-nil, length-append}
 use Rattle.std.specs.List.{AllByRecursion, AllZip}
 use Rattle.std.proofs.lemmas.List.{map-append, length-map, drop_all, take_all}
-use mathlib.Core.List.{IsPrefix}
 use Rattle.wp_edge.specs.declared.disk.Disk.{Ghosts}
 use Rattle.wp_model.specs.Controller.{ControllerCall, Look, delay}
 use Rattle.wp_model.specs.Grouping.{size_of}
-use Rattle.wp_model.specs.Replies.{HoldUp, IsLater}
+use Rattle.wp_model.specs.Replies.{HoldUp}
 use Rattle.wp_model.specs.Tokens.{tokens_of}
 use Rattle.log_writer.specs.declared.writer.LogWriter.{LogWriter}
 use Rattle.log_writer.specs.Words.{fault_of}
 use Rattle.table_rule.specs.declared.content.MemberVersions.{MemberVersions}
 use Rattle.list_rule.specs.declared.view.Handling.{Handling}
-use Rattle.engine_calls.specs.declared.answers.Receipt.{Receipt}
-use Rattle.engine_calls.specs.declared.answers.Refused.{Refused}
 use Rattle.write_controller.specs.Delays.{delays_of}
 use Rattle.write_controller.specs.Passes.{EndsWith, noted, IsNoteOf}
 use Rattle.write_controller.specs.declared.controller.Controller.{Controller}
@@ -21,18 +18,18 @@ use Rattle.write_controller.specs.declared.pass.Note.{Note}
 use Rattle.write_controller.proofs.Account.{ends_begins, ends_tokens}
 use Rattle.write_controller.proofs.Places.{ends_delays}
 use Rattle.write_controller.proofs.Totals.{get_behind}
-use Rattle.group_rule.specs.Commits.{Answer, Commit, held_up}
+use Rattle.group_rule.specs.Commits.{Commit, held_up}
 use Rattle.group_rule.specs.Consistent.{AreConsistent}
 use Rattle.group_rule.specs.Entries.{SeesMore}
 use Rattle.group_rule.specs.LogCalls.{SyncsFor}
-use Rattle.group_rule.specs.Plans.{CommitRequest, item_of_request, all_held_up, AreLawful, AreLogged, AreUnlogged, ComesAfter, IsAskedFor, IsWholeGroup, MayNotWait}
+use Rattle.group_rule.specs.Plans.{item_of_request, all_held_up, AreLawful, AreLogged, AreUnlogged, ComesAfter, IsAskedFor, IsWholeGroup, MayNotWait}
 use Rattle.group_rule.proofs.OneGroup.{prefix_trans}
 use Rattle.group_rule.proofs.Steps.{consistent_held_up}
 use Rattle.group_engine.specs.declared.requests.Delay.{Delay}
 use Rattle.group_engine.specs.declared.requests.Request.{Request}
 use Rattle.group_engine.specs.declared.requests.Reply.{Reply}
 use Rattle.group_engine.specs.Asking.{HasAskedFor, OnlyLooks, all_seen}
-use Rattle.group_engine.specs.Handled.{ComesBack, HandsBack, InOrder, IsDelayed, IsHeldUp, IsNotHeldUp, IsReplyOf, ShowsDelay, answer_in, commit_of, commit_request_of, commit_requests_of, handled_with, held_up_with, noted_in, seen_at, seen_for}
+use Rattle.group_engine.specs.Handled.{ComesBack, HandsBack, InOrder, IsDelayed, IsHeldUp, IsNotHeldUp, IsReplyOf, ShowsDelay, answer_in, commit_of, commit_request_of, commit_requests_of, handled_with, noted_in, seen_at, seen_for}
 use Rattle.group_engine.specs.Law.{StandsFor}
 use Rattle.group_engine.specs.Led.{IsLedGroup}
 use Rattle.group_engine.specs.Serving.{IsReplyAt, LeadsBy}
@@ -210,8 +207,8 @@ module _ {C : Type 0} (controller : Controller C) (d : Delay) (numbers : Look) w
       record {
         note = subst (λ (o : Option Note). IfSome o (λ note. IsNoteOf controller note × (noted note ≡ seen_for y.1))) (sym note_is) (h.3.2, h.3.3 ∙ sym (ap seen_at h.2));
         held_up = λ other e.
-        let same : numbers ≡ other = told_same numbers other (sym told ∙ e) in
-        (may_not, subst HoldUp same hold, (h.3.0, note_is), subst (λ (z : List ControllerCall × Look). IsDelayed (noted_in x.1.note) z.0 z.1) (λ i. (sym calls i, same i)) delayed);
+            let same : numbers ≡ other = told_same numbers other (sym told ∙ e) in
+            (may_not, subst HoldUp same hold, (h.3.0, note_is), subst (λ (z : List ControllerCall × Look). IsDelayed (noted_in x.1.note) z.0 z.1) (λ i. (sym calls i, same i)) delayed);
       }
     where
       told_same : (a b : Look) → held_up a ≡ held_up b → a ≡ b
@@ -261,5 +258,5 @@ module _ {D : Type 0} {ghosts : Ghosts D} {T U : Type 0} (our_turn : T → U →
         calls = s.calls;
         wrote = s.wrote;
         consistent = subst (λ (cs : List Commit). AreConsistent start clients group_bytes known cs last (fault_of log) (history turn) s.calls) same
-        (consistent_held_up start clients group_bytes (map commit_of hs) last (history turn) s.calls (commit_requests_of requests) asked known numbers led.lawful led.whole is_asked comes (fault_of log) s.consistent hold may);
+            (consistent_held_up start clients group_bytes (map commit_of hs) last (history turn) s.calls (commit_requests_of requests) asked known numbers led.lawful led.whole is_asked comes (fault_of log) s.consistent hold may);
       }

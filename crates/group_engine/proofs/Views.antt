@@ -11,18 +11,21 @@ use Rattle.wp_model.specs.Tokens.{tokens_of}
 use Rattle.table_rule.specs.Batches.{made}
 use Rattle.table_rule.specs.declared.content.Version.{Version}
 use Rattle.write_controller.specs.Delays.{delays_of}
-use Rattle.write_controller.specs.Passes.{AreOfOthers, GoesOn, EndsWith, noted, seen_by}
+use Rattle.write_controller.specs.Passes.{GoesOn, EndsWith, seen_by}
+use Rattle.write_controller.specs.declared.controller.Controller.{Controller}
 use Rattle.write_controller.specs.declared.pass.Note.{Note}
 use Rattle.write_controller.specs.declared.pass.Pass.{Pass}
-use Rattle.write_controller.specs.Rule.{history_of, seen_in}
+use Rattle.write_controller.specs.Rule.{seen_in}
 use Rattle.crossbeam_utils.specs.Seq.{cell_view}
 use Rattle.write_controller.proofs.Account.{ends_begins, ends_tokens}
 use Rattle.write_controller.proofs.Places.{ends_delays}
 use Rattle.write_controller.proofs.Histories.{legal_from}
 use Rattle.group_rule.specs.Plans.{CommitRequest, item_of_request}
 use Rattle.group_rule.proofs.OneGroup.{all_append, prefix_trans}
+use Rattle.group_engine.specs.declared.requests.Delay.{Delay}
 use Rattle.group_engine.specs.declared.requests.Request.{Request}
-use Rattle.group_engine.specs.Handled.{commit_request_of, commit_requests_of, noted_in}
+use Rattle.group_engine.specs.declared.requests.Reply.{Reply}
+use Rattle.group_engine.specs.Handled.{IsHeldUp, commit_request_of, commit_requests_of, noted_in}
 use Rattle.group_engine.specs.Asking.{all_seen, HasAskedFor, HasLearned, OnlyLooks}
 
 -- Histories that go on
@@ -159,8 +162,18 @@ only_more client seen middle after told o e = record {
 
 -- Lists
 
-pub zip_snoc : {A B : Type 0} (R : A → B → Type 0) (xs : List A) (ys : List B) (x : A) (y : B) → AllZip R xs ys → R x y → AllZip R (xs ++ x ∷ []) (ys ++ y ∷ [])
+zip_snoc : {A B : Type 0} (R : A → B → Type 0) (xs : List A) (ys : List B) (x : A) (y : B) → AllZip R xs ys → R x y → AllZip R (xs ++ x ∷ []) (ys ++ y ∷ [])
 zip_snoc R [] [] x y h r = (r, tt)
 zip_snoc R [] (z ∷ ys) x y h r = absurd h
 zip_snoc R (w ∷ xs) [] x y h r = absurd h
 zip_snoc R (w ∷ xs) (z ∷ ys) x y h r = (h.0, zip_snoc R xs ys x y h.1 r)
+
+-- one member more is refused
+pub held_more : {C : Type 0} (controller : Controller C) (d : Delay) (n : Look) (all requests left : List (ℕ × Request)) (replies now : List (ℕ × Reply)) (x : ℕ × Request) (y : ℕ × Reply)
+    → (taken : List (ℕ × Request)) × (taken ++ requests ≡ all) × AllZip (IsHeldUp controller d n) taken replies
+    → requests ≡ x ∷ left → now ≡ replies ++ y ∷ [] → IsHeldUp controller d n x y → (taken : List (ℕ × Request)) × (taken ++ left ≡ all) × AllZip (IsHeldUp controller d n) taken now
+held_more controller d n all requests left replies now x y t first put held = (
+  t.0 ++ x ∷ [],
+  append_assoc t.0 (x ∷ []) left ∙ (ap (λ (l : List (ℕ × Request)). t.0 ++ l) (sym first) ∙ t.1),
+  subst (AllZip (IsHeldUp controller d n) (t.0 ++ x ∷ [])) (sym put) (zip_snoc (IsHeldUp controller d n) t.0 replies x y t.2 held),
+)

@@ -4,7 +4,6 @@ use Rattle.write_controller.specs.Looks.{look_of}
 use Rattle.write_controller.specs.Passes.{client_of, seen_by, noted, EndsWith}
 use Rattle.group_engine.specs.Asking.{HasAskedFor, HasLearned}
 use Rattle.group_engine.proofs.Views.{asked_for}
-
 use Rattle.group_engine.proofs.asking.ask.Goals as goal
 
 pub returns-clause-asked : goal.returns-clause-asked

@@ -1,5 +1,5 @@
 -- The sum of the sizes so far.
-use Rattle.std.proofs.Common.{◌≡◌, ◌≤◌, ℕ, map, take, length, ◌*◌}
+use Rattle.std.proofs.Common.{◌≡◌, ◌≤◌, map, take, length, ◌*◌}
 use Rattle.wp_model.specs.Grouping.{size_of}
 use Rattle.group_rule.specs.Plans.{item_of_request}
 use Rattle.group_engine.specs.Handled.{commit_requests_of}

@@ -1,4 +1,4 @@
-use Rattle.std.proofs.Common.{◌≡◌, ◌<◌, ◌+◌, ◌∙◌, ℕ, List, Option, Some, None, take, get_or, set, ◌≤◌, sym, ap, subst, refl, arith, length}
+use Rattle.std.proofs.Common.{◌≡◌, ◌<◌, ◌+◌, ◌∙◌, ℕ, List, Option, take, get_or, set, ◌≤◌, sym, ap, subst, refl, arith, length}
 use Rattle.std.proofs.lemmas.List.{take_more}
 use Rattle.std.proofs.lemmas.List.Edits.{map_over_more}
 use mathlib.Core.List.{IsPrefix}
@@ -37,15 +37,15 @@ loop-i-preserved g c =
         w.learn.ensures.own.0,
         w.learn.ensures.own.1 ∙ v.client,
         subst (λ l. HasLearned k (seen_by was) l (seen_by w.learn.new.pass)) more
-        (learned_more k (seen_by was) (seen_by c.loop-i.pass) (seen_by w.learn.new.pass) (take i xs) x v.learned
-        (subst (λ j. GoesOn j (seen_by c.loop-i.pass) (seen_by w.learn.new.pass)) v.client w.learn.ensures.seen)
-        (subst (λ (o : Option Note). IsPrefix (noted_in o) (seen_by w.learn.new.pass)) (sym w.in-Some.is ∙ (c.take.ensures.value ∙ ap (λ (y : ℕ × Request). y.1.note) at)) w.learn.ensures.noted)),
+            (learned_more k (seen_by was) (seen_by c.loop-i.pass) (seen_by w.learn.new.pass) (take i xs) x v.learned
+            (subst (λ j. GoesOn j (seen_by c.loop-i.pass) (seen_by w.learn.new.pass)) v.client w.learn.ensures.seen)
+            (subst (λ (o : Option Note). IsPrefix (noted_in o) (seen_by w.learn.new.pass)) (sym w.in-Some.is ∙ (c.take.ensures.value ∙ ap (λ (y : ℕ × Request). y.1.note) at)) w.learn.ensures.noted)),
       )
       | in_default w ↦ subst (λ p. IsPassOf c.args.controller.now p × (client_of p ≡ k) × HasLearned k (seen_by was) (take (i + 1) xs) (seen_by p)) (sym w.pass-is) (
         v.pass,
         v.client,
         subst (λ l. HasLearned k (seen_by was) l (seen_by c.loop-i.pass)) more
-        (learned_nothing k (seen_by was) (seen_by c.loop-i.pass) (take i xs) x v.learned (sym (ap (λ (y : ℕ × Request). y.1.note) at) ∙ (sym c.take.ensures.value ∙ w.in_default.is))),
+            (learned_nothing k (seen_by was) (seen_by c.loop-i.pass) (take i xs) x v.learned (sym (ap (λ (y : ℕ × Request). y.1.note) at) ∙ (sym c.take.ensures.value ∙ w.in_default.is))),
       )
     ] in
     record {

@@ -1,5 +1,5 @@
 -- The first have no note any more, and the pass has seen what they had seen.
-use Rattle.std.proofs.Common.{◌≡◌, ◌≤◌, ℕ, take, drop, length, ◌++◌}
+use Rattle.std.proofs.Common.{◌≡◌, ◌≤◌, take, drop, length, ◌++◌}
 use Rattle.write_controller.specs.Passes.{client_of, seen_by, IsPassOf}
 use Rattle.group_engine.specs.Asking.{all_seen, HasLearned}
 use Rattle.group_engine.proofs.asking.learn_all.Given as goal

@@ -4,7 +4,7 @@ use Rattle.std.specs.List.{AllZip}
 use Rattle.write_controller.specs.Passes.{client_of, seen_by, IsPassOf}
 use Rattle.write_controller.specs.Looks.{look_of}
 use Rattle.group_engine.specs.declared.requests.Request.{Request}
-use Rattle.group_engine.specs.Handled.{IsHeldUp, seen_at}
+use Rattle.group_engine.specs.Handled.{IsHeldUp}
 use Rattle.group_engine.proofs.asking.refuse_held_up.Given as goal
 
 abbrev pub invariant-loop-client : goal.invariant-loop-client

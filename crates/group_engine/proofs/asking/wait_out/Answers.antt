@@ -1,4 +1,4 @@
-use Rattle.std.proofs.Common.{◌≡◌, ◌∙◌, subst, Some}
+use Rattle.std.proofs.Common.{◌∙◌, subst, Some}
 use Rattle.wp_model.specs.Controller.{look}
 use Rattle.write_controller.specs.Looks.{look_of}
 use Rattle.write_controller.specs.Passes.{client_of, seen_by, EndsWith}
@@ -29,5 +29,5 @@ loop-preserved g c =
       pass = n.own.0;
       client = n.own.1 ∙ v.client;
       looks = only_more (client_of was) (seen_by was) (seen_by c.loop.pass) (seen_by c.look.new.pass) (Some (look_of c.look.result)) v.looks
-      (subst (λ k. EndsWith k (seen_by c.loop.pass) look (Some (look_of c.look.result)) (seen_by c.look.new.pass)) v.client n.asked);
+          (subst (λ k. EndsWith k (seen_by c.loop.pass) look (Some (look_of c.look.result)) (seen_by c.look.new.pass)) v.client n.asked);
     }

@@ -1,5 +1,5 @@
 -- So far the client only looked.
-use Rattle.std.proofs.Common.{◌≡◌, ℕ}
+use Rattle.std.proofs.Common.{◌≡◌}
 use Rattle.write_controller.specs.Passes.{client_of, seen_by, IsPassOf}
 use Rattle.group_engine.specs.Asking.{OnlyLooks}
 use Rattle.group_engine.proofs.asking.wait_out.Given as goal

@@ -1,8 +1,7 @@
-use Rattle.std.proofs.Common.{◌≡◌, ◌≤◌, ◌-◌, ℕ, List, [], ◌∷◌, ◌++◌, length, refl, sym, ap, ◌∙◌, subst, vec_capacity, take, drop}
+use Rattle.std.proofs.Common.{◌≡◌, ◌≤◌, ◌-◌, ℕ, List, [], ◌∷◌, ◌++◌, length, refl, sym, ap, ◌∙◌, subst, take, drop}
 use Rattle.std.specs.List.{AllByRecursion, AllZip}
 use Rattle.wp_model.specs.Controller.{ControllerCall, Look}
 use Rattle.wp_model.specs.Replies.{HoldUp}
-use Rattle.list_rule.specs.declared.view.Handling.{Handling}
 use Rattle.writer_list.specs.Seats.{about_of, clients_of}
 use Rattle.write_controller.specs.Delays.{delays_of}
 use Rattle.write_controller.specs.Looks.{look_of}
@@ -88,7 +87,7 @@ returns-then-holds_up-clause-held g c hs st =
     record {
       note = subst (λ ctl. IsNoteOf ctl c.ask-asked.result.1) (sym q.is_engine.controller) A.note.0;
       path = stands_by g.T.Table.our_turn g.T.Table.history about.opened.value path.log path.turn path.last about.table.value about.table.value about.start about.start about.clients about.clients about.group_bytes about.group_bytes known (noted c.ask-asked.result.1) (hs ++ handled_with xs ys) refl refl refl refl (sym A.note.1)
-      (stands_held_up g.T.Table.our_turn g.T.Table.history about.opened.value path.log path.turn path.last e.controller d n about.table.value about.start about.clients about.group_bytes asked known hs xs ys zip is led (asked_is k was asked known xs n h about.group_bytes about.clients led S.leads) (asked_after k was asked known xs n h) hold may st.path);
+          (stands_held_up g.T.Table.our_turn g.T.Table.history about.opened.value path.log path.turn path.last e.controller d n about.table.value about.start about.clients about.group_bytes asked known hs xs ys zip is led (asked_is k was asked known xs n h about.group_bytes about.clients led S.leads) (asked_after k was asked known xs n h) hold may st.path);
     }
 
 pub handle-path-requires-clause-group : goal.handle-path-requires-clause-group
@@ -104,8 +103,7 @@ handle-path-requires-clause-group g c =
 pub handle-path-requires-clause-path : goal.handle-path-requires-clause-path
 handle-path-requires-clause-path g c =
     let q = c.requires.served.seats in let e = c.args.self.now in let about = about_of e.list in let path = c.args.held.path in let home = g.T.Table.opening e.table in let E = q.is_engine in
-    let asked : List ControllerCall = noted c.args.held.asked in let hs = c.requires.held.0 in
-    (
+    let asked : List ControllerCall = noted c.args.held.asked in let hs = c.requires.held.0 in (
       about.opened.value,
       e.group_bytes,
       asked,
@@ -196,5 +194,5 @@ returns-clause-held g c hs st =
     record {
       note = subst (λ ctl. IsNoteOf ctl c.ask-asked.result.1) (sym E.controller) A.note.0;
       path = stands_by g.T.Table.our_turn g.T.Table.history about.opened.value p.log p.turn p.last e.table about.table.value home.start about.start home.clients about.clients e.group_bytes about.group_bytes (seen_at d) (noted c.ask-asked.result.1) (hs ++ handled_with xs ys)
-      (sym E.table) (sym E.start) (E.clients ∙ sym E.about_clients) (sym E.group_bytes) (is ∙ sym A.note.1) as_was;
+          (sym E.table) (sym E.start) (E.clients ∙ sym E.about_clients) (sym E.group_bytes) (is ∙ sym A.note.1) as_was;
     }
