@@ -23,7 +23,7 @@ each (c ∷ clients) zero a at = let same : newcomer 0 c.number ≡ a = cc at in
 each (c ∷ clients) (suc i) a at = each clients i a at
 
 pub returns : goal.returns
-returns c = (
+returns g c = (
   nothing,
   [],
   record {
