@@ -52,7 +52,10 @@ fn batches_of_two_clients_interleave(rt: HostRuntime) -> Result<(), Fail> {
     let second = vec![in rt.alloc(); entry(2, 3, 3, sets_again), entry(2, 5, 6, both)]?;
     let history = history_of(rt.alloc(), vec![in rt.alloc(); first, second]?)?;
     assert_eq!(rt; history.len(), 4);
-    for (entry, want) in history.iter().zip([(1, 1, 2), (2, 3, 3), (1, 4, 4), (2, 5, 6)]) {
+    for (entry, want) in history
+        .iter()
+        .zip([(1, 1, 2), (2, 3, 3), (1, 4, 4), (2, 5, 6)])
+    {
         assert_eq!(rt; (entry.client, entry.first, entry.last), want);
     }
     let state = state_of(rt.alloc(), &history)?;
