@@ -1,6 +1,6 @@
 -- Lists by a key: one that rises strictly has one element of a key at most, and a rising list that has the same
 -- elements of each key is the same list.
-use Rattle.std.proofs.Common.{◌≡◌, ℕ, ◌+◌, ◌<◌, ◌≤◌, ◌==◌, ◌&&◌, not, cond, Bool, true, false, List, [], ◌∷◌, length, get_or, filter, refl, ap, sym, ◌∙◌, arith, inl, inr, ◌⊎◌, suc, nat_lt, nat_cmp, is_lt, eqb-true}
+use Rattle.std.proofs.Common.{◌≡◌, ℕ, ◌<◌, ◌≤◌, ◌==◌, ◌&&◌, not, cond, Bool, true, false, List, [], ◌∷◌, length, get_or, filter, refl, ap, sym, ◌∙◌, arith, inl, inr, ◌⊎◌, suc, nat_lt, nat_cmp, is_lt, eqb-true}
 use Rattle.std.specs.List.{AllByRecursion}
 use Rattle.std.specs.List.Sorted.{IsNonDecreasingBy, ties}
 use Rattle.std.proofs.lemmas.Bool.Decides.{nat_tests}

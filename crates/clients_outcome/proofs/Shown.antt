@@ -1,7 +1,7 @@
 -- Batches at hand that show a history.
-use Rattle.std.proofs.Common.{◌≡◌, ℕ, ◌+◌, ◌-◌, ◌<◌, ◌≤◌, ◌==◌, cond, Bool, true, false, Some, List, [], ◌∷◌, length, map, slice_get, filter, flat_map, fold, refl, ap, sym, ◌∙◌, arith, Vec, Global}
+use Rattle.std.proofs.Common.{◌≡◌, ℕ, ◌+◌, ◌-◌, ◌≤◌, ◌==◌, cond, Bool, true, false, List, [], ◌∷◌, length, map, filter, flat_map, fold, refl, ap, sym, ◌∙◌, arith, Vec, Global}
 use Rattle.std.specs.Prelude.{Result, Ok, Err, IfOk}
-use Rattle.std.specs.List.{AllByRecursion, AllZip}
+use Rattle.std.specs.List.{AllByRecursion}
 use Rattle.std.specs.List.Sorted.{IsNonDecreasingBy}
 use Rattle.wp_model.specs.declared.memory.NoMemory.{NoMemory}
 use Rattle.wp_model.specs.Map.{Pairs, after_records}
@@ -13,7 +13,7 @@ use Rattle.client_calls.specs.Shows.{ShowsEntry}
 use Rattle.client_run.specs.Answers.{ShowsEntries}
 use Rattle.clients_outcome.specs.Histories.{MakeUp}
 use Rattle.clients_outcome.proofs.Fibres.{at, Climbs, SameFibres, climbs_lower, sorted_is}
-use Rattle.clients_outcome.proofs.Owners.{own, owns, IsOneOf, owns_fibres, joined_owns}
+use Rattle.clients_outcome.proofs.Owners.{owns, IsOneOf, owns_fibres, joined_owns}
 
 -- what shows an entry
 abbrev pub shown_of : history.Entry → Entry Contents

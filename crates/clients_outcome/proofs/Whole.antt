@@ -1,16 +1,15 @@
 -- From what the clients and the closing say to a legal outcome.
-use Rattle.std.proofs.Common.{◌≡◌, ℕ, zero, suc, ◌+◌, ◌≤◌, Option, Some, None, List, [], ◌∷◌, length, map, slice_get, refl, ap, sym, ◌∙◌, subst, arith, inl, inr, Vec, Global}
+use Rattle.std.proofs.Common.{◌≡◌, ℕ, zero, suc, ◌+◌, ◌≤◌, Option, Some, List, [], ◌∷◌, length, map, slice_get, refl, ap, sym, ◌∙◌, subst, inl, inr, Vec, Global}
 use Rattle.std.specs.Prelude.{Result, Ok, Err, IfOk}
 use Rattle.std.specs.List.{AllByRecursion, AllZip}
 use Rattle.std.specs.Option.{option_map}
-use Rattle.std.proofs.lemmas.List.{length-map}
 use Rattle.std.proofs.lemmas.Option.{slice_get-map, slice_get_cases}
 use Rattle.wp_model.specs.declared.memory.NoMemory.{NoMemory}
 use Rattle.wp_model.specs.History as history
 use Rattle.wp_model.specs.Trace.{Trace, Settings}
 use Rattle.wp_model.specs.Groups.{Group}
 use Rattle.wp_model.specs.Calls as calls
-use Rattle.wp_model.specs.Outcomes.{IsClient, IsLegalIn, outcome_of, entries_of_client}
+use Rattle.wp_model.specs.Outcomes.{IsLegalIn, outcome_of, entries_of_client}
 use Rattle.write_batch.specs.Contents.{Contents}
 use Rattle.client_calls.specs.declared.entry.Entry.{Entry}
 use Rattle.client_calls.specs.declared.reply.Reply.{Reply}

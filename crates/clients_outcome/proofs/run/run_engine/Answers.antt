@@ -1,4 +1,4 @@
-use Rattle.std.proofs.Common.{◌≡◌, ◌∙◌, sym, map, length, Vec, Global}
+use Rattle.std.proofs.Common.{◌∙◌, sym, map, Vec, Global}
 use Rattle.std.proofs.lemmas.List.{length-map}
 use Rattle.client_calls.specs.declared.command.Command.{Command}
 use Rattle.client_calls.specs.Commands.{command_of}
