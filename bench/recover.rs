@@ -1,7 +1,10 @@
 //! What the script `recover` beside this file measures with.
 //!
-//!     recover make LOG MIB              writes a log of about so many MiB
-//!     recover measure LOG PROGRAM N     times `PROGRAM LOG recover` and a plain pass of CRC-32C over the log, each N times
+//!     recover make LOG MIB
+//!         writes a log of about so many MiB
+//!     recover measure LOG PROGRAM N [NAME PEER]..
+//!         times `PROGRAM LOG recover`, a plain pass of CRC-32C over the log, and how each PEER, a program built of
+//!         `recover_peer.cc` beside this file, opens a database with the log, each N times
 
 use std::env;
 use std::error::Error;
@@ -33,8 +36,8 @@ fn main() -> Result<(), Failure> {
     let words: Vec<&str> = words.iter().map(String::as_str).collect();
     match words[..] {
         ["make", log, mib] => make(Path::new(log), mib.parse::<usize>()? << 20),
-        ["measure", log, program, rounds] => measure(log, program, rounds.parse()?),
-        _ => Err("usage: recover make LOG MIB | recover measure LOG PROGRAM N".into()),
+        ["measure", log, program, rounds, ref peers @ ..] => measure(log, program, rounds.parse()?, peers),
+        _ => Err("usage: recover make LOG MIB | recover measure LOG PROGRAM N [NAME PEER]..".into()),
     }
 }
 
@@ -164,13 +167,14 @@ fn put_fragment(checksum: &Checksum, log: &mut Vec<u8>, kind: u8, part: &[u8]) {
     log.extend_from_slice(&checked);
 }
 
-/// Times both, and prints the best times as rates and how often the one goes into the other.
-fn measure(log: &str, program: &str, rounds: usize) -> Result<(), Failure> {
+/// Times all, and prints the best times, as rates too, and how often that of `recover` goes into each of the others.
+fn measure(log: &str, program: &str, rounds: usize, peers: &[&str]) -> Result<(), Failure> {
     let bytes = fs::read(log)?;
-    let last = recovered(log, program)?;
-    if last != format!("end {} clean", bytes.len()) {
-        return Err(format!("recover ended with `{last}`").into());
-    }
+    let keys = recovered_keys(log, program, bytes.len())?;
+    let mut peers = peers
+        .chunks_exact(2)
+        .flat_map(|pair| Peer::of(pair[0], pair[1]))
+        .collect::<Vec<Peer>>();
     let checksum = Checksum::new();
     let (mut recovery, mut plain) = (Duration::MAX, Duration::MAX);
     let mut sum = 0;
@@ -187,13 +191,59 @@ fn measure(log: &str, program: &str, rounds: usize) -> Result<(), Failure> {
         let start = spent(OWN)?;
         sum = checksum.of(std::hint::black_box(&bytes));
         plain = plain.min(spent(OWN)? - start);
+        for peer in &mut peers {
+            peer.open(log, keys)?;
+        }
     }
-    let rate = |time: Duration| bytes.len() as f64 / 1e6 / time.as_secs_f64();
-    println!("log      {} bytes, CRC-32C {sum:08x}", bytes.len());
-    println!("recover  {:8.1} MB/s", rate(recovery));
-    println!("CRC-32C  {:8.1} MB/s (a byte a step, by a table of 256 entries)", rate(plain));
-    println!("ratio    {:8.2}", recovery.as_secs_f64() / plain.as_secs_f64());
+    println!("log                      {} bytes, {keys} keys, CRC-32C {sum:08x}", bytes.len());
+    let show = |name: &str, time: Duration| {
+        let (seconds, ratio) = (time.as_secs_f64(), time.as_secs_f64() / recovery.as_secs_f64());
+        println!("{name:<24} {seconds:6.3} s {:8.1} MB/s {ratio:8.2}", bytes.len() as f64 / 1e6 / seconds);
+    };
+    show("recover", recovery);
+    show("CRC-32C, a byte a step", plain);
+    for peer in &peers {
+        show(&format!("{}, to {}", peer.name, peer.to), peer.best);
+    }
     Ok(())
+}
+
+/// One that opens a database with the log.
+struct Peer {
+    name: String,
+    program: String,
+    /// Where what it recovers stays.
+    to: &'static str,
+    best: Duration,
+}
+
+impl Peer {
+    /// The same program in both ways to open.
+    fn of(name: &str, program: &str) -> [Peer; 2] {
+        ["tables", "memory"].map(|to| Peer {
+            name: name.to_string(),
+            program: program.to_string(),
+            to,
+            best: Duration::MAX,
+        })
+    }
+
+    /// Opens a new database once, which must come to so many keys.
+    fn open(&mut self, log: &str, keys: u64) -> Result<(), Failure> {
+        let folder = format!("{log}.database");
+        let output = Command::new(&self.program).args([&folder, log, self.to]).output()?;
+        fs::remove_dir_all(&folder)?;
+        let text = String::from_utf8(output.stdout)?;
+        let mut words = text.split_whitespace().map(str::parse::<u64>);
+        let (Some(micros), Some(found)) = (words.next(), words.next()) else {
+            return Err(format!("{}: {}", self.name, String::from_utf8_lossy(&output.stderr)).into());
+        };
+        if found? != keys {
+            return Err(format!("{} has not {keys} keys", self.name).into());
+        }
+        self.best = self.best.min(Duration::from_micros(micros?));
+        Ok(())
+    }
 }
 
 /// Whose processor time `spent` tells: this program's, or that of those which it started and which have ended.
@@ -228,9 +278,14 @@ fn spent(who: i32) -> Result<Duration, Failure> {
         + Duration::from_micros(u64::try_from(microseconds + system_microseconds)?))
 }
 
-/// The last line that `recover` prints of the log.
-fn recovered(log: &str, program: &str) -> Result<String, Failure> {
+/// How many keys `recover` finds in the log, which it must read to the end.
+fn recovered_keys(log: &str, program: &str, len: usize) -> Result<u64, Failure> {
     let output = Command::new(program).args([log, "recover"]).output()?;
     let text = String::from_utf8(output.stdout)?;
-    Ok(text.lines().last().unwrap_or_default().to_string())
+    let last = text.lines().last().unwrap_or_default();
+    if last != format!("end {len} clean") {
+        return Err(format!("recover ended with `{last}`").into());
+    }
+    let state = text.lines().find(|line| line.starts_with("state ")).ok_or("recover printed no map")?;
+    Ok(state.split(' ').next_back().unwrap_or_default().parse()?)
 }

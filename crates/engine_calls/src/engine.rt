@@ -165,11 +165,7 @@ pub trait Engine {
 
     /// Gives the log up. All clients are handed in. Of all that they did and saw there is one trace, and the log was
     /// written by just the calls that wrote its history. It takes no memory.
-    fn close<R: Wait>(
-        self,
-        rt: &R,
-        clients: Clients<Self::Client, Self::Room>,
-    ) -> Closed<Self::Log>
+    fn close<R: Wait>(self, rt: &R, clients: Clients<Self::Client, Self::Room>) -> Closed<Self::Log>
         requires all { AreOurs (belongs self) account (settings self).clients clients.clients.items }
         requires room { closes self clients.room }
         ensures { let accounts = map account clients.clients.items in

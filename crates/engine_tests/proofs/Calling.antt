@@ -1,5 +1,7 @@
 -- What the calls of the engine say of its clients, as `Callers` says it.
-use Rattle.std.proofs.Common.{◌≡◌, ℕ, ◌+◌, inl, inr, List, length, Option, Some, None, MatchOption, subst}
+use Rattle.std.proofs.Common.{◌≡◌, ℕ, ◌+◌, inl, inr, List, ◌++◌, length, take, drop, Option, Some, None, MatchOption, subst, sym, ap, ◌∙◌}
+use Rattle.std.proofs.Math.Seq.{take-append_seam}
+use Rattle.std.specs.Vec.{with_items}
 use Rattle.std.proofs.lemmas.Option.{slice_get-get_or, slice_get_within, get_or_from_slice_get}
 use Rattle.wp_edge.specs.declared.disk.Disk.{Ghosts}
 use Rattle.wp_model.specs.declared.write.WriteOptions.{WriteOptions}
@@ -11,7 +13,7 @@ use Rattle.wp_model.specs.Progress.{early_refusal}
 use Rattle.account_model.specs.Accounts.{Account, Keeps, Refuses, IsRefusedLate}
 use Rattle.account_model.specs.Closing.{AreOurs}
 use Rattle.group_engine.specs.Clients.{account_in}
-use Rattle.engine_tests.specs.Callers.{table_opening, table_ours, table_account, Path, Member, MayCall, IsCaller, AllMayCall}
+use Rattle.engine_tests.specs.Callers.{table_opening, table_ours, table_account, Path, Member, Members, MayCall, IsCaller, AllMayCall, AreAll}
 
 -- a client that is refused keeps its number
 pub refused_number : (s : Settings) (v : Account) (rs : List Record) (how : WriteOptions) (why : Refusal) (w : Account) → Refuses s v rs how why w → w.number ≡ v.number
@@ -20,6 +22,10 @@ refused_number s v rs how why w = by_early (early_refusal s.batch_bytes (holds_s
     by_early : (early : Option Refusal) → MatchOption early (IsRefusedLate v rs how why w) (λ (e : Refusal). (why ≡ e) × Keeps v w) → w.number ≡ v.number
     by_early None late = elim late [ inl kept ↦ kept.1.number | inr refused ↦ refused.number ]
     by_early (Some e) early = early.1.number
+
+-- what a `Vec` has after a write to its whole slice
+whole_slice : {X : Type 0} (n : ℕ) (new old : List X) → length new ≡ n → take n (new ++ drop (length new) old) ≡ new
+whole_slice n new old count = subst (λ k. take k (new ++ drop (length new) old) ≡ new) count (take-append_seam new (drop (length new) old))
 
 module _ {D : Type 0} {ghosts : Ghosts D} (e : Path D ghosts) where
   -- all clients of the engine may call
@@ -31,3 +37,9 @@ module _ {D : Type 0} {ghosts : Ghosts D} (e : Path D ghosts) where
     number_of = len;
     each = λ i c at. let h = subst (IsCaller e (i + 1)) (get_or_from_slice_get cs i c c at) (all.each i c (slice_get_within cs i c at)) in (h.belongs, h.number);
   }
+
+  -- after calls of theirs they are still all clients
+  pub all_after : (all : Members D ghosts) (new : List (Member D ghosts)) → AreAll e all → AllMayCall e new → length new ≡ length all.clients.items → AreAll e (record { clients = with_items all.clients new; room = all.room })
+  all_after all new a may same =
+      let whole = whole_slice all.clients.len new all.clients.items (same ∙ sym all.clients.ok.0) in
+      record { may = subst (AllMayCall e) (sym whole) may; len = ap length whole ∙ (same ∙ a.len); room = a.room }

@@ -13,6 +13,8 @@ use Rattle.wp_edge.proofs.mem_disk.MemDisk.TheSendSync as disk
 use Rattle.wp_edge.specs.contracts.stepped_clock.SteppedClock as clock_row
 use Rattle.wp_edge.proofs.stepped_clock.SteppedClock.TheSendSync as clock
 use Rattle.engine_calls.specs.contracts.gate.OpenGate as gate_row
+use Rattle.engine_calls.proofs.answers.Receipt.TheSendSync as receipt
+use Rattle.engine_calls.proofs.answers.Refused.TheSendSync as refused
 use Rattle.engine_calls.proofs.gate.OpenGate.TheSendSync as gate
 use Rattle.write_controller.proofs.controller.Controller.TheSendSync as controller
 use Rattle.write_controller.proofs.pass.Pass.TheSendSync as pass
@@ -26,7 +28,7 @@ use Rattle.mem_table.specs.contracts.parts.Parts as parts
 use Rattle.mem_table.specs.contracts.parts.MemberNodes as part
 use Rattle.mem_table.proofs.node.Nodes.TheLaws.TheKnot as knot
 use Rattle.mem_table.proofs.node.Balance.TheSendSync as balance
-use Rattle.mem_table.proofs.key.Key.TheSendSync as key
+use Rattle.byte_key.proofs.key.Key.TheSendSync as key
 use Rattle.mem_table.specs.contracts.calls.TreeVersioned.TheImpl as tree_ghosts
 use Rattle.mem_table.specs.contracts.calls.NodesVersioned.TheImpl as nodes_ghosts
 use Rattle.table_steps.specs.contracts.seat.TableSeat as seat_row
@@ -53,7 +55,6 @@ use Rattle.group_engine.specs.contracts.held.HeldLedgerRequestReply.TheImpl as l
 use Rattle.group_engine.specs.contracts.held.NoRightNumbered.TheImpl as numbered
 use Rattle.group_engine.proofs.held.Held.TheSendSync as held
 use Rattle.group_engine.proofs.held.NoRight.TheSendSync as no_right
-use Rattle.group_engine.proofs.requests.Reply.TheSendSync as reply
 use Rattle.group_engine.proofs.numbering.Plan.TheSendSync as plan
 
 nodes_send : IsSend nodes.the_row
@@ -67,6 +68,12 @@ request_fields = (batch.the_send, (nodes_send, (options.the_field_send, (search 
 
 request_send : IsSend request.the_row
 request_send = let C = request.the_type in recorded_send request.the_field.row C.D C.to C.to_one (struct_send (shape C) request_fields)
+
+reply_fields : AllSend (fields reply_row.the_type)
+reply_fields = (search (sendable, receipt.the_send, refused.the_send), (search crosses, (search (sendable, note.the_send), tt)))
+
+reply_send : IsSend reply_row.the_row
+reply_send = let C = reply_row.the_type in recorded_send reply_row.the_field.row C.D C.to C.to_one (struct_send (shape C) reply_fields)
 
 part_fields : AllSend (fields part.the_type)
 part_fields = (search sendable, (nodes_send, tt))
@@ -116,13 +123,13 @@ held_send = held.the_send D table.the_row C S U nodes.the_row disk_ghosts.ghosts
 pub client_send : IsSend (client.the_row D table.the_row C S U nodes.the_row disk_ghosts.ghosts)
 client_send =
     let K = client.the_type D table.the_row C S U nodes.the_row disk_ghosts.ghosts in
-    let all : AllSend (fields K) = (search sendable, (search sendable, (writer.the_field_send request.the_row reply_row.the_row H no_right_row.the_row request_send reply.the_send held_send no_right.the_send, (seat_send, (pass.the_field_send, (lists.the_field_send request.the_row reply_row.the_row request_send reply.the_send, (struct_send (shape layout.the_type) layout_fields, tt))))))) in
+    let all : AllSend (fields K) = (search sendable, (search sendable, (writer.the_field_send request.the_row reply_row.the_row H no_right_row.the_row request_send reply_send held_send no_right.the_send, (seat_send, (pass.the_field_send, (lists.the_field_send request.the_row reply_row.the_row request_send reply_send, (struct_send (shape layout.the_type) layout_fields, tt))))))) in
     recorded_send (client.the_field D table.the_row C S U nodes.the_row disk_ghosts.ghosts).row K.D K.to K.to_one (struct_send (shape K) all)
 
 pub engine_sync : IsSync (engine.the_row D table.the_row C G S U nodes.the_row disk_ghosts.ghosts table_ghosts.ghosts)
 engine_sync =
     let K = engine.the_type D table.the_row C G S U nodes.the_row disk_ghosts.ghosts table_ghosts.ghosts in
-    let all : AllSync (fields K) = (list.the_field_sync request.the_row reply_row.the_row H no_right_row.the_row (about_row.the_row D table.the_row C disk_ghosts.ghosts) itemized.ghosts given.ghosts (ledger.ghosts D table.the_row C S U nodes.the_row disk_ghosts.ghosts ledger.no_dict table_ghosts.ghosts ledger.no_dict) numbered.ghosts request_send reply.the_send held_send no_right.the_send, (table_sync, (controller.the_field_sync C clock.the_send, (gate.the_field_sync, (heap.the_field_sync, (search sendable, (search sendable, tt))))))) in
+    let all : AllSync (fields K) = (list.the_field_sync request.the_row reply_row.the_row H no_right_row.the_row (about_row.the_row D table.the_row C disk_ghosts.ghosts) itemized.ghosts given.ghosts (ledger.ghosts D table.the_row C S U nodes.the_row disk_ghosts.ghosts ledger.no_dict table_ghosts.ghosts ledger.no_dict) numbered.ghosts request_send reply_send held_send no_right.the_send, (table_sync, (controller.the_field_sync C, (gate.the_sync, (heap.the_field_sync, (search sendable, (search sendable, tt))))))) in
     recorded_sync (engine.the_field D table.the_row C G S U nodes.the_row disk_ghosts.ghosts table_ghosts.ghosts).row K.D K.to K.to_one (struct_sync (shape K) all)
 
 -- threads may share a closure of five captures where they may share those

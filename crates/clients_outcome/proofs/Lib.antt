@@ -1,0 +1,4 @@
+pub mod Fibres
+pub mod Owners
+pub mod Shown
+pub mod Whole

@@ -1,0 +1,60 @@
+//! The map at the end of a history.
+
+ghost use Rattle.std.specs.Prelude.{◌≡◌, List, IfOk, OnOk};
+ghost use Rattle.wp_model.specs.Map.{after_record, after_records};
+ghost use Rattle.wp_model.specs.History as model;
+ghost use Rattle.write_batch.specs.View.{record_of};
+ghost use Rattle.client_run.specs.Answers.{ShowsEntries};
+
+use client_calls::Entry;
+use std::alloc::Global;
+use wp_coding::{Bytes, PairList, PairMap};
+use wp_model::NoMemory;
+use write_batch::{Batch, RecordView};
+
+/// The map that a history makes.
+pub fn state_of(alloc: Global, history: &[Entry<Batch>]) -> Result<PairList, NoMemory>
+    ensures { (entries : List model.Entry) → ShowsEntries history.now entries
+        → IfOk result (λ state. state ≡ model.map_of entries) }
+{
+    let mut map = PairMap::new(alloc);
+    for entry in history {
+        write_records(&mut map, &entry.batch)?;
+    }
+    pairs_of(alloc, &map)
+}
+
+/// Does to a map what a batch says.
+fn write_records(map: &mut PairMap, batch: &Batch) -> Result<(), NoMemory>
+    ensures { OnOk result (map.new ≡ after_records map.old batch.now.records) }
+{
+    for view in batch.records() {
+        write_record(map, view)?;
+    }
+    Ok(())
+}
+
+/// Does to a map what a record says.
+fn write_record(map: &mut PairMap, view: RecordView<'_>) -> Result<(), NoMemory>
+    ensures { OnOk result (map.new ≡ after_record map.old (record_of view.entry)) }
+{
+    match view {
+        RecordView::Value { key, value } => map.insert(key, value),
+        RecordView::Deletion { key } | RecordView::SingleDeletion { key } => {
+            map.remove(key);
+            Ok(())
+        }
+        RecordView::LogData { .. } => Ok(()),
+    }
+}
+
+/// The pairs of a map, with strings of their own.
+fn pairs_of(alloc: Global, map: &PairMap) -> Result<PairList, NoMemory>
+    ensures { IfOk result (λ pairs. pairs ≡ map.now) }
+{
+    let mut pairs = Vec::with_capacity(alloc, map.len())?;
+    for (key, value) in map.iter() {
+        pairs.push((Bytes::copy(alloc, key)?, Bytes::copy(alloc, value)?))?;
+    }
+    Ok(PairList::from_vec(pairs))
+}
