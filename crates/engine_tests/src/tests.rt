@@ -4,6 +4,7 @@ ghost use Rattle.std.specs.Prelude.{◌<◌, ◌≤◌};
 ghost use Rattle.wp_model.specs.History.{max_sequence};
 
 mod playing;
+mod tokens;
 
 use crate::script::{Note, Step};
 use client_calls::Options;
@@ -107,6 +108,10 @@ enum Want {
     Val(u64, &'static [u8]),
     /// A read at this sequence, without a value.
     Nil(u64),
+    /// A token was taken or given back, or not, as the client holds such a one, or holds none.
+    Done,
+    Held,
+    NotHeld,
 }
 
 fn check_note(rt: &impl Abort, note: &Note, want: Want) {
@@ -118,7 +123,7 @@ fn check_note(rt: &impl Abort, note: &Note, want: Want) {
             );
             assert_eq!(rt; receipt.batch.sequence(), first);
         }
-        (Note::Refused(refused), Want::No(why)) => assert_eq!(rt; refused.why, why),
+        (Note::Refused(told), Want::No(why)) => assert_eq!(rt; *told, why),
         (Note::Saw(read), Want::Val(at, value)) => {
             assert_eq!(rt; read.at, at);
             let Found::Value(found) = &read.value else {
@@ -130,6 +135,7 @@ fn check_note(rt: &impl Abort, note: &Note, want: Want) {
             assert_eq!(rt; read.at, at);
             assert!(rt; read.value == Found::Absent);
         }
+        (Note::Done, Want::Done) | (Note::Held, Want::Held) | (Note::NotHeld, Want::NotHeld) => {}
         _ => panic!(rt; "another answer"),
     }
 }
@@ -330,7 +336,7 @@ fn check_told(rt: &impl Abort, told: &[Note], fault: Option<u64>, recovered: u64
                 assert_eq!(rt; receipt.count, 2);
                 assert!(rt; i == 1 || receipt.first < recovered);
             }
-            Note::Refused(refused) => match (refused.why, fault) {
+            Note::Refused(why) => match (*why, fault) {
                 (Refusal::LogFault { count }, Some(fault)) => assert_eq!(rt; count, fault),
                 _ => panic!(rt; "another refusal"),
             },

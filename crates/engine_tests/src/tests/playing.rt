@@ -29,7 +29,7 @@ pub(super) type Members = Clients<Member, Room<MemDisk, MemoryTable, SteppedCloc
 pub(super) type Notes = Mutex<Vec<Note>>;
 
 // Opens an engine over an empty disk with so much room, of whose calls those of a list fail. The first looks at the
-// disk's length.
+// disk's length. The clock stands at 1000.
 pub(super) fn opened(
     rt: &impl Abort,
     alloc: Global,
@@ -47,7 +47,14 @@ pub(super) fn opened(
     let Ok(log) = LogWriter::open(alloc, disk) else {
         panic!(rt; "the log isn't opened")
     };
-    match open_engine(alloc, log, SteppedClock::new(0), clients, OpenGate, options) {
+    match open_engine(
+        alloc,
+        log,
+        SteppedClock::new(1000),
+        clients,
+        OpenGate,
+        options,
+    ) {
         Ok(opened) => opened,
         Err(_) => panic!(rt; "no memory"),
     }
@@ -62,19 +69,24 @@ fn batch_of(rt: &impl Abort, alloc: Global, rows: &[(&[u8], &[u8])]) -> Batch {
     batch
 }
 
+// Where the write is refused, the batch is what was given back last.
 fn write<R: Wait>(
     rt: &R,
     engine: &Path,
     client: &mut Member,
     batch: Batch,
     options: WriteOptions,
+    back: &mut Option<Batch>,
 ) -> Note
     requires { MayCall engine.now client.old }
     ensures { MayCall engine.now client.new × (number_of client.new ≡ number_of client.old) }
 {
     match engine.write(rt, client, batch, options) {
         Ok(receipt) => Note::Wrote(receipt),
-        Err(refused) => Note::Refused(refused),
+        Err(refused) => {
+            *back = Some(refused.batch);
+            Note::Refused(refused.why)
+        }
     }
 }
 
@@ -88,12 +100,53 @@ fn read<R: Wait>(rt: &R, engine: &Path, client: &mut Member, key: &[u8]) -> Note
     }
 }
 
+fn stop<R: Wait>(rt: &R, engine: &Path, client: &mut Member) -> Note
+    requires { MayCall engine.now client.old }
+    ensures { MayCall engine.now client.new × (number_of client.new ≡ number_of client.old) }
+{
+    match engine.stop(rt, client) {
+        Ok(()) => Note::Done,
+        Err(_) => Note::Held,
+    }
+}
+
+fn unstop<R: Wait>(rt: &R, engine: &Path, client: &mut Member) -> Note
+    requires { MayCall engine.now client.old }
+    ensures { MayCall engine.now client.new × (number_of client.new ≡ number_of client.old) }
+{
+    match engine.unstop(rt, client) {
+        Ok(()) => Note::Done,
+        Err(_) => Note::NotHeld,
+    }
+}
+
+fn slow<R: Wait>(rt: &R, engine: &Path, client: &mut Member, rate: u64) -> Note
+    requires { MayCall engine.now client.old }
+    ensures { MayCall engine.now client.new × (number_of client.new ≡ number_of client.old) }
+{
+    match engine.slow(rt, client, rate) {
+        Ok(()) => Note::Done,
+        Err(_) => Note::Held,
+    }
+}
+
+fn unslow<R: Wait>(rt: &R, engine: &Path, client: &mut Member) -> Note
+    requires { MayCall engine.now client.old }
+    ensures { MayCall engine.now client.new × (number_of client.new ≡ number_of client.old) }
+{
+    match engine.unslow(rt, client) {
+        Ok(()) => Note::Done,
+        Err(_) => Note::NotHeld,
+    }
+}
+
 fn step<R: Wait + Abort>(
     rt: &R,
     alloc: Global,
     engine: &Path,
     client: &mut Member,
     step: Step,
+    back: &mut Option<Batch>,
 ) -> Note
     requires { MayCall engine.now client.old }
     ensures { MayCall engine.now client.new × (number_of client.new ≡ number_of client.old) }
@@ -101,9 +154,17 @@ fn step<R: Wait + Abort>(
     match step {
         Step::Write { rows, options } => {
             let batch = batch_of(rt, alloc, rows);
-            write(rt, engine, client, batch, options)
+            write(rt, engine, client, batch, options, back)
+        }
+        Step::Again { options } => {
+            let batch = back.take().expect(rt, "a refused batch");
+            write(rt, engine, client, batch, options, back)
         }
         Step::Read { key } => read(rt, engine, client, key),
+        Step::Stop => stop(rt, engine, client),
+        Step::Unstop => unstop(rt, engine, client),
+        Step::Slow { rate } => slow(rt, engine, client, rate),
+        Step::Unslow => unslow(rt, engine, client),
     }
 }
 
@@ -119,8 +180,9 @@ fn play<R: Wait + Abort>(
     requires { MayCall engine.now client.old }
     ensures { MayCall engine.now client.new × (number_of client.new ≡ number_of client.old) }
 {
+    let mut back = None;
     for i in 0..steps.len() {
-        let note = step(rt, alloc, engine, client, steps[i]);
+        let note = step(rt, alloc, engine, client, steps[i], &mut back);
         notes.lock(rt).push(note).expect(rt, "memory");
     }
 }
