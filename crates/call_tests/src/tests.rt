@@ -441,9 +441,13 @@ fn groups_are_logged_while_others_are_inserted(rt: HostRuntime) -> Result<(), Fa
 const READS: &[u8] =
     b"client 1\nput a 1\nput b 2\ncommit\nclient 2\nmany b a x\nscan a c\nmany b x\nscan a b\nschedule\nread 2\nlink 1\nelect 1\nbuild 1\nlog 1\nlaunch 1\ninsert 1\nread 2\nfinish 1\npublish 1\nread 2\nread 2\nexit 1\ncomplete 1\n";
 
+/// The second commit may not be slowed down and the first may, so that they are in no group together.
+const OTHER_FLAGS: &[u8] =
+    b"client 1\nput a 1\ncommit\nclient 2\nput b 2\ncommit noslow\nschedule\nlink 1\nlink 2\nelect 1\nbuild 1\nlog 1\nlaunch 1\ninsert 1\ninsert 2\nfinish 1\npublish 1\nexit 1\ncomplete 1\n";
+
 #[test]
 fn several_keys_are_read_at_one_sequence(rt: HostRuntime) -> Result<(), Fail> {
-    let rows: [(&[u8], u8, &[u8]); 5] = [
+    let rows: [(&[u8], u8, &[u8]); 6] = [
         (
             READS,
             0,
@@ -453,9 +457,14 @@ fn several_keys_are_read_at_one_sequence(rt: HostRuntime) -> Result<(), Fail> {
         (b"client 1\nscan a\nschedule\n", 2, b"script 2 form\n"),
         (b"client 1\nstop\nschedule\n", 2, b"script 2 word\n"),
         (
-            b"client 1\ncommit noslow\nschedule\n",
+            b"client 1\ncommit noslow sync\nschedule\n",
             2,
             b"script 2 form\n",
+        ),
+        (
+            OTHER_FLAGS,
+            0,
+            b"events 11 skipped 1\nclient 1\nok 1 1\nclient 2\nhistory 1\n1 1 1 1 log 0100000000000000010000000101610131\nstate 1 1\na 1\ngroups 1\n",
         ),
     ];
     for (text, status, want) in rows {
