@@ -5,14 +5,15 @@ use Rattle.wp_model.specs.declared.write.Refusal.{Refusal}
 use Rattle.wp_model.specs.declared.write.Refusal.TheVariants.{NoMemory, Empty, TooLarge, SyncWithoutLog, SelfStop, LogFault, SequenceFull, Incomplete}
 use Rattle.wp_model.specs.Calls.{Call, Reply, refused}
 
--- the batch is empty or too large, it was to be synced without the log, or no sequences are left for it
+-- The batch is empty or too large, it was to be synced without the log, or no sequences are left for it. Or the client
+-- holds a stop token itself, or asked not to wait while writes were held up.
 abbrev pub is_for_itself : Refusal → Bool
 is_for_itself Empty = true
 is_for_itself (TooLarge size) = true
 is_for_itself SyncWithoutLog = true
 is_for_itself (SequenceFull last) = true
-is_for_itself SelfStop = false
-is_for_itself (Incomplete stops delays wait) = false
+is_for_itself SelfStop = true
+is_for_itself (Incomplete stops delays wait) = true
 is_for_itself (LogFault count) = false
 is_for_itself NoMemory = false
 
