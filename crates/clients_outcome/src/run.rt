@@ -1,17 +1,12 @@
 //! The whole run.
 
 ghost use Rattle.std.specs.Prelude.{◌≡◌, ◌^◌, ◌<◌, ℕ, List, length, IfOk};
-ghost use Rattle.wp_model.specs.Trace.{Trace};
-ghost use Rattle.wp_model.specs.Attempts.{Attempt};
 ghost use Rattle.wp_model.specs.History as model;
-ghost use Rattle.wp_model.specs.Calls as calls;
-ghost use Rattle.wp_model.specs.Outcomes.{IsLegalIn};
-ghost use Rattle.client_calls.specs.Shows.{ShowsOutcome};
 ghost use Rattle.account_model.specs.Closing.{AreOurs};
-ghost use Rattle.account_model.specs.Written.{WritesLog};
 ghost use Rattle.client_run.specs.Answers.{ShowsEntries};
 ghost use Rattle.client_run.specs.Jobs.{commands_in, FitBatches, AreNew};
 ghost use Rattle.clients_outcome.specs.Histories.{MakeUp};
+ghost use Rattle.clients_outcome.specs.Runs.{ComesTo};
 
 use crate::history::history_of;
 use crate::state::state_of;
@@ -30,7 +25,16 @@ use write_batch::Batch;
 pub struct Ran<L> {
     pub log: L,
     pub last: u64,
-    pub parts: Result<Parts, NoMemory>,
+    pub parts: Result<Parts, Lacks>,
+}
+
+/// What there was no memory for.
+#[derive(Clone, Copy, Debug, PartialEq, Eq)]
+pub enum Lacks {
+    /// The run. No client has called anything.
+    Run,
+    /// Its outcome. All clients have run.
+    Outcome,
 }
 
 /// The replies of each client, the accepted batches in order of their sequences, and the map that they make.
@@ -43,8 +47,7 @@ pub struct Parts {
 
 /// Runs a script's clients over a write path, closes it, and puts together what it came to.
 ///
-/// Where memory lacks for the run itself, no client has called anything. Where it lacks for the history or for the map,
-/// all have run. The write path is closed all the same.
+/// The write path is closed also where memory lacks.
 pub fn run_engine<E: Engine + Sync, G: Gate + Sync, R: Threads + Wait + Sync>(
     rt: &R,
     alloc: Global,
@@ -61,16 +64,8 @@ where
     requires few { length script.now < 2 ^ 32 }
     requires fits { FitBatches (commands_in script.now) }
     requires room { E.closes engine clients.room }
-    ensures { (trace : Trace) × (attempts : List (List Attempt))
-        × WritesLog (E.settings engine).group_bytes (E.wrote engine) trace attempts (E.fault result.log) result.log
-        × IfOk result.parts (λ parts. (log_len : ℕ) → (o : calls.Outcome) × ShowsOutcome (record {
-          transcripts = parts.transcripts;
-          history = parts.history;
-          last = result.last;
-          state = parts.state;
-          log_len = log_len;
-          fault = E.fault result.log;
-        }) o × IsLegalIn (E.settings engine) (E.faults result.log) (commands_in script.now) trace attempts o) }
+    ensures { ComesTo (E.settings engine) (commands_in script.now) (E.wrote engine) E.fault E.faults result.log
+        result.last result.parts }
 {
     let Clients { clients, room } = clients;
     match run_clients(rt, alloc, &engine, clients, script, gate) {
@@ -82,18 +77,18 @@ where
             } = transcripts;
             closed_runs_are_legal();
             let Closed { log, last } = engine.close(rt, Clients { clients, room });
-            Ran {
-                log,
-                last,
-                parts: parts_of(alloc, replies, accepted),
-            }
+            let parts = match parts_of(alloc, replies, accepted) {
+                Ok(parts) => Ok(parts),
+                Err(NoMemory) => Err(Lacks::Outcome),
+            };
+            Ran { log, last, parts }
         }
         Err((clients, NoMemory)) => {
             let Closed { log, last } = engine.close(rt, Clients { clients, room });
             Ran {
                 log,
                 last,
-                parts: Err(NoMemory),
+                parts: Err(Lacks::Run),
             }
         }
     }

@@ -1,0 +1,101 @@
+//! The whole run.
+
+ghost use Rattle.std.specs.Prelude.{◌≡◌, ◌≤◌, length};
+ghost use Rattle.wp_model.specs.History.{max_sequence};
+ghost use Rattle.client_script.specs.Scripts.{commands_of, FitsBatches};
+ghost use Rattle.log_writer.specs.Words.{disk_of};
+ghost use Rattle.log_writer.specs.Opening.{HasOpened};
+ghost use Rattle.run_model.specs.Crashes.{IsImageSince};
+ghost use Rattle.run_model.specs.Running.{GoesOn};
+ghost use Rattle.script_run.specs.Ends.{IsEnd};
+
+use crate::end::{End, Executed, ended};
+use crate::shared_gate::SharedGate;
+use account_model::logs_hold_the_history;
+use client_calls::Options;
+use client_script::Script;
+use clients_outcome::run_engine;
+use engine_calls::Gate;
+use log_writer::{LogWriter, crashes_between_calls, written_by_calls};
+use memory_engine::open_engine;
+use std::alloc::Global;
+use std::sync::Wait;
+use std::thread::Threads;
+use wp_edge::{Clock, Disk};
+
+/// Runs a script over the write path of a disk's log, each client in a thread of its own, and gives the disk back. The
+/// log must be empty. The gate is told of what happens.
+pub fn execute<D: Disk + Send, C: Clock + Send + Drop, G: Gate + Sync, R: Threads + Wait + Sync>(
+    rt: &R,
+    alloc: Global,
+    disk: D,
+    clock: C,
+    gate: &G,
+    script: &Script,
+    options: Options,
+) -> Executed<D>
+    requires clients { (1 ≤ length script.now.clients.items) × (length script.now.clients.items ≤ 16) }
+    requires fits { FitsBatches script.now }
+    requires options { (options.last ≤ max_sequence) × (options.batch_bytes ≤ 16777216) }
+    ensures end { IsEnd options (commands_of script.now) (D.told disk) (D.told result.disk) (D.faults disk)
+        (D.faults result.disk) (IsImageSince D.moment D.from D.since disk result.disk) result.end }
+    ensures later { D.faults disk ≤ D.faults result.disk }
+    ensures time { GoesOn D.moment D.from disk result.disk }
+{
+    match LogWriter::open(alloc, disk) {
+        Ok(log) => run_over(rt, alloc, log, clock, SharedGate { gate }, gate, script, options),
+        Err((disk, why)) => Executed {
+            disk,
+            end: End::from(why),
+        },
+    }
+}
+
+/// Runs a script over an opened log. Both gates are told.
+fn run_over<
+    D: Disk + Send,
+    C: Clock + Send + Drop,
+    H: Gate + Sync + Drop,
+    G: Gate + Sync,
+    R: Threads + Wait + Sync,
+>(
+    rt: &R,
+    alloc: Global,
+    log: LogWriter<D>,
+    clock: C,
+    shared: H,
+    gate: &G,
+    script: &Script,
+    options: Options,
+) -> Executed<D>
+    requires clients { (1 ≤ length script.now.clients.items) × (length script.now.clients.items ≤ 16) }
+    requires fits { FitsBatches script.now }
+    requires options { (options.last ≤ max_sequence) × (options.batch_bytes ≤ 16777216) }
+    requires opened { (disk : D) × HasOpened disk log }
+    ensures { (disk : D) → HasOpened disk log → IsEnd options (commands_of script.now) (D.told disk)
+        (D.told result.disk) (D.faults disk) (D.faults result.disk)
+        (IsImageSince D.moment D.from D.since disk result.disk) result.end }
+    ensures later { D.faults (disk_of log) ≤ D.faults result.disk }
+    ensures time { GoesOn D.moment D.from (disk_of log) result.disk }
+{
+    let clients = script.clients.len() as u32;
+    match open_engine(alloc, log, clock, clients, shared, options) {
+        Ok((engine, clients)) => {
+            written_by_calls::<D>();
+            crashes_between_calls::<D>();
+            logs_hold_the_history();
+            ended(run_engine(
+                rt,
+                alloc,
+                engine,
+                clients,
+                script.clients.as_slice(),
+                gate,
+            ))
+        }
+        Err((log, _clock, _gate)) => Executed {
+            disk: log.into_disk(),
+            end: End::NoMemory,
+        },
+    }
+}
