@@ -1,5 +1,5 @@
 -- What the closed log was written by: the groups of the history, and none besides but one whose write failed.
-use Rattle.std.specs.Prelude.{◌≡◌, ℕ, ◌+◌, true, List, [], ◌∷◌, ◌++◌, map, flat_map, sum_by, Option, Some, None, MatchOption}
+use Rattle.std.specs.Prelude.{◌≡◌, ◌≢◌, ⊤, ℕ, ◌+◌, true, List, [], ◌∷◌, ◌++◌, map, flat_map, sum_by, Option, Some, None, MatchOption}
 use Rattle.std.specs.List.{AllByRecursion, AllZip}
 use Rattle.wp_model.specs.declared.history.Flag.TheVariants.{Sync}
 use Rattle.wp_model.specs.Batch.{Record, count_of}
@@ -14,9 +14,16 @@ abbrev pub first_of : List Entry → Option ℕ
 first_of [] = None
 first_of (e ∷ entries) = Some e.first
 
--- the call wrote these entries, and synced where one of them was to be synced
+-- no client has two of these entries
+abbrev pub AreOfOwnClients : List Entry → Type 0
+AreOfOwnClients [] = ⊤
+AreOfOwnClients (e ∷ entries) = AllByRecursion (λ (other : Entry). e.client ≢ other.client) entries
+    × AreOfOwnClients entries
+
+-- The call wrote these entries, each of another client, and synced where one of them was to be synced.
 pub record WroteEntries (entries : List Entry) (c : GroupCall) : Type 0 where
   pub some : first_of entries ≡ Some c.first
+  pub apart : AreOfOwnClients entries
   pub batches : c.batches ≡ map (λ (e : Entry). e.records) entries
   pub synced : AllByRecursion (λ (e : Entry). e.flag ≡ Sync → c.sync ≡ true) entries
   pub ok : c.failed ≡ None

@@ -1,5 +1,5 @@
 -- Each end of a leader's work keeps all consistent.
-use Rattle.std.proofs.Common.{◌≡◌, ◌⊎◌, inl, inr, ℕ, suc, ◌+◌, ◌-◌, ◌<◌, ◌≤◌, Bool, true, false, cond, ◌==◌, filter, flat_map, map, List, [], ◌∷◌, ◌++◌, Option, Some, None, length, refl, ap, sym, ◌∙◌, subst, ⊎_elim, arith, append_assoc, append-nil, length-append}
+use Rattle.std.proofs.Common.{◌≡◌, ◌≢◌, ◌⊎◌, inl, inr, ℕ, suc, ◌+◌, ◌-◌, ◌<◌, ◌≤◌, Bool, true, false, cond, ◌==◌, filter, flat_map, map, List, [], ◌∷◌, ◌++◌, Option, Some, None, length, refl, ap, sym, ◌∙◌, subst, ⊎_elim, arith, append_assoc, append-nil, length-append}
 use Rattle.std.specs.List.{AllByRecursion, AllZip}
 use Rattle.std.proofs.lemmas.List.Elements.{filter-append}
 use Rattle.std.proofs.lemmas.Grind.{flat_map-append}
@@ -15,13 +15,13 @@ use Rattle.table_rule.specs.declared.content.MemberVersions.{MemberVersions}
 use Rattle.table_rule.specs.declared.content.Version.{Version}
 use Rattle.table_rule.specs.Histories.{made_by, versions_in, Images}
 use Rattle.table_rule.proofs.Images.{images_more, images_none}
-use Rattle.account_model.specs.Written.{WroteEntries, first_of}
+use Rattle.account_model.specs.Written.{AreOfOwnClients, WroteEntries, first_of}
 use Rattle.group_rule.specs.Commits.{Answer, AreAnswered, AreOfClients, Commit, accepted, held_up, failed, fault_after_all, last_after, last_after_all, no_room}
 use Rattle.group_rule.specs.Asked.{AreInGroups}
 use Rattle.group_rule.specs.Consistent.{AreConsistent, Publishes}
 use Rattle.group_rule.specs.Entries.{entries_after, entries_of, entry_after, entry_with, versions_made, versions_with}
 use Rattle.group_rule.specs.LogCalls.{AreLostWrites, IsLostWrite, LogsGroup, SyncsFor, WritesBatches, WroteCommits, WroteParts}
-use Rattle.group_rule.specs.Plans.{AreLawful, AreUnlogged, ComesAfter, CommitRequest, IsAskedFor, IsWholeGroup, MayNotWait, all_failed, all_held_up, answer_with, answered, batches_from, last_with, last_with_all, planned, versions_from}
+use Rattle.group_rule.specs.Plans.{HaveOwnClients, AreLawful, AreUnlogged, ComesAfter, CommitRequest, IsAskedFor, IsWholeGroup, MayNotWait, all_failed, all_held_up, answer_with, answered, batches_from, last_with, last_with_all, planned, versions_from}
 use Rattle.group_rule.proofs.Chains.{answered_append, dead_append, end_append, entries_history, entries_more}
 use Rattle.group_rule.proofs.OneGroup.{all_append, in_groups_failed, in_groups_held_up, in_groups_planned}
 use Rattle.group_rule.proofs.Plans.{planned_answered, planned_batches, planned_clients, planned_dead, planned_end, planned_versions}
@@ -76,6 +76,36 @@ module _ (known : List ControllerCall) (P : WriteOptions → Type 0) where
       entry_at (filter (λ (e : Entry). e.client == a.client) before) a (entries_after (before ++ entry_after before c) (planned known (last_with last a.records) end requests)) (answer_with last end a.records) h.0
       (flags_of (last_with last a.records) end (before ++ entry_after before c) requests h.1)
 
+-- A group's entries are each of another client
+module _ (known : List ControllerCall) where
+  client_at : (P : ℕ → Type 0) (mine : List Entry) (a : CommitRequest) (rest : List Entry) (v : Answer) → P a.client → AllByRecursion (λ (e : Entry). P e.client) rest
+      → AllByRecursion (λ (e : Entry). P e.client) (entry_with a.client mine (answered known a v) v ++ rest)
+  client_at P mine a rest (accepted first end) h more = (h, more)
+  client_at P mine a rest (held_up numbers) h more = more
+  client_at P mine a rest (failed n) h more = more
+  client_at P mine a rest (no_room l) h more = more
+
+  clients_of : (P : ℕ → Type 0) (last end : ℕ) (before : List Entry) (requests : List CommitRequest) → AllByRecursion (λ (a : CommitRequest). P a.client) requests → AllByRecursion (λ (e : Entry). P e.client) (entries_after before (planned known last end requests))
+  clients_of P last end before [] h = tt
+  clients_of P last end before (a ∷ requests) h =
+      let c = answered known a (answer_with last end a.records) in
+      client_at P (filter (λ (e : Entry). e.client == a.client) before) a (entries_after (before ++ entry_after before c) (planned known (last_with last a.records) end requests)) (answer_with last end a.records) h.0
+      (clients_of P (last_with last a.records) end (before ++ entry_after before c) requests h.1)
+
+  own_at : (mine : List Entry) (a : CommitRequest) (rest : List Entry) (v : Answer) → AllByRecursion (λ (e : Entry). a.client ≢ e.client) rest → AreOfOwnClients rest → AreOfOwnClients (entry_with a.client mine (answered known a v) v ++ rest)
+  own_at mine a rest (accepted first end) others own = (others, own)
+  own_at mine a rest (held_up numbers) others own = own
+  own_at mine a rest (failed n) others own = own
+  own_at mine a rest (no_room l) others own = own
+
+  own_clients : (last end : ℕ) (before : List Entry) (requests : List CommitRequest) → HaveOwnClients requests → AreOfOwnClients (entries_after before (planned known last end requests))
+  own_clients last end before [] own = tt
+  own_clients last end before (a ∷ requests) own =
+      let c = answered known a (answer_with last end a.records) in
+      let after = before ++ entry_after before c in
+      own_at (filter (λ (e : Entry). e.client == a.client) before) a (entries_after after (planned known (last_with last a.records) end requests)) (answer_with last end a.records)
+      (clients_of (λ n. a.client ≢ n) (last_with last a.records) end after requests own.0) (own_clients (last_with last a.records) end after requests own.1)
+
 all_logged : (es : List Entry) → AllByRecursion (λ (e : Entry). (options : WriteOptions) × (options.no_log ≡ false) × (e.flag ≡ flag_of options)) es → logged es ≡ es
 all_logged [] h = refl
 all_logged (e ∷ es) h = let t : is_logged e.flag ≡ true = ap is_logged h.0.2 ∙ logs_flag h.0.0 h.0.1 in rw t (ap (λ l. e ∷ l) (all_logged es h.1))
@@ -107,12 +137,12 @@ runs_follow last [] h = tt
 runs_follow last (e ∷ es) h = h.1
 
 one_more_call : (last : ℕ) (old new : List Entry) (calls : List GroupCall) (c : GroupCall) → IsHistory last new → logged new ≡ new → 0 < length new → c.first ≡ last + 1 → c.batches ≡ map (λ (e : Entry). e.records) new
-    → AllByRecursion (λ (e : Entry). e.flag ≡ Sync → c.sync ≡ true) new → c.failed ≡ None → WroteParts old calls → WroteParts (old ++ new) (calls ++ c ∷ [])
-one_more_call last old new calls c h all some first batches synced ok k = record {
+    → AllByRecursion (λ (e : Entry). e.flag ≡ Sync → c.sync ≡ true) new → c.failed ≡ None → AreOfOwnClients new → WroteParts old calls → WroteParts (old ++ new) (calls ++ c ∷ [])
+one_more_call last old new calls c h all some first batches synced ok own k = record {
   parts = k.parts ++ new ∷ [];
   cut = flat_map-append (λ part. part) k.parts (new ∷ []) ∙ ((λ i. k.cut i ++ append-nil new i) ∙ ((λ i. logged old ++ sym all i) ∙ sym (filter-append (λ (e : Entry). is_logged e.flag) old new)));
   runs = all_append RunsFollow k.parts (new ∷ []) k.runs (runs_follow last new h, tt);
-  each = zip_append WroteEntries k.parts calls (new ∷ []) (c ∷ []) k.each (record { some = first_is last new h some ∙ ap Some (sym first); batches = batches; synced = synced; ok = ok }, tt);
+  each = zip_append WroteEntries k.parts calls (new ∷ []) (c ∷ []) k.each (record { some = first_is last new h some ∙ ap Some (sym first); apart = own; batches = batches; synced = synced; ok = ok }, tt);
 }
 
 -- A group got runs
@@ -153,7 +183,7 @@ module _ (start clients group_bytes : ℕ) (asked known : List ControllerCall) (
       let same : c.batches ≡ map (λ (e : Entry). e.records) new_entries = t.2.batches ∙ sym batches_are in
       let some : 0 < length new_entries = some_of (λ (e : Entry). e.records) new_entries (subst (λ l. 0 < length l) same t.2.some) in
       subst (WroteParts (entries_of cs ++ new_entries)) (sym t.1) (one_more_call last (entries_of cs) new_entries calls c history_new (all_logged new_entries (flags_of known (λ options. options.no_log ≡ false) last end (entries_of cs) requests t.2.to_log)) some t.2.first same
-      (all_synced c.sync new_entries (flags_of known (λ options. options.sync ≡ true → c.sync ≡ true) last end (entries_of cs) requests t.3)) t.4 old))
+      (all_synced c.sync new_entries (flags_of known (λ options. options.sync ≡ true → c.sync ≡ true) last end (entries_of cs) requests t.3)) t.4 (own_clients known last end (entries_of cs) requests whole.of_others) old))
       logs in
       record { worked = calls'; lost = []; both = sym (append-nil calls'); parts = subst (λ es. WroteParts es calls') (sym (entries_more cs new)) now; are_lost = refl }
 
