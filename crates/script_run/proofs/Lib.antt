@@ -1,0 +1,2 @@
+mod LegalSteps
+pub mod LegalRuns
