@@ -1,2 +1,3 @@
 mod LegalSteps
 pub mod LegalRuns
+mod Crossing

@@ -72,7 +72,7 @@ fn run_over<
     requires fits { FitsBatches script.now }
     requires options { (options.last ≤ max_sequence) × (options.batch_bytes ≤ 16777216) }
     requires opened { (disk : D) × HasOpened disk log }
-    ensures { (disk : D) → HasOpened disk log → IsEnd options (commands_of script.now) (D.told disk)
+    ensures end { (disk : D) → HasOpened disk log → IsEnd options (commands_of script.now) (D.told disk)
         (D.told result.disk) (D.faults disk) (D.faults result.disk)
         (IsImageSince D.moment D.from D.since disk result.disk) result.end }
     ensures later { D.faults (disk_of log) ≤ D.faults result.disk }
