@@ -1,0 +1,3 @@
+mod LoggedGroups
+mod GroupCalls
+pub mod SafeLogs
