@@ -48,15 +48,15 @@ abbrev as_logged : List Entry → Logged
 as_logged [] = record { first = 0; records = [] }
 as_logged (e ∷ entries) = record { first = e.first; records = joined (e ∷ entries) }
 
-abbrev IsSome : List Entry → Type 0
-IsSome group = 0 < length group
+abbrev HasEntries : List Entry → Type 0
+HasEntries group = 0 < length group
 
-same_records : (groups : List (List Entry)) → AllByRecursion IsSome groups → map logged_bytes (map as_logged groups) ≡ records_of groups
+same_records : (groups : List (List Entry)) → AllByRecursion HasEntries groups → map logged_bytes (map as_logged groups) ≡ records_of groups
 same_records [] some = refl
 same_records ([] ∷ groups) some = absurd (omega (arith, some.0))
 same_records ((e ∷ entries) ∷ groups) some = ap (λ l. record_of_entries (e ∷ entries) ∷ l) (same_records groups some.1)
 
--- a client's batch of 16 MiB at most
+-- a batch of 16 MiB at most, of one of 16 clients
 abbrev pub Suits : Entry → Type 0
 Suits e = (size_of_batch e.records ≤ 16777216) × (e.client ≤ 16)
 
@@ -66,7 +66,8 @@ body_joined (e ∷ entries) suit =
     let small : size_of_batch e.records ≤ 16777216 = suit.0.0 in
     omega (arith, small, length-append (header 0 (count_of e.records)) (body e.records), ap length (flat_map-append record_bytes e.records (joined entries)), length-append (body e.records) (body (joined entries)), body_joined entries suit.1)
 
--- As no client has two entries of a group, they are few: no more than the numbers below 17.
+-- No client has two entries of a group. So a group has no more entries than there are numbers below 17, and its batches
+-- have less than 2 ^ 32 bytes together.
 
 distinct : (entries : List Entry) → AreOfOwnClients entries → IsDistinct eqb (map (λ (e : Entry). e.client) entries)
 unfolding IsDistinct
@@ -87,7 +88,7 @@ below (e ∷ entries) suit q among = elim (or_cases (eqb q e.client) (list_any (
 few_entries : (entries : List Entry) → AreOfOwnClients entries → AllByRecursion Suits entries → length entries ≤ 17
 few_entries entries apart suit = omega (arith, length-map entries (λ (e : Entry). e.client), length-le_from_distinct_below (map (λ (e : Entry). e.client) entries) 17 (distinct entries apart) (below entries suit))
 
--- Logged entries, whose runs rise
+-- The runs of the logged entries rise, whatever stands between them
 
 record Above (low : ℕ) (e : Entry) : Type 0 where
   first : low < e.first
@@ -138,8 +139,9 @@ run_ends last (e ∷ entries) is =
 abbrev IsOwnBatch : Logged → Type 0
 IsOwnBatch b = IsBatch (logged_bytes b) b.first b.records
 
+-- what is known of a group that a call wrote
 record IsSmall (group : List Entry) : Type 0 where
-  some : IsSome group
+  some : HasEntries group
   suit : AllByRecursion Suits group
   apart : AreOfOwnClients group
   runs : RunsFollow group
@@ -204,21 +206,21 @@ all_parts : (P : Entry → Type 0) (xs ys : List Entry) → AllByRecursion P (xs
 all_parts P [] ys all = (tt, all)
 all_parts P (x ∷ xs) ys all = let parts = all_parts P xs ys all.1 in ((all.0, parts.0), parts.1)
 
-wrote_some : (group : List Entry) (c : GroupCall) → WroteEntries group c → IsSome group
-wrote_some [] c wrote = absurd (cc wrote.some)
-wrote_some (e ∷ entries) c wrote = omega arith
+has_entries : (group : List Entry) (c : GroupCall) → WroteEntries group c → HasEntries group
+has_entries [] c wrote = absurd (cc wrote.some)
+has_entries (e ∷ entries) c wrote = omega arith
 
-pub some_each : (groups : List (List Entry)) (calls : List GroupCall) → AllZip WroteEntries groups calls → AllByRecursion IsSome groups
-some_each [] calls each = tt
-some_each (group ∷ groups) [] each = absurd each
-some_each (group ∷ groups) (c ∷ calls) each = (wrote_some group c each.0, some_each groups calls each.1)
+pub each_has_entries : (groups : List (List Entry)) (calls : List GroupCall) → AllZip WroteEntries groups calls → AllByRecursion HasEntries groups
+each_has_entries [] calls each = tt
+each_has_entries (group ∷ groups) [] each = absurd each
+each_has_entries (group ∷ groups) (c ∷ calls) each = (has_entries group c each.0, each_has_entries groups calls each.1)
 
 are_small : (groups : List (List Entry)) (calls : List GroupCall) → AllZip WroteEntries groups calls → AllByRecursion RunsFollow groups → AllByRecursion Suits (all_of groups) → AllByRecursion IsSmall groups
 are_small [] calls each runs suit = tt
 are_small (group ∷ groups) [] each runs suit = absurd each
 are_small (group ∷ groups) (c ∷ calls) each runs suit =
     let parts = all_parts Suits group (all_of groups) suit in
-    (record { some = wrote_some group c each.0; suit = parts.0; apart = (each.0).apart; runs = runs.0 }, are_small groups calls each.1 runs.1 parts.1)
+    (record { some = has_entries group c each.0; suit = parts.0; apart = (each.0).apart; runs = runs.0 }, are_small groups calls each.1 runs.1 parts.1)
 
 all_take : {A : Type 0} (P : A → Type 0) (n : ℕ) (xs : List A) → AllByRecursion P xs → AllByRecursion P (take n xs)
 all_take P zero xs all = tt
@@ -239,7 +241,7 @@ rising_groups start entries groups calls n is suit cut runs each =
     let batches : List Logged = map as_logged groups in
     record {
       batches = take n batches;
-      same = sym (take-map logged_bytes n batches) ∙ ap (take n) (same_records groups (some_each groups calls each));
+      same = sym (take-map logged_bytes n batches) ∙ ap (take n) (same_records groups (each_has_entries groups calls each));
       each = all_take IsOwnBatch n batches (are_own 0 groups small rise);
       rising = order_take 0 n batches (in_order 0 0 groups (omega arith) small rise);
     }

@@ -3,7 +3,7 @@ use Rattle.std.proofs.Common.{◌≡◌, ℕ, ◌≤◌, List, [], ◌∷◌, �
 use Rattle.std.proofs.lemmas.List.{take-append-le, append-nil}
 use Rattle.std.specs.Prelude.{⊤}
 use Rattle.std.specs.List.{AllByRecursion, AllZip}
-use Rattle.wp_edge.specs.Disk.{Disk, Told, IsImage}
+use Rattle.wp_edge.specs.Disk.{Disk, Told, IsImage, LeavesOnly}
 use Rattle.wp_edge.specs.declared.disk.Disk.{Ghosts}
 use Rattle.wp_model.specs.Batch.{size_of_batch}
 use Rattle.wp_model.specs.Log.{text}
@@ -22,13 +22,13 @@ use Rattle.log_writer.specs.Words.{disk_of, len_of, fault_of}
 use Rattle.log_writer.specs.Opening.{HasOpened}
 use Rattle.log_writer.specs.Crashes.{AreRisingBatches}
 use Rattle.log_writer.specs.Adding.{GroupCall, Adds}
-use Rattle.log_writer.specs.Written.{Wrote, no_call, one_more, written_by, HoldsSynced as HoldsCallsSynced, HoldsCalls, Stands}
+use Rattle.log_writer.specs.Written.{Wrote, no_call, one_more, IsWritten, written_by, HoldsSynced as HoldsCallsSynced, HoldsCalls, Stands}
 use Rattle.log_writer.proofs.Calls.{synced_later}
 use Rattle.log_writer.proofs.Keeping.{keeps_prefix}
-use Rattle.run_model.specs.Crashes.{begun, HaveSynced, IsFailedWrite, LeavesPrefix, IsCrashSafe}
+use Rattle.run_model.specs.Crashes.{IsImageSince, begun, HaveSynced, IsFailedWrite, LeavesPrefix, IsCrashSafe}
 use Rattle.run_model.specs.Running.{Execution, LeavesSafeLog, GoesOn}
 use Rattle.account_model.specs.Written.{WroteEntries, AreLost, WritesLog}
-use Rattle.script_run.proofs.LoggedGroups.{Suits, some_each, rising_groups}
+use Rattle.script_run.proofs.LoggedGroups.{Suits, each_has_entries, rising_groups}
 use Rattle.script_run.proofs.GroupCalls.{written_front, safe_front, written_is, synced_is, held_is, failed_write}
 
 -- What recovery finds
@@ -92,7 +92,7 @@ module _ (trace : Trace) (attempts : List (List Attempt)) (group_bytes : ℕ) (f
     log_left len =
         let same : text None (written_by all) ≡ text None records = ap (text None) written in
         record {
-          of_history = record { cut = ap logged history ∙ sym cut; none_empty = some_each groups calls each; runs = runs };
+          of_history = record { cut = ap logged history ∙ sym cut; none_empty = each_has_entries groups calls each; runs = runs };
           content_is = ap (λ (n : ℕ). take n d.content) len ∙ written_front d all safe holds ∙ same;
           length_is = len ∙ ap length same;
         }
@@ -116,11 +116,17 @@ tells_on (Some x) None c first second = absurd first
 tells_on (Some x) (Some y) None first second = second
 tells_on (Some x) (Some y) (Some z) first second = tt
 
--- a client's batches of 16 MiB at most, of 16 clients
+-- batches of 16 MiB at most, of no more than 16 clients
 all_suit : (settings : Settings) → settings.clients ≤ 16 → (entries : List Entry) → AllByRecursion (λ (e : Entry). IsClient settings e.client) entries
     → AllByRecursion (λ (e : Entry). size_of_batch e.records ≤ 16777216) entries → AllByRecursion Suits entries
 all_suit settings few [] clients small = tt
 all_suit settings few (e ∷ entries) clients small = ((small.0, let within = clients.0.1 in omega (arith, within, few)), all_suit settings few entries clients.1 small.1)
+
+-- what a law says of each image since the log was opened
+pub held_images : {D : Type 0} (moment from : D → ℕ) (since : D → ℕ → List ℕ → Type 0) (told : Option Disk) (old new : D) (calls : List GroupCall)
+    → IfSome told (λ d. LeavesOnly moment from since old new (HoldsCallsSynced d.reach calls)) → IfSome told (λ d. (image : List ℕ) → IsImageSince moment from since old new image → HoldsCallsSynced d.reach calls image)
+held_images moment from since None old new calls leaves = tt
+held_images moment from since (Some d) old new calls leaves = λ image left. leaves.each image left.0 left.1
 
 module _ {D : Type 0} {ghosts : Ghosts D} where
   -- No call turns back the disk's time or its count of faults, and a disk that tells its content goes on to.
@@ -157,6 +163,10 @@ module _ {D : Type 0} {ghosts : Ghosts D} where
         time = record { later = omega (arith, time.later, more.later); forgets = omega (arith, time.forgets, more.forgets) };
         faults = omega (arith, first.faults, second.faults);
       }
+
+  -- the log was opened on this disk, and these calls wrote it
+  pub is_written : (disk : D) (opened log : LogWriter D ghosts) (calls : List GroupCall) → HasOpened disk opened → Wrote opened calls log → IsWritten disk calls log
+  is_written disk opened log calls has_opened wrote = record { opened = opened; has_opened = has_opened; wrote = wrote }
 
   -- the disk's time goes on
   pub goes_on : (opened log : LogWriter D ghosts) (calls : List GroupCall) → Wrote opened calls log → GoesOn ghosts.moment ghosts.from (disk_of opened) (disk_of log)
