@@ -1,3 +1,6 @@
 mod LegalSteps
 pub mod LegalRuns
+mod LoggedGroups
+mod GroupCalls
+pub mod SafeLogs
 mod Crossing
