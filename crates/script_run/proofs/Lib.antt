@@ -4,3 +4,4 @@ mod LoggedGroups
 mod GroupCalls
 pub mod SafeLogs
 mod Crossing
+mod RunEnds

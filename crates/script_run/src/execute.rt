@@ -10,13 +10,13 @@ ghost use Rattle.run_model.specs.Running.{GoesOn};
 ghost use Rattle.script_run.specs.Ends.{IsEnd};
 
 use crate::end::{End, Executed, ended};
+use crate::laws::runs_leave_safe_logs;
 use crate::shared_gate::SharedGate;
-use account_model::logs_hold_the_history;
 use client_calls::Options;
 use client_script::Script;
 use clients_outcome::run_engine;
 use engine_calls::Gate;
-use log_writer::{LogWriter, crashes_between_calls, written_by_calls};
+use log_writer::LogWriter;
 use memory_engine::open_engine;
 use std::alloc::Global;
 use std::sync::Wait;
@@ -81,9 +81,7 @@ fn run_over<
     let clients = script.clients.len() as u32;
     match open_engine(alloc, log, clock, clients, shared, options) {
         Ok((engine, clients)) => {
-            written_by_calls::<D>();
-            crashes_between_calls::<D>();
-            logs_hold_the_history();
+            runs_leave_safe_logs::<D>();
             ended(run_engine(
                 rt,
                 alloc,

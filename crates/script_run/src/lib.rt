@@ -7,6 +7,7 @@
 
 mod end;
 mod execute;
+mod laws;
 mod shared_gate;
 
 pub use end::{End, Executed};

@@ -1,0 +1,90 @@
+-- How a run ends, by what it came to over its opened log.
+use Rattle.std.proofs.Common.{◌≡◌, ℕ, ◌+◌, ◌≤◌, List, [], ◌∷◌, ◌++◌, length, Option, Some, None, IfSome, Result, Ok, Err, refl, ap, sym, ◌∙◌, subst, arith, length-append}
+use Rattle.wp_edge.specs.declared.disk.Disk.{Ghosts}
+use Rattle.wp_model.specs.LogContents.{GroupCall}
+use Rattle.wp_model.specs.Calls.{Command}
+use Rattle.wp_model.specs.Outcomes.{outcome_of}
+use Rattle.client_calls.specs.declared.options.Options.{Options}
+use Rattle.client_calls.specs.Settings.{settings_of}
+use Rattle.log_writer.specs.declared.writer.LogWriter.{LogWriter}
+use Rattle.log_writer.specs.Words.{disk_of, len_of, fault_of}
+use Rattle.log_writer.specs.Opening.{HasOpened}
+use Rattle.log_writer.specs.Written.{Wrote, no_call, one_more, IsWritten, HoldsSynced, Stands, HasCauseSince}
+use Rattle.run_model.specs.Crashes.{IsImageSince}
+use Rattle.run_model.specs.Running.{Execution, execution_of, HasRun, GoesOn}
+use Rattle.wp_edge.specs.Disk.{LeavesOnly}
+use Rattle.clients_outcome.specs.declared.run.Parts.{Parts}
+use Rattle.clients_outcome.specs.declared.run.Lacks.{Lacks}
+use Rattle.clients_outcome.specs.declared.run.Lacks.TheVariants as lacks
+use Rattle.clients_outcome.specs.Runs.{HaveRun, ComesTo}
+use Rattle.script_run.specs.Ends.{HasOutcome, IsEnd, end_with}
+use Rattle.script_run.proofs.LegalRuns.{small_entries, refused_for_themselves}
+use Rattle.script_run.proofs.SafeLogs.{safe_log, held_images, is_written, goes_on, later}
+
+module _ {D : Type 0} {ghosts : Ghosts D} where
+  -- a log that no call wrote is as it was opened
+  not_written : (old : LogWriter D ghosts) (calls : List GroupCall) (new : LogWriter D ghosts) → Wrote old calls new → calls ≡ [] → new ≡ old
+  not_written old calls new no_call none = refl
+  not_written old calls new (one_more {calls = before} c wrote adds) none = absurd (omega (arith, ap length none, length-append before (c ∷ [])))
+
+  module _ (disk : D) (opened log : LogWriter D ghosts) (options : Options) (script : List (List Command)) (last : ℕ) (has_opened : HasOpened disk opened)
+      (few : length script ≤ 16) (bounded : options.batch_bytes ≤ 16777216)
+      (stands : (calls : List GroupCall) → IsWritten disk calls log → Stands calls log) (cause : (calls : List GroupCall) → IsWritten disk calls log → HasCauseSince disk log)
+      (held : (calls : List GroupCall) → IsWritten disk calls log → IfSome (ghosts.told disk) (λ d. LeavesOnly ghosts.moment ghosts.from ghosts.since disk (disk_of log) (HoldsSynced d.reach calls))) where
+    abbrev images : List ℕ → Type 0
+    images = IsImageSince ghosts.moment ghosts.from ghosts.since disk (disk_of log)
+
+    abbrev execution : Execution
+    execution = execution_of options script (ghosts.faults disk) (ghosts.faults (disk_of log)) images
+
+    abbrev Ran : Option Parts → Type 0
+    Ran parts = HaveRun (settings_of options (length script) (ghosts.faults disk)) script (Wrote opened) fault_of (λ l. ghosts.faults (disk_of l)) log last parts
+
+    -- all clients have run: there is an outcome
+    has_outcome : (parts : Option Parts) (ran : Ran parts) → HasOutcome execution (ghosts.told disk) (ghosts.told (disk_of log))
+    has_outcome parts ran =
+        let o = outcome_of ran.trace ran.transcripts last (len_of log) (fault_of log) in
+        let settings = settings_of options (length script) (ghosts.faults disk) in
+        let ended = ghosts.faults (disk_of log) in
+        let legal = ran.legal (len_of log) in
+        let calls = ran.writes.calls ++ ran.writes.lost in
+        let written = is_written disk opened log calls has_opened ran.writes.by in
+        let small = small_entries settings ended script ran.trace ran.attempts o legal bounded in
+        record {
+          outcome = o;
+          legal = record { trace = ran.trace; attempts = ran.attempts; legal = legal };
+          refusals = refused_for_themselves settings ended script ran.trace ran.attempts o legal;
+          log = safe_log disk opened log execution o ran.trace ran.attempts legal few small has_opened ran.writes (stands calls written)
+              (held_images ghosts.moment ghosts.from ghosts.since (ghosts.told disk) disk (disk_of log) calls (held calls written)) refl refl;
+        }
+
+    -- and the values show it, where they are at hand
+    has_run : (parts : Parts) → Ran (Some parts) → IsEnd options script (ghosts.told disk) (ghosts.told (disk_of log)) (ghosts.faults disk) (ghosts.faults (disk_of log)) images (end_with last (len_of log) (fault_of log) (Ok parts))
+    unfolding has_outcome
+    has_run parts ran =
+        let there = has_outcome (Some parts) ran in
+        let calls = ran.writes.calls ++ ran.writes.lost in
+        record {
+          outcome = there.outcome;
+          shows = ran.shows (len_of log);
+          legal = there.legal;
+          refusals = there.refusals;
+          counted = (cause calls (is_written disk opened log calls has_opened ran.writes.by)).no_fault;
+          log = there.log;
+        }
+
+    pub is_end : (parts : Result Parts Lacks) → ComesTo (settings_of options (length script) (ghosts.faults disk)) script (Wrote opened) fault_of (λ l. ghosts.faults (disk_of l)) log last parts
+        → IsEnd options script (ghosts.told disk) (ghosts.told (disk_of log)) (ghosts.faults disk) (ghosts.faults (disk_of log)) images (end_with last (len_of log) (fault_of log) parts)
+    is_end (Ok parts) ran = has_run parts ran
+    is_end (Err lacks.Outcome) ran = has_outcome None ran
+    is_end (Err lacks.Run) wrote = ap (λ (l : LogWriter D ghosts). ghosts.told (disk_of l)) (not_written opened [] log wrote refl) ∙ has_opened.looked_at.same
+
+  -- what no call wrote, or these calls
+  abbrev WentOn : LogWriter D ghosts → LogWriter D ghosts → Type 0
+  WentOn opened log = GoesOn ghosts.moment ghosts.from (disk_of opened) (disk_of log) × (ghosts.faults (disk_of opened) ≤ ghosts.faults (disk_of log))
+
+  pub went_on : (opened log : LogWriter D ghosts) (options : Options) (script : List (List Command)) (counted last : ℕ) (parts : Result Parts Lacks)
+      → ComesTo (settings_of options (length script) counted) script (Wrote opened) fault_of (λ l. ghosts.faults (disk_of l)) log last parts → WentOn opened log
+  went_on opened log options script counted last (Ok parts) ran = (goes_on opened log (ran.writes.calls ++ ran.writes.lost) ran.writes.by, later opened log (ran.writes.calls ++ ran.writes.lost) ran.writes.by)
+  went_on opened log options script counted last (Err lacks.Outcome) ran = (goes_on opened log (ran.writes.calls ++ ran.writes.lost) ran.writes.by, later opened log (ran.writes.calls ++ ran.writes.lost) ran.writes.by)
+  went_on opened log options script counted last (Err lacks.Run) wrote = (goes_on opened log [] wrote, later opened log [] wrote)
