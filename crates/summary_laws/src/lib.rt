@@ -1,0 +1,22 @@
+//! What the outcomes of one generated script have in common.
+//!
+//! A generated script has several clients, each of whom commits batches with keys of its own. How their batches come
+//! to stand in the one history is up to the schedule; what the history comes to is not. The law is the contract of a
+//! function that does nothing: it is here so that the law is proved with the crate.
+#![tactic(auto)]
+
+ghost use Rattle.std.specs.Prelude.{◌≡◌, ℕ, ◌<◌, ◌≤◌, None};
+ghost use Rattle.std.specs.List.{AllByRecursion};
+ghost use Rattle.wp_model.specs.Calls.{Outcome};
+ghost use Rattle.wp_model.specs.Trace.{Settings};
+ghost use Rattle.wp_model.specs.Outcomes.{IsLegal};
+ghost use Rattle.wp_model.specs.Script.{value_of_digits};
+ghost use Rattle.wp_model.specs.Generator.{generated};
+
+/// All legal outcomes of one generated script in which no call failed have one summary, whatever the schedule.
+pub fn summaries_are_one()
+    // In any legal outcome, also one with a fault, each value of the map is a number below 1000.
+    ensures small_values { (seed clients batches ended : ℕ) (settings : Settings) (o : Outcome)
+        → IsLegal settings ended (generated seed clients batches) o
+        → AllByRecursion (λ p. value_of_digits p.1 < 1000) o.state }
+{}
