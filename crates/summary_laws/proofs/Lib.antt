@@ -1,7 +1,11 @@
 pub mod Drawn
 pub mod Entries
+pub mod Interleaved
+pub mod Keys
 pub mod Legal
+pub mod Maps
 pub mod Plain
 pub mod Lists
 pub mod Progresses
+pub mod SameMap
 pub mod SmallValues
