@@ -1,4 +1,6 @@
+pub mod Counts
 pub mod Drawn
+pub mod DrawnPlain
 pub mod Entries
 pub mod Interleaved
 pub mod Keys
