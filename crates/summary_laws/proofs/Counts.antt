@@ -1,9 +1,8 @@
 -- How many sequences a history takes, and that no client takes more than it adds.
-use Rattle.std.proofs.Common.{◌≡◌, ℕ, ◌+◌, ◌-◌, ◌<◌, ◌≤◌, Bool, true, false, List, [], ◌∷◌, ◌++◌, length, sum_by, Option, Some, None, refl, sym, ap, ◌∙◌, subst, arith, length-append}
-use Rattle.std.specs.List.{AllByRecursion}
+use Rattle.std.proofs.Common.{◌≡◌, ℕ, ◌+◌, ◌≤◌, List, [], ◌∷◌, ◌++◌, length, sum_by, Option, Some, None, refl, ap, subst, arith, length-append}
 use Rattle.std.proofs.lemmas.List.Sums.{sum_by-cons, sum_by-append, sum_by_push, count_by-le-length}
 use Rattle.wp_model.specs.Batch.{Record, is_counted, count_of}
-use Rattle.wp_model.specs.History.{Entry, IsHistory, last_sequence, last_of, IsUpTo, IsBoundary}
+use Rattle.wp_model.specs.History.{Entry, IsHistory, last_sequence, last_of, IsBoundary}
 use Rattle.wp_model.specs.Attempts.{Attempt, WriteStatus, succeeded, slowed, faulted, full}
 use Rattle.wp_model.specs.Groups.{Group, IsStatus, AreStatuses}
 use Rattle.wp_model.specs.Trace.{Trace, Settings}

@@ -1,11 +1,11 @@
 -- What a generated client adds and commits: short records with keys of its own, one to four in a batch.
-use Rattle.std.proofs.Common.{◌≡◌, ℕ, zero, suc, ◌+◌, ◌*◌, ◌/◌, ◌%◌, ◌^◌, ◌<◌, ◌≤◌, true, nat_lt, List, [], ◌∷◌, ◌++◌, length, codes, decimal, refl, sym, ap, subst, append_assoc, append-nil, arith, length-append}
+use Rattle.std.proofs.Common.{◌≡◌, ℕ, zero, suc, ◌+◌, ◌*◌, ◌/◌, ◌%◌, ◌^◌, ◌<◌, ◌≤◌, nat_lt, List, [], ◌∷◌, ◌++◌, length, codes, decimal, refl, sym, ap, subst, append_assoc, append-nil, arith, length-append}
 use Rattle.std.proofs.lemmas.Bool.{cond-true, lt-ltb}
 use Rattle.std.proofs.lemmas.Fmt.{length-decimal-le}
 use Rattle.std.proofs.lemmas.Nat.{mod_below}
 use Rattle.wp_model.specs.Varint.{varint, varint_within}
 use Rattle.wp_model.specs.Batch.{Record, value, deletion, varstring, record_bytes}
-use Rattle.wp_model.specs.Calls.{Command, add, commit}
+use Rattle.wp_model.specs.Calls.{Command, commit}
 use Rattle.wp_model.specs.Generator.{next_state, number_at, key_of, record_drawn, records_drawn, plain, batch_drawn, batches_drawn}
 use Rattle.summary_laws.proofs.Drawn.{HoldsOfDrawn, of_drawn}
 use Rattle.summary_laws.proofs.Keys.{owner-key_of}

@@ -1,5 +1,5 @@
 -- Entries of several clients, interleaved in any way, and the same client by client: sums over them.
-use Rattle.std.proofs.Common.{◌≡◌, ℕ, zero, suc, ◌+◌, ◌*◌, ◌<◌, ◌≤◌, Bool, true, false, cond, ◌==◌, nat_le, List, [], ◌∷◌, ◌++◌, length, map, filter, flat_map, sum_by, Some, slice_get, refl, sym, ap, ◌∙◌, subst, inl, inr, arith}
+use Rattle.std.proofs.Common.{◌≡◌, ℕ, zero, suc, ◌+◌, ◌*◌, ◌<◌, ◌≤◌, true, false, ◌==◌, nat_le, List, [], ◌∷◌, length, map, filter, sum_by, Some, slice_get, refl, ap, subst, inl, inr, arith}
 use Rattle.std.specs.List.{AllByRecursion}
 use Rattle.std.proofs.lemmas.Bool.{cases_lt}
 use Rattle.std.proofs.lemmas.Bool.Decides.{nat_tests}
@@ -10,7 +10,6 @@ use Rattle.wp_model.specs.History.{Entry}
 use Rattle.wp_model.specs.Script.{Script}
 use Rattle.wp_model.specs.Outcomes.{entries_of_client}
 use Rattle.summary_laws.specs.Summaries.{batches_after, batches_of}
-use Rattle.summary_laws.proofs.Lists.{all_mapped}
 
 -- the entries of the clients from a number on
 abbrev pub entries_from : ℕ → List Entry → List Entry

@@ -6,6 +6,7 @@ pub mod Interleaved
 pub mod Keys
 pub mod Legal
 pub mod Maps
+pub mod OneSummary
 pub mod Plain
 pub mod Lists
 pub mod Progresses

@@ -1,5 +1,5 @@
 -- The map that records make, by what each of them does to the value of a key.
-use Rattle.std.proofs.Common.{◌≡◌, ◌≢◌, ℕ, Bool, true, false, cond, not, ◌&&◌, T, List, [], ◌∷◌, ◌++◌, Option, Some, None, fold, refl, sym, ap, ◌∙◌, subst}
+use Rattle.std.proofs.Common.{◌≡◌, ℕ, Bool, true, false, cond, not, ◌&&◌, T, List, [], ◌∷◌, Option, Some, None, fold, refl, sym, ap, ◌∙◌, subst}
 use Rattle.std.specs.declared.cmp.Ordering.{Ordering}
 use Rattle.std.specs.declared.cmp.Ordering.TheVariants.{Less, Equal, Greater}
 use Rattle.std.specs.Ordering.{is_eq, is_lt, match_ordering, eq_by_cmp}
@@ -37,7 +37,6 @@ as_put (e ∷ m) key v =
 -- all but a key
 abbrev others : List ℕ → Pairs → Pairs
 others key m = where_key byte_order (λ k. not (is_key key k)) m
-
 
 both_parts : (a b : Bool) → T (a && b) → T a × T b
 both_parts true b h = (tt, h)

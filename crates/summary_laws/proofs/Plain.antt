@@ -1,6 +1,6 @@
 -- A client that only adds short counted records and commits one to four of them at a time: where its commits aren't
 -- refused for a fault or for want of a run, its accepted batches are just those that its commands make.
-use Rattle.std.proofs.Common.{◌≡◌, ℕ, ◌+◌, ◌*◌, ◌<◌, ◌≤◌, Bool, true, false, cond, ◌==◌, nat_lt, List, [], ◌∷◌, ◌++◌, length, map, Option, Some, None, MatchOption, refl, sym, ap, ◌∙◌, subst, append_assoc, append-nil, arith, length-append}
+use Rattle.std.proofs.Common.{◌≡◌, ℕ, ◌+◌, ◌*◌, ◌≤◌, Bool, true, false, cond, ◌==◌, nat_lt, List, [], ◌∷◌, ◌++◌, length, map, Option, Some, None, MatchOption, refl, sym, ap, ◌∙◌, subst, append_assoc, append-nil, arith, length-append}
 use Rattle.std.specs.List.{AllByRecursion}
 use Rattle.std.proofs.lemmas.Bool.Decides.{nat_tests}
 use Rattle.std.proofs.lemmas.List.{map_push}
@@ -10,7 +10,6 @@ use Rattle.wp_model.specs.declared.write.Refusal.{Refusal}
 use Rattle.wp_model.specs.declared.write.Refusal.TheVariants as no
 use Rattle.wp_model.specs.Batch.{Record, is_counted, count_of, record_bytes, header, body, size_of_batch}
 use Rattle.wp_model.specs.History.{Entry, max_sequence}
-use Rattle.wp_model.specs.Controller.{Action}
 use Rattle.wp_model.specs.Tokens.{holds_stop}
 use Rattle.wp_model.specs.Attempts.{Attempt, WriteStatus, succeeded, slowed, faulted, full, with_attempt}
 use Rattle.wp_model.specs.Trace.{Trace, Settings}
@@ -18,7 +17,7 @@ use Rattle.wp_model.specs.Progress.{Progress, next_entry, early_refusal}
 use Rattle.wp_model.specs.Generator.{plain}
 use Rattle.wp_model.specs.Runs.{Run, commands_of}
 use Rattle.wp_model.specs.Replies.{MayRefuse, Adds, IsAttempted, Commits, Stays, Replies}
-use Rattle.wp_model.specs.Calls.{Command, add, clear, commit, get, many, scan, stop, unstop, slow, unslow, Reply, quiet, accepted, refused, Call}
+use Rattle.wp_model.specs.Calls.{Command, add, commit, Reply, quiet, accepted, refused, Call}
 use Rattle.summary_laws.specs.Summaries.{batches_after}
 use Rattle.summary_laws.proofs.Lists.{all_front, all_back, all_both}
 use Rattle.summary_laws.proofs.Progresses.{Moves, stays, adds, clears, accepts, refuses, moves}

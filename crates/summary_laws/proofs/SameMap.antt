@@ -1,5 +1,5 @@
 -- The map of interleaved entries is that of the same batches client by client, where no key is of two clients.
-use Rattle.std.proofs.Common.{◌≡◌, ◌≢◌, ◌⊎◌, ℕ, zero, suc, ◌+◌, ◌<◌, ◌≤◌, Bool, true, false, cond, ◌==◌, List, [], ◌∷◌, ◌++◌, length, map, fold, flat_map, Option, None, refl, sym, ap, ◌∙◌, subst, inl, inr, arith}
+use Rattle.std.proofs.Common.{◌≡◌, ◌≢◌, ◌⊎◌, ℕ, suc, ◌+◌, ◌<◌, ◌≤◌, true, false, ◌==◌, List, [], ◌∷◌, ◌++◌, length, flat_map, Option, None, refl, sym, ap, ◌∙◌, inl, inr, arith}
 use Rattle.std.specs.declared.cmp.Ordering.{Ordering}
 use Rattle.std.specs.declared.cmp.Ordering.TheVariants.{Less, Equal, Greater}
 use Rattle.std.specs.Ordering.{is_eq}
@@ -59,7 +59,6 @@ untouched client q (r ∷ records) old owned apart = ap (changed_by q records) (
 
 changed_by-append : (q : List ℕ) (records more : List Record) (old : Option (List ℕ)) → changed_by q (records ++ more) old ≡ changed_by q more (changed_by q records old)
 changed_by-append q records more old = fold-append (λ o r. changed q r o) old records more
-
 
 -- a number is another one or isn't
 abbrev WhichOf : ℕ → ℕ → Type 0

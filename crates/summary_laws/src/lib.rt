@@ -9,12 +9,18 @@ ghost use Rattle.std.specs.Prelude.{◌≡◌, ℕ, ◌<◌, ◌≤◌, None};
 ghost use Rattle.std.specs.List.{AllByRecursion};
 ghost use Rattle.wp_model.specs.Calls.{Outcome};
 ghost use Rattle.wp_model.specs.Trace.{Settings};
+ghost use Rattle.wp_model.specs.Runs.{NoneWithoutMemory};
 ghost use Rattle.wp_model.specs.Outcomes.{IsLegal};
 ghost use Rattle.wp_model.specs.Script.{value_of_digits};
-ghost use Rattle.wp_model.specs.Generator.{generated};
+ghost use Rattle.wp_model.specs.Generator.{generated, summary_text};
+ghost use Rattle.summary_laws.specs.Summaries.{summary_of};
 
 /// All legal outcomes of one generated script in which no call failed have one summary, whatever the schedule.
 pub fn summaries_are_one()
+    ensures one_summary { (seed clients batches ended : ℕ) (settings : Settings) (o : Outcome)
+        → clients ≤ 16 → batches ≤ 100000 → settings.start ≡ 0 → settings.batch_bytes ≡ 16777216
+        → IsLegal settings ended (generated seed clients batches) o → o.fault ≡ None
+        → AllByRecursion NoneWithoutMemory o.transcripts → summary_text o ≡ summary_of (generated seed clients batches) }
     // In any legal outcome, also one with a fault, each value of the map is a number below 1000.
     ensures small_values { (seed clients batches ended : ℕ) (settings : Settings) (o : Outcome)
         → IsLegal settings ended (generated seed clients batches) o
