@@ -49,7 +49,7 @@ short_drawn client few = record {
   values = λ n v small below. (refl, put_len (key_of client n) (decimal v) (key_len client n few small) (length-decimal-le 3 v (omega arith) (omega arith) (omega arith)));
 }
 
--- behind so many records of its batch, some more and then its next commands
+-- after so many records of its batch come the rest of it and its next commands
 plain_records : (n client state before : ℕ) (commands : List Command) → client ≤ 16 → IsPlain (before + n) commands → IsPlain before ((records_drawn n client state).made ++ commands)
 plain_records zero client state before commands few is = let same : before + 0 ≡ before = omega arith in subst (λ k. IsPlain k commands) same is
 plain_records (suc n) client state before commands few is =

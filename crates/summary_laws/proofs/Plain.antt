@@ -93,7 +93,7 @@ pub record Stands (n : ℕ) (p : Progress) : Type 0 where
   pub short : AllByRecursion IsShort p.pending
   pub asked : p.asked ≡ []
 
--- its accepted batches, and behind them those that its next commands make
+-- its accepted batches, and after them those that its next commands make
 abbrev pub made_with : Progress → List Command → List (List Record)
 made_with p commands = map (λ (e : Entry). e.records) p.mine ++ batches_after p.pending commands
 

@@ -123,7 +123,7 @@ module _ (q : List ℕ) where
       ap (λ batches. done_in batches old) (sym (batches_first entries first commands script has))
       ∙ ap (λ records. changed_by q records old) (flat_map-map (λ (records : List Record). records) (λ (e : Entry). e.records) (entries_of_client first entries))
 
-  -- clients behind the owner do nothing
+  -- clients after the owner do nothing
   later : (entries : List Entry) (first : ℕ) (script : Script) (old : Option (List ℕ)) → AreOwned entries → HaveBatches entries first script → owner q < first → done_in (batches_of script) old ≡ old
   later entries first [] old owned has past = refl
   later entries first (commands ∷ script) old owned has past =
@@ -138,13 +138,13 @@ module _ (q : List ℕ) where
       let bound : AreBelow (owner q) entries = all_mapped _ _ (λ (e : Entry) (b : e.client < first + 0). omega (arith, b, from)) entries below in
       sym (ap (λ es. done_by es old) (none_at (owner q) entries bound))
   up_to_owner entries first (commands ∷ script) old owned below has from =
-      let behind = batches_rest entries first commands script has in
+      let others = batches_rest entries first commands script has in
       let two = done_in-append (batches_after [] commands) (batches_of script) old in let one = done_first entries first commands script old has in
       elim (which (owner q) first) [
         | inl is ↦ two ∙ later entries (first + 1) script (done_in (batches_after [] commands) old) owned behind (let same = is.0 in omega arith)
             ∙ one ∙ ap (λ k. done_by (entries_of_client k entries) old) (sym is.0)
         | inr other ↦ two ∙ ap (done_in (batches_of script)) (one ∙ untouched_own first entries old owned other.0)
-            ∙ up_to_owner entries (first + 1) script old owned (all_mapped _ _ (λ (e : Entry) (b : e.client < first + suc (length script)). omega (arith, b)) entries below) behind (let apart = other.0 in omega arith)
+            ∙ up_to_owner entries (first + 1) script old owned (all_mapped _ _ (λ (e : Entry) (b : e.client < first + suc (length script)). omega (arith, b)) entries below) others (let apart = other.0 in omega arith)
       ]
 
   same_at : (entries : List Entry) (script : Script) (old : Option (List ℕ)) → AreOwned entries → AreBelow (1 + length script) entries → HaveBatches entries 1 script → 1 ≤ owner q

@@ -1,4 +1,4 @@
--- The summary of a script whose batches are all accepted.
+-- The summary of a script whose batches are all accepted, by the script alone.
 use Rattle.std.specs.Prelude.{ℕ, List, [], ◌∷◌, ◌++◌, length, sum_by, flat_map, codes}
 use Rattle.wp_model.specs.Batch.{Record, count_of}
 use Rattle.wp_model.specs.Calls.{Command, add, commit}
@@ -21,11 +21,12 @@ batches_of script = flat_map (batches_after []) script
 abbrev pub map_of_batches : List (List Record) → Pairs
 map_of_batches batches = after_records [] (flat_map (λ records. records) batches)
 
--- the counted records of all of them, which is the last sequence too where the first is 1
+-- how many records of them count, each of which takes a sequence
 abbrev pub count_of_batches : List (List Record) → ℕ
 count_of_batches batches = sum_by count_of batches
 
--- What is printed: clients, batches, counted records, the last sequence, the keys, and the sum of their values
+-- What is printed: clients, batches, counted records, the last sequence (which is the same number, since sequences
+-- begin at 1), keys, and the sum of their values
 abbrev pub summary_of : Script → List ℕ
 summary_of script =
     let batches = batches_of script in let state = map_of_batches batches in

@@ -1,8 +1,9 @@
-//! What the outcomes of one generated script have in common.
+//! What all outcomes of one generated script have in common.
 //!
-//! A generated script has several clients, each of whom commits batches with keys of its own. How their batches come
-//! to stand in the one history is up to the schedule; what the history comes to is not. The law is the contract of a
-//! function that does nothing: it is here so that the law is proved with the crate.
+//! A generated script has several clients, each of which commits batches with keys of its own. In which order these
+//! batches stand in the one history is up to the schedule; the numbers that are printed of it are not. The laws are
+//! the contract of a function that does nothing and is called nowhere: it is here so that they are proved with the
+//! crate. `specs/Summaries` says what the summary is, by the script alone.
 #![tactic(auto)]
 
 ghost use Rattle.std.specs.Prelude.{◌≡◌, ℕ, ◌<◌, ◌≤◌, None};
@@ -20,7 +21,8 @@ pub fn summaries_are_one()
     ensures one_summary { (seed clients batches ended : ℕ) (settings : Settings) (o : Outcome)
         → clients ≤ 16 → batches ≤ 100000 → settings.start ≡ 0 → settings.batch_bytes ≡ 16777216
         → IsLegal settings ended (generated seed clients batches) o → o.fault ≡ None
-        → AllByRecursion NoneWithoutMemory o.transcripts → summary_text o ≡ summary_of (generated seed clients batches) }
+        → AllByRecursion NoneWithoutMemory o.transcripts
+        → summary_text o ≡ summary_of (generated seed clients batches) }
     // In any legal outcome, also one with a fault, each value of the map is a number below 1000.
     ensures small_values { (seed clients batches ended : ℕ) (settings : Settings) (o : Outcome)
         → IsLegal settings ended (generated seed clients batches) o
