@@ -141,7 +141,7 @@ module _ (q : List ℕ) where
       let others = batches_rest entries first commands script has in
       let two = done_in-append (batches_after [] commands) (batches_of script) old in let one = done_first entries first commands script old has in
       elim (which (owner q) first) [
-        | inl is ↦ two ∙ later entries (first + 1) script (done_in (batches_after [] commands) old) owned behind (let same = is.0 in omega arith)
+        | inl is ↦ two ∙ later entries (first + 1) script (done_in (batches_after [] commands) old) owned others (let same = is.0 in omega arith)
             ∙ one ∙ ap (λ k. done_by (entries_of_client k entries) old) (sym is.0)
         | inr other ↦ two ∙ ap (done_in (batches_of script)) (one ∙ untouched_own first entries old owned other.0)
             ∙ up_to_owner entries (first + 1) script old owned (all_mapped _ _ (λ (e : Entry) (b : e.client < first + suc (length script)). omega (arith, b)) entries below) others (let apart = other.0 in omega arith)
