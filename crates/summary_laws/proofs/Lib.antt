@@ -1,0 +1,14 @@
+pub mod Counts
+pub mod Drawn
+pub mod DrawnPlain
+pub mod Entries
+pub mod Interleaved
+pub mod Keys
+pub mod Legal
+pub mod Maps
+pub mod OneSummary
+pub mod Plain
+pub mod Lists
+pub mod Progresses
+pub mod SameMap
+pub mod SmallValues
