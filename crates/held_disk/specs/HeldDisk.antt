@@ -2,18 +2,40 @@
 --
 -- Such an append failed, so it may have come to the medium as far as it tried to, and it is a fault more. What the disk
 -- in memory tells of crashes before it doesn't speak of that. So nothing is told of them any more.
-use Rattle.std.specs.Prelude.{ℕ, ◌+◌, max, List, Option, Some, true}
+use Rattle.std.specs.Prelude.{ℕ, ◌+◌, max, Bool, true, List, Option, Some, Result}
 use Rattle.wp_edge.specs.Disk.{Disk}
-use Rattle.wp_edge.specs.Listed.{counted}
+use Rattle.wp_edge.specs.Listed.{FailsAsListed, counted}
 use Rattle.wp_edge.specs.MemDisk.{disk_of, len_of, disk_calls, moment_of, from_of, since_of}
 use Rattle.wp_edge.specs.declared.mem_disk.MemDisk.{MemDisk}
 use Rattle.held_disk.specs.declared.disk.HeldDisk.{HeldDisk}
 use Rattle.held_disk.specs.declared.disk.Turn.{Turn}
 use Rattle.held_disk.specs.declared.disk.Turn.TheVariants.{Ahead, Past, Late}
+use Rattle.held_disk.specs.declared.hold.Hold.{Hold}
+
+-- how many have to arrive
+abbrev pub need_of : Hold → ℕ
+need_of hold = hold.need
 
 -- the disk in memory
 abbrev pub inner_of : HeldDisk → MemDisk
 inner_of h = h.inner
+
+-- how many have to arrive before the held append goes on
+abbrev pub hold_need : HeldDisk → ℕ
+hold_need h = need_of h.hold.now
+
+-- how many appends there are to the held one, with it; 0 where none is held any more
+abbrev pub left_at : Turn → ℕ
+left_at (Ahead others) = others + 1
+left_at Past = 0
+left_at (Late tried) = 0
+
+abbrev pub left_of : HeldDisk → ℕ
+left_of h = left_at h.turn
+
+-- A call fails just where it does so on the disk in memory: where its number is listed or the disk is full.
+abbrev pub FailsAsInner : {T E : Type 0} → HeldDisk → HeldDisk → Bool → Result T E → Type 0
+FailsAsInner old new full result = FailsAsListed (disk_calls (inner_of old)) (disk_calls (inner_of new)) full result
 
 -- a disk, where an append that waited in vain tried to come so far
 abbrev pub disk_at : Turn → Disk → Disk
