@@ -4,7 +4,7 @@ use Rattle.std.proofs.Common.{inl}
 use Rattle.std.proofs.Math.Nat.{le_trans, le-max_left, le-max_right, lt_irrefl, lt_of_lt_of_le, le_refl}
 use Rattle.std.proofs.Math.Numerals.{lt-add-one}
 use Rattle.wp_edge.specs.Disk.{Disk, IsDisk, IsImage, CountsNow, IsOnlyNow}
-use Rattle.wp_edge.specs.MemDisk.{disk_of, len_of, moment_of, from_of, since_of}
+use Rattle.wp_edge.specs.MemDisk.{disk_of, moment_of, from_of, since_of}
 use Rattle.wp_edge.specs.MemDiskLaws.{mem_disk_is_disk, mem_disk_is_small, only_since_now}
 use Rattle.wp_edge.specs.declared.mem_disk.MemDisk.{MemDisk}
 use Rattle.held_disk.specs.HeldDisk.{disk_at, from_at, held_told, held_added, held_moment, held_from, held_since}
@@ -28,7 +28,8 @@ held_added_small h = mem_disk_is_small h.inner
 -- no moment until now is told of after an append waited in vain
 never_late : (from moment t : ℕ) → max from (moment + 1) ≤ t → t ≤ moment → ⊥
 never_late from moment t after until =
-    lt_irrefl moment (lt_of_lt_of_le (lt-add-one moment) (le_trans (le_trans (le-max_right from (moment + 1)) after) until))
+    let passed : moment + 1 ≤ t = le_trans (le-max_right from (moment + 1)) after in
+    lt_irrefl moment (lt_of_lt_of_le (lt-add-one moment) (le_trans passed until))
 
 -- else it is told what the disk in memory tells
 counts_now_at : (turn : Turn) (d : MemDisk) (t : ℕ) (image : List ℕ) → from_at turn (from_of d) (moment_of d) ≤ t

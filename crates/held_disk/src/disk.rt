@@ -12,7 +12,7 @@ enum Turn {
     Ahead(u64),
     /// The held append was let through, or no append is held.
     Past,
-    /// The held append waited in vain. It tried to come so far, and since then a sync makes that 0.
+    /// The held append waited in vain. It tried to come so far; after the next sync this is 0.
     Late(u64),
 }
 
@@ -131,7 +131,8 @@ impl<'h> Disk for HeldDisk<'h> {
 
     // One that isn't held fails just as the disk in memory does, and so does each where nobody has to arrive.
     fn append(&mut self, piece: &[u8]) -> Result<(), Failed>
-        ensures appended { Told (held_told self.old) (held_told self.new) (λ old new. Appended old new piece.now result) }
+        ensures appended { Told (held_told self.old) (held_told self.new)
+            (λ old new. Appended old new piece.now result) }
         ensures added { GrowsBy (held_added self.old) (held_added self.new) (length piece.now) result }
         ensures time { TimePasses held_told held_moment held_from held_since self.old self.new }
         ensures left { left_of self.new ≡ left_of self.old - 1 }
