@@ -1,0 +1,2 @@
+pub mod HeldDisk
+pub mod HeldDiskLaws
