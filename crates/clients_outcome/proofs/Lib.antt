@@ -1,4 +1,5 @@
 pub mod Fibres
+pub mod NotRun
 pub mod Owners
 pub mod Shown
 pub mod Whole

@@ -1,26 +1,27 @@
 -- From what the clients and the closing say to a legal outcome.
-use Rattle.std.proofs.Common.{◌≡◌, ℕ, zero, suc, ◌+◌, ◌≤◌, Option, Some, List, [], ◌∷◌, length, map, slice_get, refl, ap, sym, ◌∙◌, subst, inl, inr, Vec, Global}
-use Rattle.std.specs.Prelude.{Result, Ok, Err, IfOk}
+use Rattle.std.proofs.Common.{◌≡◌, ℕ, zero, suc, ◌+◌, ◌≤◌, Option, Some, None, List, [], ◌∷◌, length, map, slice_get, refl, ap, sym, ◌∙◌, subst, inl, inr, Vec, Global}
 use Rattle.std.specs.List.{AllByRecursion, AllZip}
 use Rattle.std.specs.Option.{option_map}
 use Rattle.std.proofs.lemmas.Option.{slice_get-map, slice_get_cases}
-use Rattle.wp_model.specs.declared.memory.NoMemory.{NoMemory}
 use Rattle.wp_model.specs.History as history
 use Rattle.wp_model.specs.Trace.{Trace, Settings}
 use Rattle.wp_model.specs.Groups.{Group}
 use Rattle.wp_model.specs.Calls as calls
+use Rattle.wp_model.specs.LogContents.{GroupCall}
 use Rattle.wp_model.specs.Outcomes.{IsLegalIn, outcome_of, entries_of_client}
 use Rattle.write_batch.specs.Contents.{Contents}
 use Rattle.client_calls.specs.declared.entry.Entry.{Entry}
 use Rattle.client_calls.specs.declared.reply.Reply.{Reply}
-use Rattle.client_calls.specs.Shows.{ShowsReplies, ShowsOutcome}
+use Rattle.client_calls.specs.Shows.{ShowsReplies}
 use Rattle.account_model.specs.Accounts.{Account}
 use Rattle.account_model.specs.Closing.{AreOurs, IsClosing, all_attempts}
-use Rattle.account_model.specs.ClientRuns.{HaveRun}
+use Rattle.account_model.specs.ClientRuns as clients
+use Rattle.account_model.specs.Written.{WritesLog}
 use Rattle.client_run.specs.Answers.{ShowsEntries}
 use Rattle.client_run.specs.Jobs.{HaveTold, HaveEntries}
 use Rattle.clients_outcome.specs.declared.run.Parts.{Parts}
 use Rattle.clients_outcome.specs.Histories.{MakeUp}
+use Rattle.clients_outcome.specs.Runs.{HaveRun}
 
 -- what stands beside the element at a place
 record Beside {A B : Type 0} (R : A → B → Type 0) (x : A) (ys : List B) (i : ℕ) : Type 0 where
@@ -51,7 +52,8 @@ number_at belongs account n clients ours i a at =
       | inr w ↦ absurd (cc (sym e ∙ at, ap (option_map account) w.1))
     ]
 
-module _ (settings : Settings) (ended : ℕ) (trace : Trace) (groups : List Group) (accounts : List Account) (last : ℕ) (fault : Option ℕ) (closing : IsClosing settings ended trace groups accounts last fault) where
+module _ {L : Type 0} (settings : Settings) (wrote : List GroupCall → L → Type 0) (fault : L → Option ℕ) (faults : L → ℕ) (log : L) (trace : Trace) (groups : List Group) (accounts : List Account) (last : ℕ)
+    (closing : IsClosing settings (faults log) trace groups accounts last (fault log)) where
   -- the clients' batches make up the trace's history
   pub makes_up : (accepted : List (Vec (Entry Contents) Global)) → HaveEntries accepted accounts → length accounts ≡ settings.clients
       → ((i : ℕ) (a : Account) → slice_get accounts i ≡ Some a → a.number ≡ i + 1) → MakeUp trace.start accepted trace.entries
@@ -66,22 +68,35 @@ module _ (settings : Settings) (ended : ℕ) (trace : Trace) (groups : List Grou
         subst (ShowsEntries batches.items) own b.related;
   }
 
-  -- whatever putting the parts together answers
-  pub shows_legal : (script : List (List calls.Command)) (replies : Vec (Vec Reply Global) Global) → HaveTold settings script replies.items accounts
-      → ((transcripts : List (List calls.Call)) (log_len : ℕ) → HaveRun settings script transcripts accounts → IsLegalIn settings ended script trace (all_attempts accounts) (outcome_of trace transcripts last log_len fault))
-      → (r : Result Parts NoMemory) → IfOk r (λ parts. parts.transcripts ≡ replies) → IfOk r (λ parts. ShowsEntries parts.history.items trace.entries) → IfOk r (λ parts. parts.state ≡ history.map_of trace.entries)
-      → IfOk r (λ parts. (log_len : ℕ) → (o : calls.Outcome) × ShowsOutcome (record { transcripts = parts.transcripts; history = parts.history; last = last; state = parts.state; log_len = log_len; fault = fault }) o
-      × IsLegalIn settings ended script trace (all_attempts accounts) o)
-  shows_legal script replies told legal (Ok parts) same shown state = λ log_len. (
-    outcome_of trace told.transcripts last log_len fault,
-    record {
-      transcripts = subst (λ (v : Vec (Vec Reply Global) Global). AllZip (λ (w : Vec Reply Global). ShowsReplies w.items) v.items told.transcripts) (sym same) told.show;
-      history = shown;
-      last = refl;
-      state = sym state;
-      log_len = refl;
-      fault = refl;
-    },
-    legal told.transcripts log_len told.run,
-  )
-  shows_legal script replies told legal (Err none) same shown state = tt
+  -- the clients' replies, put together or not, tell a legal outcome of the trace
+  module _ (script : List (List calls.Command)) (replies : Vec (Vec Reply Global) Global) (told : HaveTold settings script replies.items accounts)
+      (legal : (transcripts : List (List calls.Call)) (log_len : ℕ) → clients.HaveRun settings script transcripts accounts
+      → IsLegalIn settings (faults log) script trace (all_attempts accounts) (outcome_of trace transcripts last log_len (fault log)))
+      (writes : WritesLog settings.group_bytes wrote trace (all_attempts accounts) (fault log) log) where
+    pub with_parts : (parts : Parts) → parts.transcripts ≡ replies → ShowsEntries parts.history.items trace.entries → parts.state ≡ history.map_of trace.entries
+        → HaveRun settings script wrote fault faults log last (Some parts)
+    with_parts parts same shown state = record {
+      trace = trace;
+      attempts = all_attempts accounts;
+      transcripts = told.transcripts;
+      writes = writes;
+      legal = λ log_len. legal told.transcripts log_len told.run;
+      shows = λ log_len. record {
+        transcripts = subst (λ (v : Vec (Vec Reply Global) Global). AllZip (λ (w : Vec Reply Global). ShowsReplies w.items) v.items told.transcripts) (sym same) told.show;
+        history = shown;
+        last = refl;
+        state = sym state;
+        log_len = refl;
+        fault = refl;
+      };
+    }
+
+    pub without_parts : HaveRun settings script wrote fault faults log last None
+    without_parts = record {
+      trace = trace;
+      attempts = all_attempts accounts;
+      transcripts = told.transcripts;
+      writes = writes;
+      legal = λ log_len. legal told.transcripts log_len told.run;
+      shows = tt;
+    }

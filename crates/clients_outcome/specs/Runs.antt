@@ -1,5 +1,5 @@
 -- What a run of all clients over a write path comes to: nothing, or a legal outcome whose parts may be at hand.
-use Rattle.std.specs.Prelude.{◌≡◌, ℕ, List, [], Option, Some, None, Result, Ok, Err, IfSome}
+use Rattle.std.specs.Prelude.{ℕ, List, [], Option, Some, None, Result, Ok, Err, IfSome}
 use Rattle.wp_model.specs.Trace.{Trace, Settings}
 use Rattle.wp_model.specs.Attempts.{Attempt}
 use Rattle.wp_model.specs.LogContents.{GroupCall}

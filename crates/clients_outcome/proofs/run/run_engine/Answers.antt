@@ -1,32 +1,55 @@
-use Rattle.std.proofs.Common.{◌∙◌, sym, map, Vec, Global}
+use Rattle.std.proofs.Common.{◌≡◌, ◌∙◌, ℕ, sym, map, List, Vec, Global}
 use Rattle.std.proofs.lemmas.List.{length-map}
+use Rattle.wp_model.specs.Calls.{Call}
 use Rattle.client_calls.specs.declared.command.Command.{Command}
 use Rattle.client_calls.specs.Commands.{command_of}
-use Rattle.account_model.specs.Closing.{all_attempts}
-use Rattle.client_run.specs.Jobs.{commands_in}
-use Rattle.clients_outcome.proofs.Whole.{number_at, makes_up, shows_legal}
+use Rattle.client_run.specs.Jobs.{commands_in, AreNew}
+use Rattle.account_model.specs.ClientRuns.{HaveRun}
+use Rattle.account_model.specs.Closing.{AreOurs}
+use Rattle.clients_outcome.proofs.NotRun.{handed_back, newcomers, log_by_no_call}
+use Rattle.clients_outcome.proofs.Whole.{number_at, makes_up, with_parts, without_parts}
 use Rattle.clients_outcome.proofs.run.run_engine.Goals as goal
+use Rattle.clients_outcome.proofs.run.run_engine.Goals.{in-Ok-parts_of, in-Err-parts_of}
 
-pub returns-in-Ok : goal.returns-in-Ok
-returns-in-Ok g c =
+pub returns-after-parts_of : goal.returns-after-parts_of
+returns-after-parts_of g c =
+    let E = g.E.Engine in
     let engine = c.args.engine in
-    let settings = g.E.Engine.settings engine in
+    let settings = E.settings engine in
     let t = c.in-Ok.transcripts in
     let ours = c.in-Ok.ensures.ours in
-    let accounts = map g.E.Engine.account t.clients.items in
+    let accounts = map E.account t.clients.items in
     let last = c.close-log.result.last in
     let log = c.close-log.result.log in
-    let ended = g.E.Engine.faults log in
-    let fault = g.E.Engine.fault log in
     let script = commands_in c.args.script.now in
     let closed = c.close-log.ensures in
+    let trace = closed.0 in
     let clients = sym c.requires.script ∙ sym (length-map c.args.script.now (λ (cs : Vec Command Global). map command_of cs.items)) in
-    let make = makes_up settings ended closed.0 closed.1 accounts last fault closed.2 t.accepted.items c.in-Ok.ensures.accepted (length-map t.clients.items g.E.Engine.account ∙ ours.number_of)
-    (number_at (g.E.Engine.belongs engine) g.E.Engine.account settings.clients t.clients.items ours) in (
-      closed.0,
-      all_attempts accounts,
-      closed.3,
-      shows_legal settings ended closed.0 closed.1 accounts last fault closed.2 script t.replies c.in-Ok.ensures.run
-          (λ transcripts log_len run. c.closed_runs_are_legal.ensures.legal settings ended script transcripts accounts closed.0 closed.1 last log_len fault clients run closed.2)
-          c.parts_of.result c.parts_of.ensures.transcripts (c.parts_of.ensures.history closed.0.start closed.0.entries make) (c.parts_of.ensures.state closed.0.start closed.0.entries make),
-    )
+    let make = makes_up settings (E.wrote engine) E.fault E.faults log trace closed.1 accounts last closed.2 t.accepted.items c.in-Ok.ensures.accepted (length-map t.clients.items E.account ∙ ours.number_of)
+    (number_at (E.belongs engine) E.account settings.clients t.clients.items ours) in
+    let legal = λ (transcripts : List (List Call)) (log_len : ℕ) (run : HaveRun settings script transcripts accounts). c.closed_runs_are_legal.ensures.legal settings (E.faults log) script transcripts accounts trace closed.1 last log_len (E.fault log) clients run closed.2 in
+    elim c.match-parts_of.branch [
+      | in-Ok-parts_of w ↦ (
+          let is = w.parts-is in
+          let given = w.in-Ok-parts_of.ensures in
+          rw is (with_parts settings (E.wrote engine) E.fault E.faults log trace closed.1 accounts last closed.2 script t.replies c.in-Ok.ensures.run legal closed.3
+          w.in-Ok-parts_of.parts given.transcripts (given.history trace.start trace.entries make) (given.state trace.start trace.entries make)))
+      | in-Err-parts_of w ↦ (
+          let is = w.parts-is in
+          rw is (without_parts settings (E.wrote engine) E.fault E.faults log trace closed.1 accounts last closed.2 script t.replies c.in-Ok.ensures.run legal closed.3))
+    ]
+
+-- the clients are handed back as they came
+pub returns-in-Err : goal.returns-in-Err
+returns-in-Err g c =
+    let E = g.E.Engine in
+    let engine = c.args.engine in
+    let settings = E.settings engine in
+    let clients = c.in-Err.clients in
+    let back : clients ≡ c.args.clients.clients = c.in-Err.ensures.err in
+    let new = handed_back (AreNew E.account settings.start) c.args.clients.clients clients back c.requires.new in
+    let ours = handed_back (AreOurs (E.belongs engine) E.account settings.clients) c.args.clients.clients clients back c.requires.ours in
+    let closed = c.close-log-in-Err.ensures in
+    let log = c.close-log-in-Err.result.log in
+    log_by_no_call settings (E.faults log) closed.0 closed.1 (map E.account clients.items) c.close-log-in-Err.result.last (E.fault log) closed.2
+    settings.start (length-map clients.items E.account ∙ ours.number_of) (newcomers E.account settings.start clients.items new) (E.wrote engine) log closed.3
