@@ -2,8 +2,8 @@
 //!
 //! A generated script has several clients, each of which commits batches with keys of its own. In which order these
 //! batches stand in the one history is up to the schedule; the numbers that are printed of it are not. The laws are
-//! the contract of a function that does nothing and is called nowhere: it is here so that they are proved with the
-//! crate. `specs/Summaries` says what the summary is, by the script alone.
+//! the contract of a function that does nothing: who needs one calls it. `specs/Summaries` says what the summary is, by
+//! the script alone.
 #![tactic(auto)]
 
 ghost use Rattle.std.specs.Prelude.{◌≡◌, ℕ, ◌<◌, ◌≤◌, None};
