@@ -57,11 +57,13 @@ pub fn ended<D: Disk>(ran: Ran<LogWriter<D>>) -> Executed<D>
     Executed {
         disk: log.into_disk(),
         end: match parts {
-            Ok(Parts {
-                transcripts,
-                history,
-                state,
-            }) => End::Ran(Outcome {
+            Ok(
+                Parts {
+                    transcripts,
+                    history,
+                    state,
+                },
+            ) => End::Ran(Outcome {
                 transcripts,
                 history,
                 last,

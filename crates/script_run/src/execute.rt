@@ -43,7 +43,16 @@ pub fn execute<D: Disk + Send, C: Clock + Send + Drop, G: Gate + Sync, R: Thread
     ensures time { GoesOn D.moment D.from disk result.disk }
 {
     match LogWriter::open(alloc, disk) {
-        Ok(log) => run_over(rt, alloc, log, clock, SharedGate { gate }, gate, script, options),
+        Ok(log) => run_over(
+            rt,
+            alloc,
+            log,
+            clock,
+            SharedGate { gate },
+            gate,
+            script,
+            options,
+        ),
         Err((disk, why)) => Executed {
             disk,
             end: End::from(why),
@@ -82,14 +91,7 @@ fn run_over<
     match open_engine(alloc, log, clock, clients, shared, options) {
         Ok((engine, clients)) => {
             runs_leave_safe_logs::<D>();
-            ended(run_engine(
-                rt,
-                alloc,
-                engine,
-                clients,
-                script.clients.as_slice(),
-                gate,
-            ))
+            ended(run_engine(rt, alloc, engine, clients, script.clients.as_slice(), gate))
         }
         Err((log, _clock, _gate)) => Executed {
             disk: log.into_disk(),
