@@ -6,9 +6,9 @@
 #![tactic(auto)]
 
 mod end;
-mod execute;
 mod laws;
+mod running;
 mod shared_gate;
 
 pub use end::{End, Executed};
-pub use execute::execute;
+pub use running::execute;
