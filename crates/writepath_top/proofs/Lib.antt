@@ -1,8 +1,11 @@
 mod Refusing
+mod Unread
 mod Asked
+mod Memory
 mod Endings
-mod OneClient
+mod Runs
 mod WholeTexts
 mod Recoveries
 mod ReplayEndings
 mod WholeSchedules
+mod NoMemory

@@ -10,7 +10,7 @@ use Rattle.writepath_top.specs.declared.telling.Status.TheVariants as status
 use Rattle.wal_recover.specs.Recovering.{IsRecoverError}
 use Rattle.writepath_top.specs.Recovers.{TellsDisk, RecoveryRefused}
 use Rattle.writepath_top.specs.Telling.{code, TellsRecovery}
-use Rattle.writepath_top.proofs.Endings.{refused_as}
+use Rattle.writepath_top.proofs.Refusing.{refused_as}
 
 pub recovery_refused : (failed fails kf kfs n : ℕ) (sold snew : Option (List ℕ)) (told : Option Disk) (found : Result Recovered RecoverError) (given : Status) → n ≡ code given
     → IfErr found (IsRecoverError failed fails) → TellsRecovery sold snew kf kfs found given → TellsDisk sold snew told (λ before after d. n ≡ 3 → RecoveryRefused before after failed fails kf kfs)

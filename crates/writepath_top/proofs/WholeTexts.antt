@@ -1,41 +1,32 @@
--- A text that is a script was read to its end, and it has one client.
-use Rattle.std.proofs.Common.{◌≡◌, ℕ, ◌≤◌, Bool, true, false, cond, nat_lt, List, [], ◌++◌, length, map, Option, Some, None, Ok, Err, IfSome, refl, ap, sym, ◌∙◌, arith, append-nil}
+-- A text that is a script was read to its end.
+use Rattle.std.proofs.Common.{◌≡◌, ℕ, ◌≤◌, Bool, true, false, cond, nat_lt, List, [], ◌++◌, length, Option, Some, None, Ok, Err, IfSome, refl, ap, ◌∙◌, arith, append-nil}
 use Rattle.std.proofs.lemmas.Bool.{ltb-false}
-use Rattle.std.proofs.lemmas.List.{length-map}
 use Rattle.wp_model.specs.declared.script.ScriptFault.TheVariants.{Long}
 use Rattle.wp_model.specs.Script as model
-use Rattle.wp_model.specs.Script.{script_of, run_grammar, lines_read, with_client}
+use Rattle.wp_model.specs.Script.{script_of, whole_grammar, lines_read, with_client}
 use Rattle.client_script.specs.declared.script.Script.{Script}
+use Rattle.client_script.specs.Scripts.{commands_of, FitsBatches}
 use Rattle.writepath_top.specs.Reading.{HasRead, HasScript}
-use Rattle.client_calls.specs.Commands.{command_of}
-use Rattle.client_script.specs.Scripts.{commands_of, FitsBatches, HasScriptCommands}
-use Rattle.writepath_top.proofs.OneClient.{one_said}
 
 -- a longer text has a fault
-said_len : (text : List ℕ) (s : model.Script) → script_of run_grammar text ≡ Ok s → length text ≤ 16777216
+said_len : (text : List ℕ) (s : model.Script) → script_of whole_grammar text ≡ Ok s → length text ≤ 16777216
 said_len text s e = by_test (nat_lt 16777216 (length text)) refl e
   where
-    by_test : (b : Bool) → nat_lt 16777216 (length text) ≡ b → cond b (Err (record { line = 0; kind = Long })) (with_client (lines_read run_grammar text)) ≡ Ok s → length text ≤ 16777216
+    by_test : (b : Bool) → nat_lt 16777216 (length text) ≡ b → cond b (Err (record { line = 0; kind = Long })) (with_client (lines_read whole_grammar text)) ≡ Ok s → length text ≤ 16777216
     by_test true is e = absurd (cc e)
     by_test false is e = let a = ltb-false 16777216 (length text) is in omega (arith, a)
 
-whole : (old new : Option (List ℕ)) (text : List ℕ) (s : model.Script) → HasRead old new text → length text ≤ 16777216 → script_of run_grammar text ≡ Ok s
-    → IfSome old (λ t. script_of run_grammar t ≡ Ok s)
+whole : (old new : Option (List ℕ)) (text : List ℕ) (s : model.Script) → HasRead old new text → length text ≤ 16777216 → script_of whole_grammar text ≡ Ok s
+    → IfSome old (λ t. script_of whole_grammar t ≡ Ok s)
 whole None new text s has short e = tt
 whole (Some xs) None text s has short e = absurd has.consumed
 whole (Some xs) (Some ys) text s has short e =
     let none : ys ≡ [] = has.whole short in
     let same : xs ≡ text = has.consumed ∙ ap (λ r. text ++ r) none ∙ append-nil text in
-    ap (script_of run_grammar) same ∙ e
+    ap (script_of whole_grammar) same ∙ e
 
-pub has_script : (old new : Option (List ℕ)) (text : List ℕ) (s : Script) → HasRead old new text → script_of run_grammar text ≡ Ok (commands_of s) → FitsBatches s → HasScriptCommands s
-    → HasScript old new s
-has_script old new text s has e fits commands =
+pub has_script : (old new : Option (List ℕ)) (text : List ℕ) (s : Script) → HasRead old new text → script_of whole_grammar text ≡ Ok (commands_of s)
+    → (1 ≤ length s.clients.items) × (length s.clients.items ≤ 16) → FitsBatches s → HasScript old new s
+has_script old new text s has e clients fits =
     let short = said_len text (commands_of s) e in
-    record {
-      said = whole old new text (commands_of s) has short e;
-      ended = has.whole short;
-      one = sym (length-map s.clients.items (λ cs. map command_of cs.items)) ∙ one_said text (commands_of s) e;
-      fits = fits;
-      commands = commands;
-    }
+    record { said = whole old new text (commands_of s) has short e; ended = has.whole short; clients = clients; fits = fits }

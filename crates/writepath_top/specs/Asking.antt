@@ -1,7 +1,7 @@
 -- What the words of a call ask for, with the options that they give.
 use Rattle.std.specs.Prelude.{◌≡◌, ℕ, List, Some, None, String}
 use Rattle.std.specs.declared.alloc.Global.{Global}
-use Rattle.command_line.specs.declared.asked.Asked.TheVariants.{Run, Recover, Replay}
+use Rattle.command_line.specs.declared.asked.Asked.TheVariants.{Run, Generate, Recover, Replay}
 use Rattle.command_line.specs.Meaning.{asked_of}
 use Rattle.client_calls.specs.declared.options.Options.{Options}
 use Rattle.write_core.specs.declared.state.CoreOptions.{CoreOptions}
@@ -10,14 +10,18 @@ use Rattle.write_core.specs.declared.state.CoreOptions.{CoreOptions}
 abbrev pub AskNothing : List (String Global) → Type 0
 AskNothing words = asked_of words ≡ None
 
--- the most bytes of a write group where no word names them
-abbrev pub default_group_bytes : ℕ
-default_group_bytes = 1048576
-
--- to run a script; its groups have no word yet
+-- to run a script
 abbrev pub AskToRun : List (String Global) → Options → Type 0
-AskToRun words options = (asked_of words ≡ Some (Run options.batch_bytes options.last))
-    × (options.group_bytes ≡ default_group_bytes)
+AskToRun words options =
+    asked_of words ≡ Some (Run options.group_bytes options.batch_bytes options.last)
+
+-- to run the script that a seed makes, for so many clients with so many batches each
+abbrev pub AskToGenerate : List (String Global) → ℕ → ℕ → ℕ → Type 0
+AskToGenerate words seed clients batches = asked_of words ≡ Some (Generate seed clients batches)
+
+-- with these options
+abbrev pub usual_options : Options
+usual_options = record { last = 0; group_bytes = 1048576; batch_bytes = 16777216 }
 
 -- to say what the log recovers
 abbrev pub AskToRecover : List (String Global) → Type 0

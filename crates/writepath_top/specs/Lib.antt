@@ -5,3 +5,4 @@ pub mod Replays
 pub mod Telling
 pub mod Outcomes
 pub mod Recovers
+pub mod Answers

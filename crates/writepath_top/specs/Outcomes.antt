@@ -1,21 +1,22 @@
--- What the command `run` promises: every reply that is printed is that of a plain map at its point of one printed
+-- What the commands that run a script promise: every reply that is printed is that of a plain map at its point of one printed
 -- history. Each device tells its bytes, or it doesn't (`None`). What is said of one stands whatever the others tell.
 use Rattle.std.specs.Prelude.{◌≡◌, ◌⊎◌, ℕ, List, Option, Some, None, Ok, IfSome, IsSome, take, slice_get}
 use Rattle.std.specs.List.{AllByRecursion}
 use Rattle.std.specs.Io.KnownBytes.{Appends}
 use Rattle.wp_edge.specs.Disk.{Disk, Told}
-use Rattle.wp_edge.specs.declared.source.Source as source
 use Rattle.wp_edge.specs.declared.disk.Disk as disk
 use Rattle.wp_edge.specs.declared.sink.Sink as sink
 use Rattle.wp_model.specs.Calls as calls
-use Rattle.wp_model.specs.Script.{Script, script_of, run_grammar}
-use Rattle.wp_model.specs.Text.{outcome_text}
+use Rattle.wp_model.specs.Script.{Script, script_of, whole_grammar}
+use Rattle.wp_model.specs.Generator.{generated}
 use Rattle.wp_model.specs.Runs.{NoneWithoutMemory}
 use Rattle.client_calls.specs.declared.options.Options.{Options}
 use Rattle.run_model.specs.Crashes.{IsImageSince}
 use Rattle.run_model.specs.Running.{Execution, execution_of, IsLegalOf, LeavesSafeLog, IsReached}
 use Rattle.run_model.specs.Refusals.{AreRefusedForThemselves}
 use Rattle.printed_text.specs.Refusals.{disk_fault}
+use Rattle.writepath_top.specs.declared.telling.Form.{Form}
+use Rattle.writepath_top.specs.Telling.{text_of}
 use Rattle.writepath_top.specs.Texts.{SaysTo}
 
 -- A legal outcome of a run. Where the disk tells its bytes the run found the log empty and left the batches of this
@@ -32,10 +33,11 @@ TakesPrefix before after text = (n : ℕ) × Appends before after (take n text)
 abbrev pub RefusesForThemselves : calls.Outcome → Type 0
 RefusesForThemselves o = o.fault ≡ None → AllByRecursion AreRefusedForThemselves o.transcripts
 
--- What the devices tell of a call, where they do, and how a script is run there
+-- Which script was to be run, how an outcome is printed, what the devices tell of the call, where they do, and how a
+-- script is run there
 pub record Observed : Type 1 where
-  -- what the source had
-  pub text : Option (List ℕ)
+  pub says : Script → Type 0
+  pub form : Form
   -- what the sink had taken before the call, and after it
   pub before : Option (List ℕ)
   pub after : Option (List ℕ)
@@ -44,10 +46,11 @@ pub record Observed : Type 1 where
   pub ended : Option Disk
   pub execution : Script → Execution
 
-abbrev pub observed : {S D K : Type 0} → source.Ghosts S → disk.Ghosts D → sink.Ghosts K → Options → S → D → D → K → K
-    → Observed
-observed source disk sink options had opened ended before after = record {
-  text = source.left had;
+abbrev pub observed : {D K : Type 0} → disk.Ghosts D → sink.Ghosts K → (Script → Type 0) → Form → Options → D → D → K
+    → K → Observed
+observed disk sink says form options opened ended before after = record {
+  says = says;
+  form = form;
   before = sink.taken before;
   after = sink.taken after;
   opened = disk.told opened;
@@ -55,6 +58,18 @@ observed source disk sink options had opened ended before after = record {
   execution = λ script. execution_of options script (disk.faults opened) (disk.faults ended)
       (IsImageSince disk.moment disk.from disk.since opened ended);
 }
+
+-- the script of a text, where it is told
+abbrev pub SaysScript : Option (List ℕ) → Script → Type 0
+SaysScript text script = IfSome text (λ t. script_of whole_grammar t ≡ Ok script)
+
+-- this very script
+abbrev pub IsScript : Script → Script → Type 0
+IsScript this script = script ≡ this
+
+-- the script that a seed makes
+abbrev pub IsGenerated : ℕ → ℕ → ℕ → Script → Type 0
+IsGenerated seed clients batches script = script ≡ generated seed clients batches
 
 -- some client's call found no memory
 pub record LacksMemory (o : calls.Outcome) : Type 0 where
@@ -67,14 +82,10 @@ pub record LacksMemory (o : calls.Outcome) : Type 0 where
   pub reply : call.reply ≡ calls.no_memory
 
 module _ (seen : Observed) where
-  -- the source had this script
-  abbrev pub SaysScript : Script → Type 0
-  SaysScript script = IfSome seen.text (λ t. script_of run_grammar t ≡ Ok script)
-
   -- A script was run, and this is its outcome.
   pub record RanScript (o : calls.Outcome) : Type 0 where
     pub script : Script
-    pub said : SaysScript script
+    pub said : seen.says script
     pub is_outcome : IsOutcome (seen.execution script) seen.opened seen.ended o
     pub refusals : RefusesForThemselves o
 
@@ -82,7 +93,7 @@ module _ (seen : Observed) where
   pub record RanWhole : Type 0 where
     pub outcome : calls.Outcome
     pub ran : RanScript outcome
-    pub printed : Appends seen.before seen.after (outcome_text outcome)
+    pub printed : Appends seen.before seen.after (text_of seen.form outcome)
     pub no_fault : outcome.fault ≡ None
     pub whole : AllByRecursion NoneWithoutMemory outcome.transcripts
 
@@ -90,13 +101,13 @@ module _ (seen : Observed) where
   pub record RanToFault : Type 0 where
     pub outcome : calls.Outcome
     pub ran : RanScript outcome
-    pub printed : Appends seen.before seen.after (outcome_text outcome)
+    pub printed : Appends seen.before seen.after (text_of seen.form outcome)
     pub fault : IsSome outcome.fault
 
   -- and where it wasn't: the disk tells what it told before
   pub record DiskRefused (failed fails sink_failed sink_fails : ℕ) : Type 0 where
     pub script : Script
-    pub said : SaysScript script
+    pub said : seen.says script
     pub count : ℕ
     pub reached : IsReached failed count fails
     pub untouched : seen.ended ≡ seen.opened
@@ -110,7 +121,7 @@ module _ (seen : Observed) where
   pub record RanToSinkFault : Type 0 where
     pub outcome : calls.Outcome
     pub ran : RanScript outcome
-    pub printed : TakesPrefix seen.before seen.after (outcome_text outcome)
+    pub printed : TakesPrefix seen.before seen.after (text_of seen.form outcome)
 
   -- status 6: nothing was run or printed, and the disk tells what it told before
   pub record RanNothing : Type 0 where
@@ -127,7 +138,7 @@ module _ (seen : Observed) where
   pub record RanShort : Type 0 where
     pub outcome : calls.Outcome
     pub ran : RanScript outcome
-    pub printed : Appends seen.before seen.after (outcome_text outcome)
+    pub printed : Appends seen.before seen.after (text_of seen.form outcome)
     pub no_fault : outcome.fault ≡ None
     pub short : LacksMemory outcome
 

@@ -8,7 +8,7 @@ use Rattle.client_script.specs.declared.script.Script as script
 use Rattle.client_script.specs.declared.schedule.Schedule.{Schedule}
 use Rattle.client_script.specs.Schedules.{schedule_of}
 use Rattle.core_model.specs.Schedule as schedules
-use Rattle.client_script.specs.Scripts.{commands_of, FitsBatches, HasScriptCommands, HasClientsCommands}
+use Rattle.client_script.specs.Scripts.{commands_of, FitsBatches, HasClientsCommands}
 use Rattle.run_model.specs.Running.{IsReached}
 use Rattle.client_script.specs.ReplayLanguage.{replay_grammar, event_words}
 
@@ -24,22 +24,21 @@ IsReadError before now (Fault count) = IsReached before count now
 IsReadError before now (Script line kind) = ⊥
 IsReadError before now NoMemory = Unit {0}
 
--- the source had just this script, of one client
+-- the source had just this script, of one to sixteen clients
 pub record HasScript (old new : Option (List ℕ)) (s : script.Script) : Type 0 where
-  pub said : IfSome old (λ text. model.script_of model.run_grammar text ≡ Ok (commands_of s))
+  pub said : IfSome old (λ text. model.script_of model.whole_grammar text ≡ Ok (commands_of s))
   pub ended : IsAtEnd new
-  pub one : length s.clients.items ≡ 1
+  pub clients : (1 ≤ length s.clients.items) × (length s.clients.items ≤ 16)
   pub fits : FitsBatches s
-  pub commands : HasScriptCommands s
 
 -- no script: a fault of the source, another text, or no memory
 abbrev pub IsScriptError : Option (List ℕ) → ℕ → ℕ → ReadError → Type 0
 IsScriptError old before now (Fault count) = IsReached before count now
 IsScriptError old before now (Script line kind) =
-    IfSome old (λ text. model.script_of model.run_grammar text ≡ Err (record { line = line; kind = kind }))
+    IfSome old (λ text. model.script_of model.whole_grammar text ≡ Err (record { line = line; kind = kind }))
 IsScriptError old before now NoMemory = Unit {0}
 
--- the source had just this script, of one to sixteen clients, and its schedule
+-- the source had just such a script, and its schedule
 pub record HasSchedule (old new : Option (List ℕ)) (s : Schedule) : Type 0 where
   pub said : IfSome old (λ text. schedules.schedule_of replay_grammar event_words text
       ≡ Ok (schedule_of s))

@@ -5,6 +5,8 @@ use Rattle.wp_model.specs.Counts.{Rose}
 use Rattle.wp_model.specs.Calls as calls
 use Rattle.wp_model.specs.Map.{Pairs}
 use Rattle.wp_model.specs.Text as model
+use Rattle.wp_model.specs.Generator.{summary_text}
+use Rattle.wp_model.specs.History.{IsHistory}
 use Rattle.wp_model.specs.declared.memory.NoMemory.{NoMemory}
 use Rattle.core_model.specs.Step as core
 use Rattle.core_model.specs.ReplayText.{replay_text}
@@ -13,8 +15,10 @@ use Rattle.schedule_run.specs.Replayed.{ShowsReplayed}
 use Rattle.client_calls.specs.declared.outcome.Outcome.{Outcome}
 use Rattle.writepath_top.specs.declared.reading.ReadError.{ReadError}
 use Rattle.writepath_top.specs.declared.reading.ReadError.TheVariants as read
-use Rattle.one_client.specs.declared.running.End.{End}
-use Rattle.one_client.specs.declared.running.End.TheVariants as end
+use Rattle.script_run.specs.declared.end.End.{End}
+use Rattle.script_run.specs.declared.end.End.TheVariants as end
+use Rattle.writepath_top.specs.declared.telling.Form.{Form}
+use Rattle.writepath_top.specs.declared.telling.Form.TheVariants as form
 use Rattle.writepath_top.specs.declared.telling.Status.{Status}
 use Rattle.writepath_top.specs.declared.telling.Status.TheVariants as status
 use Rattle.wal_recover.specs.declared.recovery.Recovered.{Recovered}
@@ -53,18 +57,24 @@ EndsSo old new failed fails shown text other = ⊥
 abbrev pub ran_status : Outcome Pairs → Status
 ran_status shown = if is_some shown.fault then status.Disk else if ran_short shown then status.Memory else status.Done
 
--- whatever outcome the values show
-abbrev pub TellsOutcome : Option (List ℕ) → Option (List ℕ) → ℕ → ℕ → Outcome Pairs → Status → Type 0
-TellsOutcome old new failed fails shown given = (o : calls.Outcome) → ShowsOutcome shown o
-    → EndsSo old new failed fails shown (model.outcome_text o) given
+-- an outcome whole, or its summary
+abbrev pub text_of : Form → calls.Outcome → List ℕ
+text_of form.Whole o = model.outcome_text o
+text_of form.Summary o = summary_text o
 
-abbrev pub TellsEnd : Option (List ℕ) → Option (List ℕ) → ℕ → ℕ → End → Status → Type 0
-TellsEnd old new failed fails (end.DiskFault count) given =
+-- whatever outcome of one history the values show
+abbrev pub TellsOutcome : Form → Option (List ℕ) → Option (List ℕ) → ℕ → ℕ → Outcome Pairs → Status → Type 0
+TellsOutcome form old new failed fails shown given = (o : calls.Outcome) (start : ℕ) → IsHistory start o.history
+    → ShowsOutcome shown o → EndsSo old new failed fails shown (text_of form o) given
+
+abbrev pub TellsEnd : Form → Option (List ℕ) → Option (List ℕ) → ℕ → ℕ → End → Status → Type 0
+TellsEnd form old new failed fails (end.DiskFault count) given =
     Refuses old new failed fails (disk_fault count) status.Disk given
-TellsEnd old new failed fails (end.NotEmpty len) given =
+TellsEnd form old new failed fails (end.NotEmpty len) given =
     Refuses old new failed fails (not_empty len) status.NotEmpty given
-TellsEnd old new failed fails end.NoMemory given = (given ≡ status.Memory) × (new ≡ old)
-TellsEnd old new failed fails (end.Ran shown) given = TellsOutcome old new failed fails shown given
+TellsEnd form old new failed fails end.NoMemory given = (given ≡ status.Memory) × (new ≡ old)
+TellsEnd form old new failed fails end.NoOutcome given = (given ≡ status.Memory) × (new ≡ old)
+TellsEnd form old new failed fails (end.Ran shown) given = TellsOutcome form old new failed fails shown given
 
 -- the text of whatever recovery the values show
 abbrev pub IsTextOf : Recovered → List ℕ → Type 0

@@ -3,7 +3,7 @@
 ghost use Rattle.std.specs.Prelude.{◌≡◌, ◌+◌, ◌-◌, ◌≤◌, ◌<◌, ℕ, [], length, vec_len, Some, None, IfOk, IfErr, OnOk, IfSome};
 ghost use Rattle.writepath_top.specs.Reading.{HasRead, IsReadError, HasScript, IsScriptError, HasSchedule, IsScheduleError};
 
-use client_script::{Schedule, Script, ScriptError, TEXT_LIMIT, parse, parse_schedule};
+use client_script::{Schedule, Script, ScriptError, TEXT_LIMIT, parse_clients, parse_schedule};
 use std::alloc::Global;
 use wp_edge::Source;
 use wp_model::ScriptFault;
@@ -47,7 +47,7 @@ fn read_text<S: Source>(alloc: Global, source: &mut S) -> Result<Vec<u8>, ReadEr
     Ok(text)
 }
 
-/// Reads a script.
+/// Reads a script of 1 to 16 clients.
 pub fn read_script<S: Source>(alloc: Global, source: &mut S) -> Result<Script, ReadError>
     ensures script { IfOk result (HasScript (S.left source.old) (S.left source.new)) }
     ensures error { IfErr result (IsScriptError (S.left source.old) (S.faults source.old) (S.faults source.new)) }
@@ -55,7 +55,7 @@ pub fn read_script<S: Source>(alloc: Global, source: &mut S) -> Result<Script, R
     ensures worked { OnOk result (S.faults source.new ≡ S.faults source.old) }
 {
     let text = read_text(alloc, source)?;
-    match parse(alloc, &text) {
+    match parse_clients(alloc, &text) {
         Ok(script) => Ok(script),
         Err(ScriptError::Fault { line, kind }) => Err(ReadError::Script { line, kind }),
         Err(ScriptError::NoMemory) => Err(ReadError::NoMemory),

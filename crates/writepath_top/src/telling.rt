@@ -1,17 +1,22 @@
 //! What a call prints, and the status that it ends with.
 
-ghost use Rattle.std.specs.Prelude.{◌≡◌, ◌≤◌, IfOk, OnErr};
+ghost use Rattle.std.specs.Prelude.{◌≡◌, ◌≤◌, ℕ, IfOk, OnErr};
+ghost use Rattle.wp_model.specs.History.{IsHistory};
+ghost use Rattle.wp_model.specs.Calls as calls;
+ghost use Rattle.client_calls.specs.Shows.{ShowsOutcome};
 ghost use Rattle.writepath_top.specs.Texts.{SaysTo};
+ghost use Rattle.writepath_top.specs.Telling as telling;
 ghost use Rattle.writepath_top.specs.Telling.{TellsReadError, TellsEnd, TellsOutcome, TellsRecovery, TellsRecoverError, ShownEndsSo, TellsReplay, ReplayEndsSo, ran_status};
 
 use crate::reading::ReadError;
 use client_calls::Outcome;
-use one_client::End;
 use printed_text::{
     disk_fault, log_not_empty, outcome_text, recovered_text, replayed_text, script_fault,
-    source_fault,
+    source_fault, summary_text,
 };
 use schedule_run::Replayed;
+use script_generator::sum_of;
+use script_run::End;
 use std::alloc::Global;
 use wal_recover::{RecoverError, Recovered};
 use wp_coding::{Bytes, PairList};
@@ -29,6 +34,13 @@ pub enum Status {
     Sink,
     Memory,
     NotEmpty,
+}
+
+/// How an outcome is printed: whole, or summed up.
+#[derive(Clone, Copy, Debug, PartialEq, Eq)]
+pub enum Form {
+    Whole,
+    Summary,
 }
 
 /// Prints a refusal. Its status stands though the sink fails at its text.
@@ -70,28 +82,49 @@ pub fn tell_read_error<K: Sink>(alloc: Global, sink: &mut K, why: ReadError) -> 
 }
 
 /// Says how a run ended.
-pub fn tell_end<K: Sink>(alloc: Global, sink: &mut K, end: &End) -> Status
-    ensures { TellsEnd (K.taken sink.old) (K.taken sink.new) (K.faults sink.old) (K.faults sink.new) end.now result }
+pub fn tell_end<K: Sink>(alloc: Global, sink: &mut K, form: Form, end: &End) -> Status
+    ensures { TellsEnd form (K.taken sink.old) (K.taken sink.new) (K.faults sink.old) (K.faults sink.new) end.now
+        result }
 {
     match end {
         End::DiskFault { count } => refuse_with(sink, disk_fault(alloc, *count), Status::Disk),
         End::NotEmpty { len } => refuse_with(sink, log_not_empty(alloc, *len), Status::NotEmpty),
-        End::NoMemory => Status::Memory,
-        End::Ran(outcome) => tell_outcome(alloc, sink, outcome),
+        End::NoMemory | End::NoOutcome => Status::Memory,
+        End::Ran(outcome) => tell_outcome(alloc, sink, form, outcome),
     }
 }
 
-/// Prints an outcome, whole.
-fn tell_outcome<K: Sink>(alloc: Global, sink: &mut K, outcome: &Outcome<PairList>) -> Status
-    ensures { TellsOutcome (K.taken sink.old) (K.taken sink.new) (K.faults sink.old)
+/// Prints an outcome in a form.
+fn tell_outcome<K: Sink>(
+    alloc: Global,
+    sink: &mut K,
+    form: Form,
+    outcome: &Outcome<PairList>,
+) -> Status
+    ensures { TellsOutcome form (K.taken sink.old) (K.taken sink.new) (K.faults sink.old)
         (K.faults sink.new) outcome.now result }
 {
-    let Ok(text) = outcome_text(alloc, outcome) else {
+    let Ok(text) = text_of(alloc, form, outcome) else {
         return Status::Memory;
     };
     match write_all(sink, text.as_slice()) {
         Err(_) => Status::Sink,
         Ok(()) => status_of(outcome),
+    }
+}
+
+/// The text of an outcome in a form.
+fn text_of(alloc: Global, form: Form, outcome: &Outcome<PairList>) -> Result<Bytes, NoMemory>
+    ensures { (o : calls.Outcome) (start : ℕ) → IsHistory start o.history → ShowsOutcome outcome.now o
+        → IfOk result (λ t. t ≡ telling.text_of form o) }
+{
+    match form {
+        Form::Whole => outcome_text(alloc, outcome),
+        Form::Summary => {
+            // A generated script has small numbers alone for values, so there is a sum.
+            let sum = sum_of(&outcome.state).ok_or(NoMemory)?;
+            summary_text(alloc, outcome, sum)
+        }
     }
 }
 

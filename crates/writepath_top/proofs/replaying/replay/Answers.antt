@@ -1,0 +1,28 @@
+-- What stands printed of a schedule, and where none was read.
+use Rattle.client_script.specs.Schedules.{schedule_of}
+use Rattle.writepath_top.specs.Reading.{IsScheduleError}
+use Rattle.writepath_top.proofs.ReplayEndings.{replays_front, replay_counted}
+use Rattle.writepath_top.proofs.Unread.{source_failed}
+use Rattle.writepath_top.proofs.replaying.replay.Goals as goal
+
+pub returns-in-Ok-clause-replayed_prefix : goal.returns-in-Ok-clause-replayed_prefix
+returns-in-Ok-clause-replayed_prefix g c =
+    replays_front c.args.options (schedule_of c.in-Ok.schedule) c.replay_schedule-replayed.result (g.K.Sink.faults c.args.sink.now) (g.K.Sink.faults c.tell_replay.new.sink)
+    c.end_with.result.status c.tell_replay.result (g.S.Source.left c.args.source.now) (g.K.Sink.taken c.args.sink.now) (g.K.Sink.taken c.tell_replay.new.sink)
+    c.end_with.ensures.status c.in-Ok.ensures.schedule.said c.replay_schedule-replayed.ensures c.tell_replay.ensures
+
+pub returns-in-Ok-clause-no_fault : goal.returns-in-Ok-clause-no_fault
+returns-in-Ok-clause-no_fault g c = λ zero. (
+  c.in-Ok.ensures.worked,
+  replay_counted c.replay_schedule-replayed.result (g.K.Sink.faults c.args.sink.now) (g.K.Sink.faults c.tell_replay.new.sink) c.end_with.result.status c.tell_replay.result
+      (g.K.Sink.taken c.args.sink.now) (g.K.Sink.taken c.tell_replay.new.sink) c.end_with.ensures.status c.tell_replay.ensures zero,
+)
+
+pub returns-in-Err-clause-source : goal.returns-in-Err-clause-source
+returns-in-Err-clause-source g c =
+    let left = g.S.Source.left c.args.source.now in
+    let failed = g.S.Source.faults c.args.source.now in
+    let fails = g.S.Source.faults c.read_schedule.new.source in
+    source_failed (IsScheduleError left failed fails) failed fails (λ count error. error) (g.K.Sink.taken c.args.sink.now) (g.K.Sink.taken c.tell_read_error.new.sink)
+    (g.K.Sink.faults c.args.sink.now) (g.K.Sink.faults c.tell_read_error.new.sink) c.end_with-in-Err.result.status c.tell_read_error.result c.end_with-in-Err.ensures.status c.in-Err.error
+    c.in-Err.ensures.error c.tell_read_error.ensures

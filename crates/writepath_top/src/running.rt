@@ -1,0 +1,114 @@
+//! The command `run`, and what it has in common with `gen`: a script is run over the log of a disk.
+
+ghost use Rattle.std.specs.Prelude.{◌≡◌, ◌≢◌, ◌⊎◌, ◌<◌, ◌≤◌, [], length, Ok, Err, IfSome};
+ghost use Rattle.wp_model.specs.Counts.{Rose};
+ghost use Rattle.wp_model.specs.History.{max_sequence};
+ghost use Rattle.wp_model.specs.Script.{Script as Said, Fault, script_of, whole_grammar};
+ghost use Rattle.client_script.specs.Scripts.{commands_of, FitsBatches};
+ghost use Rattle.printed_text.specs.Refusals.{script_fault, source_fault};
+ghost use Rattle.run_model.specs.Running.{IsReached};
+ghost use Rattle.writepath_top.specs.Answers.{RunsScript};
+ghost use Rattle.writepath_top.specs.Outcomes.{observed, IsScript, SaysScript};
+ghost use Rattle.writepath_top.specs.Texts.{Stood, SaysTo};
+ghost use Rattle.writepath_top.specs.declared.telling.Form.TheVariants as form;
+
+use crate::ended::{Ended, end_with};
+use crate::reading::read_script;
+use crate::telling::{Form, tell_end, tell_read_error};
+use client_calls::Options;
+use client_script::Script;
+use engine_calls::Gate;
+use script_run::{Executed, execute};
+use std::alloc::Global;
+use std::sync::Wait;
+use std::thread::Threads;
+use wp_edge::{Clock, Disk, Sink, Source};
+
+/// Reads a script, runs it, and prints its outcome.
+pub fn run_script<
+    S: Source,
+    D: Disk + Send,
+    K: Sink,
+    C: Clock + Send + Drop,
+    G: Gate + Sync,
+    R: Threads + Wait + Sync,
+>(
+    rt: &R,
+    alloc: Global,
+    options: Options,
+    source: &mut S,
+    disk: D,
+    sink: &mut K,
+    clock: C,
+    gate: &G,
+) -> Ended<D>
+    requires options { (options.last ≤ max_sequence) × (options.batch_bytes ≤ 16777216) }
+    ensures other { (result.status < 8) × (result.status ≢ 1) }
+    ensures script { result.status ≡ 2 → IfSome (S.left source.old) (λ text. (f : Fault)
+        × (script_of whole_grammar text ≡ Err f)
+        × SaysTo (K.taken sink.old) (K.taken sink.new) (script_fault f) (K.faults sink.old) (K.faults sink.new)) }
+    ensures other_script { result.status ≢ 6 → Stood (S.faults source.old) (S.faults source.new)
+        → IfSome (S.left source.old) (λ text. (f : Fault) → script_of whole_grammar text ≡ Err f
+        → result.status ≡ 2) }
+    ensures source { result.status ≡ 4 → Rose (S.faults source.old) (S.faults source.new)
+        × ((count : _) × IsReached (S.faults source.old) count (S.faults source.new)
+        × SaysTo (K.taken sink.old) (K.taken sink.new) (source_fault count) (K.faults sink.old) (K.faults sink.new)) }
+    ensures source_stood { result.status ≡ 0 → S.faults source.new ≡ S.faults source.old }
+    ensures disk_untouched { (result.status ≡ 2) ⊎ (result.status ≡ 4) → result.disk ≡ disk }
+    ensures read_to_end { (result.status ≡ 0) ⊎ (result.status ≡ 3) ⊎ (result.status ≡ 5) ⊎ (result.status ≡ 7)
+        → IfSome (S.left source.new) (λ left. left ≡ []) }
+    ensures runs { RunsScript ⟦<D as Disk>⟧ ⟦<K as Sink>⟧ (observed ⟦<D as Disk>⟧ ⟦<K as Sink>⟧
+        (SaysScript (S.left source.old)) form.Whole options disk result.disk sink.old sink.new)
+        disk result.disk sink.old sink.new result.status }
+    ensures completes { Stood (S.faults source.old) (S.faults source.new)
+        → Stood (K.faults sink.old) (K.faults sink.new) → Stood (D.faults disk) (D.faults result.disk)
+        → IfSome (S.left source.old) (λ text. IfSome (D.told disk) (λ d. (script : Said)
+        → script_of whole_grammar text ≡ Ok script → length d.content ≡ 0
+        → (result.status ≡ 0) ⊎ (result.status ≡ 6))) }
+{
+    match read_script(alloc, source) {
+        Ok(script) => run_and_tell(
+            rt,
+            alloc,
+            &script,
+            options,
+            Form::Whole,
+            disk,
+            sink,
+            clock,
+            gate,
+        ),
+        Err(why) => end_with(tell_read_error(alloc, sink, why), disk),
+    }
+}
+
+/// Runs a script over the log of a disk, and prints what came of it in a form.
+pub fn run_and_tell<
+    D: Disk + Send,
+    K: Sink,
+    C: Clock + Send + Drop,
+    G: Gate + Sync,
+    R: Threads + Wait + Sync,
+>(
+    rt: &R,
+    alloc: Global,
+    script: &Script,
+    options: Options,
+    form: Form,
+    disk: D,
+    sink: &mut K,
+    clock: C,
+    gate: &G,
+) -> Ended<D>
+    requires clients { (1 ≤ length script.now.clients.items) × (length script.now.clients.items ≤ 16) }
+    requires fits { FitsBatches script.now }
+    requires options { (options.last ≤ max_sequence) × (options.batch_bytes ≤ 16777216) }
+    ensures status { (result.status ≡ 0) ⊎ (result.status ≡ 3) ⊎ (result.status ≡ 5) ⊎ (result.status ≡ 6)
+        ⊎ (result.status ≡ 7) }
+    ensures runs { RunsScript ⟦<D as Disk>⟧ ⟦<K as Sink>⟧ (observed ⟦<D as Disk>⟧ ⟦<K as Sink>⟧
+        (IsScript (commands_of script.now)) form options disk result.disk sink.old sink.new)
+        disk result.disk sink.old sink.new result.status }
+{
+    let Executed { disk, end } = execute(rt, alloc, disk, clock, gate, script, options);
+    end_with(tell_end(alloc, sink, form, &end), disk)
+}
