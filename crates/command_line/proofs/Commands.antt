@@ -10,12 +10,13 @@ use Rattle.clap.specs.Simple.{entered, filled, label_of, names_of, rows_at}
 use Rattle.clap.specs.Walk.{Names, Walk, answers_to, finished, has_row, nothing_held, rows_after, settled, walk, walk_from, walked, with_default}
 use Rattle.clap.proofs.FaultLemmas.{stopped_fault}
 use Rattle.clap.proofs.OnLiterals.{clap_on_literals}
-use Rattle.command_line.specs.Definition.{batch_bytes, group_bytes, last, pipelined, recover, replay, run, writepath}
-use Rattle.command_line.specs.Lawful.{Options, command_asked, lawful_in, options_of, recover_with, replay_with, run_with}
+use Rattle.command_line.specs.Definition.{batch_bytes, generate, group_bytes, last, pipelined, recover, replay, run, writepath}
+use Rattle.command_line.specs.Lawful.{Options, command_asked, generate_with, lawful_in, options_of, recover_with, replay_with, run_with}
 use Rattle.command_line.specs.Meaning.{asked_by, asked_in, is_taken, number_in, replay_by, run_by}
 use Rattle.command_line.specs.declared.asked.Asked.{Asked}
 use Rattle.command_line.specs.declared.asked.Asked.TheVariants.{Run, Recover, Replay}
-use Rattle.command_line.proofs.LeafWalks.{leaf, replay_batch, replay_group, replay_last, replay_pipelined, run_batch, run_last}
+use Rattle.command_line.proofs.LeafWalks.{leaf, replay_batch, replay_group, replay_last, replay_pipelined, run_batch, run_group, run_last}
+use Rattle.command_line.proofs.ThreeNumbers.{three_numbers}
 use Rattle.command_line.proofs.LeafOptions.{EndsWith, HasOptions, Holds, default_batch, default_flag, default_group, default_last, options_end}
 
 -- ---- the walk over the command and the words behind it
@@ -55,6 +56,10 @@ is_recover = record { met = refl; passes = refl; found = refl; named = refl }
 is_replay : IsCommand (codes "replay") (leaf replay.top)
 unfolding clap_on_literals
 is_replay = record { met = refl; passes = refl; found = refl; named = refl }
+
+is_generate : IsCommand (codes "gen") (leaf generate.top)
+unfolding clap_on_literals
+is_generate = record { met = refl; passes = refl; found = refl; named = refl }
 
 walk_stops : (word : Text) (s : Shape) → IsCommand word s → (words : List Text)
     → walk top.rules names nothing_held (word ∷ words) ≡ record start { stopped = Some (word, words) }
@@ -118,8 +123,11 @@ either_way false kinds e = e
 run_defaults : (rows : List Row) → defaults_fault rows (leaf run.top).rules ≡ []
 unfolding clap_on_literals
 run_defaults rows =
-    ap (λ (kinds : Kinds). or_else kinds (or_else (default_fault (with_default rows (filled batch_bytes)) (filled last)) [])) (either_way (has_row (codes "batch-bytes") rows) (given_default_fault (filled batch_bytes) (codes "16777216" ∷ [])) refl)
-    ∙ ap (λ (kinds : Kinds). or_else kinds []) (either_way (has_row (codes "last") (with_default rows (filled batch_bytes))) (given_default_fault (filled last) (codes "0" ∷ [])) refl)
+    let first = with_default rows (filled group_bytes) in
+    let second = with_default first (filled batch_bytes) in
+    ap (λ (kinds : Kinds). or_else kinds (or_else (default_fault first (filled batch_bytes)) (or_else (default_fault second (filled last)) []))) (either_way (has_row (codes "group-bytes") rows) (given_default_fault (filled group_bytes) (codes "1048576" ∷ [])) refl)
+    ∙ ap (λ (kinds : Kinds). or_else kinds (or_else (default_fault second (filled last)) [])) (either_way (has_row (codes "batch-bytes") first) (given_default_fault (filled batch_bytes) (codes "16777216" ∷ [])) refl)
+    ∙ ap (λ (kinds : Kinds). or_else kinds []) (either_way (has_row (codes "last") second) (given_default_fault (filled last) (codes "0" ∷ [])) refl)
 
 level_passes : (s : Shape) (words : List Text) (o : Options) → s.args_override_self ≡ false → EndsWith s [] None words o
     → ((rows : List Row) → defaults_fault rows s.rules ≡ []) → ((rows : List Row) → check_fault s rows false ≡ [])
@@ -145,9 +153,11 @@ replay_defaults rows =
 
 run_numbers : (o : Options) (rows : List Row) → Holds o rows → run_by (fold with_default rows (leaf run.top).rules) ≡ Some (run_with o)
 run_numbers o rows h =
-    let all = default_last _ _ (default_batch o rows h) in
-    ap (λ (b : Option ℕ). option_and_then (λ (m : ℕ). option_map (λ (n : ℕ). Run m n) (number_in (codes "last") (fold with_default rows (leaf run.top).rules))) b) all.batch
-    ∙ ap (λ (n : Option ℕ). option_map (λ (k : ℕ). Run (unwrap_or o.batch_bytes 16777216) k) n) all.first
+    let all = default_last _ _ (default_batch _ _ (default_group o rows h)) in
+    let end = fold with_default rows (leaf run.top).rules in
+    ap (λ (g : Option ℕ). option_and_then (λ (i : ℕ). option_and_then (λ (m : ℕ). option_map (λ (n : ℕ). Run i m n) (number_in (codes "last") end)) (number_in (codes "batch-bytes") end)) g) all.group
+    ∙ ap (λ (b : Option ℕ). option_and_then (λ (m : ℕ). option_map (λ (n : ℕ). Run (unwrap_or o.group_bytes 1048576) m n) (number_in (codes "last") end)) b) all.batch
+    ∙ ap (λ (n : Option ℕ). option_map (λ (k : ℕ). Run (unwrap_or o.group_bytes 1048576) (unwrap_or o.batch_bytes 16777216) k) n) all.first
 
 replay_numbers : (o : Options) (rows : List Row) → Holds o rows → replay_by (fold with_default rows (leaf replay.top).rules) ≡ Some (replay_with o)
 replay_numbers o rows h =
@@ -159,15 +169,15 @@ replay_numbers o rows h =
     ∙ ap (λ (n : Option ℕ). option_map (λ (k : ℕ). Replay o.pipelined (unwrap_or o.group_bytes 1048576) (unwrap_or o.batch_bytes 16777216) k) n) all.first
 
 run_options : HasOptions false (leaf run.top)
-run_options = record { flag = λ e. cc; group = λ e. cc; batch = run_batch; first = run_last }
+run_options = record { flag = λ e. cc; group = run_group; batch = run_batch; first = run_last }
 
 replay_options : HasOptions true (leaf replay.top)
-replay_options = record { flag = λ e. replay_pipelined; group = λ e. replay_group; batch = replay_batch; first = replay_last }
+replay_options = record { flag = λ e. replay_pipelined; group = replay_group; batch = replay_batch; first = replay_last }
 
 none_held : Holds (record { pipelined = false; group_bytes = None; batch_bytes = None; last = None }) []
 none_held = record { flag_row = refl; flag = refl; group_row = refl; batch_row = refl; last_row = refl; group = refl; batch = refl; first = refl }
 
--- ---- the three commands
+-- ---- the four commands
 
 run_asks : (name : Text) (words : List Text) (o : Options) → options_of false words ≡ Some o → asked_in (name ∷ codes "run" ∷ words) ≡ Some (run_with o)
 run_asks name words o given =
@@ -187,6 +197,11 @@ recover_asks : (name : Text) → asked_in (name ∷ codes "recover" ∷ []) ≡ 
 unfolding clap_on_literals
 recover_asks name = command_asks name (codes "recover") (leaf recover.top) is_recover [] Recover refl refl
 
+generate_asks : (name : Text) (words : List Text) (asked : Asked) → generate_with words ≡ Some asked → asked_in (name ∷ codes "gen" ∷ words) ≡ Some asked
+generate_asks name words asked given =
+    let level = three_numbers words asked given in
+    command_asks name (codes "gen") (leaf generate.top) is_generate words asked level.0 level.1
+
 -- ---- all lawful words
 
 mapped : {X Y : Type 0} (f : X → Y) (o : Option X) (y : Y) → option_map f o ≡ Some y → (x : X) × (o ≡ Some x) × (f x ≡ y)
@@ -198,22 +213,25 @@ recover_alone [] asked e = let is : Recover ≡ asked = cc in (refl, is)
 recover_alone (word ∷ words) asked e = cc
 
 command_lawful : (name word : Text) (words : List Text) (asked : Asked) → command_asked word words ≡ Some asked → asked_in (name ∷ word ∷ words) ≡ Some asked
-command_lawful name word words asked e = go (bytes_eq word (codes "run")) refl (bytes_eq word (codes "recover")) refl (bytes_eq word (codes "replay")) refl e
+command_lawful name word words asked e = go (bytes_eq word (codes "run")) refl (bytes_eq word (codes "recover")) refl (bytes_eq word (codes "replay")) refl (bytes_eq word (codes "gen")) refl e
   where
     go : (a : Bool) → bytes_eq word (codes "run") ≡ a → (b : Bool) → bytes_eq word (codes "recover") ≡ b → (d : Bool) → bytes_eq word (codes "replay") ≡ d
-        → cond a (option_map run_with (options_of false words)) (cond b (recover_with words) (cond d (option_map replay_with (options_of true words)) None)) ≡ Some asked
+        → (f : Bool) → bytes_eq word (codes "gen") ≡ f
+        → cond a (option_map run_with (options_of false words)) (cond b (recover_with words) (cond d (option_map replay_with (options_of true words)) (cond f (generate_with words) None))) ≡ Some asked
         → asked_in (name ∷ word ∷ words) ≡ Some asked
-    go true a b eb d ed is =
+    go true a b eb d ed f ef is =
         let given = mapped run_with (options_of false words) asked is in
         subst (λ (w : Text). asked_in (name ∷ w ∷ words) ≡ Some asked) (sym ((bytes_eq-Decides _ _).0 a)) (run_asks name words given.0 given.1 ∙ ap Some given.2)
-    go false a true b d ed is =
+    go false a true b d ed f ef is =
         let alone = recover_alone words asked is in
         subst (λ (w : Text). asked_in (name ∷ w ∷ words) ≡ Some asked) (sym ((bytes_eq-Decides _ _).0 b))
         (subst (λ (ws : List Text). asked_in (name ∷ codes "recover" ∷ ws) ≡ Some asked) (sym alone.0) (recover_asks name ∙ ap Some alone.1))
-    go false a false b true d is =
+    go false a false b true d f ef is =
         let given = mapped replay_with (options_of true words) asked is in
         subst (λ (w : Text). asked_in (name ∷ w ∷ words) ≡ Some asked) (sym ((bytes_eq-Decides _ _).0 d)) (replay_asks name words given.0 given.1 ∙ ap Some given.2)
-    go false a false b false d is = cc
+    go false a false b false d true f is =
+        subst (λ (w : Text). asked_in (name ∷ w ∷ words) ≡ Some asked) (sym ((bytes_eq-Decides _ _).0 f)) (generate_asks name words asked is)
+    go false a false b false d false f is = cc
 
 -- lawful words ask for what they say
 pub lawful_asks : (words : List Text) (asked : Asked) → lawful_in words ≡ Some asked → asked_in words ≡ Some asked

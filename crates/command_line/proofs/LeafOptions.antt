@@ -120,9 +120,8 @@ pub record GivesBatch (o : Options) (name value : Text) (after : Options) : Type
   pub number : IsNumberText value 12 16777216 n
   pub after_is : after ≡ record o { batch_bytes = Some n }
 
-pub record GivesGroup (is_replay : Bool) (o : Options) (name value : Text) (after : Options) : Type 0 where
+pub record GivesGroup (o : Options) (name value : Text) (after : Options) : Type 0 where
   pub n : ℕ
-  pub of_replay : is_replay ≡ true
   pub name_is : name ≡ codes "--group-bytes"
   pub is_new : o.group_bytes ≡ None
   pub number : IsNumberText value 1 16777216 n
@@ -147,12 +146,12 @@ chosen false true c x y z after e = inr (inl (refl, e))
 chosen false false true x y z after e = inr (inr (refl, e))
 chosen false false false x y z after e = cc
 
-option_given : (is_replay : Bool) (o : Options) (name value : Text) (after : Options) → with_option is_replay o name value ≡ Some after
-    → GivesLast o name value after ⊎ (GivesBatch o name value after ⊎ GivesGroup is_replay o name value after)
-option_given is_replay o name value after e = elim (chosen
+option_given : (o : Options) (name value : Text) (after : Options) → with_option o name value ≡ Some after
+    → GivesLast o name value after ⊎ (GivesBatch o name value after ⊎ GivesGroup o name value after)
+option_given o name value after e = elim (chosen
     (bytes_eq name (codes "--last") && is_none o.last)
     (bytes_eq name (codes "--batch-bytes") && is_none o.batch_bytes)
-    (is_replay && (bytes_eq name (codes "--group-bytes") && is_none o.group_bytes))
+    (bytes_eq name (codes "--group-bytes") && is_none o.group_bytes)
     (option_map (λ (n : ℕ). record o { last = Some n }) (within 0 (2 ^ 56 - 1) value))
     (option_map (λ (n : ℕ). record o { batch_bytes = Some n }) (within 12 16777216 value))
     (option_map (λ (n : ℕ). record o { group_bytes = Some n }) (within 1 16777216 value))
@@ -166,10 +165,9 @@ option_given is_replay o name value after e = elim (chosen
           let given = mapped (λ (n : ℕ). record o { batch_bytes = Some n }) (within 12 16777216 value) after h.1 in
           inr (inl (record { n = given.0; name_is = (bytes_eq-Decides _ _).0 parts.0; is_new = none_is _ parts.1; number = number_text value 12 16777216 given.0 given.1; after_is = given.2 }))
       | inr (inr h) ↦
-          let both = two _ _ h.0 in
-          let parts = two _ _ both.1 in
+          let parts = two _ _ h.0 in
           let given = mapped (λ (n : ℕ). record o { group_bytes = Some n }) (within 1 16777216 value) after h.1 in
-          inr (inr (record { n = given.0; of_replay = both.0; name_is = (bytes_eq-Decides _ _).0 parts.0; is_new = none_is _ parts.1; number = number_text value 1 16777216 given.0 given.1; after_is = given.2 }))
+          inr (inr (record { n = given.0; name_is = (bytes_eq-Decides _ _).0 parts.0; is_new = none_is _ parts.1; number = number_text value 1 16777216 given.0 given.1; after_is = given.2 }))
     ]
 
 -- ---- all the options
@@ -177,7 +175,7 @@ option_given is_replay o name value after e = elim (chosen
 -- the command has these options
 pub record HasOptions (is_replay : Bool) (s : Shape) : Type 0 where
   pub flag : is_replay ≡ true → IsFlag s (codes "--pipelined") (filled pipelined)
-  pub group : is_replay ≡ true → IsNumberOption s (codes "--group-bytes") (filled group_bytes) 1 16777216
+  pub group : IsNumberOption s (codes "--group-bytes") (filled group_bytes) 1 16777216
   pub batch : IsNumberOption s (codes "--batch-bytes") (filled batch_bytes) 12 16777216
   pub first : IsNumberOption s (codes "--last") (filled last) 0 72057594037927935
 
@@ -223,7 +221,7 @@ used_once s word a least most option_is value n number rows pending words p afte
 
 option_then : (is_replay : Bool) (s : Shape) → HasOptions is_replay s → (o : Options) (name value : Text) (words : List Text) (rows : List Row) (pending : Pending) (p after : Options)
     → settle_fault s.rules false (held rows pending) ≡ [] → Holds o (settled_rows s.rules pending rows) → RestEnds s words p after
-    → GivesLast o name value p ⊎ (GivesBatch o name value p ⊎ GivesGroup is_replay o name value p)
+    → GivesLast o name value p ⊎ (GivesBatch o name value p ⊎ GivesGroup o name value p)
     → EndsWith s rows pending (name ∷ value ∷ words) after
 option_then is_replay s has o name value words rows pending p after settles holds rest (inl g) =
     let now = settled_rows s.rules pending rows in
@@ -244,7 +242,7 @@ option_then is_replay s has o name value words rows pending p after settles hold
     let unused : has_row (codes "group-bytes") now ≡ false = holds.group_row ∙ ap is_some g.is_new in
     let more = holds_group o now CommandLine value g.n holds unused g.number.whole in
     subst (λ (w : Text). EndsWith s rows pending (w ∷ value ∷ words) after) (sym g.name_is)
-    (used_once s (codes "--group-bytes") (filled group_bytes) 1 16777216 (has.group g.of_replay) value g.n g.number rows pending words p after settles unused
+    (used_once s (codes "--group-bytes") (filled group_bytes) 1 16777216 has.group value g.n g.number rows pending words p after settles unused
     (subst (λ (q : Options). Holds q (now ++ value_row (codes "group-bytes") CommandLine value ∷ [])) (sym g.after_is) more) rest)
 
 -- a flag before the others
@@ -277,12 +275,12 @@ flag_given is_replay o rest after e = go is_replay refl o.pipelined refl e
 
 pair_then : (is_replay : Bool) (s : Shape) → HasOptions is_replay s → (o : Options) (name value : Text) (words : List Text) (rows : List Row) (pending : Pending) (given : Option Options) (after : Options)
     → settle_fault s.rules false (held rows pending) ≡ [] → Holds o (settled_rows s.rules pending rows)
-    → with_option is_replay o name value ≡ given → option_and_then (with_options is_replay words) given ≡ Some after
+    → with_option o name value ≡ given → option_and_then (with_options is_replay words) given ≡ Some after
     → ((p : Options) → with_options is_replay words p ≡ Some after → RestEnds s words p after)
     → EndsWith s rows pending (name ∷ value ∷ words) after
 pair_then is_replay s has o name value words rows pending None after settles holds e is rest = cc
 pair_then is_replay s has o name value words rows pending (Some p) after settles holds e is rest =
-    option_then is_replay s has o name value words rows pending p after settles holds (rest p is) (option_given is_replay o name value p e)
+    option_then is_replay s has o name value words rows pending p after settles holds (rest p is) (option_given o name value p e)
 
 and_then_some : {X : Type 0} (o : Option X) → option_and_then (λ x. Some x) o ≡ o
 and_then_some None = refl
@@ -309,7 +307,7 @@ options_end is_replay s has (name ∷ value ∷ words) o after is rows pending s
     go (is_flag name) refl is (λ p next. options_end is_replay s has (value ∷ words) p after next) (λ p next. options_end is_replay s has words p after next)
   where
     go : (b : Bool) → is_flag name ≡ b
-        → cond b (option_and_then (with_options is_replay (value ∷ words)) (with_flag is_replay o)) (option_and_then (with_options is_replay words) (with_option is_replay o name value)) ≡ Some after
+        → cond b (option_and_then (with_options is_replay (value ∷ words)) (with_flag is_replay o)) (option_and_then (with_options is_replay words) (with_option o name value)) ≡ Some after
         → ((p : Options) → with_options is_replay (value ∷ words) p ≡ Some after → RestEnds s (value ∷ words) p after)
         → ((p : Options) → with_options is_replay words p ≡ Some after → RestEnds s words p after) → EndsWith s rows pending (name ∷ value ∷ words) after
     go true e given rest others =
@@ -317,7 +315,7 @@ options_end is_replay s has (name ∷ value ∷ words) o after is rows pending s
         subst (λ (w : Text). EndsWith s rows pending (w ∷ value ∷ words) after) (sym ((bytes_eq-Decides _ _).0 e))
         (flag_then is_replay s has o (value ∷ words) rows pending after settles holds flag.0 flag.1 (rest (record o { pipelined = true }) flag.2))
     go false e given rest others =
-        pair_then is_replay s has o name value words rows pending (with_option is_replay o name value) after settles holds refl given others
+        pair_then is_replay s has o name value words rows pending (with_option o name value) after settles holds refl given others
 
 -- ---- the defaults
 

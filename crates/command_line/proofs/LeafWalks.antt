@@ -6,7 +6,7 @@ use Rattle.clap.specs.Lexer.{long_of, short_of}
 use Rattle.clap.specs.Words.{Kinds, Row, Rule, Shape, Text}
 use Rattle.clap.specs.Kinds.{or_else, value_kinds}
 use Rattle.clap.specs.Faults.{other_fault, repeat_fault, settle_fault, step_fault, turn_fault, use_fault, walk_fault}
-use Rattle.clap.specs.Simple.{built_leaf, inherited, marked_built, with_leaf_noted, filled}
+use Rattle.clap.specs.Simple.{built_leaf, inherited, marked_built, with_index, with_leaf_noted, filled}
 use Rattle.clap.specs.Walk.{Held, Step, Walk, Waiting, after_step, arg_by_id, has_row, idle, more_values, next, option, option_word, plain_word, settled_rows, used, used_by_id, walked, with_values, without, word_met}
 use Rattle.clap.specs.declared.builder.value_parser.Reading.TheVariants.{AsWritten}
 use Rattle.clap.specs.declared.builder.value_parser.ValueParser.TheVariants.{Unsigned}
@@ -19,6 +19,10 @@ use Rattle.command_line.proofs.Rows.{at_row-absent, value_row}
 -- a command as clap builds it
 abbrev pub leaf : Shape → Shape
 leaf s = built_leaf (inherited (with_leaf_noted (marked_built writepath.top)) s)
+
+-- a positional as clap builds it
+abbrev pub placed : ℕ → Rule → Rule
+placed place a = with_index place (filled a)
 
 abbrev pub Pending : Type 0
 Pending = Option (Text × List Text)
@@ -42,6 +46,10 @@ pub record IsNumberOption (s : Shape) (word : Text) (a : Rule) (least most : ℕ
   pub taken : (rows : List Row) (value : Text) → option_word (Some a) a.id value (held rows (Some (a.id, []))) ≡ (held rows (Some (a.id, value ∷ [])), idle)
   pub use_is : (rows : List Row) (value : Text) → used a (value ∷ []) rows ≡ with_values a.id AsWritten CommandLine (value ∷ []) (without a.id rows)
   pub fault_is : (rows : List Row) (value : Text) → use_fault false a (value ∷ []) rows ≡ or_else (repeat_fault false a.id rows) (or_else (value_kinds false (Unsigned least most) value) [])
+
+pub run_group : IsNumberOption (leaf run.top) (codes "--group-bytes") (filled group_bytes) 1 16777216
+unfolding clap_on_literals
+run_group = record { met = λ rows pending. refl; met_fault = λ rows pending. refl; by_id = refl; taken = λ rows value. refl; use_is = λ rows value. refl; fault_is = λ rows value. refl }
 
 pub run_batch : IsNumberOption (leaf run.top) (codes "--batch-bytes") (filled batch_bytes) 12 16777216
 unfolding clap_on_literals
@@ -132,7 +140,7 @@ walked_option s word a least most option_is value n number rows pending =
     ap (λ (w : Walk). walked s.rules [] w value) (option_is.met rows pending)
     ∙ walked_value s word a least most option_is value n number (settled_rows s.rules pending rows)
 
-no_flag : (s : Shape) (id : Text) (value : Text) (h : Held) → bytes_eq value (45 ∷ 45 ∷ []) ≡ false → long_of value ≡ None → short_of value ≡ None
+pub no_flag : (s : Shape) (id : Text) (value : Text) (h : Held) → bytes_eq value (45 ∷ 45 ∷ []) ≡ false → long_of value ≡ None → short_of value ≡ None
     → other_fault s None value h ≡ []
 no_flag s id value h a b e = rw (a, b, e) refl
 

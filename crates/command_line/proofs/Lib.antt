@@ -2,9 +2,11 @@ mod Flags
 mod Numbers
 mod NumberTexts
 mod Reading
+mod Subcommands
 mod Rows
 mod LeafWalks
 mod LeafOptions
+mod ThreeNumbers
 mod Commands
 mod RowValues
 mod Ranges

@@ -18,12 +18,12 @@ use Rattle.clap.specs.declared.builder.value_parser.Reading.TheVariants.{AsWritt
 use Rattle.clap.specs.declared.parser.matches.ValueSource.TheVariants.{DefaultValue}
 use Rattle.clap.proofs.OnLiterals.{clap_on_literals}
 use Rattle.clap.proofs.WalkLemmas.{both}
-use Rattle.command_line.specs.Definition.{batch_bytes, group_bytes, last, pipelined, recover, replay, run, writepath}
+use Rattle.command_line.specs.Definition.{batch_bytes, batches, clients, generate, group_bytes, last, pipelined, recover, replay, run, seed, writepath}
 use Rattle.command_line.specs.Limits.{KeepsLimits}
 use Rattle.command_line.specs.Meaning.{asked_by, asked_in, flag_in, is_taken, number_in, whole_number}
 use Rattle.command_line.specs.declared.asked.Asked.{Asked}
-use Rattle.command_line.specs.declared.asked.Asked.TheVariants.{Run, Recover, Replay}
-use Rattle.command_line.proofs.LeafWalks.{leaf}
+use Rattle.command_line.specs.declared.asked.Asked.TheVariants.{Run, Recover, Replay, Generate}
+use Rattle.command_line.proofs.LeafWalks.{leaf, placed}
 use Rattle.command_line.proofs.RowValues.{AreOptions, IsSetOption, RowPasses, RowsPass, first_empty, walk_passes, walk_settles, with_values_pass}
 
 -- ---- a number that passed
@@ -87,12 +87,11 @@ find_holds P p (y ∷ xs) all x e = go (p y) e (find_holds P p xs all.1 x)
 
 run_set : Each (IsSetOption (leaf run.top).rules) (leaf run.top).rules
 unfolding clap_on_literals
-run_set = (record { itself = refl; sets = inl refl }, (record { itself = refl; sets = inl refl }, tt))
+run_set = (record { itself = refl; sets = inl refl }, (record { itself = refl; sets = inl refl }, (record { itself = refl; sets = inl refl }, tt)))
 
 run_are : AreOptions (leaf run.top).rules
 unfolding clap_on_literals
 run_are = record {
-  by_index = λ i. refl;
   by_short = λ x. refl;
   by_id = λ id a e. find_holds (IsSetOption (leaf run.top).rules) (λ (x : Rule). bytes_eq x.id id) (leaf run.top).rules run_set a e;
   by_long = λ name a e. find_holds (IsSetOption (leaf run.top).rules) (λ (x : Rule). not (is_some x.index) && has_long x name) (leaf run.top).rules run_set a e;
@@ -106,10 +105,21 @@ replay_set =
 replay_are : AreOptions (leaf replay.top).rules
 unfolding clap_on_literals
 replay_are = record {
-  by_index = λ i. refl;
   by_short = λ x. refl;
   by_id = λ id a e. find_holds (IsSetOption (leaf replay.top).rules) (λ (x : Rule). bytes_eq x.id id) (leaf replay.top).rules replay_set a e;
   by_long = λ name a e. find_holds (IsSetOption (leaf replay.top).rules) (λ (x : Rule). not (is_some x.index) && has_long x name) (leaf replay.top).rules replay_set a e;
+}
+
+generate_set : Each (IsSetOption (leaf generate.top).rules) (leaf generate.top).rules
+unfolding clap_on_literals
+generate_set = (record { itself = refl; sets = inl refl }, (record { itself = refl; sets = inl refl }, (record { itself = refl; sets = inl refl }, tt)))
+
+generate_are : AreOptions (leaf generate.top).rules
+unfolding clap_on_literals
+generate_are = record {
+  by_short = λ x. refl;
+  by_id = λ id a e. find_holds (IsSetOption (leaf generate.top).rules) (λ (x : Rule). bytes_eq x.id id) (leaf generate.top).rules generate_set a e;
+  by_long = λ name a e. find_holds (IsSetOption (leaf generate.top).rules) (λ (x : Rule). not (is_some x.index) && has_long x name) (leaf generate.top).rules generate_set a e;
 }
 
 -- ---- the level of a command
@@ -121,6 +131,11 @@ default_passes c a value is pass rows p = go (has_row a.id rows)
     go : (b : Bool) → RowsPass c (cond b rows (with_values a.id (reading_by a) DefaultValue (value ∷ []) rows))
     go true = p
     go false = with_values_pass c a is DefaultValue (value ∷ []) pass rows p
+
+-- an argument without a default gets nothing
+no_default_passes : (c : List Rule) (has : Bool) (rows : List Row) → RowsPass c rows → RowsPass c (cond has rows rows)
+no_default_passes c true rows p = p
+no_default_passes c false rows p = p
 
 settled_level : (s : Shape) → AreOptions s.rules → s.args_override_self ≡ false → (words : List Text) → level_fault s [] nothing_held words false [] ≡ []
     → RowsPass s.rules (settled s.rules (walk s.rules [] nothing_held words).held).rows
@@ -137,8 +152,10 @@ unfolding clap_on_literals
 run_rows words none =
     let c = (leaf run.top).rules in
     let first = (settled c (walk c [] nothing_held words).held).rows in
-    default_passes c (filled last) (codes "0") run_set.1.0 refl (with_default first (filled batch_bytes))
-    (default_passes c (filled batch_bytes) (codes "16777216") run_set.0 refl first (settled_level (leaf run.top) run_are refl words none))
+    let second = with_default first (filled group_bytes) in
+    default_passes c (filled last) (codes "0") run_set.1.1.0 refl (with_default second (filled batch_bytes))
+    (default_passes c (filled batch_bytes) (codes "16777216") run_set.1.0 refl second
+    (default_passes c (filled group_bytes) (codes "1048576") run_set.0 refl first (settled_level (leaf run.top) run_are refl words none)))
 
 replay_rows : (words : List Text) → level_fault (leaf replay.top) [] nothing_held words false [] ≡ [] → RowsPass (leaf replay.top).rules (rows_after (leaf replay.top).rules [] words)
 unfolding clap_on_literals
@@ -152,11 +169,22 @@ replay_rows words none =
     (default_passes c (filled group_bytes) (codes "1048576") replay_set.1.0 refl second
     (default_passes c (filled pipelined) (codes "false") replay_set.0 refl first (settled_level (leaf replay.top) replay_are refl words none))))
 
-some_of : {X Y : Type 0} (f : X → Option Y) (o : Option X) (y : Y) → option_and_then f o ≡ Some y → (x : X) × (o ≡ Some x) × (f x ≡ Some y)
+generate_rows : (words : List Text) → level_fault (leaf generate.top) [] nothing_held words false [] ≡ [] → RowsPass (leaf generate.top).rules (rows_after (leaf generate.top).rules [] words)
+unfolding clap_on_literals
+generate_rows words none =
+    let c = (leaf generate.top).rules in
+    let first = (settled c (walk c [] nothing_held words).held).rows in
+    let second = with_default first (placed 1 seed) in
+    let third = with_default second (placed 2 clients) in
+    no_default_passes c (has_row (codes "BATCHES") third) third
+    (no_default_passes c (has_row (codes "CLIENTS") second) second
+    (no_default_passes c (has_row (codes "SEED") first) first (settled_level (leaf generate.top) generate_are refl words none)))
+
+pub some_of : {X Y : Type 0} (f : X → Option Y) (o : Option X) (y : Y) → option_and_then f o ≡ Some y → (x : X) × (o ≡ Some x) × (f x ≡ Some y)
 some_of f None y e = cc
 some_of f (Some x) y e = (x, refl, e)
 
-mapped_of : {X Y : Type 0} (f : X → Y) (o : Option X) (y : Y) → option_map f o ≡ Some y → (x : X) × (o ≡ Some x) × (f x ≡ y)
+pub mapped_of : {X Y : Type 0} (f : X → Y) (o : Option X) (y : Y) → option_map f o ≡ Some y → (x : X) × (o ≡ Some x) × (f x ≡ y)
 mapped_of f None y e = cc
 mapped_of f (Some x) y e = let is : f x ≡ y = cc in (x, refl, is)
 
@@ -169,12 +197,14 @@ run_keeps words asked none is =
     let c = (leaf run.top).rules in
     let rows = rows_after c [] words in
     let pass = run_rows words none in
-    let b = some_of (λ (m : ℕ). option_map (λ (n : ℕ). Run m n) (number_in (codes "last") rows)) (number_in (codes "batch-bytes") rows) asked is in
-    let l = mapped_of (λ (n : ℕ). Run b.0 n) (number_in (codes "last") rows) asked b.2 in
+    let g = some_of (λ (k : ℕ). option_and_then (λ (m : ℕ). option_map (λ (n : ℕ). Run k m n) (number_in (codes "last") rows)) (number_in (codes "batch-bytes") rows)) (number_in (codes "group-bytes") rows) asked is in
+    let b = some_of (λ (m : ℕ). option_map (λ (n : ℕ). Run g.0 m n) (number_in (codes "last") rows)) (number_in (codes "batch-bytes") rows) asked g.2 in
+    let l = mapped_of (λ (n : ℕ). Run g.0 b.0 n) (number_in (codes "last") rows) asked b.2 in
+    let in_g = number_in_range c (codes "group-bytes") 1 16777216 (record { rule = filled group_bytes; found = refl; reads = refl; tests = λ text. refl }) rows pass g.0 g.1 in
     let in_b = number_in_range c (codes "batch-bytes") 12 16777216 (record { rule = filled batch_bytes; found = refl; reads = refl; tests = λ text. refl }) rows pass b.0 b.1 in
     let in_l = number_in_range c (codes "last") 0 72057594037927935 (record { rule = filled last; found = refl; reads = refl; tests = λ text. refl }) rows pass l.0 l.1 in
     let below : l.0 < 2 ^ 56 = omega (arith, in_l.1) in
-    subst KeepsLimits l.2 (in_b.0, in_b.1, below)
+    subst KeepsLimits {x = Run g.0 b.0 l.0} l.2 (in_g.0, in_g.1, in_b.0, in_b.1, below)
 
 recover_keeps : LevelKeeps (leaf recover.top)
 recover_keeps words asked none is =
@@ -197,9 +227,23 @@ replay_keeps words asked none is =
     let below : l.0 < 2 ^ 56 = omega (arith, in_l.1) in
     subst KeepsLimits {x = Replay f.0 g.0 b.0 l.0} l.2 (in_g.0, in_g.1, in_b.0, in_b.1, below)
 
+generate_keeps : LevelKeeps (leaf generate.top)
+generate_keeps words asked none is =
+    let c = (leaf generate.top).rules in
+    let rows = rows_after c [] words in
+    let pass = generate_rows words none in
+    let s = some_of (λ (k : ℕ). option_and_then (λ (m : ℕ). option_map (λ (n : ℕ). Generate k m n) (number_in (codes "BATCHES") rows)) (number_in (codes "CLIENTS") rows)) (number_in (codes "SEED") rows) asked is in
+    let m = some_of (λ (m : ℕ). option_map (λ (n : ℕ). Generate s.0 m n) (number_in (codes "BATCHES") rows)) (number_in (codes "CLIENTS") rows) asked s.2 in
+    let b = mapped_of (λ (n : ℕ). Generate s.0 m.0 n) (number_in (codes "BATCHES") rows) asked m.2 in
+    let in_s = number_in_range c (codes "SEED") 0 2147483647 (record { rule = placed 1 seed; found = refl; reads = refl; tests = λ text. refl }) rows pass s.0 s.1 in
+    let in_m = number_in_range c (codes "CLIENTS") 1 16 (record { rule = placed 2 clients; found = refl; reads = refl; tests = λ text. refl }) rows pass m.0 m.1 in
+    let in_b = number_in_range c (codes "BATCHES") 1 100000 (record { rule = placed 3 batches; found = refl; reads = refl; tests = λ text. refl }) rows pass b.0 b.1 in
+    let below : s.0 < 2 ^ 31 = omega (arith, in_s.1) in
+    subst KeepsLimits {x = Generate s.0 m.0 b.0} b.2 (below, in_m.0, in_m.1, in_b.0, in_b.1)
+
 commands_keep : Each LevelKeeps (built writepath).subs
 unfolding clap_on_literals
-commands_keep = (run_keeps, (recover_keeps, (replay_keeps, tt)))
+commands_keep = (run_keeps, (recover_keeps, (replay_keeps, (generate_keeps, tt))))
 
 -- ---- all words
 

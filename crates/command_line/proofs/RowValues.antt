@@ -13,8 +13,8 @@ use Rattle.clap.specs.Takes.{value_passes}
 use Rattle.clap.specs.Values.{refused_kind}
 use Rattle.clap.specs.ValueTests.{accepts}
 use Rattle.clap.specs.Facts.{parser_of_value, unwrap_or_range}
-use Rattle.clap.specs.Faults.{action_fault, flag_word_fault, long_fault, option_fault, other_fault, react_fault, repeat_fault, settle_fault, step_fault, turn_fault, use_fault, values_fault, walk_fault, word_fault}
-use Rattle.clap.specs.Walk.{Held, Outcome, Step, Waiting, Walk, action_of, after_flag, after_step, arg_by_id, arg_by_index, arg_by_long, arg_by_short, at_row, bundle, bundle_met, bundle_step, done, flag_met, idle, long_met, long_or_other, more_values, most_values, next, option, option_met, option_word, plain, plain_word, positional, reading_by, refused, settled, settled_rows, short_met, short_or_plain, subcommand, subcommand_met, subcommand_or_other, takes_values, to_positional, trailing, used, used_as, used_by_id, value, values_or_missing, waits, walked, walked_from, with_values, without, word_met}
+use Rattle.clap.specs.Faults.{action_fault, flag_word_fault, long_fault, option_fault, other_fault, positional_fault, react_fault, repeat_fault, settle_fault, step_fault, stray_fault, turn_fault, use_fault, values_fault, walk_fault, word_fault}
+use Rattle.clap.specs.Walk.{Held, Outcome, Step, Waiting, Walk, action_of, after_flag, after_step, arg_by_id, arg_by_index, arg_by_long, arg_by_short, at_row, bundle, bundle_met, bundle_step, done, flag_met, idle, is_pending, long_met, long_or_other, more_values, most_values, next, option, option_met, option_word, plain, plain_word, positional, pushed, reading_by, refused, settled, settled_rows, short_met, short_or_plain, subcommand, subcommand_met, subcommand_or_other, takes_several, takes_values, to_positional, trailing, used, used_as, used_by_id, value, values_or_missing, waits, walked, walked_from, with_values, without, word_met}
 use Rattle.clap.specs.declared.builder.action.ArgAction.{ArgAction}
 use Rattle.clap.specs.declared.builder.action.ArgAction.TheVariants.{Set, SetTrue}
 use Rattle.clap.specs.declared.builder.value_parser.ValueParser.{ValueParser}
@@ -35,9 +35,8 @@ pub record IsSetOption (c : List Rule) (a : Rule) : Type 0 where
   pub itself : arg_by_id c a.id ≡ Some a
   pub sets : (action_of a ≡ Set) ⊎ (action_of a ≡ SetTrue)
 
--- the arguments are options with long names alone
+-- the arguments have no short names
 pub record AreOptions (c : List Rule) : Type 0 where
-  pub by_index : (i : ℕ) → arg_by_index c i ≡ None
   pub by_short : (x : ℕ) → arg_by_short c x ≡ None
   pub by_id : (id : Text) (a : Rule) → arg_by_id c id ≡ Some a → IsSetOption c a
   pub by_long : (name : Text) (a : Rule) → arg_by_long c name ≡ Some a → IsSetOption c a
@@ -211,15 +210,23 @@ word_passes s are once false waiting place word h none p = go (subcommand_met []
     go (Some name) nothing = p
     go None nothing = other (bytes_eq word (45 ∷ 45 ∷ [])) nothing
 
-step_same : (c : List Rule) → AreOptions c → (word : Text) (w : Walk) (h : Held) (step : Step) → (after_step c word w h step).held.rows ≡ h.rows
-step_same c are word w h (next waiting) = refl
-step_same c are word w h (trailing place) = refl
-step_same c are word w h (subcommand name) = refl
-step_same c are word w h value = go (arg_by_index c w.position) (are.by_index w.position)
+-- a word that goes to its place ends what is pending, unless it is one value more of it
+step_passes : (s : Shape) → AreOptions s.rules → s.args_override_self ≡ false → (word : Text) (w : Walk) (h : Held) (step : Step)
+    → step_fault s w.position h step ≡ [] → RowsPass s.rules h.rows → RowsPass s.rules (after_step s.rules word w h step).held.rows
+step_passes s are once word w h (next waiting) none p = p
+step_passes s are once word w h (trailing place) none p = p
+step_passes s are once word w h (subcommand name) none p = p
+step_passes s are once word w h value none p = go (arg_by_index s.rules w.position) none
   where
-    go : (found : Option Rule) → found ≡ None → (to_positional c found word w h).held.rows ≡ h.rows
-    go None e = refl
-    go (Some a) e = cc
+    pushes : (a : Rule) (more : Bool) → cond more [] (settle_fault s.rules s.args_override_self h) ≡ []
+        → RowsPass s.rules (pushed a.id word (cond more h (settled s.rules h))).rows
+    pushes a true nothing = p
+    pushes a false nothing = settled_passes s.rules are h (subst (λ (again : Bool). settle_fault s.rules again h ≡ []) once nothing) p
+
+    go : (found : Option Rule) → option_map_or (λ (a : Rule). positional_fault s.rules s.args_override_self a h) found (stray_fault s) ≡ []
+        → RowsPass s.rules (to_positional s.rules found word w h).held.rows
+    go None nothing = p
+    go (Some a) nothing = pushes a (is_pending a h.pending && takes_several a) nothing
 
 turn_passes : (s : Shape) → AreOptions s.rules → s.args_override_self ≡ false → (w : Walk) (word : Text)
     → turn_fault s [] w word ≡ [] → RowsPass s.rules w.held.rows → RowsPass s.rules (walked s.rules [] w word).held.rows
@@ -233,8 +240,7 @@ turn_passes s are once w word none p = go w.stopped none
     go None nothing =
         let m = word_met s.rules [] w.is_trailing w.waiting w.position word w.held in
         let parts = first_empty (word_fault s [] w.is_trailing w.waiting word w.held) (step_fault s w.position m.0 m.1) nothing in
-        subst (RowsPass s.rules) (sym (step_same s.rules are word w m.0 m.1))
-        (word_passes s are once w.is_trailing w.waiting w.position word w.held parts.0 p)
+        step_passes s are once word w m.0 m.1 parts.1 (word_passes s are once w.is_trailing w.waiting w.position word w.held parts.0 p)
 
 -- the rows at the end of a walk no step of which fails
 pub walk_passes : (s : Shape) → AreOptions s.rules → s.args_override_self ≡ false → (words : List Text) (w : Walk)

@@ -9,6 +9,10 @@ abbrev pub number_option : Text → ℕ → ℕ → Text → Rule
 number_option name least most default =
     record (new_rule name) { long = Some name; parser = Some (Unsigned least most); defaults = default ∷ [] }
 
+-- a word that has its place, and may not be left out: a whole number from `least` to `most`
+abbrev pub number_word : Text → ℕ → ℕ → Rule
+number_word name least most = record (new_rule name) { required = true; parser = Some (Unsigned least most) }
+
 -- a flag `--name`, which takes no value
 abbrev pub flag : Text → Rule
 flag name = record (new_rule name) { long = Some name; action = Some SetTrue }
@@ -29,16 +33,29 @@ group_bytes = number_option (codes "group-bytes") 1 16777216 (codes "1048576")
 abbrev pub last : Rule
 last = number_option (codes "last") 0 72057594037927935 (codes "0")
 
+-- what the numbers of a script are drawn from, how many clients it has, and how many batches each commits
+abbrev pub seed : Rule
+seed = number_word (codes "SEED") 0 2147483647
+
+abbrev pub clients : Rule
+clients = number_word (codes "CLIENTS") 1 16
+
+abbrev pub batches : Rule
+batches = number_word (codes "BATCHES") 1 100000
+
 -- the commands, with their options
 
 abbrev pub run : App
-run = with_rule (with_rule (new_app (codes "run")) batch_bytes) last
+run = with_rule (with_rule (with_rule (new_app (codes "run")) group_bytes) batch_bytes) last
 
 abbrev pub recover : App
 recover = new_app (codes "recover")
 
 abbrev pub replay : App
 replay = with_rule (with_rule (with_rule (with_rule (new_app (codes "replay")) pipelined) group_bytes) batch_bytes) last
+
+abbrev pub generate : App
+generate = with_rule (with_rule (with_rule (new_app (codes "gen")) seed) clients) batches
 
 -- the program, which wants a command, and has no help
 abbrev pub program : App
@@ -51,4 +68,5 @@ program = record (new_app (codes "writepath")) {
 }
 
 abbrev pub writepath : App
-writepath = with_subcommand (with_subcommand (with_subcommand program run.top) recover.top) replay.top
+writepath = with_subcommand (with_subcommand (with_subcommand (with_subcommand program run.top) recover.top) replay.top)
+    generate.top

@@ -1,11 +1,15 @@
 -- The limits of what words ask for.
 use Rattle.std.specs.Prelude.{◌^◌, ◌<◌, ◌≤◌, ⊤}
 use Rattle.command_line.specs.declared.asked.Asked.{Asked}
-use Rattle.command_line.specs.declared.asked.Asked.TheVariants.{Run, Recover, Replay}
+use Rattle.command_line.specs.declared.asked.Asked.TheVariants.{Run, Recover, Replay, Generate}
 
--- a batch may have its head at least, a write group a byte, and the sequence number is below 2^56
+-- a batch may have its head at least, a write group a byte, and the sequence number is below 2^56; a script that is
+-- made has from one client to 16, each with from one batch to 100000
 abbrev pub KeepsLimits : Asked → Type 0
-KeepsLimits (Run batch_bytes last) = (12 ≤ batch_bytes) × (batch_bytes ≤ 16777216) × (last < 2 ^ 56)
-KeepsLimits Recover = ⊤
-KeepsLimits (Replay pipelined group_bytes batch_bytes last) = (1 ≤ group_bytes) × (group_bytes ≤ 16777216) × (12 ≤ batch_bytes)
+KeepsLimits (Run group_bytes batch_bytes last) = (1 ≤ group_bytes) × (group_bytes ≤ 16777216) × (12 ≤ batch_bytes)
     × (batch_bytes ≤ 16777216) × (last < 2 ^ 56)
+KeepsLimits Recover = ⊤
+KeepsLimits (Replay pipelined group_bytes batch_bytes last) = (1 ≤ group_bytes) × (group_bytes ≤ 16777216)
+    × (12 ≤ batch_bytes) × (batch_bytes ≤ 16777216) × (last < 2 ^ 56)
+KeepsLimits (Generate seed clients batches) = (seed < 2 ^ 31) × (1 ≤ clients) × (clients ≤ 16) × (1 ≤ batches)
+    × (batches ≤ 100000)

@@ -8,7 +8,7 @@ use Rattle.clap.specs.declared.error.kind.ErrorKind.{ErrorKind}
 use Rattle.clap.specs.declared.error.kind.ErrorKind.TheVariants.{OutOfMemory}
 use Rattle.command_line.specs.Definition.{writepath}
 use Rattle.command_line.specs.declared.asked.Asked.{Asked}
-use Rattle.command_line.specs.declared.asked.Asked.TheVariants.{Run, Recover, Replay}
+use Rattle.command_line.specs.declared.asked.Asked.TheVariants.{Run, Recover, Replay, Generate}
 use Rattle.command_line.specs.declared.asked.WordsError.{WordsError}
 use Rattle.command_line.specs.declared.asked.WordsError.TheVariants.{Usage, NoMemory}
 
@@ -23,7 +23,7 @@ whole_number text =
     let ds = without_leading_plus text in
     if is_numeral ds && nat_lt (digits_value 10 ds) (2 ^ 64) then Some (digits_value 10 ds) else None
 
--- the number that the matches have for an option
+-- the number that the matches have for an option, or for a word in its place
 abbrev pub number_in : Text → List Row → Option ℕ
 number_in id rows = option_and_then whole_number (one_of id rows)
 
@@ -38,8 +38,10 @@ flag_in id rows = option_and_then bool_of (one_of id rows)
 
 -- what `run` asks for, by its matches
 abbrev pub run_by : List Row → Option Asked
-run_by rows = option_and_then (λ batch_bytes. option_map (λ last. Run batch_bytes last)
-    (number_in (codes "last") rows)) (number_in (codes "batch-bytes") rows)
+run_by rows =
+    option_and_then (λ group_bytes. option_and_then
+    (λ batch_bytes. option_map (λ last. Run group_bytes batch_bytes last)
+    (number_in (codes "last") rows)) (number_in (codes "batch-bytes") rows)) (number_in (codes "group-bytes") rows)
 
 -- and `replay`
 abbrev pub replay_by : List Row → Option Asked
@@ -49,12 +51,20 @@ replay_by rows =
     (number_in (codes "last") rows)) (number_in (codes "batch-bytes") rows)) (number_in (codes "group-bytes") rows))
     (flag_in (codes "pipelined") rows)
 
+-- and `gen`
+abbrev pub generate_by : List Row → Option Asked
+generate_by rows =
+    option_and_then (λ seed. option_and_then
+    (λ clients. option_map (λ batches. Generate seed clients batches)
+    (number_in (codes "BATCHES") rows)) (number_in (codes "CLIENTS") rows)) (number_in (codes "SEED") rows)
+
 -- what a command and its matches ask for
 abbrev pub asked_by : Text → List Row → Option Asked
 asked_by name rows =
     if bytes_eq name (codes "run") then run_by rows
     else if bytes_eq name (codes "recover") then Some Recover
     else if bytes_eq name (codes "replay") then replay_by rows
+    else if bytes_eq name (codes "gen") then generate_by rows
     else None
 
 -- clap takes the words: no step of its parse fails

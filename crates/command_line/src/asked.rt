@@ -18,6 +18,8 @@ use thiserror::Error;
 pub enum Asked {
     /// To run a script.
     Run {
+        /// The most bytes of a write group.
+        group_bytes: u64,
         /// The most bytes of a batch.
         batch_bytes: u64,
         /// The sequence number before that of the first batch.
@@ -35,6 +37,15 @@ pub enum Asked {
         batch_bytes: u64,
         /// The sequence number before that of the first batch.
         last: u64,
+    },
+    /// To make a script.
+    Generate {
+        /// What its numbers are drawn from.
+        seed: u64,
+        /// How many clients it has.
+        clients: u64,
+        /// How many batches each client commits.
+        batches: u64,
     },
 }
 
@@ -86,6 +97,7 @@ fn asked_by(command: &str, options: &ArgMatches) -> Option<Asked>
         "run" => run_by(options),
         "recover" => Some(Asked::Recover),
         "replay" => replay_by(options),
+        "gen" => generate_by(options),
         _ => None,
     }
 }
@@ -94,6 +106,7 @@ fn run_by(options: &ArgMatches) -> Option<Asked>
     ensures { result ≡ meaning.run_by (rows_of (found_of options.now)) }
 {
     Some(Asked::Run {
+        group_bytes: number_in("group-bytes", options)?,
         batch_bytes: number_in("batch-bytes", options)?,
         last: number_in("last", options)?,
     })
@@ -110,6 +123,16 @@ fn replay_by(options: &ArgMatches) -> Option<Asked>
     })
 }
 
+fn generate_by(options: &ArgMatches) -> Option<Asked>
+    ensures { result ≡ meaning.generate_by (rows_of (found_of options.now)) }
+{
+    Some(Asked::Generate {
+        seed: number_in("SEED", options)?,
+        clients: number_in("CLIENTS", options)?,
+        batches: number_in("BATCHES", options)?,
+    })
+}
+
 /// Whether the matches have a flag.
 fn flag_in(id: &str, options: &ArgMatches) -> Option<bool>
     ensures { result ≡ meaning.flag_in id.now (rows_of (found_of options.now)) }
@@ -117,7 +140,7 @@ fn flag_in(id: &str, options: &ArgMatches) -> Option<bool>
     options.get_one::<bool>(id)
 }
 
-/// The number that the matches have for an option.
+/// The number that the matches have for an option, or for a word in its place.
 fn number_in(id: &str, options: &ArgMatches) -> Option<u64>
     ensures { result ≡ meaning.number_in id.now (rows_of (found_of options.now)) }
 {

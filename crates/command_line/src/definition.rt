@@ -16,7 +16,8 @@ pub fn writepath<'a>(alloc: Global) -> Result<Command<'a>, AllocError>
     program(alloc)
         .subcommand(run(alloc)?)?
         .subcommand(recover(alloc))?
-        .subcommand(replay(alloc)?)
+        .subcommand(replay(alloc)?)?
+        .subcommand(generate(alloc)?)
 }
 
 /// The program without its commands: it wants one, and has no help, for every refusal has one text.
@@ -34,6 +35,7 @@ fn run<'a>(alloc: Global) -> Result<Command<'a>, AllocError>
     ensures local { IfOk result (λ command. (out-Command command).has_globals ≡ false) }
 {
     Command::new(alloc, "run")
+        .arg(group_bytes(alloc))?
         .arg(batch_bytes(alloc))?
         .arg(last(alloc))
 }
@@ -54,6 +56,16 @@ fn replay<'a>(alloc: Global) -> Result<Command<'a>, AllocError>
         .arg(group_bytes(alloc))?
         .arg(batch_bytes(alloc))?
         .arg(last(alloc))
+}
+
+fn generate<'a>(alloc: Global) -> Result<Command<'a>, AllocError>
+    ensures app { IfOk result (λ command. app_of command ≡ clap_words.generate) }
+    ensures local { IfOk result (λ command. (out-Command command).has_globals ≡ false) }
+{
+    Command::new(alloc, "gen")
+        .arg(number_word(alloc, "SEED", 0, 2147483647))?
+        .arg(number_word(alloc, "CLIENTS", 1, 16))?
+        .arg(number_word(alloc, "BATCHES", 1, 100000))
 }
 
 /// Whether the log is handed on before a group is inserted.
@@ -105,4 +117,14 @@ fn number_option<'a>(
         .long(name)
         .value_parser(ValueParser::unsigned(least, most))
         .default_value(default)
+}
+
+/// A word that has its place, and may not be left out: a whole number from `least` to `most`.
+fn number_word<'a>(alloc: Global, name: &'a str, least: u64, most: u64) -> Arg<'a>
+    ensures rule { rule_of result ≡ clap_words.number_word name.entry.now least most }
+    ensures local { result.global ≡ false }
+{
+    Arg::new(alloc, name)
+        .required(true)
+        .value_parser(ValueParser::unsigned(least, most))
 }

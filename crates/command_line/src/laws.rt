@@ -3,7 +3,7 @@
 ghost use Rattle.std.specs.Prelude.{◌≡◌, List, [], ◌∷◌, Some, None, true, false, String, codes};
 ghost use Rattle.std.specs.declared.alloc.Global.{Global};
 ghost use Rattle.command_line.specs.declared.asked.Asked.{Asked};
-ghost use Rattle.command_line.specs.declared.asked.Asked.TheVariants.{Run, Recover, Replay};
+ghost use Rattle.command_line.specs.declared.asked.Asked.TheVariants.{Run, Recover, Replay, Generate};
 ghost use Rattle.command_line.specs.Lawful.{lawful_of};
 ghost use Rattle.command_line.specs.Meaning.{asked_in, asked_of};
 
@@ -15,16 +15,20 @@ pub fn lawful_words()
 
 /// Words that ask for something, in lawful form and in another that is read too.
 pub fn words_that_ask()
-    ensures run { asked_in (codes "writepath" ∷ codes "run" ∷ []) ≡ Some (Run 16777216 0) }
+    ensures run { asked_in (codes "writepath" ∷ codes "run" ∷ []) ≡ Some (Run 1048576 16777216 0) }
+    ensures run_with_groups { asked_in (codes "writepath" ∷ codes "run" ∷ codes "--group-bytes" ∷ codes "1" ∷ [])
+        ≡ Some (Run 1 16777216 0) }
     ensures recover { asked_in (codes "writepath" ∷ codes "recover" ∷ []) ≡ Some Recover }
     ensures replay { asked_in (codes "writepath" ∷ codes "replay" ∷ codes "--last" ∷ codes "7" ∷ codes "--group-bytes"
         ∷ codes "1" ∷ []) ≡ Some (Replay false 1 16777216 7) }
     ensures pipelined { asked_in (codes "writepath" ∷ codes "replay" ∷ codes "--last" ∷ codes "7" ∷ codes "--pipelined"
         ∷ []) ≡ Some (Replay true 1048576 16777216 7) }
     ensures with_equals_sign { asked_in (codes "writepath" ∷ codes "run" ∷ codes "--last=4" ∷ [])
-        ≡ Some (Run 16777216 4) }
+        ≡ Some (Run 1048576 16777216 4) }
     ensures with_leading_zero { asked_in (codes "writepath" ∷ codes "run" ∷ codes "--last" ∷ codes "04" ∷ [])
-        ≡ Some (Run 16777216 4) }
+        ≡ Some (Run 1048576 16777216 4) }
+    ensures generate { asked_in (codes "writepath" ∷ codes "gen" ∷ codes "7" ∷ codes "16" ∷ codes "100000" ∷ [])
+        ≡ Some (Generate 7 16 100000) }
 {}
 
 /// Words that ask for nothing.
@@ -43,6 +47,18 @@ pub fn words_that_do_not_ask()
     ensures below_range { asked_in (codes "writepath" ∷ codes "run" ∷ codes "--batch-bytes" ∷ codes "11" ∷ []) ≡ None }
     ensures above_range { asked_in (codes "writepath" ∷ codes "run" ∷ codes "--last" ∷ codes "72057594037927936" ∷ [])
         ≡ None }
+    ensures seed_above_range { asked_in (codes "writepath" ∷ codes "gen" ∷ codes "2147483648" ∷ codes "1" ∷ codes "1"
+        ∷ []) ≡ None }
+    ensures no_clients { asked_in (codes "writepath" ∷ codes "gen" ∷ codes "0" ∷ codes "0" ∷ codes "1" ∷ []) ≡ None }
+    ensures too_many_clients { asked_in (codes "writepath" ∷ codes "gen" ∷ codes "0" ∷ codes "17" ∷ codes "1" ∷ [])
+        ≡ None }
+    ensures too_many_batches { asked_in (codes "writepath" ∷ codes "gen" ∷ codes "0" ∷ codes "1" ∷ codes "100001" ∷ [])
+        ≡ None }
+    ensures too_few_numbers { asked_in (codes "writepath" ∷ codes "gen" ∷ codes "7" ∷ codes "2" ∷ []) ≡ None }
+    ensures too_many_numbers { asked_in (codes "writepath" ∷ codes "gen" ∷ codes "7" ∷ codes "2" ∷ codes "3"
+        ∷ codes "4" ∷ []) ≡ None }
+    ensures option_of_generate { asked_in (codes "writepath" ∷ codes "gen" ∷ codes "7" ∷ codes "2" ∷ codes "3"
+        ∷ codes "--last" ∷ codes "1" ∷ []) ≡ None }
     ensures help_of_command { asked_in (codes "writepath" ∷ codes "run" ∷ codes "--help" ∷ []) ≡ None }
     ensures help { asked_in (codes "writepath" ∷ codes "help" ∷ codes "run" ∷ []) ≡ None }
     ensures version { asked_in (codes "writepath" ∷ codes "--version" ∷ []) ≡ None }

@@ -1,4 +1,4 @@
-//! The words of a call, read with `clap`: the program's name, and a command with its options.
+//! The words of a call, read with `clap`: the program's name, and a command with its options or its numbers.
 #![tactic(auto)]
 
 mod asked;

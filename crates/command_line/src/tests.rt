@@ -13,8 +13,12 @@ fn words_of(alloc: Global, line: &str) -> Result<Vec<String>, AllocError> {
     Ok(words)
 }
 
-fn run(batch_bytes: u64, last: u64) -> Result<Asked, WordsError> {
-    Ok(Asked::Run { batch_bytes, last })
+fn run(group_bytes: u64, batch_bytes: u64, last: u64) -> Result<Asked, WordsError> {
+    Ok(Asked::Run {
+        group_bytes,
+        batch_bytes,
+        last,
+    })
 }
 
 fn replay(
@@ -31,31 +35,46 @@ fn replay(
     })
 }
 
+fn generate(seed: u64, clients: u64, batches: u64) -> Result<Asked, WordsError> {
+    Ok(Asked::Generate {
+        seed,
+        clients,
+        batches,
+    })
+}
+
 #[test]
 fn reads_words(rt: HostRuntime) -> Result<(), Fail> {
     let refused = Err(WordsError::Usage);
     for (line, want) in [
         ("writepath", refused),
         ("writepath walk", refused),
-        ("writepath run", run(16777216, 0)),
+        ("writepath run", run(1048576, 16777216, 0)),
         ("writepath recover", Ok(Asked::Recover)),
         ("writepath replay", replay(false, 1048576, 16777216, 0)),
         (
             "writepath run --last 72057594037927935",
-            run(16777216, 72057594037927935),
+            run(1048576, 16777216, 72057594037927935),
         ),
         ("writepath run --last 72057594037927936", refused),
         ("writepath run --last -1", refused),
         ("writepath run --last", refused),
         ("writepath run --batch-bytes 11", refused),
-        ("writepath run --batch-bytes 12", run(12, 0)),
+        ("writepath run --batch-bytes 12", run(1048576, 12, 0)),
         (
             "writepath run --batch-bytes 16777216 --last 5",
-            run(16777216, 5),
+            run(1048576, 16777216, 5),
         ),
         ("writepath run --batch-bytes 16777217", refused),
         ("writepath run --last 1 --last 2", refused),
-        ("writepath run --group-bytes 1", refused),
+        ("writepath run --group-bytes 0", refused),
+        ("writepath run --group-bytes 1", run(1, 16777216, 0)),
+        (
+            "writepath run --last 5 --group-bytes 16777216 --batch-bytes 12",
+            run(16777216, 12, 5),
+        ),
+        ("writepath run --group-bytes 16777217", refused),
+        ("writepath run --group-bytes 1 --group-bytes 1", refused),
         ("writepath run x", refused),
         ("writepath recover --last 1", refused),
         ("writepath replay --group-bytes 0", refused),
@@ -71,9 +90,27 @@ fn reads_words(rt: HostRuntime) -> Result<(), Fail> {
         ("writepath replay --pipelined 1", refused),
         ("writepath replay --pipelined=true", refused),
         ("writepath run --pipelined", refused),
-        ("writepath run --last=4", run(16777216, 4)),
-        ("writepath run --last +4", run(16777216, 4)),
-        ("writepath run --last 04", run(16777216, 4)),
+        ("writepath run --last=4", run(1048576, 16777216, 4)),
+        ("writepath run --last +4", run(1048576, 16777216, 4)),
+        ("writepath run --last 04", run(1048576, 16777216, 4)),
+        ("writepath gen 0 1 1", generate(0, 1, 1)),
+        (
+            "writepath gen 2147483647 16 100000",
+            generate(2147483647, 16, 100000),
+        ),
+        ("writepath gen 2147483648 16 100000", refused),
+        ("writepath gen -1 1 1", refused),
+        ("writepath gen 7 0 3", refused),
+        ("writepath gen 7 17 3", refused),
+        ("writepath gen 7 2 0", refused),
+        ("writepath gen 7 2 100001", refused),
+        ("writepath gen", refused),
+        ("writepath gen 7", refused),
+        ("writepath gen 7 2", refused),
+        ("writepath gen 7 2 3 4", refused),
+        ("writepath gen 7 two 3", refused),
+        ("writepath gen 7 2 3 --last 1", refused),
+        ("writepath gen --group-bytes 1 7 2 3", refused),
         ("writepath run --help", refused),
         ("writepath --help", refused),
         ("writepath --version", refused),
