@@ -24,7 +24,15 @@ fn main(rt: HostRuntime) -> ExitCode {
     let mut sink = StdSink::new(&rt);
     let disk = FileDisk::new(&rt, path);
     let clock = RealClock::new(&rt);
-    let Ended { status, disk: _ } = run(rt.alloc(), &words, &mut source, disk, &mut sink, clock);
+    let Ended { status, disk: _ } = run(
+        &rt,
+        rt.alloc(),
+        &words,
+        &mut source,
+        disk,
+        &mut sink,
+        clock,
+    );
     ExitCode::from(status)
 }
 

@@ -1,0 +1,150 @@
+// What the script `threads` beside this file measures the program with: threads that write the batches of a generated
+// script at once, to LevelDB or RocksDB, or to a plain file.
+//
+//     threads_peer PATH SEED CLIENTS BATCHES sync|plain
+//
+// It is built against the library that the macro PEER names, `leveldb` or `rocksdb`, whose calls are alike. Without the
+// macro it writes to a file: each batch by one call of `write` under a mutex, with a call of `fdatasync` behind it where
+// it is to be synced. That is a log without groups, and no write path. PATH is made, and must not be there. What is
+// printed is the microseconds from making the first batch to the last one written, and how many were written.
+
+#include <fcntl.h>
+#include <unistd.h>
+
+#include <chrono>
+#include <cstdint>
+#include <iostream>
+#include <memory>
+#include <mutex>
+#include <stdexcept>
+#include <string>
+#include <thread>
+#include <vector>
+
+#ifdef PEER
+#define TEXT_OF(words) #words
+#define HEADER_OF(peer) TEXT_OF(peer/db.h)
+#define BATCH_OF(peer) TEXT_OF(peer/write_batch.h)
+#include HEADER_OF(PEER)
+#include BATCH_OF(PEER)
+
+using Batch = PEER::WriteBatch;
+
+void check(const PEER::Status& status) {
+    if (!status.ok()) throw std::runtime_error(status.ToString());
+}
+
+class Target {
+public:
+    explicit Target(const std::string& path) {
+        PEER::Options options;
+        options.create_if_missing = true;
+        options.error_if_exists = true;
+        PEER::DB* database = nullptr;
+        check(PEER::DB::Open(options, path, &database));
+        database_.reset(database);
+    }
+
+    void write(Batch& batch, bool sync) {
+        PEER::WriteOptions options;
+        options.sync = sync;
+        check(database_->Write(options, &batch));
+    }
+
+private:
+    std::unique_ptr<PEER::DB> database_;
+};
+#else
+// The bytes of a batch as RocksDB lays them out, but for the header's numbers.
+class Batch {
+public:
+    void Put(const std::string& key, const std::string& value) { add(1, {key, value}); }
+    void Delete(const std::string& key) { add(0, {key}); }
+    const std::string& bytes() const { return bytes_; }
+
+private:
+    void add(char tag, const std::vector<std::string>& strings) {
+        bytes_ += tag;
+        for (const auto& string : strings) {
+            bytes_ += static_cast<char>(string.size());
+            bytes_ += string;
+        }
+    }
+
+    std::string bytes_ = std::string(19, '\0');
+};
+
+class Target {
+public:
+    explicit Target(const std::string& path) : file_(open(path.c_str(), O_WRONLY | O_CREAT | O_EXCL | O_APPEND, 0644)) {
+        if (file_ < 0) throw std::runtime_error("no file " + path);
+    }
+
+    void write(Batch& batch, bool sync) {
+        const std::string& bytes = batch.bytes();
+        const std::lock_guard<std::mutex> lock(mutex_);
+        if (::write(file_, bytes.data(), bytes.size()) != static_cast<ssize_t>(bytes.size()) ||
+            (sync && fdatasync(file_) != 0)) {
+            throw std::runtime_error("a write failed");
+        }
+    }
+
+private:
+    int file_;
+    std::mutex mutex_;
+};
+#endif
+
+// The numbers of a client's script, as `gen` draws them.
+class Draws {
+public:
+    explicit Draws(std::uint64_t state) : state_(state % 2147483648) {}
+
+    std::uint64_t next() {
+        state_ = (state_ * 1103515245 + 12345) % 2147483648;
+        return state_ / 65536;
+    }
+
+private:
+    std::uint64_t state_;
+};
+
+std::vector<Batch> batches_of(std::uint64_t seed, int client, int count) {
+    Draws draws(seed + client);
+    std::vector<Batch> batches(count);
+    for (auto& batch : batches) {
+        for (auto left = 1 + draws.next() % 4; left > 0; left--) {
+            const std::string key = "c" + std::to_string(client) + "k" + std::to_string(draws.next() % 100);
+            if (draws.next() % 4 == 0) {
+                batch.Delete(key);
+            } else {
+                batch.Put(key, std::to_string(draws.next() % 1000));
+            }
+        }
+    }
+    return batches;
+}
+
+int main(int count, char** words) try {
+    if (count != 6) throw std::runtime_error("usage: threads_peer PATH SEED CLIENTS BATCHES sync|plain");
+    Target target(words[1]);
+    const std::uint64_t seed = std::stoull(words[2]);
+    const int clients = std::stoi(words[3]);
+    const int each = std::stoi(words[4]);
+    const bool sync = std::string(words[5]) == "sync";
+    const auto start = std::chrono::steady_clock::now();
+    std::vector<std::vector<Batch>> scripts;
+    for (int client = 1; client <= clients; client++) scripts.push_back(batches_of(seed, client, each));
+    std::vector<std::thread> threads;
+    for (auto& batches : scripts) {
+        threads.emplace_back([&target, &batches, sync] {
+            for (auto& batch : batches) target.write(batch, sync);
+        });
+    }
+    for (auto& thread : threads) thread.join();
+    const auto spent = std::chrono::steady_clock::now() - start;
+    std::cout << std::chrono::duration_cast<std::chrono::microseconds>(spent).count() << ' ' << clients * each << '\n';
+} catch (const std::exception& error) {
+    std::cerr << "threads_peer: " << error.what() << '\n';
+    return 1;
+}

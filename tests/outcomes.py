@@ -1,0 +1,204 @@
+"""An independent checker of printed outcomes: a plain map, plain batches, and nothing of the program's own.
+
+`race` and `schedules` beside this file use it. Of an outcome it asks:
+
+- each client's accepted batches stand once in the history, in its order, each with just what the client put into it;
+- the runs of the history follow each other without a gap;
+- each read is that of a plain map at its sequence, which is the end of a batch; it is not below what the client has
+  seen before, its own batches among it;
+- the printed state is the map at the published sequence.
+"""
+
+import os
+
+ROOT = os.path.dirname(os.path.dirname(os.path.realpath(__file__)))
+BUILT = os.environ.get("WRITEPATH", os.path.join(ROOT, "crates/writepath/out/writepath"))
+KEYS = ["a", "b", "c", "d", "e"]
+
+
+class Wrong(Exception):
+    """An outcome that is not as it should be."""
+
+
+def wanted(holds, what):
+    if not holds:
+        raise Wrong(what)
+
+
+# A script is a list of clients, a client a list of lines, a line a list of words.
+
+
+def text_of(script):
+    """The script as the program reads it."""
+    lines = []
+    for number, commands in enumerate(script, 1):
+        lines.append(f"client {number}")
+        lines += [" ".join(words) for words in commands]
+    return "".join(line + "\n" for line in lines)
+
+
+def string_bytes(text):
+    return bytes([len(text)]) + text.encode()
+
+
+def record_bytes(words):
+    if words[0] == "put":
+        return b"\x01" + string_bytes(words[1]) + string_bytes(words[2])
+    return {"del": b"\x00", "sdel": b"\x07"}[words[0]] + string_bytes(words[1])
+
+
+def changed(pairs, records):
+    """The map after some records."""
+    pairs = dict(pairs)
+    for words in records:
+        if words[0] == "put":
+            pairs[words[1]] = words[2]
+        else:
+            pairs.pop(words[1], None)
+    return pairs
+
+
+def read_of(words, at, pairs):
+    """What a read prints of a map."""
+    if words[0] == "get":
+        return f"val {at} {pairs[words[1]]}" if words[1] in pairs else f"nil {at}"
+    if words[0] == "many":
+        found = [f" ={pairs[key]}" if key in pairs else " -" for key in words[1:]]
+        return f"many {at} {len(found)}" + "".join(found)
+    rows = [(key, pairs[key]) for key in sorted(pairs) if words[1] <= key < words[2]]
+    return f"scan {at} {len(rows)}" + "".join(f" {key} {value}" for key, value in rows)
+
+
+def sections_of(text, clients):
+    """The clients' replies, and the lines from the history on."""
+    lines = text.split("\n")
+    wanted(lines.pop() == "", "the last line lacks its end")
+    replies = []
+    for number in range(1, clients + 1):
+        wanted(lines.pop(0) == f"client {number}", f"the section of client {number}")
+        own = []
+        while lines and not lines[0].startswith(("client ", "history ")):
+            own.append(lines.pop(0))
+        replies.append(own)
+    return replies, lines
+
+
+def flag_of(words):
+    """What the history says of a commit."""
+    return "nolog" if "nolog" in words else "sync" if "sync" in words else "log"
+
+
+def calls_of(commands, replies, whole):
+    """A client's accepted batches by its replies, the one it waits for, and its reads with what it had seen before each.
+
+    Where the run is not whole, the replies may end early.
+    """
+    replies = list(replies)
+    pending, accepted, reads, seen = [], [], [], 0
+    for words in commands:
+        if words[0] in ("put", "del", "sdel"):
+            pending.append(words)
+            continue
+        if not replies and not whole:
+            waits = (flag_of(words), pending) if words[0] == "commit" else None
+            return accepted, waits, reads
+        wanted(replies, f"a reply to {' '.join(words)}")
+        reply = replies.pop(0).split(" ")
+        if words[0] == "commit":
+            wanted(reply[0] == "ok", f"ok, not {' '.join(reply)}")
+            first, last = int(reply[1]), int(reply[2])
+            wanted(last + 1 == first + len(pending), f"a run of {len(pending)}: {' '.join(reply)}")
+            accepted.append((first, last, flag_of(words), pending))
+            pending, seen = [], max(seen, last)
+        else:
+            at = int(reply[1])
+            wanted(at >= seen, f"a read at {at} after one has seen {seen}")
+            reads.append((words, at, " ".join(reply)))
+            seen = at
+    wanted(not replies, "no more replies than commands")
+    return accepted, None, reads
+
+
+def history_line(client, ordinal, first, flag, records):
+    body = b"".join(record_bytes(words) for words in records)
+    batch = first.to_bytes(8, "little") + len(records).to_bytes(4, "little") + body
+    return f"{first} {first + len(records) - 1} {client} {ordinal} {flag} {batch.hex()}"
+
+
+def check_outcome(script, text, whole=True):
+    """Checks an outcome up to its state, and gives back the batches of its history, and the lines after the state.
+
+    Where the run is not whole, the history may have a batch more of each client, which it wasn't told of yet.
+    """
+    replies, rest = sections_of(text, len(script))
+    batches, waits, reads = [], {}, []
+    for client, (commands, own) in enumerate(zip(script, replies), 1):
+        accepted, waiting, own_reads = calls_of(commands, own, whole)
+        for ordinal, (first, last, flag, records) in enumerate(accepted, 1):
+            batches.append((first, last, history_line(client, ordinal, first, flag, records), records))
+        if waiting:
+            waits[client] = (len(accepted) + 1, *waiting)
+        reads += own_reads
+    head = rest.pop(0).split(" ")
+    wanted(head[0] == "history", "the history's head")
+    lines = [rest.pop(0) for _ in range(int(head[1]))]
+    for line in lines:
+        first, client = int(line.split(" ")[0]), int(line.split(" ")[2])
+        if client in waits and line == history_line(client, waits[client][0], first, *waits[client][1:]):
+            records = waits.pop(client)[2]
+            batches.append((first, first + len(records) - 1, line, records))
+    batches.sort()
+    wanted([batch[2] for batch in batches] == lines, f"the history {[batch[2] for batch in batches]}, not {lines}")
+    end, pairs, maps = 0, {}, {0: {}}
+    for first, last, _, records in batches:
+        wanted(first == end + 1, f"the run after {end}")
+        end, pairs = last, changed(pairs, records)
+        maps[end] = pairs
+    for words, at, reply in reads:
+        wanted(at in maps, f"a read at the end of a batch, not at {at}")
+        wanted(reply == read_of(words, at, maps[at]), f"{read_of(words, at, maps[at])}, not {reply}")
+    state, at, count = rest.pop(0).split(" ")
+    wanted(state == "state" and int(at) in maps and (not whole or int(at) == end), f"the state at a batch's end: {at}")
+    wanted(int(count) == len(maps[int(at)]), f"the state's length {count}")
+    for key in sorted(maps[int(at)]):
+        wanted(rest.pop(0) == f"{key} {maps[int(at)][key]}", f"the state of {key}")
+    return batches, rest
+
+
+def check_recovery(batches, text):
+    """The groups that are recovered are the logged batches, some in one, in their order."""
+    lines = text.split("\n")
+    groups = int(lines.pop(0).split(" ")[1])
+    logged = [(first, last) for first, last, line, _ in batches if " nolog " not in line]
+    for _ in range(groups):
+        first, count, _ = (int(word) for word in lines.pop(0).split(" "))
+        while count > 0:
+            wanted(logged and logged[0][0] == first, f"a logged batch at {first}")
+            start, last = logged.pop(0)
+            first, count = last + 1, count - (last + 1 - start)
+        wanted(count == 0, "a group that ends with a batch")
+    wanted(not logged, f"all logged batches, {len(logged)} are lost")
+    wanted(lines[-2].endswith(" clean"), f"a clean end: {lines[-2]}")
+
+
+def summary_of(seed, clients, batches):
+    """The summary of a generated script, by a plain generator."""
+    pairs, count = {}, 0
+    for client in range(1, clients + 1):
+        state = (seed + client) % 2**31
+
+        def draw():
+            nonlocal state
+            state = (state * 1103515245 + 12345) % 2**31
+            return state // 65536
+
+        for _ in range(batches):
+            for _ in range(1 + draw() % 4):
+                key, kind = f"c{client}k{draw() % 100}", draw() % 4
+                count += 1
+                if kind == 0:
+                    pairs.pop(key, None)
+                else:
+                    pairs[key] = draw() % 1000
+    numbers = [clients, clients * batches, count, count, len(pairs), sum(pairs.values())]
+    return "".join(f"{word} {n}\n" for word, n in zip(["clients", "batches", "records", "last", "keys", "sum"], numbers))
