@@ -3,3 +3,4 @@ mod Clients
 mod Shown
 mod ShownRecovered
 mod ReplayTexts
+mod Summaries

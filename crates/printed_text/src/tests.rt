@@ -1,5 +1,6 @@
 use crate::{
-    disk_fault, log_not_empty, outcome_text, recovered_text, script_fault, source_fault, usage,
+    disk_fault, log_not_empty, outcome_text, recovered_text, script_fault, source_fault,
+    summary_text, usage,
 };
 use client_calls::{Entry, Outcome, Reply};
 use std::alloc::Global;
@@ -227,5 +228,57 @@ fn prints_each_end(rt: HostRuntime) -> Result<(), Fail> {
         let text = recovered_text(rt.alloc(), &no_group(rt.alloc(), 24, why))?;
         assert_eq!(rt; text.as_slice(), want.as_slice());
     }
+    Ok(())
+}
+
+/// Two clients with a batch each: of two records and a blob, which isn't counted, and of one record.
+fn two_batches(alloc: Global) -> Result<Outcome<PairList>, NoMemory> {
+    let mut first = Batch::new(alloc)?;
+    first.put(b"c1k7", b"5").map_err(|_| NoMemory)?;
+    first.delete(b"c1k8").map_err(|_| NoMemory)?;
+    first.log_data(b"blob").map_err(|_| NoMemory)?;
+    first.set_sequence(1);
+    let mut second = Batch::new(alloc)?;
+    second.put(b"c2k7", b"007").map_err(|_| NoMemory)?;
+    second.set_sequence(3);
+    let history = vec![in alloc; one_entry(1, 1, 2, first), one_entry(2, 3, 3, second)]?;
+    let mut state = PairList::new(alloc);
+    state.push(Bytes::copy(alloc, b"c1k7")?, Bytes::copy(alloc, b"5")?)?;
+    state.push(Bytes::copy(alloc, b"c2k7")?, Bytes::copy(alloc, b"007")?)?;
+    Ok(Outcome {
+        transcripts: vec![in alloc; Vec::new(alloc), Vec::new(alloc)]?,
+        history,
+        last: 3,
+        state,
+        log_len: 0,
+        fault: None,
+    })
+}
+
+fn one_entry(client: u32, first: u64, last: u64, batch: Batch) -> Entry<Batch> {
+    Entry {
+        client,
+        ordinal: 1,
+        first,
+        last,
+        flag: Flag::NoLog,
+        batch,
+    }
+}
+
+#[test]
+fn prints_a_summary(rt: HostRuntime) -> Result<(), Fail> {
+    let outcome = two_batches(rt.alloc())?;
+    let want = "clients 2\nbatches 2\nrecords 3\nlast 3\nkeys 2\nsum 12\n";
+    assert_eq!(rt;
+        summary_text(rt.alloc(), &outcome, 12)?.as_slice(),
+        want.as_bytes()
+    );
+    let wide = "clients 2\nbatches 2\nrecords 3\nlast 3\nkeys 2\nsum 18446744073709551616\n";
+    let sum = 18_446_744_073_709_551_616;
+    assert_eq!(rt;
+        summary_text(rt.alloc(), &outcome, sum)?.as_slice(),
+        wide.as_bytes()
+    );
     Ok(())
 }

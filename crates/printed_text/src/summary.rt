@@ -1,0 +1,59 @@
+//! The summary of the outcome of a script that was made: six lines, each a word and a number. It is the same for every
+//! order of the clients' batches, since no key is of two clients.
+
+ghost use Rattle.std.specs.Prelude.{◌≡◌, ◌++◌, ℕ, sum_by, OnOk, IfOk};
+ghost use Rattle.wp_model.specs.Batch.{count_of};
+ghost use Rattle.wp_model.specs.Calls as calls;
+ghost use Rattle.wp_model.specs.Generator.{number_line};
+ghost use Rattle.wp_model.specs.Generator as model;
+ghost use Rattle.wp_model.specs.History.{IsHistory};
+ghost use Rattle.wp_model.specs.Script.{value_of_digits};
+ghost use Rattle.client_calls.specs.Shows.{ShowsOutcome};
+
+use client_calls::{Entry, Outcome};
+use itoa::Buffer;
+use std::alloc::Global;
+use wp_coding::{Bytes, PairList};
+use wp_model::NoMemory;
+use write_batch::Batch;
+
+/// The summary of an outcome, whose map's values have this sum as numbers.
+pub fn summary_text(
+    alloc: Global,
+    outcome: &Outcome<PairList>,
+    sum: u128,
+) -> Result<Bytes, NoMemory>
+    ensures { (o : calls.Outcome) (start : ℕ) → IsHistory start o.history → ShowsOutcome outcome.now o
+        → sum ≡ sum_by (λ p. value_of_digits p.1) o.state → IfOk result (λ t. t ≡ model.summary_text o) }
+{
+    let mut text = Bytes::new(alloc);
+    put_number_line(&mut text, b"clients", outcome.transcripts.len() as u128)?;
+    put_number_line(&mut text, b"batches", outcome.history.len() as u128)?;
+    put_number_line(&mut text, b"records", record_count(&outcome.history))?;
+    put_number_line(&mut text, b"last", u128::from(outcome.last))?;
+    put_number_line(&mut text, b"keys", outcome.state.len() as u128)?;
+    put_number_line(&mut text, b"sum", sum)?;
+    Ok(text)
+}
+
+/// How many records the batches of the entries count, all together.
+fn record_count(entries: &[Entry<Batch>]) -> u128
+    ensures { result ≡ sum_by (λ entry. count_of entry.batch.records) entries.now }
+{
+    let mut count = 0;
+    for entry in entries {
+        count += u128::from(entry.batch.count());
+    }
+    count
+}
+
+/// Puts a line behind the text: a word and a number.
+fn put_number_line(text: &mut Bytes, word: &[u8], number: u128) -> Result<(), NoMemory>
+    ensures { OnOk result (text.new ≡ text.old ++ number_line word.now number) }
+{
+    let mut buffer = Buffer::new();
+    text.append(word)?;
+    text.append(b" ")?;
+    text.append(buffer.format(number).as_bytes())?;
+    text.append(b"\n")
+}
