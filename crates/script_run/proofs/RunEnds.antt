@@ -2,6 +2,7 @@
 use Rattle.std.proofs.Common.{◌≡◌, ℕ, ◌+◌, ◌≤◌, List, [], ◌∷◌, ◌++◌, length, Option, Some, None, IfSome, Result, Ok, Err, refl, ap, sym, ◌∙◌, subst, arith, length-append}
 use Rattle.wp_edge.specs.declared.disk.Disk.{Ghosts}
 use Rattle.wp_model.specs.LogContents.{GroupCall}
+use Rattle.wp_model.specs.Trace.{Settings}
 use Rattle.wp_model.specs.Calls.{Command}
 use Rattle.wp_model.specs.Outcomes.{outcome_of}
 use Rattle.client_calls.specs.declared.options.Options.{Options}
@@ -20,6 +21,14 @@ use Rattle.clients_outcome.specs.Runs.{HaveRun, ComesTo}
 use Rattle.script_run.specs.Ends.{HasOutcome, IsEnd, end_with}
 use Rattle.script_run.proofs.LegalRuns.{small_entries, refused_for_themselves}
 use Rattle.script_run.proofs.SafeLogs.{safe_log, held_images, is_written, goes_on, later}
+
+-- the same of what is equal
+pub comes_to : {L : Type 0} (fault : L → Option ℕ) (faults : L → ℕ) (log : L) (last : ℕ) (parts : Result Parts Lacks) (s t : Settings) (xs ys : List (List Command)) (v w : List GroupCall → L → Type 0)
+    → s ≡ t → xs ≡ ys → v ≡ w → ComesTo s xs v fault faults log last parts → ComesTo t ys w fault faults log last parts
+comes_to fault faults log last parts s t xs ys v w same_settings same_script same_calls comes =
+    subst (λ (z : Settings). ComesTo z ys w fault faults log last parts) same_settings
+    (subst (λ (zs : List (List Command)). ComesTo s zs w fault faults log last parts) same_script
+    (subst (λ (u : List GroupCall → _ → Type 0). ComesTo s xs u fault faults log last parts) same_calls comes))
 
 module _ {D : Type 0} {ghosts : Ghosts D} where
   -- a log that no call wrote is as it was opened

@@ -87,11 +87,12 @@ fn run_over<
     ensures later { D.faults (disk_of log) ≤ D.faults result.disk }
     ensures time { GoesOn D.moment D.from (disk_of log) result.disk }
 {
-    let clients = script.clients.len() as u32;
+    let commands = script.clients.as_slice();
+    let clients = commands.len() as u32;
     match open_engine(alloc, log, clock, clients, shared, options) {
         Ok((engine, clients)) => {
             runs_leave_safe_logs::<D>();
-            ended(run_engine(rt, alloc, engine, clients, script.clients.as_slice(), gate))
+            ended(run_engine(rt, alloc, engine, clients, commands, gate))
         }
         Err((log, _clock, _gate)) => Executed {
             disk: log.into_disk(),
