@@ -1,0 +1,56 @@
+//! Scripts of several clients, which come in any order.
+
+use super::{Came, Given, PLAIN, came_of, check_texts};
+use std::alloc::Global;
+use std::process::Abort;
+use std::rt::HostRuntime;
+use std::sync::Wait;
+use std::test::Fail;
+use std::thread::Threads;
+
+/// Runs a script twenty times, so that its clients may come in more than one order.
+fn check_clients<R: Threads + Wait + Abort + Sync>(
+    rt: &R,
+    alloc: Global,
+    given: Given,
+    wanted: &[&str],
+) -> Result<(), Fail> {
+    for _ in 0..20 {
+        let Came { status, sink, .. } = came_of(rt, alloc, given)?;
+        check_texts(rt, &sink, wanted);
+        assert_eq!(rt; status, 0);
+    }
+    Ok(())
+}
+
+/// Either writer may come first, and the reader before, between and after them.
+const BOTH_OR_NEITHER: [&str; 6] = [
+    "client 1\nok 1 2\nclient 2\nok 3 4\nclient 3\nmany 0 2 - -\nhistory 2\n1 2 1 1 log *\n3 4 2 1 log *\nstate 4 2\na 2\nb 2\nlog *\n",
+    "client 1\nok 1 2\nclient 2\nok 3 4\nclient 3\nmany 2 2 =1 =1\nhistory 2\n1 2 1 1 log *\n3 4 2 1 log *\nstate 4 2\na 2\nb 2\nlog *\n",
+    "client 1\nok 1 2\nclient 2\nok 3 4\nclient 3\nmany 4 2 =2 =2\nhistory 2\n1 2 1 1 log *\n3 4 2 1 log *\nstate 4 2\na 2\nb 2\nlog *\n",
+    "client 1\nok 3 4\nclient 2\nok 1 2\nclient 3\nmany 0 2 - -\nhistory 2\n1 2 2 1 log *\n3 4 1 1 log *\nstate 4 2\na 1\nb 1\nlog *\n",
+    "client 1\nok 3 4\nclient 2\nok 1 2\nclient 3\nmany 2 2 =2 =2\nhistory 2\n1 2 2 1 log *\n3 4 1 1 log *\nstate 4 2\na 1\nb 1\nlog *\n",
+    "client 1\nok 3 4\nclient 2\nok 1 2\nclient 3\nmany 4 2 =1 =1\nhistory 2\n1 2 2 1 log *\n3 4 1 1 log *\nstate 4 2\na 1\nb 1\nlog *\n",
+];
+
+#[test]
+fn no_batch_is_seen_in_part(rt: HostRuntime) -> Result<(), Fail> {
+    let given = Given {
+        text: b"client 1\nput a 1\nput b 1\ncommit\nclient 2\nput a 2\nput b 2\ncommit\nclient 3\nmany a b\n",
+        ..PLAIN
+    };
+    check_clients(&rt, rt.alloc(), given, &BOTH_OR_NEITHER)
+}
+
+/// Each client reads what it wrote last. Each batch is a group of its own, so that the log has one length.
+#[test]
+fn clients_read_what_they_wrote(rt: HostRuntime) -> Result<(), Fail> {
+    let given = Given {
+        words: "run --group-bytes 1",
+        text: b"client 1\nput a1 1\nput a2 1\ncommit sync\nmany a1 a2\nscan a b\nclient 2\nput b1 2\ncommit nolog\nget b1\ndel b1\ncommit\nget b1\nclient 3\nput c1 3\ncommit\nput c1 4\ncommit\nget c1\n",
+        ..PLAIN
+    };
+    let want =
+        "client 1\nok *\nmany * 2 =1 =1\nscan * 2 a1 1 a2 1\nclient 2\nok *\nval * 2\nok *\nnil *\nclient 3\nok *\nok *\nval * 4\nhistory 5\n1 *\n*\n*\n*\n*\nstate 6 3\na1 1\na2 1\nc1 4\nlog 104\n";
+    check_clients(&rt, rt.alloc(), given, &[want])
+}

@@ -1,0 +1,222 @@
+//! Scripts of one client, what is refused, devices that fail, and generated scripts.
+
+use super::Fails::{Disk, Nothing, Sink, Source};
+use super::{Fails, Given, OUTCOME, PLAIN, RECORD, Row, SCRIPT, TWO_RECORDS, check_rows, ended};
+use client_script::TEXT_LIMIT;
+use std::rt::HostRuntime;
+use std::test::Fail;
+
+#[test]
+fn faulty_scripts_are_refused(rt: HostRuntime) -> Result<(), Fail> {
+    let long = vec![in rt.alloc(); b'#'; TEXT_LIMIT + 1]?;
+    let scripts: [(&[u8], &str); 14] = [
+        (b"", "script 0 none\n"),
+        (&long, "script 0 long\n"),
+        (b"put a 1\n", "script 1 client\n"),
+        (b"client 1\npot a 1\n", "script 2 word\n"),
+        (b"client 1\nschedule\n", "script 2 word\n"),
+        (b"client 1\nget\ta\n", "script 2 byte\n"),
+        (b"client 1\nput a\n", "script 2 form\n"),
+        (b"client 1\nmany\n", "script 2 form\n"),
+        (b"client 1\nscan a\n", "script 2 form\n"),
+        (b"client 1\nslow 01\n", "script 2 form\n"),
+        (b"client 1\nunstop 1\n", "script 2 form\n"),
+        (b"client 1\ncommit noslow sync\n", "script 2 form\n"),
+        (b"client 1\n\n# x\nclient 3\n", "script 4 client\n"),
+        (
+            b"client 1\nclient 2\nclient 3\nclient 4\nclient 5\nclient 6\nclient 7\nclient 8\nclient 9\nclient 10\nclient 11\nclient 12\nclient 13\nclient 14\nclient 15\nclient 16\nclient 17\n",
+            "script 17 clients\n",
+        ),
+    ];
+    for (text, want) in scripts {
+        ended(&rt, rt.alloc(), Given { text, ..PLAIN }, 2, want)?;
+    }
+    Ok(())
+}
+
+#[test]
+fn other_words_are_refused(rt: HostRuntime) -> Result<(), Fail> {
+    let rows = [
+        "",
+        "walk",
+        "--help",
+        "--version",
+        "run --last -1",
+        "run --group-bytes 0",
+        "run --pipelined",
+        "recover --last 1",
+        "gen 1 1",
+        "gen 1 1 1 1",
+        "gen 2147483648 1 1",
+        "gen 1 0 1",
+        "gen 1 17 1",
+        "gen 1 1 0",
+        "gen 1 1 100001",
+    ];
+    for words in rows {
+        ended(&rt, rt.alloc(), Given { words, ..PLAIN }, 1, "usage\n")?;
+    }
+    Ok(())
+}
+
+const OUTCOMES: [Row; 13] = [
+    ("run", b"# x\nclient 1\nput a 1\ncommit\nget a\n", OUTCOME),
+    (
+        "run",
+        b"client 1\ncommit\n",
+        "client 1\nno empty\nhistory 0\nstate 0 0\nlog 0\n",
+    ),
+    (
+        "run",
+        b"client 1\nput a 1\nput a 2\ndel a\ncommit\nget a\n",
+        "client 1\nok 1 3\nnil 3\nhistory 1\n1 3 1 1 log 01000000000000000300000001016101310101610132000161\nstate 3 0\nlog 32\n",
+    ),
+    (
+        "run",
+        b"client 1\nnote x\ncommit\nput a 1\ncommit\n",
+        "client 1\nno empty\nok 1 1\nhistory 1\n1 1 1 1 log 0100000000000000010000000301780101610131\nstate 1 1\na 1\nlog 27\n",
+    ),
+    (
+        "run",
+        b"client 1\nput a 1\ncommit\nput a 2\ncommit\nget a\n",
+        "client 1\nok 1 1\nok 2 2\nval 2 2\nhistory 2\n1 1 1 1 log 0100000000000000010000000101610131\n2 2 1 2 log 0200000000000000010000000101610132\nstate 2 1\na 2\nlog 48\n",
+    ),
+    (
+        "run",
+        b"client 1\nput a 1\nput b 2\ncommit nolog\nsdel a\ncommit sync\nscan a z\nscan b b\nmany b a\n",
+        "client 1\nok 1 2\nok 3 3\nscan 3 1 b 2\nscan 3 0\nmany 3 2 =2 -\nhistory 2\n1 2 1 1 nolog 01000000000000000200000001016101310101620132\n3 3 1 2 sync 030000000000000001000000070161\nstate 3 1\nb 2\nlog 22\n",
+    ),
+    (
+        "run",
+        b"client 1\nput a 1\ncommit sync nolog\n",
+        "client 1\nno syncwithoutlog\nhistory 0\nstate 0 0\nlog 0\n",
+    ),
+    // Who holds a stop token isn't kept waiting.
+    (
+        "run",
+        b"client 1\nstop\nput a 1\ncommit noslow\ncommit\nstop\nunstop\nunstop\ncommit\n",
+        "client 1\ndone\nno incomplete 1 0 0\nno selfstop\nheld\ndone\nnotheld\nok 1 1\nhistory 1\n1 1 1 1 log 0100000000000000010000000101610131\nstate 1 1\na 1\nlog 24\n",
+    ),
+    // At a byte a second, a millisecond brings one byte of 17, and the other 16 are owed from a millisecond on.
+    (
+        "run",
+        b"client 1\nslow 1\nput a 1\ncommit noslow\nunslow\ncommit\n",
+        "client 1\ndone\nno incomplete 0 1 16001000\ndone\nok 1 1\nhistory 1\n1 1 1 1 log 0100000000000000010000000101610131\nstate 1 1\na 1\nlog 24\n",
+    ),
+    // The first one's commit waits where the third holds its token, which is given back as that client ends.
+    (
+        "run",
+        b"client 1\nput a 1\ncommit sync\nget a\nclient 2\nunstop\ncommit\nput b 2\ncommit sync nolog\nclient 3\nstop\nput c 3\ncommit noslow\ncommit\nstop\n",
+        "client 1\nok 1 1\nval 1 1\nclient 2\nnotheld\nno empty\nno syncwithoutlog\nclient 3\ndone\nno incomplete 1 0 0\nno selfstop\nheld\nhistory 1\n1 1 1 1 sync 0100000000000000010000000101610131\nstate 1 1\na 1\nlog 24\n",
+    ),
+    (
+        "run --batch-bytes 20",
+        b"client 1\nput a 1\nput b 2\ncommit\nclear\nput a 1\ncommit\n",
+        "client 1\nno large 22\nok 1 1\nhistory 1\n1 1 1 1 log 0100000000000000010000000101610131\nstate 1 1\na 1\nlog 24\n",
+    ),
+    (
+        "run --last 72057594037927934",
+        b"client 1\nput a 1\nput b 2\ncommit\nclear\nput a 1\ncommit\nput c 3\ncommit\n",
+        "client 1\nno full 72057594037927934\nok 72057594037927935 72057594037927935\nno full 72057594037927935\nhistory 1\n72057594037927935 72057594037927935 1 1 log ffffffffffffff00010000000101610131\nstate 72057594037927935 1\na 1\nlog 24\n",
+    ),
+    // A leader is in its group, however large its batch is.
+    ("run --group-bytes 1", SCRIPT, OUTCOME),
+];
+
+#[test]
+fn prints_what_came_of_a_script(rt: HostRuntime) -> Result<(), Fail> {
+    check_rows(&rt, rt.alloc(), 0, &OUTCOMES)
+}
+
+const SMALL_SUMMARY: &str = "clients 1\nbatches 2\nrecords 3\nlast 3\nkeys 2\nsum 1445\n";
+
+/// Reckoned by another program.
+const LARGE_SUMMARY: &str =
+    "clients 16\nbatches 16000\nrecords 39946\nlast 39946\nkeys 1175\nsum 580970\n";
+
+/// However the sixteen clients meet.
+const SUMMARIES: [Row; 3] = [
+    ("gen 1 1 2", b"", SMALL_SUMMARY),
+    ("gen 7 16 1000", b"", LARGE_SUMMARY),
+    ("gen 7 16 1000", b"", LARGE_SUMMARY),
+];
+
+#[test]
+fn sums_up_a_generated_script(rt: HostRuntime) -> Result<(), Fail> {
+    check_rows(&rt, rt.alloc(), 0, &SUMMARIES)
+}
+
+/// Neither `recover` nor `gen` looks at the source.
+#[test]
+fn devices_fail_or_are_not_empty(rt: HostRuntime) -> Result<(), Fail> {
+    let one_batch = "clients 1\nbatches 1\nrecords 1\nlast 1\nkeys 1\nsum 914\n";
+    let rows: [(&str, &[u8], Fails, u8, &str); 10] = [
+        ("run", b"", Disk(1), 3, "disk fault 1\n"),
+        ("run", b"", Source(1), 4, "source fault 1\n"),
+        ("run", b"", Sink(1), 5, ""),
+        ("run", b"x", Nothing, 7, "log not empty 1\n"),
+        ("recover", RECORD, Disk(1), 3, "disk fault 1\n"),
+        ("recover", RECORD, Sink(1), 5, ""),
+        (
+            "recover",
+            b"x",
+            Source(1),
+            0,
+            "groups 0\nstate 0 0\nend 0 shortheader\n",
+        ),
+        ("gen 1 1 2", RECORD, Nothing, 7, "log not empty 24\n"),
+        ("gen 1 1 2", b"", Source(1), 0, SMALL_SUMMARY),
+        ("gen 1 1 2", b"", Disk(3), 3, one_batch),
+    ];
+    for (words, content, fails, status, want) in rows {
+        let text = SCRIPT;
+        let given = Given {
+            words,
+            text,
+            content,
+            fails,
+        };
+        ended(&rt, rt.alloc(), given, status, want)?;
+    }
+    Ok(())
+}
+
+/// What the disk holds then.
+#[test]
+fn writes_up_to_a_fault(rt: HostRuntime) -> Result<(), Fail> {
+    let rows: [(&[u8], Fails, u8, &str, &[u8]); 4] = [
+        (SCRIPT, Nothing, 0, OUTCOME, RECORD),
+        (
+            SCRIPT,
+            Disk(2),
+            3,
+            "client 1\nno logfault 1\nnil 0\nhistory 0\nstate 0 0\nlog 0 fault 1\n",
+            b"",
+        ),
+        (
+            b"client 1\nput a 1\ncommit\nput b 2\ncommit\ncommit\nget b\nget a\n",
+            Disk(3),
+            3,
+            "client 1\nok 1 1\nno logfault 1\nno logfault 1\nnil 1\nval 1 1\nhistory 1\n1 1 1 1 log 0100000000000000010000000101610131\nstate 1 1\na 1\nlog 24 fault 1\n",
+            RECORD,
+        ),
+        // Two records are written. They aren't synced.
+        (
+            b"client 1\nput a 1\ncommit\nput b 2\ncommit sync\nget b\n",
+            Disk(4),
+            3,
+            "client 1\nok 1 1\nno logfault 1\nnil 1\nhistory 1\n1 1 1 1 log 0100000000000000010000000101610131\nstate 1 1\na 1\nlog 24 fault 1\n",
+            TWO_RECORDS,
+        ),
+    ];
+    for (text, fails, status, want, left) in rows {
+        let given = Given {
+            text,
+            fails,
+            ..PLAIN
+        };
+        let disk = ended(&rt, rt.alloc(), given, status, want)?;
+        assert_eq!(rt; disk.content(), left, "for {want}");
+    }
+    Ok(())
+}
