@@ -1,5 +1,5 @@
 -- How a run ends, by what it came to over its opened log.
-use Rattle.std.proofs.Common.{◌≡◌, ℕ, ◌+◌, ◌≤◌, List, [], ◌∷◌, ◌++◌, length, Option, Some, None, IfSome, Result, Ok, Err, refl, ap, sym, ◌∙◌, subst, arith, length-append}
+use Rattle.std.proofs.Common.{◌≡◌, ℕ, ◌≤◌, List, [], ◌∷◌, ◌++◌, length, Option, Some, None, IfSome, Result, Ok, Err, refl, ap, ◌∙◌, subst, arith, length-append}
 use Rattle.wp_edge.specs.declared.disk.Disk.{Ghosts}
 use Rattle.wp_model.specs.LogContents.{GroupCall}
 use Rattle.wp_model.specs.Trace.{Settings}
@@ -12,7 +12,7 @@ use Rattle.log_writer.specs.Words.{disk_of, len_of, fault_of}
 use Rattle.log_writer.specs.Opening.{HasOpened}
 use Rattle.log_writer.specs.Written.{Wrote, no_call, one_more, IsWritten, HoldsSynced, Stands, HasCauseSince}
 use Rattle.run_model.specs.Crashes.{IsImageSince}
-use Rattle.run_model.specs.Running.{Execution, execution_of, HasRun, GoesOn}
+use Rattle.run_model.specs.Running.{Execution, execution_of, GoesOn}
 use Rattle.wp_edge.specs.Disk.{LeavesOnly}
 use Rattle.clients_outcome.specs.declared.run.Parts.{Parts}
 use Rattle.clients_outcome.specs.declared.run.Lacks.{Lacks}
