@@ -4,8 +4,8 @@ use Rattle.std.specs.Prelude.{IsSome, ⊤}
 use Rattle.wp_edge.specs.Disk.{Disk, Told}
 use Rattle.wp_model.specs.Counts.{Rose}
 use Rattle.wp_model.specs.Calls as calls
-use Rattle.wp_model.specs.Map.{Pairs}
 use Rattle.wp_model.specs.History.{IsHistory}
+use Rattle.wp_model.specs.Map.{Pairs}
 use Rattle.wp_model.specs.Script.{Script}
 use Rattle.client_calls.specs.declared.outcome.Outcome.{Outcome}
 use Rattle.client_calls.specs.declared.options.Options.{Options}
@@ -157,6 +157,6 @@ module _ (options : Options) (script : Script) (form : Form) (failed fails : ℕ
       let ran : RanScript here ends.outcome = record { script = script; said = refl; is_outcome = record { legal = ends.legal; log = ends.log }; refusals = ends.refusals } in
       subst (λ s. At (code s)) (sym tells.0) (inr (inl (record { outcome = ends.outcome; ran = ran; silent = tells.1 })))
   ended_so (end.Ran shown) given ran tells =
-      let trace = ran.legal.trace in
-      let history : IsHistory trace.start ran.outcome.history = subst (IsHistory trace.start) (sym ran.legal.legal.history) ran.legal.legal.is_trace.entries in
-      ran_so shown ran given (tells ran.outcome trace.start history ran.shows)
+      let legal = ran.legal.legal in
+      let history : IsHistory ran.legal.trace.start ran.outcome.history = subst (λ entries. IsHistory ran.legal.trace.start entries) (sym legal.history) legal.is_trace.entries in
+      ran_so shown ran given (tells ran.outcome ran.legal.trace.start history ran.shows)

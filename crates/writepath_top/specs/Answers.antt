@@ -29,17 +29,17 @@ module _ {D K : Type 0} (disk : disk.Ghosts D) (sink : sink.Ghosts K) (seen : Ob
     pub no_fault : status ≡ 0 → (disk.faults ended ≡ disk.faults opened) × (sink.faults after ≡ sink.faults before)
     pub disk_failed : status ≡ 3 → Rose (disk.faults opened) (disk.faults ended)
     pub sink_failed : status ≡ 5 → Rose (sink.faults before) (sink.faults after)
-    -- 7: The log isn't empty, and stays as it was. Then no other status comes, but of a fault of the disk or for lack of
-    -- memory.
+    -- 7: The log isn't empty, and stays as it was. Then no other status comes, but of a fault of the disk or for lack
+    -- of memory.
     pub not_empty : status ≡ 7 → IfSome (disk.told opened) (λ d. (0 < length d.content)
         × SaysTo (sink.taken before) (sink.taken after) (not_empty (length d.content)) (sink.faults before)
         (sink.faults after))
     pub as_before : status ≡ 7 → disk.told ended ≡ disk.told opened
     pub empty : IfSome (disk.told opened) (λ d. 0 < length d.content → (status ≢ 0) × (status ≢ 5))
     -- However the clients' threads interleave, every reply in the output is that of a plain map at its point of one
-    -- printed history of whole batches, in which each client's acknowledged batches stand once, in its order, each under
-    -- its own run of sequences; and a crash at any moment of the run leaves a log that recovers a prefix of the logged
-    -- batches with every acknowledged synced one.
+    -- printed history of whole batches, in which each client's acknowledged batches stand once, in its order, each
+    -- under its own run of sequences; and a crash at any moment of the run leaves a log that recovers a prefix of the
+    -- logged batches with every acknowledged synced one.
     pub ran : status ≡ 0 → RanWhole seen
     pub ran_to_fault : status ≡ 3
         → DiskFailed seen (disk.faults opened) (disk.faults ended) (sink.faults before) (sink.faults after)

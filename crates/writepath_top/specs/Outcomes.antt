@@ -1,5 +1,6 @@
--- What the commands that run a script promise: every reply that is printed is that of a plain map at its point of one printed
--- history. Each device tells its bytes, or it doesn't (`None`). What is said of one stands whatever the others tell.
+-- What the commands that run a script promise: every reply that is printed is that of a plain map at its point of one
+-- printed history. Each device tells its bytes, or it doesn't (`None`). What is said of one stands whatever the others
+-- tell.
 use Rattle.std.specs.Prelude.{◌≡◌, ◌⊎◌, ℕ, List, Option, Some, None, Ok, IfSome, IsSome, take, slice_get}
 use Rattle.std.specs.List.{AllByRecursion}
 use Rattle.std.specs.Io.KnownBytes.{Appends}
@@ -128,7 +129,7 @@ module _ (seen : Observed) where
     pub untouched : seen.ended ≡ seen.opened
     pub silent : seen.after ≡ seen.before
 
-  -- or a script was run, and there was no memory for its outcome's text
+  -- or a script was run, and there was no memory for its outcome, or for the text
   pub record RanSilent : Type 0 where
     pub outcome : calls.Outcome
     pub ran : RanScript outcome

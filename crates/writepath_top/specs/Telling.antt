@@ -3,10 +3,10 @@ use Rattle.std.specs.Prelude.{◌≡◌, ◌⊎◌, ℕ, true, false, List, take
 use Rattle.std.specs.Io.KnownBytes.{Appends}
 use Rattle.wp_model.specs.Counts.{Rose}
 use Rattle.wp_model.specs.Calls as calls
+use Rattle.wp_model.specs.History.{IsHistory}
 use Rattle.wp_model.specs.Map.{Pairs}
 use Rattle.wp_model.specs.Text as model
 use Rattle.wp_model.specs.Generator.{summary_text}
-use Rattle.wp_model.specs.History.{IsHistory}
 use Rattle.wp_model.specs.declared.memory.NoMemory.{NoMemory}
 use Rattle.core_model.specs.Step as core
 use Rattle.core_model.specs.ReplayText.{replay_text}
@@ -62,7 +62,7 @@ abbrev pub text_of : Form → calls.Outcome → List ℕ
 text_of form.Whole o = model.outcome_text o
 text_of form.Summary o = summary_text o
 
--- whatever outcome of one history the values show
+-- whatever outcome the values show, whose entries are a history
 abbrev pub TellsOutcome : Form → Option (List ℕ) → Option (List ℕ) → ℕ → ℕ → Outcome Pairs → Status → Type 0
 TellsOutcome form old new failed fails shown given = (o : calls.Outcome) (start : ℕ) → IsHistory start o.history
     → ShowsOutcome shown o → EndsSo old new failed fails shown (text_of form o) given

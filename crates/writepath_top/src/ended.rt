@@ -7,11 +7,11 @@ use crate::telling::Status;
 
 /// How a call ended, and the disk that it was handed.
 pub struct Ended<D> {
-    /// The program's exit status.
+    /// The program's exit status. Where the table says outcome, `gen` prints its summary.
     ///
     /// | Status | Comes where | Text |
     /// |---|---|---|
-    /// | 0 | none of the others; the script was read to its end | the outcome, or its summary |
+    /// | 0 | none of the others; the script was read to its end | the outcome |
     /// | 1 | the words aren't lawful, `--help` and `--version` among them | `usage` |
     /// | 2 | the text isn't a script, or has no schedule under `replay` | `script LINE KIND` |
     /// | 3 | the disk failed | `disk fault COUNT`, or the outcome where the log was opened |

@@ -1,8 +1,8 @@
 //! What a call prints, and the status that it ends with.
 
 ghost use Rattle.std.specs.Prelude.{◌≡◌, ◌≤◌, ℕ, IfOk, OnErr};
-ghost use Rattle.wp_model.specs.History.{IsHistory};
 ghost use Rattle.wp_model.specs.Calls as calls;
+ghost use Rattle.wp_model.specs.History.{IsHistory};
 ghost use Rattle.client_calls.specs.Shows.{ShowsOutcome};
 ghost use Rattle.writepath_top.specs.Texts.{SaysTo};
 ghost use Rattle.writepath_top.specs.Telling as telling;

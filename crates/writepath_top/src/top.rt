@@ -24,15 +24,15 @@ use write_core::CoreOptions;
 
 /// Does what the words ask for, over the log on a disk, and prints what came of it to a sink.
 ///
-/// The words are the program's name, a command, and the command's options. `run` reads a script of 1 to 16 clients from
-/// the source to its end, runs each client in a thread of its own over one write path, and prints the outcome; the log
-/// must be empty. A commit is refused for itself where its batch is empty or larger than `--batch-bytes`, where it is to
-/// be synced without the log, where its client holds a stop token, and where no sequences are left for it; and where it
-/// has `noslow` and writes are held up. Else only a fault of the log refuses it. `gen SEED CLIENTS BATCHES` runs the
-/// script that a seed makes so too, with the usual options, and prints a summary of its outcome; it doesn't look at the
-/// source. `recover` prints what the log recovers, and changes nothing. `replay` reads a script of 1 to 16 clients and a
-/// schedule of events after it, runs the schedule on the write path's core, and prints what the clients were told, the
-/// history and the published state; it doesn't look at the disk. The disk comes back on every path.
+/// The words are the program's name, a command, and the command's options. `run` reads a script of 1 to 16 clients
+/// from the source to its end, runs each client in a thread of its own over one write path, and prints the outcome; the
+/// log must be empty. A commit is refused for itself where its batch is empty or larger than `--batch-bytes`, where it
+/// is to be synced without the log, where its client holds a stop token, and where no sequences are left for it; and
+/// where it has `noslow` and writes are held up. Else only a fault of the log refuses it. `gen SEED CLIENTS BATCHES`
+/// runs the script that a seed makes so too, with the usual options, and prints a summary of its outcome; it doesn't
+/// look at the source. `recover` prints what the log recovers, and changes nothing. `replay` reads a script of 1 to 16
+/// clients and a schedule of events after it, runs the schedule on the write path's core, and prints what the clients
+/// were told, the history and the published state; it doesn't look at the disk. The disk comes back on every path.
 ///
 /// | Option | Commands | Range | Without it | Meaning |
 /// |---|---|---|---|---|
@@ -41,8 +41,8 @@ use write_core::CoreOptions;
 /// | `--last` | `run`, `replay` | 0 to 2^56 - 1 | 0 | the sequence before the first batch |
 /// | `--pipelined` | `replay` | no value | a single stage | the log is handed on before a group is inserted |
 ///
-/// SEED is from 0 to 2147483647, CLIENTS from 1 to 16, and BATCHES from 1 to 100000, for each client. A text has at most
-/// 16777216 bytes.
+/// SEED is from 0 to 2147483647, CLIENTS from 1 to 16, and BATCHES from 1 to 100000, for each client. A text has at
+/// most 16777216 bytes.
 pub fn run<S: Source, D: Disk + Send, K: Sink, C: Clock + Send + Drop, R: Threads + Wait + Sync>(
     rt: &R,
     alloc: Global,

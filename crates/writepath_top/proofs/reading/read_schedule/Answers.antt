@@ -1,3 +1,4 @@
+-- The text that was parsed is what the source had.
 use Rattle.std.proofs.Common.{sym, subst}
 use Rattle.writepath_top.specs.Reading.{HasRead}
 use Rattle.writepath_top.proofs.WholeSchedules.{has_schedule}

@@ -24,7 +24,7 @@ pub returns-in-Ok-clause-runs : goal.returns-in-Ok-clause-runs
 returns-in-Ok-clause-runs g c =
     let left = g.S.Source.left c.args.source.now in
     let script = commands_of c.in-Ok.script in
-    runs_retold _ (SaysScript left) (λ s is. says_it left script s c.in-Ok.ensures.script.said is) _ _ _ _ _ _ _ c.run_and_tell.ensures.runs
+    runs_retold (observed g.D.Disk g.K.Sink (IsScript script) form.Whole c.args.options c.args.disk c.run_and_tell.result.disk c.args.sink.now c.run_and_tell.new.sink) (SaysScript left) (λ s is. says_it left script s c.in-Ok.ensures.script.said is) _ _ _ _ _ _ _ c.run_and_tell.ensures.runs
 
 pub returns-in-Ok-clause-completes : goal.returns-in-Ok-clause-completes
 returns-in-Ok-clause-completes g c = λ source_stood sink_stood disk_stood.

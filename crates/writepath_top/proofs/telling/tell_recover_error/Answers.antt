@@ -1,3 +1,4 @@
+-- A refusal's text was made and printed, or there was no memory for it.
 use Rattle.writepath_top.proofs.Refusing.{refuses}
 use Rattle.writepath_top.proofs.telling.tell_recover_error.Goals as goal
 
