@@ -1,4 +1,4 @@
--- What may stand against a commit, by the script and the client's own calls before it.
+-- What may stand against a commit, by the script and the clients' calls.
 use Rattle.std.specs.Prelude.{◌≡◌, ℕ, ◌+◌, ◌≤◌, Bool, true, false, List, [], ◌∷◌, ◌++◌, fold, sum_by, Some, slice_get}
 use Rattle.std.specs.List.{AllByRecursion}
 use Rattle.wp_model.specs.declared.write.WriteOptions.{WriteOptions}
@@ -8,23 +8,25 @@ use Rattle.wp_model.specs.Controller as controller
 use Rattle.wp_model.specs.Controller.{Action}
 use Rattle.wp_model.specs.Tokens.{holds_stop}
 use Rattle.wp_model.specs.Trace.{Settings}
-use Rattle.wp_model.specs.Progress.{batch_after}
-use Rattle.wp_model.specs.Calls.{Command, add, commit, stop, unstop, slow, unslow, Reply, accepted, done, Call, Outcome}
+use Rattle.wp_model.specs.Progress.{added_by, batch_after}
+use Rattle.wp_model.specs.Calls.{Command, commit, stop, unstop, slow, unslow, Reply, accepted, done, Call, Outcome}
 use Rattle.wp_model.specs.Script.{Script}
 
--- how many counted records a command adds: one or none
-abbrev pub count_added : Command → ℕ
-count_added (add r) = count_of (r ∷ [])
-count_added other = 0
+-- how many records a command commits of the batch at hand: all that count, where it is a commit
+abbrev pub count_committed : List Record → Command → ℕ
+count_committed batch (commit how) = count_of batch
+count_committed batch other = 0
 
--- how many a script adds, over all its clients
-abbrev pub count_of_additions : Script → ℕ
-count_of_additions script = sum_by (sum_by count_added) script
+-- how many a client's calls commit, from this batch on: each commit all of the batch that it then has. So a batch that
+-- was refused and is committed again counts again.
+abbrev pub count_of_commits : List Record → List Call → ℕ
+count_of_commits batch [] = 0
+count_of_commits batch (c ∷ calls) =
+    count_committed batch c.command + count_of_commits (added_by batch c.command c.reply) calls
 
--- There are sequences for all that a script adds, and for this batch once more: where it was refused it may be
--- committed again, and then it stands in the history itself.
-abbrev pub HasRoom : Settings → Script → List Record → Type 0
-HasRoom settings script batch = settings.start + count_of_additions script + count_of batch ≤ max_sequence
+-- There are sequences for all batches that the clients came to commit, each as often as it was committed.
+abbrev pub HasRoom : Settings → Outcome → Type 0
+HasRoom settings o = settings.start + sum_by (count_of_commits []) o.transcripts ≤ max_sequence
 
 -- a command that asks the controller to stop or to slow writes
 abbrev pub asks_to_wait : Command → Bool
