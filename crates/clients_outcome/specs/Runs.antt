@@ -37,8 +37,8 @@ module _ {L : Type 0} (settings : Settings) (script : List (List Command)) (wrot
     pub writes : WritesLog settings.group_bytes wrote trace attempts (fault log) log
     pub legal : (log_len : ℕ)
         → IsLegalIn settings (faults log) script trace attempts (outcome_of trace transcripts last log_len (fault log))
-    pub shows : IfSome parts (λ p. (log_len : ℕ)
-        → ShowsOutcome (outcome_with p last log_len (fault log)) (outcome_of trace transcripts last log_len (fault log)))
+    pub shows : IfSome parts (λ p. (log_len : ℕ) → ShowsOutcome (outcome_with p last log_len (fault log))
+        (outcome_of trace transcripts last log_len (fault log)))
 
   -- Where there was no memory for the run itself, the log was written by no call.
   abbrev pub ComesTo : L → ℕ → Result Parts Lacks → Type 0

@@ -29,8 +29,8 @@ pub fn runs_leave_safe_logs<D: Disk>()
         → IsEnd options script (D.told disk) (D.told (disk_of log)) (D.faults disk) (D.faults (disk_of log))
         (IsImageSince D.moment D.from D.since disk (disk_of log)) (end_with last (len_of log) (fault_of log) parts) }
     // The disk's time has gone on, and its count of faults hasn't fallen.
-    ensures time { (opened log : Log D ⟦<D as Disk>⟧) (options : RunOptions) (script : List (List Command)) (counted last : _)
-        (parts : Result PartsOf LacksOf)
+    ensures time { (opened log : Log D ⟦<D as Disk>⟧) (options : RunOptions) (script : List (List Command))
+        (counted last : _) (parts : Result PartsOf LacksOf)
         → ComesTo (settings_of options (length script) counted) script (Wrote opened) fault_of
         (λ l. D.faults (disk_of l)) log last parts
         → GoesOn D.moment D.from (disk_of opened) (disk_of log)

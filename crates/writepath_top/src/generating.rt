@@ -67,7 +67,7 @@ pub fn run_generated<
     run_and_tell(
         rt,
         alloc,
-        &script,
+        script,
         USUAL_OPTIONS,
         Form::Summary,
         disk,

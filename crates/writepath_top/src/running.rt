@@ -70,7 +70,7 @@ pub fn run_script<
         Ok(script) => run_and_tell(
             rt,
             alloc,
-            &script,
+            script,
             options,
             Form::Whole,
             disk,
@@ -92,7 +92,7 @@ pub fn run_and_tell<
 >(
     rt: &R,
     alloc: Global,
-    script: &Script,
+    script: Script,
     options: Options,
     form: Form,
     disk: D,
@@ -100,15 +100,17 @@ pub fn run_and_tell<
     clock: C,
     gate: &G,
 ) -> Ended<D>
-    requires clients { (1 ≤ length script.now.clients.items) × (length script.now.clients.items ≤ 16) }
-    requires fits { FitsBatches script.now }
+    requires clients { (1 ≤ length script.clients.items) × (length script.clients.items ≤ 16) }
+    requires fits { FitsBatches script }
     requires options { (options.last ≤ max_sequence) × (options.batch_bytes ≤ 16777216) }
     ensures status { (result.status ≡ 0) ⊎ (result.status ≡ 3) ⊎ (result.status ≡ 5) ⊎ (result.status ≡ 6)
         ⊎ (result.status ≡ 7) }
     ensures runs { RunsScript ⟦<D as Disk>⟧ ⟦<K as Sink>⟧ (observed ⟦<D as Disk>⟧ ⟦<K as Sink>⟧
-        (IsScript (commands_of script.now)) form options disk result.disk sink.old sink.new)
+        (IsScript (commands_of script)) form options disk result.disk sink.old sink.new)
         disk result.disk sink.old sink.new result.status }
 {
-    let Executed { disk, end } = execute(rt, alloc, disk, clock, gate, script, options);
+    let Executed { disk, end } = execute(rt, alloc, disk, clock, gate, &script, options);
+    // What was asked is no longer needed while the text is made.
+    drop(script);
     end_with(tell_end(alloc, sink, form, &end), disk)
 }
