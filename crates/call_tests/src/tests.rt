@@ -56,11 +56,34 @@ enum Fails {
     Disk(u64),
 }
 
+/// What the table of a run is made of.
+#[derive(Clone, Copy)]
+struct Table {
+    /// The options that ask for it, with a space before each word.
+    options: &'static str,
+    /// How many locks it has.
+    locks: u64,
+}
+
+/// What there is unless something else is asked for.
+const ONE_TREE: Table = Table {
+    options: "",
+    locks: 1,
+};
+
+const SHARDS: Table = Table {
+    options: " --table shards",
+    locks: 16,
+};
+
+const TABLES: [Table; 2] = [ONE_TREE, SHARDS];
+
 /// What a call is given.
 #[derive(Clone, Copy)]
 struct Given<'a> {
-    /// The words after the program's name, with a space between them.
+    /// The words after the program's name, with a space between them, but for the table's.
     words: &'a str,
+    table: Table,
     text: &'a [u8],
     /// What the disk holds.
     content: &'a [u8],
@@ -69,6 +92,7 @@ struct Given<'a> {
 
 const PLAIN: Given<'static> = Given {
     words: "run",
+    table: ONE_TREE,
     text: SCRIPT,
     content: b"",
     fails: Fails::Nothing,
@@ -82,11 +106,12 @@ struct Came {
     disk: MemDisk,
 }
 
-/// The program's name, and words with a space between them, one by one.
-fn words_of(alloc: Global, words: &str) -> Result<Vec<String>, Fail> {
+/// The program's name, words with a space between them, and the table's options, one by one.
+fn words_of(alloc: Global, words: &str, table: Table) -> Result<Vec<String>, Fail> {
+    let options = table.options;
+    let line = format!(in alloc; "writepath {words}{options}")?;
     let mut all = Vec::new(alloc);
-    all.push("writepath".to_string(alloc)?)?;
-    for word in words.split(' ') {
+    for word in line.split(' ') {
         all.push(word.to_string(alloc)?)?;
     }
     Ok(all)
@@ -105,7 +130,7 @@ fn came_of<R: Threads + Wait + Abort + Sync>(
         Fails::Sink(call) => (0, call, 0),
         Fails::Disk(call) => (0, 0, call),
     };
-    let words = words_of(alloc, given.words)?;
+    let words = words_of(alloc, given.words, given.table)?;
     let mut source = MemSource::new(alloc, given.text, PIECE, &[of_source])?;
     let mut sink = MemSink::new(alloc, SINK_ROOM, PIECE, &[of_sink])?;
     let disk = MemDisk::new(alloc, DISK_ROOM, given.content, &[of_disk])?;
@@ -131,16 +156,18 @@ fn ended<R: Threads + Wait + Abort + Sync>(
 /// The words and the text of a call, and all that it prints.
 type Row = (&'static str, &'static [u8], &'static str);
 
-/// Makes calls that end with this status.
+/// Makes calls that end with this status, over such a table.
 fn check_rows<R: Threads + Wait + Abort + Sync>(
     rt: &R,
     alloc: Global,
+    table: Table,
     status: u8,
     rows: &[Row],
 ) -> Result<(), Fail> {
     for (words, text, want) in rows {
         let given = Given {
             words: *words,
+            table,
             text: *text,
             ..PLAIN
         };

@@ -14,6 +14,3 @@ pub use numbers::value_of_digits;
 pub use parser::{TEXT_LIMIT, parse, parse_clients};
 pub use schedule::{Schedule, parse_schedule};
 pub use script::{Script, ScriptError};
-
-#[cfg(test)]
-mod tests;

@@ -1,376 +1,214 @@
--- The options of a command: what clap finds is what lawful words give.
-use Rattle.std.proofs.Common.{◌≡◌, ◌∙◌, ◌&&◌, ◌-◌, ◌^◌, inl, inr, ℕ, Bool, true, false, List, [], ◌∷◌, ◌++◌, Option, Some, None, cond, fold, refl, sym, ap, subst, codes}
+-- The options of a command: the walk passes lawful ones, and the rows are what was given.
+use Rattle.std.proofs.Common.{◌≡◌, ◌∙◌, ◌⊎◌, inl, inr, Bool, true, false, List, [], ◌∷◌, ◌++◌, Option, Some, None, cond, fold, refl, sym, ap, subst, codes}
+use Rattle.std.proofs.lemmas.List.{map-append}
 use Rattle.std.proofs.lemmas.Slice.Eq.{bytes_eq-Decides}
-use Rattle.std.specs.Prelude.{◌⊎◌, bytes_eq, is_none, is_some, not, option_and_then, option_map, unwrap_or}
+use Rattle.std.specs.Prelude.{bytes_eq, find, is_some, map, option_and_then, option_map}
 use Rattle.clap.specs.Words.{Row, Rule, Shape, Text}
 use Rattle.clap.specs.Faults.{settle_fault, walk_fault}
-use Rattle.clap.specs.Simple.{filled}
-use Rattle.clap.specs.Walk.{Walk, has_row, more_values, settled_rows, walked, with_values}
-use Rattle.clap.specs.declared.builder.value_parser.Reading.TheVariants.{AsWritten}
-use Rattle.clap.specs.declared.parser.matches.ValueSource.{ValueSource}
-use Rattle.clap.specs.declared.parser.matches.ValueSource.TheVariants.{CommandLine, DefaultValue}
-use Rattle.command_line.specs.Definition.{batch_bytes, group_bytes, last, pipelined}
-use Rattle.command_line.specs.Lawful.{Options, is_flag, with_flag, with_option, with_options, within}
-use Rattle.command_line.specs.Meaning.{bool_of, flag_in, number_in, whole_number}
-use Rattle.command_line.proofs.LeafWalks.{IsFlag, IsNumberOption, Pending, between, flag_fault, held, option_fault, use_passes, use_settles, walked_flag, walked_option}
-use Rattle.command_line.proofs.NumberTexts.{IsNumberText, number_text}
-use Rattle.command_line.proofs.Rows.{at_row-absent, flag_in-new, flag_in-other, has_row-new, has_row-other, number_in-new, number_in-other, value_row}
+use Rattle.clap.specs.Walk.{Walk, has_row, settled_rows, walked}
+use Rattle.clap.specs.declared.parser.matches.ValueSource.TheVariants.{CommandLine}
+use Rattle.command_line.specs.Lawful.{Given, Known, Word, named, value_of, with_options, word_of}
+use Rattle.command_line.proofs.LeafWalks.{Finds, HasOption, Pending, between, flag_fault, held, option_fault, use_passes, use_settles, walked_flag, walked_option}
+use Rattle.command_line.proofs.Lists.{Each, cond_false, cond_true, each_more, find_holds, find_passes, none_passes}
+use Rattle.command_line.proofs.Options.{IsFlag, IsValued}
+use Rattle.command_line.proofs.Rows.{row_in, value_row}
 
--- what the matches have for a flag: nothing where it was not used
-abbrev pub flag_told : Bool → Option Bool
-flag_told true = Some true
-flag_told false = None
+-- ---- what was given, as rows
 
--- the rows have the numbers that the words gave so far, and no others; whether they have a row of the flag, and what it
--- says, stands beside
-pub record HoldsNumbers (has_flag : Bool) (told : Option Bool) (o : Options) (rows : List Row) : Type 0 where
-  pub flag_row : has_row (codes "pipelined") rows ≡ has_flag
-  pub flag : flag_in (codes "pipelined") rows ≡ told
-  pub group_row : has_row (codes "group-bytes") rows ≡ is_some o.group_bytes
-  pub batch_row : has_row (codes "batch-bytes") rows ≡ is_some o.batch_bytes
-  pub last_row : has_row (codes "last") rows ≡ is_some o.last
-  pub group : number_in (codes "group-bytes") rows ≡ o.group_bytes
-  pub batch : number_in (codes "batch-bytes") rows ≡ o.batch_bytes
-  pub first : number_in (codes "last") rows ≡ o.last
+abbrev pub row_given : Word × Word → Row
+row_given g = value_row g.0 CommandLine g.1
 
--- the flag too is as the words gave it so far
-abbrev pub Holds : Options → List Row → Type 0
-Holds o rows = HoldsNumbers o.pipelined (flag_told o.pipelined) o rows
+abbrev pub rows_given : Given → List Row
+rows_given given = map row_given given
 
-holds_last : {b : Bool} {t : Option Bool} (o : Options) (rows : List Row) (source : ValueSource) (value : Text) (n : ℕ) → HoldsNumbers b t o rows → has_row (codes "last") rows ≡ false → whole_number value ≡ Some n
-    → HoldsNumbers b t (record o { last = Some n }) (rows ++ value_row (codes "last") source value ∷ [])
-holds_last o rows source value n h unused is =
-    let r = value_row (codes "last") source value in
-    record {
-      flag_row = has_row-other (codes "pipelined") rows r refl ∙ h.flag_row;
-      flag = flag_in-other (codes "pipelined") rows r refl ∙ h.flag;
-      group_row = has_row-other (codes "group-bytes") rows r refl ∙ h.group_row;
-      batch_row = has_row-other (codes "batch-bytes") rows r refl ∙ h.batch_row;
-      last_row = has_row-new (codes "last") rows source value refl;
-      group = number_in-other (codes "group-bytes") rows r refl ∙ h.group;
-      batch = number_in-other (codes "batch-bytes") rows r refl ∙ h.batch;
-      first = number_in-new (codes "last") rows source value refl unused ∙ is;
-    }
+-- the rows have of this id what was given
+abbrev pub Shows : Given → List Row → Text → Type 0
+Shows given rows id = row_in id rows ≡ option_map (λ (v : Text). value_row id CommandLine v) (value_of id given)
 
-holds_batch : {b : Bool} {t : Option Bool} (o : Options) (rows : List Row) (source : ValueSource) (value : Text) (n : ℕ) → HoldsNumbers b t o rows → has_row (codes "batch-bytes") rows ≡ false → whole_number value ≡ Some n
-    → HoldsNumbers b t (record o { batch_bytes = Some n }) (rows ++ value_row (codes "batch-bytes") source value ∷ [])
-holds_batch o rows source value n h unused is =
-    let r = value_row (codes "batch-bytes") source value in
-    record {
-      flag_row = has_row-other (codes "pipelined") rows r refl ∙ h.flag_row;
-      flag = flag_in-other (codes "pipelined") rows r refl ∙ h.flag;
-      group_row = has_row-other (codes "group-bytes") rows r refl ∙ h.group_row;
-      batch_row = has_row-new (codes "batch-bytes") rows source value refl;
-      last_row = has_row-other (codes "last") rows r refl ∙ h.last_row;
-      group = number_in-other (codes "group-bytes") rows r refl ∙ h.group;
-      batch = number_in-new (codes "batch-bytes") rows source value refl unused ∙ is;
-      first = number_in-other (codes "last") rows r refl ∙ h.first;
-    }
-
-holds_group : {b : Bool} {t : Option Bool} (o : Options) (rows : List Row) (source : ValueSource) (value : Text) (n : ℕ) → HoldsNumbers b t o rows → has_row (codes "group-bytes") rows ≡ false → whole_number value ≡ Some n
-    → HoldsNumbers b t (record o { group_bytes = Some n }) (rows ++ value_row (codes "group-bytes") source value ∷ [])
-holds_group o rows source value n h unused is =
-    let r = value_row (codes "group-bytes") source value in
-    record {
-      flag_row = has_row-other (codes "pipelined") rows r refl ∙ h.flag_row;
-      flag = flag_in-other (codes "pipelined") rows r refl ∙ h.flag;
-      group_row = has_row-new (codes "group-bytes") rows source value refl;
-      batch_row = has_row-other (codes "batch-bytes") rows r refl ∙ h.batch_row;
-      last_row = has_row-other (codes "last") rows r refl ∙ h.last_row;
-      group = number_in-new (codes "group-bytes") rows source value refl unused ∙ is;
-      batch = number_in-other (codes "batch-bytes") rows r refl ∙ h.batch;
-      first = number_in-other (codes "last") rows r refl ∙ h.first;
-    }
-
--- the rows with the flag, by its use or by its default
-holds_flag : {b : Bool} {t : Option Bool} (o : Options) (rows : List Row) (source : ValueSource) (value : Text) → HoldsNumbers b t o rows → has_row (codes "pipelined") rows ≡ false
-    → HoldsNumbers true (bool_of value) o (rows ++ value_row (codes "pipelined") source value ∷ [])
-holds_flag o rows source value h unused =
-    let r = value_row (codes "pipelined") source value in
-    record {
-      flag_row = has_row-new (codes "pipelined") rows source value refl;
-      flag = flag_in-new (codes "pipelined") rows source value refl unused;
-      group_row = has_row-other (codes "group-bytes") rows r refl ∙ h.group_row;
-      batch_row = has_row-other (codes "batch-bytes") rows r refl ∙ h.batch_row;
-      last_row = has_row-other (codes "last") rows r refl ∙ h.last_row;
-      group = number_in-other (codes "group-bytes") rows r refl ∙ h.group;
-      batch = number_in-other (codes "batch-bytes") rows r refl ∙ h.batch;
-      first = number_in-other (codes "last") rows r refl ∙ h.first;
-    }
-
-used_flag : (o : Options) (rows : List Row) → Holds o rows → has_row (codes "pipelined") rows ≡ false
-    → Holds (record o { pipelined = true }) (rows ++ value_row (codes "pipelined") CommandLine (codes "true") ∷ [])
-used_flag o rows h unused =
-    let held = holds_flag o rows CommandLine (codes "true") h unused in
-    record { flag_row = held.flag_row; flag = held.flag; group_row = held.group_row; batch_row = held.batch_row; last_row = held.last_row; group = held.group; batch = held.batch; first = held.first }
-
--- ---- what a pair of lawful words is
-
-pub record GivesLast (o : Options) (name value : Text) (after : Options) : Type 0 where
-  pub n : ℕ
-  pub name_is : name ≡ codes "--last"
-  pub is_new : o.last ≡ None
-  pub number : IsNumberText value 0 72057594037927935 n
-  pub after_is : after ≡ record o { last = Some n }
-
-pub record GivesBatch (o : Options) (name value : Text) (after : Options) : Type 0 where
-  pub n : ℕ
-  pub name_is : name ≡ codes "--batch-bytes"
-  pub is_new : o.batch_bytes ≡ None
-  pub number : IsNumberText value 12 16777216 n
-  pub after_is : after ≡ record o { batch_bytes = Some n }
-
-pub record GivesGroup (o : Options) (name value : Text) (after : Options) : Type 0 where
-  pub n : ℕ
-  pub name_is : name ≡ codes "--group-bytes"
-  pub is_new : o.group_bytes ≡ None
-  pub number : IsNumberText value 1 16777216 n
-  pub after_is : after ≡ record o { group_bytes = Some n }
-
-two : (a b : Bool) → (a && b) ≡ true → (a ≡ true) × (b ≡ true)
-two true b e = (refl, e)
-two false b e = cc
-
-none_is : (o : Option ℕ) → is_none o ≡ true → o ≡ None
-none_is None e = refl
-none_is (Some x) e = cc
-
-mapped : {X Y : Type 0} (f : X → Y) (o : Option X) (y : Y) → option_map f o ≡ Some y → (x : X) × (o ≡ Some x) × (y ≡ f x)
-mapped f None y e = cc
-mapped f (Some x) y e = let is : f x ≡ y = cc in (x, refl, sym is)
-
-chosen : {X : Type 0} (a b c : Bool) (x y z : Option X) (after : X) → cond a x (cond b y (cond c z None)) ≡ Some after
-    → ((a ≡ true) × (x ≡ Some after)) ⊎ (((b ≡ true) × (y ≡ Some after)) ⊎ ((c ≡ true) × (z ≡ Some after)))
-chosen true b c x y z after e = inl (refl, e)
-chosen false true c x y z after e = inr (inl (refl, e))
-chosen false false true x y z after e = inr (inr (refl, e))
-chosen false false false x y z after e = cc
-
-option_given : (o : Options) (name value : Text) (after : Options) → with_option o name value ≡ Some after
-    → GivesLast o name value after ⊎ (GivesBatch o name value after ⊎ GivesGroup o name value after)
-option_given o name value after e = elim (chosen
-    (bytes_eq name (codes "--last") && is_none o.last)
-    (bytes_eq name (codes "--batch-bytes") && is_none o.batch_bytes)
-    (bytes_eq name (codes "--group-bytes") && is_none o.group_bytes)
-    (option_map (λ (n : ℕ). record o { last = Some n }) (within 0 (2 ^ 56 - 1) value))
-    (option_map (λ (n : ℕ). record o { batch_bytes = Some n }) (within 12 16777216 value))
-    (option_map (λ (n : ℕ). record o { group_bytes = Some n }) (within 1 16777216 value))
-    after e) [
-      | inl h ↦
-          let parts = two _ _ h.0 in
-          let given = mapped (λ (n : ℕ). record o { last = Some n }) (within 0 (2 ^ 56 - 1) value) after h.1 in
-          inl (record { n = given.0; name_is = (bytes_eq-Decides _ _).0 parts.0; is_new = none_is _ parts.1; number = number_text value 0 (2 ^ 56 - 1) given.0 given.1; after_is = given.2 })
-      | inr (inl h) ↦
-          let parts = two _ _ h.0 in
-          let given = mapped (λ (n : ℕ). record o { batch_bytes = Some n }) (within 12 16777216 value) after h.1 in
-          inr (inl (record { n = given.0; name_is = (bytes_eq-Decides _ _).0 parts.0; is_new = none_is _ parts.1; number = number_text value 12 16777216 given.0 given.1; after_is = given.2 }))
-      | inr (inr h) ↦
-          let parts = two _ _ h.0 in
-          let given = mapped (λ (n : ℕ). record o { group_bytes = Some n }) (within 1 16777216 value) after h.1 in
-          inr (inr (record { n = given.0; name_is = (bytes_eq-Decides _ _).0 parts.0; is_new = none_is _ parts.1; number = number_text value 1 16777216 given.0 given.1; after_is = given.2 }))
-    ]
-
--- ---- all the options
-
--- the command has these options
-pub record HasOptions (is_replay : Bool) (s : Shape) : Type 0 where
-  pub flag : is_replay ≡ true → IsFlag s (codes "--pipelined") (filled pipelined)
-  pub group : IsNumberOption s (codes "--group-bytes") (filled group_bytes) 1 16777216
-  pub batch : IsNumberOption s (codes "--batch-bytes") (filled batch_bytes) 12 16777216
-  pub first : IsNumberOption s (codes "--last") (filled last) 0 72057594037927935
-
-abbrev pub end_of : Shape → List Row → Pending → List Text → Walk
-end_of s rows pending words = fold (walked s.rules []) (between rows pending) words
-
--- the walk passes, and ends with these numbers
-pub record EndsWith (s : Shape) (rows : List Row) (pending : Pending) (words : List Text) (o : Options) : Type 0 where
-  pub walk : walk_fault s [] (between rows pending) words ≡ []
-  pub settles : settle_fault s.rules false (end_of s rows pending words).held ≡ []
-  pub numbers : Holds o (settled_rows s.rules (end_of s rows pending words).held.pending (end_of s rows pending words).held.rows)
-
--- one option more before the others
-one_more : (s : Shape) (word : Text) (a : Rule) (least most : ℕ) → IsNumberOption s word a least most
-    → (value : Text) (n : ℕ) → IsNumberText value least most n → (rows : List Row) (pending : Pending) (words : List Text) (o : Options)
-    → settle_fault s.rules false (held rows pending) ≡ []
-    → EndsWith s (settled_rows s.rules pending rows) (Some (a.id, value ∷ [])) words o
-    → EndsWith s rows pending (word ∷ value ∷ words) o
-one_more s word a least most option_is value n number rows pending words o settles rest =
-    let step = walked_option s word a least most option_is value n number rows pending in
-    let on = λ (w : Walk). fold (walked s.rules []) w words in
-    record {
-      walk = option_fault s word a least most option_is value n number rows pending words settles ∙ rest.walk;
-      settles = subst (λ (w : Walk). settle_fault s.rules false (on w).held ≡ []) (sym step) rest.settles;
-      numbers = subst (λ (w : Walk). Holds o (settled_rows s.rules (on w).held.pending (on w).held.rows)) (sym step) rest.numbers;
-    }
-
--- the rest of the words pass from each state that holds the numbers so far
-abbrev RestEnds : Shape → List Text → Options → Options → Type 0
-RestEnds s words p after = (rows : List Row) (pending : Pending) → settle_fault s.rules false (held rows pending) ≡ [] → Holds p (settled_rows s.rules pending rows)
-    → EndsWith s rows pending words after
-
-used_once : (s : Shape) (word : Text) (a : Rule) (least most : ℕ) → IsNumberOption s word a least most
-    → (value : Text) (n : ℕ) → IsNumberText value least most n → (rows : List Row) (pending : Pending) (words : List Text) (p after : Options)
-    → settle_fault s.rules false (held rows pending) ≡ [] → has_row a.id (settled_rows s.rules pending rows) ≡ false
-    → Holds p (settled_rows s.rules pending rows ++ value_row a.id CommandLine value ∷ [])
-    → RestEnds s words p after → EndsWith s rows pending (word ∷ value ∷ words) after
-used_once s word a least most option_is value n number rows pending words p after settles unused holds rest =
-    let now = settled_rows s.rules pending rows in
-    one_more s word a least most option_is value n number rows pending words after settles
-    (rest now (Some (a.id, value ∷ [])) (use_passes s word a least most option_is value n number now unused)
-    (subst (Holds p) (sym (use_settles s word a least most option_is value now unused)) holds))
-
-option_then : (is_replay : Bool) (s : Shape) → HasOptions is_replay s → (o : Options) (name value : Text) (words : List Text) (rows : List Row) (pending : Pending) (p after : Options)
-    → settle_fault s.rules false (held rows pending) ≡ [] → Holds o (settled_rows s.rules pending rows) → RestEnds s words p after
-    → GivesLast o name value p ⊎ (GivesBatch o name value p ⊎ GivesGroup o name value p)
-    → EndsWith s rows pending (name ∷ value ∷ words) after
-option_then is_replay s has o name value words rows pending p after settles holds rest (inl g) =
-    let now = settled_rows s.rules pending rows in
-    let unused : has_row (codes "last") now ≡ false = holds.last_row ∙ ap is_some g.is_new in
-    let more = holds_last o now CommandLine value g.n holds unused g.number.whole in
-    subst (λ (w : Text). EndsWith s rows pending (w ∷ value ∷ words) after) (sym g.name_is)
-    (used_once s (codes "--last") (filled last) 0 72057594037927935 has.first value g.n g.number rows pending words p after settles unused
-    (subst (λ (q : Options). Holds q (now ++ value_row (codes "last") CommandLine value ∷ [])) (sym g.after_is) more) rest)
-option_then is_replay s has o name value words rows pending p after settles holds rest (inr (inl g)) =
-    let now = settled_rows s.rules pending rows in
-    let unused : has_row (codes "batch-bytes") now ≡ false = holds.batch_row ∙ ap is_some g.is_new in
-    let more = holds_batch o now CommandLine value g.n holds unused g.number.whole in
-    subst (λ (w : Text). EndsWith s rows pending (w ∷ value ∷ words) after) (sym g.name_is)
-    (used_once s (codes "--batch-bytes") (filled batch_bytes) 12 16777216 has.batch value g.n g.number rows pending words p after settles unused
-    (subst (λ (q : Options). Holds q (now ++ value_row (codes "batch-bytes") CommandLine value ∷ [])) (sym g.after_is) more) rest)
-option_then is_replay s has o name value words rows pending p after settles holds rest (inr (inr g)) =
-    let now = settled_rows s.rules pending rows in
-    let unused : has_row (codes "group-bytes") now ≡ false = holds.group_row ∙ ap is_some g.is_new in
-    let more = holds_group o now CommandLine value g.n holds unused g.number.whole in
-    subst (λ (w : Text). EndsWith s rows pending (w ∷ value ∷ words) after) (sym g.name_is)
-    (used_once s (codes "--group-bytes") (filled group_bytes) 1 16777216 has.group value g.n g.number rows pending words p after settles unused
-    (subst (λ (q : Options). Holds q (now ++ value_row (codes "group-bytes") CommandLine value ∷ [])) (sym g.after_is) more) rest)
-
--- a flag before the others
-flag_then : (is_replay : Bool) (s : Shape) → HasOptions is_replay s → (o : Options) (words : List Text) (rows : List Row) (pending : Pending) (after : Options)
-    → settle_fault s.rules false (held rows pending) ≡ [] → Holds o (settled_rows s.rules pending rows)
-    → is_replay ≡ true → o.pipelined ≡ false → RestEnds s words (record o { pipelined = true }) after
-    → EndsWith s rows pending (codes "--pipelined" ∷ words) after
-flag_then is_replay s has o words rows pending after settles holds of_replay is_new rest =
-    let now = settled_rows s.rules pending rows in
-    let flag_is = has.flag of_replay in
-    let unused : has_row (codes "pipelined") now ≡ false = holds.flag_row ∙ is_new in
-    let ends = rest (now ++ value_row (codes "pipelined") CommandLine (codes "true") ∷ []) None refl (used_flag o now holds unused) in
-    let step = walked_flag s (codes "--pipelined") (filled pipelined) flag_is rows pending unused in
-    let on = λ (w : Walk). fold (walked s.rules []) w words in
-    record {
-      walk = flag_fault s (codes "--pipelined") (filled pipelined) flag_is rows pending words settles unused ∙ ends.walk;
-      settles = subst (λ (w : Walk). settle_fault s.rules false (on w).held ≡ []) (sym step) ends.settles;
-      numbers = subst (λ (w : Walk). Holds after (settled_rows s.rules (on w).held.pending (on w).held.rows)) (sym step) ends.numbers;
-    }
-
-flag_given : (is_replay : Bool) (o : Options) (rest : Options → Option Options) (after : Options) → option_and_then rest (with_flag is_replay o) ≡ Some after
-    → (is_replay ≡ true) × (o.pipelined ≡ false) × (rest (record o { pipelined = true }) ≡ Some after)
-flag_given is_replay o rest after e = go is_replay refl o.pipelined refl e
+pub given_shown : (id : Text) (given : Given) → Shows given (rows_given given) id
+given_shown id [] = refl
+given_shown id (g ∷ given) = go (bytes_eq g.0 id) refl (given_shown id given)
   where
-    go : (a : Bool) → is_replay ≡ a → (b : Bool) → o.pipelined ≡ b → option_and_then rest (cond (a && not b) (Some (record o { pipelined = true })) None) ≡ Some after
-        → (is_replay ≡ true) × (o.pipelined ≡ false) × (rest (record o { pipelined = true }) ≡ Some after)
-    go true ea false eb is = (ea, eb, is)
-    go true ea true eb is = cc
-    go false ea b eb is = cc
+    go : (b : Bool) → bytes_eq g.0 id ≡ b → Shows given (rows_given given) id
+        → cond b (Some (row_given g)) (row_in id (rows_given given))
+        ≡ option_map (λ (v : Text). value_row id CommandLine v) (option_map (λ (x : Word × Word). x.1) (cond b (Some g) (find (λ (x : Word × Word). bytes_eq x.0 id) given)))
+    go true e rest = ap (λ (i : Text). Some (value_row i CommandLine g.1)) ((bytes_eq-Decides _ _).0 e)
+    go false e rest = rest
 
-pair_then : (is_replay : Bool) (s : Shape) → HasOptions is_replay s → (o : Options) (name value : Text) (words : List Text) (rows : List Row) (pending : Pending) (given : Option Options) (after : Options)
-    → settle_fault s.rules false (held rows pending) ≡ [] → Holds o (settled_rows s.rules pending rows)
-    → with_option o name value ≡ given → option_and_then (with_options is_replay words) given ≡ Some after
-    → ((p : Options) → with_options is_replay words p ≡ Some after → RestEnds s words p after)
-    → EndsWith s rows pending (name ∷ value ∷ words) after
-pair_then is_replay s has o name value words rows pending None after settles holds e is rest = cc
-pair_then is_replay s has o name value words rows pending (Some p) after settles holds e is rest =
-    option_then is_replay s has o name value words rows pending p after settles holds (rest p is) (option_given o name value p e)
+pub not_given : (id : Text) (given : Given) → value_of id given ≡ None → has_row id (rows_given given) ≡ false
+not_given id given none =
+    none_passes (λ (r : Row). bytes_eq r.id id) (rows_given given) (given_shown id given ∙ ap (option_map (λ (v : Text). value_row id CommandLine v)) none)
 
-and_then_some : {X : Type 0} (o : Option X) → option_and_then (λ x. Some x) o ≡ o
-and_then_some None = refl
-and_then_some (Some x) = refl
+one_given : (given : Given) (g : Word × Word) → rows_given given ++ row_given g ∷ [] ≡ rows_given (given ++ g ∷ [])
+one_given given g = sym (map-append row_given given (g ∷ []))
 
--- lawful options pass, and the rows have their numbers
-pub options_end : (is_replay : Bool) (s : Shape) → HasOptions is_replay s → (words : List Text) (o after : Options) → with_options is_replay words o ≡ Some after
-    → (rows : List Row) (pending : Pending) → settle_fault s.rules false (held rows pending) ≡ [] → Holds o (settled_rows s.rules pending rows)
-    → EndsWith s rows pending words after
-unfolding walk_fault
-options_end is_replay s has [] o after is rows pending settles holds =
-    let same : o ≡ after = cc in
-    record { walk = refl; settles = settles; numbers = subst (λ (p : Options). Holds p (settled_rows s.rules pending rows)) same holds }
-options_end is_replay s has (name ∷ []) o after is rows pending settles holds = go (is_flag name) refl is (λ p next. options_end is_replay s has [] p after next)
+-- what was given is an option of these, with a value that it takes
+pub record Fits (known : List Known) (g : Word × Word) : Type 0 where
+  pub which : Known
+  pub found : find (λ (x : Known). bytes_eq (word_of x) (codes "--" ++ g.0)) known ≡ Some which
+  pub takes : which.takes g.1 ≡ true
+
+none_some : {X : Type 0} {x : X} → ◌≡◌ {A = Option X} None (Some x) → ⊥
+none_some e = cc
+
+-- ---- the option that a word names
+
+record IsNamed (s : Shape) (known : List Known) (word : Text) (given : Given) (o : Known) : Type 0 where
+  has : HasOption s o
+  word_is : word ≡ word_of o
+  found : find (λ (x : Known). bytes_eq (word_of x) (word_of o)) known ≡ Some o
+  is_new : value_of o.name given ≡ None
+
+named_is : (s : Shape) (known : List Known) → Each (HasOption s) known → (word : Text) (given : Given) (o : Known) → named known given word ≡ Some o → IsNamed s known word given o
+named_is s known all word given o e = go (find (λ (x : Known). bytes_eq (word_of x) word) known) refl e
   where
-    go : (b : Bool) → is_flag name ≡ b → cond b (with_flag is_replay o) None ≡ Some after
-        → ((p : Options) → Some p ≡ Some after → RestEnds s [] p after) → EndsWith s rows pending (name ∷ []) after
-    go false e given rest = cc
-    go true e given rest =
-        let flag = flag_given is_replay o (λ p. Some p) after (and_then_some (with_flag is_replay o) ∙ given) in
-        subst (λ (w : Text). EndsWith s rows pending (w ∷ []) after) (sym ((bytes_eq-Decides _ _).0 e))
-        (flag_then is_replay s has o [] rows pending after settles holds flag.0 flag.1 (rest (record o { pipelined = true }) flag.2))
-options_end is_replay s has (name ∷ value ∷ words) o after is rows pending settles holds =
-    go (is_flag name) refl is (λ p next. options_end is_replay s has (value ∷ words) p after next) (λ p next. options_end is_replay s has words p after next)
+    once : (x : Known) → find (λ (z : Known). bytes_eq (word_of z) word) known ≡ Some x → (v : Option Word) → value_of x.name given ≡ v → cond (is_some v) None (Some x) ≡ Some o
+        → IsNamed s known word given o
+    once x a (Some v) b is = cc
+    once x a None b is =
+        let same : x ≡ o = cc in
+        let here : find (λ (z : Known). bytes_eq (word_of z) word) known ≡ Some o = a ∙ ap Some same in
+        let word_is : word_of o ≡ word = (bytes_eq-Decides _ _).0 (find_passes (λ (z : Known). bytes_eq (word_of z) word) known o here) in
+        record {
+          has = find_holds (HasOption s) (λ (z : Known). bytes_eq (word_of z) word) known all o here;
+          word_is = sym word_is;
+          found = subst (λ (w : Text). find (λ (z : Known). bytes_eq (word_of z) w) known ≡ Some o) (sym word_is) here;
+          is_new = subst (λ (y : Known). value_of y.name given ≡ None) same b;
+        }
+
+    go : (f : Option Known) → find (λ (x : Known). bytes_eq (word_of x) word) known ≡ f → option_and_then (λ (x : Known). cond (is_some (value_of x.name given)) None (Some x)) f ≡ Some o
+        → IsNamed s known word given o
+    go None a is = cc
+    go (Some x) a is = once x a (value_of x.name given) refl is
+
+-- ---- the walk
+
+-- the walk stands between two options, where these were given
+pub record Stands (s : Shape) (known : List Known) (rows : List Row) (pending : Pending) (given : Given) : Type 0 where
+  pub settles : settle_fault s.rules false (held rows pending) ≡ []
+  pub rows_are : settled_rows s.rules pending rows ≡ rows_given given
+  pub fits : Each (Fits known) given
+
+pub nothing_given : (s : Shape) (known : List Known) → Stands s known [] None []
+nothing_given s known = record { settles = refl; rows_are = refl; fits = tt }
+
+-- it passes these words, and then stands where these are given
+pub record WalksTo (s : Shape) (known : List Known) (rows : List Row) (pending : Pending) (words : List Text) (given : Given) : Type 0 where
+  pub last_rows : List Row
+  pub last_pending : Pending
+  pub walk : fold (walked s.rules []) (between rows pending) words ≡ between last_rows last_pending
+  pub passes : (more : List Text) → walk_fault s [] (between rows pending) (words ++ more) ≡ walk_fault s [] (between last_rows last_pending) more
+  pub stands : Stands s known last_rows last_pending given
+
+abbrev Passes : Shape → List Known → List Text → Given → Given → Type 0
+Passes s known words given after = (rows : List Row) (pending : Pending) → Stands s known rows pending given → WalksTo s known rows pending words after
+
+module _ (s : Shape) (known : List Known) (word : Text) (given : Given) (o : Known) (is : IsNamed s known word given o) (rows : List Row) (pending : Pending)
+    (stands : Stands s known rows pending given) where
+  unused : has_row o.name (settled_rows s.rules pending rows) ≡ false
+  unused = ap (has_row o.name) stands.rows_are ∙ not_given o.name given is.is_new
+
+  now_given : (value : Text) → settled_rows s.rules pending rows ++ value_row o.name CommandLine value ∷ [] ≡ rows_given (given ++ (o.name, value) ∷ [])
+  now_given value = ap (λ (r : List Row). r ++ value_row o.name CommandLine value ∷ []) stands.rows_are ∙ one_given given (o.name, value)
+
+  now_fits : (value : Text) → o.takes value ≡ true → Each (Fits known) (given ++ (o.name, value) ∷ [])
+  now_fits value takes = each_more (Fits known) given (o.name, value) stands.fits (record { which = o; found = is.found; takes = takes })
+
+  -- an option and its value, before the other words
+  option_then : (a : Rule) → Finds s o a → IsValued o a → (value : Text) → o.takes value ≡ true → (words : List Text) (after : Given)
+      → Passes s known words (given ++ (o.name, value) ∷ []) after → WalksTo s known rows pending (word ∷ value ∷ words) after
+  option_then a finds valued value takes words after rest =
+      let now = settled_rows s.rules pending rows in
+      let ok = valued.passes value takes in
+      let ends = rest now (Some (o.name, value ∷ [])) (record {
+        settles = use_passes s o.name a finds.by_id valued.has_value value now unused ok.1;
+        rows_are = use_settles s o.name a finds.by_id valued.has_value value now unused ∙ now_given value;
+        fits = now_fits value takes;
+      }) in
+      subst (λ (w : Text). WalksTo s known rows pending (w ∷ value ∷ words) after) (sym is.word_is) (record {
+        last_rows = ends.last_rows;
+        last_pending = ends.last_pending;
+        walk = ap (λ (w : Walk). fold (walked s.rules []) w words) (walked_option s o a finds valued value ok.0 rows pending) ∙ ends.walk;
+        passes = λ more. option_fault s o a finds valued value ok.0 rows pending (words ++ more) stands.settles ∙ ends.passes more;
+        stands = ends.stands;
+      })
+
+  -- a flag before the other words
+  flag_then : (a : Rule) → Finds s o a → IsFlag o a → (words : List Text) (after : Given)
+      → Passes s known words (given ++ (o.name, codes "true") ∷ []) after → WalksTo s known rows pending (word ∷ words) after
+  flag_then a finds flag_is words after rest =
+      let ends = rest (settled_rows s.rules pending rows ++ value_row o.name CommandLine (codes "true") ∷ []) None (record {
+        settles = refl;
+        rows_are = now_given (codes "true");
+        fits = now_fits (codes "true") flag_is.stands;
+      }) in
+      subst (λ (w : Text). WalksTo s known rows pending (w ∷ words) after) (sym is.word_is) (record {
+        last_rows = ends.last_rows;
+        last_pending = ends.last_pending;
+        walk = ap (λ (w : Walk). fold (walked s.rules []) w words) (walked_flag s o a finds flag_is rows pending unused) ∙ ends.walk;
+        passes = λ more. flag_fault s o a finds flag_is rows pending unused (words ++ more) stands.settles ∙ ends.passes more;
+        stands = ends.stands;
+      })
+
+  -- the last word, which has to be a flag
+  last_word : HasOption s o → (after : Given) → cond o.is_flag (Some (given ++ (o.name, codes "true") ∷ [])) None ≡ Some after
+      → ((more : Given) → Some more ≡ Some after → Passes s known [] more after) → WalksTo s known rows pending (word ∷ []) after
+  last_word has after e rest = go has.2
+    where
+      go : IsValued o has.0 ⊎ IsFlag o has.0 → WalksTo s known rows pending (word ∷ []) after
+      go (inl valued) = absurd (none_some (sym (cond_false o.is_flag (Some (given ++ (o.name, codes "true") ∷ [])) None valued.no_flag) ∙ e))
+      go (inr flag) =
+          flag_then has.0 has.1 flag [] after
+          (rest (given ++ (o.name, codes "true") ∷ []) (sym (cond_true o.is_flag (Some (given ++ (o.name, codes "true") ∷ [])) None flag.flag) ∙ e))
+
+  -- a word before others
+  word_then : HasOption s o → (value : Text) (words : List Text) (after : Given)
+      → cond o.is_flag (with_options known (value ∷ words) (given ++ (o.name, codes "true") ∷ []))
+      (cond (o.takes value) (with_options known words (given ++ (o.name, value) ∷ [])) None) ≡ Some after
+      → ((more : Given) → with_options known (value ∷ words) more ≡ Some after → Passes s known (value ∷ words) more after)
+      → ((more : Given) → with_options known words more ≡ Some after → Passes s known words more after)
+      → WalksTo s known rows pending (word ∷ value ∷ words) after
+  word_then has value words after e flags options = go has.2
+    where
+      taken : IsValued o has.0 → (b : Bool) → o.takes value ≡ b → cond b (with_options known words (given ++ (o.name, value) ∷ [])) None ≡ Some after
+          → WalksTo s known rows pending (word ∷ value ∷ words) after
+      taken valued true takes is_after = option_then has.0 has.1 valued value takes words after (options (given ++ (o.name, value) ∷ []) is_after)
+      taken valued false takes is_after = absurd (none_some is_after)
+
+      go : IsValued o has.0 ⊎ IsFlag o has.0 → WalksTo s known rows pending (word ∷ value ∷ words) after
+      go (inl valued) =
+          let as_flag = with_options known (value ∷ words) (given ++ (o.name, codes "true") ∷ []) in
+          let as_option = cond (o.takes value) (with_options known words (given ++ (o.name, value) ∷ [])) None in
+          taken valued (o.takes value) refl (sym (cond_false o.is_flag as_flag as_option valued.no_flag) ∙ e)
+      go (inr flag) =
+          let as_flag = with_options known (value ∷ words) (given ++ (o.name, codes "true") ∷ []) in
+          let as_option = cond (o.takes value) (with_options known words (given ++ (o.name, value) ∷ [])) None in
+          flag_then has.0 has.1 flag (value ∷ words) after (flags (given ++ (o.name, codes "true") ∷ []) (sym (cond_true o.is_flag as_flag as_option flag.flag) ∙ e))
+
+-- lawful options pass
+pub options_pass : (s : Shape) (known : List Known) → Each (HasOption s) known → (words : List Text) (given after : Given) → with_options known words given ≡ Some after
+    → (rows : List Row) (pending : Pending) → Stands s known rows pending given → WalksTo s known rows pending words after
+options_pass s known all [] given after e rows pending stands =
+    let same : given ≡ after = cc in
+    record { last_rows = rows; last_pending = pending; walk = refl; passes = λ more. refl; stands = subst (Stands s known rows pending) same stands }
+options_pass s known all (word ∷ []) given after e rows pending stands = go (named known given word) refl e (λ more next. options_pass s known all [] more after next)
   where
-    go : (b : Bool) → is_flag name ≡ b
-        → cond b (option_and_then (with_options is_replay (value ∷ words)) (with_flag is_replay o)) (option_and_then (with_options is_replay words) (with_option o name value)) ≡ Some after
-        → ((p : Options) → with_options is_replay (value ∷ words) p ≡ Some after → RestEnds s (value ∷ words) p after)
-        → ((p : Options) → with_options is_replay words p ≡ Some after → RestEnds s words p after) → EndsWith s rows pending (name ∷ value ∷ words) after
-    go true e given rest others =
-        let flag = flag_given is_replay o (with_options is_replay (value ∷ words)) after given in
-        subst (λ (w : Text). EndsWith s rows pending (w ∷ value ∷ words) after) (sym ((bytes_eq-Decides _ _).0 e))
-        (flag_then is_replay s has o (value ∷ words) rows pending after settles holds flag.0 flag.1 (rest (record o { pipelined = true }) flag.2))
-    go false e given rest others =
-        pair_then is_replay s has o name value words rows pending (with_option o name value) after settles holds refl given others
-
--- ---- the defaults
-
--- an option that was not used gets its default
-abbrev pub defaulted : Text → Text → List Row → List Row
-defaulted id value rows = cond (has_row id rows) rows (with_values id AsWritten DefaultValue (value ∷ []) rows)
-
-unused_default : (id value : Text) (rows : List Row) → has_row id rows ≡ false → defaulted id value rows ≡ rows ++ value_row id DefaultValue value ∷ []
-unused_default id value rows unused = rw unused (at_row-absent id (more_values DefaultValue (value ∷ [])) (value_row id DefaultValue value ∷ []) rows unused)
-
-used_default : (id value : Text) (rows : List Row) → has_row id rows ≡ true → defaulted id value rows ≡ rows
-used_default id value rows used = rw used refl
-
--- the flag with its default
-pub default_flag : (o : Options) (rows : List Row) → Holds o rows → HoldsNumbers true (Some o.pipelined) o (defaulted (codes "pipelined") (codes "false") rows)
-default_flag o rows h = go o.pipelined refl
+    go : (n : Option Known) → named known given word ≡ n → option_and_then (λ (o : Known). cond o.is_flag (Some (given ++ (o.name, codes "true") ∷ [])) None) n ≡ Some after
+        → ((more : Given) → Some more ≡ Some after → Passes s known [] more after) → WalksTo s known rows pending (word ∷ []) after
+    go None a is rest = absurd (none_some is)
+    go (Some o) a is rest =
+        let here = named_is s known all word given o a in
+        last_word s known word given o here rows pending stands here.has after is rest
+options_pass s known all (word ∷ value ∷ words) given after e rows pending stands =
+    go (named known given word) refl e (λ more next. options_pass s known all (value ∷ words) more after next) (λ more next. options_pass s known all words more after next)
   where
-    go : (f : Bool) → o.pipelined ≡ f → HoldsNumbers true (Some f) o (defaulted (codes "pipelined") (codes "false") rows)
-    go false e =
-        let unused = h.flag_row ∙ e in
-        subst (HoldsNumbers true (Some false) o) (sym (unused_default (codes "pipelined") (codes "false") rows unused)) (holds_flag o rows DefaultValue (codes "false") h unused)
-    go true e =
-        subst (HoldsNumbers true (Some true) o) (sym (used_default (codes "pipelined") (codes "false") rows (h.flag_row ∙ e)))
-        (record { flag_row = h.flag_row ∙ e; flag = h.flag ∙ ap flag_told e; group_row = h.group_row; batch_row = h.batch_row; last_row = h.last_row; group = h.group; batch = h.batch; first = h.first })
-
--- the options with their defaults
-pub default_last : {b : Bool} {t : Option Bool} (o : Options) (rows : List Row) → HoldsNumbers b t o rows → HoldsNumbers b t (record o { last = Some (unwrap_or o.last 0) }) (defaulted (codes "last") (codes "0") rows)
-default_last {b} {t} o rows h = go o.last refl
-  where
-    go : (n : Option ℕ) → o.last ≡ n → HoldsNumbers b t (record o { last = Some (unwrap_or n 0) }) (defaulted (codes "last") (codes "0") rows)
-    go None e =
-        let unused = h.last_row ∙ ap is_some e in
-        subst (HoldsNumbers b t (record o { last = Some 0 })) (sym (unused_default (codes "last") (codes "0") rows unused)) (holds_last o rows DefaultValue (codes "0") 0 h unused refl)
-    go (Some n) e =
-        let same : o ≡ record o { last = Some n } = ap (λ (m : Option ℕ). record o { last = m }) e in
-        subst (HoldsNumbers b t (record o { last = Some n })) (sym (used_default (codes "last") (codes "0") rows (h.last_row ∙ ap is_some e))) (subst (λ (p : Options). HoldsNumbers b t p rows) same h)
-
-pub default_batch : {b : Bool} {t : Option Bool} (o : Options) (rows : List Row) → HoldsNumbers b t o rows → HoldsNumbers b t (record o { batch_bytes = Some (unwrap_or o.batch_bytes 16777216) }) (defaulted (codes "batch-bytes") (codes "16777216") rows)
-default_batch {b} {t} o rows h = go o.batch_bytes refl
-  where
-    go : (n : Option ℕ) → o.batch_bytes ≡ n → HoldsNumbers b t (record o { batch_bytes = Some (unwrap_or n 16777216) }) (defaulted (codes "batch-bytes") (codes "16777216") rows)
-    go None e =
-        let unused = h.batch_row ∙ ap is_some e in
-        subst (HoldsNumbers b t (record o { batch_bytes = Some 16777216 })) (sym (unused_default (codes "batch-bytes") (codes "16777216") rows unused)) (holds_batch o rows DefaultValue (codes "16777216") 16777216 h unused refl)
-    go (Some n) e =
-        let same : o ≡ record o { batch_bytes = Some n } = ap (λ (m : Option ℕ). record o { batch_bytes = m }) e in
-        subst (HoldsNumbers b t (record o { batch_bytes = Some n })) (sym (used_default (codes "batch-bytes") (codes "16777216") rows (h.batch_row ∙ ap is_some e))) (subst (λ (p : Options). HoldsNumbers b t p rows) same h)
-
-pub default_group : {b : Bool} {t : Option Bool} (o : Options) (rows : List Row) → HoldsNumbers b t o rows → HoldsNumbers b t (record o { group_bytes = Some (unwrap_or o.group_bytes 1048576) }) (defaulted (codes "group-bytes") (codes "1048576") rows)
-default_group {b} {t} o rows h = go o.group_bytes refl
-  where
-    go : (n : Option ℕ) → o.group_bytes ≡ n → HoldsNumbers b t (record o { group_bytes = Some (unwrap_or n 1048576) }) (defaulted (codes "group-bytes") (codes "1048576") rows)
-    go None e =
-        let unused = h.group_row ∙ ap is_some e in
-        subst (HoldsNumbers b t (record o { group_bytes = Some 1048576 })) (sym (unused_default (codes "group-bytes") (codes "1048576") rows unused)) (holds_group o rows DefaultValue (codes "1048576") 1048576 h unused refl)
-    go (Some n) e =
-        let same : o ≡ record o { group_bytes = Some n } = ap (λ (m : Option ℕ). record o { group_bytes = m }) e in
-        subst (HoldsNumbers b t (record o { group_bytes = Some n })) (sym (used_default (codes "group-bytes") (codes "1048576") rows (h.group_row ∙ ap is_some e))) (subst (λ (p : Options). HoldsNumbers b t p rows) same h)
+    go : (n : Option Known) → named known given word ≡ n
+        → option_and_then (λ (o : Known). cond o.is_flag (with_options known (value ∷ words) (given ++ (o.name, codes "true") ∷ []))
+        (cond (o.takes value) (with_options known words (given ++ (o.name, value) ∷ [])) None)) n ≡ Some after
+        → ((more : Given) → with_options known (value ∷ words) more ≡ Some after → Passes s known (value ∷ words) more after)
+        → ((more : Given) → with_options known words more ≡ Some after → Passes s known words more after)
+        → WalksTo s known rows pending (word ∷ value ∷ words) after
+    go None a is flags options = absurd (none_some is)
+    go (Some o) a is flags options =
+        let here = named_is s known all word given o a in
+        word_then s known word given o here rows pending stands here.has value words after is flags options

@@ -1,5 +1,5 @@
 -- What words ask for keeps the limits.
-use Rattle.std.proofs.Common.{◌≡◌, ◌∙◌, inl, inr, ◌&&◌, ◌^◌, ◌<◌, ◌≤◌, ℕ, Bool, true, false, List, [], ◌∷◌, Option, Some, None, cond, refl, sym, ap, subst, arith, codes}
+use Rattle.std.proofs.Common.{◌≡◌, ◌∙◌, inl, inr, ◌&&◌, ◌^◌, ◌<◌, ◌≤◌, ℕ, Bool, true, false, List, [], ◌∷◌, Option, Some, None, cond, fold, refl, sym, ap, subst, arith, codes}
 use Rattle.std.proofs.lemmas.Bool.{leb-true}
 use Rattle.std.proofs.lemmas.Slice.Eq.{bytes_eq-Decides}
 use Rattle.std.specs.Prelude.{bytes_eq, find, is_some, nat_lt, not, option_and_then, option_map, slice_get}
@@ -12,18 +12,21 @@ use Rattle.clap.specs.Faults.{check_fault, defaults_fault, entered_fault, level_
 use Rattle.clap.specs.Simple.{argument_words, entered, filled, label_of, names_of, rows_at}
 use Rattle.clap.specs.Takes.{value_passes}
 use Rattle.clap.specs.ValueTests.{is_numeral, is_unsigned_in}
-use Rattle.clap.specs.Walk.{answers_to, arg_by_id, finished, has_long, has_row, nothing_held, reading_by, row_text, rows_after, settled, walk, walk_from, with_default, with_values}
+use Rattle.clap.specs.Walk.{answers_to, arg_by_id, arg_by_short, default_rows, finished, first_of, has_long, has_row, nothing_held, reading_by, row_text, rows_after, settled, walk, walk_from, with_default}
 use Rattle.clap.specs.declared.builder.value_parser.Reading.{Reading}
 use Rattle.clap.specs.declared.builder.value_parser.Reading.TheVariants.{AsWritten}
 use Rattle.clap.specs.declared.parser.matches.ValueSource.TheVariants.{DefaultValue}
 use Rattle.clap.proofs.OnLiterals.{clap_on_literals}
 use Rattle.clap.proofs.WalkLemmas.{both}
-use Rattle.command_line.specs.Definition.{batch_bytes, batches, clients, generate, group_bytes, last, pipelined, recover, replay, run, seed, writepath}
-use Rattle.command_line.specs.Limits.{KeepsLimits}
-use Rattle.command_line.specs.Meaning.{asked_by, asked_in, flag_in, is_taken, number_in, whole_number}
+use Rattle.command_line.specs.Definition.{batch_bytes, batches, clients, generate, group_bytes, last, recover, replay, run, seed, shards, writepath}
+use Rattle.command_line.specs.Limits.{KeepsLimits, KeepsShards}
+use Rattle.command_line.specs.Meaning.{asked_by, asked_in, flag_in, is_taken, number_in, shards_in, shards_of, whole_number}
 use Rattle.command_line.specs.declared.asked.Asked.{Asked}
 use Rattle.command_line.specs.declared.asked.Asked.TheVariants.{Run, Recover, Replay, Generate}
-use Rattle.command_line.proofs.LeafWalks.{leaf, placed}
+use Rattle.command_line.proofs.Four.{four_of, some_of}
+use Rattle.command_line.proofs.LeafWalks.{leaf}
+use Rattle.command_line.proofs.Lists.{Each, find_holds}
+use Rattle.command_line.proofs.Options.{placed}
 use Rattle.command_line.proofs.RowValues.{AreOptions, IsSetOption, RowPasses, RowsPass, first_empty, walk_passes, walk_settles, with_values_pass}
 
 -- ---- a number that passed
@@ -71,122 +74,119 @@ number_in_range c id least most takes (r ∷ rows) pass n is =
     go true e says rest = row_in_range c id least most takes r pass.0 ((bytes_eq-Decides _ _).0 e) n says
     go false e says rest = rest says
 
--- ---- the options of the commands
-
-abbrev Each : {X : Type 0} → (X → Type 0) → List X → Type 0
-Each P [] = Unit {0}
-Each P (x ∷ xs) = P x × Each P xs
-
-find_holds : {X : Type 0} (P : X → Type 0) (p : X → Bool) (xs : List X) → Each P xs → (x : X) → find p xs ≡ Some x → P x
-find_holds P p [] all x e = cc
-find_holds P p (y ∷ xs) all x e = go (p y) e (find_holds P p xs all.1 x)
-  where
-    go : (b : Bool) → cond b (Some y) (find p xs) ≡ Some x → (find p xs ≡ Some x → P x) → P x
-    go true is rest = let same : y ≡ x = cc in subst P same all.0
-    go false is rest = rest is
-
-run_set : Each (IsSetOption (leaf run.top).rules) (leaf run.top).rules
-unfolding clap_on_literals
-run_set = (record { itself = refl; sets = inl refl }, (record { itself = refl; sets = inl refl }, (record { itself = refl; sets = inl refl }, tt)))
-
-run_are : AreOptions (leaf run.top).rules
-unfolding clap_on_literals
-run_are = record {
-  by_short = λ x. refl;
-  by_id = λ id a e. find_holds (IsSetOption (leaf run.top).rules) (λ (x : Rule). bytes_eq x.id id) (leaf run.top).rules run_set a e;
-  by_long = λ name a e. find_holds (IsSetOption (leaf run.top).rules) (λ (x : Rule). not (is_some x.index) && has_long x name) (leaf run.top).rules run_set a e;
-}
-
-replay_set : Each (IsSetOption (leaf replay.top).rules) (leaf replay.top).rules
-unfolding clap_on_literals
-replay_set =
-    (record { itself = refl; sets = inr refl }, (record { itself = refl; sets = inl refl }, (record { itself = refl; sets = inl refl }, (record { itself = refl; sets = inl refl }, tt))))
-
-replay_are : AreOptions (leaf replay.top).rules
-unfolding clap_on_literals
-replay_are = record {
-  by_short = λ x. refl;
-  by_id = λ id a e. find_holds (IsSetOption (leaf replay.top).rules) (λ (x : Rule). bytes_eq x.id id) (leaf replay.top).rules replay_set a e;
-  by_long = λ name a e. find_holds (IsSetOption (leaf replay.top).rules) (λ (x : Rule). not (is_some x.index) && has_long x name) (leaf replay.top).rules replay_set a e;
-}
-
-generate_set : Each (IsSetOption (leaf generate.top).rules) (leaf generate.top).rules
-unfolding clap_on_literals
-generate_set = (record { itself = refl; sets = inl refl }, (record { itself = refl; sets = inl refl }, (record { itself = refl; sets = inl refl }, tt)))
-
-generate_are : AreOptions (leaf generate.top).rules
-unfolding clap_on_literals
-generate_are = record {
-  by_short = λ x. refl;
-  by_id = λ id a e. find_holds (IsSetOption (leaf generate.top).rules) (λ (x : Rule). bytes_eq x.id id) (leaf generate.top).rules generate_set a e;
-  by_long = λ name a e. find_holds (IsSetOption (leaf generate.top).rules) (λ (x : Rule). not (is_some x.index) && has_long x name) (leaf generate.top).rules generate_set a e;
-}
-
 -- ---- the level of a command
 
-default_passes : (c : List Rule) (a : Rule) (value : Text) → IsSetOption c a → list_all (value_passes a) (value ∷ []) ≡ true → (rows : List Row) → RowsPass c rows
-    → RowsPass c (cond (has_row a.id rows) rows (with_values a.id (reading_by a) DefaultValue (value ∷ []) rows))
-default_passes c a value is pass rows p = go (has_row a.id rows)
+-- the argument is set by its last use, and its defaults pass
+record IsSound (c : List Rule) (a : Rule) : Type 0 where
+  is_set : IsSetOption c a
+  defaults : list_all (value_passes a) a.defaults ≡ true
+
+-- all arguments of the command are such, and have no short names
+record HasSound (s : Shape) : Type 0 where
+  all : Each (IsSound s.rules) s.rules
+  by_short : (x : ℕ) → arg_by_short s.rules x ≡ None
+  once : s.args_override_self ≡ false
+
+are_options : (s : Shape) → HasSound s → AreOptions s.rules
+are_options s has = record {
+  by_short = has.by_short;
+  by_id = λ id a e. (find_holds (IsSound s.rules) (λ (x : Rule). bytes_eq x.id id) s.rules has.all a e).is_set;
+  by_long = λ name a e. (find_holds (IsSound s.rules) (λ (x : Rule). not (is_some x.index) && has_long x name) s.rules has.all a e).is_set;
+}
+
+default_passes : (c : List Rule) (a : Rule) → IsSound c a → (rows : List Row) → RowsPass c rows → RowsPass c (with_default rows a)
+default_passes c a is rows p = go (has_row a.id rows) a.defaults is.defaults
   where
-    go : (b : Bool) → RowsPass c (cond b rows (with_values a.id (reading_by a) DefaultValue (value ∷ []) rows))
-    go true = p
-    go false = with_values_pass c a is DefaultValue (value ∷ []) pass rows p
+    go : (b : Bool) (values : List Text) → list_all (value_passes a) values ≡ true → RowsPass c (cond b rows (default_rows a.id (reading_by a) values rows))
+    go true values pass = p
+    go false [] pass = p
+    go false (v ∷ values) pass = with_values_pass c a is.is_set DefaultValue (v ∷ values) pass rows p
 
--- an argument without a default gets nothing
-no_default_passes : (c : List Rule) (has : Bool) (rows : List Row) → RowsPass c rows → RowsPass c (cond has rows rows)
-no_default_passes c true rows p = p
-no_default_passes c false rows p = p
+defaults_pass : (c rest : List Rule) → Each (IsSound c) rest → (rows : List Row) → RowsPass c rows → RowsPass c (fold with_default rows rest)
+defaults_pass c [] all rows p = p
+defaults_pass c (a ∷ rest) all rows p = defaults_pass c rest all.1 (with_default rows a) (default_passes c a all.0 rows p)
 
-settled_level : (s : Shape) → AreOptions s.rules → s.args_override_self ≡ false → (words : List Text) → level_fault s [] nothing_held words false [] ≡ []
-    → RowsPass s.rules (settled s.rules (walk s.rules [] nothing_held words).held).rows
-settled_level s are once words none =
+-- the rows of words that the level takes
+level_rows : (s : Shape) → HasSound s → (words : List Text) → level_fault s [] nothing_held words false [] ≡ [] → RowsPass s.rules (rows_after s.rules [] words)
+level_rows s has words none =
+    let are = are_options s has in
     let end = (walk s.rules [] nothing_held words).held in
     let walks = first_empty (walk_fault s [] (walk_from nothing_held) words)
     (or_else (settle_fault s.rules s.args_override_self end) (or_else (defaults_fault (settled s.rules end).rows s.rules) (check_fault s (finished s.rules end) false))) none in
     let settles = first_empty (settle_fault s.rules s.args_override_self end) (or_else (defaults_fault (settled s.rules end).rows s.rules) (check_fault s (finished s.rules end) false)) walks.1 in
-    walk_settles s are end (subst (λ (again : Bool). settle_fault s.rules again end ≡ []) once settles.0)
-    (walk_passes s are once words (walk_from nothing_held) walks.0 tt)
+    defaults_pass s.rules s.rules has.all (settled s.rules end).rows
+    (walk_settles s are end (subst (λ (again : Bool). settle_fault s.rules again end ≡ []) has.once settles.0)
+    (walk_passes s are has.once words (walk_from nothing_held) walks.0 tt))
 
-run_rows : (words : List Text) → level_fault (leaf run.top) [] nothing_held words false [] ≡ [] → RowsPass (leaf run.top).rules (rows_after (leaf run.top).rules [] words)
+run_sound : HasSound (leaf run.top)
 unfolding clap_on_literals
-run_rows words none =
-    let c = (leaf run.top).rules in
-    let first = (settled c (walk c [] nothing_held words).held).rows in
-    let second = with_default first (filled group_bytes) in
-    default_passes c (filled last) (codes "0") run_set.1.1.0 refl (with_default second (filled batch_bytes))
-    (default_passes c (filled batch_bytes) (codes "16777216") run_set.1.0 refl second
-    (default_passes c (filled group_bytes) (codes "1048576") run_set.0 refl first (settled_level (leaf run.top) run_are refl words none)))
+run_sound = record {
+  all = (
+    record { is_set = record { itself = refl; sets = inl refl }; defaults = refl },
+    (
+      record { is_set = record { itself = refl; sets = inl refl }; defaults = refl },
+      (
+        record { is_set = record { itself = refl; sets = inl refl }; defaults = refl },
+        (
+          record { is_set = record { itself = refl; sets = inl refl }; defaults = refl },
+          (record { is_set = record { itself = refl; sets = inl refl }; defaults = refl }, tt),
+        ),
+      ),
+    ),
+  );
+  by_short = λ x. refl;
+  once = refl;
+}
 
-replay_rows : (words : List Text) → level_fault (leaf replay.top) [] nothing_held words false [] ≡ [] → RowsPass (leaf replay.top).rules (rows_after (leaf replay.top).rules [] words)
+replay_sound : HasSound (leaf replay.top)
 unfolding clap_on_literals
-replay_rows words none =
-    let c = (leaf replay.top).rules in
-    let first = (settled c (walk c [] nothing_held words).held).rows in
-    let second = with_default first (filled pipelined) in
-    let third = with_default second (filled group_bytes) in
-    default_passes c (filled last) (codes "0") replay_set.1.1.1.0 refl (with_default third (filled batch_bytes))
-    (default_passes c (filled batch_bytes) (codes "16777216") replay_set.1.1.0 refl third
-    (default_passes c (filled group_bytes) (codes "1048576") replay_set.1.0 refl second
-    (default_passes c (filled pipelined) (codes "false") replay_set.0 refl first (settled_level (leaf replay.top) replay_are refl words none))))
+replay_sound = record {
+  all = (
+    record { is_set = record { itself = refl; sets = inr refl }; defaults = refl },
+    (
+      record { is_set = record { itself = refl; sets = inl refl }; defaults = refl },
+      (
+        record { is_set = record { itself = refl; sets = inl refl }; defaults = refl },
+        (record { is_set = record { itself = refl; sets = inl refl }; defaults = refl }, tt),
+      ),
+    ),
+  );
+  by_short = λ x. refl;
+  once = refl;
+}
 
-generate_rows : (words : List Text) → level_fault (leaf generate.top) [] nothing_held words false [] ≡ [] → RowsPass (leaf generate.top).rules (rows_after (leaf generate.top).rules [] words)
+generate_sound : HasSound (leaf generate.top)
 unfolding clap_on_literals
-generate_rows words none =
-    let c = (leaf generate.top).rules in
-    let first = (settled c (walk c [] nothing_held words).held).rows in
-    let second = with_default first (placed 1 seed) in
-    let third = with_default second (placed 2 clients) in
-    no_default_passes c (has_row (codes "BATCHES") third) third
-    (no_default_passes c (has_row (codes "CLIENTS") second) second
-    (no_default_passes c (has_row (codes "SEED") first) first (settled_level (leaf generate.top) generate_are refl words none)))
+generate_sound = record {
+  all = (
+    record { is_set = record { itself = refl; sets = inl refl }; defaults = refl },
+    (
+      record { is_set = record { itself = refl; sets = inl refl }; defaults = refl },
+      (
+        record { is_set = record { itself = refl; sets = inl refl }; defaults = refl },
+        (
+          record { is_set = record { itself = refl; sets = inl refl }; defaults = refl },
+          (record { is_set = record { itself = refl; sets = inl refl }; defaults = refl }, tt),
+        ),
+      ),
+    ),
+  );
+  by_short = λ x. refl;
+  once = refl;
+}
 
-pub some_of : {X Y : Type 0} (f : X → Option Y) (o : Option X) (y : Y) → option_and_then f o ≡ Some y → (x : X) × (o ≡ Some x) × (f x ≡ Some y)
-some_of f None y e = cc
-some_of f (Some x) y e = (x, refl, e)
+-- ---- what a command asks for
 
-pub mapped_of : {X Y : Type 0} (f : X → Y) (o : Option X) (y : Y) → option_map f o ≡ Some y → (x : X) × (o ≡ Some x) × (f x ≡ y)
-mapped_of f None y e = cc
-mapped_of f (Some x) y e = let is : f x ≡ y = cc in (x, refl, is)
+shards_in_range : (c : List Rule) → TakesNumbers c (codes "shards") 1 64 → (rows : List Row) → RowsPass c rows → (n : Option ℕ) → shards_in rows ≡ Some n → KeepsShards n
+shards_in_range c takes rows pass n is =
+    let k = some_of (λ (kind : Text). shards_of kind (number_in (codes "shards") rows)) (first_of (codes "table") rows) n is in
+    go (bytes_eq k.0 (codes "one")) (bytes_eq k.0 (codes "shards")) (number_in (codes "shards") rows) refl k.2
+  where
+    go : (a b : Bool) (number : Option ℕ) → number_in (codes "shards") rows ≡ number → cond a (Some None) (cond b (option_map (λ (m : ℕ). Some m) number) None) ≡ Some n → KeepsShards n
+    go true b number e says = let none : None ≡ n = cc in subst KeepsShards none tt
+    go false true (Some m) e says = let some : Some m ≡ n = cc in subst KeepsShards some (number_in_range c (codes "shards") 1 64 takes rows pass m e)
+    go false true None e says = cc
+    go false false number e says = cc
 
 -- what the command asks for, by words that its level takes, keeps the limits
 abbrev LevelKeeps : Shape → Type 0
@@ -196,15 +196,15 @@ run_keeps : LevelKeeps (leaf run.top)
 run_keeps words asked none is =
     let c = (leaf run.top).rules in
     let rows = rows_after c [] words in
-    let pass = run_rows words none in
-    let g = some_of (λ (k : ℕ). option_and_then (λ (m : ℕ). option_map (λ (n : ℕ). Run k m n) (number_in (codes "last") rows)) (number_in (codes "batch-bytes") rows)) (number_in (codes "group-bytes") rows) asked is in
-    let b = some_of (λ (m : ℕ). option_map (λ (n : ℕ). Run g.0 m n) (number_in (codes "last") rows)) (number_in (codes "batch-bytes") rows) asked g.2 in
-    let l = mapped_of (λ (n : ℕ). Run g.0 b.0 n) (number_in (codes "last") rows) asked b.2 in
-    let in_g = number_in_range c (codes "group-bytes") 1 16777216 (record { rule = filled group_bytes; found = refl; reads = refl; tests = λ text. refl }) rows pass g.0 g.1 in
-    let in_b = number_in_range c (codes "batch-bytes") 12 16777216 (record { rule = filled batch_bytes; found = refl; reads = refl; tests = λ text. refl }) rows pass b.0 b.1 in
-    let in_l = number_in_range c (codes "last") 0 72057594037927935 (record { rule = filled last; found = refl; reads = refl; tests = λ text. refl }) rows pass l.0 l.1 in
-    let below : l.0 < 2 ^ 56 = omega (arith, in_l.1) in
-    subst KeepsLimits {x = Run g.0 b.0 l.0} l.2 (in_g.0, in_g.1, in_b.0, in_b.1, below)
+    let pass = level_rows (leaf run.top) run_sound words none in
+    let make = λ (k : Option ℕ) (g : ℕ) (b : ℕ) (l : ℕ). Run k g b l in
+    let has = four_of make (shards_in rows) (number_in (codes "group-bytes") rows) (number_in (codes "batch-bytes") rows) (number_in (codes "last") rows) asked is in
+    let in_k = shards_in_range c (record { rule = filled shards; found = refl; reads = refl; tests = λ text. refl }) rows pass has.0 has.4 in
+    let in_g = number_in_range c (codes "group-bytes") 1 16777216 (record { rule = filled group_bytes; found = refl; reads = refl; tests = λ text. refl }) rows pass has.1 has.5 in
+    let in_b = number_in_range c (codes "batch-bytes") 12 16777216 (record { rule = filled batch_bytes; found = refl; reads = refl; tests = λ text. refl }) rows pass has.2 has.6 in
+    let in_l = number_in_range c (codes "last") 0 72057594037927935 (record { rule = filled last; found = refl; reads = refl; tests = λ text. refl }) rows pass has.3 has.7 in
+    let below : has.3 < 2 ^ 56 = omega (arith, in_l.1) in
+    subst KeepsLimits {x = Run has.0 has.1 has.2 has.3} has.8 (in_k, in_g.0, in_g.1, in_b.0, in_b.1, below)
 
 recover_keeps : LevelKeeps (leaf recover.top)
 recover_keeps words asked none is =
@@ -216,30 +216,28 @@ replay_keeps : LevelKeeps (leaf replay.top)
 replay_keeps words asked none is =
     let c = (leaf replay.top).rules in
     let rows = rows_after c [] words in
-    let pass = replay_rows words none in
-    let f = some_of (λ (p : Bool). option_and_then (λ (k : ℕ). option_and_then (λ (m : ℕ). option_map (λ (n : ℕ). Replay p k m n) (number_in (codes "last") rows)) (number_in (codes "batch-bytes") rows)) (number_in (codes "group-bytes") rows)) (flag_in (codes "pipelined") rows) asked is in
-    let g = some_of (λ (k : ℕ). option_and_then (λ (m : ℕ). option_map (λ (n : ℕ). Replay f.0 k m n) (number_in (codes "last") rows)) (number_in (codes "batch-bytes") rows)) (number_in (codes "group-bytes") rows) asked f.2 in
-    let b = some_of (λ (m : ℕ). option_map (λ (n : ℕ). Replay f.0 g.0 m n) (number_in (codes "last") rows)) (number_in (codes "batch-bytes") rows) asked g.2 in
-    let l = mapped_of (λ (n : ℕ). Replay f.0 g.0 b.0 n) (number_in (codes "last") rows) asked b.2 in
-    let in_g = number_in_range c (codes "group-bytes") 1 16777216 (record { rule = filled group_bytes; found = refl; reads = refl; tests = λ text. refl }) rows pass g.0 g.1 in
-    let in_b = number_in_range c (codes "batch-bytes") 12 16777216 (record { rule = filled batch_bytes; found = refl; reads = refl; tests = λ text. refl }) rows pass b.0 b.1 in
-    let in_l = number_in_range c (codes "last") 0 72057594037927935 (record { rule = filled last; found = refl; reads = refl; tests = λ text. refl }) rows pass l.0 l.1 in
-    let below : l.0 < 2 ^ 56 = omega (arith, in_l.1) in
-    subst KeepsLimits {x = Replay f.0 g.0 b.0 l.0} l.2 (in_g.0, in_g.1, in_b.0, in_b.1, below)
+    let pass = level_rows (leaf replay.top) replay_sound words none in
+    let make = λ (p : Bool) (g : ℕ) (b : ℕ) (l : ℕ). Replay p g b l in
+    let has = four_of make (flag_in (codes "pipelined") rows) (number_in (codes "group-bytes") rows) (number_in (codes "batch-bytes") rows) (number_in (codes "last") rows) asked is in
+    let in_g = number_in_range c (codes "group-bytes") 1 16777216 (record { rule = filled group_bytes; found = refl; reads = refl; tests = λ text. refl }) rows pass has.1 has.5 in
+    let in_b = number_in_range c (codes "batch-bytes") 12 16777216 (record { rule = filled batch_bytes; found = refl; reads = refl; tests = λ text. refl }) rows pass has.2 has.6 in
+    let in_l = number_in_range c (codes "last") 0 72057594037927935 (record { rule = filled last; found = refl; reads = refl; tests = λ text. refl }) rows pass has.3 has.7 in
+    let below : has.3 < 2 ^ 56 = omega (arith, in_l.1) in
+    subst KeepsLimits {x = Replay has.0 has.1 has.2 has.3} has.8 (in_g.0, in_g.1, in_b.0, in_b.1, below)
 
 generate_keeps : LevelKeeps (leaf generate.top)
 generate_keeps words asked none is =
     let c = (leaf generate.top).rules in
     let rows = rows_after c [] words in
-    let pass = generate_rows words none in
-    let s = some_of (λ (k : ℕ). option_and_then (λ (m : ℕ). option_map (λ (n : ℕ). Generate k m n) (number_in (codes "BATCHES") rows)) (number_in (codes "CLIENTS") rows)) (number_in (codes "SEED") rows) asked is in
-    let m = some_of (λ (m : ℕ). option_map (λ (n : ℕ). Generate s.0 m n) (number_in (codes "BATCHES") rows)) (number_in (codes "CLIENTS") rows) asked s.2 in
-    let b = mapped_of (λ (n : ℕ). Generate s.0 m.0 n) (number_in (codes "BATCHES") rows) asked m.2 in
-    let in_s = number_in_range c (codes "SEED") 0 2147483647 (record { rule = placed 1 seed; found = refl; reads = refl; tests = λ text. refl }) rows pass s.0 s.1 in
-    let in_m = number_in_range c (codes "CLIENTS") 1 16 (record { rule = placed 2 clients; found = refl; reads = refl; tests = λ text. refl }) rows pass m.0 m.1 in
-    let in_b = number_in_range c (codes "BATCHES") 1 100000 (record { rule = placed 3 batches; found = refl; reads = refl; tests = λ text. refl }) rows pass b.0 b.1 in
-    let below : s.0 < 2 ^ 31 = omega (arith, in_s.1) in
-    subst KeepsLimits {x = Generate s.0 m.0 b.0} b.2 (below, in_m.0, in_m.1, in_b.0, in_b.1)
+    let pass = level_rows (leaf generate.top) generate_sound words none in
+    let make = λ (k : Option ℕ) (s : ℕ) (m : ℕ) (b : ℕ). Generate k s m b in
+    let has = four_of make (shards_in rows) (number_in (codes "SEED") rows) (number_in (codes "CLIENTS") rows) (number_in (codes "BATCHES") rows) asked is in
+    let in_k = shards_in_range c (record { rule = filled shards; found = refl; reads = refl; tests = λ text. refl }) rows pass has.0 has.4 in
+    let in_s = number_in_range c (codes "SEED") 0 2147483647 (record { rule = placed 1 seed; found = refl; reads = refl; tests = λ text. refl }) rows pass has.1 has.5 in
+    let in_m = number_in_range c (codes "CLIENTS") 1 16 (record { rule = placed 2 clients; found = refl; reads = refl; tests = λ text. refl }) rows pass has.2 has.6 in
+    let in_b = number_in_range c (codes "BATCHES") 1 100000 (record { rule = placed 3 batches; found = refl; reads = refl; tests = λ text. refl }) rows pass has.3 has.7 in
+    let below : has.1 < 2 ^ 31 = omega (arith, in_s.1) in
+    subst KeepsLimits {x = Generate has.0 has.1 has.2 has.3} has.8 (in_k, below, in_m.0, in_m.1, in_b.0, in_b.1)
 
 commands_keep : Each LevelKeeps (built writepath).subs
 unfolding clap_on_literals

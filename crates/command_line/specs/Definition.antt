@@ -17,6 +17,14 @@ number_word name least most = record (new_rule name) { required = true; parser =
 abbrev pub flag : Text → Rule
 flag name = record (new_rule name) { long = Some name; action = Some SetTrue }
 
+-- what the table is made of: `one` tree under one lock, or trees in `shards`. The matches may have any word for it
+abbrev pub table : Rule
+table = record (new_rule (codes "table")) { long = Some (codes "table"); defaults = codes "one" ∷ [] }
+
+-- how many shards the table has, where it is in shards
+abbrev pub shards : Rule
+shards = number_option (codes "shards") 1 64 (codes "16")
+
 -- whether the log is handed on before a group is inserted
 abbrev pub pipelined : Rule
 pipelined = flag (codes "pipelined")
@@ -46,7 +54,8 @@ batches = number_word (codes "BATCHES") 1 100000
 -- the commands, with their options
 
 abbrev pub run : App
-run = with_rule (with_rule (with_rule (new_app (codes "run")) group_bytes) batch_bytes) last
+run = with_rule (with_rule (with_rule (with_rule (with_rule (new_app (codes "run")) table) shards) group_bytes)
+    batch_bytes) last
 
 abbrev pub recover : App
 recover = new_app (codes "recover")
@@ -55,7 +64,8 @@ abbrev pub replay : App
 replay = with_rule (with_rule (with_rule (with_rule (new_app (codes "replay")) pipelined) group_bytes) batch_bytes) last
 
 abbrev pub generate : App
-generate = with_rule (with_rule (with_rule (new_app (codes "gen")) seed) clients) batches
+generate = with_rule (with_rule (with_rule (with_rule (with_rule (new_app (codes "gen")) table) shards) seed) clients)
+    batches
 
 -- the program, which wants a command, and has no help
 abbrev pub program : App

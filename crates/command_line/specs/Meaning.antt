@@ -2,7 +2,7 @@
 use Rattle.std.specs.Prelude.{ℕ, ◌^◌, ◌&&◌, Bool, true, false, List, [], ◌∷◌, Option, Some, None, String, string_bytes, map, codes, bytes_eq, nat_lt, if◌then◌else◌, option_and_then, option_map}
 use Rattle.std.specs.Str.Parse.{digits_value, without_leading_plus}
 use Rattle.std.specs.declared.alloc.Global.{Global}
-use Rattle.clap.specs.Words.{Kinds, Row, Text, fault_of, one_of, subcommand_of}
+use Rattle.clap.specs.Words.{Kinds, Row, Text, fault_of, first_of, one_of, subcommand_of}
 use Rattle.clap.specs.ValueTests.{is_numeral}
 use Rattle.clap.specs.declared.error.kind.ErrorKind.{ErrorKind}
 use Rattle.clap.specs.declared.error.kind.ErrorKind.TheVariants.{OutOfMemory}
@@ -36,12 +36,22 @@ bool_of text = if bytes_eq text (codes "true") then Some true
 abbrev pub flag_in : Text → List Row → Option Bool
 flag_in id rows = option_and_then bool_of (one_of id rows)
 
+-- how many shards a table of this kind has, by the number that the matches have for them; none where it is one tree
+abbrev pub shards_of : Text → Option ℕ → Option (Option ℕ)
+shards_of kind shards = if bytes_eq kind (codes "one") then Some None
+    else if bytes_eq kind (codes "shards") then option_map (λ n. Some n) shards else None
+
+abbrev pub shards_in : List Row → Option (Option ℕ)
+shards_in rows =
+    option_and_then (λ kind. shards_of kind (number_in (codes "shards") rows)) (first_of (codes "table") rows)
+
 -- what `run` asks for, by its matches
 abbrev pub run_by : List Row → Option Asked
 run_by rows =
-    option_and_then (λ group_bytes. option_and_then
-    (λ batch_bytes. option_map (λ last. Run group_bytes batch_bytes last)
-    (number_in (codes "last") rows)) (number_in (codes "batch-bytes") rows)) (number_in (codes "group-bytes") rows)
+    option_and_then (λ shards. option_and_then (λ group_bytes. option_and_then
+    (λ batch_bytes. option_map (λ last. Run shards group_bytes batch_bytes last)
+    (number_in (codes "last") rows)) (number_in (codes "batch-bytes") rows)) (number_in (codes "group-bytes") rows))
+    (shards_in rows)
 
 -- and `replay`
 abbrev pub replay_by : List Row → Option Asked
@@ -54,9 +64,10 @@ replay_by rows =
 -- and `gen`
 abbrev pub generate_by : List Row → Option Asked
 generate_by rows =
-    option_and_then (λ seed. option_and_then
-    (λ clients. option_map (λ batches. Generate seed clients batches)
-    (number_in (codes "BATCHES") rows)) (number_in (codes "CLIENTS") rows)) (number_in (codes "SEED") rows)
+    option_and_then (λ shards. option_and_then (λ seed. option_and_then
+    (λ clients. option_map (λ batches. Generate shards seed clients batches)
+    (number_in (codes "BATCHES") rows)) (number_in (codes "CLIENTS") rows)) (number_in (codes "SEED") rows))
+    (shards_in rows)
 
 -- what a command and its matches ask for
 abbrev pub asked_by : Text → List Row → Option Asked

@@ -1,7 +1,7 @@
 //! What the words of a call ask for.
 
-ghost use Rattle.std.specs.Prelude.{◌≡◌, IfOk, Some, None, Err};
-ghost use Rattle.clap.specs.Words.{found_of, kind_of, rows_of};
+ghost use Rattle.std.specs.Prelude.{◌≡◌, IfOk, Some, None, Err, option_map};
+ghost use Rattle.clap.specs.Words.{first_of, found_of, kind_of, rows_of};
 ghost use Rattle.command_line.specs.declared.asked.WordsError.TheVariants.{NoMemory};
 ghost use Rattle.command_line.specs.Limits.{KeepsLimits};
 ghost use Rattle.command_line.specs.Meaning as meaning;
@@ -18,6 +18,8 @@ use thiserror::Error;
 pub enum Asked {
     /// To run a script.
     Run {
+        /// How many shards the table has; none where it is one tree under one lock.
+        shards: Option<u64>,
         /// The most bytes of a write group.
         group_bytes: u64,
         /// The most bytes of a batch.
@@ -40,6 +42,8 @@ pub enum Asked {
     },
     /// To make a script.
     Generate {
+        /// How many shards the table has; none where it is one tree under one lock.
+        shards: Option<u64>,
         /// What its numbers are drawn from.
         seed: u64,
         /// How many clients it has.
@@ -106,6 +110,7 @@ fn run_by(options: &ArgMatches) -> Option<Asked>
     ensures { result ≡ meaning.run_by (rows_of (found_of options.now)) }
 {
     Some(Asked::Run {
+        shards: shards_in(options)?,
         group_bytes: number_in("group-bytes", options)?,
         batch_bytes: number_in("batch-bytes", options)?,
         last: number_in("last", options)?,
@@ -127,10 +132,36 @@ fn generate_by(options: &ArgMatches) -> Option<Asked>
     ensures { result ≡ meaning.generate_by (rows_of (found_of options.now)) }
 {
     Some(Asked::Generate {
+        shards: shards_in(options)?,
         seed: number_in("SEED", options)?,
         clients: number_in("CLIENTS", options)?,
         batches: number_in("BATCHES", options)?,
     })
+}
+
+/// How many shards the table has, by the matches; none where it is one tree.
+fn shards_in(options: &ArgMatches) -> Option<Option<u64>>
+    ensures { result ≡ meaning.shards_in (rows_of (found_of options.now)) }
+{
+    shards_of(text_in("table", options)?, number_in("shards", options))
+}
+
+/// How many shards a table of this kind has, by the number that the matches have for them.
+fn shards_of(kind: &str, shards: Option<u64>) -> Option<Option<u64>>
+    ensures { result ≡ meaning.shards_of kind.now shards }
+{
+    match kind {
+        "one" => Some(None),
+        "shards" => Some(Some(shards?)),
+        _ => None,
+    }
+}
+
+/// The text that the matches have for an option.
+fn text_in<'a>(id: &str, options: &ArgMatches<'a>) -> Option<&'a str>
+    ensures { option_map (λ s. s.now) result ≡ first_of id.now (rows_of (found_of options.now)) }
+{
+    options.get_str(id)
 }
 
 /// Whether the matches have a flag.

@@ -35,6 +35,8 @@ fn run<'a>(alloc: Global) -> Result<Command<'a>, AllocError>
     ensures local { IfOk result (λ command. (out-Command command).has_globals ≡ false) }
 {
     Command::new(alloc, "run")
+        .arg(table(alloc))?
+        .arg(shards(alloc))?
         .arg(group_bytes(alloc))?
         .arg(batch_bytes(alloc))?
         .arg(last(alloc))
@@ -63,9 +65,27 @@ fn generate<'a>(alloc: Global) -> Result<Command<'a>, AllocError>
     ensures local { IfOk result (λ command. (out-Command command).has_globals ≡ false) }
 {
     Command::new(alloc, "gen")
+        .arg(table(alloc))?
+        .arg(shards(alloc))?
         .arg(number_word(alloc, "SEED", 0, 2147483647))?
         .arg(number_word(alloc, "CLIENTS", 1, 16))?
         .arg(number_word(alloc, "BATCHES", 1, 100000))
+}
+
+/// What the table is made of: `one` tree under one lock, or trees in `shards`. The matches may have any word for it.
+fn table<'a>(alloc: Global) -> Arg<'a>
+    ensures rule { rule_of result ≡ clap_words.table }
+    ensures local { result.global ≡ false }
+{
+    Arg::new(alloc, "table").long("table").default_value("one")
+}
+
+/// How many shards the table has, where it is in shards.
+fn shards<'a>(alloc: Global) -> Arg<'a>
+    ensures rule { rule_of result ≡ clap_words.shards }
+    ensures local { result.global ≡ false }
+{
+    number_option(alloc, "shards", 1, 64, "16")
 }
 
 /// Whether the log is handed on before a group is inserted.

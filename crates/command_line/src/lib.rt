@@ -1,4 +1,4 @@
-//! The words of a call, read with `clap`: the program's name, and a command with its options or its numbers.
+//! The words of a call, read with `clap`: the program's name, a command with its options, and the numbers of `gen`.
 #![tactic(auto)]
 
 mod asked;
@@ -6,7 +6,4 @@ mod definition;
 mod laws;
 
 pub use asked::{Asked, WordsError, read_words};
-pub use laws::{lawful_words, words_that_ask, words_that_do_not_ask};
-
-#[cfg(test)]
-mod tests;
+pub use laws::{lawful_words, words_that_are_lawful, words_that_ask, words_that_do_not_ask};

@@ -7,6 +7,3 @@ mod reading;
 
 pub use maps::{batch_lines, map, map_at};
 pub use reading::MapUpTo;
-
-#[cfg(test)]
-mod tests;

@@ -13,7 +13,8 @@ use Rattle.wp_model.specs.Progress.{early_refusal}
 use Rattle.account_model.specs.Accounts.{Account, Keeps, Refuses, IsRefusedLate}
 use Rattle.account_model.specs.Closing.{AreOurs}
 use Rattle.group_engine.specs.Clients.{account_in}
-use Rattle.engine_tests.specs.Callers.{table_opening, table_ours, table_account, Path, Member, Members, MayCall, IsCaller, AllMayCall, AreAll}
+use Rattle.memory_engine.specs.Tables.{opening_of, account_of, IsOurs}
+use Rattle.engine_tests.specs.Callers.{Path, Member, Members, MayCall, IsCaller, AllMayCall, AreAll}
 
 -- a client that is refused keeps its number
 pub refused_number : (s : Settings) (v : Account) (rs : List Record) (how : WriteOptions) (why : Refusal) (w : Account) → Refuses s v rs how why w → w.number ≡ v.number
@@ -29,10 +30,10 @@ whole_slice n new old count = subst (λ k. take k (new ++ drop (length new) old)
 
 module _ {D : Type 0} {ghosts : Ghosts D} (e : Path D ghosts) where
   -- all clients of the engine may call
-  pub from_ours : (n : ℕ) (cs : List (Member D ghosts)) → AreOurs (MayCall e) (account_in table_opening table_ours table_account) n cs → AllMayCall e cs
+  pub from_ours : (n : ℕ) (cs : List (Member D ghosts)) → AreOurs (MayCall e) (account_in opening_of IsOurs account_of) n cs → AllMayCall e cs
   from_ours n cs ours = record { each = λ i d lt. let h = ours.each i _ (slice_get-get_or cs i d lt) in record { belongs = h.0; number = h.1 } }
 
-  pub to_ours : (n : ℕ) (cs : List (Member D ghosts)) → AllMayCall e cs → length cs ≡ n → AreOurs (MayCall e) (account_in table_opening table_ours table_account) n cs
+  pub to_ours : (n : ℕ) (cs : List (Member D ghosts)) → AllMayCall e cs → length cs ≡ n → AreOurs (MayCall e) (account_in opening_of IsOurs account_of) n cs
   to_ours n cs all len = record {
     number_of = len;
     each = λ i c at. let h = subst (IsCaller e (i + 1)) (get_or_from_slice_get cs i c c at) (all.each i c (slice_get_within cs i c at)) in (h.belongs, h.number);

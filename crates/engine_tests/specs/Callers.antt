@@ -3,14 +3,8 @@ use Rattle.std.specs.Prelude.{◌≡◌, ℕ, ◌+◌, ◌<◌, List, length, sl
 use Rattle.wp_edge.specs.declared.disk.Disk.{Ghosts}
 use Rattle.wp_edge.specs.declared.stepped_clock.SteppedClock.{SteppedClock}
 use Rattle.mem_table.specs.declared.node.Nodes.{Nodes}
-use Rattle.mem_table.specs.declared.tree.Tree.{Tree}
-use Rattle.table_calls.specs.Account.{Account as TableAccount}
-use Rattle.table_rule.specs.declared.view.Opening.{Opening}
-use Rattle.table_steps.specs.declared.seat.TableSeat.{TableSeat}
-use Rattle.table_steps.specs.declared.launching.Turn.{Turn}
-use Rattle.table_steps.specs.Accounts.{account}
-use Rattle.one_table.specs.Meaning.{opening_of, IsOurs}
 use Rattle.memory_engine.specs.declared.memory_table.MemoryTable.{MemoryTable}
+use Rattle.memory_engine.specs.Tables.{Seat, Turn, opening_of, account_of, IsOurs}
 use Rattle.writer_list.specs.Seats.{clients_of}
 use Rattle.engine_calls.specs.declared.engine.Clients.{Clients}
 use Rattle.engine_calls.specs.declared.gate.OpenGate.{OpenGate}
@@ -19,36 +13,24 @@ use Rattle.group_engine.specs.declared.engine.Client.{Client}
 use Rattle.group_engine.specs.declared.engine.Room.{Room}
 use Rattle.group_engine.specs.Clients.{IsClientOf, HasRoomToClose, account_in}
 
-abbrev pub table_opening : MemoryTable → Opening
-table_opening t = opening_of t.one
-
-abbrev pub Seat : Type 0
-Seat = TableSeat Tree Nodes
-
-abbrev pub table_ours : MemoryTable → Seat → Type 0
-table_ours t s = IsOurs t.one s
-
-abbrev pub table_account : Seat → TableAccount
-table_account s = account s
-
 -- an engine over a disk, one of its clients, and all of them
 abbrev pub Path : (D : Type 0) → Ghosts D → Type 0
-Path D ghosts = GroupEngine D MemoryTable SteppedClock OpenGate Seat (Turn Tree Nodes) Nodes ghosts
+Path D ghosts = GroupEngine D MemoryTable SteppedClock OpenGate Seat Turn Nodes ghosts
 
 abbrev pub Member : (D : Type 0) → Ghosts D → Type 0
-Member D ghosts = Client D MemoryTable SteppedClock Seat (Turn Tree Nodes) Nodes ghosts
+Member D ghosts = Client D MemoryTable SteppedClock Seat Turn Nodes ghosts
 
 abbrev pub Members : (D : Type 0) → Ghosts D → Type 0
-Members D ghosts = Clients (Member D ghosts) (Room D MemoryTable SteppedClock Seat (Turn Tree Nodes) Nodes ghosts)
+Members D ghosts = Clients (Member D ghosts) (Room D MemoryTable SteppedClock Seat Turn Nodes ghosts)
 
 module _ {D : Type 0} {ghosts : Ghosts D} where
   -- the number of a client's account
   abbrev pub number_of : Member D ghosts → ℕ
-  number_of c = (account_in table_opening table_ours table_account c).number
+  number_of c = (account_in opening_of IsOurs account_of c).number
 
   -- it is one of the engine's clients, between two of its calls
   abbrev pub MayCall : Path D ghosts → Member D ghosts → Type 0
-  MayCall e c = IsClientOf table_opening table_ours table_account e c
+  MayCall e c = IsClientOf opening_of IsOurs account_of e c
 
   -- it is the engine's client of this number, between two of its calls
   pub record IsCaller (e : Path D ghosts) (n : ℕ) (c : Member D ghosts) : Type 0 where

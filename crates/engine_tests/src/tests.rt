@@ -2,12 +2,14 @@
 
 ghost use Rattle.std.specs.Prelude.{◌<◌, ◌≤◌};
 ghost use Rattle.wp_model.specs.History.{max_sequence};
+ghost use Rattle.memory_engine.specs.Tables.{HasShards};
 
 mod playing;
 mod tokens;
 
 use crate::script::{Note, Step};
 use client_calls::Options;
+use memory_engine::TableKind;
 use playing::{closed, opened, play_at_once};
 use std::alloc::Global;
 use std::process::Abort;
@@ -42,8 +44,8 @@ struct Outcome {
     last: u64,
 }
 
-// Opens an engine with a client for each script, lets all play at once, and closes it. The disk has much room, and its
-// calls with a number in the list fail.
+// Opens an engine with a client for each script, lets all play at once, and closes it. Its table has one tree. The disk
+// has much room, and its calls with a number in the list fail.
 fn ended<R: Threads + Wait + Abort + Sync>(
     rt: &R,
     alloc: Global,
@@ -53,6 +55,21 @@ fn ended<R: Threads + Wait + Abort + Sync>(
 ) -> Outcome
     requires { (options.last ≤ max_sequence) × (options.batch_bytes ≤ 16777216) }
 {
+    ended_over(rt, alloc, fails, options, TableKind::One, scripts)
+}
+
+// The same over a table of any kind.
+fn ended_over<R: Threads + Wait + Abort + Sync>(
+    rt: &R,
+    alloc: Global,
+    fails: &[u64],
+    options: Options,
+    kind: TableKind,
+    scripts: &[Vec<Step>],
+) -> Outcome
+    requires options { (options.last ≤ max_sequence) × (options.batch_bytes ≤ 16777216) }
+    requires kind { HasShards kind }
+{
     let count = scripts.len();
     assert!(rt; 0 < count && count <= 16);
     let mut shared = Vec::with_capacity(alloc, count).expect(rt, "memory");
@@ -61,7 +78,7 @@ fn ended<R: Threads + Wait + Abort + Sync>(
             .push(Mutex::new(Vec::new(alloc)))
             .expect(rt, "memory");
     }
-    let (engine, mut all) = opened(rt, alloc, 65536, fails, count as u32, options);
+    let (engine, mut all) = opened(rt, alloc, 65536, fails, count as u32, options, kind);
     play_at_once(
         rt,
         alloc,
@@ -300,26 +317,35 @@ fn check_read(rt: &impl Abort, owner: &[usize; 33], read: &Read) {
     assert_eq!(rt; found.as_slice(), *name);
 }
 
-#[test]
-fn no_read_sees_one_key_without_the_other(rt: HostRuntime) {
-    let alloc = rt.alloc();
-    let mut scripts = Vec::with_capacity(alloc, 4).expect(&rt, "memory");
+// Four clients write both keys and read them, over a table of any kind.
+fn write_and_read_both<R: Threads + Wait + Abort + Sync>(rt: &R, alloc: Global, kind: TableKind)
+    requires { HasShards kind }
+{
+    let mut scripts = Vec::with_capacity(alloc, 4).expect(rt, "memory");
     for client in 0..4 {
         scripts
-            .push(writes_and_reads(&rt, alloc, client))
-            .expect(&rt, "memory");
+            .push(writes_and_reads(rt, alloc, client))
+            .expect(rt, "memory");
     }
-    let ended = ended(&rt, alloc, &[], OPTIONS, &scripts);
+    let ended = ended_over(rt, alloc, &[], OPTIONS, kind, &scripts);
     assert_eq!(rt; (ended.last, ended.fault), (32, None));
-    let owner = owners(&rt, &ended.notes);
+    let owner = owners(rt, &ended.notes);
     for told in &ended.notes {
         assert_eq!(rt; told.len(), 12);
         for note in told {
             if let Note::Saw(read) = note {
-                check_read(&rt, &owner, read);
+                check_read(rt, &owner, read);
             }
         }
     }
+}
+
+// Of three shards, the keys are in the first and in the last.
+#[test]
+fn no_read_sees_one_key_without_the_other(rt: HostRuntime) {
+    let alloc = rt.alloc();
+    write_and_read_both(&rt, alloc, TableKind::One);
+    write_and_read_both(&rt, alloc, TableKind::Shards(3));
 }
 
 const SYNCED: WriteOptions = WriteOptions {

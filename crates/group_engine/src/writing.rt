@@ -162,7 +162,24 @@ impl<D: Disk, T: Table<Nodes, Parts>, C: Clock + Drop, G: Gate + Drop> GroupEngi
         self.gate.linked(client.number);
         match self.list.await_role(rt, &mut client.writer) {
             Role::Done(reply) => reply,
-            Role::LogLeader(held) => self.lead(rt, client, held),
+            Role::LogLeader(held) => {
+                let_others_link(item.sync);
+                self.lead(rt, client, held)
+            }
+        }
+    }
+}
+
+/// How many times a leader pauses before it closes a group that is to be synced.
+const PAUSES: u32 = 12;
+
+/// Lets those link who were told their replies a moment ago, where the leader's batch is to be synced: a sync takes no
+/// longer for more batches.
+fn let_others_link(sync: bool) {
+    if sync {
+        let backoff = Backoff::new();
+        for _ in 0..PAUSES {
+            backoff.snooze();
         }
     }
 }

@@ -1,6 +1,6 @@
 //! The nodes of a batch.
 
-ghost use Rattle.std.specs.Prelude.{◌≡◌, ◌∷◌, ◌++◌, ◌+◌, ◌<◌, ◌≤◌, ◌^◌, [], length, reverse, IfOk, MatchOption};
+ghost use Rattle.std.specs.Prelude.{◌≡◌, List, ◌∷◌, ◌++◌, ◌+◌, ◌<◌, ◌≤◌, ◌^◌, [], length, reverse, IfOk, MatchOption};
 ghost use Rattle.std.specs.Option.{option_copied, option_map, option_to_list};
 ghost use Rattle.write_batch.specs.View.{record_of};
 ghost use Rattle.mem_table.specs.Nodes.{version_of};
@@ -55,6 +55,17 @@ impl Nodes {
         Some(node)
     }
 
+    /// The key of the first one.
+    pub fn first_key(&self) -> Option<&[u8]>
+        ensures { MatchOption result (self.now ≡ []) (λ key. (v : Version) × (more : List Version)
+            × (self.now ≡ v ∷ more) × (v.key ≡ key.now)) }
+    {
+        match &self.first {
+            Some(node) => Some(node.key.as_slice()),
+            None => None,
+        }
+    }
+
     /// How many there are.
     pub fn len(&self) -> u64
         requires { length self.now < 2 ^ 64 }
@@ -81,8 +92,8 @@ impl Nodes {
         *self = all;
     }
 
-    /// No nodes.
-    fn new() -> Nodes
+    /// No nodes. This takes no memory.
+    pub fn new() -> Nodes
         ensures { result ≡ [] }
     {
         Nodes { first: None }
@@ -116,7 +127,7 @@ impl Nodes {
     }
 
     /// Puts a node before them.
-    pub(crate) fn push_front(&mut self, mut node: Box<Node>)
+    pub fn push_front(&mut self, mut node: Box<Node>)
         ensures { self.new ≡ version_of node.value ∷ self.old }
     {
         node.left = Subtree::new();
@@ -126,7 +137,7 @@ impl Nodes {
     }
 
     /// The last one first.
-    fn reversed(mut self) -> Nodes
+    pub fn reversed(mut self) -> Nodes
         ensures { result ≡ reverse self }
     {
         let mut turned = Nodes::new();

@@ -88,48 +88,68 @@ fn reads_what_was_there_at_a_sequence(rt: HostRuntime) -> Result<(), Fail> {
     Ok(())
 }
 
-#[test]
-fn agrees_with_a_plain_list(rt: HostRuntime) -> Result<(), Fail> {
-    let alloc = rt.alloc();
-    let mut tree = Tree::new();
+// Inserts random versions of few keys, and says what they were, in order.
+fn fill(alloc: Global, tree: &mut Tree) -> Result<Vec<(u16, Option<u8>)>, NoMemory>
+    requires { AreBelow 0 (versions_in tree.old) }
+{
     let mut history = Vec::new(alloc);
     let mut state = 1;
     for sequence in 0..VERSIONS {
         state = next_random(state);
         let key = ((state >> 33) % u64::from(KEYS)) as u16;
-        let value = ((state >> 50) % 256) as u8;
-        let value = if value < 64 { None } else { Some(value) };
-        match value {
-            Some(value) => put(
-                &mut tree,
-                alloc,
-                sequence,
-                &key.to_be_bytes(),
-                Some(&[value]),
-            )?,
-            None => put(&mut tree, alloc, sequence, &key.to_be_bytes(), None)?,
-        }
+        let byte = [((state >> 50) % 256) as u8];
+        let value = if byte[0] < 64 { None } else { Some(byte[0]) };
+        let bytes = if value.is_some() {
+            Some(byte.as_slice())
+        } else {
+            None
+        };
+        put(tree, alloc, sequence, &key.to_be_bytes(), bytes)?;
         history.push((key, value))?;
     }
-    for at in [0, 1, 700, 1500, 2999] {
-        let rows = tree.range(alloc, &[0, 0], &KEYS.to_be_bytes(), at as u64)?;
-        let mut rows = rows.rows.as_slice().iter();
-        for key in 0..KEYS {
-            let bytes = key.to_be_bytes();
-            let found = tree.lookup(&bytes, at as u64);
-            match last_of(history.get(..=at).ok_or("short")?, key) {
-                Some(value) => {
-                    assert_eq!(rt; found, Some([value].as_slice()));
-                    let (row, said) = rows.next().ok_or("no row")?;
-                    assert_eq!(rt;
-                        (row.as_slice(), said.as_slice()),
-                        (bytes.as_slice(), [value].as_slice())
-                    );
-                }
-                None => assert_eq!(rt; found, None),
+    Ok(history)
+}
+
+// Whether a look-up of a key finds what the history says of it.
+fn is_found(tree: &Tree, history: &[(u16, Option<u8>)], key: u16, at: u64) -> bool {
+    match (tree.lookup(&key.to_be_bytes(), at), last_of(history, key)) {
+        (Some(found), Some(value)) => found == [value].as_slice(),
+        (None, None) => true,
+        _ => false,
+    }
+}
+
+// Whether these are the keys that have a value by the history, with it.
+fn are_rows_of(rows: &Rows, history: &[(u16, Option<u8>)]) -> bool {
+    let rows = rows.rows.as_slice();
+    let mut passed = 0;
+    for key in 0..KEYS {
+        if let Some(value) = last_of(history, key) {
+            let Some((row, said)) = rows.get(passed) else {
+                return false;
+            };
+            if row.as_slice() != key.to_be_bytes().as_slice()
+                || said.as_slice() != [value].as_slice()
+            {
+                return false;
             }
+            passed += 1;
         }
-        assert!(rt; rows.next().is_none());
+    }
+    passed == rows.len()
+}
+
+#[test]
+fn agrees_with_a_plain_list(rt: HostRuntime) -> Result<(), Fail> {
+    let mut tree = Tree::new();
+    let history = fill(rt.alloc(), &mut tree)?;
+    for at in [0, 1, 700, 1500, 2999] {
+        let seen = history.get(..=at).ok_or("short")?;
+        for key in 0..KEYS {
+            assert!(rt; is_found(&tree, seen, key, at as u64), "{key} at {at}");
+        }
+        let rows = tree.range(rt.alloc(), &[0, 0], &KEYS.to_be_bytes(), at as u64)?;
+        assert!(rt; are_rows_of(&rows, seen), "at {at}");
     }
     Ok(())
 }

@@ -4,12 +4,11 @@
 ghost use Rattle.std.specs.Prelude.{◌≡◌, [], map, IfOk};
 ghost use Rattle.table_rule.specs.Histories.{In};
 ghost use Rattle.table_calls.specs.Account.{IsReady, IsClosing};
-ghost use Rattle.mem_table.specs.declared.node.Nodes.{Nodes as TreeNodes};
-ghost use Rattle.mem_table.specs.declared.tree.Tree.{Tree as MemTree};
-ghost use Rattle.table_steps.specs.declared.seat.TableSeat.{TableSeat};
-ghost use Rattle.table_steps.specs.Accounts.{account, history_of};
-ghost use Rattle.one_table.specs.Meaning.{opening_of, IsOurs, MayLaunch, IsTurnAtStart, AreSeatsAtStart};
+ghost use Rattle.table_steps.specs.Accounts.{history_of};
+ghost use Rattle.memory_engine.specs.Tables.{opening_of, account_of, IsOurs, MayLaunch, IsTurnAtStart, AreSeatsAtStart, shards_of, HasShards};
 
+use crate::table_kind::TableKind;
+use mem_shards::ShardTable;
 use mem_table::{Nodes, Parts, Tree};
 use one_table::OneTable;
 use std::alloc::Global;
@@ -19,19 +18,23 @@ use table_steps::{TableSeat, Turn};
 use wp_coding::{Bytes, Read, Reads, Rows};
 use wp_model::NoMemory;
 
-/// A table of versions in memory whose tree stands under one lock.
+/// A table of versions in memory.
 #[derive(Drop)]
-pub struct MemoryTable {
-    pub one: OneTable<Tree, Nodes>,
+pub enum MemoryTable {
+    /// Its tree stands under one lock.
+    One(OneTable<Tree, Nodes>),
+    /// It has several trees, each under a lock of its own.
+    Shards(ShardTable<Tree, Nodes>),
 }
 
 impl MemoryTable {
-    /// A table of no versions for so many clients, with the published sequence `last`; the turn, and a seat for each
-    /// client.
+    /// A table of no versions of this kind for so many clients, with the published sequence `last`; the turn, and a
+    /// seat for each client.
     pub fn open(
         alloc: Global,
         clients: u32,
         last: u64,
+        kind: TableKind,
     ) -> Result<
         (
             MemoryTable,
@@ -39,13 +42,22 @@ impl MemoryTable {
         ),
         NoMemory,
     >
-        ensures table { IfOk result (λ opened. opening_of opened.0.one
-            ≡ record { clients = clients; shards = 1; start = last }) }
-        ensures turn { IfOk result (λ opened. IsTurnAtStart opened.0.one opened.1.turn) }
-        ensures clients { IfOk result (λ opened. AreSeatsAtStart opened.0.one clients opened.1.clients.items) }
+        requires { HasShards kind }
+        ensures table { IfOk result (λ opened. opening_of opened.0
+            ≡ record { clients = clients; shards = shards_of kind; start = last }) }
+        ensures turn { IfOk result (λ opened. IsTurnAtStart opened.0 opened.1.turn) }
+        ensures clients { IfOk result (λ opened. AreSeatsAtStart opened.0 clients opened.1.clients.items) }
     {
-        let (one, seats) = OneTable::open(alloc, clients, last)?;
-        Ok((MemoryTable { one }, seats))
+        match kind {
+            TableKind::One => {
+                let (table, seats) = OneTable::open(alloc, clients, last)?;
+                Ok((MemoryTable::One(table), seats))
+            }
+            TableKind::Shards(shards) => {
+                let (table, seats) = ShardTable::open(alloc, clients, last, shards)?;
+                Ok((MemoryTable::Shards(table), seats))
+            }
+        }
     }
 }
 
@@ -56,27 +68,33 @@ impl Table<Nodes, Parts> for MemoryTable {
 
     type Part = Nodes;
 
-    ghost use Rattle.table_steps.specs.Accounts.{account, history_of};
-    ghost use Rattle.one_table.specs.Meaning.{opening_of, IsOurs, MayLaunch};
+    ghost use Rattle.table_steps.specs.Accounts.{history_of};
+    ghost use Rattle.memory_engine.specs.Tables.{opening_of, account_of, IsOurs, MayLaunch};
 
-    ghost opening = { λ t. opening_of t.one };
+    ghost opening = { λ t. opening_of t };
 
-    ghost account = { λ s. account s };
+    ghost account = { λ s. account_of s };
 
     ghost history = { λ u. history_of u };
 
     ghost versions = { λ nodes. nodes };
 
-    ghost ours = { λ t s. IsOurs t.one s };
+    ghost ours = { λ t s. IsOurs t s };
 
-    ghost our_turn = { λ t u. MayLaunch t.one u };
+    ghost our_turn = { λ t u. MayLaunch t u };
 
     fn last(&self, seat: &mut TableSeat<Tree, Nodes>) -> u64 {
-        Table::<Nodes, Parts>::last(&self.one, seat)
+        match self {
+            MemoryTable::One(table) => Table::<Nodes, Parts>::last(table, seat),
+            MemoryTable::Shards(table) => Table::<Nodes, Parts>::last(table, seat),
+        }
     }
 
     fn locks(&self) -> u64 {
-        Table::<Nodes, Parts>::locks(&self.one)
+        match self {
+            MemoryTable::One(table) => Table::<Nodes, Parts>::locks(table),
+            MemoryTable::Shards(table) => Table::<Nodes, Parts>::locks(table),
+        }
     }
 
     fn read<R: Wait>(
@@ -86,7 +104,10 @@ impl Table<Nodes, Parts> for MemoryTable {
         seat: &mut TableSeat<Tree, Nodes>,
         key: &[u8],
     ) -> Result<Read, NoMemory> {
-        Table::<Nodes, Parts>::read(&self.one, alloc, rt, seat, key)
+        match self {
+            MemoryTable::One(table) => Table::<Nodes, Parts>::read(table, alloc, rt, seat, key),
+            MemoryTable::Shards(table) => Table::<Nodes, Parts>::read(table, alloc, rt, seat, key),
+        }
     }
 
     fn read_many<R: Wait>(
@@ -96,7 +117,14 @@ impl Table<Nodes, Parts> for MemoryTable {
         seat: &mut TableSeat<Tree, Nodes>,
         keys: &[Bytes],
     ) -> Result<Reads, NoMemory> {
-        Table::<Nodes, Parts>::read_many(&self.one, alloc, rt, seat, keys)
+        match self {
+            MemoryTable::One(table) => {
+                Table::<Nodes, Parts>::read_many(table, alloc, rt, seat, keys)
+            }
+            MemoryTable::Shards(table) => {
+                Table::<Nodes, Parts>::read_many(table, alloc, rt, seat, keys)
+            }
+        }
     }
 
     fn scan<R: Wait>(
@@ -107,7 +135,12 @@ impl Table<Nodes, Parts> for MemoryTable {
         lo: &[u8],
         hi: &[u8],
     ) -> Result<Rows, NoMemory> {
-        Table::<Nodes, Parts>::scan(&self.one, alloc, rt, seat, lo, hi)
+        match self {
+            MemoryTable::One(table) => Table::<Nodes, Parts>::scan(table, alloc, rt, seat, lo, hi),
+            MemoryTable::Shards(table) => {
+                Table::<Nodes, Parts>::scan(table, alloc, rt, seat, lo, hi)
+            }
+        }
     }
 
     fn launch(
@@ -116,23 +149,42 @@ impl Table<Nodes, Parts> for MemoryTable {
         turn: Turn<Tree, Nodes>,
         parts: &mut Parts,
     ) {
-        Table::<Nodes, Parts>::launch(&self.one, seat, turn, parts);
+        match self {
+            MemoryTable::One(table) => {
+                Table::<Nodes, Parts>::launch(table, seat, turn, parts);
+            }
+            MemoryTable::Shards(table) => {
+                Table::<Nodes, Parts>::launch(table, seat, turn, parts);
+            }
+        }
     }
 
     fn take<R: Wait>(&self, rt: &R, seat: &mut TableSeat<Tree, Nodes>) -> Nodes {
-        Table::<Nodes, Parts>::take(&self.one, rt, seat)
+        match self {
+            MemoryTable::One(table) => Table::<Nodes, Parts>::take(table, rt, seat),
+            MemoryTable::Shards(table) => Table::<Nodes, Parts>::take(table, rt, seat),
+        }
     }
 
     fn insert<R: Wait>(&self, rt: &R, seat: &mut TableSeat<Tree, Nodes>, part: Nodes) {
-        Table::<Nodes, Parts>::insert(&self.one, rt, seat, part);
+        match self {
+            MemoryTable::One(table) => Table::<Nodes, Parts>::insert(table, rt, seat, part),
+            MemoryTable::Shards(table) => Table::<Nodes, Parts>::insert(table, rt, seat, part),
+        }
     }
 
     fn finish(&self, seat: &mut TableSeat<Tree, Nodes>) -> Finished {
-        Table::<Nodes, Parts>::finish(&self.one, seat)
+        match self {
+            MemoryTable::One(table) => Table::<Nodes, Parts>::finish(table, seat),
+            MemoryTable::Shards(table) => Table::<Nodes, Parts>::finish(table, seat),
+        }
     }
 
     fn publish(&self, seat: &mut TableSeat<Tree, Nodes>) {
-        Table::<Nodes, Parts>::publish(&self.one, seat);
+        match self {
+            MemoryTable::One(table) => Table::<Nodes, Parts>::publish(table, seat),
+            MemoryTable::Shards(table) => Table::<Nodes, Parts>::publish(table, seat),
+        }
     }
 
     fn await_published<R: Wait>(
@@ -141,16 +193,24 @@ impl Table<Nodes, Parts> for MemoryTable {
         seat: &mut TableSeat<Tree, Nodes>,
         last: u64,
     ) -> Turn<Tree, Nodes> {
-        Table::<Nodes, Parts>::await_published(&self.one, rt, seat, last)
+        match self {
+            MemoryTable::One(table) => {
+                Table::<Nodes, Parts>::await_published(table, rt, seat, last)
+            }
+            MemoryTable::Shards(table) => {
+                Table::<Nodes, Parts>::await_published(table, rt, seat, last)
+            }
+        }
     }
 
     fn close(self, seats: Seats<TableSeat<Tree, Nodes>, Turn<Tree, Nodes>>)
-        requires turn { MayLaunch self.one seats.turn }
-        requires clients { (seat : TableSeat MemTree TreeNodes) → In seat seats.clients.items
-            → IsOurs self.one seat × IsReady (account seat) }
-        ensures { IsClosing (opening_of self.one).start (history_of seats.turn)
-            (map (λ (seat : TableSeat MemTree TreeNodes). account seat) seats.clients.items) }
+        requires turn { MayLaunch self seats.turn }
+        requires clients { (seat : _) → In seat seats.clients.items → IsOurs self seat × IsReady (account_of seat) }
+        ensures { IsClosing (opening_of self).start (history_of seats.turn) (map account_of seats.clients.items) }
     {
-        Table::<Nodes, Parts>::close(self.one, seats);
+        match self {
+            MemoryTable::One(table) => Table::<Nodes, Parts>::close(table, seats),
+            MemoryTable::Shards(table) => Table::<Nodes, Parts>::close(table, seats),
+        }
     }
 }

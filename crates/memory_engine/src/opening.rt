@@ -4,15 +4,15 @@ ghost use Rattle.std.specs.Prelude.{◌≡◌, ◌≤◌, ◌<◌, ◌+◌, ℕ,
 ghost use Rattle.wp_model.specs.History.{max_sequence};
 ghost use Rattle.log_writer.specs.Words.{disk_of};
 ghost use Rattle.log_writer.specs.Opening.{HasOpened};
-ghost use Rattle.table_steps.specs.Accounts.{account};
-ghost use Rattle.one_table.specs.Meaning.{opening_of, IsOurs};
 ghost use Rattle.writer_list.specs.Seats.{clients_of};
 ghost use Rattle.account_model.specs.Accounts.{newcomer};
 ghost use Rattle.account_model.specs.Closing.{AreOurs};
 ghost use Rattle.client_calls.specs.Settings.{settings_of as settings_with};
 ghost use Rattle.group_engine.specs.Clients.{IsClientOf, HasRoomToClose, account_in, settings_of, opened_log};
+ghost use Rattle.memory_engine.specs.Tables.{opening_of, account_of, IsOurs, shards_of, HasShards};
 
 use crate::memory_table::MemoryTable;
+use crate::table_kind::TableKind;
 use client_calls::Options;
 use engine_calls::Gate;
 use group_engine::{Client, Clients, GroupEngine, OpenRefused, Room};
@@ -20,8 +20,8 @@ use log_writer::LogWriter;
 use std::alloc::Global;
 use wp_edge::{Clock, Disk};
 
-/// An engine over an opened log, with so many clients, of which none has done anything. Where memory is short, log,
-/// clock and gate come back.
+/// An engine over an opened log and a table of this kind, with so many clients, of which none has done anything. Where
+/// memory is short, log, clock and gate come back.
 pub fn open_engine<D: Disk, C: Clock + Drop, G: Gate + Drop>(
     alloc: Global,
     log: LogWriter<D>,
@@ -29,6 +29,7 @@ pub fn open_engine<D: Disk, C: Clock + Drop, G: Gate + Drop>(
     clients: u32,
     gate: G,
     options: Options,
+    kind: TableKind,
 ) -> Result<
     (
         GroupEngine<D, MemoryTable, C, G>,
@@ -39,20 +40,19 @@ pub fn open_engine<D: Disk, C: Clock + Drop, G: Gate + Drop>(
     requires options { (options.last ≤ max_sequence) × (options.batch_bytes ≤ 16777216) }
     requires clients { (0 < clients) × (clients ≤ 16) }
     requires log { (disk : D) × HasOpened disk log }
+    requires kind { HasShards kind }
     ensures engine { IfOk result (λ r. (opened_log r.0 ≡ log)
-        × (settings_of (λ t. opening_of t.one) (λ t s. IsOurs t.one s) (λ s. account s) r.0
+        × (settings_of opening_of IsOurs account_of r.0
         ≡ settings_with options clients (D.faults (disk_of log)))) }
-    ensures clients { IfOk result (λ r. AreOurs
-        (IsClientOf (λ t. opening_of t.one) (λ t s. IsOurs t.one s) (λ s. account s) r.0)
-        (account_in (λ t. opening_of t.one) (λ t s. IsOurs t.one s) (λ s. account s)) (clients_of r.0.list)
-        r.1.clients.items) }
+    ensures table { IfOk result (λ r. (opening_of r.0.table).shards ≡ shards_of kind) }
+    ensures clients { IfOk result (λ r. AreOurs (IsClientOf opening_of IsOurs account_of r.0)
+        (account_in opening_of IsOurs account_of) (clients_of r.0.list) r.1.clients.items) }
     ensures new { IfOk result (λ r. (i : ℕ) (c : _) → slice_get r.1.clients.items i ≡ Some c
-        → account_in (λ t. opening_of t.one) (λ t s. IsOurs t.one s) (λ s. account s) c
-        ≡ newcomer options.last (i + 1)) }
+        → account_in opening_of IsOurs account_of c ≡ newcomer options.last (i + 1)) }
     ensures room { IfOk result (λ r. HasRoomToClose r.0.controller (clients_of r.0.list) r.1.room) }
     ensures err { IfErr result (λ e. (e.0 ≡ log) × (e.1 ≡ clock) × (e.2 ≡ gate)) }
 {
-    let Ok((table, seats)) = MemoryTable::open(alloc, clients, options.last) else {
+    let Ok((table, seats)) = MemoryTable::open(alloc, clients, options.last, kind) else {
         return Err((log, clock, gate));
     };
     match GroupEngine::open(alloc, log, clock, table, seats, gate, options) {

@@ -10,8 +10,6 @@ mod recovered_state;
 mod replayed;
 mod states;
 mod summary;
-#[cfg(test)]
-mod tests;
 mod texts;
 
 pub use recovered::recovered_text;

@@ -3,5 +3,4 @@ pub mod LegalRuns
 mod LoggedGroups
 mod GroupCalls
 pub mod SafeLogs
-mod Crossing
 mod RunEnds

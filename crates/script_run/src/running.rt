@@ -7,6 +7,7 @@ ghost use Rattle.log_writer.specs.Words.{disk_of};
 ghost use Rattle.log_writer.specs.Opening.{HasOpened};
 ghost use Rattle.run_model.specs.Crashes.{IsImageSince};
 ghost use Rattle.run_model.specs.Running.{GoesOn};
+ghost use Rattle.memory_engine.specs.Tables.{HasShards};
 ghost use Rattle.script_run.specs.Ends.{IsEnd};
 
 use crate::end::{End, Executed, ended};
@@ -17,14 +18,14 @@ use client_script::Script;
 use clients_outcome::run_engine;
 use engine_calls::Gate;
 use log_writer::LogWriter;
-use memory_engine::open_engine;
+use memory_engine::{TableKind, open_engine};
 use std::alloc::Global;
 use std::sync::Wait;
 use std::thread::Threads;
 use wp_edge::{Clock, Disk};
 
 /// Runs a script over the write path of a disk's log, each client in a thread of its own, and gives the disk back. The
-/// log must be empty. The gate is told of what happens.
+/// log must be empty. The table is of the kind that is asked for. The gate is told of what happens.
 pub fn execute<D: Disk + Send, C: Clock + Send + Drop, G: Gate + Sync, R: Threads + Wait + Sync>(
     rt: &R,
     alloc: Global,
@@ -33,10 +34,12 @@ pub fn execute<D: Disk + Send, C: Clock + Send + Drop, G: Gate + Sync, R: Thread
     gate: &G,
     script: &Script,
     options: Options,
+    kind: TableKind,
 ) -> Executed<D>
     requires clients { (1 ≤ length script.now.clients.items) × (length script.now.clients.items ≤ 16) }
     requires fits { FitsBatches script.now }
     requires options { (options.last ≤ max_sequence) × (options.batch_bytes ≤ 16777216) }
+    requires kind { HasShards kind }
     ensures end { IsEnd options (commands_of script.now) (D.told disk) (D.told result.disk) (D.faults disk)
         (D.faults result.disk) (IsImageSince D.moment D.from D.since disk result.disk) result.end }
     ensures later { D.faults disk ≤ D.faults result.disk }
@@ -52,6 +55,7 @@ pub fn execute<D: Disk + Send, C: Clock + Send + Drop, G: Gate + Sync, R: Thread
             gate,
             script,
             options,
+            kind,
         ),
         Err((disk, why)) => Executed {
             disk,
@@ -76,10 +80,12 @@ fn run_over<
     gate: &G,
     script: &Script,
     options: Options,
+    kind: TableKind,
 ) -> Executed<D>
     requires clients { (1 ≤ length script.now.clients.items) × (length script.now.clients.items ≤ 16) }
     requires fits { FitsBatches script.now }
     requires options { (options.last ≤ max_sequence) × (options.batch_bytes ≤ 16777216) }
+    requires kind { HasShards kind }
     requires opened { (disk : D) × HasOpened disk log }
     ensures end { (disk : D) → HasOpened disk log → IsEnd options (commands_of script.now) (D.told disk)
         (D.told result.disk) (D.faults disk) (D.faults result.disk)
@@ -89,7 +95,7 @@ fn run_over<
 {
     let commands = script.clients.as_slice();
     let clients = commands.len() as u32;
-    match open_engine(alloc, log, clock, clients, shared, options) {
+    match open_engine(alloc, log, clock, clients, shared, options, kind) {
         Ok((engine, clients)) => {
             runs_leave_safe_logs::<D>();
             ended(run_engine(rt, alloc, engine, clients, commands, gate))

@@ -114,14 +114,14 @@ pub trait Table<N: Versioned, P: GroupParts<N>> {
         ensures rows { IfOk result (λ rows. rows.rows ≡ rows_within lo.now hi.now
             (map_after (account seat.new).seen)) };
 
-    /// Launches a group and hands each member its nodes. So far a group has one member, the client that launches it,
-    /// which is to take its part next. The seat keeps the turn until `await_published`.
+    /// Launches a group, of which the client is a member, and hands each member its nodes: each takes its own part next,
+    /// by its own seat. The seat of the client that launches keeps the turn until `await_published`.
     fn launch(&self, seat: &mut Self::Seat, turn: Self::Turn, parts: &mut P)
         requires ours { ours self.now seat.old × our_turn self.now turn }
         requires ready { IsReady (account seat.old) }
         requires next { IsNext (opening self.now) (history turn) (P.parts parts.old) }
         requires fits { end_of (last_of (opening self.now).start (history turn)) (P.parts parts.old) < 2 ^ 64 }
-        requires alone { (part : MemberVersions) × (P.parts parts.old ≡ part ∷ [])
+        requires member { (part : MemberVersions) × In part (P.parts parts.old)
             × (part.member ≡ (account seat.old).number) }
         ensures ours { ours self.now seat.new }
         ensures launched { Launches (opening self.now).start (account seat.old) (history turn) (P.parts parts.old)

@@ -32,6 +32,3 @@ pub use laws::one_state;
 pub use state::{CoreOptions, State};
 pub use step::{Counts, replay};
 pub use writer::CoreReply;
-
-#[cfg(test)]
-mod tests;

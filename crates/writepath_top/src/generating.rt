@@ -2,6 +2,7 @@
 
 ghost use Rattle.std.specs.Prelude.{◌≡◌, ◌⊎◌, ◌≤◌, length, IfSome};
 ghost use Rattle.wp_model.specs.Generator.{generated};
+ghost use Rattle.memory_engine.specs.Tables.{HasShards};
 ghost use Rattle.summary_laws.specs.Summaries.{summary_of};
 ghost use Rattle.std.specs.Io.KnownBytes.{Appends};
 ghost use Rattle.writepath_top.specs.Answers.{RunsScript};
@@ -15,6 +16,7 @@ use crate::running::run_and_tell;
 use crate::telling::{Form, Status};
 use client_calls::Options;
 use engine_calls::Gate;
+use memory_engine::TableKind;
 use script_generator::generate;
 use std::alloc::Global;
 use std::sync::Wait;
@@ -42,6 +44,7 @@ pub fn run_generated<
     seed: u64,
     clients: u64,
     batches: u64,
+    kind: TableKind,
     disk: D,
     sink: &mut K,
     clock: C,
@@ -49,6 +52,7 @@ pub fn run_generated<
 ) -> Ended<D>
     requires clients { (1 ≤ clients) × (clients ≤ 16) }
     requires batches { (1 ≤ batches) × (batches ≤ 100000) }
+    requires kind { HasShards kind }
     ensures status { (result.status ≡ 0) ⊎ (result.status ≡ 3) ⊎ (result.status ≡ 5) ⊎ (result.status ≡ 6)
         ⊎ (result.status ≡ 7) }
     ensures runs { RunsScript ⟦<D as Disk>⟧ ⟦<K as Sink>⟧ (observed ⟦<D as Disk>⟧ ⟦<K as Sink>⟧
@@ -69,6 +73,7 @@ pub fn run_generated<
         alloc,
         script,
         USUAL_OPTIONS,
+        kind,
         Form::Summary,
         disk,
         sink,

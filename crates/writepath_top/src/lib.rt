@@ -4,6 +4,7 @@
 //! - `top`: the call, with what it promises of each command (`specs/Answers`)
 //! - `running`, `generating`, `recovering`, `replaying`: a command each
 //! - `reading`: the script from its source
+//! - `table`: what the table is made of
 //! - `telling`: what is printed, and the status
 //! - `ended`: the status and the disk
 #![tactic(auto)]
@@ -14,6 +15,7 @@ mod reading;
 mod recovering;
 mod replaying;
 mod running;
+mod table;
 mod telling;
 mod top;
 

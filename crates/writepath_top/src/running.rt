@@ -5,6 +5,7 @@ ghost use Rattle.wp_model.specs.Counts.{Rose};
 ghost use Rattle.wp_model.specs.History.{max_sequence};
 ghost use Rattle.wp_model.specs.Script.{Script as Said, Fault, script_of, whole_grammar};
 ghost use Rattle.client_script.specs.Scripts.{commands_of, FitsBatches};
+ghost use Rattle.memory_engine.specs.Tables.{HasShards};
 ghost use Rattle.printed_text.specs.Refusals.{script_fault, source_fault};
 ghost use Rattle.run_model.specs.Running.{IsReached};
 ghost use Rattle.writepath_top.specs.Answers.{RunsScript};
@@ -18,6 +19,7 @@ use crate::telling::{Form, tell_end, tell_read_error};
 use client_calls::Options;
 use client_script::Script;
 use engine_calls::Gate;
+use memory_engine::TableKind;
 use script_run::{Executed, execute};
 use std::alloc::Global;
 use std::sync::Wait;
@@ -36,6 +38,7 @@ pub fn run_script<
     rt: &R,
     alloc: Global,
     options: Options,
+    kind: TableKind,
     source: &mut S,
     disk: D,
     sink: &mut K,
@@ -43,6 +46,7 @@ pub fn run_script<
     gate: &G,
 ) -> Ended<D>
     requires options { (options.last ≤ max_sequence) × (options.batch_bytes ≤ 16777216) }
+    requires kind { HasShards kind }
     ensures other { (result.status < 8) × (result.status ≢ 1) }
     ensures script { result.status ≡ 2 → IfSome (S.left source.old) (λ text. (f : Fault)
         × (script_of whole_grammar text ≡ Err f)
@@ -72,6 +76,7 @@ pub fn run_script<
             alloc,
             script,
             options,
+            kind,
             Form::Whole,
             disk,
             sink,
@@ -94,6 +99,7 @@ pub fn run_and_tell<
     alloc: Global,
     script: Script,
     options: Options,
+    kind: TableKind,
     form: Form,
     disk: D,
     sink: &mut K,
@@ -103,13 +109,14 @@ pub fn run_and_tell<
     requires clients { (1 ≤ length script.clients.items) × (length script.clients.items ≤ 16) }
     requires fits { FitsBatches script }
     requires options { (options.last ≤ max_sequence) × (options.batch_bytes ≤ 16777216) }
+    requires kind { HasShards kind }
     ensures status { (result.status ≡ 0) ⊎ (result.status ≡ 3) ⊎ (result.status ≡ 5) ⊎ (result.status ≡ 6)
         ⊎ (result.status ≡ 7) }
     ensures runs { RunsScript ⟦<D as Disk>⟧ ⟦<K as Sink>⟧ (observed ⟦<D as Disk>⟧ ⟦<K as Sink>⟧
         (IsScript (commands_of script)) form options disk result.disk sink.old sink.new)
         disk result.disk sink.old sink.new result.status }
 {
-    let Executed { disk, end } = execute(rt, alloc, disk, clock, gate, &script, options);
+    let Executed { disk, end } = execute(rt, alloc, disk, clock, gate, &script, options, kind);
     // What was asked is no longer needed while the text is made.
     drop(script);
     end_with(tell_end(alloc, sink, form, &end), disk)

@@ -11,6 +11,7 @@ use crate::generating::run_generated;
 use crate::recovering::recover_log;
 use crate::replaying::replay;
 use crate::running::run_script;
+use crate::table::kind_of;
 use crate::telling::{Status, refuse};
 use client_calls::Options;
 use command_line::{Asked, WordsError, read_words};
@@ -29,7 +30,7 @@ use write_core::CoreOptions;
 /// log must be empty. A commit is refused for itself where its batch is empty or larger than `--batch-bytes`, where it
 /// is to be synced without the log, where its client holds a stop token, and where no sequences are left for it; and
 /// where it has `noslow` and writes are held up. Else only a fault of the log refuses it. `gen SEED CLIENTS BATCHES`
-/// runs the script that a seed makes so too, with the usual options, and prints a summary of its outcome; it doesn't
+/// runs the script that a seed makes so too, with the usual limits, and prints a summary of its outcome; it doesn't
 /// look at the source. `recover` prints what the log recovers, and changes nothing. `replay` reads a script of 1 to 16
 /// clients and a schedule of events after it, runs the schedule on the write path's core, and prints what the clients
 /// were told, the history and the published state; it doesn't look at the disk. The disk comes back on every path.
@@ -40,6 +41,8 @@ use write_core::CoreOptions;
 /// | `--group-bytes` | `run`, `replay` | 1 to 16777216 | 1048576 | the most bytes of a write group |
 /// | `--last` | `run`, `replay` | 0 to 2^56 - 1 | 0 | the sequence before the first batch |
 /// | `--pipelined` | `replay` | no value | a single stage | the log is handed on before a group is inserted |
+/// | `--shards` | `run`, `gen` | 1 to 64 | 16 | with `--table shards`, how many shards the table has |
+/// | `--table` | `run`, `gen` | `one`, `shards` | `one` | a tree under one lock, or a tree and a lock for each shard |
 ///
 /// SEED is from 0 to 2147483647, CLIENTS from 1 to 16, and BATCHES from 1 to 100000, for each client. A text has at
 /// most 16777216 bytes.
@@ -108,6 +111,7 @@ pub fn run_gated<
     match read_words(alloc, words) {
         Ok(
             Asked::Run {
+                shards,
                 group_bytes,
                 batch_bytes,
                 last,
@@ -118,15 +122,22 @@ pub fn run_gated<
                 group_bytes,
                 batch_bytes,
             };
-            run_script(rt, alloc, options, source, disk, sink, clock, gate)
+            let kind = kind_of(shards);
+            run_script(rt, alloc, options, kind, source, disk, sink, clock, gate)
         }
         Ok(
             Asked::Generate {
+                shards,
                 seed,
                 clients,
                 batches,
             },
-        ) => run_generated(rt, alloc, seed, clients, batches, disk, sink, clock, gate),
+        ) => {
+            let kind = kind_of(shards);
+            run_generated(
+                rt, alloc, seed, clients, batches, kind, disk, sink, clock, gate,
+            )
+        }
         Ok(Asked::Recover) => recover_log(alloc, disk, sink),
         Ok(
             Asked::Replay {

@@ -1,6 +1,6 @@
 //! Scripts of several clients, which come in any order.
 
-use super::{Came, Given, PLAIN, came_of, check_texts};
+use super::{Came, Given, PLAIN, TABLES, came_of, check_texts};
 use std::alloc::Global;
 use std::process::Abort;
 use std::rt::HostRuntime;
@@ -8,17 +8,19 @@ use std::sync::Wait;
 use std::test::Fail;
 use std::thread::Threads;
 
-/// Runs a script twenty times, so that its clients may come in more than one order.
+/// Runs a script twenty times over each table, so that its clients may come in more than one order.
 fn check_clients<R: Threads + Wait + Abort + Sync>(
     rt: &R,
     alloc: Global,
     given: Given,
     wanted: &[&str],
 ) -> Result<(), Fail> {
-    for _ in 0..20 {
-        let Came { status, sink, .. } = came_of(rt, alloc, given)?;
-        check_texts(rt, &sink, wanted);
-        assert_eq!(rt; status, 0);
+    for table in TABLES {
+        for _ in 0..20 {
+            let Came { status, sink, .. } = came_of(rt, alloc, Given { table, ..given })?;
+            check_texts(rt, &sink, wanted);
+            assert_eq!(rt; status, 0);
+        }
     }
     Ok(())
 }

@@ -2,7 +2,10 @@
 //! clients back until it was begun. Clients that ran one after another, or under one lock, would wait in vain.
 
 use super::recovery::check_recovery;
-use super::{DISK_ROOM, OUTCOME, PIECE, SCRIPT, SINK_ROOM, START, check_texts, words_of};
+use super::{
+    DISK_ROOM, ONE_TREE, OUTCOME, PIECE, SCRIPT, SHARDS, SINK_ROOM, START, TABLES, Table,
+    check_texts, words_of,
+};
 use engine_calls::Gate;
 use held_disk::{HeldDisk, Hold};
 use std::alloc::Global;
@@ -79,10 +82,11 @@ impl<'a> Gate for Turnstile<'a> {
 }
 
 /// Runs a script whose first append waits until the others have arrived so often, and gives the disk back. The table
-/// has one lock, nobody waits in vain, and nothing fails.
+/// has its number of locks, nobody waits in vain, and nothing fails.
 fn overlapped<R: Threads + Wait + Abort + Sync>(
     rt: &R,
     alloc: Global,
+    table: Table,
     text: &[u8],
     until: Until,
     need: u64,
@@ -95,7 +99,7 @@ fn overlapped<R: Threads + Wait + Abort + Sync>(
         locks: AtomicU64::new(0),
         late: AtomicBool::new(false),
     };
-    let words = words_of(alloc, "run")?;
+    let words = words_of(alloc, "run", table)?;
     let mut source = MemSource::new(alloc, text, PIECE, &[])?;
     let mut sink = MemSink::new(alloc, SINK_ROOM, PIECE, &[])?;
     let inner = MemDisk::new(alloc, DISK_ROOM, b"", &[])?;
@@ -110,15 +114,31 @@ fn overlapped<R: Threads + Wait + Abort + Sync>(
         &gate,
     );
     assert!(rt; !gate.late.load(SeqCst), "no append was begun");
-    assert_eq!(rt; gate.locks.load(SeqCst), 1);
+    assert_eq!(rt; gate.locks.load(SeqCst), table.locks);
     check_texts(rt, &sink, &[want]);
     assert_eq!(rt; status, 0);
     Ok(disk.into_disk())
 }
 
+/// The number of shards has no effect on a table of one tree.
+const ALL_TABLES: [Table; 4] = [
+    ONE_TREE,
+    SHARDS,
+    Table {
+        options: " --shards 7 --table shards",
+        locks: 7,
+    },
+    Table {
+        options: " --shards 7",
+        locks: 1,
+    },
+];
+
 #[test]
-fn the_table_has_one_lock(rt: HostRuntime) -> Result<(), Fail> {
-    overlapped(&rt, rt.alloc(), SCRIPT, Until::Answered, 0, OUTCOME)?;
+fn a_table_has_a_lock_for_each_shard(rt: HostRuntime) -> Result<(), Fail> {
+    for table in ALL_TABLES {
+        overlapped(&rt, rt.alloc(), table, SCRIPT, Until::Answered, 0, OUTCOME)?;
+    }
     Ok(())
 }
 
@@ -128,7 +148,9 @@ fn a_read_waits_for_no_append(rt: HostRuntime) -> Result<(), Fail> {
     let text = b"client 1\nput a 1\ncommit\nclient 2\nget a\n";
     let want =
         "client 1\nok 1 1\nclient 2\nnil 0\nhistory 1\n1 1 1 1 log 0100000000000000010000000101610131\nstate 1 1\na 1\nlog 24\n";
-    overlapped(&rt, rt.alloc(), text, Until::Answered, 1, want)?;
+    for table in TABLES {
+        overlapped(&rt, rt.alloc(), table, text, Until::Answered, 1, want)?;
+    }
     Ok(())
 }
 
@@ -139,7 +161,11 @@ fn who_waits_for_an_append_is_in_one_group(rt: HostRuntime) -> Result<(), Fail> 
         b"client 1\nput a 1\ncommit\nclient 2\nput b 1\ncommit\nclient 3\nput c 1\ncommit\nclient 4\nput d 1\ncommit\n";
     let want =
         "client 1\nok 1 1\nclient 2\nok *\nclient 3\nok *\nclient 4\nok *\nhistory 4\n1 1 1 1 log *\n2 2 *\n3 3 *\n4 4 *\nstate 4 4\na 1\nb 1\nc 1\nd 1\nlog 58\n";
-    let disk = overlapped(&rt, rt.alloc(), text, Until::Linked, 3, want)?;
-    let want = "groups 2\n1 1 17\n2 3 27\nstate 4 4\n61 31\n62 31\n63 31\n64 31\nend 58 clean\n";
-    check_recovery(&rt, rt.alloc(), disk.content(), want)
+    let recovered =
+        "groups 2\n1 1 17\n2 3 27\nstate 4 4\n61 31\n62 31\n63 31\n64 31\nend 58 clean\n";
+    for table in TABLES {
+        let disk = overlapped(&rt, rt.alloc(), table, text, Until::Linked, 3, want)?;
+        check_recovery(&rt, rt.alloc(), disk.content(), recovered)?;
+    }
+    Ok(())
 }

@@ -1,6 +1,6 @@
 //! What logs recover.
 
-use super::{Fails, Given, RECORD, TWO_RECORDS, ended};
+use super::{Given, PLAIN, RECORD, TWO_RECORDS, ended};
 use std::alloc::Global;
 use std::process::Abort;
 use std::rt::HostRuntime;
@@ -19,7 +19,7 @@ pub(super) fn check_recovery<R: Threads + Wait + Abort + Sync>(
         words: "recover",
         text: b"",
         content,
-        fails: Fails::Nothing,
+        ..PLAIN
     };
     let disk = ended(rt, alloc, given, 0, want)?;
     assert_eq!(rt; disk.content(), content);

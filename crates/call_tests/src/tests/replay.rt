@@ -1,6 +1,6 @@
 //! Schedules of events, which are run on the core.
 
-use super::{Row, check_rows};
+use super::{ONE_TREE, Row, check_rows};
 use std::rt::HostRuntime;
 use std::test::Fail;
 
@@ -79,6 +79,6 @@ const REFUSED: [Row; 2] = [
 
 #[test]
 fn schedules_are_replayed(rt: HostRuntime) -> Result<(), Fail> {
-    check_rows(&rt, rt.alloc(), 0, &REPLAYED)?;
-    check_rows(&rt, rt.alloc(), 2, &REFUSED)
+    check_rows(&rt, rt.alloc(), ONE_TREE, 0, &REPLAYED)?;
+    check_rows(&rt, rt.alloc(), ONE_TREE, 2, &REFUSED)
 }

@@ -1,10 +1,17 @@
 //! Scripts of one client, what is refused, devices that fail, and generated scripts.
 
 use super::Fails::{Disk, Nothing, Sink, Source};
-use super::{Fails, Given, OUTCOME, PLAIN, RECORD, Row, SCRIPT, TWO_RECORDS, check_rows, ended};
+use super::{
+    Fails, Given, ONE_TREE, OUTCOME, PLAIN, RECORD, Row, SCRIPT, TABLES, TWO_RECORDS, Table,
+    check_rows, ended,
+};
 use client_script::TEXT_LIMIT;
+use std::alloc::Global;
+use std::process::Abort;
 use std::rt::HostRuntime;
+use std::sync::Wait;
 use std::test::Fail;
+use std::thread::Threads;
 
 #[test]
 fn faulty_scripts_are_refused(rt: HostRuntime) -> Result<(), Fail> {
@@ -45,6 +52,10 @@ fn other_words_are_refused(rt: HostRuntime) -> Result<(), Fail> {
         "run --group-bytes 0",
         "run --pipelined",
         "recover --last 1",
+        "recover --table one",
+        "run --table tree",
+        "run --shards 0",
+        "gen --shards 65 1 1 1",
         "gen 1 1",
         "gen 1 1 1 1",
         "gen 2147483648 1 1",
@@ -125,25 +136,46 @@ const OUTCOMES: [Row; 13] = [
 
 #[test]
 fn prints_what_came_of_a_script(rt: HostRuntime) -> Result<(), Fail> {
-    check_rows(&rt, rt.alloc(), 0, &OUTCOMES)
+    for table in TABLES {
+        check_rows(&rt, rt.alloc(), table, 0, &OUTCOMES)?;
+    }
+    Ok(())
 }
 
 const SMALL_SUMMARY: &str = "clients 1\nbatches 2\nrecords 3\nlast 3\nkeys 2\nsum 1445\n";
 
-/// Reckoned by another program.
+/// Reckoned by another program, as the one below.
+const MIDDLE_SUMMARY: &str =
+    "clients 16\nbatches 1600\nrecords 3947\nlast 3947\nkeys 1090\nsum 528519\n";
+
 const LARGE_SUMMARY: &str =
     "clients 16\nbatches 16000\nrecords 39946\nlast 39946\nkeys 1175\nsum 580970\n";
 
-/// However the sixteen clients meet.
-const SUMMARIES: [Row; 3] = [
+/// However the sixteen clients meet, and whatever the table is made of.
+const SUMMARIES: [Row; 6] = [
     ("gen 1 1 2", b"", SMALL_SUMMARY),
     ("gen 7 16 1000", b"", LARGE_SUMMARY),
-    ("gen 7 16 1000", b"", LARGE_SUMMARY),
+    ("gen --table shards 7 16 1000", b"", LARGE_SUMMARY),
+    (
+        "gen --table shards --shards 1 7 16 100",
+        b"",
+        MIDDLE_SUMMARY,
+    ),
+    (
+        "gen --shards 2 --table shards 7 16 100",
+        b"",
+        MIDDLE_SUMMARY,
+    ),
+    (
+        "gen --table shards --shards 64 7 16 100",
+        b"",
+        MIDDLE_SUMMARY,
+    ),
 ];
 
 #[test]
 fn sums_up_a_generated_script(rt: HostRuntime) -> Result<(), Fail> {
-    check_rows(&rt, rt.alloc(), 0, &SUMMARIES)
+    check_rows(&rt, rt.alloc(), ONE_TREE, 0, &SUMMARIES)
 }
 
 /// Neither `recover` nor `gen` looks at the source.
@@ -172,6 +204,7 @@ fn devices_fail_or_are_not_empty(rt: HostRuntime) -> Result<(), Fail> {
         let text = SCRIPT;
         let given = Given {
             words,
+            table: ONE_TREE,
             text,
             content,
             fails,
@@ -181,10 +214,32 @@ fn devices_fail_or_are_not_empty(rt: HostRuntime) -> Result<(), Fail> {
     Ok(())
 }
 
-/// What the disk holds then.
+/// A text, which call of a device fails, the status and all that is printed then, and what the disk holds.
+type Left = (&'static [u8], Fails, u8, &'static str, &'static [u8]);
+
+/// Runs scripts over such a table, and compares what they leave on the disk too.
+fn check_left<R: Threads + Wait + Abort + Sync>(
+    rt: &R,
+    alloc: Global,
+    table: Table,
+    rows: &[Left],
+) -> Result<(), Fail> {
+    for (text, fails, status, want, left) in rows {
+        let given = Given {
+            table,
+            text: *text,
+            fails: *fails,
+            ..PLAIN
+        };
+        let disk = ended(rt, alloc, given, *status, want)?;
+        assert_eq!(rt; disk.content(), *left, "for {want}");
+    }
+    Ok(())
+}
+
 #[test]
 fn writes_up_to_a_fault(rt: HostRuntime) -> Result<(), Fail> {
-    let rows: [(&[u8], Fails, u8, &str, &[u8]); 4] = [
+    let rows: [Left; 4] = [
         (SCRIPT, Nothing, 0, OUTCOME, RECORD),
         (
             SCRIPT,
@@ -209,14 +264,8 @@ fn writes_up_to_a_fault(rt: HostRuntime) -> Result<(), Fail> {
             TWO_RECORDS,
         ),
     ];
-    for (text, fails, status, want, left) in rows {
-        let given = Given {
-            text,
-            fails,
-            ..PLAIN
-        };
-        let disk = ended(&rt, rt.alloc(), given, status, want)?;
-        assert_eq!(rt; disk.content(), left, "for {want}");
+    for table in TABLES {
+        check_left(&rt, rt.alloc(), table, &rows)?;
     }
     Ok(())
 }

@@ -2,6 +2,7 @@
 
 ghost use Rattle.std.specs.Prelude.{◌≡◌, ◌+◌, ◌<◌, ◌≤◌, length};
 ghost use Rattle.wp_model.specs.History.{max_sequence};
+ghost use Rattle.memory_engine.specs.Tables.{HasShards};
 ghost use Rattle.writer_list.specs.Seats.{clients_of};
 ghost use Rattle.engine_tests.specs.Callers.{number_of, MayCall, IsCaller, AllMayCall, AreAll};
 
@@ -10,7 +11,7 @@ use client_calls::Options;
 use engine_calls::{Clients, Closed, OpenGate};
 use group_engine::{Client, GroupEngine, Room};
 use log_writer::LogWriter;
-use memory_engine::{MemoryTable, open_engine};
+use memory_engine::{MemoryTable, TableKind, open_engine};
 use std::alloc::Global;
 use std::process::Abort;
 use std::sync::{Mutex, Wait};
@@ -28,8 +29,8 @@ pub(super) type Members = Clients<Member, Room<MemDisk, MemoryTable, SteppedCloc
 
 pub(super) type Notes = Mutex<Vec<Note>>;
 
-// Opens an engine over an empty disk with so much room, of whose calls those of a list fail. The first looks at the
-// disk's length. The clock stands at 1000.
+// Opens an engine with a table of this kind over an empty disk with so much room, of whose calls those of a list fail.
+// The first looks at the disk's length. The clock stands at 1000.
 pub(super) fn opened(
     rt: &impl Abort,
     alloc: Global,
@@ -37,9 +38,11 @@ pub(super) fn opened(
     fails: &[u64],
     clients: u32,
     options: Options,
+    kind: TableKind,
 ) -> (Path, Members)
     requires options { (options.last ≤ max_sequence) × (options.batch_bytes ≤ 16777216) }
     requires clients { (0 < clients) × (clients ≤ 16) }
+    requires kind { HasShards kind }
     ensures all { AreAll result.0 result.1 }
     ensures clients { clients_of result.0.list ≡ clients }
 {
@@ -54,6 +57,7 @@ pub(super) fn opened(
         clients,
         OpenGate,
         options,
+        kind,
     ) {
         Ok(opened) => opened,
         Err(_) => panic!(rt; "no memory"),

@@ -1,6 +1,6 @@
-use Rattle.std.proofs.Common.{◌≡◌, ◌+◌, List, [], ◌∷◌, length, refl, sym, ap, ◌∙◌, subst, append-nil}
+use Rattle.std.proofs.Common.{◌≡◌, inl, ◌+◌, List, [], ◌∷◌, length, refl, sym, ap, ◌∙◌, subst, append-nil}
 use Rattle.table_rule.specs.declared.content.MemberVersions.{MemberVersions}
-use Rattle.table_rule.specs.Histories.{last_of, Begins}
+use Rattle.table_rule.specs.Histories.{In, last_of, Begins}
 use Rattle.table_rule.specs.Rule.{end_of}
 use Rattle.table_rule.specs.Steps.{launched_behind, MayTake}
 use Rattle.mem_table.specs.declared.parts.MemberNodes.{MemberNodes}
@@ -9,13 +9,11 @@ use Rattle.group_engine.proofs.Answered.{begins_on}
 use Rattle.group_engine.proofs.Standing.{none_of}
 use Rattle.group_engine.proofs.leading.publish_group.Goals as goal
 
-pub launch-requires-clause-alone : goal.launch-requires-clause-alone
-launch-requires-clause-alone g c =
-    let r = c.requires.part in (
-      record { member = (g.T.Table.account c.args.seat.now).number; versions = r.0 },
-      ap group_of r.1,
-      refl,
-    )
+pub launch-requires-clause-member : goal.launch-requires-clause-member
+launch-requires-clause-member g c =
+    let r = c.requires.part in
+    let own : MemberVersions = record { member = (g.T.Table.account c.args.seat.now).number; versions = r.0 } in
+    (own, subst (In own) (sym (ap group_of r.1)) (inl refl), refl)
 
 pub take-part-requires-clause-free : goal.take-part-requires-clause-free
 take-part-requires-clause-free g c = subst MayTake (sym c.launch.ensures.launched.stage_is) tt

@@ -1,9 +1,5 @@
 -- The part is that of the group that was launched, of which the client is the only member, so that it finishes last.
-use Rattle.std.proofs.Common.{◌≡◌, ◌∷◌, [], ◌++◌, List, length, sym, ap, ◌∙◌, subst}
-use Rattle.table_rule.specs.declared.content.MemberVersions.{MemberVersions}
-use Rattle.table_rule.specs.declared.view.Launched.{Launched}
-use Rattle.table_rule.specs.declared.view.Stage.{Stage}
-use Rattle.table_rule.specs.Steps.{IsAwaited}
+use Rattle.std.proofs.Common.{◌∙◌, subst}
 use Rattle.table_calls.specs.declared.finished.Finished.{Finished}
 use Rattle.table_calls.specs.Account.{Counts}
 use Rattle.table_steps.specs.Accounts.{account}

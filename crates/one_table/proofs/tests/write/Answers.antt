@@ -1,5 +1,5 @@
 -- The group has one part of one version, so that the last sequence rises by one.
-use Rattle.std.proofs.Common.{◌≡◌, ◌+◌, [], ◌∷◌, List, length, sym, ap, ◌∙◌, arith, rules}
+use Rattle.std.proofs.Common.{◌≡◌, List, length, sym, ap, ◌∙◌, arith, rules}
 use Rattle.table_rule.specs.declared.content.MemberVersions.{MemberVersions}
 use Rattle.table_rule.specs.declared.view.Opening.{Opening}
 use Rattle.table_rule.specs.Histories.{last_of, versions_in}
@@ -10,8 +10,9 @@ use Rattle.table_steps.specs.Accounts.{history_of}
 use Rattle.one_table.specs.Meaning.{opening_of}
 use Rattle.one_table.proofs.tests.write.Goals as goal
 
-pub launch-requires-clause-alone : goal.launch-requires-clause-alone
-launch-requires-clause-alone g c = (record { member = 1; versions = c.in_ok-nodes_of.field-0 }, search rules, sym c.requires.seat.2)
+pub launch-requires-clause-member : goal.launch-requires-clause-member
+launch-requires-clause-member g c =
+    let own : MemberVersions = record { member = 1; versions = c.in_ok-nodes_of.field-0 } in (own, search rules, sym c.requires.seat.2)
 
 pub returns-clause-turn : goal.returns-clause-turn
 returns-clause-turn g c =

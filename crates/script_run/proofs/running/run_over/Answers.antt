@@ -11,8 +11,8 @@ use Rattle.client_script.specs.Scripts.{commands_of}
 use Rattle.log_writer.specs.declared.writer.LogWriter.{LogWriter}
 use Rattle.log_writer.specs.Words.{disk_of, fault_of}
 use Rattle.log_writer.specs.Written.{Wrote}
+use Rattle.memory_engine.proofs.Crossing.{client_send, engine_sync}
 use Rattle.client_run.specs.Jobs.{commands_in}
-use Rattle.script_run.proofs.Crossing.{client_send, engine_sync}
 use Rattle.script_run.proofs.RunEnds.{comes_to}
 use Rattle.script_run.proofs.running.run_over.Goals as goal
 

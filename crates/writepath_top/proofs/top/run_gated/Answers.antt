@@ -10,7 +10,7 @@ pub returns-in-Ok-Run-clause-run : goal.returns-in-Ok-Run-clause-run
 returns-in-Ok-Run-clause-run g c = λ wanted asked.
     let given = c.in-Ok-Run in
     let does = c.run_script.ensures in
-    let same = of_run (asked_of c.args.words.now) given.group_bytes given.batch_bytes given.last wanted (rw given.field-0-is at given.ensures.ok) asked in
+    let same = of_run (asked_of c.args.words.now) given.shards given.group_bytes given.batch_bytes given.last asked.0 wanted (rw given.field-0-is at given.ensures.ok) asked.1 in
     rw same (record {
       other = does.other;
       script = does.script;
@@ -27,7 +27,7 @@ pub returns-in-Ok-Generate-clause-generate : goal.returns-in-Ok-Generate-clause-
 returns-in-Ok-Generate-clause-generate g c = λ seed clients batches asked.
     let given = c.in-Ok-Generate in
     let does = c.run_generated.ensures in
-    let same = of_generate (asked_of c.args.words.now) given.seed given.clients given.batches seed clients batches (rw given.field-0-is at given.ensures.ok) asked in
+    let same = of_generate (asked_of c.args.words.now) given.shards given.seed given.clients given.batches asked.0 seed clients batches (rw given.field-0-is at given.ensures.ok) asked.1 in
     rw (same.0, same.1, same.2) (record {
       one = does.status;
       source_untouched = refl;

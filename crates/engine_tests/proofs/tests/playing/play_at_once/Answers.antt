@@ -6,17 +6,27 @@ use denote.Param.Send.{shr_sync, shr_slice_sync, param_send, arg_send}
 use Rattle.std.proofs.Crossing.{Vec-send, Vec-sync}
 use Rattle.std.proofs.alloc.Global.TheSendSync as heap
 use Rattle.std.proofs.sync.Mutex.TheSendSync as mutex
+use Rattle.wp_edge.specs.contracts.mem_disk.MemDisk as disk_row
+use Rattle.wp_edge.specs.contracts.mem_disk.MemDiskDisk.TheImpl as disk_ghosts
+use Rattle.wp_edge.specs.contracts.stepped_clock.SteppedClock as clock_row
+use Rattle.wp_edge.proofs.mem_disk.MemDisk.TheSendSync as disk
+use Rattle.wp_edge.proofs.stepped_clock.SteppedClock.TheSendSync as clock
+use Rattle.engine_calls.specs.contracts.gate.OpenGate as gate_row
+use Rattle.engine_calls.proofs.gate.OpenGate.TheSendSync as gate
+use Rattle.memory_engine.proofs.Crossing.{client_send, engine_sync}
 use Rattle.engine_tests.specs.Callers.{IsCaller}
 use Rattle.engine_tests.proofs.script.Step.TheSendSync as step
 use Rattle.engine_tests.proofs.script.Note.TheSendSync as note
-use Rattle.engine_tests.proofs.Crossing.{closure_sync, client_send, engine_sync}
+use Rattle.engine_tests.proofs.Crossing.{closure_sync}
 use Rattle.engine_tests.proofs.tests.playing.play_at_once.Goals as goal
 
 pub for_each_mut-requires-send-T : goal.for_each_mut-requires-send-T
-for_each_mut-requires-send-T g c κs within = param_send 1 _ (arg_send _ yes _ client_send)
+for_each_mut-requires-send-T g c κs within = param_send 1 _ (arg_send _ yes _ (client_send disk_row.the_row clock_row.the_row gate_row.the_row disk_ghosts.ghosts disk.the_send clock.the_send))
 
 pub for_each_mut-requires-sync-F : goal.for_each_mut-requires-sync-F
-for_each_mut-requires-sync-F g c κs within = record { shared = λ x b o κ. (closure_sync _ _ _ _ _ (shr_sync erased _ _ c.type_bounds.sync-R) (shr_sync erased [] _ heap.the_sync) (shr_sync erased _ _ engine_sync) (shr_slice_sync erased _ _ (Vec-sync _ step.the_sync)) (shr_slice_sync erased _ _ (mutex.the_sync _ (Vec-send _ note.the_send)))).shared x b o κ }
+for_each_mut-requires-sync-F g c κs within =
+    let path_sync = engine_sync disk_row.the_row clock_row.the_row gate_row.the_row disk_ghosts.ghosts disk.the_send clock.the_send gate.the_sync in
+    record { shared = λ x b o κ. (closure_sync _ _ _ _ _ (shr_sync erased _ _ c.type_bounds.sync-R) (shr_sync erased [] _ heap.the_sync) (shr_sync erased _ _ path_sync) (shr_slice_sync erased _ _ (Vec-sync _ step.the_sync)) (shr_slice_sync erased _ _ (mutex.the_sync _ (Vec-send _ note.the_send)))).shared x b o κ }
 
 pub for_each_mut-requires-clause-accepts : goal.for_each_mut-requires-clause-accepts
 for_each_mut-requires-clause-accepts g c κs within = λ i p lt is. subst (IsCaller c.args.engine.now (i + 1)) (sym is) (c.requires.0.each i p.now lt)

@@ -1,0 +1,23 @@
+-- What arguments and commands make of a command that they are added to.
+use Rattle.std.proofs.Common.{◌≡◌, ◌∙◌, false, refl, ap}
+use Rattle.clap.specs.Words.{AddsArg, AddsSubcommand, App, Rule, app_of, rule_of, with_rule, with_subcommand}
+use Rattle.clap.specs.Simple.{shape_of}
+use Rattle.clap.specs.declared.builder.arg.Arg.{Arg}
+use Rattle.clap.specs.declared.builder.command.Command.{Command}
+use Rattle.clap.specs.declared.builder.command.Command.TheViews.{out-Command}
+
+-- the command has this form, and no argument that its own commands take over
+pub record IsApp (command : Command) (a : App) : Type 0 where
+  pub app : app_of command ≡ a
+  pub local : (out-Command command).has_globals ≡ false
+
+pub with_argument : (old new : Command) (arg : Arg) (a : App) (r : Rule) → AddsArg old arg new → arg.global ≡ false → rule_of arg ≡ r → IsApp old a → IsApp new (with_rule a r)
+with_argument old new arg a r adds local rule_is is = record {
+  app = adds.shape local ∙ ap (λ (x : App). with_rule x (rule_of arg)) is.app ∙ ap (λ (x : Rule). with_rule a x) rule_is;
+  local = adds.globals ∙ rw (is.local, local) refl;
+}
+
+pub with_command : (old sub new : Command) (a b : App) → AddsSubcommand old sub new → (out-Command sub).has_globals ≡ false
+    → app_of old ≡ a → app_of sub ≡ b → app_of new ≡ with_subcommand a b.top
+with_command old sub new a b adds local old_is sub_is =
+    adds.shape local ∙ ap (λ (x : App). with_subcommand x (shape_of sub)) old_is ∙ ap (λ (x : App). with_subcommand a x.top) sub_is

@@ -1,0 +1,6 @@
+pub mod ShardMaps
+pub mod Splits
+pub mod Ordered
+pub mod Runs
+pub mod Popped
+pub mod Crossing
