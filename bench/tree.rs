@@ -1,8 +1,9 @@
 //! Times Rust's BTreeMap as `tree_program` beside this file times the memtable's tree: the same versions in the same order,
 //! and the same lookups.
 //!
-//! The arguments are how many thousand, and of how many keys, a quarter as many if left out. What is printed is the
-//! microseconds of both, and how many lookups found a value.
+//! The arguments are how many thousand, and of how many keys, a quarter as many if left out; with a word more all lookups
+//! are at the last sequence, and not at random ones. What is printed is the microseconds of both, and how many lookups found
+//! a value.
 
 use std::cmp::Reverse;
 use std::collections::BTreeMap;
@@ -27,6 +28,7 @@ fn main() -> Result<(), Box<dyn Error>> {
         Some(word) => word.parse::<u64>()?.max(1),
         None => versions / 4 + 1,
     };
+    let newest = words.next().is_some();
     let mut random = Random { state: 1 };
     let mut tree = Versions::new();
     let mut inserting = Duration::ZERO;
@@ -39,7 +41,7 @@ fn main() -> Result<(), Box<dyn Error>> {
         inserting += start.elapsed();
     }
     let start = Instant::now();
-    let found = look_up_all(&tree, &mut random, keys, versions);
+    let found = look_up_all(&tree, &mut random, keys, versions, newest);
     let looking = start.elapsed();
     println!("{} {} {found}", inserting.as_micros(), looking.as_micros());
     Ok(())
@@ -70,13 +72,14 @@ fn batch(random: &mut Random, keys: u64, first: u64) -> Vec<(Version, Option<Vec
         .collect()
 }
 
-/// Looks up random keys at random sequences, and says how many have a value there.
-fn look_up_all(tree: &Versions, random: &mut Random, keys: u64, versions: u64) -> u64 {
+/// Looks up random keys, at random sequences or all at the last one, and says how many have a value there.
+fn look_up_all(tree: &Versions, random: &mut Random, keys: u64, versions: u64, newest: bool) -> u64 {
     let mut found = 0;
     let mut wanted = (vec![0; 8], Reverse(0));
     for _ in 0..versions {
         let key = random.below(keys);
-        let at = random.below(versions);
+        let drawn = random.below(versions);
+        let at = if newest { versions } else { drawn };
         wanted.0.copy_from_slice(&key.to_be_bytes());
         wanted.1 = Reverse(at);
         if black_box(look_up(tree, &wanted)).is_some() {
