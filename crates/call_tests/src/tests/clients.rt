@@ -27,12 +27,18 @@ fn check_clients<R: Threads + Wait + Abort + Sync>(
 
 /// Either writer may come first, and the reader before, between and after them.
 const BOTH_OR_NEITHER: [&str; 6] = [
-    "client 1\nok 1 2\nclient 2\nok 3 4\nclient 3\nmany 0 2 - -\nhistory 2\n1 2 1 1 log *\n3 4 2 1 log *\nstate 4 2\na 2\nb 2\nlog *\n",
-    "client 1\nok 1 2\nclient 2\nok 3 4\nclient 3\nmany 2 2 =1 =1\nhistory 2\n1 2 1 1 log *\n3 4 2 1 log *\nstate 4 2\na 2\nb 2\nlog *\n",
-    "client 1\nok 1 2\nclient 2\nok 3 4\nclient 3\nmany 4 2 =2 =2\nhistory 2\n1 2 1 1 log *\n3 4 2 1 log *\nstate 4 2\na 2\nb 2\nlog *\n",
-    "client 1\nok 3 4\nclient 2\nok 1 2\nclient 3\nmany 0 2 - -\nhistory 2\n1 2 2 1 log *\n3 4 1 1 log *\nstate 4 2\na 1\nb 1\nlog *\n",
-    "client 1\nok 3 4\nclient 2\nok 1 2\nclient 3\nmany 2 2 =2 =2\nhistory 2\n1 2 2 1 log *\n3 4 1 1 log *\nstate 4 2\na 1\nb 1\nlog *\n",
-    "client 1\nok 3 4\nclient 2\nok 1 2\nclient 3\nmany 4 2 =1 =1\nhistory 2\n1 2 2 1 log *\n3 4 1 1 log *\nstate 4 2\na 1\nb 1\nlog *\n",
+    "client 1\nok 1 2\nclient 2\nok 3 4\nclient 3\nmany 0 2 - -\n\
+        history 2\n1 2 1 1 log *\n3 4 2 1 log *\nstate 4 2\na 2\nb 2\nlog *\n",
+    "client 1\nok 1 2\nclient 2\nok 3 4\nclient 3\nmany 2 2 =1 =1\n\
+        history 2\n1 2 1 1 log *\n3 4 2 1 log *\nstate 4 2\na 2\nb 2\nlog *\n",
+    "client 1\nok 1 2\nclient 2\nok 3 4\nclient 3\nmany 4 2 =2 =2\n\
+        history 2\n1 2 1 1 log *\n3 4 2 1 log *\nstate 4 2\na 2\nb 2\nlog *\n",
+    "client 1\nok 3 4\nclient 2\nok 1 2\nclient 3\nmany 0 2 - -\n\
+        history 2\n1 2 2 1 log *\n3 4 1 1 log *\nstate 4 2\na 1\nb 1\nlog *\n",
+    "client 1\nok 3 4\nclient 2\nok 1 2\nclient 3\nmany 2 2 =2 =2\n\
+        history 2\n1 2 2 1 log *\n3 4 1 1 log *\nstate 4 2\na 1\nb 1\nlog *\n",
+    "client 1\nok 3 4\nclient 2\nok 1 2\nclient 3\nmany 4 2 =1 =1\n\
+        history 2\n1 2 2 1 log *\n3 4 1 1 log *\nstate 4 2\na 1\nb 1\nlog *\n",
 ];
 
 #[test]
@@ -49,10 +55,14 @@ fn no_batch_is_seen_in_part(rt: HostRuntime) -> Result<(), Fail> {
 fn clients_read_what_they_wrote(rt: HostRuntime) -> Result<(), Fail> {
     let given = Given {
         words: "run --group-bytes 1",
-        text: b"client 1\nput a1 1\nput a2 1\ncommit sync\nmany a1 a2\nscan a b\nclient 2\nput b1 2\ncommit nolog\nget b1\ndel b1\ncommit\nget b1\nclient 3\nput c1 3\ncommit\nput c1 4\ncommit\nget c1\n",
+        text: b"client 1\nput a1 1\nput a2 1\ncommit sync\nmany a1 a2\nscan a b\nclient 2\nput b1 2\n\
+            commit nolog\nget b1\ndel b1\ncommit\nget b1\nclient 3\nput c1 3\ncommit\nput c1 4\ncommit\n\
+            get c1\n",
         ..PLAIN
     };
     let want =
-        "client 1\nok *\nmany * 2 =1 =1\nscan * 2 a1 1 a2 1\nclient 2\nok *\nval * 2\nok *\nnil *\nclient 3\nok *\nok *\nval * 4\nhistory 5\n1 *\n*\n*\n*\n*\nstate 6 3\na1 1\na2 1\nc1 4\nlog 104\n";
+        "client 1\nok *\nmany * 2 =1 =1\nscan * 2 a1 1 a2 1\nclient 2\nok *\nval * 2\nok *\nnil *\n\
+            client 3\nok *\nok *\nval * 4\n\
+            history 5\n1 *\n*\n*\n*\n*\nstate 6 3\na1 1\na2 1\nc1 4\nlog 104\n";
     check_clients(&rt, rt.alloc(), given, &[want])
 }

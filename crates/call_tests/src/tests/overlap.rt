@@ -146,8 +146,8 @@ fn a_table_has_a_lock_for_each_shard(rt: HostRuntime) -> Result<(), Fail> {
 #[test]
 fn a_read_waits_for_no_append(rt: HostRuntime) -> Result<(), Fail> {
     let text = b"client 1\nput a 1\ncommit\nclient 2\nget a\n";
-    let want =
-        "client 1\nok 1 1\nclient 2\nnil 0\nhistory 1\n1 1 1 1 log 0100000000000000010000000101610131\nstate 1 1\na 1\nlog 24\n";
+    let want = "client 1\nok 1 1\nclient 2\nnil 0\n\
+            history 1\n1 1 1 1 log 0100000000000000010000000101610131\nstate 1 1\na 1\nlog 24\n";
     for table in TABLES {
         overlapped(&rt, rt.alloc(), table, text, Until::Answered, 1, want)?;
     }
@@ -159,8 +159,8 @@ fn a_read_waits_for_no_append(rt: HostRuntime) -> Result<(), Fail> {
 fn who_waits_for_an_append_is_in_one_group(rt: HostRuntime) -> Result<(), Fail> {
     let text =
         b"client 1\nput a 1\ncommit\nclient 2\nput b 1\ncommit\nclient 3\nput c 1\ncommit\nclient 4\nput d 1\ncommit\n";
-    let want =
-        "client 1\nok 1 1\nclient 2\nok *\nclient 3\nok *\nclient 4\nok *\nhistory 4\n1 1 1 1 log *\n2 2 *\n3 3 *\n4 4 *\nstate 4 4\na 1\nb 1\nc 1\nd 1\nlog 58\n";
+    let want = "client 1\nok 1 1\nclient 2\nok *\nclient 3\nok *\nclient 4\nok *\n\
+            history 4\n1 1 1 1 log *\n2 2 *\n3 3 *\n4 4 *\nstate 4 4\na 1\nb 1\nc 1\nd 1\nlog 58\n";
     let recovered =
         "groups 2\n1 1 17\n2 3 27\nstate 4 4\n61 31\n62 31\n63 31\n64 31\nend 58 clean\n";
     for table in TABLES {

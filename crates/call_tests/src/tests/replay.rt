@@ -8,62 +8,105 @@ const REPLAYED: [Row; 10] = [
     // One group of two.
     (
         "replay",
-        b"client 1\nput a 1\ncommit\nclient 2\nput b 2\ncommit\nget a\nschedule\nlink 1\nlink 2\nelect 1\nbuild 1\nlog 1\nlaunch 1\ninsert 1\ninsert 2\nfinish 1\nfinish 2\npublish 2\nexit 1\ncomplete 1\ncomplete 2\nread 2\n",
-        "events 15 skipped 0\nclient 1\nok 1 1\nclient 2\nok 2 2\nval 2 1\nhistory 2\n1 1 1 1 log 0100000000000000010000000101610131\n2 2 2 1 log 0200000000000000010000000101620132\nstate 2 2\na 1\nb 2\ngroups 1\n",
+        b"client 1\nput a 1\ncommit\nclient 2\nput b 2\ncommit\nget a\n\
+            schedule\nlink 1\nlink 2\nelect 1\nbuild 1\nlog 1\nlaunch 1\ninsert 1\ninsert 2\nfinish 1\n\
+            finish 2\npublish 2\nexit 1\ncomplete 1\ncomplete 2\nread 2\n",
+        "events 15 skipped 0\nclient 1\nok 1 1\nclient 2\nok 2 2\nval 2 1\n\
+            history 2\n1 1 1 1 log 0100000000000000010000000101610131\n\
+            2 2 2 1 log 0200000000000000010000000101620132\nstate 2 2\na 1\nb 2\ngroups 1\n",
     ),
     // The read can't come: a commit stands before it.
     (
         "replay",
-        b"client 1\nput a 1\ncommit\nclient 2\nput b 2\ncommit\nget a\nschedule\nread 2\nlink 1\nlink 2\nelect 1\nbuild 1\nlog 1\nlaunch 1\ninsert 1\ninsert 2\nfinish 1\nfinish 2\npublish 2\nexit 1\ncomplete 1\ncomplete 2\n",
-        "events 14 skipped 1\nclient 1\nok 1 1\nclient 2\nok 2 2\nhistory 2\n1 1 1 1 log 0100000000000000010000000101610131\n2 2 2 1 log 0200000000000000010000000101620132\nstate 2 2\na 1\nb 2\ngroups 1\n",
+        b"client 1\nput a 1\ncommit\nclient 2\nput b 2\ncommit\nget a\n\
+            schedule\nread 2\nlink 1\nlink 2\nelect 1\nbuild 1\nlog 1\nlaunch 1\ninsert 1\ninsert 2\n\
+            finish 1\nfinish 2\npublish 2\nexit 1\ncomplete 1\ncomplete 2\n",
+        "events 14 skipped 1\nclient 1\nok 1 1\nclient 2\nok 2 2\n\
+            history 2\n1 1 1 1 log 0100000000000000010000000101610131\n\
+            2 2 2 1 log 0200000000000000010000000101620132\nstate 2 2\na 1\nb 2\ngroups 1\n",
     ),
     // The second doesn't fit the group of the first.
     (
         "replay --group-bytes 20",
-        b"client 1\nput a 1\ncommit\nclient 2\nput b 2\ncommit\nget a\nschedule\nlink 1\nlink 2\nelect 1\nbuild 1\nlog 1\nlaunch 1\ninsert 1\nfinish 1\npublish 1\nexit 1\ncomplete 1\nelect 2\nbuild 2\nlog 2\nlaunch 2\ninsert 2\nfinish 2\npublish 2\nexit 2\ncomplete 2\nread 2\n",
-        "events 21 skipped 0\nclient 1\nok 1 1\nclient 2\nok 2 2\nval 2 1\nhistory 2\n1 1 1 1 log 0100000000000000010000000101610131\n2 2 2 1 log 0200000000000000010000000101620132\nstate 2 2\na 1\nb 2\ngroups 2\n",
+        b"client 1\nput a 1\ncommit\nclient 2\nput b 2\ncommit\nget a\n\
+            schedule\nlink 1\nlink 2\nelect 1\nbuild 1\nlog 1\nlaunch 1\ninsert 1\nfinish 1\npublish 1\n\
+            exit 1\ncomplete 1\nelect 2\nbuild 2\nlog 2\nlaunch 2\ninsert 2\nfinish 2\npublish 2\nexit 2\n\
+            complete 2\nread 2\n",
+        "events 21 skipped 0\nclient 1\nok 1 1\nclient 2\nok 2 2\nval 2 1\n\
+            history 2\n1 1 1 1 log 0100000000000000010000000101610131\n\
+            2 2 2 1 log 0200000000000000010000000101620132\nstate 2 2\na 1\nb 2\ngroups 2\n",
     ),
     // Most can't come, for nobody leads.
     (
         "replay",
-        b"client 1\nput a 1\ncommit\nclient 2\nput b 2\ncommit\nget a\nschedule\nbuild 1\nlog 1\nlaunch 1\ninsert 1\nfinish 1\npublish 1\nexit 1\ncomplete 1\nlink 1\nelect 2\n",
+        b"client 1\nput a 1\ncommit\nclient 2\nput b 2\ncommit\nget a\n\
+            schedule\nbuild 1\nlog 1\nlaunch 1\ninsert 1\nfinish 1\npublish 1\nexit 1\ncomplete 1\nlink 1\n\
+            elect 2\n",
         "events 1 skipped 9\nclient 1\nclient 2\nhistory 0\nstate 0 0\ngroups 0\n",
     ),
     // The second group is logged while the first is inserted, and isn't launched before that has left.
     (
         "replay --pipelined",
-        b"client 1\nput a 1\ncommit\nclient 2\nput b 2\ncommit\nget a\nclient 3\nget a\nget b\nschedule\nlink 1\nelect 1\nbuild 1\nlink 2\nlog 1\nboundary 1\nsecond 1\nnext 1\nelect 2\nbuild 2\nlog 2\nlaunch 1\nread 2\ninsert 1\nread 3\nboundary 2\nsecond 2\nnext 2\nlaunch 2\nfinish 1\npublish 1\nread 3\nexit 1\nlaunch 2\ncomplete 1\ninsert 2\nfinish 2\npublish 2\nexit 2\ncomplete 2\nread 2\n",
-        "events 29 skipped 2\nclient 1\nok 1 1\nclient 2\nok 2 2\nval 2 1\nclient 3\nnil 0\nnil 1\nhistory 2\n1 1 1 1 log 0100000000000000010000000101610131\n2 2 2 1 log 0200000000000000010000000101620132\nstate 2 2\na 1\nb 2\ngroups 2\n",
+        b"client 1\nput a 1\ncommit\nclient 2\nput b 2\ncommit\nget a\nclient 3\nget a\nget b\n\
+            schedule\nlink 1\nelect 1\nbuild 1\nlink 2\nlog 1\nboundary 1\nsecond 1\nnext 1\nelect 2\n\
+            build 2\nlog 2\nlaunch 1\nread 2\ninsert 1\nread 3\nboundary 2\nsecond 2\nnext 2\nlaunch 2\n\
+            finish 1\npublish 1\nread 3\nexit 1\nlaunch 2\ncomplete 1\ninsert 2\nfinish 2\npublish 2\n\
+            exit 2\ncomplete 2\nread 2\n",
+        "events 29 skipped 2\nclient 1\nok 1 1\nclient 2\nok 2 2\nval 2 1\nclient 3\nnil 0\nnil 1\n\
+            history 2\n1 1 1 1 log 0100000000000000010000000101610131\n\
+            2 2 2 1 log 0200000000000000010000000101620132\nstate 2 2\na 1\nb 2\ngroups 2\n",
     ),
     // In a single stage the log isn't handed on: the second isn't even elected before the first has left.
     (
         "replay",
-        b"client 1\nput a 1\ncommit\nclient 2\nput b 2\ncommit\nget a\nclient 3\nget a\nget b\nschedule\nlink 1\nelect 1\nbuild 1\nlink 2\nlog 1\nboundary 1\nsecond 1\nnext 1\nelect 2\nbuild 2\nlog 2\nlaunch 1\nread 2\ninsert 1\nread 3\nboundary 2\nsecond 2\nnext 2\nlaunch 2\nfinish 1\npublish 1\nread 3\nexit 1\nlaunch 2\ncomplete 1\ninsert 2\nfinish 2\npublish 2\nexit 2\ncomplete 2\nread 2\n",
-        "events 13 skipped 18\nclient 1\nok 1 1\nclient 2\nclient 3\nnil 0\nnil 1\nhistory 1\n1 1 1 1 log 0100000000000000010000000101610131\nstate 1 1\na 1\ngroups 1\n",
+        b"client 1\nput a 1\ncommit\nclient 2\nput b 2\ncommit\nget a\nclient 3\nget a\nget b\n\
+            schedule\nlink 1\nelect 1\nbuild 1\nlink 2\nlog 1\nboundary 1\nsecond 1\nnext 1\nelect 2\n\
+            build 2\nlog 2\nlaunch 1\nread 2\ninsert 1\nread 3\nboundary 2\nsecond 2\nnext 2\nlaunch 2\n\
+            finish 1\npublish 1\nread 3\nexit 1\nlaunch 2\ncomplete 1\ninsert 2\nfinish 2\npublish 2\n\
+            exit 2\ncomplete 2\nread 2\n",
+        "events 13 skipped 18\nclient 1\nok 1 1\nclient 2\nclient 3\nnil 0\nnil 1\n\
+            history 1\n1 1 1 1 log 0100000000000000010000000101610131\nstate 1 1\na 1\ngroups 1\n",
     ),
     // A client reads several keys at once, before and after the batch of another is published.
     (
         "replay",
-        b"client 1\nput a 1\nput b 2\ncommit\nclient 2\nmany b a x\nscan a c\nmany b x\nscan a b\nschedule\nread 2\nlink 1\nelect 1\nbuild 1\nlog 1\nlaunch 1\ninsert 1\nread 2\nfinish 1\npublish 1\nread 2\nread 2\nexit 1\ncomplete 1\n",
-        "events 14 skipped 0\nclient 1\nok 1 2\nclient 2\nmany 0 3 - - -\nscan 0 0\nmany 2 2 =2 -\nscan 2 1 a 1\nhistory 1\n1 2 1 1 log 01000000000000000200000001016101310101620132\nstate 2 2\na 1\nb 2\ngroups 1\n",
+        b"client 1\nput a 1\nput b 2\ncommit\nclient 2\nmany b a x\nscan a c\nmany b x\nscan a b\n\
+            schedule\nread 2\nlink 1\nelect 1\nbuild 1\nlog 1\nlaunch 1\ninsert 1\nread 2\nfinish 1\n\
+            publish 1\nread 2\nread 2\nexit 1\ncomplete 1\n",
+        "events 14 skipped 0\nclient 1\nok 1 2\nclient 2\nmany 0 3 - - -\nscan 0 0\nmany 2 2 =2 -\n\
+            scan 2 1 a 1\n\
+            history 1\n1 2 1 1 log 01000000000000000200000001016101310101620132\nstate 2 2\na 1\nb 2\n\
+            groups 1\n",
     ),
     // The second commit may not be slowed down and the first may, so that they are in no group together.
     (
         "replay",
-        b"client 1\nput a 1\ncommit\nclient 2\nput b 2\ncommit noslow\nschedule\nlink 1\nlink 2\nelect 1\nbuild 1\nlog 1\nlaunch 1\ninsert 1\ninsert 2\nfinish 1\npublish 1\nexit 1\ncomplete 1\n",
-        "events 11 skipped 1\nclient 1\nok 1 1\nclient 2\nhistory 1\n1 1 1 1 log 0100000000000000010000000101610131\nstate 1 1\na 1\ngroups 1\n",
+        b"client 1\nput a 1\ncommit\nclient 2\nput b 2\ncommit noslow\n\
+            schedule\nlink 1\nlink 2\nelect 1\nbuild 1\nlog 1\nlaunch 1\ninsert 1\ninsert 2\nfinish 1\n\
+            publish 1\nexit 1\ncomplete 1\n",
+        "events 11 skipped 1\nclient 1\nok 1 1\nclient 2\n\
+            history 1\n1 1 1 1 log 0100000000000000010000000101610131\nstate 1 1\na 1\ngroups 1\n",
     ),
     // A batch of three and one of one, in one group.
     (
         "replay",
-        b"client 1\nput a 1\nput b 2\nput c 3\ncommit\nclient 2\nput d 4\ncommit\nschedule\nlink 1\nlink 2\nelect 1\nbuild 1\nlog 1\nlaunch 1\ninsert 1\ninsert 2\nfinish 1\nfinish 2\npublish 2\nexit 1\ncomplete 1\ncomplete 2\n",
-        "events 14 skipped 0\nclient 1\nok 1 3\nclient 2\nok 4 4\nhistory 2\n1 3 1 1 log 010000000000000003000000010161013101016201320101630133\n4 4 2 1 log 0400000000000000010000000101640134\nstate 4 4\na 1\nb 2\nc 3\nd 4\ngroups 1\n",
+        b"client 1\nput a 1\nput b 2\nput c 3\ncommit\nclient 2\nput d 4\ncommit\n\
+            schedule\nlink 1\nlink 2\nelect 1\nbuild 1\nlog 1\nlaunch 1\ninsert 1\ninsert 2\nfinish 1\n\
+            finish 2\npublish 2\nexit 1\ncomplete 1\ncomplete 2\n",
+        "events 14 skipped 0\nclient 1\nok 1 3\nclient 2\nok 4 4\n\
+            history 2\n1 3 1 1 log 010000000000000003000000010161013101016201320101630133\n\
+            4 4 2 1 log 0400000000000000010000000101640134\nstate 4 4\na 1\nb 2\nc 3\nd 4\ngroups 1\n",
     ),
     // The first batch has no run where two sequences are left, and isn't inserted. The second has one.
     (
         "replay --last 72057594037927933",
-        b"client 1\nput a 1\nput b 1\nput c 1\ncommit\nclient 2\nput d 1\ncommit\nschedule\nlink 1\nlink 2\nelect 1\nbuild 1\nlog 1\nlaunch 1\ninsert 1\ninsert 2\nfinish 2\npublish 2\nexit 1\ncomplete 1\ncomplete 2\n",
-        "events 12 skipped 1\nclient 1\nno full 72057594037927933\nclient 2\nok 72057594037927934 72057594037927934\nhistory 1\n72057594037927934 72057594037927934 2 1 log feffffffffffff00010000000101640131\nstate 72057594037927934 1\nd 1\ngroups 1\n",
+        b"client 1\nput a 1\nput b 1\nput c 1\ncommit\nclient 2\nput d 1\ncommit\n\
+            schedule\nlink 1\nlink 2\nelect 1\nbuild 1\nlog 1\nlaunch 1\ninsert 1\ninsert 2\nfinish 2\n\
+            publish 2\nexit 1\ncomplete 1\ncomplete 2\n",
+        "events 12 skipped 1\nclient 1\nno full 72057594037927933\nclient 2\n\
+            ok 72057594037927934 72057594037927934\n\
+            history 1\n72057594037927934 72057594037927934 2 1 log feffffffffffff00010000000101640131\n\
+            state 72057594037927934 1\nd 1\ngroups 1\n",
     ),
 ];
 

@@ -31,7 +31,8 @@ fn faulty_scripts_are_refused(rt: HostRuntime) -> Result<(), Fail> {
         (b"client 1\ncommit noslow sync\n", "script 2 form\n"),
         (b"client 1\n\n# x\nclient 3\n", "script 4 client\n"),
         (
-            b"client 1\nclient 2\nclient 3\nclient 4\nclient 5\nclient 6\nclient 7\nclient 8\nclient 9\nclient 10\nclient 11\nclient 12\nclient 13\nclient 14\nclient 15\nclient 16\nclient 17\n",
+            b"client 1\nclient 2\nclient 3\nclient 4\nclient 5\nclient 6\nclient 7\nclient 8\nclient 9\n\
+                client 10\nclient 11\nclient 12\nclient 13\nclient 14\nclient 15\nclient 16\nclient 17\n",
             "script 17 clients\n",
         ),
     ];
@@ -80,22 +81,28 @@ const OUTCOMES: [Row; 13] = [
     (
         "run",
         b"client 1\nput a 1\nput a 2\ndel a\ncommit\nget a\n",
-        "client 1\nok 1 3\nnil 3\nhistory 1\n1 3 1 1 log 01000000000000000300000001016101310101610132000161\nstate 3 0\nlog 32\n",
+        "client 1\nok 1 3\nnil 3\n\
+            history 1\n1 3 1 1 log 01000000000000000300000001016101310101610132000161\nstate 3 0\nlog 32\n",
     ),
     (
         "run",
         b"client 1\nnote x\ncommit\nput a 1\ncommit\n",
-        "client 1\nno empty\nok 1 1\nhistory 1\n1 1 1 1 log 0100000000000000010000000301780101610131\nstate 1 1\na 1\nlog 27\n",
+        "client 1\nno empty\nok 1 1\n\
+            history 1\n1 1 1 1 log 0100000000000000010000000301780101610131\nstate 1 1\na 1\nlog 27\n",
     ),
     (
         "run",
         b"client 1\nput a 1\ncommit\nput a 2\ncommit\nget a\n",
-        "client 1\nok 1 1\nok 2 2\nval 2 2\nhistory 2\n1 1 1 1 log 0100000000000000010000000101610131\n2 2 1 2 log 0200000000000000010000000101610132\nstate 2 1\na 2\nlog 48\n",
+        "client 1\nok 1 1\nok 2 2\nval 2 2\n\
+            history 2\n1 1 1 1 log 0100000000000000010000000101610131\n\
+            2 2 1 2 log 0200000000000000010000000101610132\nstate 2 1\na 2\nlog 48\n",
     ),
     (
         "run",
         b"client 1\nput a 1\nput b 2\ncommit nolog\nsdel a\ncommit sync\nscan a z\nscan b b\nmany b a\n",
-        "client 1\nok 1 2\nok 3 3\nscan 3 1 b 2\nscan 3 0\nmany 3 2 =2 -\nhistory 2\n1 2 1 1 nolog 01000000000000000200000001016101310101620132\n3 3 1 2 sync 030000000000000001000000070161\nstate 3 1\nb 2\nlog 22\n",
+        "client 1\nok 1 2\nok 3 3\nscan 3 1 b 2\nscan 3 0\nmany 3 2 =2 -\n\
+            history 2\n1 2 1 1 nolog 01000000000000000200000001016101310101620132\n\
+            3 3 1 2 sync 030000000000000001000000070161\nstate 3 1\nb 2\nlog 22\n",
     ),
     (
         "run",
@@ -106,29 +113,38 @@ const OUTCOMES: [Row; 13] = [
     (
         "run",
         b"client 1\nstop\nput a 1\ncommit noslow\ncommit\nstop\nunstop\nunstop\ncommit\n",
-        "client 1\ndone\nno incomplete 1 0 0\nno selfstop\nheld\ndone\nnotheld\nok 1 1\nhistory 1\n1 1 1 1 log 0100000000000000010000000101610131\nstate 1 1\na 1\nlog 24\n",
+        "client 1\ndone\nno incomplete 1 0 0\nno selfstop\nheld\ndone\nnotheld\nok 1 1\n\
+            history 1\n1 1 1 1 log 0100000000000000010000000101610131\nstate 1 1\na 1\nlog 24\n",
     ),
     // At a byte a second, a millisecond brings one byte of 17, and the other 16 are owed from a millisecond on.
     (
         "run",
         b"client 1\nslow 1\nput a 1\ncommit noslow\nunslow\ncommit\n",
-        "client 1\ndone\nno incomplete 0 1 16001000\ndone\nok 1 1\nhistory 1\n1 1 1 1 log 0100000000000000010000000101610131\nstate 1 1\na 1\nlog 24\n",
+        "client 1\ndone\nno incomplete 0 1 16001000\ndone\nok 1 1\n\
+            history 1\n1 1 1 1 log 0100000000000000010000000101610131\nstate 1 1\na 1\nlog 24\n",
     ),
     // The first one's commit waits where the third holds its token, which is given back as that client ends.
     (
         "run",
-        b"client 1\nput a 1\ncommit sync\nget a\nclient 2\nunstop\ncommit\nput b 2\ncommit sync nolog\nclient 3\nstop\nput c 3\ncommit noslow\ncommit\nstop\n",
-        "client 1\nok 1 1\nval 1 1\nclient 2\nnotheld\nno empty\nno syncwithoutlog\nclient 3\ndone\nno incomplete 1 0 0\nno selfstop\nheld\nhistory 1\n1 1 1 1 sync 0100000000000000010000000101610131\nstate 1 1\na 1\nlog 24\n",
+        b"client 1\nput a 1\ncommit sync\nget a\nclient 2\nunstop\ncommit\nput b 2\ncommit sync nolog\n\
+            client 3\nstop\nput c 3\ncommit noslow\ncommit\nstop\n",
+        "client 1\nok 1 1\nval 1 1\nclient 2\nnotheld\nno empty\nno syncwithoutlog\nclient 3\ndone\n\
+            no incomplete 1 0 0\nno selfstop\nheld\n\
+            history 1\n1 1 1 1 sync 0100000000000000010000000101610131\nstate 1 1\na 1\nlog 24\n",
     ),
     (
         "run --batch-bytes 20",
         b"client 1\nput a 1\nput b 2\ncommit\nclear\nput a 1\ncommit\n",
-        "client 1\nno large 22\nok 1 1\nhistory 1\n1 1 1 1 log 0100000000000000010000000101610131\nstate 1 1\na 1\nlog 24\n",
+        "client 1\nno large 22\nok 1 1\n\
+            history 1\n1 1 1 1 log 0100000000000000010000000101610131\nstate 1 1\na 1\nlog 24\n",
     ),
     (
         "run --last 72057594037927934",
         b"client 1\nput a 1\nput b 2\ncommit\nclear\nput a 1\ncommit\nput c 3\ncommit\n",
-        "client 1\nno full 72057594037927934\nok 72057594037927935 72057594037927935\nno full 72057594037927935\nhistory 1\n72057594037927935 72057594037927935 1 1 log ffffffffffffff00010000000101610131\nstate 72057594037927935 1\na 1\nlog 24\n",
+        "client 1\nno full 72057594037927934\nok 72057594037927935 72057594037927935\n\
+            no full 72057594037927935\n\
+            history 1\n72057594037927935 72057594037927935 1 1 log ffffffffffffff00010000000101610131\n\
+            state 72057594037927935 1\na 1\nlog 24\n",
     ),
     // A leader is in its group, however large its batch is.
     ("run --group-bytes 1", SCRIPT, OUTCOME),
@@ -252,7 +268,8 @@ fn writes_up_to_a_fault(rt: HostRuntime) -> Result<(), Fail> {
             b"client 1\nput a 1\ncommit\nput b 2\ncommit\ncommit\nget b\nget a\n",
             Disk(3),
             3,
-            "client 1\nok 1 1\nno logfault 1\nno logfault 1\nnil 1\nval 1 1\nhistory 1\n1 1 1 1 log 0100000000000000010000000101610131\nstate 1 1\na 1\nlog 24 fault 1\n",
+            "client 1\nok 1 1\nno logfault 1\nno logfault 1\nnil 1\nval 1 1\n\
+                history 1\n1 1 1 1 log 0100000000000000010000000101610131\nstate 1 1\na 1\nlog 24 fault 1\n",
             RECORD,
         ),
         // Two records are written. They aren't synced.
@@ -260,7 +277,8 @@ fn writes_up_to_a_fault(rt: HostRuntime) -> Result<(), Fail> {
             b"client 1\nput a 1\ncommit\nput b 2\ncommit sync\nget b\n",
             Disk(4),
             3,
-            "client 1\nok 1 1\nno logfault 1\nnil 1\nhistory 1\n1 1 1 1 log 0100000000000000010000000101610131\nstate 1 1\na 1\nlog 24 fault 1\n",
+            "client 1\nok 1 1\nno logfault 1\nnil 1\n\
+                history 1\n1 1 1 1 log 0100000000000000010000000101610131\nstate 1 1\na 1\nlog 24 fault 1\n",
             TWO_RECORDS,
         ),
     ];
