@@ -13,6 +13,3 @@
 mod key;
 
 pub use key::{Front, Key};
-
-#[cfg(test)]
-mod tests;

@@ -18,6 +18,3 @@ pub use outcome::Outcome;
 pub use reply::Reply;
 pub use run::{Run, next_run};
 pub use write_batch::MAX_SEQUENCE;
-
-#[cfg(test)]
-mod tests;

@@ -21,6 +21,3 @@ mod tokens;
 pub use client::run_client;
 pub use closing::finish;
 pub use run::{Transcripts, run_clients};
-
-#[cfg(test)]
-mod tests;

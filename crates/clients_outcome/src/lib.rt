@@ -13,6 +13,3 @@ mod state;
 pub use history::history_of;
 pub use run::{Lacks, Parts, Ran, run_engine};
 pub use state::state_of;
-
-#[cfg(test)]
-mod tests;

@@ -11,6 +11,3 @@ pub use ahead::{Ahead, commit_at, is_read, look_ahead};
 pub use measure::measure_batch;
 pub use plan::{ClientPlan, Lines};
 pub use small::are_small;
-
-#[cfg(test)]
-mod tests;

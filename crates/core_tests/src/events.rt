@@ -1,196 +1,161 @@
-ghost use Rattle.std.specs.Prelude.{◌≡◌};
+//! Schedules of two clients, which write one batch each.
 
-use client_calls::Command;
+use crate::opening::opened;
+use core_model::Event;
 use core_model::Event::*;
 use std::alloc::Global;
 use std::process::Abort;
 use std::test::Fail;
-use wp_coding::Bytes;
-use wp_model::{NoMemory, Refusal, WriteOptions};
-use write_core::{ClientPlan, CoreOptions, CoreReply, Counts, State, are_small, replay};
+use wp_model::Refusal;
+use write_core::{CoreReply, Counts, replay};
 
-fn bytes(alloc: Global, text: &[u8]) -> Result<Bytes, NoMemory> {
-    Bytes::copy(alloc, text)
+/// What is replayed, and what comes of it.
+#[derive(Clone, Copy)]
+struct Row {
+    /// The sequence before the first batch.
+    last: u64,
+    /// The keys that each client puts.
+    batches: [&'static [&'static [u8]]; 2],
+    events: &'static [Event],
+    counts: Counts,
+    /// What each client is told.
+    first: &'static [CoreReply],
+    second: &'static [CoreReply],
+    /// How many entries each logged group has, and how many there are in all.
+    logged: &'static [u64],
+    entries: usize,
+    /// The sequence published last.
+    published: u64,
 }
 
-fn put(alloc: Global, key: &[u8], value: &[u8]) -> Result<Command, NoMemory> {
-    Ok(Command::Put {
-        key: bytes(alloc, key)?,
-        value: bytes(alloc, value)?,
-    })
-}
-
-fn options(last: u64) -> CoreOptions
-    ensures { result.last ≡ last }
-{
-    CoreOptions {
-        pipelined: false,
-        group_bytes: 1048576,
-        batch_bytes: 16777216,
-        last,
-    }
-}
-
-/// Client 1 puts `a`, and client 2 puts `b` and reads `a`.
-fn two_clients(rt: &impl Abort, alloc: Global) -> Result<State, Fail> {
-    let mut first = Vec::new(alloc);
-    first.push(put(alloc, b"a", b"1")?)?;
-    first.push(commit())?;
-    let mut second = Vec::new(alloc);
-    second.push(put(alloc, b"b", b"2")?)?;
-    second.push(commit())?;
-    second.push(Command::Get {
-        key: bytes(alloc, b"a")?,
-    })?;
-    let mut plans = Vec::new(alloc);
-    plans.push(ClientPlan { lines: first })?;
-    plans.push(ClientPlan { lines: second })?;
-    assert!(rt; are_small(&plans));
-    Ok(State::new(alloc, plans, options(0))?)
-}
-
-fn commit() -> Command {
-    Command::Commit {
-        options: WriteOptions {
-            sync: false,
-            no_log: false,
-            no_slowdown: false,
-        },
-    }
-}
-
-#[test]
-fn replays_two_groups(rt: HostRuntime) -> Result<(), Fail> {
-    let mut state = two_clients(&rt, rt.alloc())?;
-    let events = [
-        Read(2),
-        Link(1),
-        Elect(1),
-        Build(1),
-        Link(2),
-        Log(1),
-        Launch(1),
-        Insert(1),
-        Finish(1),
-        Publish(1),
-        Exit(1),
-        Complete(1),
-        Elect(2),
-        Build(2),
-        Log(2),
-        Launch(2),
-        Insert(2),
-        Finish(2),
-        Publish(2),
-        Exit(2),
-        Complete(2),
-        Read(2),
-    ];
-    let counts = replay(&mut state, &events);
-    assert_eq!(rt;
-        counts,
-        Counts {
+const ROWS: [Row; 3] = [
+    // Two groups. The first read can't come: a commit stands before it.
+    Row {
+        last: 0,
+        batches: [&[b"a"], &[b"b"]],
+        events: &[
+            Read(2),
+            Link(1),
+            Elect(1),
+            Build(1),
+            Link(2),
+            Log(1),
+            Launch(1),
+            Insert(1),
+            Finish(1),
+            Publish(1),
+            Exit(1),
+            Complete(1),
+            Elect(2),
+            Build(2),
+            Log(2),
+            Launch(2),
+            Insert(2),
+            Finish(2),
+            Publish(2),
+            Exit(2),
+            Complete(2),
+            Read(2),
+        ],
+        counts: Counts {
             taken: 21,
-            skipped: 1
-        }
-    );
-    assert_eq!(rt;
-        state.replies(1),
-        [CoreReply::Accepted { first: 1, last: 1 }].as_slice()
-    );
-    let second = [
-        CoreReply::Accepted { first: 2, last: 2 },
-        CoreReply::ReadAt { at: 2 },
-    ];
-    assert_eq!(rt; state.replies(2), second.as_slice());
-    assert_eq!(rt; state.logged(), [1, 1].as_slice());
-    assert_eq!(rt; state.entries().len(), 2);
-    assert_eq!(rt; state.last(), 2);
-    Ok(())
-}
-
-#[test]
-fn replays_one_group_of_two(rt: HostRuntime) -> Result<(), Fail> {
-    let mut state = two_clients(&rt, rt.alloc())?;
-    let events = [
-        Link(1),
-        Link(2),
-        Elect(1),
-        Build(1),
-        Log(1),
-        Launch(1),
-        Insert(1),
-        Insert(2),
-        Finish(1),
-        Finish(2),
-        Publish(2),
-        Exit(1),
-        Complete(1),
-        Complete(2),
-        Read(2),
-    ];
-    let counts = replay(&mut state, &events);
-    assert_eq!(rt;
-        counts,
-        Counts {
+            skipped: 1,
+        },
+        first: &[CoreReply::Accepted { first: 1, last: 1 }],
+        second: &[
+            CoreReply::Accepted { first: 2, last: 2 },
+            CoreReply::ReadAt { at: 2 },
+        ],
+        logged: &[1, 1],
+        entries: 2,
+        published: 2,
+    },
+    // One group of two.
+    Row {
+        last: 0,
+        batches: [&[b"a"], &[b"b"]],
+        events: &[
+            Link(1),
+            Link(2),
+            Elect(1),
+            Build(1),
+            Log(1),
+            Launch(1),
+            Insert(1),
+            Insert(2),
+            Finish(1),
+            Finish(2),
+            Publish(2),
+            Exit(1),
+            Complete(1),
+            Complete(2),
+            Read(2),
+        ],
+        counts: Counts {
             taken: 15,
-            skipped: 0
-        }
-    );
-    assert_eq!(rt; state.logged(), [2].as_slice());
+            skipped: 0,
+        },
+        first: &[CoreReply::Accepted { first: 1, last: 1 }],
+        second: &[
+            CoreReply::Accepted { first: 2, last: 2 },
+            CoreReply::ReadAt { at: 2 },
+        ],
+        logged: &[2],
+        entries: 2,
+        published: 2,
+    },
+    // Two sequences are left for three, so the first has no run and isn't inserted. The second has one.
+    Row {
+        last: 72057594037927933,
+        batches: [&[b"a", b"b", b"c"], &[b"d"]],
+        events: &[
+            Link(1),
+            Link(2),
+            Elect(1),
+            Build(1),
+            Log(1),
+            Launch(1),
+            Insert(1),
+            Insert(2),
+            Finish(2),
+            Publish(2),
+            Exit(1),
+            Complete(1),
+            Complete(2),
+        ],
+        counts: Counts {
+            taken: 12,
+            skipped: 1,
+        },
+        first: &[CoreReply::Refused {
+            why: Refusal::SequenceFull {
+                last: 72057594037927933,
+            },
+        }],
+        second: &[CoreReply::Accepted {
+            first: 72057594037927934,
+            last: 72057594037927934,
+        }],
+        logged: &[1],
+        entries: 1,
+        published: 72057594037927934,
+    },
+];
+
+fn check_row(rt: &impl Abort, alloc: Global, row: &Row) -> Result<(), Fail> {
+    let mut state = opened(rt, alloc, row.last, &row.batches)?;
+    let counts = replay(&mut state, row.events);
+    let sums = (counts, state.entries().len(), state.last());
+    assert_eq!(rt; sums, (row.counts, row.entries, row.published));
+    let lists = (state.replies(1), state.replies(2), state.logged());
+    assert_eq!(rt; lists, (row.first, row.second, row.logged));
     Ok(())
 }
 
 #[test]
-fn refuses_a_run_that_passes_the_last_sequence(rt: HostRuntime) -> Result<(), Fail> {
-    let alloc = rt.alloc();
-    let mut first = Vec::new(alloc);
-    for key in [b"a", b"b", b"c"] {
-        first.push(put(alloc, key, b"1")?)?;
+fn schedules_are_replayed(rt: HostRuntime) -> Result<(), Fail> {
+    for row in &ROWS {
+        check_row(&rt, rt.alloc(), row)?;
     }
-    first.push(commit())?;
-    let mut second = Vec::new(alloc);
-    second.push(put(alloc, b"d", b"1")?)?;
-    second.push(commit())?;
-    let mut plans = Vec::new(alloc);
-    plans.push(ClientPlan { lines: first })?;
-    plans.push(ClientPlan { lines: second })?;
-    assert!(rt; are_small(&plans));
-    let mut state = State::new(alloc, plans, options(72057594037927933))?;
-    let events = [
-        Link(1),
-        Link(2),
-        Elect(1),
-        Build(1),
-        Log(1),
-        Launch(1),
-        Insert(1),
-        Insert(2),
-        Finish(2),
-        Publish(2),
-        Exit(1),
-        Complete(1),
-        Complete(2),
-    ];
-    let counts = replay(&mut state, &events);
-    assert_eq!(rt;
-        counts,
-        Counts {
-            taken: 12,
-            skipped: 1
-        }
-    );
-    let full = Refusal::SequenceFull {
-        last: 72057594037927933,
-    };
-    assert_eq!(rt;
-        state.replies(1),
-        [CoreReply::Refused { why: full }].as_slice()
-    );
-    let accepted = CoreReply::Accepted {
-        first: 72057594037927934,
-        last: 72057594037927934,
-    };
-    assert_eq!(rt; state.replies(2), [accepted].as_slice());
     Ok(())
 }

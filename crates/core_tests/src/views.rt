@@ -1,66 +1,75 @@
 //! A client's write, and what is shown of it.
 
-use client_calls::{Command, Entry};
+use crate::opening::opened;
+use client_calls::Entry;
+use core_model::Event;
 use core_model::Event::*;
-use core_plans::{ClientPlan, Lines, are_small};
+use core_plans::Lines;
 use core_views::{MapUpTo, batch_lines, map, map_at};
+use std::alloc::Global;
+use std::process::Abort;
 use std::test::Fail;
-use wp_coding::{Bytes, Found};
-use wp_model::{Flag, WriteOptions};
-use write_core::{CoreOptions, State, replay};
+use wp_coding::Found;
+use wp_model::Flag;
+use write_core::{State, replay};
 
-/// A client puts `a`, and its write goes the whole way.
+const ENTRY: Entry<Lines> = Entry {
+    client: 1,
+    ordinal: 1,
+    first: 1,
+    last: 1,
+    flag: Flag::Log,
+    batch: Lines { from: 0, to: 1 },
+};
+
+/// What the write of a client that puts `a` is taken through.
+const EVENTS: [Event; 8] = [
+    Link(1),
+    Elect(1),
+    Build(1),
+    Log(1),
+    Launch(1),
+    Insert(1),
+    Finish(1),
+    Publish(1),
+];
+
+fn written(rt: &impl Abort, alloc: Global) -> Result<State, Fail> {
+    let mut state = opened(rt, alloc, 0, &[&[b"a"]])?;
+    replay(&mut state, &EVENTS);
+    Ok(state)
+}
+
+fn value_in(found: &Found) -> Option<&[u8]> {
+    match found {
+        Found::Value(value) => Some(value.as_slice()),
+        Found::Absent => None,
+    }
+}
+
+/// What a read finds at a sequence, and then at an earlier one.
+const READS: [(u64, Option<&[u8]>); 2] = [(1, Some(b"1")), (0, None)];
+
 #[test]
-fn shows_what_was_written(rt: HostRuntime) -> Result<(), Fail> {
-    let alloc = rt.alloc();
-    let mut lines = Vec::new(alloc);
-    lines.push(Command::Put {
-        key: Bytes::copy(alloc, b"a")?,
-        value: Bytes::copy(alloc, b"1")?,
-    })?;
-    lines.push(Command::Commit {
-        options: WriteOptions {
-            sync: false,
-            no_log: false,
-            no_slowdown: false,
-        },
-    })?;
-    let mut plans = Vec::new(alloc);
-    plans.push(ClientPlan { lines })?;
-    assert!(rt; are_small(&plans));
-    let options = CoreOptions {
-        pipelined: false,
-        group_bytes: 1048576,
-        batch_bytes: 16777216,
-        last: 0,
-    };
-    let mut state = State::new(alloc, plans, options)?;
-    let events = [
-        Link(1),
-        Elect(1),
-        Build(1),
-        Log(1),
-        Launch(1),
-        Insert(1),
-        Finish(1),
-        Publish(1),
-    ];
-    replay(&mut state, &events);
-    let one = Found::Value(Bytes::copy(alloc, b"1")?);
-    let mut read = MapUpTo::new(alloc);
-    assert_eq!(rt; read.value(&state, b"a", 1)?, one);
-    assert_eq!(rt; read.value(&state, b"a", 0)?, Found::Absent);
-    assert_eq!(rt; map(&state, alloc)?.len(), 1);
-    assert_eq!(rt; map_at(&state, alloc, 0)?.len(), 0);
-    let entry = Entry {
-        client: 1,
-        ordinal: 1,
-        first: 1,
-        last: 1,
-        flag: Flag::Log,
-        batch: Lines { from: 0, to: 1 },
-    };
-    assert_eq!(rt; state.entries(), [entry].as_slice());
-    assert_eq!(rt; batch_lines(&state, &entry).len(), 1);
+fn a_write_is_read_from_its_sequence_on(rt: HostRuntime) -> Result<(), Fail> {
+    let state = written(&rt, rt.alloc())?;
+    let mut read = MapUpTo::new(rt.alloc());
+    for (at, want) in READS {
+        let found = read.value(&state, b"a", at)?;
+        assert_eq!(rt; value_in(&found), want, "at {at}");
+    }
+    Ok(())
+}
+
+#[test]
+fn a_write_is_an_entry_and_in_the_map(rt: HostRuntime) -> Result<(), Fail> {
+    let state = written(&rt, rt.alloc())?;
+    let maps = (map(&state, rt.alloc())?, map_at(&state, rt.alloc(), 0)?);
+    let sizes = (
+        maps.0.len(),
+        maps.1.len(),
+        batch_lines(&state, &ENTRY).len(),
+    );
+    assert_eq!(rt; (state.entries(), sizes), ([ENTRY].as_slice(), (1, 0, 1)));
     Ok(())
 }

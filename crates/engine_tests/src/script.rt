@@ -1,7 +1,5 @@
 // What a client of a test does, and what it is told.
 
-use engine_calls::Receipt;
-use wp_coding::Read;
 use wp_model::{Refusal, WriteOptions};
 
 /// A call of a client.
@@ -28,11 +26,30 @@ pub enum Step {
 }
 
 /// What a call answered.
-#[derive(Drop)]
+#[derive(Clone, Copy, Debug, PartialEq, Eq)]
 pub enum Note {
-    Wrote(Receipt),
+    /// The batch was written under so many sequences from the first on, in a group that ends at `group_last`. It came
+    /// back with this sequence set.
+    Wrote {
+        first: u64,
+        count: u32,
+        group_last: u64,
+        sequence: u64,
+    },
     Refused(Refusal),
-    Saw(Read),
+    /// A read at this sequence found a value of this one byte.
+    Saw {
+        at: u64,
+        byte: u8,
+    },
+    /// A read at this sequence found a value that no test writes.
+    SawAnother {
+        at: u64,
+    },
+    /// A read at this sequence found no value.
+    SawNone {
+        at: u64,
+    },
     /// A read had no memory.
     NoMemory,
     /// A token was taken or given back.

@@ -7,8 +7,6 @@
 
 mod disk;
 mod hold;
-#[cfg(test)]
-mod tests;
 
 pub use disk::HeldDisk;
 pub use hold::Hold;

@@ -10,7 +10,7 @@ use Rattle.list_rule.specs.declared.view.Handling.{Handling}
 use Rattle.list_rule.specs.declared.view.Entry.{Entry}
 use Rattle.writer_list.specs.Roles.{IsNew, AreNew, IsLinked}
 use Rattle.writer_list.specs.Rooms.{AreReady, AllReady}
-use Rattle.writer_list.specs.Seats.{table_of, Belongs, IsIn, IsChosen, IsOut, AllOut, AllThere, told, told_in_first}
+use Rattle.writer_list.specs.Seats.{table_of, clients_of, Belongs, IsIn, IsChosen, IsOut, AllOut, AllThere, told, told_in_first}
 use Rattle.list_tests.specs.declared.counter.Ask.{Ask}
 use Rattle.list_tests.specs.declared.counter.Answer.{Answer}
 use Rattle.list_tests.specs.declared.counter.Counter.{Counter}
@@ -35,6 +35,23 @@ set_below P xs i y below at lt j d h = elim (below_or_at j i h) [
 pub set_above : {T : Type 0} (P : ℕ → T → Type 0) (xs : List T) (i : ℕ) (y : T) → ((j : ℕ) (d : T) → i ≤ j → j < length xs → P j (get_or xs j d)) → (j : ℕ) (d : T) → i + 1 ≤ j → j < length (set xs i y) → P j (get_or (set xs i y) j d)
 set_above P xs i y above j d le lt = let ne : j ≢ i = omega arith in subst (P j) (sym (get_or-set_other xs i j y d ne)) (above j d (omega arith) (subst (λ n. j < n) (length-set xs i y) lt))
 
+-- what holds from i on holds at i
+pub at_first : {T : Type 0} (P : ℕ → T → Type 0) (xs : List T) (i : ℕ) → ((j : ℕ) (d : T) → i ≤ j → j < length xs → P j (get_or xs j d)) → i < length xs → (d : T) → P i (get_or xs i d)
+at_first P xs i from lt d = from i d (omega arith) lt
+
+pub below_end : (i n all end : ℕ) → i < n → n ≡ all → all ≤ end → i < end
+below_end i n all end lt is le = omega arith
+
+-- one more of n clients gets its seat: `made` have theirs, and `rest` are left
+pub record IsNext (n made rest : ℕ) : Type 0 where
+  pub number : n - rest ≡ made + 1
+  pub left : rest + (made + 1) ≡ n
+  pub positive : 0 < made + 1
+  pub within : made + 1 ≤ n
+
+pub is_next : (n made rest was : ℕ) → was + made ≡ n → rest + 1 ≡ was → IsNext n made rest
+is_next n made rest was all one = record { number = omega arith; left = omega arith; positive = omega arith; within = omega arith }
+
 module _ (list : Counted) where
   pub new_last : (m : ℕ) (ws : List (Writer Ask Answer Counter Nothing)) (w : Writer Ask Answer Counter Nothing) → AreNew (table_of list) m (ws ++ w ∷ []) → AreNew (table_of list) m ws × IsNew (table_of list) (m - length ws) w
   new_last m [] w new = (tt, subst (λ k. IsNew (table_of list) k w) (let h : m ≡ m - 0 = omega arith in h) new.0)
@@ -42,6 +59,9 @@ module _ (list : Counted) where
 
   pub new_is_out : (k : ℕ) (w : Writer Ask Answer Counter Nothing) → IsNew (table_of list) k w → IsOut w
   new_is_out k w new = let view = ap (λ m. m.0) new.3 in let mine : told w ≡ [] = ap told_in_first view in (view ∙ (λ i. hold (sym new.0 i) Idle (sym mine i) ∷ []), ap (λ m. m.1) new.3)
+
+  pub new_sat : (k : ℕ) (w : Writer Ask Answer Counter Nothing) → IsNew (table_of list) k w → 0 < k → k ≤ clients_of list → IsSat list k w
+  new_sat k w new positive within = ((new.2, subst (λ c. 0 < c) (sym new.0) positive, subst (λ c. c ≤ clients_of list) (sym new.0) within), new_is_out k w new, new.0)
 
   -- a writer that was linked is linked with what it was told
   pub linked : (q : Ask) (mine : List (Ask × Answer)) (w : Writer Ask Answer Counter Nothing) → IsIn (law list) q mine w → IsAsking list w

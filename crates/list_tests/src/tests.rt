@@ -1,22 +1,22 @@
 //! Rounds of the list on one thread, and threads that write at once.
 
-ghost use Rattle.std.specs.Prelude.{◌≡◌, ◌<◌, ◌≤◌};
-ghost use Rattle.list_tests.specs.Players.{IsPlain, MayWrite, HasAsked};
+ghost use Rattle.std.specs.Prelude.{◌≡◌, length};
+ghost use Rattle.list_tests.specs.Players.{IsPlain, MayWrite, HasAsked, AllMayWrite};
 
 mod playing;
 
 use crate::counter::{Answer, Counter, Nothing, Player};
 use list_rule::Start;
 use playing::{
-    Counted, MAX, PLAIN, ask, ask_all, ask_at_once, closed, finish, finish_all, finish_at_once,
-    grouped, left, note, opened, sized, taken, write_at_once,
+    Counted, MAX, PLAIN, ask, ask_all, closed, finish, finish_all, grouped, left, note, opened,
+    sized, taken, write_at_once,
 };
 use std::alloc::Global;
+use std::mem;
 use std::process::Abort;
 use std::rt::HostRuntime;
-use std::sync::Wait;
+use std::sync::{Barrier, Wait};
 use std::test::Fail;
-use std::thread::Threads;
 use wp_model::Item;
 use writer_list::Role;
 
@@ -35,106 +35,135 @@ const HASTY: Item = Item {
     ..PLAIN
 };
 
-// What three writers ask in turn, and the sizes of the groups that they lead then; none where another leads.
-#[derive(Drop)]
+const ONE: Item = Item { size: 1, ..PLAIN };
+
+/// An eighth of the bound. A leader past it is a larger one.
+const EIGHTH: Item = Item {
+    size: 131072,
+    ..PLAIN
+};
+
+const PAST_EIGHTH: Item = Item {
+    size: 131073,
+    ..PLAIN
+};
+
+/// What the bound leaves beside that.
+const REST: Item = Item {
+    size: 917503,
+    ..PLAIN
+};
+
+const PAST_REST: Item = Item {
+    size: 917504,
+    ..PLAIN
+};
+
+/// What three writers ask in turn under a bound, and the sizes of the groups that they lead then; none where another
+/// leads.
+#[derive(Clone, Copy)]
 struct Row {
     max: u64,
     items: [Item; 3],
     led: [usize; 3],
 }
 
+const ROWS: [Row; 9] = [
+    // All alike.
+    Row {
+        max: MAX,
+        items: [PLAIN, PLAIN, PLAIN],
+        led: [3, 0, 0],
+    },
+    // A small leader's cap, its 100 and an eighth, is reached.
+    Row {
+        max: MAX,
+        items: [PLAIN, EIGHTH, ONE],
+        led: [2, 0, 1],
+    },
+    // A small leader's cap is passed by one.
+    Row {
+        max: MAX,
+        items: [PLAIN, PAST_EIGHTH, ONE],
+        led: [1, 2, 0],
+    },
+    // A larger leader's cap, the bound, is reached.
+    Row {
+        max: MAX,
+        items: [PAST_EIGHTH, REST, ONE],
+        led: [2, 0, 1],
+    },
+    // A larger leader's cap is passed by one.
+    Row {
+        max: MAX,
+        items: [PAST_EIGHTH, PAST_REST, ONE],
+        led: [1, 2, 0],
+    },
+    // A sync doesn't go with a leader without one, and goes before one without.
+    Row {
+        max: MAX,
+        items: [PLAIN, SYNCED, PLAIN],
+        led: [1, 2, 0],
+    },
+    // Out of the log, and none that may be slowed down, alone.
+    Row {
+        max: MAX,
+        items: [PLAIN, UNLOGGED, HASTY],
+        led: [1, 1, 1],
+    },
+    // The flags alike.
+    Row {
+        max: MAX,
+        items: [UNLOGGED, UNLOGGED, PLAIN],
+        led: [2, 0, 1],
+    },
+    // Another bound cuts the group.
+    Row {
+        max: 250,
+        items: [PLAIN, PLAIN, PLAIN],
+        led: [2, 0, 1],
+    },
+];
+
+// The size of the group that a client led last, and the number and the size that it was told last.
+fn told_last(player: &Player) -> Option<(usize, u64, u64)> {
+    let answer = player.told.last()?;
+    Some((player.led, answer.number, answer.size))
+}
+
 // The answers of a row are those of the counter from `from` on, in the order of the links, each with its own size.
 fn check_row(rt: &impl Abort, players: &[Player], row: &Row, from: u64) {
     assert_eq!(rt; players.len(), 3);
-    for i in 0..3 {
-        assert_eq!(rt; players[i].led, row.led[i], "{i} of the row from {from}");
-        let Some(answer) = players[i].told.last() else {
-            panic!(rt; "{i} of the row from {from} was told nothing")
-        };
-        assert_eq!(rt;
-            answer.number,
-            from.wrapping_add(i as u64),
-            "{i} of the row from {from}"
-        );
-        assert_eq!(rt;
-            answer.size,
-            row.items[i].size,
-            "{i} of the row from {from}"
-        );
+    let mut number = from;
+    for ((player, item), led) in players.iter().zip(&row.items).zip(row.led) {
+        let want = Some((led, number, item.size));
+        assert_eq!(rt; told_last(player), want, "in the row from {from}");
+        number = number.wrapping_add(1);
     }
+}
+
+// A row's requests come in turn, and then each of the three waits for its role.
+fn play_row<R: Wait + Abort>(rt: &R, list: &Counted, players: &mut [Player], row: &Row, from: u64)
+    requires out { AllMayWrite list.now players.old × (length players.old ≡ 3) }
+    requires plain { IsPlain list.now }
+    ensures { AllMayWrite list.now players.new × (length players.new ≡ length players.old) }
+{
+    ask_all(rt, list, players, &row.items);
+    finish_all(rt, list, players, row.max);
+    check_row(rt, players, row, from);
 }
 
 #[test]
 fn groups_of_three(rt: HostRuntime) {
-    let rows = [
-        // All alike.
-        Row {
-            max: MAX,
-            items: [PLAIN, PLAIN, PLAIN],
-            led: [3, 0, 0],
-        },
-        // A small leader's cap, 100 and an eighth, is reached.
-        Row {
-            max: MAX,
-            items: [sized(100), sized(131072), sized(1)],
-            led: [2, 0, 1],
-        },
-        // A small leader's cap is passed by one.
-        Row {
-            max: MAX,
-            items: [sized(100), sized(131073), sized(1)],
-            led: [1, 2, 0],
-        },
-        // A larger leader's cap, the bound, is reached.
-        Row {
-            max: MAX,
-            items: [sized(131073), sized(917503), sized(1)],
-            led: [2, 0, 1],
-        },
-        // A larger leader's cap is passed by one.
-        Row {
-            max: MAX,
-            items: [sized(131073), sized(917504), sized(1)],
-            led: [1, 2, 0],
-        },
-        // A sync doesn't go with a leader without one, and goes before one without.
-        Row {
-            max: MAX,
-            items: [PLAIN, SYNCED, PLAIN],
-            led: [1, 2, 0],
-        },
-        // Out of the log, and none that may be slowed down, alone.
-        Row {
-            max: MAX,
-            items: [PLAIN, UNLOGGED, HASTY],
-            led: [1, 1, 1],
-        },
-        // The flags alike.
-        Row {
-            max: MAX,
-            items: [UNLOGGED, UNLOGGED, PLAIN],
-            led: [2, 0, 1],
-        },
-        // Another bound cuts the group.
-        Row {
-            max: 250,
-            items: [PLAIN, PLAIN, PLAIN],
-            led: [2, 0, 1],
-        },
-    ];
     let alloc = rt.alloc();
-    let (list, mut players) = opened(&rt, alloc, 3, rows.len());
+    let (list, mut players) = opened(&rt, alloc, 3, ROWS.len());
     let mut from = 0u64;
-    for row in &rows {
-        ask_all(&rt, &list, players.as_mut_slice(), &row.items);
-        finish_all(&rt, &list, players.as_mut_slice(), row.max);
-        check_row(&rt, players.as_slice(), row, from);
+    for row in &ROWS {
+        play_row(&rt, &list, players.as_mut_slice(), row, from);
         from = from.wrapping_add(3);
     }
     let (log, right) = closed(&rt, alloc, list, players);
-    assert_eq!(rt; log.count, 27);
-    assert_eq!(rt; log.sum, 2361002);
-    assert_eq!(rt; right.mark, 7);
+    assert_eq!(rt; (log.count, log.sum, right.mark), (27, 2361002, 7));
 }
 
 // The first leads, and the newcomer links itself when the group is made.
@@ -157,6 +186,16 @@ fn lead_beside<R: Wait + Abort>(rt: &R, list: &Counted, first: &mut Player, newc
     }
 }
 
+const NEWCOMER: Row = Row {
+    max: MAX,
+    items: [
+        Item { size: 1, ..PLAIN },
+        Item { size: 2, ..PLAIN },
+        Item { size: 3, ..PLAIN },
+    ],
+    led: [2, 0, 1],
+};
+
 #[test]
 fn a_newcomer_leads_the_next_group(rt: HostRuntime) {
     let (list, mut players) = opened(&rt, rt.alloc(), 3, 1);
@@ -168,91 +207,67 @@ fn a_newcomer_leads_the_next_group(rt: HostRuntime) {
     lead_beside(&rt, &list, &mut first, &mut third);
     finish(&rt, &list, &mut third, MAX);
     finish(&rt, &list, &mut second, MAX);
-    assert_eq!(rt; (first.led, second.led, third.led), (2, 0, 1));
-    for (number, player) in [first, second, third].iter().enumerate() {
-        let Some(answer) = player.told.last() else {
-            panic!(rt; "told nothing")
-        };
-        assert_eq!(rt;
-            (answer.number, answer.size),
-            (number as u64, number as u64 + 1)
-        );
-    }
+    check_row(&rt, &[first, second, third], &NEWCOMER, 0);
 }
 
 // Notes each number that a client was told, of which none was told to anyone yet; each is above the one before it.
 fn note_numbers(rt: &impl Abort, told: &[Answer], size: u64, noted: &mut [bool]) {
     let mut next = 0;
     for answer in told {
-        assert_eq!(rt; answer.size, size);
-        assert!(rt; next <= answer.number);
-        let number = answer.number as usize;
-        assert!(rt; number < noted.len());
-        assert!(rt; !noted[number], "{number} was told twice");
-        noted[number] = true;
-        next = answer.number.wrapping_add(1);
+        let number = answer.number;
+        let is_new = match noted.get_mut(number as usize) {
+            Some(place) => !mem::replace(place, true),
+            None => false,
+        };
+        assert_eq!(rt;
+            (answer.size, next <= number, is_new),
+            (size, true, true),
+            "{number} of {size}"
+        );
+        next = number.wrapping_add(1);
     }
 }
 
-// So many clients write so many times at once: each is told its own, each number is told once, and the log that comes
-// back has counted all.
-fn try_at_once<R: Threads + Wait + Abort + Sync>(
-    rt: &R,
-    alloc: Global,
-    clients: u32,
-    times: u64,
-    sum: u64,
-)
-    requires { (0 < clients) × (clients < 255) × (times ≤ 1000) }
-{
-    let (list, mut players) = opened(rt, alloc, clients, times as usize);
-    write_at_once(rt, &list, players.as_mut_slice(), times);
-    let all = clients as u64 * times;
-    let mut noted = vec![in alloc; false; all as usize].expect(rt, "memory");
-    for (i, player) in players.iter().enumerate() {
-        assert_eq!(rt; player.told.len() as u64, times);
-        note_numbers(
-            rt,
-            player.told.as_slice(),
-            (i as u64).wrapping_add(1),
-            noted.as_mut_slice(),
-        );
+// Each of the clients was told so many numbers with its own size, and each number was told once.
+fn check_told(rt: &impl Abort, alloc: Global, players: &[Player], times: usize) {
+    let all = players.len().wrapping_mul(times);
+    let mut noted = vec![in alloc; false; all].expect(rt, "memory");
+    let mut size = 0u64;
+    for player in players {
+        size = size.wrapping_add(1);
+        assert_eq!(rt; player.told.len(), times);
+        note_numbers(rt, player.told.as_slice(), size, noted.as_mut_slice());
     }
-    let (log, right) = closed(rt, alloc, list, players);
-    assert_eq!(rt; (log.count, log.sum, right.mark), (all, sum, 7));
 }
 
 // Just one of two that link at once leads. Both are linked before a group is made, so that its group is both.
 #[test]
 fn two_link_at_once(rt: HostRuntime) {
-    let (list, mut players) = opened(&rt, rt.alloc(), 2, 1);
-    ask_at_once(&rt, &list, players.as_mut_slice());
-    finish_at_once(&rt, &list, players.as_mut_slice());
-    let mut noted = [false; 2];
-    let mut led = 0usize;
-    for (i, player) in players.iter().enumerate() {
-        assert_eq!(rt; player.told.len(), 1);
-        assert!(rt; player.led == 0 || player.led == 2);
-        note_numbers(
-            &rt,
-            player.told.as_slice(),
-            (i as u64).wrapping_add(1),
-            &mut noted,
-        );
-        led = led.wrapping_add(player.led);
-    }
-    assert_eq!(rt; (led, noted), (2, [true, true]));
+    let alloc = rt.alloc();
+    let (list, mut players) = opened(&rt, alloc, 2, 1);
+    let linked = Some(Barrier::new(2));
+    write_at_once(&rt, &list, players.as_mut_slice(), 1, &linked);
+    check_told(&rt, alloc, players.as_slice(), 1);
+    let [one, other] = players.as_slice() else {
+        panic!(rt; "not two")
+    };
+    let led = (one.led, other.led);
+    assert!(rt; led == (0, 2) || led == (2, 0));
 }
 
+// Each is told its own, each number is told once, and the log that comes back has counted all.
 #[test]
 fn four_write_at_once(rt: HostRuntime) {
-    try_at_once(&rt, rt.alloc(), 4, 1000, 10000);
+    let alloc = rt.alloc();
+    let (list, mut players) = opened(&rt, alloc, 4, 1000);
+    write_at_once(&rt, &list, players.as_mut_slice(), 1000, &None);
+    check_told(&rt, alloc, players.as_slice(), 1000);
+    let (log, right) = closed(&rt, alloc, list, players);
+    assert_eq!(rt; (log.count, log.sum, right.mark), (4000, 10000, 7));
 }
 
-// Log and right come back where memory is short: `tests/fail_alloc` makes each allocation fail in turn, and reads what
-// this prints.
-#[test]
-fn open_gives_back(rt: HostRuntime) -> Result<(), Fail> {
+// How many writers and lists an opened list for three has, or the counts, the sum and the mark that come back.
+fn open_three(alloc: Global) -> Result<(usize, usize), (u64, u64, u64)> {
     let start = Start {
         clients: 3,
         log: 0,
@@ -260,20 +275,27 @@ fn open_gives_back(rt: HostRuntime) -> Result<(), Fail> {
         pipelined: false,
         about: 0,
     };
-    match Counted::open(
-        rt.alloc(),
-        &start,
-        Counter { count: 5, sum: 6 },
-        Nothing { mark: 7 },
-    ) {
-        Ok((_list, writers, lists)) => {
-            assert_eq!(rt; (writers.len(), lists.len()), (3, 3));
-            println!(rt; "open: opened")?;
-        }
-        Err((log, right)) => {
-            assert_eq!(rt; (log.count, log.sum, right.mark), (5, 6, 7));
-            println!(rt; "open: given back")?;
-        }
+    let counter = Counter { count: 5, sum: 6 };
+    match Counted::open(alloc, &start, counter, Nothing { mark: 7 }) {
+        Ok((_list, writers, lists)) => Ok((writers.len(), lists.len())),
+        Err((log, right)) => Err((log.count, log.sum, right.mark)),
     }
+}
+
+// Log and right come back where memory is short: `tests/fail_alloc` makes each allocation fail in turn, and reads what
+// this prints.
+#[test]
+fn open_gives_back(rt: HostRuntime) -> Result<(), Fail> {
+    let text = match open_three(rt.alloc()) {
+        Ok(counts) => {
+            assert_eq!(rt; counts, (3, 3));
+            "opened"
+        }
+        Err(back) => {
+            assert_eq!(rt; back, (5, 6, 7));
+            "given back"
+        }
+    };
+    println!(rt; "open: {text}")?;
     Ok(())
 }

@@ -26,6 +26,3 @@ pub use fragments::{Seen, read_fragment};
 pub use headers::{BLOCK_LEN, FIRST, FULL, HEADER_LEN, LAST, MAX_PART_LEN, MIDDLE, header};
 pub use laws::text_by_place;
 pub use pieces::{Fragmenter, Piece};
-
-#[cfg(test)]
-mod tests;

@@ -10,6 +10,3 @@ mod see;
 mod window;
 
 pub use reader::{LogReader, Next};
-
-#[cfg(test)]
-mod tests;

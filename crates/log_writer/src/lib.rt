@@ -28,6 +28,3 @@ mod writer;
 pub use errors::{Fault, OpenError};
 pub use laws::{crashes_between_calls, written_by_calls};
 pub use writer::LogWriter;
-
-#[cfg(test)]
-mod tests;

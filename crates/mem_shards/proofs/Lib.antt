@@ -2,5 +2,3 @@ pub mod ShardMaps
 pub mod Splits
 pub mod Ordered
 pub mod Runs
-pub mod Popped
-pub mod Crossing

@@ -19,6 +19,3 @@ mod shard_table;
 
 pub use keyed::KeyedNodes;
 pub use shard_table::ShardTable;
-
-#[cfg(test)]
-mod tests;

@@ -15,6 +15,3 @@ mod tree;
 pub use node::{Node, Nodes};
 pub use parts::{MemberNodes, Parts};
 pub use tree::{Tree, orders_of_versions};
-
-#[cfg(test)]
-mod tests;

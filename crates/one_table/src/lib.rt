@@ -8,6 +8,3 @@ mod opening;
 mod shard;
 
 pub use one_table::OneTable;
-
-#[cfg(test)]
-mod tests;

@@ -11,6 +11,3 @@ mod summary;
 
 pub use clients::generate;
 pub use summary::sum_of;
-
-#[cfg(test)]
-mod tests;

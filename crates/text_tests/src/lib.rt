@@ -1,11 +1,7 @@
-//! Tests of the texts that come in and go out: the words of a call, scripts and schedules with their faults, and what is
-//! printed. They stand in a crate of their own, so that `command_line`, `client_script` and `printed_text` are proved once
-//! and not with their tests again.
+//! Tests of texts that no call of the program comes to. All other words, scripts and texts are tried by `tests/texts` on
+//! the built program. They stand in a crate of their own, so that `printed_text` is proved once and not with its tests
+//! again.
 #![tactic(auto)]
 
 #[cfg(test)]
-mod scripts;
-#[cfg(test)]
-mod texts;
-#[cfg(test)]
-mod words;
+mod tests;

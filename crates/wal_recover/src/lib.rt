@@ -12,10 +12,3 @@ mod recovery;
 pub use kept::GroupNote;
 pub use recovered_map::{RecoveredMap, RecoveredPairs};
 pub use recovery::{End, RecoverError, Recovered, recover};
-
-#[cfg(test)]
-mod damage_tests;
-#[cfg(test)]
-mod missing_tests;
-#[cfg(test)]
-mod tests;

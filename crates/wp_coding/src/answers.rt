@@ -162,39 +162,3 @@ impl PairList {
         &self.items
     }
 }
-
-#[cfg(test)]
-mod tests {
-    use super::*;
-    use std::test::Fail;
-
-    #[test]
-    fn keeps_what_was_found_in_order(rt: HostRuntime) -> Result<(), Fail> {
-        let mut values = FoundList::new(rt.alloc());
-        values.push(Found::Absent)?;
-        values.push(Found::Value(Bytes::copy(rt.alloc(), b"1")?))?;
-        let values = FoundList::from_vec(values.into_vec());
-        assert_eq!(rt; values.len(), 2);
-        let one = Found::Value(Bytes::copy(rt.alloc(), b"1")?);
-        assert_eq!(rt; values.as_slice(), [Found::Absent, one].as_slice());
-        Ok(())
-    }
-
-    #[test]
-    fn keeps_pairs_in_order(rt: HostRuntime) -> Result<(), Fail> {
-        let mut rows = PairList::new(rt.alloc());
-        rows.push(
-            Bytes::copy(rt.alloc(), b"a")?,
-            Bytes::copy(rt.alloc(), b"1")?,
-        )?;
-        let rows = PairList::from_vec(rows.into_vec());
-        assert_eq!(rt; rows.len(), 1);
-        for (key, value) in rows.as_slice() {
-            assert_eq!(rt;
-                (key.as_slice(), value.as_slice()),
-                (b"a".as_slice(), b"1".as_slice())
-            );
-        }
-        Ok(())
-    }
-}

@@ -98,23 +98,3 @@ impl Eq for Bytes {
 
     ghost laws = { nat_list_eq_equiv };
 }
-
-#[cfg(test)]
-mod tests {
-    use super::*;
-    use std::test::Fail;
-
-    #[test]
-    fn takes_bytes(rt: HostRuntime) -> Result<(), Fail> {
-        let mut bytes = Bytes::new(rt.alloc());
-        bytes.append(b"abcde")?;
-        bytes.append(b"fg")?;
-        assert_eq!(rt; bytes.len(), 7);
-        bytes.overwrite(1, b"XY");
-        bytes.truncate(6);
-        assert_eq!(rt; bytes.as_slice(), b"aXYdef".as_slice());
-        assert!(rt; bytes == Bytes::copy(rt.alloc(), b"aXYdef")?);
-        assert!(rt; bytes != Bytes::copy(rt.alloc(), b"aXYde")?);
-        Ok(())
-    }
-}

@@ -125,38 +125,3 @@ pub fn mask(crc: u32) -> u32
 {
     crc.rotate_right(15).wrapping_add(MASK_DELTA)
 }
-
-#[cfg(test)]
-mod tests {
-    use super::*;
-
-    // The check value of the CRC's catalogues, and the examples of RFC 3720, appendix B.4.
-    #[test]
-    fn published_checksums(rt: HostRuntime) {
-        let mut ascending = [0; 32];
-        let mut descending = [0; 32];
-        for i in 0..32 {
-            ascending[i] = i as u8;
-            descending[i] = 31 - i as u8;
-        }
-        assert_eq!(rt; crc32c(b"123456789"), 0xe3069283);
-        assert_eq!(rt; crc32c(&[1]), 0xa016d052);
-        assert_eq!(rt; crc32c(&[0; 32]), 0x8a9136aa);
-        assert_eq!(rt; crc32c(&[0xff; 32]), 0x62a8ab43);
-        assert_eq!(rt; crc32c(&ascending), 0x46dd794e);
-        assert_eq!(rt; crc32c(&descending), 0x113fdb5c);
-    }
-
-    #[test]
-    fn extends(rt: HostRuntime) {
-        assert_eq!(rt; extend(crc32c(b"12345"), b"6789"), 0xe3069283);
-        let end = b" jumps over the lazy dog";
-        assert_eq!(rt; extend(crc32c(b"The quick brown fox"), end), 0x22620404);
-    }
-
-    #[test]
-    fn masks(rt: HostRuntime) {
-        assert_eq!(rt; mask(crc32c(b"123456789")), 0xc78ab0e5);
-        assert_eq!(rt; mask(crc32c(&[1])), 0x43282b05);
-    }
-}

@@ -115,34 +115,3 @@ impl<'a> Iterator for PairIter<'a> {
         }
     }
 }
-
-#[cfg(test)]
-mod tests {
-    use super::*;
-    use std::test::Fail;
-
-    #[test]
-    fn has_the_last_value_of_each_key(rt: HostRuntime) -> Result<(), Fail> {
-        let mut map = PairMap::new(rt.alloc());
-        let inserted: [(&[u8], &[u8]); 5] = [
-            (b"b", b"1"),
-            (b"", b"2"),
-            (b"ab", b"3"),
-            (b"b", b"4"),
-            (b"a", b"5"),
-        ];
-        for (key, value) in inserted {
-            map.insert(key, value)?;
-        }
-        map.remove(b"ab");
-        map.remove(b"abc");
-        assert_eq!(rt; map.len(), 3);
-        assert_eq!(rt; map.get(b"b"), Some(b"4".as_slice()));
-        assert_eq!(rt; map.get(b"ab"), None);
-        let left: [(&[u8], &[u8]); 3] = [(b"", b"2"), (b"a", b"5"), (b"b", b"4")];
-        for (pair, want) in map.iter().zip(left) {
-            assert_eq!(rt; pair, want);
-        }
-        Ok(())
-    }
-}

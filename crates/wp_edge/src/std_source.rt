@@ -54,7 +54,7 @@ impl<R: Input> Source for StdSource<R> {
 }
 
 /// One read of the system, made again where a signal came in between.
-pub(crate) fn read_again<T: Read>(reader: &mut T, buf: &mut [u8]) -> io::Result<usize>
+fn read_again<T: Read>(reader: &mut T, buf: &mut [u8]) -> io::Result<usize>
     ensures at_most { IfOk result (λ n. n ≤ length buf.new) }
 {
     for _ in 0..MAX_TRIES {

@@ -14,6 +14,3 @@ pub use batch::{Batch, HEADER_LEN, MAX_SEQUENCE, MAX_SIZE};
 pub use record_view::RecordView;
 pub use records::Records;
 pub use view::{BatchView, read_batch};
-
-#[cfg(test)]
-mod tests;

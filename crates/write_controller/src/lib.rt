@@ -52,6 +52,3 @@ pub use laws::{
 };
 pub use look::Look;
 pub use pass::{Note, Others, Pass, Passes};
-
-#[cfg(test)]
-mod tests;

@@ -41,28 +41,38 @@ const BOTH_OR_NEITHER: [&str; 6] = [
         history 2\n1 2 2 1 log *\n3 4 1 1 log *\nstate 4 2\na 1\nb 1\nlog *\n",
 ];
 
-#[test]
-fn no_batch_is_seen_in_part(rt: HostRuntime) -> Result<(), Fail> {
-    let given = Given {
-        text: b"client 1\nput a 1\nput b 1\ncommit\nclient 2\nput a 2\nput b 2\ncommit\nclient 3\nmany a b\n",
-        ..PLAIN
-    };
-    check_clients(&rt, rt.alloc(), given, &BOTH_OR_NEITHER)
-}
-
 /// Each client reads what it wrote last. Each batch is a group of its own, so that the log has one length.
-#[test]
-fn clients_read_what_they_wrote(rt: HostRuntime) -> Result<(), Fail> {
-    let given = Given {
-        words: "run --group-bytes 1",
-        text: b"client 1\nput a1 1\nput a2 1\ncommit sync\nmany a1 a2\nscan a b\nclient 2\nput b1 2\n\
+const OWN: [&str; 1] = [
+    "client 1\nok *\nmany * 2 =1 =1\nscan * 2 a1 1 a2 1\nclient 2\nok *\nval * 2\nok *\nnil *\n\
+        client 3\nok *\nok *\nval * 4\n\
+        history 5\n1 *\n*\n*\n*\n*\nstate 6 3\na1 1\na2 1\nc1 4\nlog 104\n",
+];
+
+/// Words and a script, and what may be printed.
+const SCRIPTS: [(&str, &[u8], &[&str]); 2] = [
+    (
+        "run",
+        b"client 1\nput a 1\nput b 1\ncommit\nclient 2\nput a 2\nput b 2\ncommit\nclient 3\nmany a b\n",
+        &BOTH_OR_NEITHER,
+    ),
+    (
+        "run --group-bytes 1",
+        b"client 1\nput a1 1\nput a2 1\ncommit sync\nmany a1 a2\nscan a b\nclient 2\nput b1 2\n\
             commit nolog\nget b1\ndel b1\ncommit\nget b1\nclient 3\nput c1 3\ncommit\nput c1 4\ncommit\n\
             get c1\n",
-        ..PLAIN
-    };
-    let want =
-        "client 1\nok *\nmany * 2 =1 =1\nscan * 2 a1 1 a2 1\nclient 2\nok *\nval * 2\nok *\nnil *\n\
-            client 3\nok *\nok *\nval * 4\n\
-            history 5\n1 *\n*\n*\n*\n*\nstate 6 3\na1 1\na2 1\nc1 4\nlog 104\n";
-    check_clients(&rt, rt.alloc(), given, &[want])
+        &OWN,
+    ),
+];
+
+#[test]
+fn clients_see_whole_batches_and_their_own(rt: HostRuntime) -> Result<(), Fail> {
+    for (words, text, wanted) in SCRIPTS {
+        let given = Given {
+            words,
+            text,
+            ..PLAIN
+        };
+        check_clients(&rt, rt.alloc(), given, wanted)?;
+    }
+    Ok(())
 }

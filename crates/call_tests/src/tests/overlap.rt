@@ -113,10 +113,11 @@ fn overlapped<R: Threads + Wait + Abort + Sync>(
         SteppedClock::new(START),
         &gate,
     );
-    assert!(rt; !gate.late.load(SeqCst), "no append was begun");
-    assert_eq!(rt; gate.locks.load(SeqCst), table.locks);
+    // Whether a client waited in vain for an append.
+    let late = gate.late.load(SeqCst);
+    let locks = gate.locks.load(SeqCst);
+    assert_eq!(rt; (late, locks, status), (false, table.locks, 0));
     check_texts(rt, &sink, &[want]);
-    assert_eq!(rt; status, 0);
     Ok(disk.into_disk())
 }
 

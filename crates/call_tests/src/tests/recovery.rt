@@ -1,6 +1,6 @@
-//! What logs recover.
+//! What logs recover. What they do where they are cut, or damaged otherwise, is tried in `tests/real_file`.
 
-use super::{Given, PLAIN, RECORD, TWO_RECORDS, ended};
+use super::{Given, PLAIN, RECORD, ended};
 use std::alloc::Global;
 use std::process::Abort;
 use std::rt::HostRuntime;
@@ -26,59 +26,35 @@ pub(super) fn check_recovery<R: Threads + Wait + Abort + Sync>(
     Ok(())
 }
 
+const RECOVERED: [(&[u8], &str); 7] = [
+    (RECORD, "groups 1\n1 1 17\nstate 1 1\n61 31\nend 24 clean\n"),
+    (b"", "groups 0\nstate 0 0\nend 0 clean\n"),
+    (
+        b"\x05\x2b\x28\x43\x00\x00\x01",
+        "groups 0\nstate 0 0\nend 0 short\n",
+    ),
+    (
+        b"\x4e\x10\xa0\xb9\x11\x00\x01\x01\x00\x00\x00\x00\x00\x00\x00\x01\x00\x00\x00\x02\x01a\x011",
+        "groups 0\nstate 0 0\nend 0 tag 2\n",
+    ),
+    (
+        b"\x27\x71\x2a\x11\x11\x00\x01\x01\x00\x00\x00\x00\x00\x00\x00\x02\x00\x00\x00\x01\x01a\x011",
+        "groups 0\nstate 0 0\nend 0 count 2 1\n",
+    ),
+    (
+        b"\xbd\xac\x0c\xe0\x10\x00\x01\x01\x00\x00\x00\x00\x00\x00\x00\x01\x00\x00\x00\x01\x01a\x05",
+        "groups 0\nstate 0 0\nend 0 short\n",
+    ),
+    (
+        b"\xbe\xad\x38\xff\x0f\x00\x01\x01\x00\x00\x00\x00\x00\x00\x00\x01\x00\x00\x00\x01\x80\x00",
+        "groups 0\nstate 0 0\nend 0 badvarint\n",
+    ),
+];
+
 #[test]
 fn prints_what_a_log_recovers(rt: HostRuntime) -> Result<(), Fail> {
-    let rows: [(&[u8], &str); 7] = [
-        (RECORD, "groups 1\n1 1 17\nstate 1 1\n61 31\nend 24 clean\n"),
-        (b"", "groups 0\nstate 0 0\nend 0 clean\n"),
-        (
-            b"\x05\x2b\x28\x43\x00\x00\x01",
-            "groups 0\nstate 0 0\nend 0 short\n",
-        ),
-        (
-            b"\x4e\x10\xa0\xb9\x11\x00\x01\x01\x00\x00\x00\x00\x00\x00\x00\x01\x00\x00\x00\x02\x01a\x011",
-            "groups 0\nstate 0 0\nend 0 tag 2\n",
-        ),
-        (
-            b"\x27\x71\x2a\x11\x11\x00\x01\x01\x00\x00\x00\x00\x00\x00\x00\x02\x00\x00\x00\x01\x01a\x011",
-            "groups 0\nstate 0 0\nend 0 count 2 1\n",
-        ),
-        (
-            b"\xbd\xac\x0c\xe0\x10\x00\x01\x01\x00\x00\x00\x00\x00\x00\x00\x01\x00\x00\x00\x01\x01a\x05",
-            "groups 0\nstate 0 0\nend 0 short\n",
-        ),
-        (
-            b"\xbe\xad\x38\xff\x0f\x00\x01\x01\x00\x00\x00\x00\x00\x00\x00\x01\x00\x00\x00\x01\x80\x00",
-            "groups 0\nstate 0 0\nend 0 badvarint\n",
-        ),
-    ];
-    for (content, want) in rows {
+    for (content, want) in RECOVERED {
         check_recovery(&rt, rt.alloc(), content, want)?;
     }
     Ok(())
-}
-
-#[test]
-fn a_log_is_recovered_up_to_its_cut(rt: HostRuntime) -> Result<(), Fail> {
-    for cut in 24..48 {
-        let want = match cut {
-            24 => "groups 1\n1 1 17\nstate 1 1\n61 31\nend 24 clean\n",
-            25..=30 => "groups 1\n1 1 17\nstate 1 1\n61 31\nend 24 shortheader\n",
-            _ => "groups 1\n1 1 17\nstate 1 1\n61 31\nend 24 badlength\n",
-        };
-        check_recovery(&rt, rt.alloc(), &TWO_RECORDS[..cut], want)?;
-    }
-    Ok(())
-}
-
-#[test]
-fn a_log_is_recovered_up_to_its_damage(rt: HostRuntime) -> Result<(), Fail> {
-    let mut zeros = Vec::from_slice(rt.alloc(), RECORD)?;
-    zeros.extend_from_slice(&[0; 7])?;
-    let want = "groups 1\n1 1 17\nstate 1 1\n61 31\nend 24 zeros\n";
-    check_recovery(&rt, rt.alloc(), &zeros, want)?;
-    let mut changed = *TWO_RECORDS;
-    changed[47] = b'3';
-    let want = "groups 1\n1 1 17\nstate 1 1\n61 31\nend 24 badchecksum\n";
-    check_recovery(&rt, rt.alloc(), &changed, want)
 }

@@ -1,9 +1,9 @@
 //! Scripts of one client, what is refused, devices that fail, and generated scripts.
 
-use super::Fails::{Disk, Nothing, Sink, Source};
+use super::Fails::{Disk, Sink, Source};
 use super::{
-    Fails, Given, ONE_TREE, OUTCOME, PLAIN, RECORD, Row, SCRIPT, TABLES, TWO_RECORDS, Table,
-    check_rows, ended,
+    Given, ONE_TREE, OUTCOME, PLAIN, RECORD, Row, SCRIPT, TABLES, TWO_RECORDS, Table, check_rows,
+    ended,
 };
 use client_script::TEXT_LIMIT;
 use std::alloc::Global;
@@ -13,61 +13,47 @@ use std::sync::Wait;
 use std::test::Fail;
 use std::thread::Threads;
 
-#[test]
-fn faulty_scripts_are_refused(rt: HostRuntime) -> Result<(), Fail> {
-    let long = vec![in rt.alloc(); b'#'; TEXT_LIMIT + 1]?;
-    let scripts: [(&[u8], &str); 14] = [
-        (b"", "script 0 none\n"),
-        (&long, "script 0 long\n"),
-        (b"put a 1\n", "script 1 client\n"),
-        (b"client 1\npot a 1\n", "script 2 word\n"),
-        (b"client 1\nschedule\n", "script 2 word\n"),
-        (b"client 1\nget\ta\n", "script 2 byte\n"),
-        (b"client 1\nput a\n", "script 2 form\n"),
-        (b"client 1\nmany\n", "script 2 form\n"),
-        (b"client 1\nscan a\n", "script 2 form\n"),
-        (b"client 1\nslow 01\n", "script 2 form\n"),
-        (b"client 1\nunstop 1\n", "script 2 form\n"),
-        (b"client 1\ncommit noslow sync\n", "script 2 form\n"),
-        (b"client 1\n\n# x\nclient 3\n", "script 4 client\n"),
-        (
-            b"client 1\nclient 2\nclient 3\nclient 4\nclient 5\nclient 6\nclient 7\nclient 8\nclient 9\n\
-                client 10\nclient 11\nclient 12\nclient 13\nclient 14\nclient 15\nclient 16\nclient 17\n",
-            "script 17 clients\n",
-        ),
-    ];
-    for (text, want) in scripts {
-        ended(&rt, rt.alloc(), Given { text, ..PLAIN }, 2, want)?;
-    }
-    Ok(())
-}
+/// Of other words `tests/real_file` has more.
+const WORDS: [Row; 5] = [
+    ("", SCRIPT, "usage\n"),
+    ("walk", SCRIPT, "usage\n"),
+    ("--help", SCRIPT, "usage\n"),
+    ("--version", SCRIPT, "usage\n"),
+    ("run --last -1", SCRIPT, "usage\n"),
+];
+
+const FAULTY: [Row; 13] = [
+    ("run", b"", "script 0 none\n"),
+    ("run", b"put a 1\n", "script 1 client\n"),
+    ("run", b"client 1\npot a 1\n", "script 2 word\n"),
+    ("run", b"client 1\nschedule\n", "script 2 word\n"),
+    ("run", b"client 1\nget\ta\n", "script 2 byte\n"),
+    ("run", b"client 1\nput a\n", "script 2 form\n"),
+    ("run", b"client 1\nmany\n", "script 2 form\n"),
+    ("run", b"client 1\nscan a\n", "script 2 form\n"),
+    ("run", b"client 1\nslow 01\n", "script 2 form\n"),
+    ("run", b"client 1\nunstop 1\n", "script 2 form\n"),
+    ("run", b"client 1\ncommit noslow sync\n", "script 2 form\n"),
+    ("run", b"client 1\n\n# x\nclient 3\n", "script 4 client\n"),
+    (
+        "run",
+        b"client 1\nclient 2\nclient 3\nclient 4\nclient 5\nclient 6\nclient 7\nclient 8\nclient 9\n\
+            client 10\nclient 11\nclient 12\nclient 13\nclient 14\nclient 15\nclient 16\nclient 17\n",
+        "script 17 clients\n",
+    ),
+];
 
 #[test]
-fn other_words_are_refused(rt: HostRuntime) -> Result<(), Fail> {
-    let rows = [
-        "",
-        "walk",
-        "--help",
-        "--version",
-        "run --last -1",
-        "run --group-bytes 0",
-        "run --pipelined",
-        "recover --last 1",
-        "recover --table one",
-        "run --table tree",
-        "run --shards 0",
-        "gen --shards 65 1 1 1",
-        "gen 1 1",
-        "gen 1 1 1 1",
-        "gen 2147483648 1 1",
-        "gen 1 0 1",
-        "gen 1 17 1",
-        "gen 1 1 0",
-        "gen 1 1 100001",
-    ];
-    for words in rows {
-        ended(&rt, rt.alloc(), Given { words, ..PLAIN }, 1, "usage\n")?;
-    }
+fn words_and_scripts_are_refused(rt: HostRuntime) -> Result<(), Fail> {
+    let alloc = rt.alloc();
+    check_rows(&rt, alloc, ONE_TREE, 1, &WORDS)?;
+    check_rows(&rt, alloc, ONE_TREE, 2, &FAULTY)?;
+    let long = vec![in alloc; b'#'; TEXT_LIMIT + 1]?;
+    let given = Given {
+        text: long.as_slice(),
+        ..PLAIN
+    };
+    ended(&rt, alloc, given, 2, "script 0 long\n")?;
     Ok(())
 }
 
@@ -150,14 +136,6 @@ const OUTCOMES: [Row; 13] = [
     ("run --group-bytes 1", SCRIPT, OUTCOME),
 ];
 
-#[test]
-fn prints_what_came_of_a_script(rt: HostRuntime) -> Result<(), Fail> {
-    for table in TABLES {
-        check_rows(&rt, rt.alloc(), table, 0, &OUTCOMES)?;
-    }
-    Ok(())
-}
-
 const SMALL_SUMMARY: &str = "clients 1\nbatches 2\nrecords 3\nlast 3\nkeys 2\nsum 1445\n";
 
 /// Reckoned by another program, as the one below.
@@ -190,100 +168,182 @@ const SUMMARIES: [Row; 6] = [
 ];
 
 #[test]
-fn sums_up_a_generated_script(rt: HostRuntime) -> Result<(), Fail> {
-    check_rows(&rt, rt.alloc(), ONE_TREE, 0, &SUMMARIES)
+fn prints_what_came_of_a_script(rt: HostRuntime) -> Result<(), Fail> {
+    let alloc = rt.alloc();
+    for table in TABLES {
+        check_rows(&rt, alloc, table, 0, &OUTCOMES)?;
+    }
+    check_rows(&rt, alloc, ONE_TREE, 0, &SUMMARIES)
 }
+
+const ONE_BATCH: &str = "clients 1\nbatches 1\nrecords 1\nlast 1\nkeys 1\nsum 914\n";
+
+/// What a call is given, the status and all that is printed then, and what the disk holds then, where that is asked.
+type Left = (Given<'static>, u8, &'static str, Option<&'static [u8]>);
+
+const RECOVER: Given<'static> = Given {
+    words: "recover",
+    content: RECORD,
+    ..PLAIN
+};
+
+const GENERATE: Given<'static> = Given {
+    words: "gen 1 1 2",
+    ..PLAIN
+};
 
 /// Neither `recover` nor `gen` looks at the source.
-#[test]
-fn devices_fail_or_are_not_empty(rt: HostRuntime) -> Result<(), Fail> {
-    let one_batch = "clients 1\nbatches 1\nrecords 1\nlast 1\nkeys 1\nsum 914\n";
-    let rows: [(&str, &[u8], Fails, u8, &str); 10] = [
-        ("run", b"", Disk(1), 3, "disk fault 1\n"),
-        ("run", b"", Source(1), 4, "source fault 1\n"),
-        ("run", b"", Sink(1), 5, ""),
-        ("run", b"x", Nothing, 7, "log not empty 1\n"),
-        ("recover", RECORD, Disk(1), 3, "disk fault 1\n"),
-        ("recover", RECORD, Sink(1), 5, ""),
-        (
-            "recover",
-            b"x",
-            Source(1),
-            0,
-            "groups 0\nstate 0 0\nend 0 shortheader\n",
-        ),
-        ("gen 1 1 2", RECORD, Nothing, 7, "log not empty 24\n"),
-        ("gen 1 1 2", b"", Source(1), 0, SMALL_SUMMARY),
-        ("gen 1 1 2", b"", Disk(3), 3, one_batch),
-    ];
-    for (words, content, fails, status, want) in rows {
-        let text = SCRIPT;
-        let given = Given {
-            words,
-            table: ONE_TREE,
-            text,
-            content,
-            fails,
-        };
-        ended(&rt, rt.alloc(), given, status, want)?;
-    }
-    Ok(())
-}
+const DEVICES: [Left; 10] = [
+    (
+        Given {
+            fails: Disk(1),
+            ..PLAIN
+        },
+        3,
+        "disk fault 1\n",
+        None,
+    ),
+    (
+        Given {
+            fails: Source(1),
+            ..PLAIN
+        },
+        4,
+        "source fault 1\n",
+        None,
+    ),
+    (
+        Given {
+            fails: Sink(1),
+            ..PLAIN
+        },
+        5,
+        "",
+        None,
+    ),
+    (
+        Given {
+            content: b"x",
+            ..PLAIN
+        },
+        7,
+        "log not empty 1\n",
+        None,
+    ),
+    (
+        Given {
+            fails: Disk(1),
+            ..RECOVER
+        },
+        3,
+        "disk fault 1\n",
+        None,
+    ),
+    (
+        Given {
+            fails: Sink(1),
+            ..RECOVER
+        },
+        5,
+        "",
+        None,
+    ),
+    (
+        Given {
+            content: b"x",
+            fails: Source(1),
+            ..RECOVER
+        },
+        0,
+        "groups 0\nstate 0 0\nend 0 shortheader\n",
+        None,
+    ),
+    (
+        Given {
+            content: RECORD,
+            ..GENERATE
+        },
+        7,
+        "log not empty 24\n",
+        None,
+    ),
+    (
+        Given {
+            fails: Source(1),
+            ..GENERATE
+        },
+        0,
+        SMALL_SUMMARY,
+        None,
+    ),
+    (
+        Given {
+            fails: Disk(3),
+            ..GENERATE
+        },
+        3,
+        ONE_BATCH,
+        None,
+    ),
+];
 
-/// A text, which call of a device fails, the status and all that is printed then, and what the disk holds.
-type Left = (&'static [u8], Fails, u8, &'static str, &'static [u8]);
+const FAULTS: [Left; 4] = [
+    (PLAIN, 0, OUTCOME, Some(RECORD)),
+    (
+        Given {
+            fails: Disk(2),
+            ..PLAIN
+        },
+        3,
+        "client 1\nno logfault 1\nnil 0\nhistory 0\nstate 0 0\nlog 0 fault 1\n",
+        Some(b""),
+    ),
+    (
+        Given {
+            text: b"client 1\nput a 1\ncommit\nput b 2\ncommit\ncommit\nget b\nget a\n",
+            fails: Disk(3),
+            ..PLAIN
+        },
+        3,
+        "client 1\nok 1 1\nno logfault 1\nno logfault 1\nnil 1\nval 1 1\n\
+            history 1\n1 1 1 1 log 0100000000000000010000000101610131\nstate 1 1\na 1\nlog 24 fault 1\n",
+        Some(RECORD),
+    ),
+    // Two records are written. They aren't synced.
+    (
+        Given {
+            text: b"client 1\nput a 1\ncommit\nput b 2\ncommit sync\nget b\n",
+            fails: Disk(4),
+            ..PLAIN
+        },
+        3,
+        "client 1\nok 1 1\nno logfault 1\nnil 1\n\
+            history 1\n1 1 1 1 log 0100000000000000010000000101610131\nstate 1 1\na 1\nlog 24 fault 1\n",
+        Some(TWO_RECORDS),
+    ),
+];
 
-/// Runs scripts over such a table, and compares what they leave on the disk too.
+/// Makes calls over such a table, and compares what they leave on the disk too.
 fn check_left<R: Threads + Wait + Abort + Sync>(
     rt: &R,
     alloc: Global,
     table: Table,
     rows: &[Left],
 ) -> Result<(), Fail> {
-    for (text, fails, status, want, left) in rows {
-        let given = Given {
-            table,
-            text: *text,
-            fails: *fails,
-            ..PLAIN
-        };
-        let disk = ended(rt, alloc, given, *status, want)?;
-        assert_eq!(rt; disk.content(), *left, "for {want}");
+    for (given, status, want, left) in rows {
+        let disk = ended(rt, alloc, Given { table, ..*given }, *status, want)?;
+        if let Some(left) = left {
+            assert_eq!(rt; disk.content(), *left, "for {want}");
+        }
     }
     Ok(())
 }
 
 #[test]
-fn writes_up_to_a_fault(rt: HostRuntime) -> Result<(), Fail> {
-    let rows: [Left; 4] = [
-        (SCRIPT, Nothing, 0, OUTCOME, RECORD),
-        (
-            SCRIPT,
-            Disk(2),
-            3,
-            "client 1\nno logfault 1\nnil 0\nhistory 0\nstate 0 0\nlog 0 fault 1\n",
-            b"",
-        ),
-        (
-            b"client 1\nput a 1\ncommit\nput b 2\ncommit\ncommit\nget b\nget a\n",
-            Disk(3),
-            3,
-            "client 1\nok 1 1\nno logfault 1\nno logfault 1\nnil 1\nval 1 1\n\
-                history 1\n1 1 1 1 log 0100000000000000010000000101610131\nstate 1 1\na 1\nlog 24 fault 1\n",
-            RECORD,
-        ),
-        // Two records are written. They aren't synced.
-        (
-            b"client 1\nput a 1\ncommit\nput b 2\ncommit sync\nget b\n",
-            Disk(4),
-            3,
-            "client 1\nok 1 1\nno logfault 1\nnil 1\n\
-                history 1\n1 1 1 1 log 0100000000000000010000000101610131\nstate 1 1\na 1\nlog 24 fault 1\n",
-            TWO_RECORDS,
-        ),
-    ];
+fn devices_fail_or_are_not_empty(rt: HostRuntime) -> Result<(), Fail> {
+    check_left(&rt, rt.alloc(), ONE_TREE, &DEVICES)?;
     for table in TABLES {
-        check_left(&rt, rt.alloc(), table, &rows)?;
+        check_left(&rt, rt.alloc(), table, &FAULTS)?;
     }
     Ok(())
 }

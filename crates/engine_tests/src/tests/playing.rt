@@ -8,7 +8,7 @@ ghost use Rattle.engine_tests.specs.Callers.{number_of, MayCall, IsCaller, AllMa
 
 use crate::script::{Note, Step};
 use client_calls::Options;
-use engine_calls::{Clients, Closed, OpenGate};
+use engine_calls::{Clients, Closed, OpenGate, Receipt};
 use group_engine::{Client, GroupEngine, Room};
 use log_writer::LogWriter;
 use memory_engine::{MemoryTable, TableKind, open_engine};
@@ -17,6 +17,7 @@ use std::process::Abort;
 use std::sync::{Mutex, Wait};
 use std::thread;
 use std::thread::Threads;
+use wp_coding::{Found, Read};
 use wp_edge::{MemDisk, SteppedClock};
 use wp_model::WriteOptions;
 use write_batch::Batch;
@@ -73,6 +74,28 @@ fn batch_of(rt: &impl Abort, alloc: Global, rows: &[(&[u8], &[u8])]) -> Batch {
     batch
 }
 
+// The note of a batch that was written.
+fn wrote(receipt: &Receipt) -> Note {
+    Note::Wrote {
+        first: receipt.first,
+        count: receipt.count,
+        group_last: receipt.group_last,
+        sequence: receipt.batch.sequence(),
+    }
+}
+
+// The note of a read.
+fn saw(read: &Read) -> Note {
+    let at = read.at;
+    match &read.value {
+        Found::Absent => Note::SawNone { at },
+        Found::Value(value) => match value.as_slice() {
+            [byte] => Note::Saw { at, byte: *byte },
+            _ => Note::SawAnother { at },
+        },
+    }
+}
+
 // Where the write is refused, the batch is what was given back last.
 fn write<R: Wait>(
     rt: &R,
@@ -86,7 +109,7 @@ fn write<R: Wait>(
     ensures { MayCall engine.now client.new × (number_of client.new ≡ number_of client.old) }
 {
     match engine.write(rt, client, batch, options) {
-        Ok(receipt) => Note::Wrote(receipt),
+        Ok(receipt) => wrote(&receipt),
         Err(refused) => {
             *back = Some(refused.batch);
             Note::Refused(refused.why)
@@ -99,7 +122,7 @@ fn read<R: Wait>(rt: &R, engine: &Path, client: &mut Member, key: &[u8]) -> Note
     ensures { MayCall engine.now client.new × (number_of client.new ≡ number_of client.old) }
 {
     match engine.get(rt, client, key) {
-        Ok(read) => Note::Saw(read),
+        Ok(read) => saw(&read),
         Err(_) => Note::NoMemory,
     }
 }

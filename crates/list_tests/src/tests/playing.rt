@@ -10,7 +10,7 @@ use crate::counter::{Answer, Ask, Counter, Nothing, Player};
 use list_rule::Start;
 use std::alloc::Global;
 use std::process::Abort;
-use std::sync::Wait;
+use std::sync::{Barrier, Wait};
 use std::thread;
 use std::thread::Threads;
 use wp_model::Item;
@@ -184,13 +184,21 @@ pub(super) fn finish_all<R: Wait>(rt: &R, list: &Counted, players: &mut [Player]
     }
 }
 
-// Writes so many times.
+// Waits for the others, where there is a barrier.
+fn meet<R: Wait>(rt: &R, linked: &Option<Barrier>) {
+    if let Some(barrier) = linked {
+        barrier.wait(rt);
+    }
+}
+
+// Writes so many times. With a barrier it waits there for the others when it is linked.
 pub(super) fn write_often<R: Wait>(
     rt: &R,
     list: &Counted,
     player: &mut Player,
     item: Item,
     times: u64,
+    linked: &Option<Barrier>,
 )
     requires out { MayWrite list.now player.old.writer.client player.old }
     requires item { item.size ≤ 16777216 }
@@ -199,16 +207,19 @@ pub(super) fn write_often<R: Wait>(
 {
     for time in 0..times {
         ask(rt, list, &mut player.writer, item);
+        meet(rt, linked);
         finish(rt, list, player, MAX);
     }
 }
 
-// All write so many times at once, each on a thread of its own. The sizes are the clients' numbers.
+// All write so many times at once, each on a thread of its own. The sizes are the clients' numbers. With a barrier for
+// all of them each group is made when all are linked.
 pub(super) fn write_at_once<R: Threads + Wait + Sync>(
     rt: &R,
     list: &Counted,
     players: &mut [Player],
     times: u64,
+    linked: &Option<Barrier>,
 )
     requires out { AllMayWrite list.now players.old × (0 < length players.old) × (length players.old < 255) }
     requires plain { IsPlain list.now }
@@ -218,38 +229,7 @@ pub(super) fn write_at_once<R: Threads + Wait + Sync>(
     let each = |i: usize, player: &mut Player|
         requires { MayWrite list.now (i + 1) player.now × (i < 255) × IsPlain list.now }
         ensures { MayWrite list.entry.now (i + 1) player.exit.now }
-    { write_often(rt, list, player, sized(i as u64 + 1), times) };
-    thread::for_each_mut(rt, players, threads, &each);
-}
-
-// All link themselves at once, each on a thread of its own. The sizes are the clients' numbers.
-pub(super) fn ask_at_once<R: Threads + Wait + Sync>(rt: &R, list: &Counted, players: &mut [Player])
-    requires out { AllMayWrite list.now players.old × (0 < length players.old) × (length players.old < 255) }
-    ensures { AllHaveAsked list.now players.new × (length players.new ≡ length players.old) }
-{
-    let threads = players.len();
-    let each = |i: usize, player: &mut Player|
-        requires { MayWrite list.now (i + 1) player.now × (i < 255) }
-        ensures { HasAsked list.entry.now (i + 1) player.exit.now }
-    { ask(rt, list, &mut player.writer, sized(i as u64 + 1)) };
-    thread::for_each_mut(rt, players, threads, &each);
-}
-
-// All wait for their roles at once, each on a thread of its own, and who leads handles its group.
-pub(super) fn finish_at_once<R: Threads + Wait + Sync>(
-    rt: &R,
-    list: &Counted,
-    players: &mut [Player],
-)
-    requires asked { AllHaveAsked list.now players.old × (0 < length players.old) × (length players.old < 255) }
-    requires plain { IsPlain list.now }
-    ensures { AllMayWrite list.now players.new × (length players.new ≡ length players.old) }
-{
-    let threads = players.len();
-    let each = |i: usize, player: &mut Player|
-        requires { HasAsked list.now (i + 1) player.now × (i < 255) × IsPlain list.now }
-        ensures { MayWrite list.entry.now (i + 1) player.exit.now }
-    { finish(rt, list, player, MAX) };
+    { write_often(rt, list, player, sized(i as u64 + 1), times, linked) };
     thread::for_each_mut(rt, players, threads, &each);
 }
 

@@ -1,6 +1,6 @@
-use Rattle.std.proofs.Common.{◌+◌, subst, arith}
+use Rattle.std.proofs.Common.{◌+◌, ◌<◌, sym, subst, arith}
 use Rattle.list_tests.specs.Players.{MayWrite, HasAsked}
-use Rattle.list_tests.proofs.Seating.{set_below, set_above}
+use Rattle.list_tests.proofs.Seating.{set_below, set_above, at_first}
 use Rattle.list_tests.proofs.tests.playing.finish_all.Goals as goal
 
 pub loop-i-init : goal.loop-i-init
@@ -9,8 +9,9 @@ loop-i-init g c = record { out = λ j d h. absurd (omega arith); asked = λ j d 
 pub loop-i-preserved : goal.loop-i-preserved
 loop-i-preserved g c =
     let v = c.loop-i.invariant in let list = c.args.list.now in let ps = c.loop-i.players in let i = c.loop-i.i in
-    let lt = c.loop-i-test.true in let was = v.asked i c.index-players-i.result (omega arith) (omega arith) in
+    let lt = subst (λ n. i < n) (sym c.loop-i.auto.players) c.loop-i-test.true in
+    let was = at_first (λ k. HasAsked list (k + 1)) ps i v.asked lt c.index-players-i.result in
     record {
-      out = set_below (λ k. MayWrite list (k + 1)) ps i _ v.out (subst (λ k. MayWrite list k c.finish.new.player) was.2 c.finish.ensures) (omega arith);
+      out = set_below (λ k. MayWrite list (k + 1)) ps i _ v.out (subst (λ k. MayWrite list k c.finish.new.player) was.2 c.finish.ensures) lt;
       asked = set_above (λ k. HasAsked list (k + 1)) ps i _ v.asked;
     }

@@ -1,0 +1,113 @@
+//! Clients of a write path that finds no memory: what they are told, and that each is ended once.
+
+ghost use Rattle.std.specs.Prelude.{◌≡◌, ⊤, length, IfOk};
+ghost use Rattle.account_model.specs.Accounts.{newcomer};
+ghost use Rattle.account_model.specs.Closing.{AreOurs};
+ghost use Rattle.client_run.specs.Jobs.{commands_in, FitBatches, AreNew};
+
+use crate::mute::{Mute, MuteClient};
+use client_calls::Command;
+use client_run::{Transcripts, run_clients};
+use engine_calls::Gate;
+use std::alloc::Global;
+use std::sync::atomic::AtomicU64;
+use std::sync::atomic::Ordering::SeqCst;
+use std::test::Fail;
+use wp_coding::Bytes;
+use wp_model::{NoMemory, WriteOptions};
+
+/// A gate that counts.
+#[derive(Drop)]
+struct Counts {
+    started: AtomicU64,
+    answered: AtomicU64,
+}
+
+impl Gate for Counts {
+    fn opened(&self, _locks: u64) {}
+
+    fn started(&self, _client: u32) {
+        self.started.fetch_add(1, SeqCst);
+    }
+
+    fn linked(&self, _client: u32) {}
+
+    fn launching(&self, _client: u32) {}
+
+    fn answered(&self, _client: u32, _number: u64) {
+        self.answered.fetch_add(1, SeqCst);
+    }
+}
+
+const PLAIN: WriteOptions = WriteOptions {
+    sync: false,
+    no_log: false,
+    no_slowdown: false,
+};
+
+fn two_clients(alloc: Global) -> Result<Vec<MuteClient>, NoMemory>
+    ensures ours { IfOk result (λ clients. AreOurs (λ c. ⊤) (λ c. newcomer 0 c.number) 2 clients.items) }
+    ensures new { IfOk result (λ clients. AreNew (λ c. newcomer 0 c.number) 0 clients.items) }
+{
+    let clients = vec![in alloc; MuteClient { number: 1 }, MuteClient { number: 2 }]?;
+    Ok(clients)
+}
+
+fn script(alloc: Global) -> Result<Vec<Vec<Command>>, NoMemory>
+    ensures two { IfOk result (λ script. length script.items ≡ 2) }
+    ensures fits { IfOk result (λ script. FitBatches (commands_in script.items)) }
+{
+    let key = Bytes::copy(alloc, b"a")?;
+    let value = Bytes::copy(alloc, b"1")?;
+    let first = vec![in alloc;
+        Command::Commit { options: PLAIN },
+        Command::Put { key, value },
+        Command::Commit { options: PLAIN },
+        Command::Clear,
+    ]?;
+    let key = Bytes::copy(alloc, b"a")?;
+    let second = vec![in alloc;
+        Command::Unstop,
+        Command::Clear,
+        Command::Get { key },
+        Command::Unslow,
+    ]?;
+    let both = vec![in alloc; first, second]?;
+    Ok(both)
+}
+
+#[test]
+fn clients_stop_for_want_of_memory_and_are_ended(rt: HostRuntime) -> Result<(), Fail> {
+    let engine = Mute {
+        clients: 2,
+        batch_bytes: 1000,
+        ended: AtomicU64::new(0),
+    };
+    let gate = Counts {
+        started: AtomicU64::new(0),
+        answered: AtomicU64::new(0),
+    };
+    let clients = two_clients(rt.alloc())?;
+    let script = script(rt.alloc())?;
+    let told = match run_clients(&rt, rt.alloc(), &engine, clients, &script, &gate) {
+        Ok(told) => told,
+        Err((_, none)) => return Err(Fail::from(none)),
+    };
+    let Transcripts {
+        clients: _,
+        replies,
+        accepted,
+    } = told;
+    let told = format!(in rt.alloc(); "{replies:?} {accepted:?}")?;
+    assert_eq!(rt;
+        told.as_str(),
+        "[[Refused(Empty), Quiet, NoMemory], [NotHeld, Quiet, NoMemory]] [[], []]"
+    );
+    let counts = (
+        engine.ended.load(SeqCst),
+        gate.started.load(SeqCst),
+        gate.answered.load(SeqCst),
+    );
+    assert_eq!(rt; counts, (2, 2, 6));
+    Ok(())
+}

@@ -1,0 +1,4 @@
+mod Popped
+mod Numbering
+mod Within
+mod Crossing

@@ -1,0 +1,14 @@
+-- Between two rounds no group is launched, and what is published ends at the last sequence.
+use Rattle.std.proofs.Common.{◌≡◌}
+use Rattle.table_rule.specs.Histories.{last_of}
+use Rattle.table_steps.specs.Accounts.{history_of}
+use Rattle.memory_engine.specs.Tables.{opening_of, account_of, MayLaunch}
+use Rattle.table_tests.specs.Clients.{IsIdle}
+use Rattle.table_tests.proofs.tests.tables.play.Given as goal
+
+abbrev pub invariant-loop-i : goal.invariant-loop-i
+invariant-loop-i g l = record {
+  writer : IsIdle l.table l.writer × ((account_of l.writer).number ≡ 1);
+  reader : IsIdle l.table l.reader;
+  turn : MayLaunch l.table l.turn × (last_of (opening_of l.table).start (history_of l.turn) ≡ l.last);
+}

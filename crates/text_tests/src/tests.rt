@@ -1,0 +1,69 @@
+//! Texts that no call comes to.
+
+use client_calls::{Outcome, Reply};
+use printed_text::{disk_fault, outcome_text, recovered_text, summary_text};
+use std::alloc::Global;
+use std::process::Abort;
+use std::test::Fail;
+use wal_recover::{End, Recovered, RecoveredMap};
+use wp_coding::{Bytes, PairList};
+use wp_model::{Damage, EndReason, NoMemory, Refusal};
+
+/// A commit that the log's fault refuses, and a read that finds no memory.
+fn one_fault(alloc: Global) -> Result<Outcome<PairList>, NoMemory> {
+    let replies = vec![in alloc;
+        Reply::Refused(Refusal::LogFault { count: 1 }),
+        Reply::Found { at: 0, value: None },
+        Reply::NoMemory,
+    ]?;
+    Ok(Outcome {
+        transcripts: vec![in alloc; replies]?,
+        history: Vec::new(alloc),
+        last: 0,
+        state: PairList::new(alloc),
+        log_len: 0,
+        fault: Some(1),
+    })
+}
+
+/// A log that ends where one with another number begins. None is read so yet.
+fn old_log(alloc: Global) -> Recovered {
+    Recovered {
+        groups: Vec::new(alloc),
+        map: RecoveredMap::new(alloc),
+        last: 0,
+        kept: 0,
+        end: End {
+            at: 24,
+            why: EndReason::Broken(Damage::OldLog(7)),
+        },
+    }
+}
+
+fn check(rt: &impl Abort, text: Result<Bytes, NoMemory>, want: &str) -> Result<(), Fail> {
+    let text = text?;
+    assert_eq!(rt; text.as_slice(), want.as_bytes());
+    Ok(())
+}
+
+#[test]
+fn prints_what_no_call_comes_to(rt: HostRuntime) -> Result<(), Fail> {
+    let alloc = rt.alloc();
+    let outcome = one_fault(alloc)?;
+    check(
+        &rt,
+        outcome_text(alloc, &outcome),
+        "client 1\nno logfault 1\nnil 0\nno memory\nhistory 0\nstate 0 0\nlog 0 fault 1\n",
+    )?;
+    check(
+        &rt,
+        summary_text(alloc, &outcome, 18_446_744_073_709_551_616),
+        "clients 1\nbatches 0\nrecords 0\nlast 0\nkeys 0\nsum 18446744073709551616\n",
+    )?;
+    check(
+        &rt,
+        recovered_text(alloc, &old_log(alloc)),
+        "groups 0\nstate 0 0\nend 24 oldlog 7\n",
+    )?;
+    check(&rt, disk_fault(alloc, 2), "disk fault 2\n")
+}
