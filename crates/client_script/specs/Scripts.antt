@@ -44,7 +44,7 @@ line_len Unslow = 0
 abbrev pub IsShort : List ℕ → Type 0
 IsShort word = (1 ≤ length word) × (length word ≤ 1024)
 
--- what a line may say in every language: one of these commands, its words short
+-- a command that writes or commits, or reads one key, its words short
 abbrev pub IsScriptCommand : Command → Type 0
 IsScriptCommand (Put key v) = IsShort key × IsShort v
 IsScriptCommand (Delete key) = IsShort key
@@ -60,7 +60,7 @@ IsScriptCommand Unstop = ⊥
 IsScriptCommand (Slow rate) = ⊥
 IsScriptCommand Unslow = ⊥
 
--- a script of several clients may have reads of several keys besides
+-- or one that reads several keys
 abbrev pub IsClientsCommand : Command → Type 0
 IsClientsCommand (Many keys) = AllByRecursion IsShort keys.items
 IsClientsCommand (Scan lo hi) = IsShort lo × IsShort hi
@@ -74,11 +74,11 @@ lines_len cs = sum_by line_len cs
 abbrev pub script_len : Script → ℕ
 script_len script = sum_by (λ cs. lines_len cs.items) script.clients.items
 
--- each command is one that a line may say
+-- each command is of the first kind
 abbrev pub HasScriptCommands : Script → Type 0
 HasScriptCommands script = AllByRecursion (λ cs. AllByRecursion IsScriptCommand cs.items) script.clients.items
 
--- the same of several clients
+-- each command is of one of the two
 abbrev pub HasClientsCommands : Script → Type 0
 HasClientsCommands script = AllByRecursion (λ cs. AllByRecursion IsClientsCommand cs.items) script.clients.items
 

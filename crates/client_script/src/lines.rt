@@ -1,11 +1,11 @@
 //! One line of a script.
 
-ghost use Rattle.std.specs.Prelude.{◌≡◌, ◌+◌, ◌≤◌, ◌&&◌, true, length, IfOk, option_copied};
+ghost use Rattle.std.specs.Prelude.{◌≡◌, ◌+◌, ◌≤◌, ◌++◌, true, length, IfOk, option_copied};
 ghost use Rattle.std.specs.List.{AllByRecursion};
 ghost use Rattle.wp_model.specs.Batch.{value, deletion, single_deletion, log_data};
 ghost use Rattle.wp_model.specs.Calls as calls;
 ghost use Rattle.wp_model.specs.Script as model;
-ghost use Rattle.client_script.specs.Languages.{grammar_of, has_reads, has_no_slowdown, has_tokens, other_forms, commit_flags_of, IsCommandOf};
+ghost use Rattle.client_script.specs.Languages.{grammar_of, more_forms, has_tokens, IsCommandOf};
 ghost use Rattle.client_script.specs.Scripts.{IsShort, line_len};
 ghost use Rattle.client_calls.specs.Commands.{command_of};
 ghost use Rattle.client_script.specs.ScriptWords.{parts_of, len_behind, alone};
@@ -122,7 +122,7 @@ fn read_words(
         return read_alone(Command::Clear, rest);
     }
     if word == b"commit".as_slice() {
-        return read_commit(language, rest);
+        return read_commit(rest);
     }
     if word == b"get".as_slice() {
         return read_get(alloc, rest);
@@ -130,7 +130,7 @@ fn read_words(
     read_other(alloc, language, word, rest)
 }
 
-/// Reads a line whose first word isn't one of every language's.
+/// Reads a line of several keys, or one that not every language has.
 fn read_other(
     alloc: Global,
     language: Language,
@@ -138,28 +138,39 @@ fn read_other(
     rest: Option<&[u8]>,
 ) -> Result<Line, LineError>
     ensures line { let words = parts_of 32 (option_copied rest.entry) in
-        Reads line_said (model.by_form (other_forms language) word.now words) result }
+        Reads line_said (model.by_form (model.read_forms ++ more_forms language) word.now words) result }
     ensures len { IfOk result (λ l. said_len l ≡ 0) }
     ensures command { IfOk result (MayBeSaid language) }
 {
-    let reads = language.has_reads();
-    if reads && word == b"many".as_slice() {
+    if word == b"many".as_slice() {
         return read_many(alloc, rest);
     }
-    if reads && word == b"scan".as_slice() {
+    if word == b"scan".as_slice() {
         return read_scan(alloc, rest);
     }
-    let tokens = language.has_tokens();
-    if tokens && word == b"stop".as_slice() {
+    if language.has_tokens() {
+        return read_token(word, rest);
+    }
+    Err(LineError::Fault(ScriptFault::Word))
+}
+
+/// Reads a line of the write controller's tokens.
+fn read_token(word: &[u8], rest: Option<&[u8]>) -> Result<Line, LineError>
+    ensures line { let words = parts_of 32 (option_copied rest.entry) in
+        Reads line_said (model.by_form model.token_forms word.now words) result }
+    ensures len { IfOk result (λ l. said_len l ≡ 0) }
+    ensures command { (language : Language) → has_tokens language ≡ true → IfOk result (MayBeSaid language) }
+{
+    if word == b"stop".as_slice() {
         return read_alone(Command::Stop, rest);
     }
-    if tokens && word == b"unstop".as_slice() {
+    if word == b"unstop".as_slice() {
         return read_alone(Command::Unstop, rest);
     }
-    if tokens && word == b"slow".as_slice() {
+    if word == b"slow".as_slice() {
         return read_slow(rest);
     }
-    if tokens && word == b"unslow".as_slice() {
+    if word == b"unslow".as_slice() {
         return read_alone(Command::Unslow, rest);
     }
     Err(LineError::Fault(ScriptFault::Word))
@@ -247,15 +258,15 @@ fn read_alone(said: Command, rest: Option<&[u8]>) -> Result<Line, LineError>
 }
 
 /// Reads what stands after `commit`.
-fn read_commit(language: Language, rest: Option<&[u8]>) -> Result<Line, LineError>
+fn read_commit(rest: Option<&[u8]>) -> Result<Line, LineError>
     ensures line { let words = parts_of 32 (option_copied rest.entry) in
-        Reads line_said (behind_word (commit_flags_of language) words) result }
+        Reads line_said (behind_word model.all_commit_flags words) result }
     ensures len { IfOk result (λ l. said_len l ≡ 0) }
-    ensures command { IfOk result (MayBeSaid language) }
+    ensures command { (language : Language) → IfOk result (MayBeSaid language) }
 {
     let (sync, rest) = take_flag(rest, b"sync");
     let (no_log, rest) = take_flag(rest, b"nolog");
-    let (no_slowdown, rest) = take_flag_if(language.has_no_slowdown(), rest, b"noslow");
+    let (no_slowdown, rest) = take_flag(rest, b"noslow");
     if rest.is_some() {
         return Err(LineError::FORM);
     }
@@ -285,7 +296,7 @@ fn read_many(alloc: Global, rest: Option<&[u8]>) -> Result<Line, LineError>
         let many = model.some_words (λ keys. model.command (calls.many keys)) in
         Reads line_said (behind_word many words) result }
     ensures len { IfOk result (λ l. said_len l ≡ 0) }
-    ensures command { (language : Language) → has_reads language ≡ true → IfOk result (MayBeSaid language) }
+    ensures command { (language : Language) → IfOk result (MayBeSaid language) }
 {
     let keys = read_all_words(alloc, rest)?;
     if keys.is_empty() {
@@ -300,7 +311,7 @@ fn read_scan(alloc: Global, rest: Option<&[u8]>) -> Result<Line, LineError>
         let scan = model.two_words (λ lo hi. model.command (calls.scan lo hi)) in
         Reads line_said (behind_word scan words) result }
     ensures len { IfOk result (λ l. said_len l ≡ 0) }
-    ensures command { (language : Language) → has_reads language ≡ true → IfOk result (MayBeSaid language) }
+    ensures command { (language : Language) → IfOk result (MayBeSaid language) }
 {
     let (lo, hi) = two_words(rest).ok_or(LineError::FORM)?;
     let lo = Bytes::copy(alloc, lo)?;
@@ -332,19 +343,6 @@ fn take_flag<'a>(rest: Option<&'a [u8]>, flag: &[u8]) -> (bool, Option<&'a [u8]>
     let (word, behind) = split_once(text, b' ');
     if word == flag {
         (true, behind)
-    } else {
-        (false, rest)
-    }
-}
-
-/// The same of a flag that may stand there, or may not.
-fn take_flag_if<'a>(allowed: bool, rest: Option<&'a [u8]>, flag: &[u8]) -> (bool, Option<&'a [u8]>)
-    ensures flag { result.0 ≡ (allowed && model.is_first flag.now (parts_of 32 (option_copied rest.entry))) }
-    ensures behind { parts_of 32 (option_copied result.1)
-        ≡ model.behind_first result.0 (parts_of 32 (option_copied rest.entry)) }
-{
-    if allowed {
-        take_flag(rest, flag)
     } else {
         (false, rest)
     }

@@ -17,20 +17,15 @@
 //!
 //! A number is decimal digits without a sign or a leading zero, and below 2^64.
 //!
-//! Three languages have these lines:
-//!
-//! | Read by | Clients | `many`, `scan` | `noslow` | `stop`, `unstop`, `slow`, `unslow` | all others |
-//! |---|---|---|---|---|---|
-//! | [`parse`] | 1 | no | no | no | yes |
-//! | [`parse_schedule`](crate::parse_schedule) | 1 to 16 | yes | yes | no | yes |
-//! | [`parse_clients`] | 1 to 16 | yes | yes | yes | yes |
+//! A script of [`parse_clients`] may have all of these lines, and the one that
+//! [`parse_schedule`](crate::parse_schedule) reads all but those of the tokens.
 
-ghost use Rattle.std.specs.Prelude.{◌≡◌, ◌+◌, ◌-◌, ◌^◌, ◌<◌, ◌≤◌, Ok, length, IfOk, IfErr, OnOk};
+ghost use Rattle.std.specs.Prelude.{◌≡◌, ◌+◌, ◌≤◌, Ok, length, IfOk, IfErr, OnOk};
 ghost use Rattle.wp_model.specs.Script as model;
-ghost use Rattle.wp_model.specs.Script.{script_of, run_grammar, whole_grammar, lines_read};
+ghost use Rattle.wp_model.specs.Script.{script_of, whole_grammar, lines_read};
 ghost use Rattle.client_calls.specs.Commands.{command_of};
-ghost use Rattle.client_script.specs.Languages.{grammar_of, client_limit, IsCommandOf, HasCommandsOf};
-ghost use Rattle.client_script.specs.Scripts.{commands_of, IsFaultOf, FitsBatches, script_len, line_len, HasScriptCommands};
+ghost use Rattle.client_script.specs.Languages.{grammar_of, IsCommandOf, HasCommandsOf};
+ghost use Rattle.client_script.specs.Scripts.{commands_of, IsFaultOf, FitsBatches, script_len, line_len};
 ghost use Rattle.client_script.specs.ScriptLines.{Reads, said_added, line_added};
 
 use crate::language::Language;
@@ -44,23 +39,12 @@ use wp_model::ScriptFault;
 /// How many bytes a script may have.
 pub const TEXT_LIMIT: usize = 16_777_216;
 
-/// Parses a script of one client. The first fault in its lines decides, and within a line the first
-/// kind in the order byte, word, form, client, clients. The text as a whole may be too long, before
-/// all else, or have no client, after all else.
-pub fn parse(alloc: Global, text: &[u8]) -> Result<Script, ScriptError>
-    ensures script { IfOk result (λ s. script_of run_grammar text.now ≡ Ok (commands_of s)) }
-    ensures fault { IfErr result (IsFaultOf (script_of run_grammar text.now)) }
+/// How many clients a script may have.
+const CLIENT_LIMIT: u64 = 16;
 
-    // All that a client adds fits one batch, whatever becomes of its commits.
-    ensures fits { IfOk result FitsBatches }
-
-    // No command is of another form than these, and its words are short.
-    ensures commands { IfOk result HasScriptCommands }
-{
-    read_script(alloc, Language::OneClient, text)
-}
-
-/// Parses a script of 1 to 16 clients, which may have every line. Faults come as in [`parse`].
+/// Parses a script of 1 to 16 clients, which may have every line. The first fault in its lines decides,
+/// and within a line the first kind in the order byte, word, form, client, clients. The text as a whole
+/// may be too long, before all else, or have no client, after all else.
 pub fn parse_clients(alloc: Global, text: &[u8]) -> Result<Script, ScriptError>
     ensures script { IfOk result (λ s. script_of whole_grammar text.now ≡ Ok (commands_of s)) }
     ensures fault { IfErr result (IsFaultOf (script_of whole_grammar text.now)) }
@@ -80,7 +64,7 @@ fn read_script(alloc: Global, language: Language, text: &[u8]) -> Result<Script,
     ensures script { IfOk result (λ s. script_of (grammar_of language) text.now ≡ Ok (commands_of s)) }
     ensures fault { IfErr result (IsFaultOf (script_of (grammar_of language) text.now)) }
     ensures clients { IfOk result
-        (λ s. (1 ≤ length s.clients.items) × (length s.clients.items ≤ client_limit language)) }
+        (λ s. (1 ≤ length s.clients.items) × (length s.clients.items ≤ 16)) }
     ensures fits { IfOk result FitsBatches }
     ensures commands { IfOk result (HasCommandsOf language) }
 {
@@ -104,7 +88,7 @@ fn read_script(alloc: Global, language: Language, text: &[u8]) -> Result<Script,
 fn read_lines(alloc: Global, language: Language, text: &[u8]) -> Result<Script, ScriptError>
     ensures script { IfOk result (λ s. lines_read (grammar_of language) text.now ≡ Ok (commands_of s)) }
     ensures fault { IfErr result (IsFaultOf (lines_read (grammar_of language) text.now)) }
-    ensures few { IfOk result (λ s. length s.clients.items ≤ client_limit language) }
+    ensures few { IfOk result (λ s. length s.clients.items ≤ 16) }
     ensures small { IfOk result (λ s. script_len s ≤ length text.now + 1) }
     ensures commands { IfOk result (HasCommandsOf language) }
 {
@@ -133,8 +117,8 @@ fn add_line(
 ) -> Result<(), LineError>
     ensures script { Reads (λ _. commands_of script.new)
         (line_added (grammar_of language) (commands_of script.old) line.now) result }
-    ensures few { length script.old.clients.items ≤ client_limit language
-        → OnOk result (length script.new.clients.items ≤ client_limit language) }
+    ensures few { length script.old.clients.items ≤ 16
+        → OnOk result (length script.new.clients.items ≤ 16) }
     ensures len { OnOk result
         (script_len script.new ≤ script_len script.old + length line.now + 1) }
     ensures commands { HasCommandsOf language script.old → OnOk result (HasCommandsOf language script.new) }
@@ -154,25 +138,24 @@ pub fn add_said(
 ) -> Result<(), LineError>
     ensures script { Reads (λ _. commands_of script.new)
         (said_added (grammar_of language) (commands_of script.old) line.now) result }
-    ensures few { length script.old.clients.items ≤ client_limit language
-        → OnOk result (length script.new.clients.items ≤ client_limit language) }
+    ensures few { length script.old.clients.items ≤ 16
+        → OnOk result (length script.new.clients.items ≤ 16) }
     ensures len { OnOk result
         (script_len script.new ≤ script_len script.old + length line.now + 1) }
     ensures commands { HasCommandsOf language script.old → OnOk result (HasCommandsOf language script.new) }
 {
     match read_line(alloc, language, line)? {
-        Line::Section(number) => add_section(alloc, language.client_limit(), script, number),
+        Line::Section(number) => add_section(alloc, script, number),
         Line::Command(command) => add_command(script, command),
     }
 }
 
-/// Begins the section of a client after the others, of whom there may be so many.
-fn add_section(alloc: Global, most: u64, script: &mut Script, number: u64) -> Result<(), LineError>
-    requires { most < 2 ^ 64 - 1 }
+/// Begins the section of a client after the others.
+fn add_section(alloc: Global, script: &mut Script, number: u64) -> Result<(), LineError>
     ensures script { Reads (λ _. commands_of script.new)
-        (model.with_section most (commands_of script.old) number) result }
-    ensures few { length script.old.clients.items ≤ most
-        → OnOk result (length script.new.clients.items ≤ most) }
+        (model.with_section 16 (commands_of script.old) number) result }
+    ensures few { length script.old.clients.items ≤ 16
+        → OnOk result (length script.new.clients.items ≤ 16) }
     ensures len { OnOk result (script_len script.new ≡ script_len script.old) }
     ensures commands { (language : Language) → HasCommandsOf language script.old
         → OnOk result (HasCommandsOf language script.new) }
@@ -180,7 +163,7 @@ fn add_section(alloc: Global, most: u64, script: &mut Script, number: u64) -> Re
     if number != script.clients.len() as u64 + 1 {
         return Err(LineError::Fault(ScriptFault::Client));
     }
-    if number == most + 1 {
+    if number == CLIENT_LIMIT + 1 {
         return Err(LineError::Fault(ScriptFault::Clients));
     }
     script.clients.push(Vec::new(alloc))?;

@@ -1,10 +1,12 @@
--- What arguments and commands make of a command that they are added to.
-use Rattle.std.proofs.Common.{◌≡◌, ◌∙◌, false, refl, ap}
+-- What arguments and commands make of a command that they are added to, and what a parser makes of an argument.
+use Rattle.std.proofs.Common.{◌≡◌, ◌∙◌, ℕ, Option, Some, false, refl, ap}
 use Rattle.clap.specs.Words.{AddsArg, AddsSubcommand, App, Rule, app_of, rule_of, with_rule, with_subcommand}
 use Rattle.clap.specs.Simple.{shape_of}
 use Rattle.clap.specs.declared.builder.arg.Arg.{Arg}
 use Rattle.clap.specs.declared.builder.command.Command.{Command}
 use Rattle.clap.specs.declared.builder.command.Command.TheViews.{out-Command}
+use Rattle.clap.specs.declared.builder.value_parser.ValueParser.{ValueParser}
+use Rattle.clap.specs.declared.builder.value_parser.ValueParser.TheVariants.{Unsigned}
 
 -- the command has this form, and no argument that its own commands take over
 pub record IsApp (command : Command) (a : App) : Type 0 where
@@ -21,3 +23,10 @@ pub with_command : (old sub new : Command) (a b : App) → AddsSubcommand old su
     → app_of old ≡ a → app_of sub ≡ b → app_of new ≡ with_subcommand a b.top
 with_command old sub new a b adds local old_is sub_is =
     adds.shape local ∙ ap (λ (x : App). with_subcommand x (shape_of sub)) old_is ∙ ap (λ (x : App). with_subcommand a x.top) sub_is
+
+-- the argument reads a number within its range
+pub with_parser : (old new : Arg) (p parser : ValueParser) (least most : ℕ) (r : Rule) → new ≡ record old { value_parser = new.value_parser } → new.value_parser ≡ Some p → p ≡ parser
+    → parser ≡ Unsigned least most → rule_of old ≡ r → rule_of new ≡ record r { parser = Some (Unsigned least most) }
+with_parser old new p parser least most r is has same parser_is old_is =
+    ap rule_of is ∙ ap (λ (o : Option ValueParser). record (rule_of old) { parser = o }) (has ∙ ap Some (same ∙ parser_is))
+    ∙ ap (λ (x : Rule). record x { parser = Some (Unsigned least most) }) old_is

@@ -7,9 +7,8 @@ pub returns-then-is_some-clause-line : goal.returns-then-is_some-clause-line
 returns-then-is_some-clause-line c =
     let sync = c.take_flag-sync in
     let no_log = c.take_flag-no_log in
-    let no_slowdown = c.take_flag_if-no_slowdown in
-    let more = c.has_no_slowdown.result in
+    let no_slowdown = c.take_flag-no_slowdown in
     let words = parts_of 32 (option_copied c.args.rest) in
-    let read = flags_read more words (parts_of 32 (option_copied sync.result.1)) (parts_of 32 (option_copied no_log.result.1)) (parts_of 32 (option_copied no_slowdown.result.1)) sync.result.0 no_log.result.0 no_slowdown.result.0
+    let read = flags_read words (parts_of 32 (option_copied sync.result.1)) (parts_of 32 (option_copied no_log.result.1)) (parts_of 32 (option_copied no_slowdown.result.1)) sync.result.0 no_log.result.0 no_slowdown.result.0
     sync.ensures.flag sync.ensures.behind no_log.ensures.flag no_log.ensures.behind no_slowdown.ensures.flag no_slowdown.ensures.behind in
-    rw (← c.has_no_slowdown.ensures) (flags_read-more more words no_slowdown.result.1 sync.result.0 no_log.result.0 no_slowdown.result.0 read (cc))
+    flags_read-more words no_slowdown.result.1 sync.result.0 no_log.result.0 no_slowdown.result.0 read (cc)

@@ -1,7 +1,7 @@
 use Rattle.std.proofs.Common.{◌≡◌, ◌+◌, ◌≤◌, Ok, fold, length, option_copied}
 use Rattle.std.specs.List.{enumerate_from}
 use Rattle.wp_model.specs.Script.{after_line, lines_read}
-use Rattle.client_script.specs.Languages.{grammar_of, client_limit, HasCommandsOf}
+use Rattle.client_script.specs.Languages.{grammar_of, HasCommandsOf}
 use Rattle.client_script.specs.Scripts.{commands_of, script_len}
 use Rattle.client_script.specs.ScriptWords.{parts_of, len_behind}
 use Rattle.client_script.proofs.parser.read_lines.Given as goal
@@ -10,7 +10,7 @@ abbrev pub invariant-loop-rest : goal.invariant-loop-rest
 invariant-loop-rest l = record {
   goes_on : fold (after_line (grammar_of l.language)) (Ok (commands_of l.script)) (enumerate_from (l.number + 1) (parts_of 10 (option_copied l.rest))) ≡ lines_read (grammar_of l.language) l.text;
   counted : l.number + len_behind (option_copied l.rest) ≤ length l.text + 1;
-  few : length l.script.clients.items ≤ client_limit l.language;
+  few : length l.script.clients.items ≤ 16;
   small : script_len l.script + len_behind (option_copied l.rest) ≤ length l.text + 1;
   short : HasCommandsOf l.language l.script;
 }
