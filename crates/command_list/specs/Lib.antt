@@ -1,0 +1,6 @@
+pub mod Layout
+pub mod Contents
+pub mod Reading
+pub mod ReadBack
+pub mod OneList
+pub mod Views

@@ -1,0 +1,49 @@
+//! A command whose words are parts of other bytes.
+
+ghost use Rattle.std.specs.Prelude.{◌≡◌, [], ◌∷◌};
+ghost use Rattle.command_list.specs.Contents.{commits_in};
+ghost use Rattle.command_list.specs.Views.{command_of};
+
+use crate::Words;
+use wp_model::WriteOptions;
+
+/// A command of a client, whose words are borrowed. Contracts see it by `command_of`.
+#[derive(Debug, Drop)]
+pub enum CommandView<'a> {
+    /// Adds a value to the client's batch.
+    Put { key: &'a [u8], value: &'a [u8] },
+    /// Adds the deletion of a key.
+    Delete { key: &'a [u8] },
+    /// Adds the deletion of a key that was put once.
+    SingleDelete { key: &'a [u8] },
+    /// Adds a note for the log alone.
+    Note { text: &'a [u8] },
+    /// Empties the batch.
+    Clear,
+    /// Writes the batch.
+    Commit { options: WriteOptions },
+    /// Reads a key.
+    Get { key: &'a [u8] },
+    /// Reads several keys at one sequence.
+    Many { keys: Words<'a> },
+    /// Reads the keys from `lo` on and below `hi`.
+    Scan { lo: &'a [u8], hi: &'a [u8] },
+    /// Takes the write controller's stop token for the client, which holds writes back.
+    Stop,
+    /// Gives the stop token back.
+    Unstop,
+    /// Takes the write controller's delay token for the client, which slows writes down to so many bytes a second.
+    Slow { rate: u64 },
+    /// Gives the delay token back.
+    Unslow,
+}
+
+/// How many commits a command is: one or none.
+pub fn commits_of(command: &CommandView<'_>) -> usize
+    ensures { result ≡ commits_in (command_of command.now ∷ []) }
+{
+    match command {
+        CommandView::Commit { .. } => 1,
+        _ => 0,
+    }
+}

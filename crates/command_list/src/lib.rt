@@ -1,0 +1,33 @@
+//! The commands of a client as bytes one after another, which take little memory: a put nine bytes and those of its
+//! key and its value, and no allocation of its own.
+//!
+//! Numbers have the lowest byte first. A word stands behind its length in four bytes.
+//!
+//! | Tag | Command | Behind the tag |
+//! |---|---|---|
+//! | 1 | put | two words: the key and the value |
+//! | 2 | delete | a word: the key |
+//! | 3 | single delete | a word: the key |
+//! | 4 | note | a word: the text |
+//! | 5 | clear | nothing |
+//! | 6 | commit | a byte: 1 for sync, 2 for no log and 4 for no slowdown, added up |
+//! | 7 | get | a word: the key |
+//! | 8 | get of several keys | how many keys in four bytes, and a word for each |
+//! | 9 | scan | two words: where it begins, and what it stays below |
+//! | 10 | stop | nothing |
+//! | 11 | unstop | nothing |
+//! | 12 | slow | the rate in eight bytes |
+//! | 13 | unslow | nothing |
+#![tactic(auto)]
+
+mod command_view;
+mod commands;
+mod layout;
+mod list;
+mod reading;
+mod words;
+
+pub use command_view::CommandView;
+pub use commands::Commands;
+pub use list::CommandList;
+pub use words::{WordList, Words};
