@@ -2,10 +2,12 @@
 
 use crate::checks::check;
 use crate::logs::{PUT, add_all, batch_bytes};
+use std::alloc::{AllocError, Global};
+use std::process::Abort;
 use std::test::Fail;
 use wp_model::BatchError;
 use write_batch::RecordView::{Deletion, LogData, SingleDeletion, Value};
-use write_batch::{AddError, Batch, MAX_SIZE, RecordView, read_batch};
+use write_batch::{AddError, Batch, BatchView, MAX_SIZE, RecordView, read_batch};
 
 const TWO_PUTS_AND_A_DELETION: [u8; 25] = [
     1, 0, 0, 0, 0, 0, 0, 0, 3, 0, 0, 0, 1, 1, 0x61, 1, 0x31, 1, 1, 0x61, 1, 0x32, 0, 1, 0x61,
@@ -39,38 +41,52 @@ const NOTED: [RecordView<'static>; 2] = [
 
 const DELETED: [RecordView<'static>; 1] = [SingleDeletion { key: b"a" }];
 
-// Additions, the sequence, how many of them count, and the bytes. Log data isn't counted.
-const MADE: [(&[RecordView<'static>], u64, u32, &[u8]); 3] = [
-    (&PUTS, 1, 3, &TWO_PUTS_AND_A_DELETION),
-    (&DELETED, 3, 1, &A_SINGLE_DELETION),
-    (&NOTED, 1, 1, &LOG_DATA_AND_A_PUT),
+// A batch's bytes, its sequence, how many of its additions count, and its size.
+type Facts<'a> = (&'a [u8], u64, u32, u64);
+
+// Additions, and what the batch of them is. Log data isn't counted.
+const MADE: [(&[RecordView<'static>], Facts<'static>); 3] = [
+    (&PUTS, (&TWO_PUTS_AND_A_DELETION, 1, 3, 25)),
+    (&DELETED, (&A_SINGLE_DELETION, 3, 1, 15)),
+    (&NOTED, (&LOG_DATA_AND_A_PUT, 1, 1, 20)),
 ];
+
+fn facts(batch: &Batch) -> Facts<'_> {
+    (batch.bytes(), batch.sequence(), batch.count(), batch.size())
+}
 
 // One batch has the additions of each row after it was new or cleared.
 #[test]
 fn has_the_bytes_of_its_additions(rt: HostRuntime) -> Result<(), Fail> {
     let mut batch = Batch::new(rt.alloc())?;
-    for (row, (records, sequence, count, bytes)) in MADE.iter().enumerate() {
-        check(&rt, row, &batch.bytes(), &[0; 12].as_slice());
+    for (row, (records, wanted)) in MADE.iter().enumerate() {
+        check(&rt, row, &facts(&batch), &(&[0; 12], 0, 0, 12));
         add_all(&mut batch, records)?;
-        batch.set_sequence(*sequence);
-        let found = (batch.bytes(), batch.sequence(), batch.count(), batch.size());
-        let wanted = (*bytes, *sequence, *count, bytes.len() as u64);
-        check(&rt, row, &found, &wanted);
+        batch.set_sequence(wanted.1);
+        check(&rt, row, &facts(&batch), wanted);
         batch.clear();
     }
     Ok(())
 }
 
+// What putting so many zeros at a key comes to, how many additions count then, and the size.
+fn put_zeros(
+    alloc: Global,
+    batch: &mut Batch,
+    len: usize,
+) -> Result<(Result<(), AddError>, u32, u64), AllocError> {
+    let value = vec![in alloc; 0u8; len]?;
+    let done = batch.put(b"k", &value);
+    Ok((done, batch.count(), batch.size()))
+}
+
 #[test]
 fn takes_no_more_than_the_limit(rt: HostRuntime) -> Result<(), Fail> {
-    let mut value = vec![in rt.alloc(); 0u8; 16_777_198]?;
     let mut batch = Batch::new(rt.alloc())?;
-    let refused = (batch.put(b"k", &value), batch.count(), batch.size());
+    let refused = put_zeros(rt.alloc(), &mut batch, 16_777_198)?;
     let too_large = AddError::TooLarge { size: 16_777_217 };
     check(&rt, 0, &refused, &(Err(too_large), 0, 12));
-    value.truncate(16_777_197);
-    let taken = (batch.put(b"k", &value), batch.count(), batch.size());
+    let taken = put_zeros(rt.alloc(), &mut batch, 16_777_197)?;
     check(&rt, 1, &taken, &(Ok(()), 1, MAX_SIZE));
     Ok(())
 }
@@ -85,16 +101,20 @@ const READ: [RecordView<'static>; 4] = [
     SingleDeletion { key: b"c" },
 ];
 
+fn check_read(rt: &impl Abort, view: &BatchView<'_>) {
+    let found = (view.sequence(), view.count(), view.records().count());
+    check(rt, 0, &found, &(1, 3, 4));
+    let mut wanted = READ.iter();
+    for record in view.records() {
+        check(rt, 1, &Some(&record), &wanted.next());
+    }
+}
+
 #[test]
 fn reads_a_batch(rt: HostRuntime) -> Result<(), Fail> {
     let records = [1, 1, 0x61, 1, 0x31, 3, 1, 0x78, 0, 1, 0x62, 7, 1, 0x63];
     let bytes = batch_bytes(rt.alloc(), 1, 3, &records)?;
-    let view = read_batch(&bytes)?;
-    let found = (view.sequence(), view.count(), view.records().count());
-    check(&rt, 0, &found, &(1, 3, 4));
-    for (row, (record, wanted)) in view.records().zip(READ).enumerate() {
-        check(&rt, row, &record, &wanted);
-    }
+    check_read(&rt, &read_batch(&bytes)?);
     Ok(())
 }
 

@@ -5,9 +5,10 @@ use crate::logs::{put_fragment, put_record};
 use log_block::{FIRST, FULL, LAST, MIDDLE};
 use log_reader::{LogReader, Next};
 use std::alloc::{AllocError, Global};
+use std::process::Abort;
 use std::test::Fail;
 use wp_edge::MemDisk;
-use wp_model::{Damage, EndReason};
+use wp_model::{Damage, EndReason, NoMemory};
 
 const FIRST_RECORD: Next = Next::Record {
     start: 0,
@@ -31,10 +32,15 @@ const RECORDS: [(u8, usize, Next); 3] = [
     (b'c', 8000, THIRD_RECORD),
 ];
 
+// Puts a record of so many equal bytes behind a log.
+fn put_equal(alloc: Global, log: &mut Vec<u8>, byte: u8, len: usize) -> Result<(), AllocError> {
+    put_record(log, &vec![in alloc; byte; len]?)
+}
+
 fn three_records(alloc: Global) -> Result<Vec<u8>, AllocError> {
     let mut log = Vec::new(alloc);
-    for (byte, len, _) in RECORDS {
-        put_record(&mut log, &vec![in alloc; byte; len]?)?;
+    for (byte, len, _) in &RECORDS {
+        put_equal(alloc, &mut log, *byte, *len)?;
     }
     Ok(log)
 }
@@ -60,16 +66,30 @@ fn answers_after(records: usize, then: Next) -> [Next; 4] {
     }
 }
 
+fn three_on_disk(alloc: Global) -> Result<MemDisk, NoMemory> {
+    let log = three_records(alloc)?;
+    MemDisk::new(alloc, log.len(), &log, &[])
+}
+
+// Compares what is read next, and the record in hand.
+fn check_next(
+    rt: &impl Abort,
+    reader: &mut LogReader,
+    disk: &mut MemDisk,
+    record: &[u8],
+    wanted: Next,
+) {
+    let answer = reader.next(disk);
+    check(rt, 0, &(answer, reader.record()), &(wanted, record));
+}
+
 #[test]
 fn reads_the_records_of_several_blocks(rt: HostRuntime) -> Result<(), Fail> {
-    let alloc = rt.alloc();
-    let log = three_records(alloc)?;
-    let mut disk = MemDisk::new(alloc, log.len(), &log, &[])?;
-    let mut reader = LogReader::open(alloc)?;
-    for (byte, len, wanted) in RECORDS {
-        let bytes = vec![in alloc; byte; len]?;
-        let answer = reader.next(&mut disk);
-        check(&rt, 0, &(answer, reader.record()), &(wanted, &bytes));
+    let mut disk = three_on_disk(rt.alloc())?;
+    let mut reader = LogReader::open(rt.alloc())?;
+    for (byte, len, wanted) in &RECORDS {
+        let record = vec![in rt.alloc(); *byte; *len]?;
+        check_next(&rt, &mut reader, &mut disk, &record, *wanted);
     }
     let ended = [reader.next(&mut disk), reader.next(&mut disk)];
     let wanted = Next::End {
@@ -88,16 +108,19 @@ const CUT: [(usize, usize, u64, EndReason); 4] = [
     (98300, 2, 98300, EndReason::Clean),
 ];
 
-#[test]
-fn reads_what_is_left_of_a_log(rt: HostRuntime) -> Result<(), Fail> {
-    let log = three_records(rt.alloc())?;
+fn check_cut(rt: &impl Abort, alloc: Global, log: &[u8]) -> Result<(), Fail> {
     for (row, (len, records, at, why)) in CUT.iter().enumerate() {
-        let front = log.get(..*len).ok_or("too short")?;
         let end = Next::End { at: *at, why: *why };
-        let wanted = answers_after(*records, end);
-        check(&rt, row, &answers(rt.alloc(), front, 0)?, &wanted);
+        let front = &log[..log.len().min(*len)];
+        let found = answers(alloc, front, 0)?;
+        check(rt, row, &found, &answers_after(*records, end));
     }
     Ok(())
+}
+
+#[test]
+fn reads_what_is_left_of_a_log(rt: HostRuntime) -> Result<(), Fail> {
+    check_cut(&rt, rt.alloc(), &three_records(rt.alloc())?)
 }
 
 // Each of the five reads fails in turn. How many records are read before that.

@@ -5,14 +5,20 @@ use crate::checks::check;
 use crate::logs::{
     LOG, PUT, Summary, add_all, batch_bytes, check_cuts, check_map, put_record, recovered,
 };
-use std::alloc::Global;
-use std::process::Abort;
+use std::alloc::{AllocError, Global};
 use std::test::Fail;
 use wal_recover::{GroupNote, RecoverError, RecoveredMap, recover};
 use wp_edge::MemDisk;
-use wp_model::{Damage, EndReason};
+use wp_model::{Damage, EndReason, NoMemory};
 use write_batch::RecordView::{Deletion, LogData, SingleDeletion, Value};
 use write_batch::{Batch, RecordView};
+
+fn batch_of(alloc: Global, sequence: u64, records: &[RecordView<'_>]) -> Result<Batch, Fail> {
+    let mut batch = Batch::new(alloc)?;
+    batch.set_sequence(sequence);
+    add_all(&mut batch, records)?;
+    Ok(batch)
+}
 
 // Puts a batch of these records behind a log.
 fn put_batch(
@@ -21,9 +27,7 @@ fn put_batch(
     sequence: u64,
     records: &[RecordView<'_>],
 ) -> Result<(), Fail> {
-    let mut batch = Batch::new(alloc)?;
-    batch.set_sequence(sequence);
-    add_all(&mut batch, records)?;
+    let batch = batch_of(alloc, sequence, records)?;
     put_record(log, batch.bytes())?;
     Ok(())
 }
@@ -50,19 +54,11 @@ fn log_of_two(alloc: Global, value: &[u8]) -> Result<Vec<u8>, Fail> {
     Ok(log)
 }
 
-// Compares the groups and the map that a log recovers.
-fn check_whole(
-    rt: &impl Abort,
-    alloc: Global,
-    log: &[u8],
-    notes: &[GroupNote],
-    pairs: &[(&[u8], &[u8])],
-) -> Result<(), Fail> {
+// The groups that a log recovers, and its map.
+fn whole(alloc: Global, log: &[u8]) -> Result<(Vec<GroupNote>, RecoveredMap), RecoverError> {
     let mut disk = MemDisk::new(alloc, log.len(), log, &[])?;
     let found = recover(alloc, &mut disk)?;
-    check(rt, 0, &found.groups.as_slice(), &notes);
-    check_map(rt, &found.map, pairs);
-    Ok(())
+    Ok((found.groups, found.map))
 }
 
 const SMALL_NOTES: [GroupNote; 2] = [
@@ -82,7 +78,10 @@ const SMALL_PAIRS: [(&[u8], &[u8]); 2] = [(b"a", b"1"), (b"b", b"2")];
 
 #[test]
 fn recovers_a_small_log(rt: HostRuntime) -> Result<(), Fail> {
-    check_whole(&rt, rt.alloc(), &LOG, &SMALL_NOTES, &SMALL_PAIRS)
+    let (notes, map) = whole(rt.alloc(), &LOG)?;
+    check(&rt, 0, &notes.as_slice(), &SMALL_NOTES.as_slice());
+    check_map(&rt, &map, &SMALL_PAIRS);
+    Ok(())
 }
 
 const LARGE_NOTES: [GroupNote; 2] = [
@@ -102,8 +101,10 @@ const LARGE_NOTES: [GroupNote; 2] = [
 fn recovers_a_record_in_parts(rt: HostRuntime) -> Result<(), Fail> {
     let value = vec![in rt.alloc(); 7u8; 40_000]?;
     let log = log_of_two(rt.alloc(), &value)?;
-    let pairs: [(&[u8], &[u8]); 2] = [(b"b", &value), (b"c", b"3")];
-    check_whole(&rt, rt.alloc(), &log, &LARGE_NOTES, &pairs)
+    let (notes, map) = whole(rt.alloc(), &log)?;
+    check(&rt, 0, &notes.as_slice(), &LARGE_NOTES.as_slice());
+    check_map(&rt, &map, &[(b"b", &value), (b"c", b"3")]);
+    Ok(())
 }
 
 const SHORT_HEADER: EndReason = EndReason::Broken(Damage::ShortHeader);
@@ -143,53 +144,59 @@ const STOPPED: [(u64, u32, &[u8], EndReason); 6] = [
     ),
 ];
 
-// A record that may follow, the last sequence then, and how many bytes are kept.
-const KEPT: [(u64, u32, &[u8], u64, u64); 2] = [
-    (MAX_SEQUENCE, 1, &PUT, MAX_SEQUENCE, 48),
-    (1, 0, &[3, 1, 0x78], 1, 46),
+// A record that may follow, and what is recovered then.
+const KEPT: [(u64, u32, &[u8], Summary); 2] = [
+    (
+        MAX_SEQUENCE,
+        1,
+        &PUT,
+        (2, MAX_SEQUENCE, 48, 48, EndReason::Clean),
+    ),
+    (1, 0, &[3, 1, 0x78], (2, 1, 46, 46, EndReason::Clean)),
 ];
 
-// What is recovered where this record stands behind the first one.
-fn recovered_behind(
+// The log of the first record, and this one behind it.
+fn log_behind(
     alloc: Global,
     first: u64,
     count: u32,
     records: &[u8],
-) -> Result<Summary, Fail> {
+) -> Result<Vec<u8>, AllocError> {
     let mut log = Vec::from_slice(alloc, &LOG[..24])?;
     let bytes = batch_bytes(alloc, first, count, records)?;
     put_record(&mut log, &bytes)?;
-    Ok(recovered(alloc, &log)?)
+    Ok(log)
 }
 
 #[test]
 fn stops_at_what_may_not_follow(rt: HostRuntime) -> Result<(), Fail> {
     for (row, (first, count, records, why)) in STOPPED.iter().enumerate() {
-        let found = recovered_behind(rt.alloc(), *first, *count, records)?;
-        check(&rt, row, &found, &(1, 1, 24, 24, *why));
+        let log = log_behind(rt.alloc(), *first, *count, records)?;
+        let found = recovered(rt.alloc(), &log);
+        check(&rt, row, &found, &Ok((1, 1, 24, 24, *why)));
     }
     Ok(())
 }
 
 #[test]
 fn keeps_what_may_follow(rt: HostRuntime) -> Result<(), Fail> {
-    for (row, (first, count, records, last, kept)) in KEPT.iter().enumerate() {
-        let found = recovered_behind(rt.alloc(), *first, *count, records)?;
-        check(
-            &rt,
-            row,
-            &found,
-            &(2, *last, *kept, *kept, EndReason::Clean),
-        );
+    for (row, (first, count, records, wanted)) in KEPT.iter().enumerate() {
+        let log = log_behind(rt.alloc(), *first, *count, records)?;
+        check(&rt, row, &recovered(rt.alloc(), &log), &Ok(*wanted));
     }
     Ok(())
+}
+
+// The error where that call of the disk fails.
+fn fault_at(alloc: Global, call: u64) -> Result<Option<RecoverError>, NoMemory> {
+    let mut disk = MemDisk::new(alloc, 24, &LOG[..24], &[call])?;
+    Ok(recover(alloc, &mut disk).err())
 }
 
 #[test]
 fn a_fault_is_answered(rt: HostRuntime) -> Result<(), Fail> {
     for call in 1..3 {
-        let mut disk = MemDisk::new(rt.alloc(), 24, &LOG[..24], &[call])?;
-        let error = recover(rt.alloc(), &mut disk).err();
+        let error = fault_at(rt.alloc(), call)?;
         check(&rt, 0, &error, &Some(RecoverError::Fault { count: 1 }));
     }
     Ok(())
@@ -213,14 +220,19 @@ const LEFT: [(&[u8], &[u8]); 5] = [
     (b"sixteen bytes of all", b"4"),
 ];
 
-#[test]
-fn orders_keys_that_begin_alike(rt: HostRuntime) -> Result<(), Fail> {
-    let mut map = RecoveredMap::new(rt.alloc());
-    for (key, value) in INSERTED {
+// The map of all pairs, without two keys, of which one isn't there.
+fn map_of_five(alloc: Global) -> Result<RecoveredMap, NoMemory> {
+    let mut map = RecoveredMap::new(alloc);
+    for (key, value) in &INSERTED {
         map.insert(key, value)?;
     }
     map.remove(b"sixteen bytes of it")?;
     map.remove(b"sixteen bytes of i")?;
-    check_map(&rt, &map, &LEFT);
+    Ok(map)
+}
+
+#[test]
+fn orders_keys_that_begin_alike(rt: HostRuntime) -> Result<(), Fail> {
+    check_map(&rt, &map_of_five(rt.alloc())?, &LEFT);
     Ok(())
 }

@@ -7,6 +7,7 @@ use crate::checks::check;
 use crate::logs::recovered;
 use log_writer::{Fault, LogWriter, OpenError};
 use std::alloc::Global;
+use std::process::Abort;
 use std::test::Fail;
 use wp_edge::MemDisk;
 use write_batch::Batch;
@@ -27,31 +28,21 @@ fn put(alloc: Global, key: &[u8], value: &[u8]) -> Result<Batch, Fail> {
     Ok(batch)
 }
 
-// A batch whose record in the log has 17 bytes more than the value, or 18 or 19 where the value has 128 or 16384 of
-// them.
+// A batch that puts so many zeros at a key. Its record has 16 bytes more, or 17 or 18 where these are at least 128 or
+// 16384.
 fn put_zeros(alloc: Global, len: usize) -> Result<Batch, Fail> {
     let value = vec![in alloc; 0u8; len]?;
     put(alloc, b"k", &value)
 }
 
-type Three = (Batch, Batch, Batch);
-
-// Each of their records has 24 bytes in the log.
-fn small_batches(alloc: Global) -> Result<Three, Fail> {
-    Ok((
-        put(alloc, b"a", b"1")?,
-        put(alloc, b"b", b"2")?,
-        put(alloc, b"c", b"3")?,
-    ))
-}
-
-// Their records have 1000, 97270 and 8000 bytes.
-fn large_batches(alloc: Global) -> Result<Three, Fail> {
-    Ok((
-        put_zeros(alloc, 983)?,
-        put_zeros(alloc, 97252)?,
-        put_zeros(alloc, 7983)?,
-    ))
+// Batches of so many zeros.
+fn three_batches(alloc: Global, zeros: [usize; 3]) -> Result<[Batch; 3], Fail> {
+    let [one, two, three] = zeros;
+    Ok([
+        put_zeros(alloc, one)?,
+        put_zeros(alloc, two)?,
+        put_zeros(alloc, three)?,
+    ])
 }
 
 // A log on an empty disk that has room for so many bytes.
@@ -72,22 +63,14 @@ fn add(log: &mut LogWriter<MemDisk>, first: u64, batch: Batch, sync: bool) -> Re
 type Answers = ([Result<(), Fault>; 3], u64);
 
 // Writes each of the batches as a group of its own. The first is synced, and the others where that is asked.
-fn after_three(
-    alloc: Global,
-    capacity: usize,
-    fails: &[u64],
-    batches: Three,
-    sync: bool,
-) -> Result<(MemDisk, Answers), Fail> {
-    let (one, two, three) = batches;
-    let mut log = opened(alloc, capacity, fails)?;
+fn add_three(log: &mut LogWriter<MemDisk>, batches: [Batch; 3], sync: bool) -> Answers {
+    let [one, two, three] = batches;
     let answers = [
-        add(&mut log, 1, one, true),
-        add(&mut log, 2, two, sync),
-        add(&mut log, 3, three, sync),
+        add(log, 1, one, true),
+        add(log, 2, two, sync),
+        add(log, 3, three, sync),
     ];
-    let len = log.len();
-    Ok((log.into_disk(), (answers, len)))
+    (answers, log.len())
 }
 
 #[test]
@@ -143,28 +126,42 @@ fn answers_at(call: u64) -> Answers {
     }
 }
 
+// The disk and the answers where that call of the disk fails. The records have 1000, 97270 and 8000 bytes.
+fn large_groups(alloc: Global, call: u64) -> Result<(MemDisk, Answers), Fail> {
+    let batches = three_batches(alloc, [983, 97252, 7983])?;
+    let mut log = opened(alloc, 106_311, &[call])?;
+    let answers = add_three(&mut log, batches, true);
+    Ok((log.into_disk(), answers))
+}
+
 // What a failed call has left on the disk may come after the log's end.
 #[test]
 fn ends_at_the_first_fault(rt: HostRuntime) -> Result<(), Fail> {
     for call in 2..12 {
-        let batches = large_batches(rt.alloc())?;
-        let (disk, answers) = after_three(rt.alloc(), 106_311, &[call], batches, true)?;
+        let (disk, answers) = large_groups(rt.alloc(), call)?;
         check(&rt, call as usize, &answers, &answers_at(call));
         assert!(rt; disk.content().len() as u64 >= answers.1);
     }
     Ok(())
 }
 
-// The first record is safe. Of the others a crash leaves those that it leaves whole.
+// The disk of three records, each of 24 bytes, of which the first is safe.
+fn small_groups(rt: &impl Abort, alloc: Global) -> Result<MemDisk, Fail> {
+    let batches = three_batches(alloc, [1, 1, 1])?;
+    let mut log = opened(alloc, 72, &[])?;
+    let answers = add_three(&mut log, batches, false);
+    check(rt, 0, &answers, &([Ok(()); 3], 72));
+    Ok(log.into_disk())
+}
+
+// Of the others a crash leaves those that it leaves whole.
 #[test]
 fn a_crash_leaves_a_prefix(rt: HostRuntime) -> Result<(), Fail> {
     for len in 24..73 {
-        let batches = small_batches(rt.alloc())?;
-        let (disk, answers) = after_three(rt.alloc(), 72, &[], batches, false)?;
+        let disk = small_groups(&rt, rt.alloc())?;
         assert!(rt; disk.synced() == 24 && disk.content().len() == 72);
         let left = disk.crashed(len);
-        let groups = recovered(rt.alloc(), left.content())?.0;
-        check(&rt, 0, &answers, &([Ok(()); 3], 72));
+        let (groups, ..) = recovered(rt.alloc(), left.content())?;
         check(&rt, 1, &groups, &((len / 24) as usize));
     }
     Ok(())
