@@ -15,7 +15,6 @@ mod runs;
 use std::alloc::Global;
 use std::process::Abort;
 use std::sync::Wait;
-use std::test::Fail;
 use std::thread::Threads;
 use wp_edge::{MemDisk, MemSink, MemSource, SteppedClock};
 use writepath_top::{Ended, run};
@@ -107,22 +106,27 @@ struct Came {
 }
 
 /// The program's name, words with a space between them, and the table's options, one by one.
-fn words_of(alloc: Global, words: &str, table: Table) -> Result<Vec<String>, Fail> {
+fn words_of(rt: &impl Abort, alloc: Global, words: &str, table: Table) -> Vec<String> {
     let options = table.options;
-    let line = format!(in alloc; "writepath {words}{options}")?;
+    let line = format!(in alloc; "writepath {words}{options}").expect(rt, "memory");
     let mut all = Vec::new(alloc);
     for word in line.split(' ') {
-        all.push(word.to_string(alloc)?)?;
+        let word = word.to_string(alloc).expect(rt, "memory");
+        all.push(word).expect(rt, "memory");
     }
-    Ok(all)
+    all
 }
 
-/// Makes a call.
-fn came_of<R: Threads + Wait + Abort + Sync>(
-    rt: &R,
-    alloc: Global,
-    given: Given,
-) -> Result<Came, Fail> {
+/// What a call is made on.
+#[derive(Drop)]
+struct Devices {
+    words: Vec<String>,
+    source: MemSource,
+    sink: MemSink,
+    disk: MemDisk,
+}
+
+fn devices_of(rt: &impl Abort, alloc: Global, given: Given) -> Devices {
     assert!(rt; given.content.len() <= DISK_ROOM);
     let (of_source, of_sink, of_disk) = match given.fails {
         Fails::Nothing => (0, 0, 0),
@@ -130,13 +134,25 @@ fn came_of<R: Threads + Wait + Abort + Sync>(
         Fails::Sink(call) => (0, call, 0),
         Fails::Disk(call) => (0, 0, call),
     };
-    let words = words_of(alloc, given.words, given.table)?;
-    let mut source = MemSource::new(alloc, given.text, PIECE, &[of_source])?;
-    let mut sink = MemSink::new(alloc, SINK_ROOM, PIECE, &[of_sink])?;
-    let disk = MemDisk::new(alloc, DISK_ROOM, given.content, &[of_disk])?;
+    Devices {
+        words: words_of(rt, alloc, given.words, given.table),
+        source: MemSource::new(alloc, given.text, PIECE, &[of_source]).expect(rt, "memory"),
+        sink: MemSink::new(alloc, SINK_ROOM, PIECE, &[of_sink]).expect(rt, "memory"),
+        disk: MemDisk::new(alloc, DISK_ROOM, given.content, &[of_disk]).expect(rt, "memory"),
+    }
+}
+
+/// Makes a call.
+fn came_of<R: Threads + Wait + Abort + Sync>(rt: &R, alloc: Global, given: Given) -> Came {
+    let Devices {
+        words,
+        mut source,
+        mut sink,
+        disk,
+    } = devices_of(rt, alloc, given);
     let clock = SteppedClock::new(START);
     let Ended { status, disk } = run(rt, alloc, &words, &mut source, disk, &mut sink, clock);
-    Ok(Came { status, sink, disk })
+    Came { status, sink, disk }
 }
 
 /// Makes a call, compares its status and all that it printed, and gives its disk back.
@@ -146,11 +162,14 @@ fn ended<R: Threads + Wait + Abort + Sync>(
     given: Given,
     want: u8,
     text: &str,
-) -> Result<MemDisk, Fail> {
-    let Came { status, sink, disk } = came_of(rt, alloc, given)?;
-    assert_eq!(rt; status, want, "for {text}");
-    assert_eq!(rt; sink.taken(), text.as_bytes(), "for {text}");
-    Ok(disk)
+) -> MemDisk {
+    let Came { status, sink, disk } = came_of(rt, alloc, given);
+    assert_eq!(rt;
+        (status, sink.taken()),
+        (want, text.as_bytes()),
+        "for {text}"
+    );
+    disk
 }
 
 /// The words and the text of a call, and all that it prints.
@@ -163,7 +182,7 @@ fn check_rows<R: Threads + Wait + Abort + Sync>(
     table: Table,
     status: u8,
     rows: &[Row],
-) -> Result<(), Fail> {
+) {
     for (words, text, want) in rows {
         let given = Given {
             words: *words,
@@ -171,9 +190,8 @@ fn check_rows<R: Threads + Wait + Abort + Sync>(
             text: *text,
             ..PLAIN
         };
-        ended(rt, alloc, given, status, want)?;
+        ended(rt, alloc, given, status, want);
     }
-    Ok(())
 }
 
 /// Whether a line is as wanted, where a `*` stands for anything.

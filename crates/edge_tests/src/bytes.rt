@@ -198,8 +198,9 @@ const FOUND: [Option<&[u8]>; 2] = [None, Some(b"1")];
 
 fn check_found(rt: &impl Abort, values: &FoundList) {
     check(rt, 0, &values.len(), &2);
-    for (row, (found, wanted)) in values.as_slice().iter().zip(FOUND.iter()).enumerate() {
-        check(rt, row, &value_of(found), wanted);
+    let mut wanted = FOUND.iter();
+    for found in values.as_slice() {
+        check(rt, 1, &Some(&value_of(found)), &wanted.next());
     }
 }
 
@@ -256,8 +257,9 @@ fn check_map(rt: &impl Abort, map: &PairMap) {
     check(rt, 0, &map.len(), &3);
     check(rt, 1, &map.get(b"b"), &Some(b"4"));
     check(rt, 2, &map.get(b"ab"), &None);
-    for (row, (pair, wanted)) in map.iter().zip(LEFT.iter()).enumerate() {
-        check(rt, row, &pair, wanted);
+    let mut wanted = LEFT.iter();
+    for pair in map.iter() {
+        check(rt, 3, &Some(&pair), &wanted.next());
     }
 }
 

@@ -20,9 +20,15 @@ pub(crate) type Row = (Call, Result<u64, Failed>);
 pub(crate) fn made<D: Disk>(disk: &mut D, call: Call, buf: &mut [u8]) -> Result<u64, Failed> {
     match call {
         Call::Len => disk.len(),
-        Call::Read(at) => disk.read(at, buf).map(|n| n as u64),
-        Call::Append(piece) => disk.append(piece).map(|()| 0),
-        Call::Sync => disk.sync().map(|()| 0),
+        Call::Read(at) => Ok(disk.read(at, buf)? as u64),
+        Call::Append(piece) => {
+            disk.append(piece)?;
+            Ok(0)
+        }
+        Call::Sync => {
+            disk.sync()?;
+            Ok(0)
+        }
     }
 }
 

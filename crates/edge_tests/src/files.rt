@@ -84,12 +84,16 @@ const BEFORE: [Row; 1] = [(Call::Len, Ok(0))];
 
 const BEHIND: [Row; 1] = [(Call::Append(b"b"), Err(Failed))];
 
+// Writes a file as another program does.
+fn write(rt: &HostRuntime, name: &str, bytes: &[u8]) -> io::Result<()> {
+    fs::write(rt, path_of(rt, name)?.as_str(), bytes)
+}
+
 #[test]
 fn file_that_another_has_changed(rt: HostRuntime) -> Result<(), Fail> {
-    let path = path_of(&rt, "changed")?;
-    let mut disk = FileDisk::new(rt, path.clone()?);
+    let mut disk = FileDisk::new(rt, path_of(&rt, "changed")?);
     check_calls(&rt, &mut disk, &BEFORE, &mut []);
-    fs::write(&rt, path.as_str(), b"a")?;
+    write(&rt, "changed", b"a")?;
     check_calls(&rt, &mut disk, &BEHIND, &mut []);
     check_taken(&rt, &rt, "changed", b"a")?;
     Ok(())

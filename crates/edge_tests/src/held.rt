@@ -104,7 +104,8 @@ const NOT_HELD: [(u64, u64, bool); 5] = [
     (1, 3, false),
 ];
 
-/// What two appends come to of which the second finds no room, whether the held one was begun, the faults, and the disk.
+/// What two appends come to of which the second finds no room, whether the held one was begun, the faults, and the
+/// disk.
 fn append_two(inner: MemDisk, hold: &Hold, at: u64) -> ((Result<(), Failed>, bool, u64), MemDisk) {
     let mut disk = HeldDisk::new(inner, hold, at);
     let done = append_all(&mut disk, &[b"a", b"b"]);

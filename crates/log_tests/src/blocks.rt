@@ -156,8 +156,8 @@ fn cuts(place: usize, len: usize) -> [Cut; 4] {
     ]
 }
 
-// A place, the length of a record that is written there, and its pieces: one of 97270 bytes behind one of 1000, one whose
-// first fragment has room for its header alone, and one that is too long for a block by a byte.
+// A place, the length of a record that is written there, and its pieces: one of 97270 bytes behind one of 1000, one
+// whose first fragment has room for its header alone, and one that is too long for a block by a byte.
 const SEVERAL: [(usize, usize, [Cut; 4]); 3] = [
     (
         1007,

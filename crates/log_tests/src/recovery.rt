@@ -126,7 +126,8 @@ fn ends_inside_a_record(rt: HostRuntime) -> Result<(), Fail> {
 
 const MAX_SEQUENCE: u64 = 72_057_594_037_927_935;
 
-// A record that may not follow: its first sequence, what its header says that counts, its records, and why it isn't kept.
+// A record that may not follow: its first sequence, what its header says that counts, its records, and why it isn't
+// kept.
 const STOPPED: [(u64, u32, &[u8], EndReason); 6] = [
     (2, 1, &[2, 1, 0x61, 1, 0x31], EndReason::Tag(2)),
     (2, 2, &PUT, EndReason::Count { said: 2, found: 1 }),

@@ -73,20 +73,33 @@ fn add_three(log: &mut LogWriter<MemDisk>, batches: [Batch; 3], sync: bool) -> A
     (answers, log.len())
 }
 
+// Adds two batches of one small put each as one group, and syncs it.
+fn add_two(
+    rt: &impl Abort,
+    log: &mut LogWriter<MemDisk>,
+    one: Batch,
+    two: Batch,
+) -> Result<(), Fault> {
+    assert!(rt; one.count() == 1 && two.count() == 1);
+    assert!(rt; one.size() == 17 && two.size() == 17);
+    log.add_group(1, &[one, two], true)
+}
+
+// The disk of a group of two batches, what the call answered, the log's length, and its fault.
+type Written = (MemDisk, (Result<(), Fault>, u64, Option<u64>));
+
+fn small_group(rt: &impl Abort, alloc: Global) -> Result<Written, Fail> {
+    let one = put(alloc, b"a", b"1")?;
+    let two = put(alloc, b"b", b"2")?;
+    let mut log = opened(alloc, 29, &[])?;
+    let answer = (add_two(rt, &mut log, one, two), log.len(), log.fault());
+    Ok((log.into_disk(), answer))
+}
+
 #[test]
 fn writes_a_group(rt: HostRuntime) -> Result<(), Fail> {
-    let group = [put(rt.alloc(), b"a", b"1")?, put(rt.alloc(), b"b", b"2")?];
-    assert!(rt; group[0].count() == 1 && group[1].count() == 1);
-    assert!(rt; group[0].size() == 17 && group[1].size() == 17);
-    let mut log = opened(rt.alloc(), 29, &[])?;
-    let added = log.add_group(1, &group, true);
-    check(
-        &rt,
-        0,
-        &(added, log.len(), log.fault()),
-        &(Ok(()), 29, None),
-    );
-    let disk = log.into_disk();
+    let (disk, answer) = small_group(&rt, rt.alloc())?;
+    check(&rt, 0, &answer, &(Ok(()), 29, None));
     check(&rt, 1, &(disk.content(), disk.synced()), &(&GROUP, 29));
     Ok(())
 }

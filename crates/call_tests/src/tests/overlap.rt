@@ -3,8 +3,8 @@
 
 use super::recovery::check_recovery;
 use super::{
-    DISK_ROOM, ONE_TREE, OUTCOME, PIECE, SCRIPT, SHARDS, SINK_ROOM, START, TABLES, Table,
-    check_texts, words_of,
+    Devices, Given, ONE_TREE, OUTCOME, PLAIN, SCRIPT, SHARDS, START, TABLES, Table, check_texts,
+    devices_of,
 };
 use engine_calls::Gate;
 use held_disk::{HeldDisk, Hold};
@@ -14,10 +14,9 @@ use std::rt::HostRuntime;
 use std::sync::Wait;
 use std::sync::atomic::Ordering::SeqCst;
 use std::sync::atomic::{AtomicBool, AtomicU64};
-use std::test::Fail;
 use std::thread;
 use std::thread::Threads;
-use wp_edge::{MemDisk, MemSink, MemSource, SteppedClock};
+use wp_edge::{MemDisk, SteppedClock};
 use writepath_top::{Ended, run_gated};
 
 /// How many turns a client waits at most: more than a test will take, so that a test whose append is never begun ends
@@ -91,7 +90,7 @@ fn overlapped<R: Threads + Wait + Abort + Sync>(
     until: Until,
     need: u64,
     want: &str,
-) -> Result<MemDisk, Fail> {
+) -> MemDisk {
     let hold = Hold::new(need);
     let gate = Turnstile {
         hold: &hold,
@@ -99,10 +98,17 @@ fn overlapped<R: Threads + Wait + Abort + Sync>(
         locks: AtomicU64::new(0),
         late: AtomicBool::new(false),
     };
-    let words = words_of(alloc, "run", table)?;
-    let mut source = MemSource::new(alloc, text, PIECE, &[])?;
-    let mut sink = MemSink::new(alloc, SINK_ROOM, PIECE, &[])?;
-    let inner = MemDisk::new(alloc, DISK_ROOM, b"", &[])?;
+    let given = Given {
+        table,
+        text,
+        ..PLAIN
+    };
+    let Devices {
+        words,
+        mut source,
+        mut sink,
+        disk: inner,
+    } = devices_of(rt, alloc, given);
     let Ended { status, disk } = run_gated(
         rt,
         alloc,
@@ -118,7 +124,7 @@ fn overlapped<R: Threads + Wait + Abort + Sync>(
     let locks = gate.locks.load(SeqCst);
     assert_eq!(rt; (late, locks, status), (false, table.locks, 0));
     check_texts(rt, &sink, &[want]);
-    Ok(disk.into_disk())
+    disk.into_disk()
 }
 
 /// The number of shards has no effect on a table of one tree.
@@ -136,28 +142,26 @@ const ALL_TABLES: [Table; 4] = [
 ];
 
 #[test]
-fn a_table_has_a_lock_for_each_shard(rt: HostRuntime) -> Result<(), Fail> {
+fn a_table_has_a_lock_for_each_shard(rt: HostRuntime) {
     for table in ALL_TABLES {
-        overlapped(&rt, rt.alloc(), table, SCRIPT, Until::Answered, 0, OUTCOME)?;
+        overlapped(&rt, rt.alloc(), table, SCRIPT, Until::Answered, 0, OUTCOME);
     }
-    Ok(())
 }
 
 /// The second client is answered while the first one's record is written, and sees nothing of it.
 #[test]
-fn a_read_waits_for_no_append(rt: HostRuntime) -> Result<(), Fail> {
+fn a_read_waits_for_no_append(rt: HostRuntime) {
     let text = b"client 1\nput a 1\ncommit\nclient 2\nget a\n";
     let want = "client 1\nok 1 1\nclient 2\nnil 0\n\
             history 1\n1 1 1 1 log 0100000000000000010000000101610131\nstate 1 1\na 1\nlog 24\n";
     for table in TABLES {
-        overlapped(&rt, rt.alloc(), table, text, Until::Answered, 1, want)?;
+        overlapped(&rt, rt.alloc(), table, text, Until::Answered, 1, want);
     }
-    Ok(())
 }
 
 /// The three that come to the line while the first one's record is written are one group, and one record.
 #[test]
-fn who_waits_for_an_append_is_in_one_group(rt: HostRuntime) -> Result<(), Fail> {
+fn who_waits_for_an_append_is_in_one_group(rt: HostRuntime) {
     let text =
         b"client 1\nput a 1\ncommit\nclient 2\nput b 1\ncommit\nclient 3\nput c 1\ncommit\nclient 4\nput d 1\ncommit\n";
     let want = "client 1\nok 1 1\nclient 2\nok *\nclient 3\nok *\nclient 4\nok *\n\
@@ -165,8 +169,7 @@ fn who_waits_for_an_append_is_in_one_group(rt: HostRuntime) -> Result<(), Fail> 
     let recovered =
         "groups 2\n1 1 17\n2 3 27\nstate 4 4\n61 31\n62 31\n63 31\n64 31\nend 58 clean\n";
     for table in TABLES {
-        let disk = overlapped(&rt, rt.alloc(), table, text, Until::Linked, 3, want)?;
-        check_recovery(&rt, rt.alloc(), disk.content(), recovered)?;
+        let disk = overlapped(&rt, rt.alloc(), table, text, Until::Linked, 3, want);
+        check_recovery(&rt, rt.alloc(), disk.content(), recovered);
     }
-    Ok(())
 }

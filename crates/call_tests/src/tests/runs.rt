@@ -1,16 +1,15 @@
 //! Scripts of one client, what is refused, devices that fail, and generated scripts.
 
-use super::Fails::{Disk, Sink, Source};
+use super::Fails::{Disk, Nothing, Sink, Source};
 use super::{
-    Given, ONE_TREE, OUTCOME, PLAIN, RECORD, Row, SCRIPT, TABLES, TWO_RECORDS, Table, check_rows,
-    ended,
+    Fails, Given, ONE_TREE, OUTCOME, PLAIN, RECORD, Row, SCRIPT, TABLES, TWO_RECORDS, Table,
+    check_rows, ended,
 };
 use client_script::TEXT_LIMIT;
 use std::alloc::Global;
 use std::process::Abort;
 use std::rt::HostRuntime;
 use std::sync::Wait;
-use std::test::Fail;
 use std::thread::Threads;
 
 /// Of other words `tests/real_file` has more.
@@ -44,17 +43,16 @@ const FAULTY: [Row; 13] = [
 ];
 
 #[test]
-fn words_and_scripts_are_refused(rt: HostRuntime) -> Result<(), Fail> {
+fn words_and_scripts_are_refused(rt: HostRuntime) {
     let alloc = rt.alloc();
-    check_rows(&rt, alloc, ONE_TREE, 1, &WORDS)?;
-    check_rows(&rt, alloc, ONE_TREE, 2, &FAULTY)?;
-    let long = vec![in alloc; b'#'; TEXT_LIMIT + 1]?;
+    check_rows(&rt, alloc, ONE_TREE, 1, &WORDS);
+    check_rows(&rt, alloc, ONE_TREE, 2, &FAULTY);
+    let long = vec![in alloc; b'#'; TEXT_LIMIT + 1].expect(&rt, "memory");
     let given = Given {
         text: long.as_slice(),
         ..PLAIN
     };
-    ended(&rt, alloc, given, 2, "script 0 long\n")?;
-    Ok(())
+    ended(&rt, alloc, given, 2, "script 0 long\n");
 }
 
 const OUTCOMES: [Row; 13] = [
@@ -168,182 +166,105 @@ const SUMMARIES: [Row; 6] = [
 ];
 
 #[test]
-fn prints_what_came_of_a_script(rt: HostRuntime) -> Result<(), Fail> {
+fn prints_what_came_of_a_script(rt: HostRuntime) {
     let alloc = rt.alloc();
     for table in TABLES {
-        check_rows(&rt, alloc, table, 0, &OUTCOMES)?;
+        check_rows(&rt, alloc, table, 0, &OUTCOMES);
     }
-    check_rows(&rt, alloc, ONE_TREE, 0, &SUMMARIES)
+    check_rows(&rt, alloc, ONE_TREE, 0, &SUMMARIES);
 }
 
 const ONE_BATCH: &str = "clients 1\nbatches 1\nrecords 1\nlast 1\nkeys 1\nsum 914\n";
 
-/// What a call is given, the status and all that is printed then, and what the disk holds then, where that is asked.
-type Left = (Given<'static>, u8, &'static str, Option<&'static [u8]>);
-
-const RECOVER: Given<'static> = Given {
-    words: "recover",
-    content: RECORD,
-    ..PLAIN
-};
-
-const GENERATE: Given<'static> = Given {
-    words: "gen 1 1 2",
-    ..PLAIN
-};
+/// Words, what the disk holds, which call of a device fails, the status, and all that is printed then.
+type Device = (&'static str, &'static [u8], Fails, u8, &'static str);
 
 /// Neither `recover` nor `gen` looks at the source.
-const DEVICES: [Left; 10] = [
+const DEVICES: [Device; 10] = [
+    ("run", b"", Disk(1), 3, "disk fault 1\n"),
+    ("run", b"", Source(1), 4, "source fault 1\n"),
+    ("run", b"", Sink(1), 5, ""),
+    ("run", b"x", Nothing, 7, "log not empty 1\n"),
+    ("recover", RECORD, Disk(1), 3, "disk fault 1\n"),
+    ("recover", RECORD, Sink(1), 5, ""),
     (
-        Given {
-            fails: Disk(1),
-            ..PLAIN
-        },
-        3,
-        "disk fault 1\n",
-        None,
-    ),
-    (
-        Given {
-            fails: Source(1),
-            ..PLAIN
-        },
-        4,
-        "source fault 1\n",
-        None,
-    ),
-    (
-        Given {
-            fails: Sink(1),
-            ..PLAIN
-        },
-        5,
-        "",
-        None,
-    ),
-    (
-        Given {
-            content: b"x",
-            ..PLAIN
-        },
-        7,
-        "log not empty 1\n",
-        None,
-    ),
-    (
-        Given {
-            fails: Disk(1),
-            ..RECOVER
-        },
-        3,
-        "disk fault 1\n",
-        None,
-    ),
-    (
-        Given {
-            fails: Sink(1),
-            ..RECOVER
-        },
-        5,
-        "",
-        None,
-    ),
-    (
-        Given {
-            content: b"x",
-            fails: Source(1),
-            ..RECOVER
-        },
+        "recover",
+        b"x",
+        Source(1),
         0,
         "groups 0\nstate 0 0\nend 0 shortheader\n",
-        None,
     ),
-    (
-        Given {
-            content: RECORD,
-            ..GENERATE
-        },
-        7,
-        "log not empty 24\n",
-        None,
-    ),
-    (
-        Given {
-            fails: Source(1),
-            ..GENERATE
-        },
-        0,
-        SMALL_SUMMARY,
-        None,
-    ),
-    (
-        Given {
-            fails: Disk(3),
-            ..GENERATE
-        },
-        3,
-        ONE_BATCH,
-        None,
-    ),
+    ("gen 1 1 2", RECORD, Nothing, 7, "log not empty 24\n"),
+    ("gen 1 1 2", b"", Source(1), 0, SMALL_SUMMARY),
+    ("gen 1 1 2", b"", Disk(3), 3, ONE_BATCH),
 ];
 
-const FAULTS: [Left; 4] = [
-    (PLAIN, 0, OUTCOME, Some(RECORD)),
-    (
-        Given {
-            fails: Disk(2),
+#[test]
+fn devices_fail_or_are_not_empty(rt: HostRuntime) {
+    for (words, content, fails, status, want) in DEVICES {
+        let given = Given {
+            words,
+            content,
+            fails,
             ..PLAIN
-        },
+        };
+        ended(&rt, rt.alloc(), given, status, want);
+    }
+}
+
+/// A text, which call of a device fails, the status and all that is printed then, and what the disk holds.
+type Left = (&'static [u8], Fails, u8, &'static str, &'static [u8]);
+
+const FAULTS: [Left; 4] = [
+    (SCRIPT, Nothing, 0, OUTCOME, RECORD),
+    (
+        SCRIPT,
+        Disk(2),
         3,
         "client 1\nno logfault 1\nnil 0\nhistory 0\nstate 0 0\nlog 0 fault 1\n",
-        Some(b""),
+        b"",
     ),
     (
-        Given {
-            text: b"client 1\nput a 1\ncommit\nput b 2\ncommit\ncommit\nget b\nget a\n",
-            fails: Disk(3),
-            ..PLAIN
-        },
+        b"client 1\nput a 1\ncommit\nput b 2\ncommit\ncommit\nget b\nget a\n",
+        Disk(3),
         3,
         "client 1\nok 1 1\nno logfault 1\nno logfault 1\nnil 1\nval 1 1\n\
             history 1\n1 1 1 1 log 0100000000000000010000000101610131\nstate 1 1\na 1\nlog 24 fault 1\n",
-        Some(RECORD),
+        RECORD,
     ),
     // Two records are written. They aren't synced.
     (
-        Given {
-            text: b"client 1\nput a 1\ncommit\nput b 2\ncommit sync\nget b\n",
-            fails: Disk(4),
-            ..PLAIN
-        },
+        b"client 1\nput a 1\ncommit\nput b 2\ncommit sync\nget b\n",
+        Disk(4),
         3,
         "client 1\nok 1 1\nno logfault 1\nnil 1\n\
             history 1\n1 1 1 1 log 0100000000000000010000000101610131\nstate 1 1\na 1\nlog 24 fault 1\n",
-        Some(TWO_RECORDS),
+        TWO_RECORDS,
     ),
 ];
 
-/// Makes calls over such a table, and compares what they leave on the disk too.
+/// Runs scripts over such a table, and compares what they leave on the disk too.
 fn check_left<R: Threads + Wait + Abort + Sync>(
     rt: &R,
     alloc: Global,
     table: Table,
     rows: &[Left],
-) -> Result<(), Fail> {
-    for (given, status, want, left) in rows {
-        let disk = ended(rt, alloc, Given { table, ..*given }, *status, want)?;
-        if let Some(left) = left {
-            assert_eq!(rt; disk.content(), *left, "for {want}");
-        }
+) {
+    for (text, fails, status, want, left) in rows {
+        let given = Given {
+            table,
+            text: *text,
+            fails: *fails,
+            ..PLAIN
+        };
+        let disk = ended(rt, alloc, given, *status, want);
+        assert_eq!(rt; disk.content(), *left, "for {want}");
     }
-    Ok(())
 }
 
 #[test]
-fn devices_fail_or_are_not_empty(rt: HostRuntime) -> Result<(), Fail> {
-    check_left(&rt, rt.alloc(), ONE_TREE, &DEVICES)?;
+fn writes_up_to_a_fault(rt: HostRuntime) {
     for table in TABLES {
-        check_left(&rt, rt.alloc(), table, &FAULTS)?;
+        check_left(&rt, rt.alloc(), table, &FAULTS);
     }
-    Ok(())
 }
