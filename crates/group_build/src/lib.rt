@@ -11,6 +11,3 @@
 mod group;
 
 pub use group::{group_is_longest, group_len};
-
-#[cfg(test)]
-mod tests;

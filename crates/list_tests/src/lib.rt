@@ -1,8 +1,10 @@
 //! Tests of the line of writers, over a plain counter as its log: who goes with whom, what each is told, who leads
-//! next, and threads that write at once. They stand in a crate of their own, so that `writer_list` is proved once and
-//! not with its tests again.
+//! next, and threads that write at once; and of the bells that its writers sleep on. They stand in a crate of their
+//! own, so that `writer_list` and `waiting` are proved once and not with their tests again.
 #![tactic(auto)]
 
+#[cfg(test)]
+mod bells;
 mod counter;
 #[cfg(test)]
 mod tests;

@@ -131,13 +131,17 @@ fn told_last(player: &Player) -> Option<(usize, u64, u64)> {
     Some((player.led, answer.number, answer.size))
 }
 
+// What a client in the row from `from` was told last: the size of the group that it led, its number and its size.
+fn check_player(rt: &impl Abort, player: &Player, want: (usize, u64, u64), from: u64) {
+    assert_eq!(rt; told_last(player), Some(want), "in the row from {from}");
+}
+
 // The answers of a row are those of the counter from `from` on, in the order of the links, each with its own size.
 fn check_row(rt: &impl Abort, players: &[Player], row: &Row, from: u64) {
     assert_eq!(rt; players.len(), 3);
     let mut number = from;
-    for ((player, item), led) in players.iter().zip(&row.items).zip(row.led) {
-        let want = Some((led, number, item.size));
-        assert_eq!(rt; told_last(player), want, "in the row from {from}");
+    for ((player, item), led) in players.iter().zip(&row.items).zip(&row.led) {
+        check_player(rt, player, (*led, number, item.size), from);
         number = number.wrapping_add(1);
     }
 }

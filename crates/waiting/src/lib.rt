@@ -11,6 +11,3 @@ mod bells;
 
 pub use bell::Bell;
 pub use bells::Bells;
-
-#[cfg(test)]
-mod tests;

@@ -1,12 +1,12 @@
 //! Bells that nobody rings, and one that another thread rings.
 
-use crate::Bells;
 use crossbeam_utils::Backoff;
 use std::sync::Wait;
 use std::sync::atomic::AtomicU64;
 use std::sync::atomic::Ordering::SeqCst;
 use std::test::Fail;
 use std::thread;
+use waiting::Bells;
 
 fn change(bells: &Bells, changed: &AtomicU64) {
     changed.store(1, SeqCst);

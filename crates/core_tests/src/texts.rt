@@ -46,24 +46,30 @@ fn check(rt: &impl Abort, text: Result<Bytes, NoMemory>, want: &str) -> Result<(
     Ok(())
 }
 
+fn outcome(alloc: Global) -> Result<Bytes, NoMemory> {
+    outcome_text(alloc, &one_fault(alloc)?)
+}
+
+fn summary(alloc: Global) -> Result<Bytes, NoMemory> {
+    summary_text(alloc, &one_fault(alloc)?, 18_446_744_073_709_551_616)
+}
+
+fn recovered(alloc: Global) -> Result<Bytes, NoMemory> {
+    recovered_text(alloc, &old_log(alloc))
+}
+
+const OUTCOME: &str =
+    "client 1\nno logfault 1\nnil 0\nno memory\nhistory 0\nstate 0 0\nlog 0 fault 1\n";
+
+const SUMMARY: &str = "clients 1\nbatches 0\nrecords 0\nlast 0\nkeys 0\nsum 18446744073709551616\n";
+
+const RECOVERED: &str = "groups 0\nstate 0 0\nend 24 oldlog 7\n";
+
 #[test]
 fn prints_what_no_call_comes_to(rt: HostRuntime) -> Result<(), Fail> {
     let alloc = rt.alloc();
-    let outcome = one_fault(alloc)?;
-    check(
-        &rt,
-        outcome_text(alloc, &outcome),
-        "client 1\nno logfault 1\nnil 0\nno memory\nhistory 0\nstate 0 0\nlog 0 fault 1\n",
-    )?;
-    check(
-        &rt,
-        summary_text(alloc, &outcome, 18_446_744_073_709_551_616),
-        "clients 1\nbatches 0\nrecords 0\nlast 0\nkeys 0\nsum 18446744073709551616\n",
-    )?;
-    check(
-        &rt,
-        recovered_text(alloc, &old_log(alloc)),
-        "groups 0\nstate 0 0\nend 24 oldlog 7\n",
-    )?;
+    check(&rt, outcome(alloc), OUTCOME)?;
+    check(&rt, summary(alloc), SUMMARY)?;
+    check(&rt, recovered(alloc), RECOVERED)?;
     check(&rt, disk_fault(alloc, 2), "disk fault 2\n")
 }
