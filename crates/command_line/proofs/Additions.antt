@@ -1,5 +1,5 @@
 -- What arguments and commands make of a command that they are added to, and what a parser makes of an argument.
-use Rattle.std.proofs.Common.{◌≡◌, ◌∙◌, ℕ, Option, Some, false, refl, ap}
+use Rattle.std.proofs.Common.{◌≡◌, ◌∙◌, ℕ, Option, Some, Result, Ok, Err, IfOk, IsOkAnd, false, refl, ap}
 use Rattle.clap.specs.Words.{AddsArg, AddsSubcommand, App, Rule, app_of, rule_of, with_rule, with_subcommand}
 use Rattle.clap.specs.Simple.{shape_of}
 use Rattle.clap.specs.declared.builder.arg.Arg.{Arg}
@@ -23,6 +23,18 @@ pub with_command : (old sub new : Command) (a b : App) → AddsSubcommand old su
     → app_of old ≡ a → app_of sub ≡ b → app_of new ≡ with_subcommand a b.top
 with_command old sub new a b adds local old_is sub_is =
     adds.shape local ∙ ap (λ (x : App). with_subcommand x (shape_of sub)) old_is ∙ ap (λ (x : App). with_subcommand a x.top) sub_is
+
+-- a command that there may have been no memory to make, added where there was
+module _ {E : Type 0} where
+  pub with_made : (old new : Command) (made : Result Command E) (a b : App) → IsOkAnd made (λ sub. AddsSubcommand old sub new) → IfOk made (λ sub. (out-Command sub).has_globals ≡ false)
+      → app_of old ≡ a → IfOk made (λ sub. app_of sub ≡ b) → app_of new ≡ with_subcommand a b.top
+  with_made old new (Ok sub) a b adds local old_is sub_is = with_command old sub new a b adds local old_is sub_is
+  with_made old new (Err e) a b adds local old_is sub_is = absurd adds
+
+  pub with_made_at_last : (old : Command) (new made : Result Command E) (a b : App) → IfOk new (λ r. IsOkAnd made (λ sub. AddsSubcommand old sub r)) → IfOk made (λ sub. (out-Command sub).has_globals ≡ false)
+      → app_of old ≡ a → IfOk made (λ sub. app_of sub ≡ b) → IfOk new (λ r. app_of r ≡ with_subcommand a b.top)
+  with_made_at_last old (Ok new) made a b adds local old_is sub_is = with_made old new made a b adds local old_is sub_is
+  with_made_at_last old (Err e) made a b adds local old_is sub_is = tt
 
 -- the argument reads a number within its range
 pub with_parser : (old new : Arg) (p parser : ValueParser) (least most : ℕ) (r : Rule) → new ≡ record old { value_parser = new.value_parser } → new.value_parser ≡ Some p → p ≡ parser

@@ -1,7 +1,7 @@
 //! The command of `clap` that reads the words.
 
-ghost use Rattle.std.specs.Prelude.{◌≡◌, IfOk, false};
-ghost use Rattle.clap.specs.Words.{app_of, rule_of};
+ghost use Rattle.std.specs.Prelude.{◌≡◌, IfOk, IsOkAnd, false};
+ghost use Rattle.clap.specs.Words.{AddsSubcommand, app_of, rule_of, with_rule};
 ghost use Rattle.clap.specs.declared.builder.command.Command.TheViews.{out-Command};
 ghost use Rattle.command_line.specs.Definition as clap_words;
 
@@ -13,11 +13,20 @@ use std::alloc::{AllocError, Global};
 pub fn writepath<'a>(alloc: Global) -> Result<Command<'a>, AllocError>
     ensures { IfOk result (λ command. app_of command ≡ clap_words.writepath) }
 {
-    program(alloc)
-        .subcommand(run(alloc)?)?
-        .subcommand(recover(alloc))?
-        .subcommand(replay(alloc)?)?
-        .subcommand(generate(alloc)?)
+    let with_run = with_command(program(alloc), run(alloc))?;
+    let with_recover = with_run.subcommand(recover(alloc))?;
+    let with_replay = with_command(with_recover, replay(alloc))?;
+    with_command(with_replay, generate(alloc))
+}
+
+/// The command with one more below it, where there was memory to make that one.
+fn with_command<'a>(
+    command: Command<'a>,
+    made: Result<Command<'a>, AllocError>,
+) -> Result<Command<'a>, AllocError>
+    ensures { IfOk result (λ r. IsOkAnd made.entry (λ below. AddsSubcommand command.entry below r)) }
+{
+    command.subcommand(made?)
 }
 
 /// The program without its commands: it wants one, and has no help, for every refusal has one text.
@@ -34,12 +43,7 @@ fn run<'a>(alloc: Global) -> Result<Command<'a>, AllocError>
     ensures app { IfOk result (λ command. app_of command ≡ clap_words.run) }
     ensures local { IfOk result (λ command. (out-Command command).has_globals ≡ false) }
 {
-    Command::new(alloc, "run")
-        .arg(table(alloc))?
-        .arg(shards(alloc))?
-        .arg(group_bytes(alloc))?
-        .arg(batch_bytes(alloc))?
-        .arg(last(alloc))
+    with_limits(with_table(Command::new(alloc, "run"), alloc)?, alloc)
 }
 
 fn recover<'a>(alloc: Global) -> Command<'a>
@@ -53,23 +57,40 @@ fn replay<'a>(alloc: Global) -> Result<Command<'a>, AllocError>
     ensures app { IfOk result (λ command. app_of command ≡ clap_words.replay) }
     ensures local { IfOk result (λ command. (out-Command command).has_globals ≡ false) }
 {
-    Command::new(alloc, "replay")
-        .arg(pipelined(alloc))?
-        .arg(group_bytes(alloc))?
-        .arg(batch_bytes(alloc))?
-        .arg(last(alloc))
+    with_limits(Command::new(alloc, "replay").arg(pipelined(alloc))?, alloc)
 }
 
 fn generate<'a>(alloc: Global) -> Result<Command<'a>, AllocError>
     ensures app { IfOk result (λ command. app_of command ≡ clap_words.generate) }
     ensures local { IfOk result (λ command. (out-Command command).has_globals ≡ false) }
 {
-    Command::new(alloc, "gen")
-        .arg(table(alloc))?
-        .arg(shards(alloc))?
+    with_table(Command::new(alloc, "gen"), alloc)?
         .arg(number_word(alloc, "SEED", 0, 2147483647))?
         .arg(number_word(alloc, "CLIENTS", 1, 16))?
         .arg(number_word(alloc, "BATCHES", 1, 100000))
+}
+
+/// The command with the options that say what the table is made of.
+fn with_table<'a>(command: Command<'a>, alloc: Global) -> Result<Command<'a>, AllocError>
+    requires { (out-Command command).has_globals ≡ false }
+    ensures app { IfOk result (λ r. app_of r ≡
+        with_rule (with_rule (app_of command.entry) clap_words.table) clap_words.shards) }
+    ensures local { IfOk result (λ r. (out-Command r).has_globals ≡ false) }
+{
+    command.arg(table(alloc))?.arg(shards(alloc))
+}
+
+/// The command with the options for the most bytes of groups and batches, and for the last sequence number.
+fn with_limits<'a>(command: Command<'a>, alloc: Global) -> Result<Command<'a>, AllocError>
+    requires { (out-Command command).has_globals ≡ false }
+    ensures app { IfOk result (λ r. app_of r ≡ with_rule (with_rule (with_rule (app_of command.entry)
+        clap_words.group_bytes) clap_words.batch_bytes) clap_words.last) }
+    ensures local { IfOk result (λ r. (out-Command r).has_globals ≡ false) }
+{
+    command
+        .arg(group_bytes(alloc))?
+        .arg(batch_bytes(alloc))?
+        .arg(last(alloc))
 }
 
 /// What the table is made of: `one` tree under one lock, or trees in `shards`. The matches may have any word for it.

@@ -5,12 +5,13 @@ use mathlib.Core.List.{IsPrefix}
 use Rattle.wp_edge.specs.declared.disk.Disk.{Ghosts}
 use Rattle.wp_model.specs.Controller.{ControllerCall, Action, Look, unstop, unslow}
 use Rattle.wp_model.specs.Groups.{is_delay}
+use Rattle.wp_model.specs.Map.{Pairs}
 use Rattle.wp_model.specs.Tokens.{tokens_of, holds_stop, holds_slow, given_back}
 use Rattle.wp_model.proofs.Prefixes.{prefix_self, prefix_trans}
 use Rattle.table_rule.specs.declared.view.Opening.{Opening}
-use Rattle.table_rule.specs.Histories.{Begins, In}
+use Rattle.table_rule.specs.Histories.{Begins, In, last_of, map_after}
 use Rattle.table_calls.specs.Account.{Account as TableAccount, Learns}
-use Rattle.account_model.specs.Accounts.{Keeps, Asks, GivesBack}
+use Rattle.account_model.specs.Accounts.{Keeps, Asks, GivesBack, Reads as ReadsAtEnd}
 use Rattle.write_controller.specs.declared.pass.Pass.{Pass}
 use Rattle.write_controller.specs.Delays.{delays_of, place_if}
 use Rattle.write_controller.specs.Passes.{IsPassOf, EndsWith, GoesOn, GivesBack as GivesBackIn, asked_by, seen_by, token_in, client_of as pass_client}
@@ -69,6 +70,12 @@ module _ {D T C G S U P : Type 0} {ghosts : Ghosts D} (opening : T → Opening) 
     attempts = refl;
     seen = record { start = refl; published = seen; controller_calls = prefix_self (seen_by c.pass) };
   }
+
+  -- what the seat read is so at the end of what the client has seen
+  pub seat_reads : {A B : Type 0} (r : Result A B) (at : A → ℕ) (answers : A → Pairs → Type 0) (seat : S) → IfOk r (λ x. at x ≡ last_of (opening e.table).start (account seat).seen)
+      → IfOk r (λ x. answers x (map_after (account seat).seen)) → IfOk r (λ x. ReadsAtEnd (at x) (answers x) (account_in opening ours account (record c { seat = seat })))
+  seat_reads (Ok x) at answers seat is answer = record { at_is = is ∙ ap (λ (start : ℕ). last_of start (account seat).seen) (sym fits.seated.start); answer = answer }
+  seat_reads (Err x) at answers seat is answer = tt
 
   -- its pass has seen more, with no delay of its own
   pub pass_moved : (pass : Pass) → IsPassOf e.controller pass → pass_client pass ≡ pass_client c.pass → delays_of c.number (seen_by pass) ≡ delays_of c.number (seen_by c.pass) → IsClientOf opening ours account e (record c { pass = pass })

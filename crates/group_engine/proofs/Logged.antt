@@ -1,5 +1,5 @@
 -- What a leader's steps come to.
-use Rattle.std.proofs.Common.{◌≡◌, ◌≢◌, ◌⊎◌, inl, inr, ℕ, suc, ◌+◌, ◌-◌, ◌<◌, ◌≤◌, Bool, true, false, cond, nat_le, map, List, [], ◌∷◌, ◌++◌, Option, Some, None, Result, Ok, Err, length, get_or, refl, ap, sym, ◌∙◌, subst, ⊎_elim, arith, append_assoc, append-nil, length-append}
+use Rattle.std.proofs.Common.{rules, ◌≡◌, ◌≢◌, ◌⊎◌, inl, inr, ℕ, zero, suc, ◌==◌, ◌+◌, ◌-◌, ◌<◌, ◌≤◌, Bool, true, false, cond, nat_le, map, List, [], ◌∷◌, ◌++◌, Option, Some, None, Result, Ok, Err, length, get_or, refl, ap, sym, ◌∙◌, subst, ⊎_elim, arith, append_assoc, append-nil, length-append}
 use Rattle.std.specs.List.{AllByRecursion}
 use Rattle.wp_edge.specs.declared.disk.Disk.{Ghosts}
 use Rattle.wp_model.specs.declared.write.WriteOptions.{WriteOptions}
@@ -82,6 +82,14 @@ same_length f (x ∷ xs) (y ∷ ys) e = ap suc (same_length f xs ys (same_tail (
 pub empty_list : {A : Type 0} (xs : List A) → length xs ≡ 0 → xs ≡ []
 empty_list [] e = refl
 empty_list (x ∷ xs) e = absurd (omega arith)
+
+-- whether it is empty was tested
+pub some_of : (n : ℕ) → (n == 0) ≡ false → 0 < n
+some_of zero e = absurd (cc)
+some_of (suc n) e = omega arith
+
+pub none_left : (n : ℕ) → (n == 0) ≡ true → n ≡ 0
+none_left n e = search (rules, e)
 
 pub head_is : {A : Type 0} (xs rest : List A) (x d : A) → xs ≡ x ∷ rest → get_or xs 0 d ≡ x
 head_is xs rest x d e = ap (λ l. get_or l 0 d) e

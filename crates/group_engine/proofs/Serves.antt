@@ -131,6 +131,9 @@ put_back xs new len l is =
     ap (λ (ys : List (ℕ × Request)). take len (ys ++ drop (length ys) xs)) is
     ∙ (ap (λ (t : List (ℕ × Request)). take len (all_seen xs ++ t)) none ∙ (ap (take len) (append-nil (all_seen xs)) ∙ take_all len (all_seen xs) (omega (arith, n, l))))
 
+pub as_many : (xs left : List (ℕ × Request)) → left ≡ all_seen xs → length left ≡ length xs
+as_many xs left is = ap length is ∙ length-map xs unnoted
+
 pub order_unnoted : (requests : List (ℕ × Request)) (replies : List (ℕ × Reply)) → InOrder (all_seen requests) replies → InOrder requests replies
 order_unnoted [] [] h = tt
 order_unnoted [] (y ∷ replies) h = absurd h

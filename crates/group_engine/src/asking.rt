@@ -10,7 +10,7 @@ ghost use Rattle.group_rule.specs.Plans.{item_of_request};
 ghost use Rattle.group_engine.specs.Handled.{commit_requests_of, seen_at, held_up_with, IsNoted, IsHeldUp};
 ghost use Rattle.group_engine.specs.Asking.{HasAskedFor, HasLearned, OnlyLooks, all_seen};
 
-use crate::numbering::take_first;
+use crate::numbering::{batch_of, take_first};
 use crate::requests::{Delay, Reply, Request};
 use engine_calls::Refused;
 use std::snapshot::Snapshot;
@@ -149,14 +149,8 @@ pub(crate) fn refuse_held_up<C: Clock>(
         × (vec_capacity replies.new ≡ vec_capacity replies.old) }
 {
     while let Some((client, request)) = take_first(requests) {
-        let Request {
-            batch,
-            nodes: _,
-            options: _,
-            note: _,
-        } = request;
         let reply = Reply {
-            answer: Err(refused_by(look, batch)),
+            answer: Err(refused_by(look, batch_of(request))),
             delay: Snapshot::of(delay),
             note: Some(controller.note(pass)),
         };

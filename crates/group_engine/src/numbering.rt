@@ -48,6 +48,19 @@ pub(crate) fn take_first<X>(items: &mut Vec<X>) -> Option<X>
     Some(items.remove(0))
 }
 
+/// The batch of a request that gets no run.
+pub(crate) fn batch_of(request: Request) -> Batch
+    ensures { result ≡ request.batch }
+{
+    let Request {
+        batch,
+        nodes: _,
+        options: _,
+        note: _,
+    } = request;
+    batch
+}
+
 /// Gives runs behind `last` to the requests whose runs fit, and answers the sequence given last then.
 pub(crate) fn number_all(
     requests: &mut Vec<(u32, Request)>,
@@ -229,12 +242,7 @@ pub(crate) fn refuse_all(
         × (vec_capacity replies.new ≡ vec_capacity replies.old) }
 {
     while let Some((client, request)) = take_first(requests) {
-        let Request {
-            batch,
-            nodes: _,
-            options: _,
-            note: _,
-        } = request;
-        replies.push_reserved((client, refusal(delay, Refusal::LogFault { count }, batch)));
+        let reply = refusal(delay, Refusal::LogFault { count }, batch_of(request));
+        replies.push_reserved((client, reply));
     }
 }

@@ -114,6 +114,12 @@ module _ {D : Type 0} (ghosts : Ghosts D) (bytes : List ℕ) (offset : ℕ) (sta
       subst (λ (l : List ℕ). Puts ghosts start then l false r) text_more
       (puts_cut ghosts start then (so_far.done ++ put_of rest p) (pieces_text bytes ps) false e r failed (puts_more {T = T} ghosts start now then so_far.done (put_of rest p) false tt (Err e) is so_far.put more))
 
+-- so may the first of those that are to come
+pub may_put_next : {D : Type 0} (ghosts : Ghosts D) (bytes : List ℕ) (offset : ℕ) (start now : D) (rest : List ℕ) (end : ℕ) (pieces : List Piece) (p : Piece) (ps : List Piece)
+    → pieces ≡ p ∷ ps → IsSoFar ghosts bytes offset start now rest pieces end → MayBePut rest p
+may_put_next ghosts bytes offset start now rest end pieces p ps first so_far =
+    may_be_put ghosts bytes offset start now rest p ps end (subst (λ (l : List Piece). IsSoFar ghosts bytes offset start now rest l end) first so_far)
+
 -- all is put
 pub puts_whole : {D U : Type 0} (ghosts : Ghosts D) (bytes : List ℕ) (offset : ℕ) (start now : D) (rest : List ℕ) (end : ℕ) (u : U) → IsSoFar ghosts bytes offset start now rest [] end → Puts {E = Failed} ghosts start now (log.record_text None offset bytes) false (Ok u)
 puts_whole ghosts bytes offset start now rest end u so_far =

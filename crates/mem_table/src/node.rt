@@ -11,7 +11,7 @@ use std::mem;
 use wp_coding::Bytes;
 
 /// Which side of a node is higher, by one.
-#[derive(Clone, Copy, Debug)]
+#[derive(Clone, Copy)]
 pub(crate) enum Balance {
     Left,
     Even,

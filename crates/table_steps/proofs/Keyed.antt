@@ -22,6 +22,14 @@ use Rattle.table_rule.specs.Steps.{SeatNow, IsAt}
 pub fronted : {A : Type 0} (l : List (ℕ × A)) (i : ℕ) (a : A) (more : List (ℕ × A)) → l ≡ (i, a) ∷ more → l ≡ (i, a) ∷ rest l
 fronted l i a more e = e ∙ ap (λ t. (i, a) ∷ rest t) (sym e)
 
+abbrev slot_or : {A : Type 0} → A → List (ℕ × A) → A
+slot_or d [] = d
+slot_or d (x ∷ xs) = x.1
+
+-- what was taken out of a slot is what lay there
+pub same_slot : {A : Type 0} (x y : A) (i j : ℕ) (l m m' : List (ℕ × A)) → l ≡ (i, x) ∷ m → l ≡ (j, y) ∷ m' → x ≡ y
+same_slot x y i j l m m' a b = ap (slot_or x) (sym a ∙ b)
+
 abbrev tree_or : {T N : Type 0} → T → Content T N → T
 tree_or d Blank = d
 tree_or d (Tree t) = t

@@ -67,6 +67,12 @@ module _ (k start n : ℕ) where
       let b : length (zeros k) ≡ k = length-replicate k 0 in
       let c : length (zeros (n + 1)) ≡ n + 1 = length-replicate (n + 1) 0 in omega arith
 
+pub first_words_length : (k start n : ℕ) → length (replicate k 0 ++ start ∷ replicate (n + 1) 0) ≡ k + 2 + n
+first_words_length k start n = words_length k start n
+
+pub first_slots_length : {A : Type 0} (trees : List A) (k n : ℕ) (blank : A) → length trees ≡ k → length (trees ++ replicate (n + 1) blank) ≡ k + 1 + n
+first_slots_length trees k n blank count = omega (arith, count, length-append trees (replicate (n + 1) blank), length-replicate (n + 1) blank)
+
 module _ {T N : Type 0} (held_by : T → List Version) (nodes_of : N → List Version) (z : Opening) where
   -- a table of empty trees with nothing launched keeps the rule
   pub opens_first : (ws : List ℕ) (slots trees : List (Content T N)) → ws ≡ zeros z.shards ++ z.start ∷ zeros (z.clients + 1) → slots ≡ trees ++ replicate (z.clients + 1) Blank → 0 < z.shards → length trees ≡ z.shards → ((slot : Content T N) → In slot trees → IsEmptyTree held_by slot)

@@ -65,9 +65,8 @@ impl<R: Files<File = File> + Drop> SystemFile<R> {
         ensures small { IfOk result (λ n. n < 2 ^ 63) }
         ensures adds_none { added_to self.new ≡ added_to self.old }
     {
-        match self.open_to_read() {
-            Err(error) if error.kind() == ErrorKind::NotFound => self.measure(0)?,
-            opened => opened?,
+        if !self.is_there()? {
+            self.measure(0)?;
         }
         Ok(self.len)
     }
@@ -103,9 +102,8 @@ impl<R: Files<File = File> + Drop> SystemFile<R> {
     pub(crate) fn sync(&mut self) -> io::Result<()>
         ensures adds_none { added_to self.new ≡ added_to self.old }
     {
-        match self.open_to_read() {
-            Err(error) if error.kind() == ErrorKind::NotFound => return Ok(()),
-            opened => opened?,
+        if !self.is_there()? {
+            return Ok(());
         }
         if self.sync_failed {
             return Err(io::Error::from(ErrorKind::Other));
@@ -113,11 +111,29 @@ impl<R: Files<File = File> + Drop> SystemFile<R> {
         let synced = self.opened()?.sync_data();
         self.sync_failed = synced.is_err();
         synced?;
+        self.sync_entry()
+    }
+
+    /// Makes the entry in the folder safe, where it isn't yet.
+    fn sync_entry(&mut self) -> io::Result<()>
+        ensures adds_none { added_to self.new ≡ added_to self.old }
+    {
         if !self.entry_synced {
             self.open_folder()?.sync_all()?;
             self.entry_synced = true;
         }
         Ok(())
+    }
+
+    /// Opens the file for reading, where it isn't open yet, and says whether there is one.
+    fn is_there(&mut self) -> io::Result<bool>
+        ensures adds_none { added_to self.new ≡ added_to self.old }
+    {
+        match self.open_to_read() {
+            Ok(()) => Ok(true),
+            Err(error) if error.kind() == ErrorKind::NotFound => Ok(false),
+            Err(error) => Err(error),
+        }
     }
 
     /// Opens the file for reading, where it isn't open yet.
@@ -146,13 +162,19 @@ impl<R: Files<File = File> + Drop> SystemFile<R> {
         if self.writes {
             return Ok(());
         }
-        let file = self.open(OpenOptions::new().read(true).write(true).create(true))?;
-        file.try_lock()?;
+        let file = self.open_locked()?;
         self.measure(file.metadata()?.len())?;
         self.file = Some(file);
         self.writes = true;
         self.entry_synced = false;
         Ok(())
+    }
+
+    /// Opens the file for reading and writing, and locks it.
+    fn open_locked(&self) -> io::Result<File> {
+        let file = self.open(OpenOptions::new().read(true).write(true).create(true))?;
+        file.try_lock()?;
+        Ok(file)
     }
 
     /// Opens the file. Where the caller has closed a standard stream the system gives out its number, and what is meant

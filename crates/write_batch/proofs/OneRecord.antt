@@ -114,3 +114,21 @@ no_value (t ∷ bytes) key behind e some tag short split wrong =
     sym (ap (λ (n : ℕ). take n bytes) rest ∙ take-length bytes) ∙ split ∙ ap (λ (l : List ℕ). l ++ behind) (sym (append-nil (varstring key))) in
     let at_one : NoRecord (1 ∷ bytes) e = inl (refl, (key ∷ [], behind, omega arith, (short, tt), strings, wrong)) in
     subst (λ (u : ℕ). NoRecord (u ∷ bytes) e) (sym tag) at_one
+
+-- The one string, or the first, is missing.
+pub no_string : (bytes : List ℕ) (t : ℕ) (e : BatchError) → 0 < length bytes → get_or bytes 0 0 ≡ t → IsTrue (is_tag t) → 0 < strings_after t → NoVarstring (take (length bytes - 1) (drop 1 bytes)) e
+    → NoRecord bytes e
+no_string [] t e some tag is_one more wrong = absurd (omega (arith, some))
+no_string (u ∷ bytes) t e some tag is_one more wrong =
+    let rest : length (u ∷ bytes) - 1 ≡ length bytes = omega arith in
+    let strings : take (length (u ∷ bytes) - 1) bytes ≡ bytes = ap (λ (n : ℕ). take n bytes) rest ∙ take-length bytes in
+    let at_tag : NoRecord (t ∷ bytes) e = inl (is_one, ([], bytes, more, tt, refl, subst (λ (l : List ℕ). NoVarstring l e) strings wrong)) in
+    subst (λ (v : ℕ). NoRecord (v ∷ bytes) e) (sym tag) at_tag
+
+-- A tag and its one string are in front.
+pub string_in_front : (bytes key rest : List ℕ) (t : ℕ) → 0 < length bytes → get_or bytes 0 0 ≡ t → take (length bytes - 1) (drop 1 bytes) ≡ varstring key ++ rest → bytes ≡ (t ∷ flat_map varstring (key ∷ [])) ++ rest
+string_in_front [] key rest t some tag split = absurd (omega (arith, some))
+string_in_front (u ∷ bytes) key rest t some tag split =
+    let left : length (u ∷ bytes) - 1 ≡ length bytes = omega arith in
+    let strings : bytes ≡ varstring key ++ rest = sym (ap (λ (n : ℕ). take n bytes) left ∙ take-length bytes) ∙ split in
+    subst (λ (v : ℕ). u ∷ bytes ≡ (v ∷ flat_map varstring (key ∷ [])) ++ rest) tag (ap (λ (l : List ℕ). u ∷ l) (strings ∙ ap (λ (l : List ℕ). l ++ rest) (sym (append-nil (varstring key)))))

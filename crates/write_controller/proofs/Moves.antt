@@ -29,7 +29,7 @@ sees_turn id c seen notes quiet v is = subst (λ (u : List Observer). Turns Kept
 pub looks_turn : (id c : ℕ) (seen : List Call) (v : List Observer) → v ≡ client_view c seen → Turns Kept id v (λ x. x) (λ v x _ w. Makes Look v x w)
 looks_turn id c seen v is = subst (λ (u : List Observer). Turns Kept id u (λ x. x) (λ v x _ w. Makes Look v x w)) (sym is) (λ x views r at. makes_at id c seen Look tt x x views refl r at)
 
-pub exchange_turn : (eq : Numbers → Numbers → Bool) → ((x y : Numbers) → eq x y ≡ true → x ≡ y) → ((x y : Numbers) → x ≡ y → eq x y ≡ true)
+exchange_turn : (eq : Numbers → Numbers → Bool) → ((x y : Numbers) → eq x y ≡ true → x ≡ y) → ((x y : Numbers) → x ≡ y → eq x y ≡ true)
     → (id c : ℕ) (seen : List Call) (a : Action) (found new : Numbers) → MayCall a (asked_in c seen) → numbers_of new ≡ numbers_after (numbers_of found) (action_of a)
     → (v : List Observer) → v ≡ client_view c seen → Turns Kept id v (λ x. if eq x found then new else x) (λ v x _ w. Exchanges a found v x w)
 exchange_turn eq same here id c seen a found new may next v is =
@@ -187,8 +187,9 @@ eq_here x y e = subst (λ (z : Numbers). eq_numbers x z ≡ true) e (whole x)
     whole : (x : Numbers) → eq_numbers x x ≡ true
     whole x = rw (equal_number x.stops x.stops refl, equal_number x.delays x.delays refl, equal_number x.rate x.rate refl, equal_number x.credit x.credit refl, equal_number x.next x.next refl) refl
 
-pub exchanges : (id c : ℕ) (seen : List Call) (a b : Action) (found again new : Numbers) → a ≡ b → again ≡ found → MayCall b (asked_in c seen) → numbers_of new ≡ numbers_after (numbers_of found) (action_of b)
-    → (v : List Observer) → v ≡ client_view c seen → Turns Kept id v (λ x. if eq_numbers x found then new else x) (λ v x _ w. Exchanges a again v x w)
-exchanges id c seen a b found again new is at may next v view =
-    subst (λ (k : Action). Turns Kept id v (λ x. if eq_numbers x found then new else x) (λ v x _ w. Exchanges k again v x w)) (sym is)
-    (subst (λ (n : Numbers). Turns Kept id v (λ x. if eq_numbers x found then new else x) (λ v x _ w. Exchanges b n v x w)) (sym at) (exchange_turn eq_numbers eq_same eq_here id c seen b found new may next v view))
+pub exchanges : (eq : Numbers → Numbers → Bool) → ((x y : Numbers) → eq x y ≡ true → x ≡ y) → ((x y : Numbers) → x ≡ y → eq x y ≡ true)
+    → (id c : ℕ) (seen : List Call) (a b : Action) (found again new : Numbers) → a ≡ b → again ≡ found → MayCall b (asked_in c seen) → numbers_of new ≡ numbers_after (numbers_of found) (action_of b)
+    → (v : List Observer) → v ≡ client_view c seen → Turns Kept id v (λ x. if eq x found then new else x) (λ v x _ w. Exchanges a again v x w)
+exchanges eq same here id c seen a b found again new is at may next v view =
+    subst (λ (k : Action). Turns Kept id v (λ x. if eq x found then new else x) (λ v x _ w. Exchanges k again v x w)) (sym is)
+    (subst (λ (n : Numbers). Turns Kept id v (λ x. if eq x found then new else x) (λ v x _ w. Exchanges b n v x w)) (sym at) (exchange_turn eq same here id c seen b found new may next v view))

@@ -12,7 +12,8 @@ use crate::controller::Controller;
 use crate::look::Look;
 use crate::numbers::Action;
 use crate::pass::{Note, Pass};
-use crate::rule::{Copied, Looking, Moved, Sight};
+use crate::rule::{Copied, Looking, Sight};
+use crate::words::{join, load, split};
 use std::sync::Wait;
 use wp_edge::Clock;
 
@@ -37,7 +38,7 @@ impl<C: Clock> Controller<C> {
             (seen_by pass.new) }
         ensures stopped { holds_stop (asked_by pass.old) ≡ true → 1 ≤ (look_of result).stops }
     {
-        let found = self.cell.load_as::<Looking, R>(rt, &mut pass.seat);
+        let found = load::<Looking, R>(&self.cell, rt, &mut pass.seat);
         Look::new(found.stops, found.delays, 0)
     }
 
@@ -49,7 +50,7 @@ impl<C: Clock> Controller<C> {
         ensures note { IsNoteOf self.now result × (noted result ≡ seen_by pass.old) }
     {
         Note {
-            seat: self.cell.split_pass::<Copied>(&mut pass.seat),
+            seat: split::<Copied>(&self.cell, &mut pass.seat),
         }
     }
 
@@ -61,8 +62,8 @@ impl<C: Clock> Controller<C> {
         ensures seen { GoesOn (client_of pass.old) (seen_by pass.old) (seen_by pass.new) }
         ensures noted { IsPrefix (noted note) (seen_by pass.new) }
     {
-        self.cell.join_pass::<Moved>(&mut pass.seat, note.seat);
+        join(&self.cell, &mut pass.seat, note.seat);
         // Only a step tells that both are beginnings of one history.
-        self.cell.load_as::<Sight, R>(rt, &mut pass.seat);
+        load::<Sight, R>(&self.cell, rt, &mut pass.seat);
     }
 }

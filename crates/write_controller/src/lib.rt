@@ -44,6 +44,7 @@ mod opening;
 mod pass;
 mod rule;
 mod tokens;
+mod words;
 
 pub use controller::Controller;
 pub use error::{Held, NotHeld};

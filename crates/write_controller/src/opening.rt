@@ -8,6 +8,7 @@ use crate::controller::Controller;
 use crate::numbers::Numbers;
 use crate::pass::{Others, Pass, Passes};
 use crate::rule::{Cell, Closing, Moved, NextClient};
+use crate::words::{join, load, split};
 use std::alloc::Global;
 use std::marker::PhantomData;
 use std::sync::Wait;
@@ -23,7 +24,7 @@ impl<C: Clock> Controller<C> {
         let mut passes = Vec::with_capacity(alloc, clients as usize)?;
         let (cell, mut rest) = Cell::ruled(alloc, Numbers::OPENING)?;
         for _known in 0..clients {
-            let seat = cell.split_pass::<NextClient>(&mut rest);
+            let seat = split::<NextClient>(&cell, &mut rest);
             passes.push(Pass {
                 seat,
                 stopping: false,
@@ -56,10 +57,10 @@ impl<C: Clock> Controller<C> {
         let Passes { clients, others } = passes;
         let mut rest = others.seat;
         for mut pass in clients {
-            let seat = cell.split_pass::<Moved>(&mut pass.seat);
-            cell.join_pass::<Moved>(&mut rest, seat);
+            let seat = split::<Moved>(&cell, &mut pass.seat);
+            join(&cell, &mut rest, seat);
         }
         // The history is told at a step, and no pass needs to be taken for that.
-        cell.load_as::<Closing, R>(rt, &mut rest);
+        load::<Closing, R>(&cell, rt, &mut rest);
     }
 }

@@ -1,6 +1,6 @@
 -- A batch that goes to the end of the queue.
-use Rattle.std.proofs.Common.{◌≡◌, ℕ, zero, suc, ◌+◌, ◌<◌, ◌≤◌, List, [], ◌∷◌, ◌++◌, length, take, drop, map, slice_get, slice_set, Option, Some, None, refl, sym, ap, ◌∙◌, arith}
-use Rattle.std.specs.Prelude.{option_map}
+use Rattle.std.proofs.Common.{◌≡◌, ℕ, zero, suc, ◌+◌, ◌<◌, ◌≤◌, false, List, [], ◌∷◌, ◌++◌, length, take, drop, map, slice_get, slice_set, Option, Some, None, refl, sym, ap, ◌∙◌, arith}
+use Rattle.std.specs.Prelude.{option_map, if◌then◌else◌}
 use Rattle.std.specs.List.{AllByRecursion}
 use Rattle.std.specs.Option.{option_map_or, option_and_then}
 use Rattle.std.proofs.lemmas.List.{length-drop, drop-append-le, take-append-le}
@@ -38,6 +38,11 @@ commit_is (Some Stop) how e = cc
 commit_is (Some Unstop) how e = cc
 commit_is (Some (Slow rate)) how e = cc
 commit_is (Some Unslow) how e = cc
+
+-- a client that waits links nothing
+pub link_waits : (o : core.Options) (s : core.State) (c : ℕ) (client : core.Client) → core.client_at s c ≡ Some client → client.idle ≡ false → event.link o s c (core.client_at s c) ≡ None
+link_waits o s c client there busy =
+    ap (event.link o s c) there ∙ ap (λ b. if b then event.link_call o s c (core.next_call client).client (core.next_call client).call else None) busy
 
 pub not_commit : (o : core.Options) (s : core.State) (c : ℕ) (client : core.Client) (line : Option Line) → option_and_then commit_of line ≡ None → event.link_call o s c client (option_map command_of line) ≡ None
 not_commit o s c client None e = refl

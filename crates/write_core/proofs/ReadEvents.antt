@@ -1,7 +1,8 @@
 -- Which lines are reads, and what they are answered.
-use Rattle.std.proofs.Common.{◌≡◌, ℕ, zero, suc, ◌+◌, ◌-◌, ◌<◌, ◌≤◌, true, false, List, [], ◌∷◌, length, slice_get, slice_set, Option, Some, None, refl, sym, ap, ◌∙◌, subst, arith}
+use Rattle.std.proofs.Common.{◌≡◌, ◌⊎◌, inl, inr, ℕ, zero, suc, ◌+◌, ◌-◌, ◌<◌, ◌≤◌, true, false, List, [], ◌∷◌, length, slice_get, slice_set, Option, Some, None, refl, sym, ap, ◌∙◌, subst, arith}
 use Rattle.std.proofs.lemmas.List.{length-drop, length-map}
-use Rattle.std.specs.Prelude.{option_map}
+use Rattle.std.specs.Prelude.{option_map, if◌then◌else◌}
+use Rattle.std.proofs.lemmas.Option.{slice_get_past}
 use Rattle.std.specs.Option.{option_map_or}
 use Rattle.wp_model.specs.Calls.{Command, Reply}
 use Rattle.core_model.specs.Core as core
@@ -82,3 +83,52 @@ lines_after clients i j old new e h there fewer =
 
 pub more_room : (a left less cap : ℕ) → a + left ≤ cap → less ≤ left → a + less ≤ cap
 more_room a left less cap h k = omega arith
+
+-- a number that no client has
+pub nobody_at : (s : core.State) (n c : ℕ) → length s.clients ≡ n → (c ≡ 0) ⊎ (n < c) → core.client_at s c ≡ None
+nobody_at s n zero e h = refl
+nobody_at s n (suc c) e (inl z) = absurd (omega arith)
+nobody_at s n (suc c) e (inr lt) = slice_get_past s.clients c (omega arith)
+
+-- a client that waits comes to no read
+pub read_waits : (s : core.State) (c : ℕ) (client : core.Client) → core.client_at s c ≡ Some client → client.idle ≡ false → event.read s c (core.client_at s c) ≡ None
+read_waits s c client there busy =
+    ap (event.read s c) there ∙ ap (λ b. if b then event.read_call s c (core.next_call client).client (core.next_call client).call else None) busy
+
+-- the client after its read, with this seat
+pub record Answered (s : core.State) (c : ℕ) (client : core.Client) (plan : ClientPlan) (seat : Seat) (line : Option Line) : Type 0 where
+  pub new : core.Client
+  pub comes : event.read s c (core.client_at s c) ≡ Some (core.with_client s c new)
+  pub is : IsClient plan seat new
+  pub left : new.left ≡ (core.next_call client).client.left
+  pub command : Command
+  pub there : option_map command_of line ≡ Some command
+
+pub read_answered : (s : core.State) (c n : ℕ) (client : core.Client) (plan : ClientPlan) (seat : Seat) (line : Option Line) → option_map_or is_read_line line false ≡ true → s.last ≡ n
+    → core.client_at s c ≡ Some client → client.idle ≡ true → (core.next_call client).call ≡ option_map command_of line
+    → ((command : Command) (reply : Reply) → option_map command_of line ≡ Some command → IsReply (ReadAt n) reply → is_answer reply ≡ Some reply → IsClient plan seat (core.told (core.next_call client).client command reply))
+    → Answered s c client plan seat line
+read_answered s c n client plan seat line reads last there idle call told =
+    let read : IsRead s line = read_is s line reads in
+    let P : ℕ → Type 0 = λ k. IsReply (ReadAt k) read.reply in
+    record {
+      new = core.told (core.next_call client).client read.command read.reply;
+      comes = ap (event.read s c) there ∙ ap (λ b. if b then event.read_call s c (core.next_call client).client (core.next_call client).call else None) idle
+          ∙ ap (event.read_call s c (core.next_call client).client) (call ∙ read.line)
+          ∙ ap (event.read_with s c (core.next_call client).client read.command) read.answered;
+      is = told read.command read.reply read.line (subst P last read.at) read.loud;
+      left = refl;
+      command = read.command;
+      there = read.line;
+    }
+
+-- a client whose next call is no read
+pub read_passed : (s : core.State) (c : ℕ) (client : core.Client) (line : Option Line) → core.client_at s c ≡ Some client → client.idle ≡ true → (core.next_call client).call ≡ option_map command_of line
+    → option_map_or is_read_line line false ≡ false → event.read s c (core.client_at s c) ≡ None
+read_passed s c client line there idle call e =
+    ap (event.read s c) there ∙ ap (λ b. if b then event.read_call s c (core.next_call client).client (core.next_call client).call else None) idle
+    ∙ ap (event.read_call s c (core.next_call client).client) call ∙ not_read s c (core.next_call client).client line e
+
+-- a proof from a value of which only its type is known
+pub from_any : {A P : Type 0} → A → ((x : A) → P) → P
+from_any x proof = proof x

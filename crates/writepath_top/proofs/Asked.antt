@@ -1,7 +1,7 @@
 -- The numbers that the words give are those of the call.
-use Rattle.std.proofs.Common.{◌≡◌, ℕ, Bool, Option, Some, refl}
+use Rattle.std.proofs.Common.{◌≡◌, ℕ, Bool, true, false, Option, Some, None, refl}
 use Rattle.command_line.specs.declared.asked.Asked.{Asked}
-use Rattle.command_line.specs.declared.asked.Asked.TheVariants.{Run, Generate, Replay}
+use Rattle.command_line.specs.declared.asked.Asked.TheVariants.{Run, Generate, Recover, Replay}
 use Rattle.client_calls.specs.declared.options.Options.{Options}
 use Rattle.write_core.specs.declared.state.CoreOptions.{CoreOptions}
 
@@ -26,3 +26,34 @@ of_replay asked pipelined group_bytes batch_bytes last options given wanted =
     let batches : options.batch_bytes ≡ batch_bytes = cc (given, wanted) in
     let start : options.last ≡ last = cc (given, wanted) in
     rw (← stages, ← groups, ← batches, ← start) refl
+
+-- words that ask for one command ask for no other, and words that ask for any are lawful
+abbrev pub is_run : Asked → Bool
+is_run (Run a b c d) = true
+is_run (Generate a b c d) = false
+is_run Recover = false
+is_run (Replay a b c d) = false
+
+abbrev pub is_generate : Asked → Bool
+is_generate (Run a b c d) = false
+is_generate (Generate a b c d) = true
+is_generate Recover = false
+is_generate (Replay a b c d) = false
+
+abbrev pub is_recover : Asked → Bool
+is_recover (Run a b c d) = false
+is_recover (Generate a b c d) = false
+is_recover Recover = true
+is_recover (Replay a b c d) = false
+
+abbrev pub is_replay : Asked → Bool
+is_replay (Run a b c d) = false
+is_replay (Generate a b c d) = false
+is_replay Recover = false
+is_replay (Replay a b c d) = true
+
+pub not_another : (test : Asked → Bool) (asked : Option Asked) (x y : Asked) → asked ≡ Some x → asked ≡ Some y → test x ≡ true → test y ≡ false → ⊥
+not_another test asked x y given wanted is not = cc (given, wanted, is, not)
+
+pub not_nothing : (asked : Option Asked) (x : Asked) → asked ≡ Some x → asked ≡ None → ⊥
+not_nothing asked x given wanted = cc (given, wanted)

@@ -30,7 +30,7 @@ same_disk (Some x) (Some e) n = λ six. refl
 same_disk (Some x) None n = tt
 same_disk None d n = tt
 
-tells_text : (l s t : Option (List ℕ)) (P : List ℕ → List ℕ → List ℕ → Type 0) → ((x y z : List ℕ) → P x y z) → TellsText l s t P
+pub tells_text : (l s t : Option (List ℕ)) (P : List ℕ → List ℕ → List ℕ → Type 0) → ((x y z : List ℕ) → P x y z) → TellsText l s t P
 tells_text (Some x) (Some y) (Some z) P all = all x y z
 tells_text l s t P all = tt
 

@@ -1,14 +1,14 @@
--- What stands printed where a disk failed under recovery.
+-- What stands printed of a recovery, and where a disk failed under it.
 use Rattle.std.proofs.Common.{◌≡◌, ⊎_elim, ℕ, List, Option, Some, Result, Ok, Err, ap, ◌∙◌, arith}
-use Rattle.std.specs.Prelude.{IfErr, OnOk}
+use Rattle.std.specs.Prelude.{IfErr, IfOk, IfSome, OnOk, take, ◌++◌}
 use Rattle.wp_edge.specs.Disk.{Disk}
 use Rattle.wal_recover.specs.declared.recovery.Recovered.{Recovered}
 use Rattle.wal_recover.specs.declared.recovery.RecoverError.{RecoverError}
 use Rattle.wal_recover.specs.declared.recovery.RecoverError.TheVariants as none
 use Rattle.writepath_top.specs.declared.telling.Status.{Status}
 use Rattle.writepath_top.specs.declared.telling.Status.TheVariants as status
-use Rattle.wal_recover.specs.Recovering.{IsRecoverError}
-use Rattle.writepath_top.specs.Recovers.{TellsDisk, RecoveryRefused}
+use Rattle.wal_recover.specs.Recovering.{HasRecovered, IsRecoverError}
+use Rattle.writepath_top.specs.Recovers.{TellsDisk, Recovers, RecoversFront, RecoveryRefused}
 use Rattle.writepath_top.specs.Telling.{code, TellsRecovery}
 use Rattle.writepath_top.proofs.Refusing.{refused_as}
 
@@ -33,3 +33,27 @@ none_counted failed fails kf kfs n sold snew (Ok shown) other is worked tells ze
 none_counted failed fails kf kfs n sold snew (Err (none.Fault count)) given is worked tells zero =
     ⊎_elim (λ said. absurd (let a = said.0 in omega (arith, a, zero))) (λ lacks. absurd (let a = lacks.0 in omega (arith, a, zero))) (refused_as sold snew kf kfs _ _ given n is tells)
 none_counted failed fails kf kfs n sold snew (Err none.NoMemory) given is worked tells zero = absurd (let a : n ≡ 6 = is ∙ ap code tells.0 in omega (arith, a, zero))
+
+pub recovery_whole : (kf kfs n : ℕ) (sold snew : Option (List ℕ)) (told : Option Disk) (found : Result Recovered RecoverError) (given : Status) → n ≡ code given
+    → IfSome told (λ d. IfOk found (HasRecovered d.content)) → TellsRecovery sold snew kf kfs found given → TellsDisk sold snew told (λ before after d. n ≡ 0 → Recovers before after d.content)
+recovery_whole kf kfs n (Some before) (Some after) (Some d) (Ok shown) status.Done is has tells =
+    λ zero. record { recovered = has.recovered; is_recovered = has.is; printed = tells.2 ∙ ap (λ t. before ++ t) (tells.1 has.recovered has.shows) }
+recovery_whole kf kfs n (Some before) (Some after) (Some d) (Ok shown) status.Sink is has tells = λ zero. absurd (omega (arith, is, zero))
+recovery_whole kf kfs n (Some before) (Some after) (Some d) (Ok shown) status.Memory is has tells = λ zero. absurd (omega (arith, is, zero))
+recovery_whole kf kfs n (Some before) (Some after) (Some d) (Ok shown) other is has tells = absurd tells
+recovery_whole kf kfs n (Some before) (Some after) (Some d) (Err (none.Fault count)) given is has tells =
+    λ zero. absurd (⊎_elim (λ said. let a = said.0 in omega (arith, a, zero)) (λ lacks. let a = lacks.0 in omega (arith, a, zero)) (refused_as (Some before) (Some after) kf kfs _ _ given n is tells))
+recovery_whole kf kfs n (Some before) (Some after) (Some d) (Err none.NoMemory) given is has tells = λ zero. absurd (let a : n ≡ 6 = is ∙ ap code tells.0 in omega (arith, a, zero))
+recovery_whole kf kfs n sold snew told found given is has tells = tt
+
+pub recovery_front : (kf kfs n : ℕ) (sold snew : Option (List ℕ)) (told : Option Disk) (found : Result Recovered RecoverError) (given : Status) → n ≡ code given
+    → IfSome told (λ d. IfOk found (HasRecovered d.content)) → TellsRecovery sold snew kf kfs found given → TellsDisk sold snew told (λ before after d. n ≡ 5 → RecoversFront before after d.content)
+recovery_front kf kfs n (Some before) (Some after) (Some d) (Ok shown) status.Sink is has tells =
+    λ five. record { recovered = has.recovered; is_recovered = has.is; printed = (tells.3, tells.4 ∙ ap (λ t. before ++ take tells.3 t) (tells.2 has.recovered has.shows)) }
+recovery_front kf kfs n (Some before) (Some after) (Some d) (Ok shown) status.Done is has tells = λ five. absurd (omega (arith, is, five))
+recovery_front kf kfs n (Some before) (Some after) (Some d) (Ok shown) status.Memory is has tells = λ five. absurd (omega (arith, is, five))
+recovery_front kf kfs n (Some before) (Some after) (Some d) (Ok shown) other is has tells = absurd tells
+recovery_front kf kfs n (Some before) (Some after) (Some d) (Err (none.Fault count)) given is has tells =
+    λ five. absurd (⊎_elim (λ said. let a = said.0 in omega (arith, a, five)) (λ lacks. let a = lacks.0 in omega (arith, a, five)) (refused_as (Some before) (Some after) kf kfs _ _ given n is tells))
+recovery_front kf kfs n (Some before) (Some after) (Some d) (Err none.NoMemory) given is has tells = λ five. absurd (let a : n ≡ 6 = is ∙ ap code tells.0 in omega (arith, a, five))
+recovery_front kf kfs n sold snew told found given is has tells = tt

@@ -1,5 +1,5 @@
 -- What stands printed of a schedule.
-use Rattle.std.proofs.Common.{◌≡◌, ℕ, List, Option, Some, Result, Ok, Err, IfSome, ap, ◌∙◌, arith}
+use Rattle.std.proofs.Common.{◌≡◌, ◌⊎◌, inl, inr, ℕ, List, Option, Some, None, Result, Ok, Err, IfSome, ap, ◌∙◌, arith}
 use Rattle.std.specs.Prelude.{IfOk, take, ◌++◌}
 use Rattle.wp_model.specs.declared.memory.NoMemory.{NoMemory}
 use Rattle.core_model.specs.Schedule.{Schedule, schedule_of}
@@ -7,9 +7,10 @@ use Rattle.schedule_run.specs.declared.replaying.Replayed.{Replayed}
 use Rattle.write_core.specs.declared.state.CoreOptions.{CoreOptions}
 use Rattle.writepath_top.specs.declared.telling.Status.{Status}
 use Rattle.writepath_top.specs.declared.telling.Status.TheVariants as status
-use Rattle.writepath_top.specs.Replays.{TellsText, ReplaysFront}
+use Rattle.writepath_top.specs.Replays.{TellsText, Replays, ReplaysFront}
 use Rattle.schedule_run.specs.Replayed.{ShowsReplayed, replayed_of}
 use Rattle.writepath_top.specs.Telling.{code, TellsReplay}
+use Rattle.writepath_top.specs.Texts.{Stood}
 use Rattle.client_script.specs.ReplayLanguage.{replay_grammar, event_words}
 
 pub replays_front : (options : CoreOptions) (s : Schedule) (found : Result Replayed NoMemory) (kf kfs n : ℕ) (given : Status) (left sold snew : Option (List ℕ)) → n ≡ code given
@@ -21,9 +22,34 @@ replays_front options s (Ok shown) kf kfs n given (Some text) (Some before) (Som
 replays_front options s (Err why) kf kfs n given (Some text) (Some before) (Some after) is said shows tells = λ five. absurd (let a : n ≡ 6 = is ∙ ap code tells.0 in omega (arith, a, five))
 replays_front options s found kf kfs n given left sold snew is said shows tells = tt
 
+pub replays_whole : (options : CoreOptions) (s : Schedule) (found : Result Replayed NoMemory) (kf kfs n : ℕ) (given : Status) (left sold snew : Option (List ℕ)) → n ≡ code given
+    → IfSome left (λ text. schedule_of replay_grammar event_words text ≡ Ok s) → IfOk found (λ shown. ShowsReplayed shown (replayed_of options s)) → TellsReplay sold snew kf kfs found given
+    → TellsText left sold snew (λ text before after. n ≡ 0 → Replays options before after text)
+replays_whole options s (Ok shown) kf kfs n status.Done (Some text) (Some before) (Some after) is said shows tells =
+    λ zero. record { schedule = s; said = said; printed = tells.2 ∙ ap (λ t. before ++ t) (tells.1 (replayed_of options s) shows) }
+replays_whole options s (Ok shown) kf kfs n given (Some text) (Some before) (Some after) is said shows tells = λ zero. absurd (omega (arith, is, zero))
+replays_whole options s (Err why) kf kfs n given (Some text) (Some before) (Some after) is said shows tells = λ zero. absurd (let a : n ≡ 6 = is ∙ ap code tells.0 in omega (arith, a, zero))
+replays_whole options s found kf kfs n given left sold snew is said shows tells = tt
+
 pub replay_counted : (found : Result Replayed NoMemory) (kf kfs n : ℕ) (given : Status) (sold snew : Option (List ℕ)) → n ≡ code given → TellsReplay sold snew kf kfs found given → n ≡ 0 → kfs ≡ kf
 replay_counted (Ok shown) kf kfs n status.Done sold snew is tells zero = tells.3
 replay_counted (Ok shown) kf kfs n status.Sink sold snew is tells zero = absurd (omega (arith, is, zero))
 replay_counted (Ok shown) kf kfs n status.Memory sold snew is tells zero = absurd (omega (arith, is, zero))
 replay_counted (Ok shown) kf kfs n other sold snew is tells zero = absurd tells
 replay_counted (Err why) kf kfs n given sold snew is tells zero = absurd (let a : n ≡ 6 = is ∙ ap code tells.0 in omega (arith, a, zero))
+
+-- where the sink didn't fail, a replay ended well or for lack of memory
+replay_ended : (found : Result Replayed NoMemory) (kf kfs n : ℕ) (given : Status) (sold snew : Option (List ℕ)) → n ≡ code given → TellsReplay sold snew kf kfs found given → Stood kf kfs → (n ≡ 0) ⊎ (n ≡ 6)
+replay_ended (Ok shown) kf kfs n status.Done sold snew is tells stood = inl is
+replay_ended (Ok shown) kf kfs n status.Sink sold snew is tells stood = absurd (stood tells.0)
+replay_ended (Ok shown) kf kfs n status.Memory sold snew is tells stood = inr is
+replay_ended (Ok shown) kf kfs n other sold snew is tells stood = absurd tells
+replay_ended (Err why) kf kfs n given sold snew is tells stood = inr (is ∙ ap code tells.0)
+
+of_any : (left : Option (List ℕ)) (Q : Type 0) → Q → IfSome left (λ text. (schedule : Schedule) → schedule_of replay_grammar event_words text ≡ Ok schedule → Q)
+of_any None Q q = tt
+of_any (Some text) Q q = λ schedule said. q
+
+pub replay_completes : (left : Option (List ℕ)) (found : Result Replayed NoMemory) (kf kfs n : ℕ) (given : Status) (sold snew : Option (List ℕ)) → n ≡ code given → TellsReplay sold snew kf kfs found given → Stood kf kfs
+    → IfSome left (λ text. (schedule : Schedule) → schedule_of replay_grammar event_words text ≡ Ok schedule → (n ≡ 0) ⊎ (n ≡ 6))
+replay_completes left found kf kfs n given sold snew is tells stood = of_any left ((n ≡ 0) ⊎ (n ≡ 6)) (replay_ended found kf kfs n given sold snew is tells stood)

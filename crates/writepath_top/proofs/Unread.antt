@@ -1,12 +1,17 @@
 -- No script was read, or no schedule: what stands printed where the source failed.
-use Rattle.std.proofs.Common.{◌≡◌, ⊎_elim, ℕ, List, Option, le_trans, ap, ◌∙◌, arith}
+use Rattle.std.proofs.Common.{◌≡◌, ◌⊎◌, inl, inr, ⊎_elim, ℕ, List, length, Option, Some, None, Ok, IfSome, le_trans, ap, ◌∙◌, arith}
+use Rattle.wp_edge.specs.Disk.{Disk}
 use Rattle.wp_model.specs.Counts.{Rose}
+use Rattle.wp_model.specs.Script.{Script, script_of, whole_grammar}
 use Rattle.run_model.specs.Running.{IsReached}
 use Rattle.printed_text.specs.Refusals.{source_fault}
 use Rattle.writepath_top.specs.declared.reading.ReadError.{ReadError}
 use Rattle.writepath_top.specs.declared.reading.ReadError.TheVariants as read
 use Rattle.writepath_top.specs.declared.telling.Status.{Status}
-use Rattle.writepath_top.specs.Texts.{SaysTo}
+use Rattle.core_model.specs.Schedule.{Schedule, schedule_of}
+use Rattle.client_script.specs.ReplayLanguage.{replay_grammar, event_words}
+use Rattle.writepath_top.specs.Reading.{IsScriptError, IsScheduleError}
+use Rattle.writepath_top.specs.Texts.{SaysTo, Stood}
 use Rattle.writepath_top.specs.Telling.{code, TellsReadError}
 use Rattle.writepath_top.proofs.Refusing.{refused_as}
 
@@ -20,3 +25,39 @@ source_failed Why failed fails reached sold snew kf kfs n given is (read.Fault c
 source_failed Why failed fails reached sold snew kf kfs n given is (read.Script line kind) error tells four =
     ⊎_elim (λ said. absurd (let a = said.0 in omega (arith, a, four))) (λ none. absurd (let a = none.0 in omega (arith, a, four))) (refused_as sold snew kf kfs _ _ given n is tells)
 source_failed Why failed fails reached sold snew kf kfs n given is read.NoMemory error tells four = absurd (let a : n ≡ 6 = is ∙ ap code tells.0 in omega (arith, a, four))
+
+-- where no device failed, no script was read for lack of memory alone, if the text is one
+pub unread_completes : (left : Option (List ℕ)) (told : Option Disk) (failed fails kf kfs n : ℕ) (sold snew : Option (List ℕ)) (given : Status) → n ≡ code given → (why : ReadError)
+    → IsScriptError left failed fails why → TellsReadError sold snew kf kfs why given → Stood failed fails
+    → IfSome left (λ text. IfSome told (λ d. (script : Script) → script_of whole_grammar text ≡ Ok script → length d.content ≡ 0 → (n ≡ 0) ⊎ (n ≡ 6)))
+unread_completes None told failed fails kf kfs n sold snew given is why error tells stood = tt
+unread_completes (Some text) None failed fails kf kfs n sold snew given is why error tells stood = tt
+unread_completes (Some text) (Some d) failed fails kf kfs n sold snew given is (read.Fault count) error tells stood = λ script said empty. absurd (stood (le_trans error.0 error.1))
+unread_completes (Some text) (Some d) failed fails kf kfs n sold snew given is (read.Script line kind) error tells stood = λ script said empty. absurd (cc (error, said))
+unread_completes (Some text) (Some d) failed fails kf kfs n sold snew given is read.NoMemory error tells stood = λ script said empty. inr (is ∙ ap code tells.0)
+
+-- the same of a schedule
+pub unread_schedule_completes : (left : Option (List ℕ)) (failed fails kf kfs n : ℕ) (sold snew : Option (List ℕ)) (given : Status) → n ≡ code given → (why : ReadError)
+    → IsScheduleError left failed fails why → TellsReadError sold snew kf kfs why given → Stood failed fails
+    → IfSome left (λ text. (schedule : Schedule) → schedule_of replay_grammar event_words text ≡ Ok schedule → (n ≡ 0) ⊎ (n ≡ 6))
+unread_schedule_completes None failed fails kf kfs n sold snew given is why error tells stood = tt
+unread_schedule_completes (Some text) failed fails kf kfs n sold snew given is (read.Fault count) error tells stood = λ schedule said. absurd (stood (le_trans error.0 error.1))
+unread_schedule_completes (Some text) failed fails kf kfs n sold snew given is (read.Script line kind) error tells stood = λ schedule said. absurd (cc (error, said))
+unread_schedule_completes (Some text) failed fails kf kfs n sold snew given is read.NoMemory error tells stood = λ schedule said. inr (is ∙ ap code tells.0)
+
+-- the status where nothing was read is none of those at which something was run
+unread_status : (kf kfs n : ℕ) (sold snew : Option (List ℕ)) (given : Status) → n ≡ code given → (why : ReadError) → TellsReadError sold snew kf kfs why given → (n ≡ 2) ⊎ (n ≡ 4) ⊎ (n ≡ 6)
+unread_status kf kfs n sold snew given is (read.Fault count) tells = ⊎_elim (λ said. inr (inl said.0)) (λ lacks. inr (inr lacks.0)) (refused_as sold snew kf kfs _ _ given n is tells)
+unread_status kf kfs n sold snew given is (read.Script line kind) tells = ⊎_elim (λ said. inl said.0) (λ lacks. inr (inr lacks.0)) (refused_as sold snew kf kfs _ _ given n is tells)
+unread_status kf kfs n sold snew given is read.NoMemory tells = inr (inr (is ∙ ap code tells.0))
+
+no_run : (n : ℕ) → (n ≡ 2) ⊎ (n ≡ 4) ⊎ (n ≡ 6) → (n ≡ 0) ⊎ (n ≡ 5) → ⊥
+no_run n (inl a) (inl b) = omega (arith, a, b)
+no_run n (inl a) (inr b) = omega (arith, a, b)
+no_run n (inr (inl a)) (inl b) = omega (arith, a, b)
+no_run n (inr (inl a)) (inr b) = omega (arith, a, b)
+no_run n (inr (inr a)) (inl b) = omega (arith, a, b)
+no_run n (inr (inr a)) (inr b) = omega (arith, a, b)
+
+pub unread_is_not_run : (kf kfs n : ℕ) (sold snew : Option (List ℕ)) (given : Status) → n ≡ code given → (why : ReadError) → TellsReadError sold snew kf kfs why given → (n ≡ 0) ⊎ (n ≡ 5) → ⊥
+unread_is_not_run kf kfs n sold snew given is why tells at = no_run n (unread_status kf kfs n sold snew given is why tells) at

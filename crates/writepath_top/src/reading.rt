@@ -12,7 +12,7 @@ use wp_model::ScriptFault;
 const PIECE: usize = 16_384;
 
 /// Why no script was read.
-#[derive(Clone, Copy, Debug, PartialEq, Eq)]
+#[derive(Clone, Copy)]
 pub enum ReadError {
     /// The source failed, for the how many-th time.
     Fault { count: u64 },

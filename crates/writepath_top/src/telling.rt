@@ -24,7 +24,7 @@ use wp_edge::{Sink, write_all};
 use wp_model::NoMemory;
 
 /// The exit statuses, in the order in which they are numbered.
-#[derive(Clone, Copy, Debug, PartialEq, Eq)]
+#[derive(Clone, Copy)]
 pub enum Status {
     Done,
     Usage,
@@ -37,7 +37,7 @@ pub enum Status {
 }
 
 /// How an outcome is printed: whole, or summed up.
-#[derive(Clone, Copy, Debug, PartialEq, Eq)]
+#[derive(Clone, Copy)]
 pub enum Form {
     Whole,
     Summary,

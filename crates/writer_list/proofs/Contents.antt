@@ -1,6 +1,6 @@
 -- The slots of a table that was not made, or is closed.
-use Rattle.std.proofs.Common.{◌≡◌, ℕ, zero, suc, List, [], ◌∷◌, ◌++◌, replicate, refl, sym, ap, ◌∙◌}
-use Rattle.std.proofs.lemmas.List.{append_cancel_right}
+use Rattle.std.proofs.Common.{◌≡◌, ℕ, zero, suc, ◌+◌, List, [], ◌∷◌, ◌++◌, length, replicate, refl, sym, ap, ◌∙◌, arith, length-append}
+use Rattle.std.proofs.lemmas.List.{append_cancel_right, length-replicate}
 use Rattle.list_rule.specs.declared.content.Content.{Content}
 use Rattle.list_rule.specs.declared.content.Content.TheVariants.{Empty, Asked, Told, Log, Right}
 use mathlib.Core.Path.{Path}
@@ -13,6 +13,9 @@ snoc_same a b x y e = let is = same_last a b x y e in (append_cancel_right a b (
 pub replicate_snoc : {A : Type 0} (n : ℕ) (a : A) → replicate (suc n) a ≡ replicate n a ++ a ∷ []
 replicate_snoc zero a = refl
 replicate_snoc (suc n) a = ap (λ l. a ∷ l) (replicate_snoc n a)
+
+pub length_between : {A : Type 0} (n : ℕ) (x y z : A) → length (x ∷ (replicate n y ++ z ∷ [])) ≡ n + 2
+length_between n x y z = omega (arith, length-append (replicate n y) (z ∷ []), length-replicate n y)
 
 abbrev pub first_slot : {A : Type 0} → A → List A → A
 first_slot d [] = d

@@ -79,6 +79,13 @@ module _ {Q P L M : Type 0} where
   fills_of own p [] = refl
   fills_of own p (g ∷ gs) = ap (λ l. (g.0.by, Told g.1) ∷ l) (fills_of own p gs)
 
+abbrev slot_or : {A : Type 0} → A → List (ℕ × A) → A
+slot_or d [] = d
+slot_or d (x ∷ xs) = x.1
+
+pub same_front : {A : Type 0} (k : ℕ) (x y : A) (s t : List (ℕ × A)) → (k, x) ∷ s ≡ (k, y) ∷ t → x ≡ y
+same_front k x y s t e = ap (slot_or x) e
+
 reply_or : {P : Type 0} → P → List (ℕ × P) → P
 reply_or d [] = d
 reply_or d (x ∷ xs) = x.1

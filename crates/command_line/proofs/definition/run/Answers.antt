@@ -1,14 +1,14 @@
+use Rattle.std.proofs.Common.{◌∙◌, ap}
 use Rattle.std.proofs.lemmas.Result.{IfOk-weaker}
-use Rattle.command_line.proofs.Additions.{with_argument}
+use Rattle.clap.specs.Words.{App, with_rule}
+use Rattle.command_line.specs.Definition.{batch_bytes, group_bytes, last, shards, table}
 use Rattle.command_line.proofs.definition.run.Goals as goal
 
 pub returns : goal.returns
 returns c =
-    let with_table = with_argument _ _ _ _ _ c.in_ok-arg.ensures c.table.ensures.local c.table.ensures.rule (record { app = c.new.ensures.app; local = c.new.ensures.local }) in
-    let with_shards = with_argument _ _ _ _ _ c.in_ok-arg-2.ensures c.shards.ensures.local c.shards.ensures.rule with_table in
-    let with_group = with_argument _ _ _ _ _ c.in_ok-arg-3.ensures c.group_bytes.ensures.local c.group_bytes.ensures.rule with_shards in
-    let with_batch = with_argument _ _ _ _ _ c.in_ok-arg-4.ensures c.batch_bytes.ensures.local c.batch_bytes.ensures.rule with_group in
+    let with_table = c.in_ok-with_table.ensures.app ∙ ap (λ (a : App). with_rule (with_rule a table) shards) c.new.ensures.app in
     record {
-      app = IfOk-weaker c.arg-5.result _ _ (λ command adds. (with_argument _ _ _ _ _ adds c.last.ensures.local c.last.ensures.rule with_batch).app) c.arg-5.ensures;
-      local = IfOk-weaker c.arg-5.result _ _ (λ command adds. (with_argument _ _ _ _ _ adds c.last.ensures.local c.last.ensures.rule with_batch).local) c.arg-5.ensures;
+      app = IfOk-weaker c.with_limits.result _ _
+          (λ command is. is ∙ ap (λ (a : App). with_rule (with_rule (with_rule a group_bytes) batch_bytes) last) with_table) c.with_limits.ensures.app;
+      local = c.with_limits.ensures.local;
     }

@@ -1,7 +1,7 @@
 use Rattle.std.proofs.Common.{ℕ, List, ◌+◌, ◌%◌, refl, sym, ap, subst, arith, length-append}
 use Rattle.log_block.specs.declared.pieces.Piece.{Piece}
 use Rattle.log_block.specs.Pieces.{CoverRecord}
-use Rattle.log_writer.proofs.Pieces.{IsSoFar, starts_so, put_of, may_be_put, put_len, puts_next, goes_on, breaks_off}
+use Rattle.log_writer.proofs.Pieces.{IsSoFar, starts_so, put_of, may_put_next, put_len, puts_next, goes_on, breaks_off}
 use Rattle.log_writer.proofs.puts.put_record.Goals as goal
 
 pub loop-piece-init : goal.loop-piece-init
@@ -23,10 +23,26 @@ returns-in_err-put_piece-clause-put g c =
     breaks_off g.D.Disk c.args.rest.now c.args.offset c.args.disk.now c.loop-piece.disk c.loop-piece.rest c.in-Some.piece c.next.new.self c.loop-piece.end now
     c.put_piece.new.disk c.in_err-put_piece.field-0.0 c.from_residual.result (g.met.D.Disk.is_disk c.args.disk.now) c.from_residual.ensures.0 c.in_err-put_piece.ensures.put
 
+pub put_piece-requires-clause-zeros : goal.put_piece-requires-clause-zeros
+put_piece-requires-clause-zeros g c = (may_put_next g.D.Disk c.args.rest.now c.args.offset c.args.disk.now c.loop-piece.disk c.loop-piece.rest c.loop-piece.end _ c.in-Some.piece c.next.new.self c.in-Some.ensures.steps c.loop-piece.invariant.so_far).zeros
+
+pub put_piece-requires-clause-ordered : goal.put_piece-requires-clause-ordered
+put_piece-requires-clause-ordered g c = (may_put_next g.D.Disk c.args.rest.now c.args.offset c.args.disk.now c.loop-piece.disk c.loop-piece.rest c.loop-piece.end _ c.in-Some.piece c.next.new.self c.in-Some.ensures.steps c.loop-piece.invariant.so_far).ordered
+
+pub put_piece-requires-clause-fits : goal.put_piece-requires-clause-fits
+put_piece-requires-clause-fits g c = (may_put_next g.D.Disk c.args.rest.now c.args.offset c.args.disk.now c.loop-piece.disk c.loop-piece.rest c.loop-piece.end _ c.in-Some.piece c.next.new.self c.in-Some.ensures.steps c.loop-piece.invariant.so_far).fits
+
+pub put_piece-requires-clause-there : goal.put_piece-requires-clause-there
+put_piece-requires-clause-there g c = (may_put_next g.D.Disk c.args.rest.now c.args.offset c.args.disk.now c.loop-piece.disk c.loop-piece.rest c.loop-piece.end _ c.in-Some.piece c.next.new.self c.in-Some.ensures.steps c.loop-piece.invariant.so_far).there
+
 pub piece_len-end-requires-clause-zeros : goal.piece_len-end-requires-clause-zeros
-piece_len-end-requires-clause-zeros g c =
-    let now = subst (λ (ps : List Piece). IsSoFar g.D.Disk c.args.rest.now c.args.offset c.args.disk.now c.loop-piece.disk c.loop-piece.rest ps c.loop-piece.end) c.in-Some.ensures.steps c.loop-piece.invariant.so_far in
-    (may_be_put g.D.Disk c.args.rest.now c.args.offset c.args.disk.now c.loop-piece.disk c.loop-piece.rest c.in-Some.piece c.next.new.self c.loop-piece.end now).zeros
+piece_len-end-requires-clause-zeros g c = (may_put_next g.D.Disk c.args.rest.now c.args.offset c.args.disk.now c.loop-piece.disk c.loop-piece.rest c.loop-piece.end _ c.in-Some.piece c.next.new.self c.in-Some.ensures.steps c.loop-piece.invariant.so_far).zeros
+
+pub piece_len-end-requires-clause-ordered : goal.piece_len-end-requires-clause-ordered
+piece_len-end-requires-clause-ordered g c = (may_put_next g.D.Disk c.args.rest.now c.args.offset c.args.disk.now c.loop-piece.disk c.loop-piece.rest c.loop-piece.end _ c.in-Some.piece c.next.new.self c.in-Some.ensures.steps c.loop-piece.invariant.so_far).ordered
+
+pub piece_len-end-requires-clause-fits : goal.piece_len-end-requires-clause-fits
+piece_len-end-requires-clause-fits g c = (may_put_next g.D.Disk c.args.rest.now c.args.offset c.args.disk.now c.loop-piece.disk c.loop-piece.rest c.loop-piece.end _ c.in-Some.piece c.next.new.self c.in-Some.ensures.steps c.loop-piece.invariant.so_far).fits
 
 pub overflow_add-end : goal.overflow_add-end
 overflow_add-end g c =

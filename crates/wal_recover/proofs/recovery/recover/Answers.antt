@@ -46,3 +46,21 @@ returns-in-End-clause-recovered g c =
     let says = reads before told log c.next.new.self.in_hand (next.End c.in-End.at c.in-End.why) old.disk.same old.going old.follows c.in-End.ensures.reads in
     subst (λ (r : Recovered). IfSome told (λ d. HasRecovered d.content r)) (sym c.answer_of-in-End.ensures)
     (ended told c.loop-start.kept log.place c.in-End.at c.next.new.self.in_hand c.in-End.why old.place old.front says)
+
+pub returns-in-Some-clause-worked : goal.returns-in-Some-clause-worked
+returns-in-Some-clause-worked g c = let old = c.loop-start.invariant in c.in-Record.ensures.fault old.going ∙ old.worked
+
+pub returns-in-End-clause-worked : goal.returns-in-End-clause-worked
+returns-in-End-clause-worked g c = let old = c.loop-start.invariant in c.in-End.ensures.fault old.going ∙ old.worked
+
+pub returns-in-Some-clause-disk : goal.returns-in-Some-clause-disk
+returns-in-Some-clause-disk g c = more_read g.D.Disk _ _ _ c.loop-start.invariant.disk c.in-Record.ensures.disk
+
+pub returns-in-End-clause-disk : goal.returns-in-End-clause-disk
+returns-in-End-clause-disk g c = more_read g.D.Disk _ _ _ c.loop-start.invariant.disk c.in-End.ensures.disk
+
+pub returns-in-Fault-clause-disk : goal.returns-in-Fault-clause-disk
+returns-in-Fault-clause-disk g c = more_read g.D.Disk _ _ _ c.loop-start.invariant.disk c.in-Fault.ensures.disk
+
+pub returns-in-NoMemory-clause-disk : goal.returns-in-NoMemory-clause-disk
+returns-in-NoMemory-clause-disk g c = more_read g.D.Disk _ _ _ c.loop-start.invariant.disk c.in-NoMemory.ensures.disk

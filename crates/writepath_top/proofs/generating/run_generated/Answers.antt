@@ -1,13 +1,12 @@
 -- The run's promises, of the script that the seed makes. It has as many clients as are asked for, and its outcome's
 -- summary is that of all legal outcomes.
-use Rattle.std.proofs.Common.{◌≡◌, ℕ, length, map, refl, sym, ap, subst, ◌∙◌, arith}
+use Rattle.std.proofs.Common.{◌≡◌, ℕ, length, refl, sym, ap, subst, ◌∙◌, arith}
 use Rattle.std.proofs.lemmas.List.{length-map}
 use Rattle.std.proofs.lemmas.List.FromFn.{length-range_with_len}
 use Rattle.std.specs.List.{range_with_len}
 use Rattle.std.specs.Io.KnownBytes.{Appends}
 use Rattle.wp_model.specs.Generator.{generated, batches_drawn, first_state}
 use Rattle.wp_model.specs.Outcomes.{IsLegal}
-use Rattle.client_calls.specs.Commands.{command_of}
 use Rattle.client_calls.specs.Settings.{settings_of}
 use Rattle.client_script.specs.declared.script.Script.{Script}
 use Rattle.client_script.specs.Scripts.{commands_of}
@@ -18,8 +17,7 @@ use Rattle.writepath_top.proofs.generating.run_generated.Goals as goal
 
 has_clients : (script : Script) (seed clients batches : ℕ) → commands_of script ≡ generated seed clients batches → length script.clients.items ≡ clients
 has_clients script seed clients batches e =
-    sym (length-map script.clients.items (λ cs. map command_of cs.items)) ∙ ap length e
-    ∙ length-map (range_with_len 1 clients) (λ client. batches_drawn batches client (first_state seed client)) ∙ length-range_with_len 1 clients
+    ap length e ∙ length-map (range_with_len 1 clients) (λ client. batches_drawn batches client (first_state seed client)) ∙ length-range_with_len 1 clients
 
 pub run_and_tell-requires-clause-clients : goal.run_and_tell-requires-clause-clients
 run_and_tell-requires-clause-clients g c κs within =

@@ -1,13 +1,21 @@
 -- What stands printed of a schedule, and where none was read.
+use Rattle.std.proofs.Common.{inl, inr}
 use Rattle.client_script.specs.Schedules.{schedule_of}
 use Rattle.writepath_top.specs.Reading.{IsScheduleError}
-use Rattle.writepath_top.proofs.ReplayEndings.{replays_front, replay_counted}
-use Rattle.writepath_top.proofs.Unread.{source_failed}
+use Rattle.writepath_top.proofs.ReplayEndings.{replays_front, replays_whole, replay_counted, replay_completes}
+use Rattle.writepath_top.proofs.Unread.{source_failed, unread_schedule_completes, unread_is_not_run}
+use Rattle.writepath_top.proofs.NoMemory.{tells_text}
 use Rattle.writepath_top.proofs.replaying.replay.Goals as goal
 
 pub returns-in-Ok-clause-replayed_prefix : goal.returns-in-Ok-clause-replayed_prefix
 returns-in-Ok-clause-replayed_prefix g c =
     replays_front c.args.options (schedule_of c.in-Ok.schedule) c.replay_schedule-replayed.result (g.K.Sink.faults c.args.sink.now) (g.K.Sink.faults c.tell_replay.new.sink)
+    c.end_with.result.status c.tell_replay.result (g.S.Source.left c.args.source.now) (g.K.Sink.taken c.args.sink.now) (g.K.Sink.taken c.tell_replay.new.sink)
+    c.end_with.ensures.status c.in-Ok.ensures.schedule.said c.replay_schedule-replayed.ensures c.tell_replay.ensures
+
+pub returns-in-Ok-clause-replayed : goal.returns-in-Ok-clause-replayed
+returns-in-Ok-clause-replayed g c =
+    replays_whole c.args.options (schedule_of c.in-Ok.schedule) c.replay_schedule-replayed.result (g.K.Sink.faults c.args.sink.now) (g.K.Sink.faults c.tell_replay.new.sink)
     c.end_with.result.status c.tell_replay.result (g.S.Source.left c.args.source.now) (g.K.Sink.taken c.args.sink.now) (g.K.Sink.taken c.tell_replay.new.sink)
     c.end_with.ensures.status c.in-Ok.ensures.schedule.said c.replay_schedule-replayed.ensures c.tell_replay.ensures
 
@@ -26,3 +34,25 @@ returns-in-Err-clause-source g c =
     source_failed (IsScheduleError left failed fails) failed fails (λ count error. error) (g.K.Sink.taken c.args.sink.now) (g.K.Sink.taken c.tell_read_error.new.sink)
     (g.K.Sink.faults c.args.sink.now) (g.K.Sink.faults c.tell_read_error.new.sink) c.end_with-in-Err.result.status c.tell_read_error.result c.end_with-in-Err.ensures.status c.in-Err.error
     c.in-Err.ensures.error c.tell_read_error.ensures
+
+pub returns-in-Ok-clause-completes : goal.returns-in-Ok-clause-completes
+returns-in-Ok-clause-completes g c = λ source_stood sink_stood.
+    replay_completes (g.S.Source.left c.args.source.now) c.replay_schedule-replayed.result (g.K.Sink.faults c.args.sink.now) (g.K.Sink.faults c.tell_replay.new.sink) c.end_with.result.status c.tell_replay.result
+    (g.K.Sink.taken c.args.sink.now) (g.K.Sink.taken c.tell_replay.new.sink) c.end_with.ensures.status c.tell_replay.ensures sink_stood
+
+pub returns-in-Err-clause-completes : goal.returns-in-Err-clause-completes
+returns-in-Err-clause-completes g c = λ source_stood sink_stood.
+    unread_schedule_completes (g.S.Source.left c.args.source.now) (g.S.Source.faults c.args.source.now) (g.S.Source.faults c.read_schedule.new.source) (g.K.Sink.faults c.args.sink.now) (g.K.Sink.faults c.tell_read_error.new.sink)
+    c.end_with-in-Err.result.status (g.K.Sink.taken c.args.sink.now) (g.K.Sink.taken c.tell_read_error.new.sink) c.tell_read_error.result c.end_with-in-Err.ensures.status c.in-Err.error c.in-Err.ensures.error c.tell_read_error.ensures source_stood
+
+pub returns-in-Err-clause-replayed : goal.returns-in-Err-clause-replayed
+returns-in-Err-clause-replayed g c =
+    let not_run = unread_is_not_run (g.K.Sink.faults c.args.sink.now) (g.K.Sink.faults c.tell_read_error.new.sink) c.end_with-in-Err.result.status (g.K.Sink.taken c.args.sink.now) (g.K.Sink.taken c.tell_read_error.new.sink)
+    c.tell_read_error.result c.end_with-in-Err.ensures.status c.in-Err.error c.tell_read_error.ensures in
+    tells_text (g.S.Source.left c.args.source.now) (g.K.Sink.taken c.args.sink.now) (g.K.Sink.taken c.tell_read_error.new.sink) _ (λ text before after zero. absurd (not_run (inl zero)))
+
+pub returns-in-Err-clause-replayed_prefix : goal.returns-in-Err-clause-replayed_prefix
+returns-in-Err-clause-replayed_prefix g c =
+    let not_run = unread_is_not_run (g.K.Sink.faults c.args.sink.now) (g.K.Sink.faults c.tell_read_error.new.sink) c.end_with-in-Err.result.status (g.K.Sink.taken c.args.sink.now) (g.K.Sink.taken c.tell_read_error.new.sink)
+    c.tell_read_error.result c.end_with-in-Err.ensures.status c.in-Err.error c.tell_read_error.ensures in
+    tells_text (g.S.Source.left c.args.source.now) (g.K.Sink.taken c.args.sink.now) (g.K.Sink.taken c.tell_read_error.new.sink) _ (λ text before after five. absurd (not_run (inr five)))

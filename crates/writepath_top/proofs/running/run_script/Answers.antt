@@ -8,7 +8,7 @@ use Rattle.writepath_top.specs.Reading.{IsScriptError}
 use Rattle.writepath_top.specs.Outcomes.{IsScript, SaysScript, observed}
 use Rattle.writepath_top.proofs.Endings.{unread}
 use Rattle.writepath_top.proofs.Runs.{runs_script, runs_retold, completes}
-use Rattle.writepath_top.proofs.Unread.{source_failed}
+use Rattle.writepath_top.proofs.Unread.{source_failed, unread_completes}
 use Rattle.writepath_top.proofs.running.run_script.Goals as goal
 
 says_it : (left : Option (List ℕ)) (this s : Script) → IfSome left (λ text. script_of whole_grammar text ≡ Ok this) → IsScript this s → SaysScript left s
@@ -38,6 +38,12 @@ returns-in-Err-clause-source g c =
     source_failed (IsScriptError left failed fails) failed fails (λ count error. error) (g.K.Sink.taken c.args.sink.now) (g.K.Sink.taken c.tell_read_error.new.sink)
     (g.K.Sink.faults c.args.sink.now) (g.K.Sink.faults c.tell_read_error.new.sink) c.end_with.result.status c.tell_read_error.result c.end_with.ensures.status c.in-Err.why
     c.in-Err.ensures.error c.tell_read_error.ensures
+
+pub returns-in-Err-clause-completes : goal.returns-in-Err-clause-completes
+returns-in-Err-clause-completes g c = λ source_stood sink_stood disk_stood.
+    unread_completes (g.S.Source.left c.args.source.now) (g.D.Disk.told c.args.disk) (g.S.Source.faults c.args.source.now) (g.S.Source.faults c.read_script.new.source)
+    (g.K.Sink.faults c.args.sink.now) (g.K.Sink.faults c.tell_read_error.new.sink) c.end_with.result.status (g.K.Sink.taken c.args.sink.now) (g.K.Sink.taken c.tell_read_error.new.sink)
+    c.tell_read_error.result c.end_with.ensures.status c.in-Err.why c.in-Err.ensures.error c.tell_read_error.ensures source_stood
 
 pub returns-in-Err-clause-runs : goal.returns-in-Err-clause-runs
 returns-in-Err-clause-runs g c =

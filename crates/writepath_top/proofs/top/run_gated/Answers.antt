@@ -1,7 +1,7 @@
 -- What each command's part promises is what the call promises of the command. In the parts of other commands the words
 -- ask for something else.
 use Rattle.command_line.specs.Meaning.{asked_of}
-use Rattle.writepath_top.proofs.Asked.{of_run, of_generate, of_replay}
+use Rattle.writepath_top.proofs.Asked.{of_run, of_generate, of_replay, is_run, is_generate, is_recover, is_replay, not_another, not_nothing}
 use Rattle.writepath_top.proofs.NoMemory.{none_run, none_generated, none_recovered, none_replayed}
 use Rattle.std.proofs.Common.{refl}
 use Rattle.writepath_top.proofs.top.run_gated.Goals as goal
@@ -72,6 +72,66 @@ returns-in-Ok-Replay-clause-replay g c = λ wanted asked.
       silent = does.silent;
       completes = does.completes;
     })
+
+pub returns-in-Ok-Run-clause-nothing : goal.returns-in-Ok-Run-clause-nothing
+returns-in-Ok-Run-clause-nothing g c = λ asked. absurd (not_nothing _ _ (rw c.in-Ok-Run.field-0-is at c.in-Ok-Run.ensures.ok) asked)
+
+pub returns-in-Ok-Run-clause-generate : goal.returns-in-Ok-Run-clause-generate
+returns-in-Ok-Run-clause-generate g c = λ seed clients batches asked. absurd (not_another is_run _ _ _ (rw c.in-Ok-Run.field-0-is at c.in-Ok-Run.ensures.ok) asked.1 refl refl)
+
+pub returns-in-Ok-Run-clause-recover : goal.returns-in-Ok-Run-clause-recover
+returns-in-Ok-Run-clause-recover g c = λ asked. absurd (not_another is_run _ _ _ (rw c.in-Ok-Run.field-0-is at c.in-Ok-Run.ensures.ok) asked refl refl)
+
+pub returns-in-Ok-Run-clause-replay : goal.returns-in-Ok-Run-clause-replay
+returns-in-Ok-Run-clause-replay g c = λ options asked. absurd (not_another is_run _ _ _ (rw c.in-Ok-Run.field-0-is at c.in-Ok-Run.ensures.ok) asked refl refl)
+
+pub returns-in-Ok-Generate-clause-nothing : goal.returns-in-Ok-Generate-clause-nothing
+returns-in-Ok-Generate-clause-nothing g c = λ asked. absurd (not_nothing _ _ (rw c.in-Ok-Generate.field-0-is at c.in-Ok-Generate.ensures.ok) asked)
+
+pub returns-in-Ok-Generate-clause-run : goal.returns-in-Ok-Generate-clause-run
+returns-in-Ok-Generate-clause-run g c = λ options asked. absurd (not_another is_generate _ _ _ (rw c.in-Ok-Generate.field-0-is at c.in-Ok-Generate.ensures.ok) asked.1 refl refl)
+
+pub returns-in-Ok-Generate-clause-recover : goal.returns-in-Ok-Generate-clause-recover
+returns-in-Ok-Generate-clause-recover g c = λ asked. absurd (not_another is_generate _ _ _ (rw c.in-Ok-Generate.field-0-is at c.in-Ok-Generate.ensures.ok) asked refl refl)
+
+pub returns-in-Ok-Generate-clause-replay : goal.returns-in-Ok-Generate-clause-replay
+returns-in-Ok-Generate-clause-replay g c = λ options asked. absurd (not_another is_generate _ _ _ (rw c.in-Ok-Generate.field-0-is at c.in-Ok-Generate.ensures.ok) asked refl refl)
+
+pub returns-in-Ok-Recover-clause-nothing : goal.returns-in-Ok-Recover-clause-nothing
+returns-in-Ok-Recover-clause-nothing g c = λ asked. absurd (not_nothing _ _ (rw c.in-Ok-Recover.field-0-is at c.in-Ok-Recover.ensures.ok) asked)
+
+pub returns-in-Ok-Recover-clause-run : goal.returns-in-Ok-Recover-clause-run
+returns-in-Ok-Recover-clause-run g c = λ options asked. absurd (not_another is_recover _ _ _ (rw c.in-Ok-Recover.field-0-is at c.in-Ok-Recover.ensures.ok) asked.1 refl refl)
+
+pub returns-in-Ok-Recover-clause-generate : goal.returns-in-Ok-Recover-clause-generate
+returns-in-Ok-Recover-clause-generate g c = λ seed clients batches asked. absurd (not_another is_recover _ _ _ (rw c.in-Ok-Recover.field-0-is at c.in-Ok-Recover.ensures.ok) asked.1 refl refl)
+
+pub returns-in-Ok-Recover-clause-replay : goal.returns-in-Ok-Recover-clause-replay
+returns-in-Ok-Recover-clause-replay g c = λ options asked. absurd (not_another is_recover _ _ _ (rw c.in-Ok-Recover.field-0-is at c.in-Ok-Recover.ensures.ok) asked refl refl)
+
+pub returns-in-Ok-Replay-clause-nothing : goal.returns-in-Ok-Replay-clause-nothing
+returns-in-Ok-Replay-clause-nothing g c = λ asked. absurd (not_nothing _ _ (rw c.in-Ok-Replay.field-0-is at c.in-Ok-Replay.ensures.ok) asked)
+
+pub returns-in-Ok-Replay-clause-run : goal.returns-in-Ok-Replay-clause-run
+returns-in-Ok-Replay-clause-run g c = λ options asked. absurd (not_another is_replay _ _ _ (rw c.in-Ok-Replay.field-0-is at c.in-Ok-Replay.ensures.ok) asked.1 refl refl)
+
+pub returns-in-Ok-Replay-clause-generate : goal.returns-in-Ok-Replay-clause-generate
+returns-in-Ok-Replay-clause-generate g c = λ seed clients batches asked. absurd (not_another is_replay _ _ _ (rw c.in-Ok-Replay.field-0-is at c.in-Ok-Replay.ensures.ok) asked.1 refl refl)
+
+pub returns-in-Ok-Replay-clause-recover : goal.returns-in-Ok-Replay-clause-recover
+returns-in-Ok-Replay-clause-recover g c = λ asked. absurd (not_another is_replay _ _ _ (rw c.in-Ok-Replay.field-0-is at c.in-Ok-Replay.ensures.ok) asked refl refl)
+
+pub returns-in-Err-Usage-clause-run : goal.returns-in-Err-Usage-clause-run
+returns-in-Err-Usage-clause-run g c = λ options asked. absurd (not_nothing _ _ asked.1 ((rw c.in-Err-Usage.field-0-is at c.in-Err-Usage.ensures.usage) refl))
+
+pub returns-in-Err-Usage-clause-generate : goal.returns-in-Err-Usage-clause-generate
+returns-in-Err-Usage-clause-generate g c = λ seed clients batches asked. absurd (not_nothing _ _ asked.1 ((rw c.in-Err-Usage.field-0-is at c.in-Err-Usage.ensures.usage) refl))
+
+pub returns-in-Err-Usage-clause-recover : goal.returns-in-Err-Usage-clause-recover
+returns-in-Err-Usage-clause-recover g c = λ asked. absurd (not_nothing _ _ asked ((rw c.in-Err-Usage.field-0-is at c.in-Err-Usage.ensures.usage) refl))
+
+pub returns-in-Err-Usage-clause-replay : goal.returns-in-Err-Usage-clause-replay
+returns-in-Err-Usage-clause-replay g c = λ options asked. absurd (not_nothing _ _ asked ((rw c.in-Err-Usage.field-0-is at c.in-Err-Usage.ensures.usage) refl))
 
 pub returns-clause-run : goal.returns-clause-run
 returns-clause-run g c = λ options asked.

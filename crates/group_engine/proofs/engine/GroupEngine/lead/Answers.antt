@@ -1,5 +1,6 @@
 use Rattle.std.proofs.Common.{◌≡◌, ◌≤◌, ◌<◌, ℕ, List, [], ◌∷◌, ◌++◌, length, sym, ap, ◌∙◌, subst, arith}
 use Rattle.std.specs.List.{AllByRecursion}
+use Rattle.std.proofs.lemmas.Bool.{false≢true}
 use Rattle.list_rule.specs.declared.view.Entry.{Entry}
 use Rattle.list_rule.specs.Chain.{all_answers}
 use Rattle.list_rule.specs.Rule.{last_run}
@@ -70,7 +71,7 @@ exit-requires-clause-group g c =
         t.heads_are,
         t.pays_are,
         (led.stands, led.kept, led.number ∙ ap (λ (k : ℕ). last_run run k (L.1 ++ all_answers own t.own_reply t.gs)) start_is),
-        (λ piped. let no = sym S.is_engine.single ∙ piped in absurd (cc)),
+        (λ piped. let no = sym S.is_engine.single ∙ piped in absurd (false≢true no)),
       ),
     )
 

@@ -2,6 +2,7 @@ use Rattle.std.proofs.Common.{rules, ◌≡◌, ◌≤◌, ◌<◌, ◌+◌, [],
 use Rattle.wp_model.specs.History.{max_sequence}
 use Rattle.log_writer.specs.Words.{disk_of}
 use Rattle.log_writer.specs.Opening.{HasOpened}
+use Rattle.writer_list.specs.Rooms.{AllReady}
 use Rattle.writer_list.specs.Seats.{clients_of}
 use Rattle.account_model.specs.Accounts.{newcomer}
 use Rattle.write_controller.specs.Passes.{noted, IsNoteOf}
@@ -69,6 +70,27 @@ seat_all-requires-clause-engine g c =
       },
       options.0,
     )
+
+pub seat_all-requires-clause-writers : goal.seat_all-requires-clause-writers
+seat_all-requires-clause-writers g c =
+    let ok = c.in-Ok.ensures.ok in
+    (ok.0.5, sym c.in-Ok.writers.ok.0 ∙ (ok.1 ∙ sym ok.0.0))
+
+pub seat_all-requires-clause-lists : goal.seat_all-requires-clause-lists
+seat_all-requires-clause-lists g c =
+    let ok = c.in-Ok.ensures.ok in
+    (subst (λ n. AllReady n c.in-Ok.lists.items) (sym ok.0.0) ok.3, sym c.in-Ok.lists.ok.0 ∙ (ok.2 ∙ sym ok.0.0))
+
+pub returns-in-Err-clause-err : goal.returns-in-Err-clause-err
+returns-in-Err-clause-err g c =
+    let given = c.args.given in let back = c.in-Err.ensures.err.0 in
+    λ i. record {
+      log = (back i).path.log;
+      clock = (back i).clock;
+      table = given.table;
+      seats = record { turn = (back i).path.turn; clients = given.seats.clients };
+      gate = given.gate;
+    }
 
 pub seat_all-requires-clause-seats : goal.seat_all-requires-clause-seats
 seat_all-requires-clause-seats g c =

@@ -1,9 +1,12 @@
-use Rattle.std.proofs.Common.{rules, ◌≡◌, ◌+◌, ◌-◌, ℕ, suc, List, [], ◌∷◌, length, length-append, sym, ap, ◌∙◌, subst, arith}
-use Rattle.writer_list.specs.Roles.{AreNew}
+use Rattle.std.proofs.Common.{◌≡◌, ◌+◌, ◌-◌, ℕ, suc, List, [], ◌∷◌, length, length-append, sym, ap, ◌∙◌, subst, arith}
+use Rattle.std.specs.List.{range_with_len}
+use Rattle.writer_list.specs.Roles.{AreNew, IsNew}
 use Rattle.writer_list.specs.Rooms.{AllReady}
 use Rattle.writer_list.specs.Seats.{table_of, clients_of}
 use Rattle.group_engine.specs.Layout.{AreRoomy}
 use Rattle.group_engine.specs.AtStart.{AreSeatsAtStart, ArePassesAtStart, IsPassAtStart, IsNewcomer, AreNewcomers}
+use Rattle.group_engine.proofs.Logged.{empty_list}
+use Rattle.group_engine.proofs.Standing.{none_of}
 use Rattle.group_engine.proofs.Seating.{passes_split, seats_split}
 use Rattle.group_engine.proofs.engine.GroupEngine.seat_all.Goals as goal
 
@@ -14,18 +17,63 @@ seat_one-client-requires-clause-seat g c =
     let r : ℕ = length c.take_first.new.items.items in
     let split = seats_split ours account table r c.take_last.new.items.items c.in-Some-take_last.seat
     (subst (λ (z : ℕ × List _). AreSeatsAtStart ours account table z.0 z.1) (λ i. (ap length is i, last i)) v.seats) in
-    let l = c.len.ensures in
-    (split.1.0, split.1.1, split.1.2, split.1.3 ∙ (let e : suc r ≡ c.len.result + 1 = search (rules, l) in e))
+    let l = c.len.ensures ∙ c.take_first.new.items.ok.0 in
+    (split.1.0, split.1.1, split.1.2, split.1.3 ∙ (let e : suc r ≡ c.len.result + 1 = omega (arith, l) in e))
 
 pub seat_one-client-requires-clause-pass : goal.seat_one-client-requires-clause-pass
 seat_one-client-requires-clause-pass g c =
     let v = c.loop-writer.invariant in let is = c.in-Some.ensures.first in let last = c.in-Some-take_last-2.ensures.last in
     let controller = c.args.self.now.controller in let left = c.take_last-in-Some.new.items.items in
     let split = passes_split controller 1 left c.in-Some-take_last-2.pass (subst (ArePassesAtStart controller 1) last v.passes) in
-    let l = c.len.ensures in let was = ap length is in let count = v.passes_count in
+    let was = ap length is in let count = v.passes_count in
     let pushed = ap length last ∙ length-append left (c.in-Some-take_last-2.pass ∷ []) in
-    let number : c.len.result + 1 ≡ length c.take_first.new.items.items + 1 = search (rules, l) in
+    let number = ap (λ (k : ℕ). k + 1) (c.len.ensures ∙ c.take_first.new.items.ok.0) in
     subst (λ n. IsPassAtStart controller n c.in-Some-take_last-2.pass) (let e : 1 + length left ≡ c.len.result + 1 = omega (arith, number, was, count, pushed) in e) split.1
+
+pub seat_one-client-requires-clause-number : goal.seat_one-client-requires-clause-number
+seat_one-client-requires-clause-number g c =
+    let v = c.loop-writer.invariant in let is = c.in-Some.ensures.first in
+    let was : length c.loop-writer.writers.items ≡ suc (length c.take_first.new.items.items) = ap length is in
+    let l = c.len.ensures ∙ c.take_first.new.items.ok.0 in let count = v.count in
+    (omega arith, omega (arith, l, was, count))
+
+pub seat_one-client-requires-clause-writer : goal.seat_one-client-requires-clause-writer
+seat_one-client-requires-clause-writer g c =
+    let v = c.loop-writer.invariant in let is = c.in-Some.ensures.first in let e = c.args.self.now in
+    let l = c.len.ensures ∙ c.take_first.new.items.ok.0 in let r : ℕ = length c.take_first.new.items.items in
+    let new = subst (λ (zs : List _). AreNew (table_of e.list) (length zs) zs) is v.writers in
+    subst (λ (k : ℕ). IsNew (table_of e.list) k c.in-Some.writer) (let k : suc r ≡ c.len.result + 1 = omega (arith, l) in k) new.0
+
+pub seat_one-client-requires-clause-room : goal.seat_one-client-requires-clause-room
+seat_one-client-requires-clause-room g c =
+    let v = c.loop-writer.invariant in let n : ℕ = clients_of c.args.self.now.list in
+    ((subst (AllReady n) c.in-Some-take_first.ensures.first v.lists).0, (subst (AreRoomy n) c.in-Some-take_first-2.ensures.first v.layouts).0)
+
+pub put_first-requires : goal.put_first-requires
+put_first-requires g c =
+    let v = c.loop-writer.invariant in let is = c.in-Some.ensures.first in
+    let was : length c.loop-writer.writers.items ≡ suc (length c.take_first.new.items.items) = ap length is in
+    let len = c.loop-writer.clients.ok.0 in let count = v.count in let room = v.clients_room in
+    omega (arith, len, was, count, room)
+
+pub loop-writer-smaller : goal.loop-writer-smaller
+loop-writer-smaller g c =
+    let v = c.loop-writer.invariant in let is = c.in-Some.ensures.first in
+    let was : length c.loop-writer.writers.items ≡ suc (length c.take_first.new.items.items) = ap length is in
+    omega (arith, was)
+
+pub returns-clause-clients : goal.returns-clause-clients
+returns-clause-clients g c =
+    let v = c.loop-writer.invariant in let none : length c.loop-writer.writers.items ≡ 0 = ap length c.in_default.ensures.first.0 in let count = v.count in
+    (subst (λ (k : ℕ). AreNewcomers g.T.Table.opening g.T.Table.ours g.T.Table.account c.args.self.now (k + 1) c.loop-writer.clients.items) none v.clients, omega (arith, none, count))
+
+pub returns-clause-taken : goal.returns-clause-taken
+returns-clause-taken g c =
+    let v = c.loop-writer.invariant in let none : length c.loop-writer.writers.items ≡ 0 = ap length c.in_default.ensures.first.0 in (
+      c.in_default.ensures.first.1,
+      none_of (λ seat. (g.T.Table.account seat).number) c.loop-writer.seats.items (v.seats.numbers ∙ ap (range_with_len 1) none),
+      empty_list c.loop-writer.passes.items (v.passes_count ∙ none),
+    )
 
 pub loop-writer-preserved : goal.loop-writer-preserved
 loop-writer-preserved g c =
@@ -40,8 +88,7 @@ loop-writer-preserved g c =
     let split = seats_split ours account e.table r c.take_last.new.items.items c.in-Some-take_last.seat
     (subst (λ (z : ℕ × List _). AreSeatsAtStart ours account e.table z.0 z.1) (λ i. (ap length is i, last i)) v.seats) in
     let new = subst (λ (zs : List _). AreNew (table_of e.list) (length zs) zs) is v.writers in
-    let l = c.len.ensures in
-    let number : c.len.result + 1 ≡ r + 1 = search (rules, l) in
+    let number : c.len.result + 1 ≡ r + 1 = ap (λ (k : ℕ). k + 1) (c.len.ensures ∙ c.take_first.new.items.ok.0) in
     let was : length c.loop-writer.writers.items ≡ suc r = ap length is in
     let put = c.put_first.ensures.first in
     record {

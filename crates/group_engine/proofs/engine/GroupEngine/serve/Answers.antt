@@ -1,4 +1,4 @@
-use Rattle.std.proofs.Common.{◌≡◌, ◌≤◌, ◌-◌, ℕ, List, [], ◌∷◌, ◌++◌, length, refl, sym, ap, ◌∙◌, subst, take, drop}
+use Rattle.std.proofs.Common.{◌≡◌, ◌≤◌, ◌-◌, ℕ, List, [], ◌∷◌, ◌++◌, length, refl, sym, ap, ◌∙◌, subst, take, drop, vec_capacity, arith}
 use Rattle.std.specs.List.{AllByRecursion, AllZip}
 use Rattle.wp_model.specs.Controller.{ControllerCall, Look}
 use Rattle.wp_model.specs.Replies.{HoldUp}
@@ -17,7 +17,7 @@ use Rattle.group_engine.specs.Handled.{HandsBack, InOrder, IsHeldUp, commit_requ
 use Rattle.group_engine.specs.Law.{StandsFor}
 use Rattle.group_engine.specs.Layout.{IsClear}
 use Rattle.group_engine.specs.Led.{IsLedGroup}
-use Rattle.group_engine.proofs.Serves.{asked_after, asked_delays, asked_is, asked_sees, asked_shown, back_unnoted, first_flag, held_at, held_back, held_order, held_shown, led_unnoted, looks_sees, order_unnoted, put_back, replies_at, replies_shown, stands_by, stands_held_up, stands_noted}
+use Rattle.group_engine.proofs.Serves.{as_many, asked_after, asked_delays, asked_is, asked_sees, asked_shown, back_unnoted, first_flag, held_at, held_back, held_order, held_shown, led_unnoted, looks_sees, order_unnoted, put_back, replies_at, replies_shown, stands_by, stands_held_up, stands_noted}
 use Rattle.group_engine.proofs.Views.{only_none, unseen_commits}
 use Rattle.group_engine.proofs.engine.GroupEngine.serve.Goals as goal
 use Rattle.group_engine.proofs.engine.GroupEngine.serve.Goals.{then-not-index, else-not-index+else-holds_up}
@@ -89,6 +89,53 @@ returns-then-holds_up-clause-held g c hs st =
       path = stands_by g.T.Table.our_turn g.T.Table.history about.opened.value path.log path.turn path.last about.table.value about.table.value about.start about.start about.clients about.clients about.group_bytes about.group_bytes known (noted c.ask-asked.result.1) (hs ++ handled_with xs ys) refl refl refl refl (sym A.note.1)
           (stands_held_up g.T.Table.our_turn g.T.Table.history about.opened.value path.log path.turn path.last e.controller d n about.table.value about.start about.clients about.group_bytes asked known hs xs ys zip is led (asked_is k was asked known xs n h about.group_bytes about.clients led S.leads) (asked_after k was asked known xs n h) hold may st.path);
     }
+
+pub refuse_held_up-requires-clause-room : goal.refuse_held_up-requires-clause-room
+refuse_held_up-requires-clause-room g c =
+    let S = c.requires.served in let q = S.seats in let e = c.args.self.now in let v = c.args.client.now in
+    let xs : List (ℕ × Request) = v.lists.requests.list.items in
+    let L = v.lists.requests.list in let new : List (ℕ × Request) = c.ask-asked.new.requests in
+    let left : List (ℕ × Request) = take L.len (new ++ drop (length new) L.items) in
+    let left_is : left ≡ all_seen xs = put_back xs new L.len L.ok.0 (c.ask-asked.ensures.requests ∙ ap all_seen c.deref_mut.ensures.value) in
+    let many = as_many xs left left_is in
+    subst (λ (n : ℕ). n ≤ vec_capacity v.lists.replies.list) (sym many) S.room
+
+pub handle-path-requires-clause-seat : goal.handle-path-requires-clause-seat
+handle-path-requires-clause-seat g c =
+    let q = c.requires.served.seats in
+    (q.seat, q.ready, q.seat_number, q.number.0, subst (λ (n : ℕ). c.args.client.now.number ≤ n) (sym q.is_engine.clients) q.number.1)
+
+pub handle-path-requires-clause-start : goal.handle-path-requires-clause-start
+handle-path-requires-clause-start g c =
+    let S = c.requires.served in let q = S.seats in let e = c.args.self.now in let v = c.args.client.now in
+    let xs : List (ℕ × Request) = v.lists.requests.list.items in
+    let L = v.lists.requests.list in let new : List (ℕ × Request) = c.ask-asked.new.requests in
+    let left : List (ℕ × Request) = take L.len (new ++ drop (length new) L.items) in
+    let left_is : left ≡ all_seen xs = put_back xs new L.len L.ok.0 (c.ask-asked.ensures.requests ∙ ap all_seen c.deref_mut.ensures.value) in
+    let many = as_many xs left left_is in
+    let few = q.is_engine.few in let most = S.few in
+    (q.is_engine.low, omega (arith, few, most, many))
+
+pub handle-path-requires-clause-layout : goal.handle-path-requires-clause-layout
+handle-path-requires-clause-layout g c =
+    let S = c.requires.served in let q = S.seats in let e = c.args.self.now in let v = c.args.client.now in
+    let xs : List (ℕ × Request) = v.lists.requests.list.items in
+    let L = v.lists.requests.list in let new : List (ℕ × Request) = c.ask-asked.new.requests in
+    let left : List (ℕ × Request) = take L.len (new ++ drop (length new) L.items) in
+    let left_is : left ≡ all_seen xs = put_back xs new L.len L.ok.0 (c.ask-asked.ensures.requests ∙ ap all_seen c.deref_mut.ensures.value) in
+    let many = as_many xs left left_is in
+    let most = S.few in let plans = q.layout.plans in let batches = q.layout.batches in
+    (subst (λ (n : ℕ). IsClear n v.layout) (sym q.is_engine.clients) q.layout.clear, omega (arith, most, plans, many), omega (arith, most, batches, many))
+
+pub handle-path-requires-clause-replies : goal.handle-path-requires-clause-replies
+handle-path-requires-clause-replies g c =
+    let S = c.requires.served in let q = S.seats in let e = c.args.self.now in let v = c.args.client.now in
+    let xs : List (ℕ × Request) = v.lists.requests.list.items in
+    let L = v.lists.requests.list in let new : List (ℕ × Request) = c.ask-asked.new.requests in
+    let left : List (ℕ × Request) = take L.len (new ++ drop (length new) L.items) in
+    let left_is : left ≡ all_seen xs = put_back xs new L.len L.ok.0 (c.ask-asked.ensures.requests ∙ ap all_seen c.deref_mut.ensures.value) in
+    let many = as_many xs left left_is in
+    (S.no_replies, subst (λ (n : ℕ). n ≤ vec_capacity v.lists.replies.list) (sym many) S.room)
 
 pub handle-path-requires-clause-group : goal.handle-path-requires-clause-group
 handle-path-requires-clause-group g c =

@@ -19,6 +19,21 @@ await_role-requires g c =
     let told1 : told w1 ≡ told w0 = linked_told _ w1.client w1.leads c.args.request (told w0) w1.seat.me linked in
     (c.link.ensures.linked.0, (c.args.request, subst (λ (mine : List (Request × Reply)). IsIn (law_in g.T.Table.our_turn g.T.Table.history list) c.args.request mine w1) (sym told1) linked))
 
+pub lead-requires-clause-seated : goal.lead-requires-clause-seated
+lead-requires-clause-seated g c =
+    let S = c.requires.client.seated in record {
+      is_engine = S.is_engine;
+      writer = c.await_role.ensures.role.0;
+      number = c.await_role.ensures.client ∙ (c.link.ensures.client ∙ S.number);
+      seat = S.seat;
+      ready = S.ready;
+      seat_number = S.seat_number;
+      start = S.start;
+      pass = S.pass;
+      pass_number = S.pass_number;
+      can_lead = record { lists = S.can_lead.lists; layout = S.can_lead.layout };
+    }
+
 pub lead-requires-clause-has_asked : goal.lead-requires-clause-has_asked
 lead-requires-clause-has_asked g c =
     let S = c.requires.client.seated in let w0 = c.args.client.now.writer in let w1 = c.link.new.writer in

@@ -4,6 +4,7 @@ use Rattle.wp_model.specs.Progress.{early_refusal}
 use Rattle.wp_model.specs.Tokens.{holds_stop, tokens_of}
 use Rattle.table_rule.specs.Histories.{last_of}
 use Rattle.writer_list.specs.Seats.{told}
+use Rattle.write_controller.specs.Delays.{delays_of}
 use Rattle.write_controller.specs.Looks.{look_of}
 use Rattle.write_controller.specs.Passes.{seen_by, EndsWith}
 use Rattle.engine_calls.specs.declared.answers.Receipt.{Receipt}
@@ -40,6 +41,11 @@ returns-then-stopping-clause-err g c =
     let refused = refused_looked v.start v.number (own_commits v.number (told v.writer)) records how seen seen (seen_by v.pass) (seen_by c.look-look.new.pass) (look_of c.look-look.result) (begins_self seen) ends impatient (inl some) in
     subst (λ (r : Refused). Refuses settings (account_in g.T.Table.opening g.T.Table.ours g.T.Table.account v) records how r.why (account_of v.start v.number (own_commits v.number (told v.writer)) seen (seen_by c.look-look.new.pass))) (sym c.refused_by.ensures)
     (refuses_late settings (account_in g.T.Table.opening g.T.Table.ours g.T.Table.account v) records how _ _ passed (inr refused))
+
+pub submit-answer-requires-clause-client : goal.submit-answer-requires-clause-client
+submit-answer-requires-clause-client g c =
+    let v = c.args.client.now in let N = c.note.ensures in
+    pass_moved g.T.Table.opening g.T.Table.ours g.T.Table.account c.args.self.now v c.requires c.note.new.pass N.own.0 N.own.1 (ap (delays_of v.number) N.seen)
 
 pub see-requires-clause-note : goal.see-requires-clause-note
 see-requires-clause-note g c =

@@ -18,3 +18,6 @@ loop-shard-preserved g c =
           let next = c.add.ensures.added u done rest (so_far.1.stage_is ∙ ap (λ (l : List Version). Holding (work u done l)) c.take_run-run.ensures.cut) in
           (done ++ run, steps_on (account c.args.seat.now) (account c.loop-shard.seat) (account c.add.new.self) (Holding (work u done left)) (Holding (work u (done ++ run) rest)) so_far.1 next),
     )
+
+pub add-requires-clause-shard : goal.add-requires-clause-shard
+add-requires-clause-shard g c = (c.in-Some.ensures.0, c.take_run-run.ensures.of_shard)

@@ -4,7 +4,7 @@ use Rattle.std.specs.Ordering.{is_lt}
 use Rattle.wp_model.specs.Map.{byte_order}
 use Rattle.mem_table.specs.Chains.{Chain}
 use Rattle.mem_table.specs.Shapes.{fork, chains_in}
-use Rattle.mem_table.specs.Nodes.{chain_of}
+use Rattle.mem_table.specs.Nodes.{chain_of, shape_of}
 use Rattle.mem_table.specs.Rows.{between}
 use Rattle.mem_table.proofs.Searching.{left_smaller, right_smaller, left_sorted, right_sorted}
 use Rattle.mem_table.proofs.Ranging.{only_left, only_right, both_sides}
@@ -13,28 +13,28 @@ use Rattle.mem_table.proofs.node.Subtree.+count_within.Goals as goal
 pub count_within-requires : goal.count_within-requires
 count_within-requires t c =
     let n = c.deref-then-is_below.result.now in
-    let is : c.args.self.now ≡ fork n.left (chain_of n) n.right = search rules in
+    let is : c.args.self.now ≡ fork n.left (chain_of n) n.right = rw c.deref-then-is_below.ensures (sym c.self.view_is ∙ ap shape_of c.in-Some.is) in
     let smaller = right_smaller c.args.self.now n.left n.right (chain_of n) is in
     (search rules, right_sorted c.args.self.now n.left n.right (chain_of n) is c.requires)
 
 pub count_within-requires-then-not-is_below : goal.count_within-requires-then-not-is_below
 count_within-requires-then-not-is_below t c =
     let n = c.deref-then-not-is_below.result.now in
-    let is : c.args.self.now ≡ fork n.left (chain_of n) n.right = search rules in
+    let is : c.args.self.now ≡ fork n.left (chain_of n) n.right = rw c.deref-then-not-is_below.ensures (sym c.self.view_is ∙ ap shape_of c.in-Some.is) in
     let smaller = left_smaller c.args.self.now n.left n.right (chain_of n) is in
     (search rules, left_sorted c.args.self.now n.left n.right (chain_of n) is c.requires)
 
 pub count_within-left-requires : goal.count_within-left-requires
 count_within-left-requires t c =
     let n = c.deref-2.result.now in
-    let is : c.args.self.now ≡ fork n.left (chain_of n) n.right = search rules in
+    let is : c.args.self.now ≡ fork n.left (chain_of n) n.right = rw c.deref-2.ensures (sym c.self.view_is ∙ ap shape_of c.in-Some.is) in
     let smaller = left_smaller c.args.self.now n.left n.right (chain_of n) is in
     (search rules, left_sorted c.args.self.now n.left n.right (chain_of n) is c.requires)
 
 pub count_within-right-requires : goal.count_within-right-requires
 count_within-right-requires t c =
     let n = c.deref-3.result.now in
-    let is : c.args.self.now ≡ fork n.left (chain_of n) n.right = search rules in
+    let is : c.args.self.now ≡ fork n.left (chain_of n) n.right = rw c.deref-3.ensures (sym c.self.view_is ∙ ap shape_of c.in-Some.is) in
     let smaller = right_smaller c.args.self.now n.left n.right (chain_of n) is in
     (search rules, right_sorted c.args.self.now n.left n.right (chain_of n) is c.requires)
 
@@ -42,7 +42,7 @@ pub returns-then-is_below : goal.returns-then-is_below
 returns-then-is_below t c =
     let n = c.deref-then-is_below.result.now in
     let range = c.args.range in
-    let is : c.args.self.now ≡ fork n.left (chain_of n) n.right = search rules in
+    let is : c.args.self.now ≡ fork n.left (chain_of n) n.right = rw c.deref-then-is_below.ensures (sym c.self.view_is ∙ ap shape_of c.in-Some.is) in
     let low : is_lt (byte_order n.key range.lo.now) ≡ true = search rules in
     let e = only_right range.lo.now range.hi.now c.args.self.now n.left n.right (chain_of n) is c.requires low in
     subst (λ (l : List Chain). length l < 2 ^ 64 → c.count_within.result ≡ length l) e c.count_within.ensures
@@ -51,7 +51,7 @@ pub returns-then-not-is_below : goal.returns-then-not-is_below
 returns-then-not-is_below t c =
     let n = c.deref-then-not-is_below.result.now in
     let range = c.args.range in
-    let is : c.args.self.now ≡ fork n.left (chain_of n) n.right = search rules in
+    let is : c.args.self.now ≡ fork n.left (chain_of n) n.right = rw c.deref-then-not-is_below.ensures (sym c.self.view_is ∙ ap shape_of c.in-Some.is) in
     let high : is_lt (byte_order n.key range.hi.now) ≡ false = search rules in
     let e = only_left range.lo.now range.hi.now c.args.self.now n.left n.right (chain_of n) is c.requires high in
     subst (λ (l : List Chain). length l < 2 ^ 64 → c.count_within-then-not-is_below.result ≡ length l) e c.count_within-then-not-is_below.ensures
@@ -69,7 +69,7 @@ returns t c =
     let n = c.in-Some.node.value in
     let lo = c.args.range.lo.now in
     let hi = c.args.range.hi.now in
-    let is : c.args.self.now ≡ fork n.left (chain_of n) n.right = search rules in
+    let is : c.args.self.now ≡ fork n.left (chain_of n) n.right = sym c.self.view_is ∙ ap shape_of c.in-Some.is in
     let from : is_lt (byte_order n.key lo) ≡ false = search rules in
     let below_hi : is_lt (byte_order n.key hi) ≡ true = search rules in
     let l = between lo hi (chains_in n.left) in

@@ -3,7 +3,7 @@ use Rattle.atomic_table.specs.Table.{rest}
 use Rattle.table_rule.specs.declared.view.Opening.{Opening}
 use Rattle.table_rule.specs.declared.content.Content.TheVariants.{Blank, Tree}
 use Rattle.table_steps.specs.Seen.{Locked}
-use Rattle.table_steps.proofs.Keyed.{fronted, same_tree, shards_of}
+use Rattle.table_steps.proofs.Keyed.{fronted, same_slot, same_tree, shards_of}
 use Rattle.table_rule.proofs.Locks.{locks}
 use Rattle.table_steps.proofs.shared.SharedTable.lock.Goals as goal
 
@@ -20,6 +20,12 @@ exchange-requires g c =
     let o = c.requires.free in let z : Opening = c.args.self.now.table.shared.key in let i = c.loop.invariant in
     let t = (c.compare_exchange-found.ensures.2 c.args.who.now.number z o.0 o.1 (ap (λ m. m.0) i.4 ∙ o.2)).0 c.if-found-eq0.true in
     (c.compare_exchange-found.ensures.0 ∙ i.3 ∙ c.requires.seat.0, (Tree t.0, fronted c.compare_exchange-found.new.seat.me.1 c.args.shard (Tree t.0) _ t.2))
+
+pub unreachable-requires : goal.unreachable-requires
+unreachable-requires g c =
+    let o = c.requires.free in let z : Opening = c.args.self.now.table.shared.key in let i = c.loop.invariant in let j : ℕ = c.args.shard in
+    let t = (c.compare_exchange-found.ensures.2 c.args.who.now.number z o.0 o.1 (ap (λ m. m.0) i.4 ∙ o.2)).0 c.if-found-eq0.true in
+    c.in_default.not-Tree t.0 (same_slot c.exchange.result (Tree t.0) j j c.compare_exchange-found.new.seat.me.1 _ _ c.exchange.ensures.2 t.2)
 
 pub returns-in-Tree-clause-locked : goal.returns-in-Tree-clause-locked
 returns-in-Tree-clause-locked g c seen stage at =

@@ -1,15 +1,33 @@
-use Rattle.std.proofs.Common.{◌≡◌, ℕ, ◌≤◌, [], ◌∙◌, sym, ap, subst}
+use Rattle.std.proofs.Common.{◌≡◌, ℕ, ◌≤◌, [], ◌∙◌, length, sym, ap, subst, arith}
+use Rattle.table_rule.specs.declared.content.Content.TheVariants.{Blank}
 use Rattle.table_rule.specs.declared.view.Stage.TheVariants.{Idle}
 use Rattle.table_steps.specs.Accounts.{first_state, launch_of, Keeps}
 use Rattle.table_steps.specs.Ends.{AreSeatsOf}
 use Rattle.table_rule.specs.declared.view.Opening.{Opening}
-use Rattle.table_steps.proofs.Openings.{opens_first}
+use Rattle.table_steps.proofs.Openings.{opens_first, first_words_length, first_slots_length}
 use Rattle.table_steps.proofs.shared.SharedTable.open.Goals as goal
 
 pub new-requires : goal.new-requires
 new-requires g c =
     let z : Opening = record { clients = c.args.clients; shards = c.args.shards; start = c.args.last } in
     opens_first g.T.Versioned.versions g.N.Versioned.versions z c.deref.result.now c.add_blanks.new.slots.items c.in_ok-slots.slots.items (c.deref.ensures.value ∙ c.in_ok-words.ensures) c.in_ok-add_blanks.ensures c.requires c.in_ok-slots.ensures.length c.in_ok-slots.ensures.empty
+
+pub invariant_of-shared : goal.invariant_of-shared
+invariant_of-shared g c =
+    let o = c.in-Ok.ensures.ok in let k : ℕ = c.args.shards in let n : ℕ = c.args.clients in let a = c.ranges.shards in let b = c.ranges.clients in
+    record {
+      sized = (
+        o.0 ∙ (ap length (c.deref.ensures.value ∙ c.in_ok-words.ensures) ∙ first_words_length k c.args.last n),
+        o.1 ∙ (ap length c.in_ok-add_blanks.ensures ∙ first_slots_length c.in_ok-slots.slots.items k n Blank c.in_ok-slots.ensures.length),
+        o.5,
+        c.requires,
+        omega arith,
+        omega arith,
+      );
+    }
+
+pub returns-clause-turn : goal.returns-clause-turn
+returns-clause-turn g c = let t = c.in_ok-seats.ensures.turn in (([], t), ap (λ l. (first_state l).seen) t.2)
 
 pub returns-clause-clients : goal.returns-clause-clients
 returns-clause-clients g c =

@@ -1,41 +1,41 @@
-use Rattle.std.proofs.Common.{rules, length, sym, ◌∙◌, subst}
+use Rattle.std.proofs.Common.{length, sym, ◌∙◌, subst}
 use Rattle.std.specs.List.{AllByRecursion}
 use Rattle.write_controller.specs.Rule.{Fits, history_of}
-use Rattle.write_controller.proofs.Moves.{moves, joins, closes_turn}
+use Rattle.write_controller.proofs.Moves.{moves, closes_turn}
 use Rattle.write_controller.proofs.Closings.{is_history, at_next, taken_next, taken_all, joins_next, joined_all}
 use Rattle.write_controller.proofs.controller.Controller.close.Goals as goal
 
 pub loop-pass-init : goal.loop-pass-init
 loop-pass-init g c = (c.requires.all.others_are.cell, c.requires.all.others_are.view, c.into_iter-pass-iterator.ensures.into_iter_gives.0)
 
-pub split_pass-seat-requires : goal.split_pass-seat-requires
-split_pass-seat-requires g c =
+pub split-seat-requires : goal.split-seat-requires
+split-seat-requires g c =
     let own = c.requires.all.each (length c.loop-pass.yielded) c.in-Some.pass (at_next c.loop-pass.yielded c.loop-pass.pass-iterator.rest.items c.args.passes.clients.items c.next.new.self.rest.items c.in-Some.pass c.loop-pass.invariant.2 c.in-Some.ensures.steps.0) in
-    (search rules, (search rules, (own.0.cell, moves _ _)))
+    record { cell = own.0.cell; rule = moves _ _ }
 
-pub join_pass-requires : goal.join_pass-requires
-join_pass-requires g c =
+pub join-requires : goal.join-requires
+join-requires g c =
     let own = c.requires.all.each (length c.loop-pass.yielded) c.in-Some.pass (at_next c.loop-pass.yielded c.loop-pass.pass-iterator.rest.items c.args.passes.clients.items c.next.new.self.rest.items c.in-Some.pass c.loop-pass.invariant.2 c.in-Some.ensures.steps.0) in
     let i = c.loop-pass.invariant in
-    let cut = c.split_pass-seat.ensures.given in
-    (search rules, (search rules, ((i.0, cut.0 ∙ own.0.cell ∙ sym i.0, cut.2), joins _ _ _ _)))
+    let cut = c.split-seat.ensures.given in
+    record { cell = i.0; other = (cut.0 ∙ own.0.cell ∙ sym i.0, cut.2) }
 
 pub loop-pass-preserved : goal.loop-pass-preserved
 loop-pass-preserved g c =
     let i = c.loop-pass.invariant in
-    let cut = c.split_pass-seat.ensures.given in
-    let joined = c.join_pass.ensures in (
-      joined.0.0 ∙ i.0,
-      joins_next c.args.self.clients c.loop-pass.yielded c.in-Some.pass _ _ _ joined.1 i.1 cut.1,
+    let cut = c.split-seat.ensures.given in
+    let joined = c.join.ensures in (
+      joined.cell ∙ i.0,
+      joins_next c.args.self.clients c.loop-pass.yielded c.in-Some.pass _ _ _ joined.view i.1 cut.1,
       taken_next c.loop-pass.yielded c.loop-pass.pass-iterator.rest.items c.args.passes.clients.items c.next.new.self.rest.items c.in-Some.pass i.2 c.in-Some.ensures.steps.0,
     )
 
-pub load_as-requires : goal.load_as-requires
-load_as-requires g c = (search rules, (search rules, (c.loop-pass.invariant.0, closes_turn _ _)))
+pub load-requires : goal.load-requires
+load-requires g c = record { cell = c.loop-pass.invariant.0; rule = closes_turn _ _ }
 
 pub returns : goal.returns
 returns g c =
-    let told = c.load_as.ensures.rule in
+    let told = c.load.ensures.rule in
     let i = c.loop-pass.invariant in
     let all = c.requires.all in
     let whole = taken_all c.loop-pass.yielded c.loop-pass.pass-iterator.rest.items c.args.passes.clients.items i.2 (sym c.loop-pass.pass-iterator.rest.ok.0 ∙ c.in-None.ensures.steps.0) in

@@ -1,4 +1,4 @@
-use Rattle.std.proofs.Common.{◌≤◌, rules, sym, ◌∙◌, subst}
+use Rattle.std.proofs.Common.{◌≤◌, sym, ◌∙◌, subst}
 use Rattle.crossbeam_utils.specs.Seq.{cell_view}
 use Rattle.wp_model.specs.Controller as controller
 use Rattle.wp_model.specs.Controller.{look}
@@ -10,18 +10,18 @@ use Rattle.write_controller.proofs.Moves.{looks_turn}
 use Rattle.write_controller.proofs.Tellings.{made_client, made_view, made_stop, made_slow, made_ends, ends_told}
 use Rattle.write_controller.proofs.controller.Controller.look.Goals as goal
 
-pub load_as-found-requires : goal.load_as-found-requires
-load_as-found-requires g c =
+pub load-found-requires : goal.load-found-requires
+load-found-requires g c =
     let own = c.requires.own in
-    (search rules, (search rules, (own.cell, looks_turn _ _ _ _ own.view)))
+    record { cell = own.cell; rule = looks_turn _ _ _ _ own.view }
 
 pub returns-clause-own : goal.returns-clause-own
 returns-clause-own g c =
     let own = c.requires.own in
-    let told = c.load_as-found.ensures in
+    let told = c.load-found.ensures in
     let made = told.rule in (
       record {
-        cell = told.cell.0 ∙ own.cell;
+        cell = told.cell ∙ own.cell;
         view = made_view _ _ _ _ made;
         stopping = own.stopping ∙ sym (made_stop _ _ _ _ made);
         slowing = own.slowing ∙ sym (made_slow _ _ _ _ made);
@@ -32,8 +32,8 @@ returns-clause-own g c =
 pub returns-clause-asked : goal.returns-clause-asked
 returns-clause-asked g c =
     let old = c.args.pass.now in
-    let told = c.load_as-found.ensures in
-    ends_told (client_of old) (seen_by old) look (look_at (numbers_of c.load_as-found.result) look) (look_of c.new.result) (history_of (seen_in (cell_view c.load_as-found.new.pass))) c.new.ensures (made_ends _ _ _ _ told.rule)
+    let told = c.load-found.ensures in
+    ends_told (client_of old) (seen_by old) look (look_at (numbers_of c.load-found.result) look) (look_of c.new.result) (history_of (seen_in (cell_view c.load-found.new.seat))) c.new.ensures (made_ends _ _ _ _ told.rule)
 
 pub returns-clause-stopped : goal.returns-clause-stopped
-returns-clause-stopped g c = λ holds. subst (λ (l : controller.Look). 1 ≤ l.stops) (sym c.new.ensures) (c.load_as-found.ensures.rule.own_stop holds)
+returns-clause-stopped g c = λ holds. subst (λ (l : controller.Look). 1 ≤ l.stops) (sym c.new.ensures) (c.load-found.ensures.rule.own_stop holds)

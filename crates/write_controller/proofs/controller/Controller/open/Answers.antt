@@ -1,4 +1,4 @@
-use Rattle.std.proofs.Common.{◌≡◌, ◌+◌, false, List, [], length, rules, arith, refl, sym, ap, ◌∙◌}
+use Rattle.std.proofs.Common.{◌≡◌, ◌+◌, false, List, [], length, arith, refl, sym, ap, ◌∙◌}
 use Rattle.wp_model.specs.Tokens.{tokens_of, holds_stop, holds_slow}
 use Rattle.crossbeam_utils.specs.Seq.{cell_view}
 use Rattle.write_controller.specs.declared.pass.Pass.{Pass}
@@ -13,20 +13,20 @@ loop-known-init g c =
     let empty = c.in_ok-passes.ensures.items in
     (ap length empty, c.in_ok-cell.ensures.0, c.in_ok-cell.ensures.1, λ i p e. absurd (get_none _ p i empty e))
 
-pub split_pass-seat-requires : goal.split_pass-seat-requires
-split_pass-seat-requires g c =
+pub split-seat-requires : goal.split-seat-requires
+split-seat-requires g c =
     let i = c.loop-known.invariant in
-    (search rules, (search rules, (i.1, cuts _ c.loop-known._known (omega (arith, c.loop-known-test.true, c.requires.clients.1)) _ i.2)))
+    record { cell = i.1; rule = cuts _ c.loop-known._known (omega (arith, c.loop-known-test.true, c.requires.clients.1)) _ i.2 }
 
 pub loop-known-preserved : goal.loop-known-preserved
 loop-known-preserved g c =
     let i = c.loop-known.invariant in
     let items = c.in_ok-push.ensures.items in
-    let cut = c.split_pass-seat.ensures in
+    let cut = c.split-seat.ensures in
     let passes : List Pass = c.loop-known.passes.items in
-    let pushed : Pass = record { seat = c.split_pass-seat.result; stopping = false; slowing = false } in (
+    let pushed : Pass = record { seat = c.split-seat.result; stopping = false; slowing = false } in (
       length_snoc passes _ pushed c.loop-known._known items i.0,
-      cut.kept.0.0 ∙ i.1,
+      cut.kept.0 ∙ i.1,
       fewer_is c.loop-known._known _ _ cut.kept.1 i.2,
       each_snoc
           (λ j (r : Pass). (r.seat.table_id ≡ c.in_ok-cell.cell.table.shared.table_id) × (cell_view r.seat ≡ client_view (j + 1) []) × (r.stopping ≡ false) × (r.slowing ≡ false))

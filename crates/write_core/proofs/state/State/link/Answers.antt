@@ -24,9 +24,9 @@ use Rattle.write_core.specs.Mirrors.{IsClient, AreClients, AreWriters, IsLine, I
 use Rattle.core_plans.specs.Ahead.{IsAhead, added_between, commit_of}
 use Rattle.write_core.proofs.Events.{cannot_come, has_come}
 use Rattle.write_core.proofs.ClientLemmas.{clients_set, get_some, client_of}
-use Rattle.write_core.proofs.ReadEvents.{line_within, fewer_left, lines_after, more_room}
+use Rattle.write_core.proofs.ReadEvents.{nobody_at, line_within, fewer_left, lines_after, more_room}
 use Rattle.write_core.proofs.SmallLemmas.{commit_small}
-use Rattle.write_core.proofs.LinkEvents.{commit_is, not_commit, records_at, lines_less, map_push, line_push, writers_push}
+use Rattle.write_core.proofs.LinkEvents.{link_waits, commit_is, not_commit, records_at, lines_less, map_push, line_push, writers_push}
 use Rattle.write_core.proofs.state.State.link.Goals as goal
 
 -- a writer of these records without an answer, and an item of this size
@@ -35,6 +35,53 @@ writer_of d how records = record { client = d; options = how; records = records;
 
 abbrev sized : WriteOptions → ℕ → Item
 sized how n = record { size = n; sync = how.sync; no_log = how.no_log; no_slowdown = how.no_slowdown }
+
+pub returns-in_default-clause-steps : goal.returns-in_default-clause-steps
+returns-in_default-clause-steps c = λ o s is_core m.
+    let r = c.args.self.now in
+    let none : core.client_at s c.args.client ≡ None = nobody_at s (vec_len r.plans) c.args.client (omega (arith, m.clients.plan_each, r.plans.ok.0)) c.in_default.ensures in
+    cannot_come _ o s r (ap (event.link o s c.args.client) none) m
+
+pub returns-in_default-clause-unchanged : goal.returns-in_default-clause-unchanged
+returns-in_default-clause-unchanged c = λ e. refl
+
+pub returns-in_default-clause-plans : goal.returns-in_default-clause-plans
+returns-in_default-clause-plans c = refl
+
+pub invariant_of-self : goal.invariant_of-self
+invariant_of-self c =
+    let r = c.args.self.now in
+    record { one_item_each = r.one_item_each; groups_wait = r.groups_wait; one_seat_each = r.one_seat_each; one_mark_each = r.one_mark_each; one_done_each = r.one_done_each; assigned_fits = r.assigned_fits; entries_counted = r.entries_counted }
+
+pub returns-in_default-next_call-clause-steps : goal.returns-in_default-next_call-clause-steps
+returns-in_default-next_call-clause-steps c = λ o s is_core m.
+    let r = c.args.self.now in
+    let d : ℕ = c.args.client in
+    let plans = r.plans.items in
+    let place : ℕ = c.in-Some.place in
+    let number : d ≡ place + 1 = omega (arith, c.in-Some.ensures) in
+    let few : place < length plans = omega (arith, c.in-Some.ensures, r.plans.ok.0) in
+    let known : place < length s.clients = omega (arith, few, m.clients.plan_each) in
+    let at = get_some s.clients place known in
+    let there : core.client_at s d ≡ Some at.0 = client_of s d place at.0 number at.1 in
+    let plan = c.index.result.now in
+    let seat = c.index-2.result.now in
+    let plan_there : slice_get plans place ≡ Some plan = slice_get_read plans (vec_len r.plans) place plan r.plans.ok.0 (omega (arith, c.in-Some.ensures)) c.index.ensures in
+    let seat_there : slice_get r.seats.items place ≡ Some seat = slice_get_read r.seats.items (vec_len r.seats) place seat r.seats.ok.0 (omega (arith, c.in-Some.ensures, r.one_seat_each)) c.index-2.ensures in
+    let busy : at.0.idle ≡ false = c.in_default-next_call.ensures at.0 (m.clients.each place plan seat at.0 plan_there seat_there at.1) in
+    cannot_come _ o s _ (link_waits o s d at.0 there busy) (record { options = m.options; clients = m.clients; line = m.line; writers = m.writers; table = m.table; leaving = m.leaving; entries = m.entries; groups = m.groups; assigned = m.assigned; log_failed = m.log_failed; last = m.last; room = record { linked = m.room.linked; items = m.room.items; second = m.room.second; entries = m.room.entries; groups = m.room.groups; group_room = m.room.group_room } })
+
+pub returns-in_default-next_call-clause-plans : goal.returns-in_default-next_call-clause-plans
+returns-in_default-next_call-clause-plans c = refl
+
+pub returns-in_default-commit_at-clause-plans : goal.returns-in_default-commit_at-clause-plans
+returns-in_default-commit_at-clause-plans c = refl
+
+pub returns-in-Some-refusal_at_once-clause-plans : goal.returns-in-Some-refusal_at_once-clause-plans
+returns-in-Some-refusal_at_once-clause-plans c = refl
+
+pub returns-in-None-clause-plans : goal.returns-in-None-clause-plans
+returns-in-None-clause-plans c = refl
 
 pub returns-in_default-commit_at-clause-steps : goal.returns-in_default-commit_at-clause-steps
 returns-in_default-commit_at-clause-steps c = λ o s is_core m.

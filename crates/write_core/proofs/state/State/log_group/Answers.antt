@@ -8,7 +8,7 @@ use Rattle.write_core.specs.declared.writer.Writer.{Writer}
 use Rattle.write_core.specs.Shown.{shown_writer, shown_entry}
 use Rattle.write_core.specs.Mirrors.{lines_left}
 use Rattle.write_core.specs.Leads.{leads_front}
-use Rattle.write_core.proofs.Events.{first_fails, both_hold}
+use Rattle.write_core.proofs.Events.{first_fails, second_fails, both_hold}
 use Rattle.write_core.proofs.LogEvents.{hand_of, leads_within, leads_some, built_parts, first_at, no_writer}
 use Rattle.write_core.proofs.HandRuns.{log_group_is, hand_got, none_shown, some_shown, unlogged_alike, none_more, built_unanswered, built_shown, built_has_group, size_of_group}
 use Rattle.write_core.proofs.OrdinalLemmas.{counts_after, rest_is}
@@ -19,6 +19,29 @@ pub returns-then-not-has_built-clause-steps : goal.returns-then-not-has_built-cl
 returns-then-not-has_built-clause-steps c = λ o s is_core m.
     let r = c.args.self.now in
     first_fails _ _ _ o _ s r (log_group_is o r s c.args.client m) (sym c.has_built.ensures ∙ c.if-not-has_built.true) m
+
+pub returns-then-not-has_built-clause-unchanged : goal.returns-then-not-has_built-clause-unchanged
+returns-then-not-has_built-clause-unchanged c = λ e. refl
+
+pub returns-then-not-has_built-clause-plans : goal.returns-then-not-has_built-clause-plans
+returns-then-not-has_built-clause-plans c = refl
+
+pub returns-then-self-clause-steps : goal.returns-then-self-clause-steps
+returns-then-self-clause-steps c = λ o s is_core m.
+    let r = c.args.self.now in
+    second_fails _ _ _ o _ s r (log_group_is o r s c.args.client m) (ap not c.if-self.true) m
+
+pub returns-then-self-clause-unchanged : goal.returns-then-self-clause-unchanged
+returns-then-self-clause-unchanged c = λ e. refl
+
+pub returns-then-self-clause-plans : goal.returns-then-self-clause-plans
+returns-then-self-clause-plans c = refl
+
+pub returns-then-given-eq0-clause-plans : goal.returns-then-given-eq0-clause-plans
+returns-then-given-eq0-clause-plans c = c.leave_hand.ensures.plans
+
+pub returns-clause-plans : goal.returns-clause-plans
+returns-clause-plans c = refl
 
 pub returns-then-given-eq0-clause-steps : goal.returns-then-given-eq0-clause-steps
 returns-then-given-eq0-clause-steps c = λ o s is_core m.
@@ -136,3 +159,39 @@ invariant_of-self-2-clause-entries_counted c =
     counts_after r.accepted.items (vec_len r.accepted) c.count_entries.new.counts c.deref_mut-2.result.now r.entries.items es.items _ (vec_len r.entries) c.len-before.result
     r.accepted.ok.0 c.deref_mut-2.ensures.value (omega (arith, c.count_entries.auto.counts)) c.give_runs-self.ensures.front (rest_is c.deref-2.result.now es.items c.len-before.result c.deref-2.ensures.value) c.len-before.ensures
     r.entries_counted (omega (arith, es.ok.0, c.len.ensures)) c.count_entries.ensures
+
+pub invariant_of-self-clause-one_item_each : goal.invariant_of-self-clause-one_item_each
+invariant_of-self-clause-one_item_each c = c.args.self.now.one_item_each
+
+pub invariant_of-self-clause-groups_wait : goal.invariant_of-self-clause-groups_wait
+invariant_of-self-clause-groups_wait c = c.args.self.now.groups_wait
+
+pub invariant_of-self-clause-one_seat_each : goal.invariant_of-self-clause-one_seat_each
+invariant_of-self-clause-one_seat_each c = c.args.self.now.one_seat_each
+
+pub invariant_of-self-clause-one_mark_each : goal.invariant_of-self-clause-one_mark_each
+invariant_of-self-clause-one_mark_each c = c.args.self.now.one_mark_each
+
+pub invariant_of-self-clause-one_done_each : goal.invariant_of-self-clause-one_done_each
+invariant_of-self-clause-one_done_each c = c.args.self.now.one_done_each
+
+pub invariant_of-self-clause-assigned_fits : goal.invariant_of-self-clause-assigned_fits
+invariant_of-self-clause-assigned_fits c = c.give_runs-self.ensures.fits
+
+pub invariant_of-self-2-clause-one_item_each : goal.invariant_of-self-2-clause-one_item_each
+invariant_of-self-2-clause-one_item_each c = c.args.self.now.one_item_each
+
+pub invariant_of-self-2-clause-groups_wait : goal.invariant_of-self-2-clause-groups_wait
+invariant_of-self-2-clause-groups_wait c = c.args.self.now.groups_wait
+
+pub invariant_of-self-2-clause-one_seat_each : goal.invariant_of-self-2-clause-one_seat_each
+invariant_of-self-2-clause-one_seat_each c = c.args.self.now.one_seat_each
+
+pub invariant_of-self-2-clause-one_mark_each : goal.invariant_of-self-2-clause-one_mark_each
+invariant_of-self-2-clause-one_mark_each c = c.args.self.now.one_mark_each
+
+pub invariant_of-self-2-clause-one_done_each : goal.invariant_of-self-2-clause-one_done_each
+invariant_of-self-2-clause-one_done_each c = c.args.self.now.one_done_each
+
+pub invariant_of-self-2-clause-assigned_fits : goal.invariant_of-self-2-clause-assigned_fits
+invariant_of-self-2-clause-assigned_fits c = c.give_runs-self.ensures.fits

@@ -10,7 +10,19 @@ use Rattle.write_core.specs.Shown.{shown_writer, shown_entry, cut, total}
 use Rattle.write_core.specs.Mirrors.{IsClientOf, lines_left}
 use Rattle.write_core.proofs.OpeningLemmas.{fresh_clients, all_left, nobody_done}
 use Rattle.write_core.proofs.ShowsLemmas.{shows}
+use Rattle.write_core.proofs.OrdinalLemmas.{counts_none}
 use Rattle.write_core.proofs.state.State.new.Goals as goal
+
+pub invariant_of-result : goal.invariant_of-result
+invariant_of-result c = record {
+  one_item_each = omega (arith, c.in_ok-linked.ensures.len, c.in_ok-items.ensures.len);
+  groups_wait = omega arith;
+  one_seat_each = omega (arith, c.in_ok-seats.ensures.len, ap length c.deref-2.ensures.value, c.args.plans.ok.0);
+  one_mark_each = omega (arith, c.in_ok-marks.ensures.len, c.len.ensures);
+  one_done_each = omega (arith, c.in_ok-done.ensures.len, c.len-2.ensures);
+  assigned_fits = c.requires.last_fits;
+  entries_counted = counts_none c.in_ok-accepted.accepted.items c.in_ok-entries.entries.items c.len-3.result c.in_ok-accepted.ensures.items c.in_ok-entries.ensures.items;
+}
 
 pub returns-clause-shows : goal.returns-clause-shows
 returns-clause-shows c =
@@ -55,3 +67,6 @@ returns-clause-shows c =
         group_room = omega (arith, c.in_ok-entries.ensures.exact, c.in_ok-groups.ensures.exact);
       };
     })
+
+pub returns-clause-plans : goal.returns-clause-plans
+returns-clause-plans c = refl

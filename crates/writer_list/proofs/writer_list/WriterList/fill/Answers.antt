@@ -1,7 +1,8 @@
 use Rattle.std.proofs.Common.{ℕ, List, [], ◌∷◌, sym, ap, ◌∙◌, subst, refl, arith, length, length-append}
 use Rattle.atomic_table.specs.Table.{rest, turned}
-use Rattle.list_rule.specs.declared.content.Content.TheVariants.{Told}
-use Rattle.writer_list.proofs.Fills.{Filled, fills_first, on_top, fills_more}
+use Rattle.list_rule.specs.declared.content.Content.TheVariants.{Empty, Told}
+use Rattle.list_rule.proofs.Chains.{fronted}
+use Rattle.writer_list.proofs.Fills.{Filled, fills_first, on_top, same_front, fills_more}
 use Rattle.writer_list.proofs.writer_list.WriterList.fill.Goals as goal
 
 pub loop-i-init : goal.loop-i-init
@@ -15,6 +16,18 @@ loop-i-init g c = record {
   replies_room = refl;
   laid = fills_first c.args.replies.now.items c.args.members.now.items c.args.writer.now.seat.me.1 c.requires.room.1 c.requires.held;
 }
+
+pub exchange-requires : goal.exchange-requires
+exchange-requires g c =
+    let v = c.loop-i.invariant in let k : ℕ = c.in-Some.member in
+    let top = on_top c.args.replies.now.items c.loop-i.replies.items c.loop-i.members.items c.loop-i.writer.seat.me.1 v.laid c.pop.new.self.items k c.in-Some.reply c.in-Some.ensures.items in
+    (v.table ∙ c.requires.seat, (Empty, fronted c.loop-i.writer.seat.me.1 k Empty _ top))
+
+pub unreachable-requires-in_default-exchange : goal.unreachable-requires-in_default-exchange
+unreachable-requires-in_default-exchange g c =
+    let v = c.loop-i.invariant in let k : ℕ = c.in-Some.member in
+    let top = on_top c.args.replies.now.items c.loop-i.replies.items c.loop-i.members.items c.loop-i.writer.seat.me.1 v.laid c.pop.new.self.items k c.in-Some.reply c.in-Some.ensures.items in
+    c.in_default-exchange.not-Empty (same_front k c.exchange.result Empty _ _ (sym c.exchange.ensures.2 ∙ top))
 
 pub loop-i-preserved : goal.loop-i-preserved
 loop-i-preserved g c =

@@ -4,7 +4,7 @@ use Rattle.list_rule.specs.declared.view.Stage.TheVariants.{Leading}
 use Rattle.list_rule.specs.Plays.{At, taking}
 use Rattle.list_rule.specs.Rule.{asks_for}
 use Rattle.writer_list.specs.Roles.{NextIs}
-use Rattle.writer_list.proofs.Gathers.{Gathered, gathers, stops, stops_empty, stops_full, next_is, next_range, goes_on, top, no_items}
+use Rattle.writer_list.proofs.Gathers.{Gathered, gathers, stops, stops_empty, stops_full, next_is, next_range, goes_on, top, no_items, fits_small}
 use Rattle.writer_list.proofs.writer_list.WriterList.gather.Goals as goal
 
 pub loop-step-init : goal.loop-step-init
@@ -49,6 +49,10 @@ overflow_cast-by g c =
     let v = c.loop-step.invariant in let n : ℕ = c.args.self.now.clients in let k : ℕ = c.args.writer.now.client in let z = c.args.self.now.sized in
     let r = next_range (asks_for g.Q.Itemized.item_of g.L.Ledger.lawful c.args.self.now.table.shared.key.about) n c.args.max c.args.leader k c.args.writer.now.seat.me c.loop-step.writer.seat.me c.loop-step.walk.items c.loop-step.asked.items c.loop-step.sum v.so_far c.pop.new.self.items c.in-Some.by c.in-Some.code c.in-Some.ensures.items in
     omega arith
+
+pub overflow_add-sum : goal.overflow_add-sum
+overflow_add-sum g c =
+    let fit = fits_small c.args.max c.args.leader c.loop-step.sum c.in-Some.code (sym c.is_next.ensures ∙ c.if-not-is_next.false) in let most = c.ranges.max in omega arith
 
 pub loop-step-preserved : goal.loop-step-preserved
 loop-step-preserved g c =
