@@ -31,6 +31,13 @@ gone_more settings client done told v before gone c r w after goes went = record
   went = went;
 }
 
+-- the commands before those that are left were answered, and the client was told so
+pub record HaveGone (settings : Settings) (client : ℕ) (commands left : List Command) (told : List Reply) (a : Account)
+    (pending : List Record) : Type 0 where
+  pub done : List Command
+  pub splits : done ++ left ≡ commands
+  pub gone : HasGone settings client done told a pending
+
 -- the laws of how a client's run ends
 abbrev pub EndsWhole : Settings → Type 0
 EndsWhole settings = (calls : List Call) (v : Account) (pending : List Record) (w : Account) → Went settings calls v pending → GivesBack v w

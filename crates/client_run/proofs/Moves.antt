@@ -10,12 +10,10 @@ use Rattle.std.specs.declared.alloc.Global.{Global}
 use Rattle.std.proofs.lemmas.Bool.{cases_lt}
 use Rattle.wp_model.specs.Batch.{size_of_batch}
 use Rattle.wp_model.specs.Trace.{Settings}
-use Rattle.wp_model.specs.Calls as calls
+use Rattle.wp_model.specs.Calls.{Command, Call}
 use Rattle.write_batch.specs.Contents.{Contents}
-use Rattle.client_calls.specs.declared.command.Command.{Command}
 use Rattle.client_calls.specs.declared.entry.Entry.{Entry}
 use Rattle.client_calls.specs.declared.reply.Reply.{Reply}
-use Rattle.client_calls.specs.Commands.{command_of}
 use Rattle.client_calls.specs.Shows.{ShowsReplies}
 use Rattle.client_script.specs.Scripts.{additions_of}
 use Rattle.account_model.specs.Accounts.{Account}
@@ -25,15 +23,15 @@ use Rattle.client_run.specs.declared.jobs.Job.{Job}
 use Rattle.client_run.specs.Answers.{ShowsEntries}
 use Rattle.client_run.specs.Transcripts.{HasTold}
 use Rattle.client_run.specs.Parts.{client_of, replies_of, accepted_of}
-use Rattle.client_run.specs.Jobs.{commands_in, FitBatches, AreNew, HaveTold, HaveEntries, IsRoom, AreReady, AreDone}
+use Rattle.client_run.specs.Jobs.{FitBatches, AreNew, HaveTold, HaveEntries, IsRoom, AreReady, AreDone}
 use Rattle.client_run.proofs.Lists.{all_at}
 
 below_or_at : (i n : ℕ) → i < n + 1 → (i < n) ⊎ (i ≡ n)
 below_or_at i n h = elim (cases_lt i n) [ inl lt ↦ inl lt | inr ge ↦ inr (omega arith) ]
 
 -- one more list with room
-pub room_more : {X : Type 0} (script : List (Vec Command Global)) (room : List (Vec X Global)) (commands : Vec Command Global) (one : Vec X Global)
-    → IsRoom script room → one.items ≡ [] → vec_len one ≡ 0 → vec_len commands ≤ vec_capacity one → IsRoom (script ++ commands ∷ []) (room ++ one ∷ [])
+pub room_more : {X : Type 0} (script : List (List Command)) (room : List (Vec X Global)) (commands : List Command) (one : Vec X Global)
+    → IsRoom script room → one.items ≡ [] → vec_len one ≡ 0 → length commands ≤ vec_capacity one → IsRoom (script ++ commands ∷ []) (room ++ one ∷ [])
 room_more script room commands one so_far none no_items enough =
     let count = so_far.count in
     let longer : length (script ++ commands ∷ []) ≡ length script + 1 = length-append script (commands ∷ []) in
@@ -59,9 +57,9 @@ map_both : {A B D : Type 0} (f : B → D) (h : A → B) (xs : List A) → map f 
 map_both f h [] = refl
 map_both f h (x ∷ xs) = ap (λ ys. f (h x) ∷ ys) (map_both f h xs)
 
-module _ {C : Type 0} (belongs : C → Type 0) (account : C → Account) (settings : Settings) (script : List (Vec Command Global)) where
+module _ {C : Type 0} (belongs : C → Type 0) (account : C → Account) (settings : Settings) (script : List (List Command)) where
   pub ready_all : (clients : List C) (replies : List (Vec Reply Global)) (accepted : List (Vec (Entry Contents) Global)) (jobs : List (Job C))
-      → AreOurs belongs account settings.clients clients → AreNew account settings.start clients → length script ≡ settings.clients → length script < 2 ^ 32 → FitBatches (commands_in script)
+      → AreOurs belongs account settings.clients clients → AreNew account settings.start clients → length script ≡ settings.clients → length script < 2 ^ 32 → FitBatches script
       → IsRoom script replies → IsRoom script accepted
       → map client_of jobs ≡ clients → map replies_of jobs ≡ replies → map accepted_of jobs ≡ accepted → AreReady belongs account settings script jobs
   ready_all clients replies accepted jobs ours new many few fit for_replies for_accepted from_clients from_replies from_accepted = record {
@@ -82,8 +80,7 @@ module _ {C : Type 0} (belongs : C → Type 0) (account : C → Account) (settin
           new = new.each i j.client at;
           none = (no_replies.0, no_batches.0);
           empty = (no_replies.1, no_batches.1);
-          fits = λ v. subst (λ (cs : List calls.Command). size_of_batch (additions_of cs) ≤ 16777216) (get_or-map (λ (cs : Vec Command Global). map command_of cs.items) script i v)
-              (all_at (λ (cs : List calls.Command). size_of_batch (additions_of cs) ≤ 16777216) (commands_in script) i (map command_of v.items) fit (let same = length-map script (λ (cs : Vec Command Global). map command_of cs.items) in omega (arith, inside, same)));
+          fits = λ v. all_at (λ (cs : List Command). size_of_batch (additions_of cs) ≤ 16777216) script i v fit inside;
           room = λ v. (rw told at (for_replies.fits i d.replies v inside), rw taken at (for_accepted.fits i d.accepted v inside));
         };
   }
@@ -120,24 +117,24 @@ module _ {C : Type 0} (belongs : C → Type 0) (account : C → Account) (settin
       (zip_each (λ (v : Vec (Entry Contents) Global) (a : Account). ShowsEntries v.items a.mine) jobs accepted_of (λ (j : Job C). account (client_of j)) (λ i d less. (done.each i d less).accepted))
 
   -- the transcripts of the clients from the one behind the number `n` on
-  record Collected (n : ℕ) (jobs : List (Job C)) (rest : List (Vec Command Global)) : Type 0 where
-    pub transcripts : List (List calls.Call)
+  record Collected (n : ℕ) (jobs : List (Job C)) (rest : List (List Command)) : Type 0 where
+    pub transcripts : List (List Call)
     pub count : length transcripts ≡ length rest
     pub show : AllZip (λ v. ShowsReplies v.items) (map replies_of jobs) transcripts
-    pub each : (i k : ℕ) (commands : List calls.Command) (made : List calls.Call) (a : Account) → k ≡ n + i + 1
-        → slice_get (commands_in rest) i ≡ Some commands → slice_get transcripts i ≡ Some made → slice_get (map account (map client_of jobs)) i ≡ Some a
+    pub each : (i k : ℕ) (commands : List Command) (made : List Call) (a : Account) → k ≡ n + i + 1
+        → slice_get rest i ≡ Some commands → slice_get transcripts i ≡ Some made → slice_get (map account (map client_of jobs)) i ≡ Some a
         → HasRun settings k commands made a
 
-  same_run : (k l : ℕ) (commands some : List calls.Command) (made own : List calls.Call) (a b : Account) → k ≡ l → Some some ≡ Some commands → Some own ≡ Some made → Some b ≡ Some a
+  same_run : (k l : ℕ) (commands some : List Command) (made own : List Call) (a b : Account) → k ≡ l → Some some ≡ Some commands → Some own ≡ Some made → Some b ≡ Some a
       → HasRun settings l some own b → HasRun settings k commands made a
   same_run k l commands some made own a b is e f h run =
       let e' : some ≡ commands = cc e in let f' : own ≡ made = cc f in let h' : b ≡ a = cc h in rw (is, ← e', ← f', ← h') run
 
-  abbrev TellsEach : ℕ → List (Job C) → List (Vec Command Global) → Type 0
-  TellsEach n jobs rest = (i k : ℕ) (d : Job C) (v : Vec Command Global) → i < length jobs → k ≡ n + i + 1
-      → HasTold settings k (map command_of (get_or rest i v).items) (get_or jobs i d).replies.items (account (get_or jobs i d).client)
+  abbrev TellsEach : ℕ → List (Job C) → List (List Command) → Type 0
+  TellsEach n jobs rest = (i k : ℕ) (d : Job C) (v : List Command) → i < length jobs → k ≡ n + i + 1
+      → HasTold settings k (get_or rest i v) (get_or jobs i d).replies.items (account (get_or jobs i d).client)
 
-  collect : (n : ℕ) (jobs : List (Job C)) (rest : List (Vec Command Global)) → length jobs ≡ length rest → TellsEach n jobs rest → Collected n jobs rest
+  collect : (n : ℕ) (jobs : List (Job C)) (rest : List (List Command)) → length jobs ≡ length rest → TellsEach n jobs rest → Collected n jobs rest
   collect n [] [] same told = record { transcripts = []; count = refl; show = tt; each = λ i k commands made a is h f b. absurd (cc h) }
   collect n [] (s ∷ rest) same told = absurd (omega (arith, same))
   collect n (j ∷ jobs) [] same told = absurd (omega (arith, same))
@@ -151,26 +148,25 @@ module _ {C : Type 0} (belongs : C → Type 0) (account : C → Account) (settin
         each = λ i k commands made a is h f b. each_at first.calls others.transcripts first.run others.each i k commands made a is h f b;
       }
     where
-      each_at : (own : List calls.Call) (transcripts : List (List calls.Call)) → HasRun settings (n + 1) (map command_of s.items) own (account j.client)
-          → ((i k : ℕ) (commands : List calls.Command) (made : List calls.Call) (a : Account) → k ≡ n + 1 + i + 1
-          → slice_get (commands_in rest) i ≡ Some commands → slice_get transcripts i ≡ Some made → slice_get (map account (map client_of jobs)) i ≡ Some a → HasRun settings k commands made a)
-          → (i k : ℕ) (commands : List calls.Command) (made : List calls.Call) (a : Account) → k ≡ n + i + 1
-          → slice_get (commands_in (s ∷ rest)) i ≡ Some commands → slice_get (own ∷ transcripts) i ≡ Some made → slice_get (map account (map client_of (j ∷ jobs))) i ≡ Some a
+      each_at : (own : List Call) (transcripts : List (List Call)) → HasRun settings (n + 1) s own (account j.client)
+          → ((i k : ℕ) (commands : List Command) (made : List Call) (a : Account) → k ≡ n + 1 + i + 1
+          → slice_get rest i ≡ Some commands → slice_get transcripts i ≡ Some made → slice_get (map account (map client_of jobs)) i ≡ Some a → HasRun settings k commands made a)
+          → (i k : ℕ) (commands : List Command) (made : List Call) (a : Account) → k ≡ n + i + 1
+          → slice_get (s ∷ rest) i ≡ Some commands → slice_get (own ∷ transcripts) i ≡ Some made → slice_get (map account (map client_of (j ∷ jobs))) i ≡ Some a
           → HasRun settings k commands made a
-      each_at own transcripts run others zero k commands made a is h f b = same_run k (n + 1) commands (map command_of s.items) made own a (account j.client) (omega (arith, is)) h f b run
+      each_at own transcripts run others zero k commands made a is h f b = same_run k (n + 1) commands s made own a (account j.client) (omega (arith, is)) h f b run
       each_at own transcripts run others (suc i) k commands made a is h f b = others i k commands made a (omega (arith, is)) h f b
 
   pub done_told : (jobs : List (Job C)) (clients : List C) (replies : List (Vec Reply Global)) → AreDone belongs account settings script jobs → length jobs ≡ length script
-      → clients ≡ map client_of jobs → replies ≡ map replies_of jobs → HaveTold settings (commands_in script) replies (map account clients)
+      → clients ≡ map client_of jobs → replies ≡ map replies_of jobs → HaveTold settings script replies (map account clients)
   done_told jobs clients replies done same are replies_are =
       let all = collect 0 jobs script same (λ i k d v less is. (let here : k ≡ i + 1 = omega (arith, is) in rw here ((done.each i d less).told v))) in
-      let shorter = length-map script (λ (cs : Vec Command Global). map command_of cs.items) in
       rw (are, replies_are) (record {
         transcripts = all.transcripts;
         show = all.show;
         run = record {
-          clients = length-map (map client_of jobs) account ∙ (length-map jobs client_of ∙ (same ∙ sym shorter));
-          transcripts_of = all.count ∙ sym shorter;
+          clients = length-map (map client_of jobs) account ∙ (length-map jobs client_of ∙ same);
+          transcripts_of = all.count;
           each = λ i commands made a h f b. all.each i (i + 1) commands made a (omega arith) h f b;
         };
       })

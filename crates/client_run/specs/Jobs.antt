@@ -1,15 +1,13 @@
 -- What the jobs of all clients are before they run, and then.
-use Rattle.std.specs.Prelude.{◌≡◌, ℕ, ◌+◌, ◌^◌, ◌<◌, ◌≤◌, List, [], length, map, Some, slice_get, slice_index_or, Vec, vec_len, vec_capacity}
+use Rattle.std.specs.Prelude.{◌≡◌, ℕ, ◌+◌, ◌^◌, ◌<◌, ◌≤◌, List, [], length, Some, slice_get, slice_index_or, Vec, vec_len, vec_capacity}
 use Rattle.std.specs.List.{AllByRecursion, AllZip}
 use Rattle.std.specs.declared.alloc.Global.{Global}
 use Rattle.wp_model.specs.Batch.{size_of_batch}
 use Rattle.wp_model.specs.Trace.{Settings}
-use Rattle.wp_model.specs.Calls as calls
+use Rattle.wp_model.specs.Calls.{Command, Call}
 use Rattle.write_batch.specs.Contents.{Contents}
-use Rattle.client_calls.specs.declared.command.Command.{Command}
 use Rattle.client_calls.specs.declared.entry.Entry.{Entry}
 use Rattle.client_calls.specs.declared.reply.Reply.{Reply}
-use Rattle.client_calls.specs.Commands.{command_of}
 use Rattle.client_calls.specs.Shows.{ShowsReplies}
 use Rattle.client_script.specs.Scripts.{additions_of}
 use Rattle.account_model.specs.Accounts.{Account, newcomer}
@@ -18,12 +16,8 @@ use Rattle.client_run.specs.declared.jobs.Job.{Job}
 use Rattle.client_run.specs.Answers.{ShowsEntries}
 use Rattle.client_run.specs.Transcripts.{HasTold}
 
--- the commands of each client
-abbrev pub commands_in : List (Vec Command Global) → List (List calls.Command)
-commands_in script = map (λ cs. map command_of cs.items) script
-
 -- all that a client adds fits one batch of 16 MiB, even if no commit is accepted
-abbrev pub FitBatches : List (List calls.Command) → Type 0
+abbrev pub FitBatches : List (List Command) → Type 0
 FitBatches script = AllByRecursion (λ cs. size_of_batch (additions_of cs) ≤ 16777216) script
 
 -- no client has called anything
@@ -31,9 +25,9 @@ pub record AreNew {C : Type 0} (account : C → Account) (start : ℕ) (clients 
   pub each : (i : ℕ) (c : C) → slice_get clients i ≡ Some c → account c ≡ newcomer start (i + 1)
 
 -- the clients have run their parts of the script, and their replies show how
-pub record HaveTold (settings : Settings) (script : List (List calls.Command)) (replies : List (Vec Reply Global))
+pub record HaveTold (settings : Settings) (script : List (List Command)) (replies : List (Vec Reply Global))
     (accounts : List Account) : Type 0 where
-  pub transcripts : List (List calls.Call)
+  pub transcripts : List (List Call)
   pub show : AllZip (λ v. ShowsReplies v.items) replies transcripts
   pub run : HaveRun settings script transcripts accounts
 
@@ -42,15 +36,15 @@ abbrev pub HaveEntries : List (Vec (Entry Contents) Global) → List Account →
 HaveEntries accepted accounts = AllZip (λ v a. ShowsEntries v.items a.mine) accepted accounts
 
 -- a list with room for each client's replies, or batches, and nothing in it
-pub record IsRoom {X : Type 0} (script : List (Vec Command Global)) (room : List (Vec X Global)) : Type 0 where
+pub record IsRoom {X : Type 0} (script : List (List Command)) (room : List (Vec X Global)) : Type 0 where
   pub count : length room ≡ length script
   pub each : (i : ℕ) (d : Vec X Global) → i < length script
       → ((slice_index_or room i d).items ≡ []) × (vec_len (slice_index_or room i d) ≡ 0)
-  pub fits : (i : ℕ) (d : Vec X Global) (v : Vec Command Global) → i < length script
-      → vec_len (slice_index_or script i v) ≤ vec_capacity (slice_index_or room i d)
+  pub fits : (i : ℕ) (d : Vec X Global) (cs : List Command) → i < length script
+      → length (slice_index_or script i cs) ≤ vec_capacity (slice_index_or room i d)
 
 module _ {C : Type 0} (belongs : C → Type 0) (account : C → Account) (settings : Settings)
-    (script : List (Vec Command Global)) where
+    (script : List (List Command)) where
   -- the job of client i + 1, which has called nothing
   pub record IsReady (i : ℕ) (job : Job C) : Type 0 where
     pub within : i < length script
@@ -59,17 +53,16 @@ module _ {C : Type 0} (belongs : C → Type 0) (account : C → Account) (settin
     pub new : account job.client ≡ newcomer settings.start (i + 1)
     pub none : (job.replies.items ≡ []) × (job.accepted.items ≡ [])
     pub empty : (vec_len job.replies ≡ 0) × (vec_len job.accepted ≡ 0)
-    pub fits : (d : Vec Command Global)
-        → size_of_batch (additions_of (map command_of (slice_index_or script i d).items)) ≤ 16777216
-    pub room : (d : Vec Command Global) → (vec_len (slice_index_or script i d) ≤ vec_capacity job.replies)
-        × (vec_len (slice_index_or script i d) ≤ vec_capacity job.accepted)
+    pub fits : (d : List Command) → size_of_batch (additions_of (slice_index_or script i d)) ≤ 16777216
+    pub room : (d : List Command) → (length (slice_index_or script i d) ≤ vec_capacity job.replies)
+        × (length (slice_index_or script i d) ≤ vec_capacity job.accepted)
 
   -- the same job, run
   pub record IsDone (i : ℕ) (job : Job C) : Type 0 where
     pub ours : belongs job.client
     pub number : (account job.client).number ≡ i + 1
-    pub told : (d : Vec Command Global) → HasTold settings (i + 1) (map command_of (slice_index_or script i d).items)
-        job.replies.items (account job.client)
+    pub told : (d : List Command) → HasTold settings (i + 1) (slice_index_or script i d) job.replies.items
+        (account job.client)
     pub accepted : ShowsEntries job.accepted.items (account job.client).mine
 
   pub record AreReady (jobs : List (Job C)) : Type 0 where

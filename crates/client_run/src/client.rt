@@ -1,8 +1,7 @@
 //! A client: it runs its commands one after another.
 
-ghost use Rattle.std.specs.Prelude.{◌≡◌, ◌+◌, ◌<◌, ◌≤◌, [], ◌∷◌, ◌++◌, length, map, vec_len, vec_capacity};
+ghost use Rattle.std.specs.Prelude.{◌≡◌, ◌+◌, ◌<◌, ◌≤◌, [], ◌∷◌, ◌++◌, length, vec_len, vec_capacity};
 ghost use Rattle.wp_model.specs.Batch.{size_of_batch};
-ghost use Rattle.client_calls.specs.Commands.{command_of};
 ghost use Rattle.client_script.specs.Scripts.{additions_of};
 ghost use Rattle.account_model.specs.Accounts.{newcomer};
 ghost use Rattle.client_run.specs.Answers.{ShowsEntries};
@@ -10,7 +9,8 @@ ghost use Rattle.client_run.specs.Transcripts.{HasStopped, HasTold};
 
 use crate::answer::answer;
 use account_model::{calls_one_after_another, runs_end};
-use client_calls::{Command, Entry, Reply};
+use client_calls::{Entry, Reply};
+use command_list::CommandList;
 use engine_calls::{Engine, Gate};
 use std::alloc::Global;
 use std::sync::Wait;
@@ -25,19 +25,19 @@ pub fn run_client<E: Engine, G: Gate, R: Wait>(
     gate: &G,
     client: &mut E::Client,
     number: u32,
-    commands: &[Command],
+    commands: &CommandList,
     replies: &mut Vec<Reply>,
     accepted: &mut Vec<Entry<Batch>>,
 )
     requires belongs { E.belongs engine.now client.old }
     requires new { E.account client.old ≡ newcomer (E.settings engine.now).start number }
-    requires fits { size_of_batch (additions_of (map command_of commands.now)) ≤ 16777216 }
+    requires fits { size_of_batch (additions_of commands.now) ≤ 16777216 }
     requires none { (replies.old.items ≡ []) × (accepted.old.items ≡ []) }
     requires empty { (vec_len replies.old ≡ 0) × (vec_len accepted.old ≡ 0) }
     requires room { (length commands.now ≤ vec_capacity replies.old)
         × (length commands.now ≤ vec_capacity accepted.old) }
     ensures belongs { E.belongs engine.now client.new }
-    ensures told { HasTold (E.settings engine.now) number (map command_of commands.now) replies.new.items
+    ensures told { HasTold (E.settings engine.now) number commands.now replies.new.items
         (E.account client.new) }
     ensures accepted { ShowsEntries accepted.new.items (E.account client.new).mine }
 {
@@ -57,25 +57,25 @@ fn run_commands<E: Engine, G: Gate, R: Wait>(
     gate: &G,
     client: &mut E::Client,
     number: u32,
-    commands: &[Command],
+    commands: &CommandList,
     replies: &mut Vec<Reply>,
     accepted: &mut Vec<Entry<Batch>>,
 )
     requires belongs { E.belongs engine.now client.old }
     requires new { E.account client.old ≡ newcomer (E.settings engine.now).start number }
-    requires fits { size_of_batch (additions_of (map command_of commands.now)) ≤ 16777216 }
+    requires fits { size_of_batch (additions_of commands.now) ≤ 16777216 }
     requires none { (replies.old.items ≡ []) × (accepted.old.items ≡ []) }
     requires empty { (vec_len replies.old ≡ 0) × (vec_len accepted.old ≡ 0) }
     requires room { (length commands.now ≤ vec_capacity replies.old)
         × (length commands.now ≤ vec_capacity accepted.old) }
     ensures belongs { E.belongs engine.now client.new }
-    ensures stopped { HasStopped (E.settings engine.now) number (map command_of commands.now) replies.new.items
+    ensures stopped { HasStopped (E.settings engine.now) number commands.now replies.new.items
         (E.account client.new) }
     ensures accepted { ShowsEntries accepted.new.items (E.account client.new).mine }
 {
     calls_one_after_another();
     let mut pending = None;
-    for command in commands {
+    for command in commands.commands() {
         let Ok(told) = answer(
             rt,
             alloc,

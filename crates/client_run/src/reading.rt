@@ -8,7 +8,9 @@ ghost use Rattle.client_run.specs.Answers.{Answers};
 
 use account_model::reads_are_steps;
 use client_calls::Reply;
+use command_list::Words;
 use engine_calls::Engine;
+use std::alloc::Global;
 use std::sync::Wait;
 use wp_coding::{Bytes, Found};
 use wp_model::NoMemory;
@@ -47,18 +49,20 @@ fn value_of(found: Found) -> Option<Bytes>
 /// Reads several keys, all at one sequence.
 pub fn get_many<E: Engine, R: Wait>(
     rt: &R,
+    alloc: Global,
     engine: &E,
     client: &mut E::Client,
-    keys: &[Bytes],
+    keys: Words<'_>,
 ) -> Result<Reply, NoMemory>
     requires { E.belongs engine.now client.old }
     ensures belongs { E.belongs engine.now client.new }
     ensures answers { (pending : List Record) → Answers (E.settings engine.now) (E.account client.old) pending
-        (calls.many keys.now) result (E.account client.new) pending }
+        (calls.many keys.entry) result (E.account client.new) pending }
     ensures mine { (E.account client.new).mine ≡ (E.account client.old).mine }
 {
     reads_are_steps();
-    let reads = engine.get_many(rt, client, keys)?;
+    let keys = keys.copies(alloc)?;
+    let reads = engine.get_many(rt, client, keys.as_slice())?;
     Ok(Reply::FoundEach {
         at: reads.at,
         values: reads.values,

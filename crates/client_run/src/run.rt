@@ -2,12 +2,13 @@
 
 ghost use Rattle.std.specs.Prelude.{◌≡◌, ◌+◌, ◌<◌, ◌≤◌, ◌^◌, length, map, IfOk, IfErr};
 ghost use Rattle.account_model.specs.Closing.{AreOurs};
-ghost use Rattle.client_run.specs.Jobs.{commands_in, FitBatches, AreNew, HaveTold, HaveEntries};
+ghost use Rattle.client_run.specs.Jobs.{FitBatches, AreNew, HaveTold, HaveEntries};
 ghost use Rattle.client_run.specs.Jobs.{IsRoom, IsReady, IsDone, AreReady, AreDone};
 
 use crate::client::run_client;
 use crate::jobs::{Job, empty, fill};
-use client_calls::{Command, Entry, Reply};
+use client_calls::{Entry, Reply};
+use command_list::CommandList;
 use engine_calls::{Engine, Gate};
 use std::alloc::Global;
 use std::sync::Wait;
@@ -32,7 +33,7 @@ pub fn run_clients<E: Engine + Sync, G: Gate + Sync, R: Threads + Wait + Sync>(
     alloc: Global,
     engine: &E,
     mut clients: Vec<E::Client>,
-    script: &[Vec<Command>],
+    script: &[CommandList],
     gate: &G,
 ) -> Result<Transcripts<E::Client>, (Vec<E::Client>, NoMemory)>
 where
@@ -41,10 +42,10 @@ where
     requires new { AreNew E.account (E.settings engine.now).start clients.items }
     requires script { length script.now ≡ (E.settings engine.now).clients }
     requires few { length script.now < 2 ^ 32 }
-    requires fits { FitBatches (commands_in script.now) }
+    requires fits { FitBatches script.now }
     ensures ours { IfOk result (λ t. AreOurs (E.belongs engine.now) E.account (E.settings engine.now).clients
         t.clients.items) }
-    ensures run { IfOk result (λ t. HaveTold (E.settings engine.now) (commands_in script.now) t.replies.items
+    ensures run { IfOk result (λ t. HaveTold (E.settings engine.now) script.now t.replies.items
         (map E.account t.clients.items)) }
     ensures accepted { IfOk result (λ t. HaveEntries t.accepted.items (map E.account t.clients.items)) }
     ensures err { IfErr result (λ e. e.0 ≡ clients) }
@@ -70,7 +71,7 @@ where
 }
 
 /// Room for one item a command, for each client.
-fn room_for<X: Drop>(alloc: Global, script: &[Vec<Command>]) -> Result<Vec<Vec<X>>, NoMemory>
+fn room_for<X: Drop>(alloc: Global, script: &[CommandList]) -> Result<Vec<Vec<X>>, NoMemory>
     ensures { IfOk result (λ room. IsRoom script.now room.items) }
 {
     let mut all = Vec::new(alloc);
@@ -86,7 +87,7 @@ fn work_all<E: Engine + Sync, G: Gate + Sync, R: Threads + Wait + Sync>(
     alloc: Global,
     engine: &E,
     gate: &G,
-    script: &[Vec<Command>],
+    script: &[CommandList],
     jobs: &mut [Job<E::Client>],
 )
 where
@@ -112,7 +113,7 @@ fn work<E: Engine, G: Gate, R: Wait>(
     alloc: Global,
     engine: &E,
     gate: &G,
-    script: &[Vec<Command>],
+    script: &[CommandList],
     i: usize,
     job: &mut Job<E::Client>,
 )
@@ -126,7 +127,7 @@ fn work<E: Engine, G: Gate, R: Wait>(
         gate,
         &mut job.client,
         i as u32 + 1,
-        script[i].as_slice(),
+        &script[i],
         &mut job.replies,
         &mut job.accepted,
     );

@@ -1,5 +1,5 @@
 -- The parts of a text round a separator.
-use Rattle.std.proofs.Common.{◌≡◌, ℕ, ◌-◌, ◌+◌, ◌<◌, ◌≤◌, Bool, true, false, cond, eqb, ◌&&◌, List, ◌∷◌, [], length, take, drop, Some, None, Option, Err, is_some, option_copied, codes, Bor, refl, ◌∙◌, arith}
+use Rattle.std.proofs.Common.{◌≡◌, ℕ, ◌-◌, ◌+◌, ◌<◌, ◌≤◌, Bool, true, false, cond, eqb, List, ◌∷◌, [], length, take, drop, Some, None, Option, Err, is_some, option_copied, codes, Bor, refl, ◌∙◌, arith}
 use Rattle.std.specs.List.{list_all, slice_split, onto_first, position, position_or_len}
 use Rattle.std.specs.Str.{bytes_eq}
 use Rattle.wp_model.specs.declared.script.ScriptFault.TheVariants.{Form}
@@ -98,3 +98,9 @@ flags_read ws behind_sync behind_log rest sync no_log no_slowdown is_sync is_beh
 pub flags_read-more : (ws : List (List ℕ)) (rest : Option (Bor (List ℕ))) (sync no_log no_slowdown : Bool) → behind_word model.all_commit_flags ws ≡ left_of_commit sync no_log no_slowdown (parts_of 32 (option_copied rest)) → is_some rest ≡ true
     → behind_word model.all_commit_flags ws ≡ Err Form
 flags_read-more ws rest sync no_log no_slowdown is some = is ∙ no_word-more _ rest some
+
+-- nothing is left behind the flags
+pub flags_read-none : (ws : List (List ℕ)) (rest : Option (Bor (List ℕ))) (sync no_log no_slowdown : Bool) → behind_word model.all_commit_flags ws ≡ left_of_commit sync no_log no_slowdown (parts_of 32 (option_copied rest)) → is_some rest ≡ false
+    → behind_word model.all_commit_flags ws ≡ left_of_commit sync no_log no_slowdown []
+flags_read-none ws None sync no_log no_slowdown is none = is
+flags_read-none ws (Some text) sync no_log no_slowdown is none = cc

@@ -1,5 +1,5 @@
 -- Line after line of a script.
-use Rattle.std.proofs.Common.{◌≡◌, ℕ, ◌-◌, ◌+◌, ◌<◌, true, false, cond, List, ◌∷◌, [], ◌++◌, length, get_or, set, map, fold, Result, Ok, Err, refl, ap, sym, ◌∙◌, arith}
+use Rattle.std.proofs.Common.{◌≡◌, ℕ, ◌-◌, ◌+◌, ◌<◌, true, false, cond, List, ◌∷◌, [], ◌++◌, length, get_or, set, fold, Result, Ok, Err, refl, ap, sym, ◌∙◌, arith}
 use Rattle.std.specs.List.{enumerate_from}
 use Rattle.wp_model.specs.Calls.{Command}
 use Rattle.wp_model.specs.Script.{Script, Fault, Grammar, add_to_last, with_command, with_line, line_of, ◌>>=◌, after_line, at_line, without_empty_end, is_passed_over}
@@ -8,17 +8,17 @@ use Rattle.client_script.specs.declared.lines.LineError.TheVariants as error
 use Rattle.client_script.specs.Scripts.{IsFaultOf}
 use Rattle.client_script.specs.ScriptLines.{line_added, Reads, error_at}
 
--- a command behind those of the last client, where each client's commands are shown by f
-add_to_last-set : {X : Type 0} (f : X → List Command) (y : X) (ys : List X) (x d : X) (c : Command) → f x ≡ f (get_or (y ∷ ys) (length ys) d) ++ c ∷ [] → add_to_last (f y ∷ map f ys) c ≡ map f (set (y ∷ ys) (length ys) x)
-add_to_last-set f y [] x d c is = ap (λ cs. cs ∷ []) (sym is)
-add_to_last-set f y (z ∷ zs) x d c is = ap (λ rest. f y ∷ rest) (add_to_last-set f z zs x d c is)
+-- a command behind those of the last client
+add_to_last-set : (y : List Command) (ys : List (List Command)) (x d : List Command) (c : Command) → x ≡ get_or (y ∷ ys) (length ys) d ++ c ∷ [] → add_to_last (y ∷ ys) c ≡ set (y ∷ ys) (length ys) x
+add_to_last-set y [] x d c is = ap (λ (cs : List Command). cs ∷ []) (sym is)
+add_to_last-set y (z ∷ zs) x d c is = ap (λ (rest : List (List Command)). y ∷ rest) (add_to_last-set z zs x d c is)
 
--- a command behind those of the last client, at the end of a list that is known by its length
-pub with_command-set : {X : Type 0} (f : X → List Command) (xs : List X) (n : ℕ) (x d : X) (c : Command) → n ≡ length xs → 0 < n → f x ≡ f (get_or xs (n - 1) d) ++ c ∷ [] → with_command (map f xs) c ≡ Ok (map f (set xs (n - 1) x))
-with_command-set f [] n x d c len some is = absurd (omega arith)
-with_command-set f (y ∷ ys) n x d c len some is =
+-- the same at the end of a list that is known by its length
+pub with_command-set : (xs : List (List Command)) (n : ℕ) (x d : List Command) (c : Command) → n ≡ length xs → 0 < n → x ≡ get_or xs (n - 1) d ++ c ∷ [] → with_command xs c ≡ Ok (set xs (n - 1) x)
+with_command-set [] n x d c len some is = absurd (omega arith)
+with_command-set (y ∷ ys) n x d c len some is =
     let last : n - 1 ≡ length ys = omega arith in
-    rw last (ap Ok (add_to_last-set f y ys x d c (rw last at is)))
+    rw last (ap Ok (add_to_last-set y ys x d c (rw last at is)))
 
 -- a line behind others
 pub after_line-is : (g : Grammar) (script : Script) (n : ℕ) (l : List ℕ) → after_line g (Ok script) (n, l) ≡ at_line n (line_added g script l)

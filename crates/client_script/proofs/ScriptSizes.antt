@@ -1,16 +1,13 @@
 -- All that a client adds fits one batch, since each record is shorter than its line.
-use Rattle.std.proofs.Common.{suc, ◌/◌, ◌%◌, ◌*◌, Bool, true, false, cond, nat_lt, ◌≡◌, ℕ, ◌+◌, ◌<◌, ◌≤◌, List, [], ◌∷◌, ◌++◌, length, map, sum_by, Vec, ap, arith, length-append}
-use Rattle.std.specs.declared.alloc.Global.{Global}
+use Rattle.std.proofs.Common.{suc, ◌/◌, ◌%◌, ◌*◌, Bool, true, false, cond, nat_lt, ◌≡◌, ℕ, ◌+◌, ◌<◌, ◌≤◌, List, [], ◌∷◌, ◌++◌, length, sum_by, ap, arith, length-append}
 use Rattle.std.specs.List.{AllByRecursion}
 use Rattle.std.proofs.lemmas.Bool.{cond-true, lt-ltb}
 use Rattle.std.proofs.lemmas.List.{append-nil}
 use Rattle.std.proofs.lemmas.List.Sums.{sum_by-cons}
 use Rattle.wp_model.specs.Varint.{varint, varint_within}
 use Rattle.wp_model.specs.Batch.{Record, value, deletion, single_deletion, log_data, count_of, varstring, record_bytes, header, body, size_of_batch}
-use Rattle.client_calls.specs.declared.command.Command.{Command}
-use Rattle.client_calls.specs.declared.command.Command.TheVariants.{Put, Delete, SingleDelete, Note, Clear, Commit, Get, Many, Scan, Stop, Unstop, Slow, Unslow}
+use Rattle.wp_model.specs.Calls.{Command, add, clear, commit, get, many, scan, stop, unstop, slow, unslow}
 use Rattle.client_script.specs.declared.script.Script.{Script}
-use Rattle.client_calls.specs.Commands.{command_of}
 use Rattle.client_script.specs.declared.language.Language.{Language}
 use Rattle.client_script.specs.Languages.{IsCommandOf, HasCommandsOf}
 use Rattle.client_script.specs.Scripts.{additions_of, FitsBatches, line_len, lines_len, script_len, IsShort}
@@ -54,44 +51,44 @@ with_record r c cs rs line words rest = record {
 without_record : (c : Command) (cs : List Command) (rs : List Record) → IsWithin rs (lines_len cs) → IsWithin rs (lines_len (c ∷ cs))
 without_record c cs rs rest = record { lines = omega (arith, rest.lines, sum_by-cons line_len c cs); words = rest.words }
 
-within : (language : Language) (cs : List Command) → AllByRecursion (IsCommandOf language) cs → IsWithin (additions_of (map command_of cs)) (lines_len cs)
+within : (language : Language) (cs : List Command) → AllByRecursion (IsCommandOf language) cs → IsWithin (additions_of cs) (lines_len cs)
 within language [] short = record { lines = omega arith; words = omega arith }
-within language (Put key v ∷ cs) short =
+within language (add (value key v) ∷ cs) short =
     let k = word_len key short.0.0 in
     let w = word_len v short.0.1 in
-    with_record (value key v) (Put key v) cs _ (omega (arith, k, w, two_len 1 key v)) (omega (arith, k, w, two_len 1 key v)) (within language cs short.1)
-within language (Delete key ∷ cs) short =
+    with_record (value key v) (add (value key v)) cs _ (omega (arith, k, w, two_len 1 key v)) (omega (arith, k, w, two_len 1 key v)) (within language cs short.1)
+within language (add (deletion key) ∷ cs) short =
     let k = word_len key short.0 in
-    with_record (deletion key) (Delete key) cs _ (omega (arith, k, one_len 0 key)) (omega (arith, k, one_len 0 key)) (within language cs short.1)
-within language (SingleDelete key ∷ cs) short =
+    with_record (deletion key) (add (deletion key)) cs _ (omega (arith, k, one_len 0 key)) (omega (arith, k, one_len 0 key)) (within language cs short.1)
+within language (add (single_deletion key) ∷ cs) short =
     let k = word_len key short.0 in
-    with_record (single_deletion key) (SingleDelete key) cs _ (omega (arith, k, one_len 7 key)) (omega (arith, k, one_len 7 key)) (within language cs short.1)
-within language (Note text ∷ cs) short =
+    with_record (single_deletion key) (add (single_deletion key)) cs _ (omega (arith, k, one_len 7 key)) (omega (arith, k, one_len 7 key)) (within language cs short.1)
+within language (add (log_data text) ∷ cs) short =
     let k = word_len text short.0 in
-    with_record (log_data text) (Note text) cs _ (omega (arith, k, one_len 3 text)) (omega (arith, k, one_len 3 text)) (within language cs short.1)
-within language (Clear ∷ cs) short = without_record Clear cs _ (within language cs short.1)
-within language (Commit options ∷ cs) short = without_record (Commit options) cs _ (within language cs short.1)
-within language (Get key ∷ cs) short = without_record (Get key) cs _ (within language cs short.1)
-within language (Many keys ∷ cs) short = without_record (Many keys) cs _ (within language cs short.1)
-within language (Scan lo hi ∷ cs) short = without_record (Scan lo hi) cs _ (within language cs short.1)
-within language (Stop ∷ cs) short = without_record Stop cs _ (within language cs short.1)
-within language (Unstop ∷ cs) short = without_record Unstop cs _ (within language cs short.1)
-within language (Slow rate ∷ cs) short = without_record (Slow rate) cs _ (within language cs short.1)
-within language (Unslow ∷ cs) short = without_record Unslow cs _ (within language cs short.1)
+    with_record (log_data text) (add (log_data text)) cs _ (omega (arith, k, one_len 3 text)) (omega (arith, k, one_len 3 text)) (within language cs short.1)
+within language (clear ∷ cs) short = without_record clear cs _ (within language cs short.1)
+within language (commit options ∷ cs) short = without_record (commit options) cs _ (within language cs short.1)
+within language (get key ∷ cs) short = without_record (get key) cs _ (within language cs short.1)
+within language (many keys ∷ cs) short = without_record (many keys) cs _ (within language cs short.1)
+within language (scan lo hi ∷ cs) short = without_record (scan lo hi) cs _ (within language cs short.1)
+within language (stop ∷ cs) short = without_record stop cs _ (within language cs short.1)
+within language (unstop ∷ cs) short = without_record unstop cs _ (within language cs short.1)
+within language (slow rate ∷ cs) short = without_record (slow rate) cs _ (within language cs short.1)
+within language (unslow ∷ cs) short = without_record unslow cs _ (within language cs short.1)
 
 -- Many records are shorter than their lines by as much as a header has; few are short.
-client_fits : (language : Language) (cs : List Command) → AllByRecursion (IsCommandOf language) cs → lines_len cs ≤ 16777217 → size_of_batch (additions_of (map command_of cs)) ≤ 16777216
+client_fits : (language : Language) (cs : List Command) → AllByRecursion (IsCommandOf language) cs → lines_len cs ≤ 16777217 → size_of_batch (additions_of cs) ≤ 16777216
 client_fits language cs short lines =
-    let rs = additions_of (map command_of cs) in
+    let rs = additions_of cs in
     let small = within language cs short in
     omega (arith, small.lines, small.words, lines, length-append (header 0 (count_of rs)) (body rs))
 
-clients_fit : (language : Language) (clients : List (Vec Command Global)) → AllByRecursion (λ cs. AllByRecursion (IsCommandOf language) cs.items) clients → sum_by (λ cs. lines_len cs.items) clients ≤ 16777217
-    → AllByRecursion (λ cs. size_of_batch (additions_of cs) ≤ 16777216) (map (λ cs. map command_of cs.items) clients)
+clients_fit : (language : Language) (clients : List (List Command)) → AllByRecursion (AllByRecursion (IsCommandOf language)) clients → sum_by lines_len clients ≤ 16777217
+    → AllByRecursion (λ cs. size_of_batch (additions_of cs) ≤ 16777216) clients
 clients_fit language [] short lines = tt
 clients_fit language (cs ∷ rest) short lines =
-    let sum = sum_by-cons (λ (c : Vec Command Global). lines_len c.items) cs rest in
-    (client_fits language cs.items short.0 (omega (arith, lines, sum)), clients_fit language rest short.1 (omega (arith, lines, sum)))
+    let sum = sum_by-cons lines_len cs rest in
+    (client_fits language cs short.0 (omega (arith, lines, sum)), clients_fit language rest short.1 (omega (arith, lines, sum)))
 
 -- what is read of a text of 16 MiB
 pub fits_batches : (language : Language) (script : Script) → HasCommandsOf language script → script_len script ≤ 16777217 → FitsBatches script

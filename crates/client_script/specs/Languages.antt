@@ -3,12 +3,11 @@ use Rattle.std.specs.Prelude.{◌≡◌, Bool, true, false, List, [], ◌++◌, 
 use Rattle.std.specs.List.{AllByRecursion}
 use Rattle.wp_model.specs.Script as model
 use Rattle.wp_model.specs.Script.{Grammar, whole_grammar}
-use Rattle.client_calls.specs.declared.command.Command.{Command}
-use Rattle.client_calls.specs.declared.command.Command.TheVariants.{Stop, Unstop, Slow, Unslow}
+use Rattle.wp_model.specs.Calls.{Command, stop, unstop, slow, unslow}
 use Rattle.client_script.specs.declared.language.Language.{Language}
 use Rattle.client_script.specs.declared.language.Language.TheVariants.{Replay, Whole}
 use Rattle.client_script.specs.declared.script.Script.{Script}
-use Rattle.client_script.specs.Scripts.{IsClientsCommand}
+use Rattle.client_script.specs.Scripts.{commands_of, IsClientsCommand}
 
 -- whether the write controller's tokens are among its lines
 abbrev pub has_tokens : Language → Bool
@@ -25,13 +24,12 @@ grammar_of language = record whole_grammar { forms = model.client_forms ++ more_
 
 -- what a line of a language may say: a command that it has, its words short
 abbrev pub IsCommandOf : Language → Command → Type 0
-IsCommandOf language Stop = has_tokens language ≡ true
-IsCommandOf language Unstop = has_tokens language ≡ true
-IsCommandOf language (Slow rate) = has_tokens language ≡ true
-IsCommandOf language Unslow = has_tokens language ≡ true
+IsCommandOf language stop = has_tokens language ≡ true
+IsCommandOf language unstop = has_tokens language ≡ true
+IsCommandOf language (slow rate) = has_tokens language ≡ true
+IsCommandOf language unslow = has_tokens language ≡ true
 IsCommandOf language said = IsClientsCommand said
 
 -- each command is one that a line may say
 abbrev pub HasCommandsOf : Language → Script → Type 0
-HasCommandsOf language script =
-    AllByRecursion (λ cs. AllByRecursion (IsCommandOf language) cs.items) script.clients.items
+HasCommandsOf language script = AllByRecursion (AllByRecursion (IsCommandOf language)) (commands_of script)

@@ -2,6 +2,7 @@
 use Rattle.std.specs.Prelude.{◌≡◌, ℕ, List, Result, Ok, Err, if◌then◌else◌}
 use Rattle.std.specs.List.{list_all}
 use Rattle.wp_model.specs.declared.script.ScriptFault.TheVariants.{Form}
+use Rattle.wp_model.specs.Calls.{many}
 use Rattle.wp_model.specs.Script as model
 use Rattle.wp_model.specs.Script.{Grammar, section, command, line_of, with_line, ◌>>=◌}
 use Rattle.client_script.specs.declared.script.ScriptError.{ScriptError}
@@ -10,7 +11,7 @@ use Rattle.client_script.specs.declared.lines.Line.{Line}
 use Rattle.client_script.specs.declared.lines.Line.TheVariants as line
 use Rattle.client_script.specs.declared.lines.LineError.{LineError}
 use Rattle.client_script.specs.declared.lines.LineError.TheVariants.{Fault, NoMemory}
-use Rattle.client_calls.specs.Commands.{command_of}
+use Rattle.command_list.specs.Views.{command_of}
 use Rattle.client_script.specs.declared.language.Language.{Language}
 use Rattle.client_script.specs.Languages.{IsCommandOf}
 use Rattle.client_script.specs.ScriptWords.{alone}
@@ -20,16 +21,19 @@ use Rattle.client_script.specs.Scripts.{line_len}
 abbrev pub line_said : Line → model.Line
 line_said (line.Section n) = section n
 line_said (line.Command c) = command (command_of c)
+line_said (line.Many keys) = command (many keys)
 
 -- how long the line is if it adds a record, with its line feed
 abbrev pub said_len : Line → ℕ
 said_len (line.Section n) = 0
-said_len (line.Command c) = line_len c
+said_len (line.Command c) = line_len (command_of c)
+said_len (line.Many keys) = 0
 
 -- a command is one that a line of the language may say
 abbrev pub MayBeSaid : Language → Line → Type 0
 MayBeSaid language (line.Section n) = Unit {0}
-MayBeSaid language (line.Command c) = IsCommandOf language c
+MayBeSaid language (line.Command c) = IsCommandOf language (command_of c)
+MayBeSaid language (line.Many keys) = IsCommandOf language (many keys)
 
 -- What is read is what the definition gives, and so is a fault. Want of memory says nothing of the text.
 abbrev pub Reads : {A B : Type 0} → (A → B) → model.Read B → Result A LineError → Type 0

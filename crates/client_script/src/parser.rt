@@ -23,7 +23,7 @@
 ghost use Rattle.std.specs.Prelude.{◌≡◌, ◌+◌, ◌≤◌, Ok, length, IfOk, IfErr, OnOk};
 ghost use Rattle.wp_model.specs.Script as model;
 ghost use Rattle.wp_model.specs.Script.{script_of, whole_grammar, lines_read};
-ghost use Rattle.client_calls.specs.Commands.{command_of};
+ghost use Rattle.command_list.specs.Views.{command_of, HasShortWords};
 ghost use Rattle.client_script.specs.Languages.{grammar_of, IsCommandOf, HasCommandsOf};
 ghost use Rattle.client_script.specs.Scripts.{commands_of, IsFaultOf, FitsBatches, script_len, line_len};
 ghost use Rattle.client_script.specs.ScriptLines.{Reads, said_added, line_added};
@@ -32,7 +32,7 @@ use crate::language::Language;
 use crate::lines::{Line, LineError, is_passed_over, read_line};
 use crate::script::{Script, ScriptError};
 use crate::words::split_once;
-use client_calls::Command;
+use command_list::{CommandList, CommandView};
 use std::alloc::Global;
 use wp_model::ScriptFault;
 
@@ -147,6 +147,10 @@ pub fn add_said(
     match read_line(alloc, language, line)? {
         Line::Section(number) => add_section(alloc, script, number),
         Line::Command(command) => add_command(script, command),
+        Line::Many(keys) => {
+            let keys = keys.words();
+            add_command(script, CommandView::Many { keys })
+        }
     }
 }
 
@@ -166,18 +170,19 @@ fn add_section(alloc: Global, script: &mut Script, number: u64) -> Result<(), Li
     if number == CLIENT_LIMIT + 1 {
         return Err(LineError::Fault(ScriptFault::Clients));
     }
-    script.clients.push(Vec::new(alloc))?;
+    script.clients.push(CommandList::new(alloc))?;
     Ok(())
 }
 
 /// Adds a command to those of the last client.
-fn add_command(script: &mut Script, command: Command) -> Result<(), LineError>
+fn add_command(script: &mut Script, command: CommandView<'_>) -> Result<(), LineError>
+    requires { HasShortWords command }
     ensures script { Reads (λ _. commands_of script.new)
-        (model.with_command (commands_of script.old) (command_of command)) result }
+        (model.with_command (commands_of script.old) (command_of command.entry)) result }
     ensures few { OnOk result (length script.new.clients.items ≡ length script.old.clients.items) }
-    ensures len { OnOk result (script_len script.new ≡ script_len script.old + line_len command) }
-    ensures commands { (language : Language) → HasCommandsOf language script.old → IsCommandOf language command
-        → OnOk result (HasCommandsOf language script.new) }
+    ensures len { OnOk result (script_len script.new ≡ script_len script.old + line_len (command_of command.entry)) }
+    ensures commands { (language : Language) → HasCommandsOf language script.old
+        → IsCommandOf language (command_of command.entry) → OnOk result (HasCommandsOf language script.new) }
 {
     let Some(commands) = script.clients.last_mut() else {
         return Err(LineError::Fault(ScriptFault::Client));

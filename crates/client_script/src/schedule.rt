@@ -6,7 +6,7 @@
 //! `finish`, `publish`, `exit`, `complete` and `read`. Empty lines and comments are passed over there
 //! too.
 
-ghost use Rattle.std.specs.Prelude.{◌≡◌, ◌+◌, ◌≤◌, ◌==◌, [], Ok, Err, length, if◌then◌else◌, IfOk, IfErr, OnOk, option_copied};
+ghost use Rattle.std.specs.Prelude.{◌≡◌, ◌+◌, ◌≤◌, ◌==◌, [], Ok, Err, length, if◌then◌else◌, IfOk, IfErr, OnOk, drop, option_copied};
 ghost use Rattle.core_model.specs.Schedule as model;
 ghost use Rattle.wp_model.specs.Script.{words_of};
 ghost use Rattle.wp_model.specs.declared.script.ScriptFault.TheVariants.{Form};
@@ -197,38 +197,64 @@ fn client_alone(clients: usize, rest: Option<&[u8]>) -> Option<u32>
 fn event_named(word: &[u8], client: u32) -> Option<Event>
     ensures { result ≡ event_named event_words word.now client }
 {
-    let event = if word == b"link".as_slice() {
-        Event::Link(client)
-    } else if word == b"elect".as_slice() {
-        Event::Elect(client)
-    } else if word == b"build".as_slice() {
-        Event::Build(client)
-    } else if word == b"log".as_slice() {
-        Event::Log(client)
-    } else if word == b"fault".as_slice() {
-        Event::Fault(client)
-    } else if word == b"boundary".as_slice() {
-        Event::Boundary(client)
-    } else if word == b"second".as_slice() {
-        Event::Second(client)
-    } else if word == b"next".as_slice() {
-        Event::Next(client)
-    } else if word == b"launch".as_slice() {
-        Event::Launch(client)
-    } else if word == b"insert".as_slice() {
-        Event::Insert(client)
-    } else if word == b"finish".as_slice() {
-        Event::Finish(client)
-    } else if word == b"publish".as_slice() {
-        Event::Publish(client)
-    } else if word == b"exit".as_slice() {
-        Event::Exit(client)
-    } else if word == b"complete".as_slice() {
-        Event::Complete(client)
-    } else if word == b"read".as_slice() {
-        Event::Read(client)
-    } else {
-        return None;
-    };
-    Some(event)
+    if word == b"link".as_slice() {
+        return Some(Event::Link(client));
+    }
+    if word == b"elect".as_slice() {
+        return Some(Event::Elect(client));
+    }
+    if word == b"build".as_slice() {
+        return Some(Event::Build(client));
+    }
+    if word == b"log".as_slice() {
+        return Some(Event::Log(client));
+    }
+    if word == b"fault".as_slice() {
+        return Some(Event::Fault(client));
+    }
+    applied_event_named(word, client)
+}
+
+/// The event of one who writes to the table and leaves, and of the others that are told of below.
+fn applied_event_named(word: &[u8], client: u32) -> Option<Event>
+    ensures { result ≡ event_named (drop 5 event_words) word.now client }
+{
+    if word == b"launch".as_slice() {
+        return Some(Event::Launch(client));
+    }
+    if word == b"insert".as_slice() {
+        return Some(Event::Insert(client));
+    }
+    if word == b"finish".as_slice() {
+        return Some(Event::Finish(client));
+    }
+    if word == b"publish".as_slice() {
+        return Some(Event::Publish(client));
+    }
+    if word == b"exit".as_slice() {
+        return Some(Event::Exit(client));
+    }
+    other_event_named(word, client)
+}
+
+/// The event of a follower that is done, of a read, and those of a pipelined path alone.
+fn other_event_named(word: &[u8], client: u32) -> Option<Event>
+    ensures { result ≡ event_named (drop 10 event_words) word.now client }
+{
+    if word == b"complete".as_slice() {
+        return Some(Event::Complete(client));
+    }
+    if word == b"read".as_slice() {
+        return Some(Event::Read(client));
+    }
+    if word == b"boundary".as_slice() {
+        return Some(Event::Boundary(client));
+    }
+    if word == b"second".as_slice() {
+        return Some(Event::Second(client));
+    }
+    if word == b"next".as_slice() {
+        return Some(Event::Next(client));
+    }
+    None
 }

@@ -1,12 +1,12 @@
 //! A script, as it was read, and why none was.
 
-use client_calls::Command;
+use command_list::CommandList;
 use wp_model::ScriptFault;
 
 /// The commands of each client, in order of the clients' numbers.
 #[derive(Debug, Drop)]
 pub struct Script {
-    pub clients: Vec<Vec<Command>>,
+    pub clients: Vec<CommandList>,
 }
 
 /// Why a text is no script.

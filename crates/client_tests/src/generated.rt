@@ -2,7 +2,6 @@
 
 ghost use Rattle.std.specs.Prelude.{◌≤◌};
 
-use client_calls::Command;
 use client_script::parse_schedule;
 use script_generator::{generate, sum_of};
 use std::alloc::Global;
@@ -58,24 +57,13 @@ fn the_largest_seed(rt: HostRuntime) -> Result<(), Fail> {
     check_script(&rt, rt.alloc(), 0, 1, 1, same)
 }
 
-// How many of them commit.
-fn commits_in(commands: &[Command]) -> u64 {
-    let mut count = 0u64;
-    for command in commands {
-        if let Command::Commit { .. } = command {
-            count = count.wrapping_add(1);
-        }
-    }
-    count
-}
-
 #[test]
 fn each_batch_is_committed(rt: HostRuntime) -> Result<(), Fail> {
     let script = generate(rt.alloc(), 7, 3, 25)?;
     let [one, two, three] = script.clients.as_slice() else {
         return Err(Fail::new("not three clients"));
     };
-    let commits = (commits_in(one), commits_in(two), commits_in(three));
+    let commits = (one.commit_count(), two.commit_count(), three.commit_count());
     assert_eq!(rt; commits, (25, 25, 25));
     Ok(())
 }

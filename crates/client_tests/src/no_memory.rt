@@ -1,19 +1,20 @@
 //! Clients of a write path that finds no memory: what they are told, and that each is ended once.
 
-ghost use Rattle.std.specs.Prelude.{◌≡◌, ⊤, length, IfOk};
+ghost use Rattle.std.specs.Prelude.{◌≡◌, ◌≤◌, ⊤, length, IfOk};
+ghost use Rattle.wp_model.specs.Batch.{size_of_batch};
 ghost use Rattle.account_model.specs.Accounts.{newcomer};
 ghost use Rattle.account_model.specs.Closing.{AreOurs};
-ghost use Rattle.client_run.specs.Jobs.{commands_in, FitBatches, AreNew};
+ghost use Rattle.client_run.specs.Jobs.{FitBatches, AreNew};
+ghost use Rattle.client_script.specs.Scripts.{additions_of};
 
 use crate::mute::{Mute, MuteClient};
-use client_calls::Command;
 use client_run::{Transcripts, run_clients};
+use command_list::{CommandList, CommandView};
 use engine_calls::Gate;
 use std::alloc::Global;
 use std::sync::atomic::AtomicU64;
 use std::sync::atomic::Ordering::SeqCst;
 use std::test::Fail;
-use wp_coding::Bytes;
 use wp_model::{NoMemory, WriteOptions};
 
 /// A gate that counts.
@@ -53,26 +54,35 @@ fn two_clients(alloc: Global) -> Result<Vec<MuteClient>, NoMemory>
     Ok(clients)
 }
 
-fn script(alloc: Global) -> Result<Vec<Vec<Command>>, NoMemory>
-    ensures two { IfOk result (λ script. length script.items ≡ 2) }
-    ensures fits { IfOk result (λ script. FitBatches (commands_in script.items)) }
+fn first_commands(alloc: Global) -> Result<CommandList, NoMemory>
+    ensures { IfOk result (λ commands. size_of_batch (additions_of commands) ≤ 16777216) }
 {
-    let key = Bytes::copy(alloc, b"a")?;
-    let value = Bytes::copy(alloc, b"1")?;
-    let first = vec![in alloc;
-        Command::Commit { options: PLAIN },
-        Command::Put { key, value },
-        Command::Commit { options: PLAIN },
-        Command::Clear,
-    ]?;
-    let key = Bytes::copy(alloc, b"a")?;
-    let second = vec![in alloc;
-        Command::Unstop,
-        Command::Clear,
-        Command::Get { key },
-        Command::Unslow,
-    ]?;
-    let both = vec![in alloc; first, second]?;
+    let mut commands = CommandList::new(alloc);
+    let (key, value) = (b"a".as_slice(), b"1".as_slice());
+    commands.push(CommandView::Commit { options: PLAIN })?;
+    commands.push(CommandView::Put { key, value })?;
+    commands.push(CommandView::Commit { options: PLAIN })?;
+    commands.push(CommandView::Clear)?;
+    Ok(commands)
+}
+
+fn second_commands(alloc: Global) -> Result<CommandList, NoMemory>
+    ensures { IfOk result (λ commands. size_of_batch (additions_of commands) ≤ 16777216) }
+{
+    let mut commands = CommandList::new(alloc);
+    let key = b"a".as_slice();
+    commands.push(CommandView::Unstop)?;
+    commands.push(CommandView::Clear)?;
+    commands.push(CommandView::Get { key })?;
+    commands.push(CommandView::Unslow)?;
+    Ok(commands)
+}
+
+fn script(alloc: Global) -> Result<Vec<CommandList>, NoMemory>
+    ensures two { IfOk result (λ script. length script.items ≡ 2) }
+    ensures fits { IfOk result (λ script. FitBatches script.items) }
+{
+    let both = vec![in alloc; first_commands(alloc)?, second_commands(alloc)?]?;
     Ok(both)
 }
 

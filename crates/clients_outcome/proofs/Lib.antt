@@ -1,3 +1,4 @@
+pub mod Alone
 pub mod Fibres
 pub mod NotRun
 pub mod Owners

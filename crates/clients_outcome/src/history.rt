@@ -11,14 +11,18 @@ use std::alloc::Global;
 use wp_model::NoMemory;
 use write_batch::Batch;
 
-/// The one history that the clients' accepted batches make, in order of their sequences. The batches are moved.
+/// The one history that the clients' accepted batches make, in order of their sequences. The batches are moved, and
+/// those of a client that is alone stay where they are.
 pub fn history_of(
     alloc: Global,
-    accepted: Vec<Vec<Entry<Batch>>>,
+    mut accepted: Vec<Vec<Entry<Batch>>>,
 ) -> Result<Vec<Entry<Batch>>, NoMemory>
     ensures { (start : ℕ) (entries : List model.Entry) → MakeUp start accepted.items entries
         → IfOk result (λ shown. ShowsEntries shown.items entries) }
 {
+    if accepted.len() == 1 {
+        return Ok(accepted.remove(0));
+    }
     in_order(joined(alloc, accepted)?)
 }
 

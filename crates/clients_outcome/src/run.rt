@@ -4,15 +4,16 @@ ghost use Rattle.std.specs.Prelude.{◌≡◌, ◌^◌, ◌<◌, ℕ, List, leng
 ghost use Rattle.wp_model.specs.History as model;
 ghost use Rattle.account_model.specs.Closing.{AreOurs};
 ghost use Rattle.client_run.specs.Answers.{ShowsEntries};
-ghost use Rattle.client_run.specs.Jobs.{commands_in, FitBatches, AreNew};
+ghost use Rattle.client_run.specs.Jobs.{FitBatches, AreNew};
 ghost use Rattle.clients_outcome.specs.Histories.{MakeUp};
 ghost use Rattle.clients_outcome.specs.Runs.{ComesTo};
 
 use crate::history::history_of;
 use crate::state::state_of;
 use account_model::closed_runs_are_legal;
-use client_calls::{Command, Entry, Reply};
+use client_calls::{Entry, Reply};
 use client_run::{Transcripts, run_clients};
+use command_list::CommandList;
 use engine_calls::{Clients, Closed, Engine, Gate};
 use std::alloc::Global;
 use std::sync::Wait;
@@ -53,7 +54,7 @@ pub fn run_engine<E: Engine + Sync, G: Gate + Sync, R: Threads + Wait + Sync>(
     alloc: Global,
     engine: E,
     clients: Clients<E::Client, E::Room>,
-    script: &[Vec<Command>],
+    script: &[CommandList],
     gate: &G,
 ) -> Ran<E::Log>
 where
@@ -62,9 +63,9 @@ where
     requires new { AreNew E.account (E.settings engine).start clients.clients.items }
     requires script { length script.now ≡ (E.settings engine).clients }
     requires few { length script.now < 2 ^ 32 }
-    requires fits { FitBatches (commands_in script.now) }
+    requires fits { FitBatches script.now }
     requires room { E.closes engine clients.room }
-    ensures { ComesTo (E.settings engine) (commands_in script.now) (E.wrote engine) E.fault E.faults result.log
+    ensures { ComesTo (E.settings engine) script.now (E.wrote engine) E.fault E.faults result.log
         result.last result.parts }
 {
     let Clients { clients, room } = clients;

@@ -54,7 +54,16 @@ fn pairs_of(alloc: Global, map: &PairMap) -> Result<PairList, NoMemory>
 {
     let mut pairs = Vec::with_capacity(alloc, map.len())?;
     for (key, value) in map.iter() {
-        pairs.push((Bytes::copy(alloc, key)?, Bytes::copy(alloc, value)?))?;
+        pairs.push(pair_of(alloc, key, value)?)?;
     }
     Ok(PairList::from_vec(pairs))
+}
+
+/// A pair with strings of its own.
+fn pair_of(alloc: Global, key: &[u8], value: &[u8]) -> Result<(Bytes, Bytes), NoMemory>
+    ensures { IfOk result (λ pair. pair ≡ (key.now, value.now)) }
+{
+    let key = Bytes::copy(alloc, key)?;
+    let value = Bytes::copy(alloc, value)?;
+    Ok((key, value))
 }

@@ -8,7 +8,7 @@ use crate::Words;
 use wp_model::WriteOptions;
 
 /// A command of a client, whose words are borrowed. Contracts see it by `command_of`.
-#[derive(Debug, Drop)]
+#[derive(Drop)]
 pub enum CommandView<'a> {
     /// Adds a value to the client's batch.
     Put { key: &'a [u8], value: &'a [u8] },

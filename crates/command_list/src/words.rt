@@ -1,6 +1,6 @@
 //! Words one after another, each behind its length.
 
-ghost use Rattle.std.specs.Prelude.{◌≡◌, ◌<◌, ◌^◌, ◌+◌, ◌++◌, ◌∷◌, [], length, take, option_map, OnOk, OnErr};
+ghost use Rattle.std.specs.Prelude.{◌≡◌, ◌<◌, ◌^◌, ◌+◌, ◌++◌, ◌∷◌, [], length, take, option_map, IfOk, OnOk, OnErr};
 ghost use Rattle.std.specs.Int.{w32, to_le_bytes};
 ghost use Rattle.command_list.specs.Layout.{bytes_of_words};
 ghost use Rattle.command_list.specs.Contents.{AreShort, AreWords};
@@ -54,6 +54,17 @@ impl<'a> Words<'a> {
         ensures limit { result < 2 ^ 32 }
     {
         self.count as usize
+    }
+
+    /// The words as strings of their own.
+    pub fn copies(self, alloc: Global) -> Result<Vec<Bytes>, NoMemory>
+        ensures { IfOk result (λ copies. copies.items ≡ self.entry) }
+    {
+        let mut copies = Vec::with_capacity(alloc, self.len())?;
+        for word in self {
+            copies.push(Bytes::copy(alloc, word)?)?;
+        }
+        Ok(copies)
     }
 
     /// So many words in front of bytes, and the bytes behind them.
@@ -117,13 +128,15 @@ impl WordList {
         }
     }
 
-    /// Puts a word behind the others.
+    /// Puts a word behind the others. There is no memory for more than 2^32 - 1 words.
     pub fn push(&mut self, word: &[u8]) -> Result<(), NoMemory>
-        requires short { length word.now < 2 ^ 32 }
-        requires room { length self.old + 1 < 2 ^ 32 }
+        requires { length word.now < 2 ^ 32 }
         ensures ok { OnOk result (self.new ≡ self.old ++ word.now ∷ []) }
         ensures err { OnErr result (self.new ≡ self.old) }
     {
+        if self.count == u32::MAX {
+            return Err(NoMemory);
+        }
         let len = self.bytes.len();
         if append_word(&mut self.bytes, word).is_err() {
             self.bytes.truncate(len);

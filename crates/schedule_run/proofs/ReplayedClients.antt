@@ -88,7 +88,7 @@ scanned : (o : Options) (s : State) (before : List calls.Call) (lo hi : List ℕ
 scanned o s before lo hi (calls.rows at pairs) history is = is.answer ∙ ap (λ m. rows_within lo hi m) (map_at o.start s.entries is.front at history is.is_front)
 scanned o s before lo hi other history is = absurd is
 
-told_of : (o : Options) (s : State) (before : List calls.Call) (x : Command) (r : calls.Reply) → IsHistory o.start s.entries → IsClientsCommand x → MayReply o s before (command_of x) r → IsTold s.entries x r
+told_of : (o : Options) (s : State) (before : List calls.Call) (x : Command) (r : calls.Reply) → IsHistory o.start s.entries → IsClientsCommand (command_of x) → MayReply o s before (command_of x) r → IsTold s.entries x r
 told_of o s before (Put key v) r history said may = subst (IsTold s.entries (Put key v)) (sym may) tt
 told_of o s before (Delete key) r history said may = subst (IsTold s.entries (Delete key)) (sym may) tt
 told_of o s before (SingleDelete key) r history said may = subst (IsTold s.entries (SingleDelete key)) (sym may) tt
@@ -150,7 +150,7 @@ one_shown entries (Scan lo hi) xs command (calls.rows at pairs) cs [] is are res
 one_shown entries x xs command r cs told is are rest = absurd is
 
 told_shown : (o : Options) (s : State) (whole before cs : List calls.Call) (xs : List Command) (rest : List calls.Command) (told : List CoreReply) → IsHistory o.start s.entries → AreRight o s whole
-    → AllByRecursion IsClientsCommand xs → whole ≡ before ++ cs → map command_of xs ≡ commands_of cs ++ rest → AreReplies told (answers_of cs) → AllZip ShowsReply (replies_by s.entries xs told) (with_lines cs)
+    → AllByRecursion IsClientsCommand (map command_of xs) → whole ≡ before ++ cs → map command_of xs ≡ commands_of cs ++ rest → AreReplies told (answers_of cs) → AllZip ShowsReply (replies_by s.entries xs told) (with_lines cs)
 told_shown o s whole before [] xs rest [] history right said split same are = subst (λ rs. AllZip ShowsReply rs []) (sym (none_told s.entries xs)) tt
 told_shown o s whole before [] xs rest (t ∷ ts) history right said split same are = absurd are
 told_shown o s whole before (c ∷ cs) [] rest told history right said split same are = absurd (cc same)
@@ -162,7 +162,7 @@ told_shown o s whole before (c ∷ cs) (x ∷ xs) rest told history right said s
     one_shown s.entries x xs c.command c.reply cs told (told_of o s before x c.reply history said.0 may) are
     (λ left all. told_shown o s whole (before ++ c ∷ []) cs xs rest left history right said.1 next others all)
 
-client_shown : (o : Options) (s : State) (n : ℕ) (commands : List Command) (replies : List Reply) (client : Client) → IsHistory o.start s.entries → AllByRecursion IsClientsCommand commands
+client_shown : (o : Options) (s : State) (n : ℕ) (commands : List Command) (replies : List Reply) (client : Client) → IsHistory o.start s.entries → AllByRecursion IsClientsCommand (map command_of commands)
     → slice_get s.clients n ≡ Some client → IsAnswered o s (suc n) (map command_of commands) client → IsTranscript s (suc n) commands replies → AllZip ShowsReply replies (with_lines client.calls)
 client_shown o s n commands replies client history said there answered t =
     let are : AreReplies t.told (answers_of client.calls) = MatchOption-at_some (t.told ≡ []) (λ (c : Client). AreReplies t.told (answers_of c.calls)) client there t.is_told in
@@ -185,7 +185,7 @@ some_at (x ∷ xs) (suc i) lt = some_at xs i (omega (arith, lt))
 
 -- each command is one that a script may say
 abbrev pub AreSaid : ClientPlan → Type 0
-AreSaid plan = AllByRecursion IsClientsCommand plan.lines.items
+AreSaid plan = AllByRecursion IsClientsCommand (plans.commands_of plan)
 
 all_at : {A : Type 0} (P : A → Type 0) (xs : List A) (i : ℕ) (x : A) → AllByRecursion P xs → slice_get xs i ≡ Some x → P x
 all_at P [] i x all e = absurd (cc e)

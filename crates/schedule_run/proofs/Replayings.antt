@@ -1,14 +1,11 @@
 -- The core that was run shows what the schedule came to.
-use Rattle.std.proofs.Common.{◌≡◌, List, [], ◌∷◌, map, ap, sym, ◌∙◌, subst}
+use Rattle.std.proofs.Common.{◌≡◌, List, [], ◌∷◌, sym, subst}
 use Rattle.std.specs.List.{AllByRecursion}
-use Rattle.std.proofs.lemmas.Simd.{map-map}
-use Rattle.core_model.specs.Core as machine
 use Rattle.core_model.specs.Core.{opened}
 use Rattle.core_model.specs.CoreLaw.{IsCore}
 use Rattle.core_model.specs.Replies.{AreRepliesOf}
 use Rattle.core_laws.proofs.Kept.{every_list}
 use Rattle.core_laws.proofs.Answered.{replies}
-use Rattle.client_calls.specs.Commands.{command_of}
 use Rattle.write_core.specs.declared.state.CoreOptions.{CoreOptions}
 use Rattle.write_core.specs.Shown.{options_of}
 use Rattle.client_script.specs.declared.schedule.Schedule.{Schedule}
@@ -24,16 +21,13 @@ use Rattle.write_core.specs.Shows.{Shows}
 use Rattle.schedule_run.specs.Replayed.{replayed_of}
 use Rattle.schedule_run.proofs.ReplayedClients.{AreSaid}
 
--- the plans hold the script's commands
-pub same_commands : (plans : List ClientPlan) (script : Script) → map (λ (p : ClientPlan). p.lines) plans ≡ script.clients.items → plans_of plans ≡ commands_of script
-same_commands plans script same = sym (map-map (λ cs. map command_of cs.items) (λ (p : ClientPlan). p.lines) plans) ∙ ap (map (λ cs. map command_of cs.items)) same
-
-each_said : (plans : List ClientPlan) → AllByRecursion (λ cs. AllByRecursion IsClientsCommand cs.items) (map (λ (p : ClientPlan). p.lines) plans) → AllByRecursion AreSaid plans
+each_said : (plans : List ClientPlan) → AllByRecursion (AllByRecursion IsClientsCommand) (plans_of plans) → AllByRecursion AreSaid plans
 each_said [] said = tt
 each_said (p ∷ plans) said = (said.0, each_said plans said.1)
 
-pub are_said : (plans : List ClientPlan) (script : Script) → map (λ (p : ClientPlan). p.lines) plans ≡ script.clients.items → HasClientsCommands script → AllByRecursion AreSaid plans
-are_said plans script same said = each_said plans (subst (AllByRecursion (λ cs. AllByRecursion IsClientsCommand cs.items)) (sym same) said)
+-- the plans of a script's clients
+pub are_said : (plans : List ClientPlan) (script : Script) → plans_of plans ≡ commands_of script → HasClientsCommands script → AllByRecursion AreSaid plans
+are_said plans script same said = each_said plans (subst (AllByRecursion (AllByRecursion IsClientsCommand)) (sym same) said)
 
 -- the core was opened with the script's commands, and took its events
 pub is_replay : (o : CoreOptions) (s : Schedule) (plans : List ClientPlan) (old new : code.State) (counts : Counts) → plans_of plans ≡ commands_of s.script

@@ -3,6 +3,7 @@
 #![tactic(auto)]
 
 mod history;
+mod owned;
 mod plans;
 mod replaying;
 mod replies;

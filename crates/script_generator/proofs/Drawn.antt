@@ -1,13 +1,9 @@
 -- One record, one batch and one client more.
-use Rattle.std.proofs.Common.{◌≡◌, ℕ, ◌+◌, ◌-◌, ◌<◌, zero, suc, List, [], ◌∷◌, ◌++◌, Vec, map, ap, sym, ◌∙◌, arith, append_assoc}
-use Rattle.std.specs.declared.alloc.Global.{Global}
+use Rattle.std.proofs.Common.{◌≡◌, ℕ, ◌+◌, ◌-◌, ◌<◌, zero, suc, List, [], ◌∷◌, ◌++◌, map, ap, sym, ◌∙◌, arith, append_assoc}
 use Rattle.std.specs.List.{range_with_len}
-use Rattle.std.proofs.lemmas.List.{map_push}
 use Rattle.std.proofs.lemmas.List.FromFn.{map-range_with_len_more}
-use Rattle.wp_model.specs.Calls as calls
+use Rattle.wp_model.specs.Calls.{Command, add}
 use Rattle.wp_model.specs.Generator.{first_state, record_drawn, with_rest, records_drawn, batch_drawn, batches_drawn}
-use Rattle.client_calls.specs.declared.command.Command.{Command}
-use Rattle.client_calls.specs.Commands.{command_of}
 
 records_more : (left client state : ℕ) → 0 < left → records_drawn left client state ≡ with_rest (record_drawn client state) (records_drawn (left - 1) client (record_drawn client state).state)
 records_more zero client state some = absurd (omega arith)
@@ -24,15 +20,14 @@ batches_more (suc n) client state some =
     ap (λ m. b.made ++ batches_drawn m client b.state) same
 
 -- with one record more, what is left of them is one less
-pub records_go_on : (left client state after : ℕ) (cs : List Command) (c : Command) → 0 < left
-    → command_of c ≡ calls.add (record_drawn client state).made → after ≡ (record_drawn client state).state
-    → map command_of (cs ++ c ∷ []) ++ (records_drawn (left - 1) client after).made ≡ map command_of cs ++ (records_drawn left client state).made
-records_go_on left client state after cs c some said is =
-    ap (λ b. b ++ (records_drawn (left - 1) client after).made) (map_push command_of cs c)
-    ∙ append_assoc (map command_of cs) (command_of c ∷ []) (records_drawn (left - 1) client after).made
-    ∙ ap (λ (d : calls.Command). map command_of cs ++ (d ∷ (records_drawn (left - 1) client after).made)) said
-    ∙ ap (λ (s : ℕ). map command_of cs ++ (calls.add (record_drawn client state).made ∷ (records_drawn (left - 1) client s).made)) is
-    ∙ ap (λ d. map command_of cs ++ d.made) (sym (records_more left client state some))
+pub records_go_on : (left client state after : ℕ) (cs ds : List Command) → 0 < left
+    → ds ≡ cs ++ add (record_drawn client state).made ∷ [] → after ≡ (record_drawn client state).state
+    → ds ++ (records_drawn (left - 1) client after).made ≡ cs ++ (records_drawn left client state).made
+records_go_on left client state after cs ds some said is =
+    ap (λ (b : List Command). b ++ (records_drawn (left - 1) client after).made) said
+    ∙ append_assoc cs (add (record_drawn client state).made ∷ []) (records_drawn (left - 1) client after).made
+    ∙ ap (λ (s : ℕ). cs ++ (add (record_drawn client state).made ∷ (records_drawn (left - 1) client s).made)) is
+    ∙ ap (λ d. cs ++ d.made) (sym (records_more left client state some))
 
 pub records_end_at : (left client state after : ℕ) → 0 < left → after ≡ (record_drawn client state).state
     → (records_drawn (left - 1) client after).state ≡ (records_drawn left client state).state
@@ -41,24 +36,21 @@ records_end_at left client state after some is =
 
 -- with one batch more, what is left of them is one less
 pub batches_go_on : (left client state after : ℕ) (cs ds : List Command) → 0 < left
-    → map command_of ds ≡ map command_of cs ++ (batch_drawn client state).made → after ≡ (batch_drawn client state).state
-    → map command_of ds ++ batches_drawn (left - 1) client after ≡ map command_of cs ++ batches_drawn left client state
+    → ds ≡ cs ++ (batch_drawn client state).made → after ≡ (batch_drawn client state).state
+    → ds ++ batches_drawn (left - 1) client after ≡ cs ++ batches_drawn left client state
 batches_go_on left client state after cs ds some said is =
-    ap (λ b. b ++ batches_drawn (left - 1) client after) said
-    ∙ append_assoc (map command_of cs) (batch_drawn client state).made (batches_drawn (left - 1) client after)
-    ∙ ap (λ (s : ℕ). map command_of cs ++ ((batch_drawn client state).made ++ batches_drawn (left - 1) client s)) is
-    ∙ ap (λ b. map command_of cs ++ b) (sym (batches_more left client state some))
+    ap (λ (b : List Command). b ++ batches_drawn (left - 1) client after) said
+    ∙ append_assoc cs (batch_drawn client state).made (batches_drawn (left - 1) client after)
+    ∙ ap (λ (s : ℕ). cs ++ ((batch_drawn client state).made ++ batches_drawn (left - 1) client s)) is
+    ∙ ap (λ (b : List Command). cs ++ b) (sym (batches_more left client state some))
 
 -- the clients so far, and one more
-pub clients_more : (seed batches before : ℕ) (clients : List (Vec Command Global)) (more : Vec Command Global)
-    → map command_of more.items ≡ batches_drawn batches (before + 1) (first_state seed (before + 1))
-    → map (λ cs. map command_of cs.items) clients ≡ map (λ client. batches_drawn batches client (first_state seed client)) (range_with_len 1 before)
-    → map (λ cs. map command_of cs.items) (clients ++ more ∷ [])
-    ≡ map (λ client. batches_drawn batches client (first_state seed client)) (range_with_len 1 (before + 1))
+pub clients_more : (seed batches before : ℕ) (clients : List (List Command)) (more : List Command)
+    → more ≡ batches_drawn batches (before + 1) (first_state seed (before + 1))
+    → clients ≡ map (λ client. batches_drawn batches client (first_state seed client)) (range_with_len 1 before)
+    → clients ++ more ∷ [] ≡ map (λ client. batches_drawn batches client (first_state seed client)) (range_with_len 1 (before + 1))
 clients_more seed batches before clients more said so_far =
-    let commands = λ (cs : Vec Command Global). map command_of cs.items in
     let drawn = λ (client : ℕ). batches_drawn batches client (first_state seed client) in
-    map_push commands clients more
-    ∙ ap (λ b. b ++ map command_of more.items ∷ []) so_far
-    ∙ ap (λ b. map drawn (range_with_len 1 before) ++ b ∷ []) said
+    ap (λ (b : List (List Command)). b ++ more ∷ []) so_far
+    ∙ ap (λ (b : List Command). map drawn (range_with_len 1 before) ++ b ∷ []) said
     ∙ sym (map-range_with_len_more drawn 1 before (before + 1) (omega arith))

@@ -1,12 +1,11 @@
 //! The batches of a client.
 
-ghost use Rattle.std.specs.Prelude.{◌≡◌, ◌++◌, map, IfOk, OnOk};
+ghost use Rattle.std.specs.Prelude.{◌≡◌, ◌≤◌, ◌++◌, IfOk, OnOk};
 ghost use Rattle.wp_model.specs.Generator.{first_state, records_drawn, batch_drawn, batches_drawn};
-ghost use Rattle.client_calls.specs.Commands.{command_of};
 
 use crate::draws::Draws;
-use crate::records::next_record;
-use client_calls::Command;
+use crate::records::add_record;
+use command_list::{CommandList, CommandView};
 use std::alloc::Global;
 use wp_model::{NoMemory, WriteOptions};
 
@@ -26,15 +25,15 @@ fn add_records(
     client: u32,
     count: u64,
     draws: &mut Draws,
-    commands: &mut Vec<Command>,
+    commands: &mut CommandList,
 ) -> Result<(), NoMemory>
-    ensures records { OnOk result (map command_of commands.new.items
-        ≡ map command_of commands.old.items ++ (records_drawn count client draws.old.state).made) }
+    requires { client ≤ 16 }
+    ensures records { OnOk result (commands.new ≡ commands.old ++ (records_drawn count client draws.old.state).made) }
     ensures state { OnOk result (draws.new.state ≡ (records_drawn count client draws.old.state).state) }
 {
     let mut left = count;
     while left > 0 {
-        commands.push(next_record(alloc, client, draws)?)?;
+        add_record(alloc, client, draws, commands)?;
         left -= 1;
     }
     Ok(())
@@ -45,16 +44,15 @@ fn add_batch(
     alloc: Global,
     client: u32,
     draws: &mut Draws,
-    commands: &mut Vec<Command>,
+    commands: &mut CommandList,
 ) -> Result<(), NoMemory>
-    ensures batch { OnOk result (map command_of commands.new.items
-        ≡ map command_of commands.old.items ++ (batch_drawn client draws.old.state).made) }
+    requires { client ≤ 16 }
+    ensures batch { OnOk result (commands.new ≡ commands.old ++ (batch_drawn client draws.old.state).made) }
     ensures state { OnOk result (draws.new.state ≡ (batch_drawn client draws.old.state).state) }
 {
     let count = 1 + draws.next() % MOST_RECORDS;
     add_records(alloc, client, count, draws, commands)?;
-    commands.push(Command::Commit { options: PLAIN })?;
-    Ok(())
+    commands.push(CommandView::Commit { options: PLAIN })
 }
 
 /// The commands of a client with so many batches.
@@ -63,12 +61,12 @@ pub fn batches_of(
     seed: u64,
     client: u32,
     batches: u64,
-) -> Result<Vec<Command>, NoMemory>
-    ensures { IfOk result (λ cs.
-        map command_of cs.items ≡ batches_drawn batches client (first_state seed client)) }
+) -> Result<CommandList, NoMemory>
+    requires { client ≤ 16 }
+    ensures { IfOk result (λ commands. commands ≡ batches_drawn batches client (first_state seed client)) }
 {
     let mut draws = Draws::of_client(seed, client);
-    let mut commands = Vec::new(alloc);
+    let mut commands = CommandList::new(alloc);
     let mut left = batches;
     while left > 0 {
         add_batch(alloc, client, &mut draws, &mut commands)?;

@@ -1,12 +1,11 @@
 //! The records that draws make.
 
-ghost use Rattle.std.specs.Prelude.{◌≡◌, decimal, IfOk, OnOk};
+ghost use Rattle.std.specs.Prelude.{◌≡◌, ◌≤◌, ◌++◌, ◌∷◌, [], decimal, IfOk, OnOk};
 ghost use Rattle.wp_model.specs.Calls.{add};
 ghost use Rattle.wp_model.specs.Generator.{key_of, record_drawn};
-ghost use Rattle.client_calls.specs.Commands.{command_of};
 
 use crate::draws::Draws;
-use client_calls::Command;
+use command_list::{CommandList, CommandView};
 use itoa::Buffer;
 use std::alloc::Global;
 use wp_coding::Bytes;
@@ -21,13 +20,6 @@ const KINDS: u64 = 4;
 /// How many values there are.
 const VALUES: u64 = 1000;
 
-/// The digits of a number.
-fn decimal_text(alloc: Global, number: u64) -> Result<Bytes, NoMemory>
-    ensures { IfOk result (λ text. text ≡ decimal number) }
-{
-    Bytes::copy(alloc, Buffer::new().format(number).as_bytes())
-}
-
 /// The key of a client with this number, as `c1k7`.
 fn key(alloc: Global, client: u32, number: u64) -> Result<Bytes, NoMemory>
     ensures { IfOk result (λ key. key ≡ key_of client number) }
@@ -40,16 +32,24 @@ fn key(alloc: Global, client: u32, number: u64) -> Result<Bytes, NoMemory>
     Ok(key)
 }
 
-/// The command that adds the next record of a client.
-pub fn next_record(alloc: Global, client: u32, draws: &mut Draws) -> Result<Command, NoMemory>
-    ensures record { IfOk result (λ c. command_of c ≡ add (record_drawn client draws.old.state).made) }
+/// Puts the command that adds the next record of a client behind its commands.
+pub fn add_record(
+    alloc: Global,
+    client: u32,
+    draws: &mut Draws,
+    commands: &mut CommandList,
+) -> Result<(), NoMemory>
+    requires { client ≤ 16 }
+    ensures record { OnOk result (commands.new ≡ commands.old ++ add (record_drawn client draws.old.state).made ∷ []) }
     ensures state { OnOk result (draws.new.state ≡ (record_drawn client draws.old.state).state) }
 {
     let number = draws.next() % KEYS;
     let key = key(alloc, client, number)?;
+    let key = key.as_slice();
     if draws.next() % KINDS == 0 {
-        return Ok(Command::Delete { key });
+        return commands.push(CommandView::Delete { key });
     }
-    let value = decimal_text(alloc, draws.next() % VALUES)?;
-    Ok(Command::Put { key, value })
+    let mut buffer = Buffer::new();
+    let value = buffer.format(draws.next() % VALUES).as_bytes();
+    commands.push(CommandView::Put { key, value })
 }

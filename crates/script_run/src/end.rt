@@ -11,7 +11,7 @@ use wp_coding::PairList;
 use wp_edge::Disk;
 
 /// How a run ended.
-#[derive(Debug, Drop)]
+#[derive(Drop)]
 pub enum End {
     /// The disk failed before the log was opened, for the how many-th time.
     DiskFault { count: u64 },

@@ -9,6 +9,6 @@ returns-clause-answers g c = λ pending.
     record {
       reply = calls.found_each reads.at reads.values;
       shows = refl;
-      goes = c.reads_are_steps.ensures.many (g.E.Engine.settings c.args.engine.now) (g.E.Engine.account c.args.client.now) pending c.args.keys.now reads.at reads.values (g.E.Engine.account c.get_many.new.client)
-          said.keeps said.ok;
+      goes = c.reads_are_steps.ensures.many (g.E.Engine.settings c.args.engine.now) (g.E.Engine.account c.args.client.now) pending c.args.keys reads.at reads.values (g.E.Engine.account c.get_many.new.client)
+          said.keeps (rw (c.as_slice.ensures.value, c.in_ok-keys.ensures) at said.ok);
     }

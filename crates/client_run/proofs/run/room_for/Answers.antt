@@ -1,4 +1,4 @@
-use Rattle.std.proofs.Common.{sym, take, vec_len, vec_capacity, ◌≤◌}
+use Rattle.std.proofs.Common.{sym, take, length, vec_capacity, ◌≤◌}
 use Rattle.std.proofs.lemmas.List.{take_more}
 use Rattle.client_run.proofs.Moves.{room_more}
 use Rattle.client_run.proofs.run.room_for.Goals as goal
@@ -7,7 +7,7 @@ pub loop-commands-preserved : goal.loop-commands-preserved
 loop-commands-preserved g c =
     let made = c.in_ok-with_capacity.ensures in
     let len = c.len.ensures in
-    let fits : vec_len c.commands-item.result ≤ vec_capacity c.in_ok-with_capacity.field-0 = rw len at made.capacity in
+    let fits : length c.commands-item.result ≤ vec_capacity c.in_ok-with_capacity.field-0 = rw len at made.capacity in
     let more = room_more (take c.loop-commands.commands-index c.args.script.now) c.loop-commands.all.items c.commands-item.result c.in_ok-with_capacity.field-0 c.loop-commands.invariant made.items made.len fits in
     let item = sym c.commands-item.is in
     rw (c.in_ok-push.ensures.items, take_more c.args.script.now c.loop-commands.commands-index c.commands-item.result c.loop-commands-test.true, item) more

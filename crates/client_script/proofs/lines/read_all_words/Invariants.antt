@@ -7,9 +7,9 @@ use Rattle.client_script.proofs.lines.read_all_words.Given as goal
 
 abbrev pub invariant-loop-left : goal.invariant-loop-left
 invariant-loop-left l = record {
-  all : parts_of 32 (option_copied l.fn.rest) ≡ l.words.items ++ parts_of 32 (option_copied l.left);
-  are_words : list_all is_word l.words.items ≡ true;
-  short : AllByRecursion IsShort l.words.items;
+  all : parts_of 32 (option_copied l.fn.rest) ≡ l.words ++ parts_of 32 (option_copied l.left);
+  are_words : list_all is_word l.words ≡ true;
+  short : AllByRecursion IsShort l.words;
 }
 
 abbrev pub decreases-loop-left : goal.decreases-loop-left

@@ -1,11 +1,10 @@
-use Rattle.std.proofs.Common.{refl, arith, map}
-use Rattle.std.proofs.lemmas.List.{map_push}
-use Rattle.client_calls.specs.Commands.{command_of}
+use Rattle.std.proofs.Common.{refl, arith}
+use Rattle.command_list.specs.Views.{command_of}
 use Rattle.client_script.proofs.ScriptReading.{with_command-set}
 use Rattle.client_script.proofs.parser.add_command.Goals as goal
 
 pub returns-clause-script : goal.returns-clause-script
 returns-clause-script c =
     let clients = c.args.script.now.clients in
-    with_command-set (λ cs. map command_of cs.items) clients.items _ c.push.new.self c.in-Some.commands.now (command_of c.args.command) (omega (arith, clients.ok.0)) (c.in-Some.ensures.variant.0 refl)
-    (rw (c.in_ok-push.ensures.items, ← c.in-Some.ensures.value) (map_push command_of c.in-Some.commands.now.items c.args.command))
+    with_command-set clients.items _ c.push.new.self c.in-Some.commands.now (command_of c.args.command) (omega (arith, clients.ok.0)) (c.in-Some.ensures.variant.0 refl)
+    (rw (c.in_ok-push.ensures.ok, ← c.in-Some.ensures.value) refl)

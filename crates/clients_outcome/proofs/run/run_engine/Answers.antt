@@ -1,9 +1,7 @@
-use Rattle.std.proofs.Common.{◌≡◌, ◌∙◌, ℕ, sym, map, List, Vec, Global}
+use Rattle.std.proofs.Common.{◌≡◌, ◌∙◌, ℕ, sym, map, List}
 use Rattle.std.proofs.lemmas.List.{length-map}
 use Rattle.wp_model.specs.Calls.{Call}
-use Rattle.client_calls.specs.declared.command.Command.{Command}
-use Rattle.client_calls.specs.Commands.{command_of}
-use Rattle.client_run.specs.Jobs.{commands_in, AreNew}
+use Rattle.client_run.specs.Jobs.{AreNew}
 use Rattle.account_model.specs.ClientRuns.{HaveRun}
 use Rattle.account_model.specs.Closing.{AreOurs}
 use Rattle.clients_outcome.proofs.NotRun.{handed_back, newcomers, log_by_no_call}
@@ -21,10 +19,10 @@ returns-after-parts_of g c =
     let accounts = map E.account t.clients.items in
     let last = c.close-log.result.last in
     let log = c.close-log.result.log in
-    let script = commands_in c.args.script.now in
+    let script = c.args.script.now in
     let closed = c.close-log.ensures in
     let trace = closed.0 in
-    let clients = sym c.requires.script ∙ sym (length-map c.args.script.now (λ (cs : Vec Command Global). map command_of cs.items)) in
+    let clients = sym c.requires.script in
     let make = makes_up settings (E.wrote engine) E.fault E.faults log trace closed.1 accounts last closed.2 t.accepted.items c.in-Ok.ensures.accepted (length-map t.clients.items E.account ∙ ours.number_of)
     (number_at (E.belongs engine) E.account settings.clients t.clients.items ours) in
     let legal = λ (transcripts : List (List Call)) (log_len : ℕ) (run : HaveRun settings script transcripts accounts). c.closed_runs_are_legal.ensures.legal settings (E.faults log) script transcripts accounts trace closed.1 last log_len (E.fault log) clients run closed.2 in

@@ -1,8 +1,9 @@
-use Rattle.std.proofs.Common.{◌≡◌, ◌++◌, map}
+use Rattle.std.proofs.Common.{◌≡◌, ◌++◌}
 use Rattle.std.specs.Vec.Iter.{into_iter_items}
-use Rattle.core_plans.specs.declared.plan.ClientPlan.{ClientPlan}
+use Rattle.client_script.specs.Scripts.{commands_of}
+use Rattle.core_plans.specs.Plans.{plans_of}
 use Rattle.schedule_run.proofs.plans.plans_of.Given as goal
 
--- the plans so far hold the commands of the clients that are not left
-abbrev pub invariant-loop-lines : goal.invariant-loop-lines
-invariant-loop-lines l = map (λ (p : ClientPlan). p.lines) l.plans.items ++ into_iter_items l.lines-iterator ≡ l.fn.script.clients.items
+-- the commands of the plans so far, and of the clients that are left, are those of the script
+abbrev pub invariant-loop-commands : goal.invariant-loop-commands
+invariant-loop-commands l = plans_of l.plans.items ++ into_iter_items l.commands-iterator ≡ commands_of l.fn.script

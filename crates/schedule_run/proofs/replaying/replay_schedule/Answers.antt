@@ -9,14 +9,13 @@ use Rattle.write_core.specs.Shown.{options_of, plans_in}
 use Rattle.client_script.specs.Scripts.{commands_of}
 use Rattle.schedule_run.specs.Replayed.{replayed_of}
 use Rattle.schedule_run.proofs.ReplayedClients.{AreSaid, transcripts_shown}
-use Rattle.schedule_run.proofs.Replayings.{same_commands, are_said, is_replay, is_core, has_replies}
+use Rattle.schedule_run.proofs.Replayings.{are_said, is_replay, is_core, has_replies}
 use Rattle.schedule_run.proofs.SmallPlans.{small_plans}
 use Rattle.schedule_run.proofs.replaying.replay_schedule.Goals as goal
 
 pub new-requires-clause-small : goal.new-requires-clause-small
 new-requires-clause-small c =
-    let script = c.args.schedule.script in
-    small_plans c.in_ok-plans.plans.items script (same_commands c.in_ok-plans.plans.items script c.in_ok-plans.ensures) c.requires.fits
+    small_plans c.in_ok-plans.plans.items c.args.schedule.script c.in_ok-plans.ensures c.requires.fits
 
 pub returns : goal.returns
 returns c =
@@ -26,10 +25,10 @@ returns c =
     let core = c.replay-counts.new.state in
     let given : List ClientPlan = c.in_ok-plans.plans.items in
     let kept : plans_in core ≡ given = c.replay-counts.ensures.plans ∙ c.in_ok-core.ensures.plans in
-    let same : plans_of given ≡ commands_of s.script = same_commands given s.script c.in_ok-plans.ensures in
+    let same : plans_of given ≡ commands_of s.script = c.in_ok-plans.ensures in
     let is : IsReplay (options_of o) c.replay-counts.result core (replayed_of o (schedule_of s)) =
     is_replay o s given c.in_ok-core.core core c.replay-counts.result same c.in_ok-core.ensures.shows (rw c.deref.ensures.value at c.replay-counts.ensures.replays) in
-    let said : AllByRecursion AreSaid (plans_in core) = subst (AllByRecursion AreSaid) (sym kept) (are_said given s.script c.in_ok-plans.ensures c.requires.commands) in
+    let said : AllByRecursion AreSaid (plans_in core) = subst (AllByRecursion AreSaid) (sym kept) (are_said given s.script same c.requires.commands) in
     record {
       taken = sym is.taken;
       skipped = sym is.skipped;

@@ -1,11 +1,10 @@
-use Rattle.std.proofs.Common.{◌≡◌, ◌++◌, map}
+use Rattle.std.proofs.Common.{◌≡◌, ◌++◌}
 use Rattle.wp_model.specs.Generator.{first_state, batches_drawn}
-use Rattle.client_calls.specs.Commands.{command_of}
 use Rattle.script_generator.proofs.batches.batches_of.Given as goal
 
 -- the batches so far and those that are left are all of them
 abbrev pub invariant-loop-left : goal.invariant-loop-left
-invariant-loop-left l = map command_of l.commands.items ++ batches_drawn l.left l.client l.draws.state ≡ batches_drawn l.batches l.client (first_state l.seed l.client)
+invariant-loop-left l = l.commands ++ batches_drawn l.left l.client l.draws.state ≡ batches_drawn l.batches l.client (first_state l.seed l.client)
 
 abbrev pub decreases-loop-left : goal.decreases-loop-left
 decreases-loop-left l = l.left

@@ -2,17 +2,13 @@
 use denote.Exit.{yes}
 use denote.Param.{param}
 use denote.Param.Send.{param_send, arg_send}
-use Rattle.std.proofs.Common.{◌≡◌, ℕ, length, map, sym, ap, ◌∙◌, arith, Vec, Global}
-use Rattle.std.proofs.lemmas.List.{length-map}
-use Rattle.client_calls.specs.declared.command.Command.{Command}
-use Rattle.client_calls.specs.Commands.{command_of}
+use Rattle.std.proofs.Common.{ℕ, length, ap, ◌∙◌, arith}
 use Rattle.client_calls.specs.Settings.{settings_of}
 use Rattle.client_script.specs.Scripts.{commands_of}
 use Rattle.log_writer.specs.declared.writer.LogWriter.{LogWriter}
 use Rattle.log_writer.specs.Words.{disk_of, fault_of}
 use Rattle.log_writer.specs.Written.{Wrote}
 use Rattle.memory_engine.proofs.Crossing.{client_send, engine_sync}
-use Rattle.client_run.specs.Jobs.{commands_in}
 use Rattle.script_run.proofs.RunEnds.{comes_to}
 use Rattle.script_run.proofs.running.run_over.Goals as goal
 
@@ -28,10 +24,9 @@ returns-in-Ok-clause-end g c = λ disk has_opened.
     let options = c.args.options in
     let ran = c.run_engine.result in
     let value = c.as_slice-commands.ensures.value in
-    let count : length script ≡ length c.args.script.now.clients.items = length-map c.args.script.now.clients.items (λ (cs : Vec Command Global). map command_of cs.items) in
-    let settings = c.in-Ok.ensures.engine.1 ∙ ap (λ (n : ℕ). settings_of options n (g.D.Disk.faults (disk_of c.args.log))) (ap length value ∙ sym count) ∙ ap (settings_of options (length script)) has_opened.no_fault in
-    let comes = comes_to fault_of (λ (l : LogWriter g.row.D.Denot g.D.Disk). g.D.Disk.faults (disk_of l)) ran.log ran.last ran.parts _ _ _ _ _ _ settings (ap commands_in value) (ap Wrote c.in-Ok.ensures.engine.0) c.run_engine.ensures in
-    rw (c.ended.ensures.end, c.ended.ensures.disk) (c.runs_leave_safe_logs.ensures.ends disk c.args.log ran.log options script ran.last ran.parts has_opened (omega (arith, count, c.requires.clients)) c.requires.options.1 comes)
+    let settings = c.in-Ok.ensures.engine.1 ∙ ap (λ (n : ℕ). settings_of options n (g.D.Disk.faults (disk_of c.args.log))) (ap length value) ∙ ap (settings_of options (length script)) has_opened.no_fault in
+    let comes = comes_to fault_of (λ (l : LogWriter g.row.D.Denot g.D.Disk). g.D.Disk.faults (disk_of l)) ran.log ran.last ran.parts _ _ _ _ _ _ settings value (ap Wrote c.in-Ok.ensures.engine.0) c.run_engine.ensures in
+    rw (c.ended.ensures.end, c.ended.ensures.disk) (c.runs_leave_safe_logs.ensures.ends disk c.args.log ran.log options script ran.last ran.parts has_opened (omega (arith, c.requires.clients)) c.requires.options.1 comes)
 
 pub returns-in-Ok-clause-later : goal.returns-in-Ok-clause-later
 returns-in-Ok-clause-later g c =
@@ -39,9 +34,8 @@ returns-in-Ok-clause-later g c =
     let options = c.args.options in
     let ran = c.run_engine.result in
     let value = c.as_slice-commands.ensures.value in
-    let count : length script ≡ length c.args.script.now.clients.items = length-map c.args.script.now.clients.items (λ (cs : Vec Command Global). map command_of cs.items) in
-    let settings = c.in-Ok.ensures.engine.1 ∙ ap (λ (n : ℕ). settings_of options n (g.D.Disk.faults (disk_of c.args.log))) (ap length value ∙ sym count) in
-    let comes = comes_to fault_of (λ (l : LogWriter g.row.D.Denot g.D.Disk). g.D.Disk.faults (disk_of l)) ran.log ran.last ran.parts _ _ _ _ _ _ settings (ap commands_in value) (ap Wrote c.in-Ok.ensures.engine.0) c.run_engine.ensures in
+    let settings = c.in-Ok.ensures.engine.1 ∙ ap (λ (n : ℕ). settings_of options n (g.D.Disk.faults (disk_of c.args.log))) (ap length value) in
+    let comes = comes_to fault_of (λ (l : LogWriter g.row.D.Denot g.D.Disk). g.D.Disk.faults (disk_of l)) ran.log ran.last ran.parts _ _ _ _ _ _ settings value (ap Wrote c.in-Ok.ensures.engine.0) c.run_engine.ensures in
     rw c.ended.ensures.disk (c.runs_leave_safe_logs.ensures.time c.args.log ran.log options script (g.D.Disk.faults (disk_of c.args.log)) ran.last ran.parts comes).1
 
 pub returns-in-Ok-clause-time : goal.returns-in-Ok-clause-time
@@ -50,7 +44,6 @@ returns-in-Ok-clause-time g c =
     let options = c.args.options in
     let ran = c.run_engine.result in
     let value = c.as_slice-commands.ensures.value in
-    let count : length script ≡ length c.args.script.now.clients.items = length-map c.args.script.now.clients.items (λ (cs : Vec Command Global). map command_of cs.items) in
-    let settings = c.in-Ok.ensures.engine.1 ∙ ap (λ (n : ℕ). settings_of options n (g.D.Disk.faults (disk_of c.args.log))) (ap length value ∙ sym count) in
-    let comes = comes_to fault_of (λ (l : LogWriter g.row.D.Denot g.D.Disk). g.D.Disk.faults (disk_of l)) ran.log ran.last ran.parts _ _ _ _ _ _ settings (ap commands_in value) (ap Wrote c.in-Ok.ensures.engine.0) c.run_engine.ensures in
+    let settings = c.in-Ok.ensures.engine.1 ∙ ap (λ (n : ℕ). settings_of options n (g.D.Disk.faults (disk_of c.args.log))) (ap length value) in
+    let comes = comes_to fault_of (λ (l : LogWriter g.row.D.Denot g.D.Disk). g.D.Disk.faults (disk_of l)) ran.log ran.last ran.parts _ _ _ _ _ _ settings value (ap Wrote c.in-Ok.ensures.engine.0) c.run_engine.ensures in
     rw c.ended.ensures.disk (c.runs_leave_safe_logs.ensures.time c.args.log ran.log options script (g.D.Disk.faults (disk_of c.args.log)) ran.last ran.parts comes).0

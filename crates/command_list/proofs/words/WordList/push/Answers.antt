@@ -21,7 +21,7 @@ invariant_of-self-inside-2 c =
     let appended : c.append_word.new.bytes ≡ old.bytes ++ bytes_of_word w = grind (arith, common_steps) in (
       record {
         words = old.are.words ++ w ∷ [];
-        short = all_short old.are.words w old.are.short c.requires.short;
+        short = all_short old.are.words w old.are.short c.requires;
         counted = omega (arith, old.are.counted, length-append old.are.words (w ∷ []));
         spelled = appended ∙ ap (λ (l : List ℕ). l ++ bytes_of_word w) old.are.spelled ∙ sym (words_added old.are.words w);
       },
@@ -34,7 +34,7 @@ returns-clause-ok c =
     let w = c.args.word.now in
     let appended : c.append_word.new.bytes ≡ old.bytes ++ bytes_of_word w = grind (arith, common_steps) in
     let are : (h : AreWords c.append_word.new.bytes (old.count + 1)) → h.words ≡ old.are.words ++ w ∷ [] =
-    λ h. words_are c.append_word.new.bytes (old.count + 1) h (old.are.words ++ w ∷ []) (all_short old.are.words w old.are.short c.requires.short)
+    λ h. words_are c.append_word.new.bytes (old.count + 1) h (old.are.words ++ w ∷ []) (all_short old.are.words w old.are.short c.requires)
     (omega (arith, old.are.counted, length-append old.are.words (w ∷ [])))
     (appended ∙ ap (λ (l : List ℕ). l ++ bytes_of_word w) old.are.spelled ∙ sym (words_added old.are.words w)) in
     rw are (ap (λ (l : List (List ℕ)). l ++ w ∷ []) c.self.view_is)
