@@ -1,0 +1,3 @@
+pub mod OneBatch
+pub mod Layout
+pub mod OneList
