@@ -1,5 +1,5 @@
--- The accepted batches at hand are the client's entries.
-use Rattle.std.proofs.Common.{◌≡◌, inl, inr, ℕ, ◌+◌, ◌-◌, Option, Some, None, MatchOption, List, [], ◌∷◌, ◌++◌, length, refl, ap, sym, ◌∙◌, arith}
+-- A client's accepted batches are its entries.
+use Rattle.std.proofs.Common.{◌≡◌, inl, inr, ℕ, ◌+◌, ◌-◌, ◌^◌, ◌≤◌, min, Option, Some, None, MatchOption, List, [], ◌∷◌, ◌++◌, length, refl, ap, sym, ◌∙◌, subst, arith}
 use Rattle.wp_model.specs.declared.write.WriteOptions.{WriteOptions}
 use Rattle.wp_model.specs.declared.write.Refusal.{Refusal}
 use Rattle.wp_model.specs.Batch.{Record, count_of}
@@ -8,26 +8,36 @@ use Rattle.wp_model.specs.Tokens.{holds_stop}
 use Rattle.wp_model.specs.Trace.{Settings}
 use Rattle.wp_model.specs.Progress.{next_entry, early_refusal}
 use Rattle.write_batch.specs.Contents.{Contents}
+use Rattle.batch_list.specs.declared.kept.Kept.{Kept}
 use Rattle.client_calls.specs.declared.entry.Entry.{Entry}
-use Rattle.client_calls.specs.Shows.{ShowsEntry}
+use Rattle.run_outcome.specs.Shows.{ShowsEntry}
+use Rattle.run_outcome.specs.Histories.{last_in, entry_of, entries_of}
+use Rattle.run_outcome.proofs.Entries.{entries_of-push, length-entries_of}
 use Rattle.account_model.specs.Accounts.{Account, Keeps, IsRefusedLate, Refuses}
-use Rattle.client_run.specs.Answers.{ShowsEntries}
+use Rattle.client_run.specs.Answers.{ShowsEntries, ShowsKept}
 use Rattle.client_run.proofs.Lists.{zip_more, zip_length}
 
+-- the last sequence of a run is a number of 64 bits
+run_ends : (first count : ℕ) → 1 ≤ count → first + count ≤ 2 ^ 64 → first + count - 1 ≡ min (first + (count - 1)) (2 ^ 64 - 1)
+run_ends first count some within = omega arith
+
 -- one more, with its run
-pub entries_more : (number client ordinal first count last : ℕ) (mine : List history.Entry) (how : WriteOptions) (records : List Record) (batch : Contents) (accepted : List (Entry Contents)) → ShowsEntries accepted mine
-    → number ≡ client → ordinal ≡ length accepted + 1 → count ≡ count_of records → last ≡ first + count - 1 → batch ≡ record { sequence = first; records = records }
-    → ShowsEntries (accepted ++ record { client = client; ordinal = ordinal; first = first; last = last; flag = history.flag_of how; batch = batch } ∷ []) (mine ++ next_entry number mine how first records ∷ [])
-entries_more number client ordinal first count last mine how records batch accepted so_far is nth counted ends made =
-    let same = zip_length ShowsEntry accepted mine so_far in
-    zip_more ShowsEntry accepted mine _ _ so_far (record {
-      client = is;
-      ordinal = omega (arith, same, nth);
-      first = refl;
-      last = ap (λ (n : ℕ). first + n - 1) (sym counted) ∙ sym ends;
-      flag = refl;
+pub kept_more : (client first : ℕ) (mine : List history.Entry) (how : WriteOptions) (records : List Record) (kept : List (Kept Contents)) (k : Kept Contents) → ShowsKept client kept mine
+    → k.flag ≡ history.flag_of how → k.batch ≡ record { sequence = first; records = records } → 1 ≤ count_of records → first + count_of records ≤ 2 ^ 64
+    → ShowsKept client (kept ++ k ∷ []) (mine ++ next_entry client mine how first records ∷ [])
+kept_more client first mine how records kept k so_far flagged made some within =
+    let same = zip_length ShowsEntry (entries_of client kept) mine so_far in
+    let count = length-entries_of client kept in
+    let nth : 1 + length mine ≡ length kept + 1 = omega (arith, same, count) in
+    subst (λ (es : List (Entry Contents)). ShowsEntries es (mine ++ next_entry client mine how first records ∷ [])) (sym (entries_of-push client kept k))
+    (zip_more ShowsEntry (entries_of client kept) mine (entry_of client (length kept + 1) k) (next_entry client mine how first records) so_far (record {
+      client = refl;
+      ordinal = nth;
+      first = sym (ap (λ (b : Contents). b.sequence) made);
+      last = run_ends first (count_of records) some within ∙ sym (ap (λ (b : Contents). last_in b) made);
+      flag = sym flagged;
       batch = made;
-    })
+    }))
 
 -- a refused commit leaves them
 pub refused_entries : (settings : Settings) (v : Account) (records : List Record) (how : WriteOptions) (why : Refusal) (w : Account) → Refuses settings v records how why w → w.mine ≡ v.mine

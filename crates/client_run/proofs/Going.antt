@@ -1,18 +1,18 @@
 -- A client on its way through its commands, and at their end.
-use Rattle.std.proofs.Common.{◌≡◌, ℕ, List, [], ◌∷◌, ◌++◌, refl, ap, sym, ◌∙◌, subst, append_assoc}
-use Rattle.std.proofs.lemmas.List.{map-append}
+use Rattle.std.proofs.Common.{◌≡◌, ℕ, Option, Some, None, List, [], ◌∷◌, ◌++◌, option_to_list, refl, ap, sym, ◌∙◌, subst, append_assoc}
+use Rattle.std.proofs.lemmas.List.{map-append, append-nil}
 use Rattle.wp_model.specs.Batch.{Record}
 use Rattle.wp_model.specs.Trace.{Settings}
 use Rattle.wp_model.specs.Runs.{commands_of}
 use Rattle.wp_model.specs.Calls.{Command, Call, no_memory}
-use Rattle.client_calls.specs.declared.reply.Reply.{Reply}
-use Rattle.client_calls.specs.declared.reply.Reply.TheVariants.{NoMemory}
-use Rattle.client_calls.specs.Shows.{ShowsReply}
+use Rattle.run_outcome.specs.declared.reply.Reply.{Reply}
+use Rattle.run_outcome.specs.declared.reply.Reply.TheVariants.{NoMemory}
+use Rattle.run_outcome.specs.Shows.{ShowsReplies}
+use Rattle.run_outcome.proofs.Replies.{told_more, told_still}
 use Rattle.account_model.specs.Accounts.{Account, GivesBack}
 use Rattle.account_model.specs.ClientRuns.{Lacks, Went, HasRun, with_call}
-use Rattle.client_run.specs.Answers.{GoesOn}
+use Rattle.client_run.specs.Answers.{ShowsTold, GoesOn}
 use Rattle.client_run.specs.Transcripts.{HasGone, HasStopped, through, short, HasTold}
-use Rattle.client_run.proofs.Lists.{zip_more}
 
 pub gone_none : (settings : Settings) (client : ℕ) (a : Account) → a.number ≡ client → Went settings [] a [] → HasGone settings client [] [] a []
 gone_none settings client a number went = record { calls = []; are = refl; shows = tt; number = number; went = went }
@@ -20,13 +20,18 @@ gone_none settings client a number went = record { calls = []; are = refl; shows
 commands_more : (calls : List Call) (c : Call) → commands_of (calls ++ c ∷ []) ≡ commands_of calls ++ c.command ∷ []
 commands_more calls c = map-append (λ (x : Call). x.command) calls (c ∷ [])
 
+-- with what is told of one call more
+told_next : (replies : List Reply) (cs : List Call) (told : Option Reply) (c : Call) → ShowsReplies replies cs → ShowsTold told c → ShowsReplies (replies ++ option_to_list told) (cs ++ c ∷ [])
+told_next replies cs None c so_far none = rw (append-nil replies) (told_still replies cs c so_far none)
+told_next replies cs (Some reply) c so_far shows = told_more replies cs reply c so_far shows
+
 pub gone_more : (settings : Settings) (client : ℕ) (done : List Command) (told : List Reply) (v : Account) (before : List Record) (gone : HasGone settings client done told v before)
-    (c : Command) (r : Reply) (w : Account) (after : List Record) (goes : GoesOn settings v before c r w after)
-    → Went settings (with_call gone.calls c goes.reply) w after → HasGone settings client (done ++ c ∷ []) (told ++ r ∷ []) w after
+    (c : Command) (r : Option Reply) (w : Account) (after : List Record) (goes : GoesOn settings v before c r w after)
+    → Went settings (with_call gone.calls c goes.reply) w after → HasGone settings client (done ++ c ∷ []) (told ++ option_to_list r) w after
 gone_more settings client done told v before gone c r w after goes went = record {
   calls = with_call gone.calls c goes.reply;
   are = commands_more gone.calls (record { command = c; reply = goes.reply }) ∙ ap (λ (cs : List Command). cs ++ c ∷ []) gone.are;
-  shows = zip_more ShowsReply told gone.calls r (record { command = c; reply = goes.reply }) gone.shows goes.shows;
+  shows = told_next told gone.calls r (record { command = c; reply = goes.reply }) gone.shows goes.shows;
   number = goes.goes.number ∙ gone.number;
   went = went;
 }
@@ -60,6 +65,6 @@ has_told settings client commands told u w whole cut (short done last rest answe
     ap (λ (cs : List Command). cs ++ rest) (commands_more gone.calls (record { command = last; reply = no_memory }) ∙ ap (λ (cs : List Command). cs ++ last ∷ []) gone.are) ∙ (append_assoc done (last ∷ []) rest ∙ sym split) in
     record {
       calls = all;
-      shows = rw are (zip_more ShowsReply answered gone.calls NoMemory (record { command = last; reply = no_memory }) gone.shows refl);
+      shows = rw are (told_more answered gone.calls NoMemory (record { command = last; reply = no_memory }) gone.shows refl);
       run = subst (λ (n : ℕ). HasRun settings n commands all w) gone.number (subst (λ (cs : List Command). HasRun settings v.number cs all w) same (cut gone.calls v pending last rest u w gone.went lacks back));
     }

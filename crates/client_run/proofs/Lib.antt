@@ -1,5 +1,6 @@
 pub mod Lists
 pub mod Rooms
+pub mod Hands
 pub mod Entries
 pub mod Going
 pub mod Moves

@@ -16,6 +16,10 @@ zip_length R [] (v ∷ ys) all = absurd all
 zip_length R (u ∷ xs) [] all = absurd all
 zip_length R (u ∷ xs) (v ∷ ys) all = ap suc (zip_length R xs ys all.1)
 
+pub all_more : {A : Type 0} (P : A → Type 0) (xs : List A) (x : A) → AllByRecursion P xs → P x → AllByRecursion P (xs ++ x ∷ [])
+all_more P [] x all here = (here, tt)
+all_more P (y ∷ xs) x all here = (all.0, all_more P xs x all.1 here)
+
 -- what holds of each holds of the one at a place
 pub all_at : {A : Type 0} (P : A → Type 0) (xs : List A) (i : ℕ) (d : A) → AllByRecursion P xs → i < length xs → P (get_or xs i d)
 all_at P [] i d all here = absurd (omega (arith, here))

@@ -5,32 +5,31 @@ use Rattle.std.proofs.lemmas.List.{length-map, get_or_push, get_or_append_left}
 use Rattle.std.proofs.Math.ListN.{get_or-map}
 use Rattle.std.proofs.Math.Seq.{take-append_seam}
 use Rattle.std.specs.Option.{option_map}
-use Rattle.std.specs.List.{AllZip}
+use Rattle.std.specs.List.{AllZip, AllByRecursion}
 use Rattle.std.specs.declared.alloc.Global.{Global}
 use Rattle.std.proofs.lemmas.Bool.{cases_lt}
 use Rattle.wp_model.specs.Batch.{size_of_batch}
 use Rattle.wp_model.specs.Trace.{Settings}
 use Rattle.wp_model.specs.Calls.{Command, Call}
-use Rattle.write_batch.specs.Contents.{Contents}
-use Rattle.client_calls.specs.declared.entry.Entry.{Entry}
-use Rattle.client_calls.specs.declared.reply.Reply.{Reply}
-use Rattle.client_calls.specs.Shows.{ShowsReplies}
+use Rattle.run_outcome.specs.declared.reply.Reply.{Reply}
+use Rattle.run_outcome.specs.Shows.{ShowsReplies}
 use Rattle.client_script.specs.Scripts.{additions_of}
 use Rattle.account_model.specs.Accounts.{Account}
 use Rattle.account_model.specs.Closing.{AreOurs}
 use Rattle.account_model.specs.ClientRuns.{HasRun}
+use Rattle.client_run.specs.declared.batches.Batches.{Batches}
 use Rattle.client_run.specs.declared.jobs.Job.{Job}
-use Rattle.client_run.specs.Answers.{ShowsEntries}
+use Rattle.client_run.specs.Answers.{kept_in, ShowsKept}
 use Rattle.client_run.specs.Transcripts.{HasTold}
-use Rattle.client_run.specs.Parts.{client_of, replies_of, accepted_of}
-use Rattle.client_run.specs.Jobs.{FitBatches, AreNew, HaveTold, HaveEntries, IsRoom, AreReady, AreDone}
+use Rattle.client_run.specs.Parts.{client_of, replies_of, batches_of}
+use Rattle.client_run.specs.Jobs.{FitBatches, AreNew, HaveTold, HaveEntries, AreNone, IsRoom, AreReady, AreDone}
 use Rattle.client_run.proofs.Lists.{all_at}
 
 below_or_at : (i n : ℕ) → i < n + 1 → (i < n) ⊎ (i ≡ n)
 below_or_at i n h = elim (cases_lt i n) [ inl lt ↦ inl lt | inr ge ↦ inr (omega arith) ]
 
 -- one more list with room
-pub room_more : {X : Type 0} (script : List (List Command)) (room : List (Vec X Global)) (commands : List Command) (one : Vec X Global)
+pub room_more : (script : List (List Command)) (room : List (Vec Reply Global)) (commands : List Command) (one : Vec Reply Global)
     → IsRoom script room → one.items ≡ [] → vec_len one ≡ 0 → length commands ≤ vec_capacity one → IsRoom (script ++ commands ∷ []) (room ++ one ∷ [])
 room_more script room commands one so_far none no_items enough =
     let count = so_far.count in
@@ -58,11 +57,11 @@ map_both f h [] = refl
 map_both f h (x ∷ xs) = ap (λ ys. f (h x) ∷ ys) (map_both f h xs)
 
 module _ {C : Type 0} (belongs : C → Type 0) (account : C → Account) (settings : Settings) (script : List (List Command)) where
-  pub ready_all : (clients : List C) (replies : List (Vec Reply Global)) (accepted : List (Vec (Entry Contents) Global)) (jobs : List (Job C))
+  pub ready_all : (clients : List C) (replies : List (Vec Reply Global)) (jobs : List (Job C))
       → AreOurs belongs account settings.clients clients → AreNew account settings.start clients → length script ≡ settings.clients → length script < 2 ^ 32 → FitBatches script
-      → IsRoom script replies → IsRoom script accepted
-      → map client_of jobs ≡ clients → map replies_of jobs ≡ replies → map accepted_of jobs ≡ accepted → AreReady belongs account settings script jobs
-  ready_all clients replies accepted jobs ours new many few fit for_replies for_accepted from_clients from_replies from_accepted = record {
+      → IsRoom script replies → AllByRecursion AreNone (map batches_of jobs)
+      → map client_of jobs ≡ clients → map replies_of jobs ≡ replies → AreReady belongs account settings script jobs
+  ready_all clients replies jobs ours new many few fit for_replies no_batches from_clients from_replies = record {
     each = λ i d h.
         let j = get_or jobs i d in
         let count : length jobs ≡ length clients = sym (length-map jobs client_of) ∙ ap length from_clients in
@@ -70,18 +69,18 @@ module _ {C : Type 0} (belongs : C → Type 0) (account : C → Account) (settin
         let inside : i < length script = omega arith in
         let at : slice_get clients i ≡ Some j.client = sym (ap (λ cs. slice_get cs i) from_clients) ∙ (slice_get-map client_of jobs i ∙ ap (option_map client_of) (slice_get-get_or jobs i d h)) in
         let told : get_or replies i d.replies ≡ j.replies = sym (ap (λ r. get_or r i d.replies) from_replies) ∙ get_or-map replies_of jobs i d in
-        let taken : get_or accepted i d.accepted ≡ j.accepted = sym (ap (λ r. get_or r i d.accepted) from_accepted) ∙ get_or-map accepted_of jobs i d in
         let no_replies = rw told at (for_replies.each i d.replies inside) in
-        let no_batches = rw taken at (for_accepted.each i d.accepted inside) in
+        let as_many = length-map jobs batches_of in
         record {
           within = inside;
           few = omega (arith, few, inside);
           ours = (ours.each i j.client at).0;
           new = new.each i j.client at;
-          none = (no_replies.0, no_batches.0);
-          empty = (no_replies.1, no_batches.1);
+          none = no_replies.0;
+          empty = no_replies.1;
+          no_batches = subst AreNone (get_or-map batches_of jobs i d) (all_at AreNone (map batches_of jobs) i d.batches no_batches (omega (arith, as_many, h)));
           fits = λ v. all_at (λ (cs : List Command). size_of_batch (additions_of cs) ≤ 16777216) script i v fit inside;
-          room = λ v. (rw told at (for_replies.fits i d.replies v inside), rw taken at (for_accepted.fits i d.accepted v inside));
+          room = λ v. rw told at (for_replies.fits i d.replies v inside);
         };
   }
 
@@ -110,11 +109,12 @@ module _ {C : Type 0} (belongs : C → Type 0) (account : C → Account) (settin
         (subst belongs o.gives d.ours, ap (λ x. (account x).number) (sym o.gives) ∙ d.number);
   }
 
-  pub done_entries : (jobs : List (Job C)) (clients : List C) (accepted : List (Vec (Entry Contents) Global)) → AreDone belongs account settings script jobs
-      → clients ≡ map client_of jobs → accepted ≡ map accepted_of jobs → HaveEntries accepted (map account clients)
-  done_entries jobs clients accepted done are accepted_are =
-      rw (are, accepted_are, map_both account client_of jobs)
-      (zip_each (λ (v : Vec (Entry Contents) Global) (a : Account). ShowsEntries v.items a.mine) jobs accepted_of (λ (j : Job C). account (client_of j)) (λ i d less. (done.each i d less).accepted))
+  pub done_entries : (jobs : List (Job C)) (clients : List C) (batches : List Batches) → AreDone belongs account settings script jobs
+      → clients ≡ map client_of jobs → batches ≡ map batches_of jobs → HaveEntries batches (map account clients)
+  done_entries jobs clients batches done are batches_are =
+      rw (are, batches_are, map_both account client_of jobs)
+      (zip_each (λ (b : Batches) (a : Account). ShowsKept a.number (kept_in b) a.mine) jobs batches_of (λ (j : Job C). account (client_of j))
+      (λ i d less. (let d' = done.each i d less in subst (λ (n : ℕ). ShowsKept n (kept_in (get_or jobs i d).batches) (account (get_or jobs i d).client).mine) (sym d'.number) d'.accepted)))
 
   -- the transcripts of the clients from the one behind the number `n` on
   record Collected (n : ℕ) (jobs : List (Job C)) (rest : List (List Command)) : Type 0 where

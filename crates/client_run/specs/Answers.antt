@@ -1,5 +1,5 @@
 -- What one command of a client comes to.
-use Rattle.std.specs.Prelude.{◌≡◌, ◌⊎◌, ◌≤◌, List, [], ◌∷◌, ◌++◌, Option, Some, None, Result, Ok, Err}
+use Rattle.std.specs.Prelude.{◌≡◌, ◌⊎◌, ◌≤◌, ℕ, List, [], ◌∷◌, ◌++◌, Option, Result, Ok, Err, MatchOption}
 use Rattle.std.specs.List.{AllZip}
 use Rattle.wp_model.specs.declared.memory.NoMemory.{NoMemory}
 use Rattle.wp_model.specs.Batch.{Record, size_of_batch}
@@ -8,33 +8,57 @@ use Rattle.wp_model.specs.Trace.{Settings}
 use Rattle.wp_model.specs.Calls as calls
 use Rattle.write_batch.specs.Contents.{Contents}
 use Rattle.client_calls.specs.declared.entry.Entry.{Entry}
-use Rattle.client_calls.specs.declared.reply.Reply.{Reply}
-use Rattle.client_calls.specs.Shows.{ShowsReply, ShowsEntry}
+use Rattle.batch_list.specs.declared.kept.Kept.{Kept}
+use Rattle.run_outcome.specs.declared.reply.Reply.{Reply}
+use Rattle.run_outcome.specs.Shows.{ShowsReply, ShowsEntry}
+use Rattle.run_outcome.specs.Histories.{entries_of}
 use Rattle.client_script.specs.Scripts.{additions_of}
 use Rattle.account_model.specs.Accounts.{Account}
+use Rattle.client_run.specs.declared.batches.Batches.{Batches}
+use Rattle.client_run.specs.declared.batches.AtHand.{AtHand}
+use Rattle.client_run.specs.declared.batches.AtHand.TheVariants.{Nothing, Pending, Accepted}
 use Rattle.account_model.specs.ClientRuns.{Goes, Lacks}
 
--- the records of a client's batch, which is made with its first record
-abbrev pub records_in : Option Contents → List Record
-records_in None = []
-records_in (Some batch) = batch.records
+-- the records of the batch in the making, which is begun with its first record
+abbrev pub records_in : AtHand → List Record
+records_in Nothing = []
+records_in (Pending batch) = batch.records
+records_in (Accepted kept) = []
+
+-- the accepted batch that is still at hand
+abbrev pub last_kept : AtHand → List (Kept Contents)
+last_kept Nothing = []
+last_kept (Pending batch) = []
+last_kept (Accepted kept) = kept ∷ []
+
+-- a client's accepted batches: those of the list, and the one at hand
+abbrev pub kept_in : Batches → List (Kept Contents)
+kept_in batches = batches.list ++ last_kept batches.at_hand
+
+-- what a client is told of a call: its reply, or nothing where it has none
+abbrev pub ShowsTold : Option Reply → calls.Call → Type 0
+ShowsTold told c = MatchOption told (c.reply ≡ calls.quiet) (λ (reply : Reply). ShowsReply reply c)
 
 -- the client goes on by this command, and was told so
-pub record GoesOn (settings : Settings) (v : Account) (before : List Record) (command : calls.Command) (told : Reply)
-    (w : Account) (after : List Record) : Type 0 where
+pub record GoesOn (settings : Settings) (v : Account) (before : List Record) (command : calls.Command)
+    (told : Option Reply) (w : Account) (after : List Record) : Type 0 where
   pub reply : calls.Reply
-  pub shows : ShowsReply told (record { command = command; reply = reply })
+  pub shows : ShowsTold told (record { command = command; reply = reply })
   pub goes : Goes settings v before command reply w after
 
 -- it goes on, or its call found no memory
-abbrev pub Answers : Settings → Account → List Record → calls.Command → Result Reply NoMemory → Account → List Record
-    → Type 0
+abbrev pub Answers : Settings → Account → List Record → calls.Command → Result (Option Reply) NoMemory → Account
+    → List Record → Type 0
 Answers settings v before command (Ok told) w after = GoesOn settings v before command told w after
 Answers settings v before command (Err none) w after = Lacks settings v before command w
 
--- the batches at hand are these entries
+-- the batches of a history are these entries
 abbrev pub ShowsEntries : List (Entry Contents) → List history.Entry → Type 0
-ShowsEntries accepted entries = AllZip ShowsEntry accepted entries
+ShowsEntries shown entries = AllZip ShowsEntry shown entries
+
+-- the accepted batches of a client are these entries
+abbrev pub ShowsKept : ℕ → List (Kept Contents) → List history.Entry → Type 0
+ShowsKept client kept entries = ShowsEntries (entries_of client kept) entries
 
 -- what the commands add, if they add something, fits into the batch
 abbrev pub HasRoom : List Record → List calls.Command → Type 0

@@ -5,15 +5,14 @@ use Rattle.std.specs.declared.alloc.Global.{Global}
 use Rattle.wp_model.specs.Batch.{size_of_batch}
 use Rattle.wp_model.specs.Trace.{Settings}
 use Rattle.wp_model.specs.Calls.{Command, Call}
-use Rattle.write_batch.specs.Contents.{Contents}
-use Rattle.client_calls.specs.declared.entry.Entry.{Entry}
-use Rattle.client_calls.specs.declared.reply.Reply.{Reply}
-use Rattle.client_calls.specs.Shows.{ShowsReplies}
+use Rattle.run_outcome.specs.declared.reply.Reply.{Reply}
+use Rattle.run_outcome.specs.Shows.{ShowsReplies}
 use Rattle.client_script.specs.Scripts.{additions_of}
 use Rattle.account_model.specs.Accounts.{Account, newcomer}
 use Rattle.account_model.specs.ClientRuns.{HaveRun}
+use Rattle.client_run.specs.declared.batches.Batches.{Batches}
 use Rattle.client_run.specs.declared.jobs.Job.{Job}
-use Rattle.client_run.specs.Answers.{ShowsEntries}
+use Rattle.client_run.specs.Answers.{records_in, kept_in, ShowsKept}
 use Rattle.client_run.specs.Transcripts.{HasTold}
 
 -- all that a client adds fits one batch of 16 MiB, even if no commit is accepted
@@ -31,16 +30,20 @@ pub record HaveTold (settings : Settings) (script : List (List Command)) (replie
   pub show : AllZip (λ v. ShowsReplies v.items) replies transcripts
   pub run : HaveRun settings script transcripts accounts
 
--- the batches at hand are the clients' entries
-abbrev pub HaveEntries : List (Vec (Entry Contents) Global) → List Account → Type 0
-HaveEntries accepted accounts = AllZip (λ v a. ShowsEntries v.items a.mine) accepted accounts
+-- the accepted batches are the clients' entries
+abbrev pub HaveEntries : List Batches → List Account → Type 0
+HaveEntries batches accounts = AllZip (λ b a. ShowsKept a.number (kept_in b) a.mine) batches accounts
 
--- a list with room for each client's replies, or batches, and nothing in it
-pub record IsRoom {X : Type 0} (script : List (List Command)) (room : List (Vec X Global)) : Type 0 where
+-- no batch was accepted, and none is in the making
+abbrev pub AreNone : Batches → Type 0
+AreNone batches = (kept_in batches ≡ []) × (records_in batches.at_hand ≡ [])
+
+-- a list with room for each client's replies, and nothing in it
+pub record IsRoom (script : List (List Command)) (room : List (Vec Reply Global)) : Type 0 where
   pub count : length room ≡ length script
-  pub each : (i : ℕ) (d : Vec X Global) → i < length script
+  pub each : (i : ℕ) (d : Vec Reply Global) → i < length script
       → ((slice_index_or room i d).items ≡ []) × (vec_len (slice_index_or room i d) ≡ 0)
-  pub fits : (i : ℕ) (d : Vec X Global) (cs : List Command) → i < length script
+  pub fits : (i : ℕ) (d : Vec Reply Global) (cs : List Command) → i < length script
       → length (slice_index_or script i cs) ≤ vec_capacity (slice_index_or room i d)
 
 module _ {C : Type 0} (belongs : C → Type 0) (account : C → Account) (settings : Settings)
@@ -51,11 +54,11 @@ module _ {C : Type 0} (belongs : C → Type 0) (account : C → Account) (settin
     pub few : i + 1 < 2 ^ 32
     pub ours : belongs job.client
     pub new : account job.client ≡ newcomer settings.start (i + 1)
-    pub none : (job.replies.items ≡ []) × (job.accepted.items ≡ [])
-    pub empty : (vec_len job.replies ≡ 0) × (vec_len job.accepted ≡ 0)
+    pub none : job.replies.items ≡ []
+    pub empty : vec_len job.replies ≡ 0
+    pub no_batches : AreNone job.batches
     pub fits : (d : List Command) → size_of_batch (additions_of (slice_index_or script i d)) ≤ 16777216
-    pub room : (d : List Command) → (length (slice_index_or script i d) ≤ vec_capacity job.replies)
-        × (length (slice_index_or script i d) ≤ vec_capacity job.accepted)
+    pub room : (d : List Command) → length (slice_index_or script i d) ≤ vec_capacity job.replies
 
   -- the same job, run
   pub record IsDone (i : ℕ) (job : Job C) : Type 0 where
@@ -63,7 +66,7 @@ module _ {C : Type 0} (belongs : C → Type 0) (account : C → Account) (settin
     pub number : (account job.client).number ≡ i + 1
     pub told : (d : List Command) → HasTold settings (i + 1) (slice_index_or script i d) job.replies.items
         (account job.client)
-    pub accepted : ShowsEntries job.accepted.items (account job.client).mine
+    pub accepted : ShowsKept (i + 1) (kept_in job.batches) (account job.client).mine
 
   pub record AreReady (jobs : List (Job C)) : Type 0 where
     pub each : (i : ℕ) (d : Job C) → i < length jobs → IsReady i (slice_index_or jobs i d)

@@ -1,9 +1,8 @@
 -- The parts of a client's job.
 use Rattle.std.specs.Prelude.{Vec}
 use Rattle.std.specs.declared.alloc.Global.{Global}
-use Rattle.write_batch.specs.Contents.{Contents}
-use Rattle.client_calls.specs.declared.entry.Entry.{Entry}
-use Rattle.client_calls.specs.declared.reply.Reply.{Reply}
+use Rattle.run_outcome.specs.declared.reply.Reply.{Reply}
+use Rattle.client_run.specs.declared.batches.Batches.{Batches}
 use Rattle.client_run.specs.declared.jobs.Job.{Job}
 
 abbrev pub client_of : {C : Type 0} → Job C → C
@@ -12,5 +11,5 @@ client_of job = job.client
 abbrev pub replies_of : {C : Type 0} → Job C → Vec Reply Global
 replies_of job = job.replies
 
-abbrev pub accepted_of : {C : Type 0} → Job C → Vec (Entry Contents) Global
-accepted_of job = job.accepted
+abbrev pub batches_of : {C : Type 0} → Job C → Batches
+batches_of job = job.batches

@@ -4,9 +4,9 @@ use Rattle.wp_model.specs.Batch.{Record}
 use Rattle.wp_model.specs.Trace.{Settings}
 use Rattle.wp_model.specs.Runs.{commands_of}
 use Rattle.wp_model.specs.Calls.{Command, Call}
-use Rattle.client_calls.specs.declared.reply.Reply.{Reply}
-use Rattle.client_calls.specs.declared.reply.Reply.TheVariants.{NoMemory}
-use Rattle.client_calls.specs.Shows.{ShowsReplies}
+use Rattle.run_outcome.specs.declared.reply.Reply.{Reply}
+use Rattle.run_outcome.specs.declared.reply.Reply.TheVariants.{NoMemory}
+use Rattle.run_outcome.specs.Shows.{ShowsReplies}
 use Rattle.account_model.specs.Accounts.{Account}
 use Rattle.account_model.specs.ClientRuns.{Lacks, Went, HasRun}
 

@@ -1,61 +1,79 @@
 //! Additions to a client's batch.
 
-ghost use Rattle.std.specs.Prelude.{◌≡◌, ◌⊎◌, ◌≤◌, [], ◌∷◌, ◌++◌, IfOk, OnOk, IsOkUnless};
+ghost use Rattle.std.specs.Prelude.{◌≡◌, ◌≤◌, [], ◌∷◌, None, IfOk, OnOk, IsOkUnless};
 ghost use Rattle.wp_model.specs.Trace.{Settings};
 ghost use Rattle.wp_model.specs.Calls as calls;
 ghost use Rattle.write_batch.specs.Contents.{added, size_with};
 ghost use Rattle.write_batch.specs.View.{record_of};
 ghost use Rattle.account_model.specs.Accounts.{Account};
-ghost use Rattle.client_run.specs.Answers.{records_in, GoesOn, Answers, HasRoom, IsLeft};
+ghost use Rattle.client_run.specs.Answers.{records_in, kept_in, GoesOn, Answers, HasRoom, IsLeft};
+ghost use Rattle.client_run.specs.declared.batches.AtHand.TheVariants.{Nothing};
 
+use crate::batches::{AtHand, Batches};
 use account_model::{commits_are_steps, earlier_sights};
-use client_calls::Reply;
+use batch_list::Kept;
+use run_outcome::Reply;
 use std::alloc::Global;
+use std::mem;
 use wp_model::NoMemory;
 use write_batch::{AddError, Batch, RecordView};
 
-/// Puts a record behind the others of the batch, for which there is room.
+/// Puts a record behind the others of the batch in the making, for which there is room.
 pub fn add(
     alloc: Global,
-    pending: &mut Option<Batch>,
+    batches: &mut Batches,
     view: RecordView<'_>,
-) -> Result<Reply, NoMemory>
-    requires room { HasRoom (records_in pending.old) (calls.add (record_of view) ∷ []) }
-    ensures answers { (settings : Settings) (a : Account) → Answers settings a (records_in pending.old)
-        (calls.add (record_of view.entry)) result a (records_in pending.new) }
-    ensures left { OnOk result (IsLeft (records_in pending.old) (calls.add (record_of view.entry))
-        (records_in pending.new)) }
+) -> Result<Option<Reply>, NoMemory>
+    requires room { HasRoom (records_in batches.old.at_hand) (calls.add (record_of view) ∷ []) }
+    ensures answers { (settings : Settings) (a : Account) → Answers settings a (records_in batches.old.at_hand)
+        (calls.add (record_of view.entry)) result a (records_in batches.new.at_hand) }
+    ensures left { OnOk result (IsLeft (records_in batches.old.at_hand) (calls.add (record_of view.entry))
+        (records_in batches.new.at_hand)) }
+    ensures kept { kept_in batches.new ≡ kept_in batches.old }
 {
     commits_are_steps();
     earlier_sights();
-    let mut batch = begun(alloc, pending)?;
+    let mut batch = begun(alloc, batches)?;
     let outcome = add_record(&mut batch, view);
-    *pending = Some(batch);
+    batches.at_hand = AtHand::Pending(batch);
     match outcome {
-        Ok(()) => Ok(Reply::Quiet),
+        Ok(()) => Ok(None),
         Err(AddError::NoMemory) => Err(NoMemory),
         Err(AddError::TooLarge { .. }) => unreachable!(),
     }
 }
 
-/// Empties the batch.
-pub fn clear(pending: &mut Option<Batch>) -> Reply
-    ensures goes { (settings : Settings) (a : Account) → GoesOn settings a (records_in pending.old) calls.clear result a
-        (records_in pending.new) }
-    ensures none { records_in pending.new ≡ [] }
+/// Empties the batch in the making.
+pub fn clear(batches: &mut Batches)
+    ensures goes { (settings : Settings) (a : Account) → GoesOn settings a (records_in batches.old.at_hand) calls.clear
+        None a (records_in batches.new.at_hand) }
+    ensures none { records_in batches.new.at_hand ≡ [] }
+    ensures kept { kept_in batches.new ≡ kept_in batches.old }
 {
     commits_are_steps();
-    *pending = None;
-    Reply::Quiet
+    if let AtHand::Pending(batch) = &mut batches.at_hand {
+        batch.clear();
+    }
 }
 
-/// Takes the batch out, or makes one.
-fn begun(alloc: Global, pending: &mut Option<Batch>) -> Result<Batch, NoMemory>
-    ensures { IfOk result (λ batch. batch.records ≡ records_in pending.old) }
+/// Takes the batch in the making out, or begins one: with the last accepted batch, whose copy goes into the list, or
+/// with a new one.
+fn begun(alloc: Global, batches: &mut Batches) -> Result<Batch, NoMemory>
+    ensures begun { IfOk result (λ batch. batch.records ≡ records_in batches.old.at_hand) }
+    ensures out { OnOk result (batches.new.at_hand ≡ Nothing) }
+    ensures kept { kept_in batches.new ≡ kept_in batches.old }
 {
-    match pending.take() {
-        Some(batch) => Ok(batch),
-        None => Batch::new(alloc),
+    match mem::replace(&mut batches.at_hand, AtHand::Nothing) {
+        AtHand::Nothing => Batch::new(alloc),
+        AtHand::Pending(batch) => Ok(batch),
+        AtHand::Accepted(Kept { flag, mut batch }) => {
+            if batches.list.push(flag, &batch).is_err() {
+                batches.at_hand = AtHand::Accepted(Kept { flag, batch });
+                return Err(NoMemory);
+            }
+            batch.clear();
+            Ok(batch)
+        }
     }
 }
 

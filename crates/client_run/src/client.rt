@@ -1,23 +1,24 @@
 //! A client: it runs its commands one after another.
 
-ghost use Rattle.std.specs.Prelude.{◌≡◌, ◌+◌, ◌<◌, ◌≤◌, [], ◌∷◌, ◌++◌, length, vec_len, vec_capacity};
+ghost use Rattle.std.specs.Prelude.{◌≡◌, ◌+◌, ◌<◌, ◌≤◌, [], ◌++◌, length, option_to_list, vec_len, vec_capacity};
 ghost use Rattle.wp_model.specs.Batch.{size_of_batch};
 ghost use Rattle.client_script.specs.Scripts.{additions_of};
 ghost use Rattle.account_model.specs.Accounts.{newcomer};
-ghost use Rattle.client_run.specs.Answers.{ShowsEntries};
+ghost use Rattle.client_run.specs.Answers.{kept_in, ShowsKept};
+ghost use Rattle.client_run.specs.Jobs.{AreNone};
 ghost use Rattle.client_run.specs.Transcripts.{HasStopped, HasTold};
 
 use crate::answer::answer;
+use crate::batches::Batches;
 use account_model::{calls_one_after_another, runs_end};
-use client_calls::{Entry, Reply};
 use command_list::CommandList;
 use engine_calls::{Engine, Gate};
+use run_outcome::Reply;
 use std::alloc::Global;
 use std::sync::Wait;
-use write_batch::Batch;
 
 /// Runs a client's commands, up to the first that finds no memory. Then it gives back what tokens it holds. There is
-/// room for its replies and its accepted batches. All that it adds fits one batch, so no addition is too large.
+/// room for its replies. All that it adds fits one batch, so no addition is too large.
 pub fn run_client<E: Engine, G: Gate, R: Wait>(
     rt: &R,
     alloc: Global,
@@ -27,24 +28,24 @@ pub fn run_client<E: Engine, G: Gate, R: Wait>(
     number: u32,
     commands: &CommandList,
     replies: &mut Vec<Reply>,
-    accepted: &mut Vec<Entry<Batch>>,
+    batches: &mut Batches,
 )
     requires belongs { E.belongs engine.now client.old }
     requires new { E.account client.old ≡ newcomer (E.settings engine.now).start number }
     requires fits { size_of_batch (additions_of commands.now) ≤ 16777216 }
-    requires none { (replies.old.items ≡ []) × (accepted.old.items ≡ []) }
-    requires empty { (vec_len replies.old ≡ 0) × (vec_len accepted.old ≡ 0) }
-    requires room { (length commands.now ≤ vec_capacity replies.old)
-        × (length commands.now ≤ vec_capacity accepted.old) }
+    requires none { replies.old.items ≡ [] }
+    requires empty { vec_len replies.old ≡ 0 }
+    requires room { length commands.now ≤ vec_capacity replies.old }
+    requires no_batches { AreNone batches.old }
     ensures belongs { E.belongs engine.now client.new }
     ensures told { HasTold (E.settings engine.now) number commands.now replies.new.items
         (E.account client.new) }
-    ensures accepted { ShowsEntries accepted.new.items (E.account client.new).mine }
+    ensures accepted { ShowsKept number (kept_in batches.new) (E.account client.new).mine }
 {
     runs_end();
     gate.started(number);
     run_commands(
-        rt, alloc, engine, gate, client, number, commands, replies, accepted,
+        rt, alloc, engine, gate, client, number, commands, replies, batches,
     );
     engine.end(rt, client);
 }
@@ -59,48 +60,41 @@ fn run_commands<E: Engine, G: Gate, R: Wait>(
     number: u32,
     commands: &CommandList,
     replies: &mut Vec<Reply>,
-    accepted: &mut Vec<Entry<Batch>>,
+    batches: &mut Batches,
 )
     requires belongs { E.belongs engine.now client.old }
     requires new { E.account client.old ≡ newcomer (E.settings engine.now).start number }
     requires fits { size_of_batch (additions_of commands.now) ≤ 16777216 }
-    requires none { (replies.old.items ≡ []) × (accepted.old.items ≡ []) }
-    requires empty { (vec_len replies.old ≡ 0) × (vec_len accepted.old ≡ 0) }
-    requires room { (length commands.now ≤ vec_capacity replies.old)
-        × (length commands.now ≤ vec_capacity accepted.old) }
+    requires none { replies.old.items ≡ [] }
+    requires empty { vec_len replies.old ≡ 0 }
+    requires room { length commands.now ≤ vec_capacity replies.old }
+    requires no_batches { AreNone batches.old }
     ensures belongs { E.belongs engine.now client.new }
     ensures stopped { HasStopped (E.settings engine.now) number commands.now replies.new.items
         (E.account client.new) }
-    ensures accepted { ShowsEntries accepted.new.items (E.account client.new).mine }
+    ensures accepted { ShowsKept number (kept_in batches.new) (E.account client.new).mine }
 {
     calls_one_after_another();
-    let mut pending = None;
+    let mut call = 0;
     for command in commands.commands() {
-        let Ok(told) = answer(
-            rt,
-            alloc,
-            engine,
-            client,
-            number,
-            &mut pending,
-            command,
-            accepted,
-        ) else {
-            tell(gate, number, replies, Reply::NoMemory);
+        let Ok(told) = answer(rt, alloc, engine, client, batches, command) else {
+            tell(gate, number, call, replies, Some(Reply::NoMemory));
             return;
         };
-        tell(gate, number, replies, told);
+        tell(gate, number, call, replies, told);
+        call += 1;
     }
 }
 
-/// Keeps a reply, and says that the call was answered.
-fn tell<G: Gate>(gate: &G, number: u32, replies: &mut Vec<Reply>, reply: Reply)
+/// Keeps the reply to a call, if it has one, and says that the call was answered.
+fn tell<G: Gate>(gate: &G, number: u32, call: u64, replies: &mut Vec<Reply>, told: Option<Reply>)
     requires { vec_len replies.old < vec_capacity replies.old }
-    ensures items { replies.new.items ≡ replies.old.items ++ reply ∷ [] }
-    ensures len { vec_len replies.new ≡ vec_len replies.old + 1 }
+    ensures items { replies.new.items ≡ replies.old.items ++ option_to_list told }
+    ensures len { vec_len replies.new ≤ vec_len replies.old + 1 }
     ensures capacity { vec_capacity replies.new ≡ vec_capacity replies.old }
 {
-    let call = replies.len() as u64;
-    replies.push_reserved(reply);
+    if let Some(reply) = told {
+        replies.push_reserved(reply);
+    }
     gate.answered(number, call);
 }

@@ -1,44 +1,50 @@
 //! Each client's part of a run.
 
-ghost use Rattle.std.specs.Prelude.{◌≡◌, ◌+◌, ◌<◌, ◌≤◌, [], map, vec_len, vec_capacity};
-ghost use Rattle.client_run.specs.Parts.{client_of, replies_of, accepted_of};
+ghost use Rattle.std.specs.Prelude.{◌≡◌, ◌≤◌, [], map, vec_len, vec_capacity};
+ghost use Rattle.std.specs.List.{AllByRecursion};
+ghost use Rattle.client_run.specs.Jobs.{AreNone};
+ghost use Rattle.client_run.specs.Parts.{client_of, replies_of, batches_of};
 
-use client_calls::{Entry, Reply};
-use write_batch::Batch;
+use crate::batches::{AtHand, Batches};
+use batch_list::BatchList;
+use run_outcome::Reply;
+use std::alloc::Global;
 
-/// A client with what it was told and its accepted batches, or with the room for them.
+/// A client with what it was told, or with the room for it, and its batches.
 pub struct Job<C> {
     pub client: C,
     pub replies: Vec<Reply>,
-    pub accepted: Vec<Entry<Batch>>,
+    pub batches: Batches,
 }
 
-/// Moves each client and its room into a job.
+/// Moves each client and its room into a job, which has no batch.
 pub fn fill<C>(
+    alloc: Global,
     clients: &mut Vec<C>,
     replies: &mut Vec<Vec<Reply>>,
-    accepted: &mut Vec<Vec<Entry<Batch>>>,
     jobs: &mut Vec<Job<C>>,
 )
-    requires same { (vec_len clients.old ≡ vec_len replies.old) × (vec_len clients.old ≡ vec_len accepted.old) }
+    requires same { vec_len clients.old ≡ vec_len replies.old }
     requires none { jobs.old.items ≡ [] }
     requires empty { vec_len jobs.old ≡ 0 }
     requires room { vec_len clients.old ≤ vec_capacity jobs.old }
     ensures clients { map client_of jobs.new.items ≡ clients.old.items }
     ensures replies { map replies_of jobs.new.items ≡ replies.old.items }
-    ensures accepted { map accepted_of jobs.new.items ≡ accepted.old.items }
-    ensures none { (clients.new.items ≡ []) × (replies.new.items ≡ []) × (accepted.new.items ≡ []) }
-    ensures empty { (vec_len clients.new ≡ 0) × (vec_len replies.new ≡ 0) × (vec_len accepted.new ≡ 0) }
+    ensures batches { AllByRecursion AreNone (map batches_of jobs.new.items) }
+    ensures none { (clients.new.items ≡ []) × (replies.new.items ≡ []) }
+    ensures empty { (vec_len clients.new ≡ 0) × (vec_len replies.new ≡ 0) }
     ensures capacity { (vec_capacity clients.new ≡ vec_capacity clients.old)
-        × (vec_capacity replies.new ≡ vec_capacity replies.old)
-        × (vec_capacity accepted.new ≡ vec_capacity accepted.old) }
+        × (vec_capacity replies.new ≡ vec_capacity replies.old) }
 {
     while !clients.is_empty() {
         let client = clients.remove(0);
         jobs.push_reserved(Job {
             client,
             replies: replies.remove(0),
-            accepted: accepted.remove(0),
+            batches: Batches {
+                list: BatchList::new(alloc),
+                at_hand: AtHand::Nothing,
+            },
         });
     }
 }
@@ -48,15 +54,15 @@ pub fn empty<C>(
     jobs: &mut Vec<Job<C>>,
     clients: &mut Vec<C>,
     replies: &mut Vec<Vec<Reply>>,
-    accepted: &mut Vec<Vec<Entry<Batch>>>,
+    batches: &mut Vec<Batches>,
 )
-    requires none { (clients.old.items ≡ []) × (replies.old.items ≡ []) × (accepted.old.items ≡ []) }
-    requires empty { (vec_len clients.old ≡ 0) × (vec_len replies.old ≡ 0) × (vec_len accepted.old ≡ 0) }
+    requires none { (clients.old.items ≡ []) × (replies.old.items ≡ []) × (batches.old.items ≡ []) }
+    requires empty { (vec_len clients.old ≡ 0) × (vec_len replies.old ≡ 0) × (vec_len batches.old ≡ 0) }
     requires room { (vec_len jobs.old ≤ vec_capacity clients.old) × (vec_len jobs.old ≤ vec_capacity replies.old)
-        × (vec_len jobs.old ≤ vec_capacity accepted.old) }
+        × (vec_len jobs.old ≤ vec_capacity batches.old) }
     ensures clients { clients.new.items ≡ map client_of jobs.old.items }
     ensures replies { replies.new.items ≡ map replies_of jobs.old.items }
-    ensures accepted { accepted.new.items ≡ map accepted_of jobs.old.items }
+    ensures batches { batches.new.items ≡ map batches_of jobs.old.items }
     ensures empty { vec_len jobs.new ≡ 0 }
 {
     while !jobs.is_empty() {
@@ -64,10 +70,10 @@ pub fn empty<C>(
         let Job {
             client,
             replies: told,
-            accepted: batches,
+            batches: own,
         } = job;
         clients.push_reserved(client);
         replies.push_reserved(told);
-        accepted.push_reserved(batches);
+        batches.push_reserved(own);
     }
 }

@@ -3,13 +3,15 @@
 //! - [`run_clients`] runs all clients, and says of each that its replies are a transcript of its commands as far as the
 //!   client itself can tell (`HasRun` of `account_model`). [`finish`] closes the write path, and makes of these a legal
 //!   outcome.
-//! - All room for the replies and for the accepted batches is made before the first call of a client.
+//! - All room for the replies is made before the first call of a client. An accepted batch goes into its client's list
+//!   as the next one is begun, which may find no memory; until then it stays at hand ([`Batches`]).
 //! - A client stops at its first call that finds no memory. As it stops or is through, it gives back what tokens it
 //!   holds.
 #![tactic(auto)]
 
 mod adding;
 mod answer;
+mod batches;
 mod client;
 mod closing;
 mod committing;
@@ -18,6 +20,7 @@ mod reading;
 mod run;
 mod tokens;
 
+pub use batches::{AtHand, Batches};
 pub use client::run_client;
 pub use closing::finish;
 pub use run::{Transcripts, run_clients};

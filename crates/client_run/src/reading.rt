@@ -7,9 +7,9 @@ ghost use Rattle.wp_coding.specs.Answers.{found_value};
 ghost use Rattle.client_run.specs.Answers.{Answers};
 
 use account_model::reads_are_steps;
-use client_calls::Reply;
 use command_list::Words;
 use engine_calls::Engine;
+use run_outcome::Reply;
 use std::alloc::Global;
 use std::sync::Wait;
 use wp_coding::{Bytes, Found};
@@ -21,7 +21,7 @@ pub fn get<E: Engine, R: Wait>(
     engine: &E,
     client: &mut E::Client,
     key: &[u8],
-) -> Result<Reply, NoMemory>
+) -> Result<Option<Reply>, NoMemory>
     requires { E.belongs engine.now client.old }
     ensures belongs { E.belongs engine.now client.new }
     ensures answers { (pending : List Record) → Answers (E.settings engine.now) (E.account client.old) pending
@@ -30,10 +30,10 @@ pub fn get<E: Engine, R: Wait>(
 {
     reads_are_steps();
     let read = engine.get(rt, client, key)?;
-    Ok(Reply::Found {
+    Ok(Some(Reply::Found {
         at: read.at,
         value: value_of(read.value),
-    })
+    }))
 }
 
 /// The value that was found, if one was.
@@ -53,7 +53,7 @@ pub fn get_many<E: Engine, R: Wait>(
     engine: &E,
     client: &mut E::Client,
     keys: Words<'_>,
-) -> Result<Reply, NoMemory>
+) -> Result<Option<Reply>, NoMemory>
     requires { E.belongs engine.now client.old }
     ensures belongs { E.belongs engine.now client.new }
     ensures answers { (pending : List Record) → Answers (E.settings engine.now) (E.account client.old) pending
@@ -63,10 +63,10 @@ pub fn get_many<E: Engine, R: Wait>(
     reads_are_steps();
     let keys = keys.copies(alloc)?;
     let reads = engine.get_many(rt, client, keys.as_slice())?;
-    Ok(Reply::FoundEach {
+    Ok(Some(Reply::FoundEach {
         at: reads.at,
         values: reads.values,
-    })
+    }))
 }
 
 /// Reads the keys from `lo` on and below `hi`.
@@ -76,7 +76,7 @@ pub fn scan<E: Engine, R: Wait>(
     client: &mut E::Client,
     lo: &[u8],
     hi: &[u8],
-) -> Result<Reply, NoMemory>
+) -> Result<Option<Reply>, NoMemory>
     requires { E.belongs engine.now client.old }
     ensures belongs { E.belongs engine.now client.new }
     ensures answers { (pending : List Record) → Answers (E.settings engine.now) (E.account client.old) pending
@@ -85,8 +85,8 @@ pub fn scan<E: Engine, R: Wait>(
 {
     reads_are_steps();
     let rows = engine.scan(rt, client, lo, hi)?;
-    Ok(Reply::Rows {
+    Ok(Some(Reply::Rows {
         at: rows.at,
         rows: rows.rows,
-    })
+    }))
 }

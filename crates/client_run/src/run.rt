@@ -5,23 +5,23 @@ ghost use Rattle.account_model.specs.Closing.{AreOurs};
 ghost use Rattle.client_run.specs.Jobs.{FitBatches, AreNew, HaveTold, HaveEntries};
 ghost use Rattle.client_run.specs.Jobs.{IsRoom, IsReady, IsDone, AreReady, AreDone};
 
+use crate::batches::Batches;
 use crate::client::run_client;
 use crate::jobs::{Job, empty, fill};
-use client_calls::{Entry, Reply};
 use command_list::CommandList;
 use engine_calls::{Engine, Gate};
+use run_outcome::Reply;
 use std::alloc::Global;
 use std::sync::Wait;
 use std::thread;
 use std::thread::Threads;
 use wp_model::NoMemory;
-use write_batch::Batch;
 
-/// The clients, handed back, with what each was told and its accepted batches, all in order of the clients' numbers.
+/// The clients, handed back, with what each was told and its batches, all in order of the clients' numbers.
 pub struct Transcripts<C> {
     pub clients: Vec<C>,
     pub replies: Vec<Vec<Reply>>,
-    pub accepted: Vec<Vec<Entry<Batch>>>,
+    pub batches: Vec<Batches>,
 }
 
 /// Runs the commands of all clients, each client's in a thread of its own, or in the caller's where none can be made.
@@ -47,31 +47,31 @@ where
         t.clients.items) }
     ensures run { IfOk result (λ t. HaveTold (E.settings engine.now) script.now t.replies.items
         (map E.account t.clients.items)) }
-    ensures accepted { IfOk result (λ t. HaveEntries t.accepted.items (map E.account t.clients.items)) }
+    ensures accepted { IfOk result (λ t. HaveEntries t.batches.items (map E.account t.clients.items)) }
     ensures err { IfErr result (λ e. e.0 ≡ clients) }
 {
     let Ok(mut replies) = room_for(alloc, script) else {
         return Err((clients, NoMemory));
     };
-    let Ok(mut accepted) = room_for(alloc, script) else {
+    let Ok(mut batches) = Vec::with_capacity(alloc, script.len()) else {
         return Err((clients, NoMemory));
     };
     let Ok(mut jobs) = Vec::with_capacity(alloc, script.len()) else {
         return Err((clients, NoMemory));
     };
-    fill(&mut clients, &mut replies, &mut accepted, &mut jobs);
+    fill(alloc, &mut clients, &mut replies, &mut jobs);
     work_all(rt, alloc, engine, gate, script, jobs.as_mut_slice());
-    empty(&mut jobs, &mut clients, &mut replies, &mut accepted);
+    empty(&mut jobs, &mut clients, &mut replies, &mut batches);
     jobs.destroy_empty();
     Ok(Transcripts {
         clients,
         replies,
-        accepted,
+        batches,
     })
 }
 
-/// Room for one item a command, for each client.
-fn room_for<X: Drop>(alloc: Global, script: &[CommandList]) -> Result<Vec<Vec<X>>, NoMemory>
+/// Room for one reply a command, for each client.
+fn room_for(alloc: Global, script: &[CommandList]) -> Result<Vec<Vec<Reply>>, NoMemory>
     ensures { IfOk result (λ room. IsRoom script.now room.items) }
 {
     let mut all = Vec::new(alloc);
@@ -129,6 +129,6 @@ fn work<E: Engine, G: Gate, R: Wait>(
         i as u32 + 1,
         &script[i],
         &mut job.replies,
-        &mut job.accepted,
+        &mut job.batches,
     );
 }

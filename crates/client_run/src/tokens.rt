@@ -1,13 +1,13 @@
 //! A client's tokens of the write controller.
 
-ghost use Rattle.std.specs.Prelude.{◌≡◌, List};
+ghost use Rattle.std.specs.Prelude.{◌≡◌, List, Some};
 ghost use Rattle.wp_model.specs.Batch.{Record};
 ghost use Rattle.wp_model.specs.Calls as calls;
 ghost use Rattle.client_run.specs.Answers.{GoesOn};
 
 use account_model::{slowdowns_are_steps, stops_are_steps};
-use client_calls::Reply;
 use engine_calls::{Engine, Held, NotHeld};
+use run_outcome::Reply;
 use std::sync::Wait;
 
 /// Takes the stop token.
@@ -15,7 +15,7 @@ pub fn stop<E: Engine, R: Wait>(rt: &R, engine: &E, client: &mut E::Client) -> R
     requires { E.belongs engine.now client.old }
     ensures belongs { E.belongs engine.now client.new }
     ensures goes { (pending : List Record) → GoesOn (E.settings engine.now) (E.account client.old) pending calls.stop
-        result (E.account client.new) pending }
+        (Some result) (E.account client.new) pending }
     ensures mine { (E.account client.new).mine ≡ (E.account client.old).mine }
 {
     stops_are_steps();
@@ -30,7 +30,7 @@ pub fn unstop<E: Engine, R: Wait>(rt: &R, engine: &E, client: &mut E::Client) ->
     requires { E.belongs engine.now client.old }
     ensures belongs { E.belongs engine.now client.new }
     ensures goes { (pending : List Record) → GoesOn (E.settings engine.now) (E.account client.old) pending calls.unstop
-        result (E.account client.new) pending }
+        (Some result) (E.account client.new) pending }
     ensures mine { (E.account client.new).mine ≡ (E.account client.old).mine }
 {
     stops_are_steps();
@@ -45,7 +45,7 @@ pub fn slow<E: Engine, R: Wait>(rt: &R, engine: &E, client: &mut E::Client, rate
     requires { E.belongs engine.now client.old }
     ensures belongs { E.belongs engine.now client.new }
     ensures goes { (pending : List Record) → GoesOn (E.settings engine.now) (E.account client.old) pending
-        (calls.slow rate) result (E.account client.new) pending }
+        (calls.slow rate) (Some result) (E.account client.new) pending }
     ensures mine { (E.account client.new).mine ≡ (E.account client.old).mine }
 {
     slowdowns_are_steps();
@@ -60,7 +60,7 @@ pub fn unslow<E: Engine, R: Wait>(rt: &R, engine: &E, client: &mut E::Client) ->
     requires { E.belongs engine.now client.old }
     ensures belongs { E.belongs engine.now client.new }
     ensures goes { (pending : List Record) → GoesOn (E.settings engine.now) (E.account client.old) pending calls.unslow
-        result (E.account client.new) pending }
+        (Some result) (E.account client.new) pending }
     ensures mine { (E.account client.new).mine ≡ (E.account client.old).mine }
 {
     slowdowns_are_steps();

@@ -1,8 +1,8 @@
 //! The checks of a commit row by row, the runs that follow a sequence, and an outcome that lacks memory.
 
-use client_calls::{
-    MAX_SEQUENCE, Measure, Outcome, Reply, Run, flag_of, next_run, refusal_at_once,
-};
+use batch_list::BatchList;
+use client_calls::{MAX_SEQUENCE, Measure, Run, flag_of, next_run, refusal_at_once};
+use run_outcome::{History, Outcome, Reply};
 use std::test::Fail;
 use wp_coding::PairList;
 use wp_model::{Flag, Refusal, WriteOptions};
@@ -47,10 +47,10 @@ fn runs_follow_each_other(rt: HostRuntime) {
 
 #[test]
 fn an_outcome_tells_of_want_of_memory(rt: HostRuntime) -> Result<(), Fail> {
-    let replies = vec![in rt.alloc(); Reply::Quiet, Reply::NoMemory]?;
+    let replies = vec![in rt.alloc(); Reply::Done, Reply::NoMemory]?;
     let outcome = Outcome {
         transcripts: vec![in rt.alloc(); replies]?,
-        history: Vec::new(rt.alloc()),
+        history: History::of_one(BatchList::new(rt.alloc())),
         last: 1,
         state: PairList::new(rt.alloc()),
         log_len: 24,

@@ -1,7 +1,8 @@
 //! Two clients' batches: their history, and the map at its end.
 
-use client_calls::Entry;
+use batch_list::BatchList;
 use clients_outcome::{history_of, state_of};
+use run_outcome::History;
 use std::alloc::Global;
 use std::test::Fail;
 use wp_model::Flag;
@@ -38,29 +39,20 @@ fn batch_of(alloc: Global, sequence: u64, rows: &[Row]) -> Result<Batch, Fail> {
 }
 
 /// The accepted batches of a client.
-fn accepted(alloc: Global, of: u32) -> Result<Vec<Entry<Batch>>, Fail> {
-    let mut all = Vec::new(alloc);
-    for ((client, ordinal), (first, last), rows) in COMMITS {
+fn accepted(alloc: Global, of: u32) -> Result<BatchList, Fail> {
+    let mut list = BatchList::new(alloc);
+    for ((client, _), (first, _), rows) in COMMITS {
         if client == of {
-            all.push(Entry {
-                client,
-                ordinal,
-                first,
-                last,
-                flag: Flag::Log,
-                batch: batch_of(alloc, first, rows)?,
-            })?;
+            let batch = batch_of(alloc, first, rows)?;
+            list.push(Flag::Log, &batch)?;
         }
     }
-    Ok(all)
+    Ok(list)
 }
 
 /// The history of both clients.
-fn whole(alloc: Global) -> Result<Vec<Entry<Batch>>, Fail> {
-    let mut both = Vec::new(alloc);
-    for client in [1, 2] {
-        both.push(accepted(alloc, client)?)?;
-    }
+fn whole(alloc: Global) -> Result<History, Fail> {
+    let both = vec![in alloc; accepted(alloc, 1)?, accepted(alloc, 2)?]?;
     Ok(history_of(alloc, both)?)
 }
 
@@ -68,7 +60,9 @@ fn whole(alloc: Global) -> Result<Vec<Entry<Batch>>, Fail> {
 fn history_is_in_order_of_sequences(rt: HostRuntime) -> Result<(), Fail> {
     let history = whole(rt.alloc())?;
     assert_eq!(rt; history.len(), COMMITS.len());
-    for (entry, (owner, run, _)) in history.iter().zip(COMMITS) {
+    for at in 0..history.len() {
+        let (owner, run, _) = COMMITS[at];
+        let entry = history.entry(at);
         let shown = (
             (entry.client, entry.ordinal),
             (entry.first, entry.last),

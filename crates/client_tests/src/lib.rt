@@ -1,7 +1,7 @@
 //! Tests of the clients: the checks of their commits, their commands over a write path that finds no memory, the
 //! history and the map of all of them, and the script of a seed. They stand in a crate of their own, so that
-//! `client_calls`, `client_run`, `clients_outcome` and `script_generator` are proved once and not with their tests
-//! again.
+//! `client_calls`, `run_outcome`, `client_run`, `clients_outcome` and `script_generator` are proved once and not with
+//! their tests again.
 #![tactic(auto)]
 
 #[cfg(test)]

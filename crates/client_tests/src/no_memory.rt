@@ -8,14 +8,16 @@ ghost use Rattle.client_run.specs.Jobs.{FitBatches, AreNew};
 ghost use Rattle.client_script.specs.Scripts.{additions_of};
 
 use crate::mute::{Mute, MuteClient};
-use client_run::{Transcripts, run_clients};
+use client_run::{AtHand, Batches, Transcripts, run_clients};
 use command_list::{CommandList, CommandView};
 use engine_calls::Gate;
+use run_outcome::Reply;
 use std::alloc::Global;
+use std::process::Abort;
 use std::sync::atomic::AtomicU64;
 use std::sync::atomic::Ordering::SeqCst;
 use std::test::Fail;
-use wp_model::{NoMemory, WriteOptions};
+use wp_model::{NoMemory, Refusal, WriteOptions};
 
 /// A gate that counts.
 #[derive(Drop)]
@@ -86,6 +88,32 @@ fn script(alloc: Global) -> Result<Vec<CommandList>, NoMemory>
     Ok(both)
 }
 
+/// Each stopped at the first call past the checks. What adds to a batch or empties it has no reply.
+fn check_replies(rt: &impl Abort, replies: &[Vec<Reply>]) -> Result<(), Fail> {
+    let [first, second] = replies else {
+        return Err(Fail::new("not two clients"));
+    };
+    assert!(rt;
+        matches!(
+            first.as_slice(),
+            [Reply::Refused(Refusal::Empty), Reply::NoMemory]
+        )
+    );
+    assert!(rt; matches!(second.as_slice(), [Reply::NotHeld, Reply::NoMemory]));
+    Ok(())
+}
+
+/// No batch was accepted, and the first client's is still in the making.
+fn check_batches(rt: &impl Abort, batches: &[Batches]) -> Result<(), Fail> {
+    let [first, second] = batches else {
+        return Err(Fail::new("not two clients"));
+    };
+    assert_eq!(rt; (first.list.len(), second.list.len()), (0, 0));
+    assert!(rt; matches!(first.at_hand, AtHand::Pending(_)));
+    assert!(rt; matches!(second.at_hand, AtHand::Nothing));
+    Ok(())
+}
+
 #[test]
 fn clients_stop_for_want_of_memory_and_are_ended(rt: HostRuntime) -> Result<(), Fail> {
     let engine = Mute {
@@ -106,13 +134,10 @@ fn clients_stop_for_want_of_memory_and_are_ended(rt: HostRuntime) -> Result<(), 
     let Transcripts {
         clients: _,
         replies,
-        accepted,
+        batches,
     } = told;
-    let told = format!(in rt.alloc(); "{replies:?} {accepted:?}")?;
-    assert_eq!(rt;
-        told.as_str(),
-        "[[Refused(Empty), Quiet, NoMemory], [NotHeld, Quiet, NoMemory]] [[], []]"
-    );
+    check_replies(&rt, &replies)?;
+    check_batches(&rt, &batches)?;
     let counts = (
         engine.ended.load(SeqCst),
         gate.started.load(SeqCst),

@@ -1,25 +1,19 @@
 -- Lists by a key: one that rises strictly has one element of a key at most, and a rising list that has the same
 -- elements of each key is the same list.
-use Rattle.std.proofs.Common.{◌≡◌, ℕ, ◌<◌, ◌≤◌, ◌==◌, ◌&&◌, not, cond, Bool, true, false, List, [], ◌∷◌, length, get_or, filter, refl, ap, sym, ◌∙◌, arith, inl, inr, ◌⊎◌, suc, nat_lt, nat_cmp, is_lt, eqb-true}
+use Rattle.std.proofs.Common.{◌≡◌, ℕ, ◌<◌, ◌≤◌, ◌==◌, cond, Bool, true, false, List, [], ◌∷◌, length, get_or, filter, refl, ap, sym, arith, inl, inr, ◌⊎◌, suc}
 use Rattle.std.specs.List.{AllByRecursion}
-use Rattle.std.specs.List.Sorted.{IsNonDecreasingBy, ties}
+use Rattle.std.specs.List.Sorted.{IsNonDecreasingBy}
 use Rattle.std.proofs.lemmas.Bool.Decides.{nat_tests}
 use Rattle.std.proofs.lemmas.Bool.{cases_lt}
-use borrow.Author.Tests.{ltb-true}
 
--- filters by tests that agree
-filter_same : {X : Type 0} (p q : X → Bool) → ((x : X) → p x ≡ q x) → (xs : List X) → filter p xs ≡ filter q xs
-filter_same p q same [] = refl
-filter_same p q same (x ∷ xs) = let rest = filter_same p q same xs in ap (λ b. cond b (x ∷ filter p xs) (filter p xs)) (same x) ∙ ap (λ ys. cond (q x) (x ∷ ys) ys) rest
-
--- the same, at one element, by the answers of the tests
+-- two filters in either order, at one element, by the answers of the tests
 swap_at : {X : Type 0} (p q : X → Bool) (x : X) (xs : List X) (b c : Bool) → p x ≡ b → q x ≡ c → filter p (filter q xs) ≡ filter q (filter p xs) → filter p (filter q (x ∷ xs)) ≡ filter q (filter p (x ∷ xs))
 swap_at p q x xs true true h k rest = rw (h, k, h) (ap (λ ys. x ∷ ys) rest)
 swap_at p q x xs true false h k rest = rw (h, k) rest
 swap_at p q x xs false true h k rest = rw (h, k, h) rest
 swap_at p q x xs false false h k rest = rw (h, k) rest
 
--- two filters in either order
+-- the same, at all
 pub filter_swap : {X : Type 0} (p q : X → Bool) (xs : List X) → filter p (filter q xs) ≡ filter q (filter p xs)
 filter_swap p q [] = refl
 filter_swap p q (x ∷ xs) = swap_at p q x xs (p x) (q x) refl refl (filter_swap p q xs)
@@ -30,13 +24,6 @@ apart a b (inr h) = grind (arith, nat_tests)
 
 pub same : (a b : ℕ) → a ≡ b → (a == b) ≡ true
 same a b h = grind (arith, nat_tests)
-
--- two numbers tie where they are equal
-tie_is : (a b : ℕ) (c d e : Bool) → nat_lt a b ≡ c → nat_lt b a ≡ d → (b == a) ≡ e → not (is_lt (nat_cmp a b)) && not (is_lt (nat_cmp b a)) ≡ (b == a)
-tie_is a b true d e h k l = rw h (sym (apart b a (inr (ltb-true a b h))))
-tie_is a b false true e h k l = rw (h, k) (let no = apart b a (inl (ltb-true b a k)) in let no' = apart a b (inr (ltb-true b a k)) in rw (no, no') refl)
-tie_is a b false false true h k l = let eq = eqb-true b a l in let yes = same b a eq in let yes' = same a b (sym eq) in rw (h, k, yes, yes') refl
-tie_is a b false false false h k l = absurd (grind (arith, nat_tests))
 
 module _ {X : Type 0} (key : X → ℕ) where
   -- the elements of a key
@@ -121,9 +108,3 @@ module _ {X : Type 0} (key : X → ℕ) where
   -- a sorted list with the elements of one that rises strictly is that list
   pub sorted_is : (start : ℕ) (xs ys : List X) → IsNonDecreasingBy key xs → Climbs start ys → SameFibres xs ys → xs ≡ ys
   sorted_is start xs ys up is fibres = rising_is 0 start xs ys (rises_from 0 xs up (λ d some. omega arith)) is fibres
-
-  -- what a stable sort keeps, where an element has that key
-  pub fibres_from : (one : X) (k : ℕ) → key one ≡ k → (xs ys : List X) → filter (ties (λ (x y : X). is_lt (nat_cmp (key x) (key y))) one) xs ≡ filter (ties (λ (x y : X). is_lt (nat_cmp (key x) (key y))) one) ys → at k xs ≡ at k ys
-  fibres_from one k is xs ys h =
-      let test : (y : X) → ties (λ (x y : X). is_lt (nat_cmp (key x) (key y))) one y ≡ (key y == k) = λ y. tie_is (key one) (key y) _ _ _ refl refl refl ∙ ap (λ n. key y == n) is in
-      sym (filter_same _ _ test xs) ∙ (h ∙ filter_same _ _ test ys)

@@ -1,9 +1,8 @@
 -- A list whose elements have owners, taken apart by these.
-use Rattle.std.proofs.Common.{◌≡◌, ℕ, zero, suc, ◌+◌, ◌<◌, ◌≤◌, ◌==◌, Some, List, [], ◌∷◌, ◌++◌, length, slice_get, filter, flat_map, refl, ap, ◌∙◌, arith, inl, inr}
+use Rattle.std.proofs.Common.{◌≡◌, ℕ, zero, suc, ◌+◌, ◌<◌, ◌≤◌, ◌==◌, List, [], ◌∷◌, ◌++◌, filter, refl, ap, ◌∙◌, arith, inl, inr}
 use Rattle.std.specs.List.{AllByRecursion}
 use Rattle.std.proofs.lemmas.Bool.{cases_lt}
 use Rattle.std.proofs.lemmas.List.Elements.{filter-append}
-use Rattle.std.proofs.lemmas.List.Concat.{flat_map-cons}
 use Rattle.clients_outcome.proofs.Fibres.{at, Climbs, SameFibres, one_at, filter_swap, apart, same}
 
 module _ {X : Type 0} (owner : X → ℕ) where
@@ -48,12 +47,3 @@ module _ {X : Type 0} (owner : X → ℕ) where
     | inl none ↦ rw none (owns_none m n)
     | inr one ↦ rw one.1 (owns_one m n one.0 one.2)
   ]
-
-  -- lists of which each has its owner's elements
-  pub joined_owns : {V : Type 0} (items : V → List X) (m : ℕ) (lists : List V) (xs : List X) → ((i k : ℕ) (v : V) → k ≡ m + i + 1 → slice_get lists i ≡ Some v → items v ≡ own k xs)
-      → flat_map items lists ≡ owns m (length lists) xs
-  joined_owns items m [] xs each = refl
-  joined_owns items m (v ∷ lists) xs each =
-      let rest = joined_owns items (m + 1) lists xs (λ i k w is at. each (suc i) k w (omega (arith, is)) at) in
-      let here = each 0 (m + 1) v (omega arith) refl in
-      flat_map-cons items v lists ∙ (ap (λ ys. ys ++ flat_map items lists) here ∙ ap (λ ys. own (m + 1) xs ++ ys) rest)

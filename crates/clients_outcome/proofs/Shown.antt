@@ -1,19 +1,23 @@
--- Batches at hand that show a history.
-use Rattle.std.proofs.Common.{◌≡◌, ℕ, ◌+◌, ◌≤◌, ◌==◌, cond, Bool, true, false, List, [], ◌∷◌, length, map, filter, flat_map, fold, refl, ap, sym, ◌∙◌, arith, Vec, Global}
+-- Batches that show a history.
+use Rattle.std.proofs.Common.{◌≡◌, ℕ, suc, ◌+◌, ◌≤◌, ◌==◌, cond, Bool, true, false, Some, List, [], ◌∷◌, ◌++◌, length, slice_get, map, filter, take, fold, refl, ap, sym, ◌∙◌, arith}
 use Rattle.std.specs.Prelude.{Result, Ok, Err, IfOk}
 use Rattle.std.specs.List.{AllByRecursion}
 use Rattle.std.specs.List.Sorted.{IsNonDecreasingBy}
+use Rattle.std.proofs.lemmas.List.Sums.{fold_more}
+use Rattle.std.proofs.lemmas.Option.{get_or_from_slice_get, slice_get_within}
 use Rattle.wp_model.specs.declared.memory.NoMemory.{NoMemory}
 use Rattle.wp_model.specs.Map.{Pairs, after_records}
 use Rattle.wp_model.specs.History as history
 use Rattle.wp_model.specs.Outcomes.{entries_of_client}
 use Rattle.write_batch.specs.Contents.{Contents}
 use Rattle.client_calls.specs.declared.entry.Entry.{Entry}
-use Rattle.client_calls.specs.Shows.{ShowsEntry}
+use Rattle.batch_list.specs.declared.kept.Kept.{Kept}
+use Rattle.run_outcome.specs.Histories.{entries_of, entries_by, entries_of_all}
+use Rattle.run_outcome.specs.Shows.{ShowsEntry}
 use Rattle.client_run.specs.Answers.{ShowsEntries}
 use Rattle.clients_outcome.specs.Histories.{MakeUp}
 use Rattle.clients_outcome.proofs.Fibres.{at, Climbs, SameFibres, climbs_lower, sorted_is}
-use Rattle.clients_outcome.proofs.Owners.{owns, IsOneOf, owns_fibres, joined_owns}
+use Rattle.clients_outcome.proofs.Owners.{own, owns, IsOneOf, owns_fibres}
 
 -- what shows an entry
 abbrev pub shown_of : history.Entry → Entry Contents
@@ -66,17 +70,24 @@ named : (n : ℕ) (entries : List history.Entry) → AllByRecursion (λ (e : his
 named n [] all = tt
 named n (e ∷ es) all = let here = all.0 in ((omega arith, omega arith), named n es all.1)
 
-abbrev pub items_of : Vec (Entry Contents) Global → List (Entry Contents)
-items_of batches = batches.items
+-- Clients' batches, of which each client's are its own of a list, from that of the number m + 1 on.
+by_owners : (m : ℕ) (lists : List (List (Kept Contents))) (xs : List (Entry Contents))
+    → ((i k : ℕ) (batches : List (Kept Contents)) → k ≡ m + i + 1 → slice_get lists i ≡ Some batches → entries_of k batches ≡ own client_of k xs)
+    → entries_by (m + 1) lists ≡ owns client_of m (length lists) xs
+by_owners m [] xs each = refl
+by_owners m (batches ∷ lists) xs each =
+    let rest = by_owners (m + 1) lists xs (λ i k v is at. each (suc i) k v (omega (arith, is)) at) in
+    let here = each 0 (m + 1) batches (omega arith) refl in
+    ap (λ ys. ys ++ entries_by (m + 1 + 1) lists) here ∙ ap (λ ys. own client_of (m + 1) xs ++ ys) rest
 
 -- all clients' batches, sorted, are the history
-pub sorted_shows : (start : ℕ) (accepted : List (Vec (Entry Contents) Global)) (entries : List history.Entry) → MakeUp start accepted entries
-    → (sorted all : List (Entry Contents)) → all ≡ flat_map items_of accepted → IsNonDecreasingBy first_of sorted → SameFibres first_of sorted all → ShowsEntries sorted entries
-sorted_shows start accepted entries make sorted all joined rising kept =
+pub sorted_shows : (start : ℕ) (accepted : List (List (Kept Contents))) (entries : List history.Entry) → MakeUp start accepted entries
+    → (sorted : List (Entry Contents)) → IsNonDecreasingBy first_of sorted → SameFibres first_of sorted (entries_of_all accepted) → ShowsEntries sorted entries
+sorted_shows start accepted entries make sorted rising kept =
     let ys = map shown_of entries in
     let up = climbs start entries make.is_history in
-    let whole : all ≡ owns client_of 0 (length accepted) ys = joined ∙ joined_owns client_of items_of 0 accepted ys
-    (λ i k v is at. zip_is v.items (entries_of_client k entries) (let here : k ≡ i + 1 = omega (arith, is) in rw here (make.each i v at)) ∙ sym (filter_mapped shown_of (λ (x : Entry Contents). client_of x == k) entries)) in
+    let whole : entries_of_all accepted ≡ owns client_of 0 (length accepted) ys = by_owners 0 accepted ys
+    (λ i k v is at. zip_is (entries_of k v) (entries_of_client k entries) (let here : k ≡ i + 1 = omega (arith, is) in rw here (make.each i v at)) ∙ sym (filter_mapped shown_of (λ (x : Entry Contents). client_of x == k) entries)) in
     let fibres : SameFibres first_of sorted ys = λ k. kept k ∙ (ap (at first_of k) whole ∙ owns_fibres client_of first_of start 0 (length accepted) ys up (named (length accepted) entries make.clients) k) in
     let is = sorted_is first_of start sorted ys rising up fibres in
     rw is (zip_from entries)
@@ -91,12 +102,20 @@ fold_shown m (x ∷ xs) (e ∷ es) h =
     let same : x.batch.records ≡ e.records = ap (λ (b : Contents). b.records) h.0.batch in
     rw same (fold_shown (after_records m e.records) xs es h.1)
 
+-- with one batch more
+pub fold_next : (m : Pairs) (shown : List (Entry Contents)) (i : ℕ) (e : Entry Contents) → slice_get shown i ≡ Some e
+    → fold (λ (m : Pairs) (e : Entry Contents). after_records m e.batch.records) m (take (i + 1) shown)
+    ≡ after_records (fold (λ (m : Pairs) (e : Entry Contents). after_records m e.batch.records) m (take i shown)) e.batch.records
+fold_next m shown i e there =
+    let after = λ (m : Pairs) (e : Entry Contents). after_records m e.batch.records in
+    fold_more after m shown i e (slice_get_within shown i e there) ∙ ap (after (fold after m (take i shown))) (get_or_from_slice_get shown i e e there)
+
 -- whatever sorting them answers
-pub sorted_result_shows : (start : ℕ) (accepted : List (Vec (Entry Contents) Global)) (entries : List history.Entry) → MakeUp start accepted entries
-    → (r : Result (Vec (Entry Contents) Global) NoMemory) (all : List (Entry Contents)) → all ≡ flat_map items_of accepted → IfOk r (λ v. IsNonDecreasingBy first_of v.items)
-    → IfOk r (λ v. SameFibres first_of v.items all) → IfOk r (λ v. ShowsEntries v.items entries)
-sorted_result_shows start accepted entries make (Ok sorted) all joined rising kept = sorted_shows start accepted entries make sorted.items all joined rising kept
-sorted_result_shows start accepted entries make (Err none) all joined rising kept = tt
+pub sorted_result_shows : (start : ℕ) (accepted : List (List (Kept Contents))) (entries : List history.Entry) → MakeUp start accepted entries
+    → (r : Result (List (Entry Contents)) NoMemory) → IfOk r (IsNonDecreasingBy first_of)
+    → IfOk r (λ shown. SameFibres first_of shown (entries_of_all accepted)) → IfOk r (λ shown. ShowsEntries shown entries)
+sorted_result_shows start accepted entries make (Ok sorted) rising kept = sorted_shows start accepted entries make sorted rising kept
+sorted_result_shows start accepted entries make (Err none) rising kept = tt
 
 -- the pairs of a map that is this one
 pub made_shows : (r : Result Pairs NoMemory) (m n : Pairs) → m ≡ n → IfOk r (λ pairs. pairs ≡ m) → IfOk r (λ pairs. pairs ≡ n)

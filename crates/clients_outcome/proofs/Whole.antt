@@ -3,6 +3,7 @@ use Rattle.std.proofs.Common.{◌≡◌, ℕ, zero, suc, ◌+◌, ◌≤◌, Opt
 use Rattle.std.specs.List.{AllByRecursion, AllZip}
 use Rattle.std.specs.Option.{option_map}
 use Rattle.std.proofs.lemmas.Option.{slice_get-map, slice_get_cases}
+use Rattle.std.proofs.lemmas.Slice.Zip.{AllZip-long}
 use Rattle.wp_model.specs.History as history
 use Rattle.wp_model.specs.Trace.{Trace, Settings}
 use Rattle.wp_model.specs.Groups.{Group}
@@ -10,14 +11,15 @@ use Rattle.wp_model.specs.Calls as calls
 use Rattle.wp_model.specs.LogContents.{GroupCall}
 use Rattle.wp_model.specs.Outcomes.{IsLegalIn, outcome_of, entries_of_client}
 use Rattle.write_batch.specs.Contents.{Contents}
-use Rattle.client_calls.specs.declared.entry.Entry.{Entry}
-use Rattle.client_calls.specs.declared.reply.Reply.{Reply}
-use Rattle.client_calls.specs.Shows.{ShowsReplies}
+use Rattle.batch_list.specs.declared.kept.Kept.{Kept}
+use Rattle.run_outcome.specs.declared.reply.Reply.{Reply}
+use Rattle.run_outcome.specs.Shows.{ShowsReplies}
 use Rattle.account_model.specs.Accounts.{Account}
 use Rattle.account_model.specs.Closing.{AreOurs, IsClosing, all_attempts}
 use Rattle.account_model.specs.ClientRuns as clients
 use Rattle.account_model.specs.Written.{WritesLog}
-use Rattle.client_run.specs.Answers.{ShowsEntries}
+use Rattle.client_run.specs.declared.batches.Batches.{Batches}
+use Rattle.client_run.specs.Answers.{kept_in, ShowsEntries, ShowsKept}
 use Rattle.client_run.specs.Jobs.{HaveTold, HaveEntries}
 use Rattle.clients_outcome.specs.declared.run.Parts.{Parts}
 use Rattle.clients_outcome.specs.Histories.{MakeUp}
@@ -36,11 +38,16 @@ beside R (u ∷ xs) [] i x all at = absurd all
 beside R (u ∷ xs) (v ∷ ys) zero x all at = let same : u ≡ x = cc at in record { other = v; at = refl; related = subst (λ w. R w v) same all.0 }
 beside R (u ∷ xs) (v ∷ ys) (suc i) x all at = let rest = beside R xs ys i x all.1 at in record { other = rest.other; at = rest.at; related = rest.related }
 
-zip_length : {A B : Type 0} (R : A → B → Type 0) (xs : List A) (ys : List B) → AllZip R xs ys → length xs ≡ length ys
-zip_length R [] [] all = refl
-zip_length R [] (v ∷ ys) all = absurd all
-zip_length R (u ∷ xs) [] all = absurd all
-zip_length R (u ∷ xs) (v ∷ ys) all = ap suc (zip_length R xs ys all.1)
+-- what stands beside each element of a list stands beside what a function gives of it
+zip_mapped : {A B C : Type 0} (f : A → B) (R : B → C → Type 0) (xs : List A) (ys : List C) → AllZip (λ x y. R (f x) y) xs ys → AllZip R (map f xs) ys
+zip_mapped f R [] [] all = tt
+zip_mapped f R [] (y ∷ ys) all = absurd all
+zip_mapped f R (x ∷ xs) [] all = absurd all
+zip_mapped f R (x ∷ xs) (y ∷ ys) all = (all.0, zip_mapped f R xs ys all.1)
+
+-- each account has batches
+pub as_many : (batches : List Batches) (accounts : List Account) → HaveEntries batches accounts → length batches ≡ length accounts
+as_many batches accounts have = sym (AllZip-long (λ (b : Batches) (a : Account). ShowsKept a.number (kept_in b) a.mine) batches accounts have)
 
 -- the numbers of the clients' accounts
 pub number_at : {C : Type 0} (belongs : C → Type 0) (account : C → Account) (n : ℕ) (clients : List C) → AreOurs belongs account n clients
@@ -55,25 +62,30 @@ number_at belongs account n clients ours i a at =
 module _ {L : Type 0} (settings : Settings) (wrote : List GroupCall → L → Type 0) (fault : L → Option ℕ) (faults : L → ℕ) (log : L) (trace : Trace) (groups : List Group) (accounts : List Account) (last : ℕ)
     (closing : IsClosing settings (faults log) trace groups accounts last (fault log)) where
   -- the clients' batches make up the trace's history
-  pub makes_up : (accepted : List (Vec (Entry Contents) Global)) → HaveEntries accepted accounts → length accounts ≡ settings.clients
-      → ((i : ℕ) (a : Account) → slice_get accounts i ≡ Some a → a.number ≡ i + 1) → MakeUp trace.start accepted trace.entries
-  makes_up accepted have count number = record {
-    is_history = closing.is_trace.entries;
-    clients = subst (λ (n : ℕ). AllByRecursion (λ (e : history.Entry). (1 ≤ e.client) × (e.client ≤ n)) trace.entries)
-        (sym count ∙ sym (zip_length (λ (v : Vec (Entry Contents) Global) (a : Account). ShowsEntries v.items a.mine) accepted accounts have)) closing.is_trace.clients;
-    each = λ i batches at.
-        let b = beside (λ (v : Vec (Entry Contents) Global) (a : Account). ShowsEntries v.items a.mine) accepted accounts i batches have at in
-        let part = closing.each i b.other b.at in
-        let own : b.other.mine ≡ entries_of_client (i + 1) trace.entries = sym part.accepted ∙ ap (λ n. entries_of_client n trace.entries) (number i b.other b.at) in
-        subst (ShowsEntries batches.items) own b.related;
-  }
+  pub makes_up : (batches : List Batches) → HaveEntries batches accounts → length accounts ≡ settings.clients
+      → ((i : ℕ) (a : Account) → slice_get accounts i ≡ Some a → a.number ≡ i + 1) → MakeUp trace.start (map kept_in batches) trace.entries
+  makes_up batches have count number =
+      let Shows = λ (kept : List (Kept Contents)) (a : Account). ShowsKept a.number kept a.mine in
+      let accepted = map kept_in batches in
+      let shown : AllZip Shows accepted accounts = zip_mapped kept_in Shows batches accounts have in
+      record {
+        is_history = closing.is_trace.entries;
+        clients = subst (λ (n : ℕ). AllByRecursion (λ (e : history.Entry). (1 ≤ e.client) × (e.client ≤ n)) trace.entries)
+            (sym count ∙ AllZip-long Shows accepted accounts shown) closing.is_trace.clients;
+        each = λ i kept at.
+            let b = beside Shows accepted accounts i kept shown at in
+            let part = closing.each i b.other b.at in
+            let is = number i b.other b.at in
+            let own : b.other.mine ≡ entries_of_client (i + 1) trace.entries = sym part.accepted ∙ ap (λ n. entries_of_client n trace.entries) is in
+            subst (ShowsKept (i + 1) kept) own (subst (λ (n : ℕ). ShowsKept n kept b.other.mine) is b.related);
+      }
 
   -- the clients' replies, put together or not, tell a legal outcome of the trace
   module _ (script : List (List calls.Command)) (replies : Vec (Vec Reply Global) Global) (told : HaveTold settings script replies.items accounts)
       (legal : (transcripts : List (List calls.Call)) (log_len : ℕ) → clients.HaveRun settings script transcripts accounts
       → IsLegalIn settings (faults log) script trace (all_attempts accounts) (outcome_of trace transcripts last log_len (fault log)))
       (writes : WritesLog settings.group_bytes wrote trace (all_attempts accounts) (fault log) log) where
-    pub with_parts : (parts : Parts) → parts.transcripts ≡ replies → ShowsEntries parts.history.items trace.entries → parts.state ≡ history.map_of trace.entries
+    pub with_parts : (parts : Parts) → parts.transcripts ≡ replies → ShowsEntries parts.history trace.entries → parts.state ≡ history.map_of trace.entries
         → HaveRun settings script wrote fault faults log last (Some parts)
     with_parts parts same shown state = record {
       trace = trace;

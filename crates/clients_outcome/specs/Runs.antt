@@ -6,8 +6,8 @@ use Rattle.wp_model.specs.LogContents.{GroupCall}
 use Rattle.wp_model.specs.Calls.{Command, Call}
 use Rattle.wp_model.specs.Outcomes.{IsLegalIn, outcome_of}
 use Rattle.wp_model.specs.Map.{Pairs}
-use Rattle.client_calls.specs.declared.outcome.Outcome.{Outcome}
-use Rattle.client_calls.specs.Shows.{ShowsOutcome}
+use Rattle.run_outcome.specs.declared.outcome.Outcome.{Outcome}
+use Rattle.run_outcome.specs.Shows.{ShowsOutcome}
 use Rattle.account_model.specs.Written.{WritesLog}
 use Rattle.clients_outcome.specs.declared.run.Parts.{Parts}
 use Rattle.clients_outcome.specs.declared.run.Lacks.{Lacks}

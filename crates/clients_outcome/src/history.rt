@@ -1,49 +1,46 @@
 //! The history of all clients.
 
-ghost use Rattle.std.specs.Prelude.{◌≡◌, ℕ, List, flat_map, filter, ◌==◌, IfOk};
-ghost use Rattle.std.specs.List.Sorted.{IsNonDecreasingBy};
+ghost use Rattle.std.specs.Prelude.{◌≡◌, ◌<◌, ◌^◌, ℕ, List, length, map, IfOk};
 ghost use Rattle.wp_model.specs.History as model;
-ghost use Rattle.client_run.specs.Answers.{ShowsEntries};
+ghost use Rattle.client_run.specs.Answers.{kept_in, ShowsEntries};
 ghost use Rattle.clients_outcome.specs.Histories.{MakeUp};
 
-use client_calls::Entry;
+use batch_list::BatchList;
+use client_run::{AtHand, Batches};
+use run_outcome::History;
 use std::alloc::Global;
 use wp_model::NoMemory;
-use write_batch::Batch;
 
-/// The one history that the clients' accepted batches make, in order of their sequences. The batches are moved, and
-/// those of a client that is alone stay where they are.
-pub fn history_of(
-    alloc: Global,
-    mut accepted: Vec<Vec<Entry<Batch>>>,
-) -> Result<Vec<Entry<Batch>>, NoMemory>
-    ensures { (start : ℕ) (entries : List model.Entry) → MakeUp start accepted.items entries
-        → IfOk result (λ shown. ShowsEntries shown.items entries) }
+/// The one history that the clients' accepted batches make, in order of their sequences.
+pub fn history_of(alloc: Global, mut lists: Vec<BatchList>) -> Result<History, NoMemory>
+    requires { length lists.items < 2 ^ 32 }
+    ensures { (start : ℕ) (entries : List model.Entry) → MakeUp start lists.items entries
+        → IfOk result (λ shown. ShowsEntries shown entries) }
 {
-    if accepted.len() == 1 {
-        return Ok(accepted.remove(0));
+    if lists.len() == 1 {
+        return Ok(History::of_one(lists.remove(0)));
     }
-    in_order(joined(alloc, accepted)?)
+    History::of_all(alloc, lists)
 }
 
-/// All batches, client by client.
-fn joined(alloc: Global, accepted: Vec<Vec<Entry<Batch>>>) -> Result<Vec<Entry<Batch>>, NoMemory>
-    ensures { IfOk result (λ all. all.items ≡ flat_map (λ batches. batches.items) accepted.items) }
+/// Each client's accepted batches, all of them in its list.
+pub fn lists_of(alloc: Global, batches: Vec<Batches>) -> Result<Vec<BatchList>, NoMemory>
+    ensures { IfOk result (λ lists. lists.items ≡ map kept_in batches.items) }
 {
-    let mut all = Vec::new(alloc);
-    for mut batches in accepted {
-        all.append(&mut batches)?;
+    let mut lists = Vec::with_capacity(alloc, batches.len())?;
+    for own in batches {
+        lists.push(list_of(own)?)?;
     }
-    Ok(all)
+    Ok(lists)
 }
 
-/// The same entries in order of their first sequences.
-fn in_order(mut entries: Vec<Entry<Batch>>) -> Result<Vec<Entry<Batch>>, NoMemory>
-    ensures rising { IfOk result (λ sorted. IsNonDecreasingBy (λ e. e.first) sorted.items) }
-    // those of one first sequence stay as they were
-    ensures kept { IfOk result (λ sorted. (first : ℕ) → filter (λ e. e.first == first) sorted.items
-        ≡ filter (λ e. e.first == first) entries.items) }
+/// A client's accepted batches, the last one among them.
+fn list_of(batches: Batches) -> Result<BatchList, NoMemory>
+    ensures { IfOk result (λ list. list ≡ kept_in batches) }
 {
-    entries.sort_by_key(|entry| entry.first)?;
-    Ok(entries)
+    let Batches { mut list, at_hand } = batches;
+    if let AtHand::Accepted(kept) = &at_hand {
+        list.push(kept.flag, &kept.batch)?;
+    }
+    Ok(list)
 }

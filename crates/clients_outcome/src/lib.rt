@@ -10,6 +10,6 @@ mod history;
 mod run;
 mod state;
 
-pub use history::history_of;
+pub use history::{history_of, lists_of};
 pub use run::{Lacks, Parts, Ran, run_engine};
 pub use state::state_of;

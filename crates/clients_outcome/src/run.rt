@@ -1,26 +1,25 @@
 //! The whole run.
 
-ghost use Rattle.std.specs.Prelude.{◌≡◌, ◌^◌, ◌<◌, ℕ, List, length, IfOk};
+ghost use Rattle.std.specs.Prelude.{◌≡◌, ◌^◌, ◌<◌, ℕ, List, length, map, IfOk};
 ghost use Rattle.wp_model.specs.History as model;
 ghost use Rattle.account_model.specs.Closing.{AreOurs};
-ghost use Rattle.client_run.specs.Answers.{ShowsEntries};
+ghost use Rattle.client_run.specs.Answers.{kept_in, ShowsEntries};
 ghost use Rattle.client_run.specs.Jobs.{FitBatches, AreNew};
 ghost use Rattle.clients_outcome.specs.Histories.{MakeUp};
 ghost use Rattle.clients_outcome.specs.Runs.{ComesTo};
 
-use crate::history::history_of;
+use crate::history::{history_of, lists_of};
 use crate::state::state_of;
 use account_model::closed_runs_are_legal;
-use client_calls::{Entry, Reply};
-use client_run::{Transcripts, run_clients};
+use client_run::{Batches, Transcripts, run_clients};
 use command_list::CommandList;
 use engine_calls::{Clients, Closed, Engine, Gate};
+use run_outcome::{History, Reply};
 use std::alloc::Global;
 use std::sync::Wait;
 use std::thread::Threads;
 use wp_coding::PairList;
 use wp_model::NoMemory;
-use write_batch::Batch;
 
 /// What the clients' runs over a write path came to, its log, and the last published sequence.
 pub struct Ran<L> {
@@ -39,10 +38,10 @@ pub enum Lacks {
 }
 
 /// The replies of each client, the accepted batches in order of their sequences, and the map that they make.
-#[derive(Debug, Drop)]
+#[derive(Drop)]
 pub struct Parts {
     pub transcripts: Vec<Vec<Reply>>,
-    pub history: Vec<Entry<Batch>>,
+    pub history: History,
     pub state: PairList,
 }
 
@@ -74,11 +73,11 @@ where
             let Transcripts {
                 clients,
                 replies,
-                accepted,
+                batches,
             } = transcripts;
             closed_runs_are_legal();
             let Closed { log, last } = engine.close(rt, Clients { clients, room });
-            let parts = match parts_of(alloc, replies, accepted) {
+            let parts = match parts_of(alloc, replies, batches) {
                 Ok(parts) => Ok(parts),
                 Err(NoMemory) => Err(Lacks::Outcome),
             };
@@ -99,16 +98,18 @@ where
 fn parts_of(
     alloc: Global,
     transcripts: Vec<Vec<Reply>>,
-    accepted: Vec<Vec<Entry<Batch>>>,
+    batches: Vec<Batches>,
 ) -> Result<Parts, NoMemory>
+    requires { length batches.items < 2 ^ 32 }
     ensures transcripts { IfOk result (λ parts. parts.transcripts ≡ transcripts) }
-    ensures history { (start : ℕ) (entries : List model.Entry) → MakeUp start accepted.items entries
-        → IfOk result (λ parts. ShowsEntries parts.history.items entries) }
-    ensures state { (start : ℕ) (entries : List model.Entry) → MakeUp start accepted.items entries
+    ensures history { (start : ℕ) (entries : List model.Entry) → MakeUp start (map kept_in batches.items) entries
+        → IfOk result (λ parts. ShowsEntries parts.history entries) }
+    ensures state { (start : ℕ) (entries : List model.Entry) → MakeUp start (map kept_in batches.items) entries
         → IfOk result (λ parts. parts.state ≡ model.map_of entries) }
 {
-    let history = history_of(alloc, accepted)?;
-    let state = state_of(alloc, history.as_slice())?;
+    let lists = lists_of(alloc, batches)?;
+    let history = history_of(alloc, lists)?;
+    let state = state_of(alloc, &history)?;
     Ok(Parts {
         transcripts,
         history,

@@ -6,26 +6,27 @@ ghost use Rattle.wp_model.specs.History as model;
 ghost use Rattle.write_batch.specs.View.{record_of};
 ghost use Rattle.client_run.specs.Answers.{ShowsEntries};
 
-use client_calls::Entry;
+use batch_list::KeptBatch;
+use run_outcome::History;
 use std::alloc::Global;
 use wp_coding::{Bytes, PairList, PairMap};
 use wp_model::NoMemory;
-use write_batch::{Batch, RecordView};
+use write_batch::RecordView;
 
 /// The map that a history makes.
-pub fn state_of(alloc: Global, history: &[Entry<Batch>]) -> Result<PairList, NoMemory>
+pub fn state_of(alloc: Global, history: &History) -> Result<PairList, NoMemory>
     ensures { (entries : List model.Entry) → ShowsEntries history.now entries
         → IfOk result (λ state. state ≡ model.map_of entries) }
 {
     let mut map = PairMap::new(alloc);
-    for entry in history {
-        write_records(&mut map, &entry.batch)?;
+    for at in 0..history.len() {
+        write_records(&mut map, &history.entry(at).batch)?;
     }
     pairs_of(alloc, &map)
 }
 
 /// Does to a map what a batch says.
-fn write_records(map: &mut PairMap, batch: &Batch) -> Result<(), NoMemory>
+fn write_records(map: &mut PairMap, batch: &KeptBatch<'_>) -> Result<(), NoMemory>
     ensures { OnOk result (map.new ≡ after_records map.old batch.now.records) }
 {
     for view in batch.records() {

@@ -1,7 +1,8 @@
 //! Texts that no call comes to.
 
-use client_calls::{Outcome, Reply};
+use batch_list::BatchList;
 use printed_text::{disk_fault, outcome_text, recovered_text, summary_text};
+use run_outcome::{History, Outcome, Reply};
 use std::alloc::Global;
 use std::process::Abort;
 use std::test::Fail;
@@ -18,7 +19,7 @@ fn one_fault(alloc: Global) -> Result<Outcome<PairList>, NoMemory> {
     ]?;
     Ok(Outcome {
         transcripts: vec![in alloc; replies]?,
-        history: Vec::new(alloc),
+        history: History::of_one(BatchList::new(alloc)),
         last: 0,
         state: PairList::new(alloc),
         log_len: 0,

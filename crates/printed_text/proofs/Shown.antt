@@ -8,15 +8,14 @@ use Rattle.wp_model.specs.Map.{Pairs}
 use Rattle.write_batch.specs.Contents.{Contents}
 use Rattle.wp_model.specs.Calls as calls
 use Rattle.wp_model.specs.Text.{line, reply_text, client_text, entry_text, history_text, outcome_text}
-use Rattle.client_calls.specs.declared.reply.Reply.{Reply}
-use Rattle.client_calls.specs.declared.reply.Reply.TheVariants.{Quiet, Accepted, Refused, Found, FoundEach, Rows, Done, Held, NotHeld, NoMemory}
+use Rattle.run_outcome.specs.declared.reply.Reply.{Reply}
+use Rattle.run_outcome.specs.declared.reply.Reply.TheVariants.{Accepted, Refused, Found, FoundEach, Rows, Done, Held, NotHeld, NoMemory}
 use Rattle.client_calls.specs.declared.entry.Entry.{Entry}
-use Rattle.client_calls.specs.declared.outcome.Outcome.{Outcome}
-use Rattle.client_calls.specs.Shows.{ShowsReply, ShowsReplies, ShowsEntry, ShowsOutcome}
+use Rattle.run_outcome.specs.declared.outcome.Outcome.{Outcome}
+use Rattle.run_outcome.specs.Shows.{ShowsReply, ShowsReplies, with_replies, ShowsEntry, ShowsOutcome}
 use Rattle.printed_text.specs.ShownText.{reply_line, client_lines, entry_line, history_lines, shown_text}
 
 reply_shown : (r : Reply) (c : calls.Call) → ShowsReply r c → reply_line r ≡ reply_text c.reply
-reply_shown Quiet c e = sym (ap reply_text e)
 reply_shown (Accepted first last) c e = sym (ap reply_text e.1)
 reply_shown (Refused why) c e = sym (ap reply_text e)
 reply_shown (Found at value) c e = sym (ap reply_text e)
@@ -27,12 +26,28 @@ reply_shown Held c e = sym (ap reply_text e)
 reply_shown NotHeld c e = sym (ap reply_text e)
 reply_shown NoMemory c e = sym (ap reply_text e)
 
+abbrev texts : List calls.Call → List ℕ
+texts cs = flat_map (λ (c : calls.Call). reply_text c.reply) cs
+
 -- of replies in order
-replies_shown : (rs : List Reply) (cs : List calls.Call) → ShowsReplies rs cs → flat_map reply_line rs ≡ flat_map (λ c. reply_text c.reply) cs
-replies_shown [] [] all = refl
-replies_shown [] (c ∷ cs) all = absurd all
-replies_shown (r ∷ rs) [] all = absurd all
-replies_shown (r ∷ rs) (c ∷ cs) all = rw (reply_shown r c all.0) (ap (λ t. reply_text c.reply ++ t) (replies_shown rs cs all.1))
+lines_shown : (rs : List Reply) (cs : List calls.Call) → AllZip ShowsReply rs cs → flat_map reply_line rs ≡ texts cs
+lines_shown [] [] all = refl
+lines_shown [] (c ∷ cs) all = absurd all
+lines_shown (r ∷ rs) [] all = absurd all
+lines_shown (r ∷ rs) (c ∷ cs) all = rw (reply_shown r c all.0) (ap (λ t. reply_text c.reply ++ t) (lines_shown rs cs all.1))
+
+-- a call that has no reply has no text
+call_text : (command : calls.Command) (r : calls.Reply) (cs : List calls.Call) → texts (with_replies cs) ≡ texts cs
+    → texts (with_replies (record { command = command; reply = r } ∷ cs)) ≡ texts (record { command = command; reply = r } ∷ cs)
+call_text command calls.quiet cs same = same
+call_text command r cs same = ap (λ t. reply_text r ++ t) same
+
+quiet_texts : (cs : List calls.Call) → texts (with_replies cs) ≡ texts cs
+quiet_texts [] = refl
+quiet_texts (c ∷ cs) = call_text c.command c.reply cs (quiet_texts cs)
+
+replies_shown : (rs : List Reply) (cs : List calls.Call) → ShowsReplies rs cs → flat_map reply_line rs ≡ texts cs
+replies_shown rs cs all = lines_shown rs (with_replies cs) all ∙ quiet_texts cs
 
 -- of clients from a number on
 pub clients_shown : (n : ℕ) (xs : List (Vec Reply Global)) (ys : List (List calls.Call)) → AllZip (λ v. ShowsReplies v.items) xs ys → flat_map client_lines (enumerate_from n xs) ≡ flat_map client_text (enumerate_from n ys)

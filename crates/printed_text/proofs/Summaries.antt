@@ -1,7 +1,8 @@
 -- The numbers of a summary are those of what the values show.
-use Rattle.std.proofs.Common.{◌≡◌, ◌∙◌, ℕ, suc, ◌+◌, List, [], ◌∷◌, ◌++◌, length, refl, sym, ap}
+use Rattle.std.proofs.Common.{◌≡◌, ◌∙◌, ℕ, suc, ◌+◌, List, [], ◌∷◌, ◌++◌, length, take, Some, slice_get, refl, sym, ap}
 use Rattle.std.proofs.lemmas.List.{append_assoc}
-use Rattle.std.proofs.lemmas.List.Sums.{sum_by-cons}
+use Rattle.std.proofs.lemmas.List.Sums.{sum_by-cons, sum_by_more}
+use Rattle.std.proofs.lemmas.Option.{slice_get_within, get_or_from_slice_get}
 use Rattle.std.specs.Prelude.{sum_by, codes}
 use Rattle.std.specs.List.{AllZip}
 use Rattle.write_batch.specs.Contents.{Contents}
@@ -13,8 +14,8 @@ use Rattle.wp_model.specs.History.{IsHistory, last_of}
 use Rattle.wp_model.specs.Map.{Pairs}
 use Rattle.wp_model.specs.Script.{value_of_digits}
 use Rattle.client_calls.specs.declared.entry.Entry.{Entry}
-use Rattle.client_calls.specs.declared.outcome.Outcome.{Outcome}
-use Rattle.client_calls.specs.Shows.{ShowsEntry, ShowsOutcome}
+use Rattle.run_outcome.specs.declared.outcome.Outcome.{Outcome}
+use Rattle.run_outcome.specs.Shows.{ShowsEntry, ShowsOutcome}
 
 zip_length : {A B : Type 0} (P : A → B → Type 0) (xs : List A) (ys : List B) → AllZip P xs ys → length xs ≡ length ys
 zip_length P [] [] all = refl
@@ -25,6 +26,12 @@ zip_length P (x ∷ xs) (y ∷ ys) all = ap suc (zip_length P xs ys all.1)
 -- how many records the batches of the entries count
 abbrev pub shown_count : List (Entry Contents) → ℕ
 shown_count ss = sum_by (λ (s : Entry Contents). count_of s.batch.records) ss
+
+-- with one more
+pub count_more : (ss : List (Entry Contents)) (i : ℕ) (s : Entry Contents) → slice_get ss i ≡ Some s → shown_count (take (i + 1) ss) ≡ shown_count (take i ss) + count_of s.batch.records
+count_more ss i s is =
+    sum_by_more (λ (x : Entry Contents). count_of x.batch.records) ss i s (slice_get_within ss i s is)
+    ∙ ap (λ (x : Entry Contents). shown_count (take i ss) + count_of x.batch.records) (get_or_from_slice_get ss i s s is)
 
 count_shown : (start : ℕ) (ss : List (Entry Contents)) (es : List history.Entry) → IsHistory start es → AllZip ShowsEntry ss es
     → shown_count ss ≡ sum_by (λ (e : history.Entry). e.count) es
@@ -45,8 +52,8 @@ six_lines a b c d e f = simp (append_assoc)
 -- the lines of the values
 abbrev pub shown_summary : Outcome Pairs → ℕ → List ℕ
 shown_summary v sum =
-    ((((number_line (codes "clients") (length v.transcripts.items) ++ number_line (codes "batches") (length v.history.items))
-    ++ number_line (codes "records") (shown_count v.history.items)) ++ number_line (codes "last") v.last)
+    ((((number_line (codes "clients") (length v.transcripts.items) ++ number_line (codes "batches") (length v.history))
+    ++ number_line (codes "records") (shown_count v.history)) ++ number_line (codes "last") v.last)
     ++ number_line (codes "keys") (length v.state)) ++ number_line (codes "sum") sum
 
 pub summary_shown : (v : Outcome Pairs) (o : calls.Outcome) (start sum : ℕ) → IsHistory start o.history → ShowsOutcome v o

@@ -6,10 +6,10 @@ use Rattle.wp_model.specs.Batch.{batch}
 use Rattle.wp_model.specs.Calls as calls
 use Rattle.wp_model.specs.declared.log.EndReason.{EndReason}
 use Rattle.wp_model.specs.Text.{line, hex, reply_text, flag_word, state_text, log_text, hex_word, end_words}
-use Rattle.client_calls.specs.declared.reply.Reply.{Reply}
-use Rattle.client_calls.specs.declared.reply.Reply.TheVariants.{Quiet, Accepted, Refused, Found, FoundEach, Rows, Done, Held, NotHeld, NoMemory}
+use Rattle.run_outcome.specs.declared.reply.Reply.{Reply}
+use Rattle.run_outcome.specs.declared.reply.Reply.TheVariants.{Accepted, Refused, Found, FoundEach, Rows, Done, Held, NotHeld, NoMemory}
 use Rattle.client_calls.specs.declared.entry.Entry.{Entry}
-use Rattle.client_calls.specs.declared.outcome.Outcome.{Outcome}
+use Rattle.run_outcome.specs.declared.outcome.Outcome.{Outcome}
 use Rattle.wal_recover.specs.declared.kept.GroupNote.{GroupNote}
 use Rattle.wal_recover.specs.declared.recovery.Recovered.{Recovered}
 use Rattle.write_core.specs.declared.step.Counts.{Counts}
@@ -30,7 +30,6 @@ pair_words p = p.0 ∷ p.1 ∷ []
 
 -- a reply as shown; its text doesn't tell the records
 abbrev pub shown_reply : Reply → calls.Reply
-shown_reply Quiet = calls.quiet
 shown_reply (Accepted first last) = calls.accepted first last []
 shown_reply (Refused why) = calls.refused why
 shown_reply (Found at value) = calls.found at value
@@ -51,16 +50,19 @@ client_lines p = line (codes "client" ∷ decimal p.0 ∷ []) ++ flat_map reply_
 abbrev pub clients_lines : List (Vec Reply Global) → List ℕ
 clients_lines transcripts = flat_map client_lines (enumerate_from 1 transcripts)
 
+-- the line of a batch with these bytes
+abbrev pub line_of : {B : Type 0} → Entry B → List ℕ → List ℕ
+line_of e bytes =
+    line (decimal e.first ∷ decimal e.last ∷ decimal e.client ∷ decimal e.ordinal ∷ flag_word e.flag ∷ hex bytes ∷ [])
+
 abbrev pub entry_line : Entry Contents → List ℕ
-entry_line e =
-    line (decimal e.first ∷ decimal e.last ∷ decimal e.client ∷ decimal e.ordinal ∷ flag_word e.flag
-    ∷ hex (batch e.batch.sequence e.batch.records) ∷ [])
+entry_line e = line_of e (batch e.batch.sequence e.batch.records)
 
 abbrev pub history_lines : List (Entry Contents) → List ℕ
 history_lines entries = line (codes "history" ∷ decimal (length entries) ∷ []) ++ flat_map entry_line entries
 
 abbrev pub shown_text : Outcome Pairs → List ℕ
-shown_text v = clients_lines v.transcripts.items ++ history_lines v.history.items
+shown_text v = clients_lines v.transcripts.items ++ history_lines v.history
     ++ state_text plain v.last v.state ++ log_text v.log_len v.fault
 
 abbrev pub group_line : GroupNote → List ℕ

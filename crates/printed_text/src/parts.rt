@@ -2,11 +2,12 @@
 
 ghost use Rattle.std.specs.Prelude.{◌≡◌, ◌++◌, [], ◌∷◌, codes, decimal, OnOk};
 ghost use Rattle.wp_model.specs.Text.{line, refusal_words, flag_word, log_text};
-ghost use Rattle.printed_text.specs.ShownText.{reply_line, client_lines, clients_lines, entry_line, history_lines};
+ghost use Rattle.printed_text.specs.ShownText.{reply_line, client_lines, clients_lines, line_of, history_lines};
 
 use crate::lines::{put_hex, put_line, put_number, put_numbers};
 use crate::reads::{put_found_each, put_rows};
-use client_calls::{Entry, Reply};
+use client_calls::Entry;
+use run_outcome::{History, Reply};
 use std::alloc::Global;
 use wp_coding::Bytes;
 use wp_model::{Flag, NoMemory, Refusal};
@@ -45,7 +46,6 @@ fn put_reply(text: &mut Bytes, reply: &Reply) -> Result<(), NoMemory>
     ensures { OnOk result (text.new ≡ text.old ++ reply_line reply.now) }
 {
     match reply {
-        Reply::Quiet => Ok(()),
         Reply::Accepted { first, last } => put_line(text, b"ok", &[*first, *last]),
         Reply::Refused(why) => put_refusal(text, *why),
         Reply::Found {
@@ -92,20 +92,38 @@ fn flag_word(flag: Flag) -> &'static [u8]
     }
 }
 
-fn put_entry(alloc: Global, text: &mut Bytes, entry: &Entry<Batch>) -> Result<(), NoMemory>
-    ensures { OnOk result (text.new ≡ text.old ++ entry_line entry.now) }
+/// Puts a batch's line behind the text. `B` is what stands for the batch, which has these bytes.
+fn put_entry<B>(
+    alloc: Global,
+    text: &mut Bytes,
+    entry: &Entry<B>,
+    bytes: &[u8],
+) -> Result<(), NoMemory>
+    ensures { OnOk result (text.new ≡ text.old ++ line_of entry.now bytes.now) }
 {
     put_number(text, entry.first)?;
     put_numbers(text, &[entry.last, u64::from(entry.client), entry.ordinal])?;
     text.append(b" ")?;
     text.append(flag_word(entry.flag))?;
     text.append(b" ")?;
-    put_hex(alloc, text, entry.batch.bytes())?;
+    put_hex(alloc, text, bytes)?;
     text.append(b"\n")
 }
 
-/// Puts the history behind the text: how many batches there are, and a line for each.
-pub fn put_history(
+/// Puts the history of a run behind the text: how many batches there are, and a line for each.
+pub fn put_history(alloc: Global, text: &mut Bytes, history: &History) -> Result<(), NoMemory>
+    ensures { OnOk result (text.new ≡ text.old ++ history_lines history.now) }
+{
+    put_line(text, b"history", &[history.len() as u64])?;
+    for at in 0..history.len() {
+        let entry = history.entry(at);
+        put_entry(alloc, text, &entry, entry.batch.bytes())?;
+    }
+    Ok(())
+}
+
+/// Puts the history of a schedule behind the text, as that of a run.
+pub fn put_entries(
     alloc: Global,
     text: &mut Bytes,
     entries: &[Entry<Batch>],
@@ -114,7 +132,7 @@ pub fn put_history(
 {
     put_line(text, b"history", &[entries.len() as u64])?;
     for entry in entries {
-        put_entry(alloc, text, entry)?;
+        put_entry(alloc, text, entry, entry.batch.bytes())?;
     }
     Ok(())
 }

@@ -7,7 +7,7 @@ ghost use Rattle.schedule_run.specs.Replayed.{ShowsReplayed};
 ghost use Rattle.printed_text.specs.ShownText.{counts_line};
 
 use crate::lines::{put_line, put_numbers};
-use crate::parts::{put_clients, put_history};
+use crate::parts::{put_clients, put_entries};
 use crate::states::put_map;
 use schedule_run::Replayed;
 use std::alloc::Global;
@@ -23,7 +23,7 @@ pub fn replayed_text(alloc: Global, replayed: &Replayed) -> Result<Bytes, NoMemo
     let mut text = Bytes::new(alloc);
     put_counts(&mut text, replayed.counts)?;
     put_clients(&mut text, &replayed.transcripts)?;
-    put_history(alloc, &mut text, &replayed.history)?;
+    put_entries(alloc, &mut text, &replayed.history)?;
     put_map(&mut text, replayed.last, &replayed.map)?;
     put_line(&mut text, b"groups", &[replayed.groups])?;
     Ok(text)

@@ -8,14 +8,13 @@ ghost use Rattle.wp_model.specs.Generator.{number_line};
 ghost use Rattle.wp_model.specs.Generator as model;
 ghost use Rattle.wp_model.specs.History.{IsHistory};
 ghost use Rattle.wp_model.specs.Script.{value_of_digits};
-ghost use Rattle.client_calls.specs.Shows.{ShowsOutcome};
+ghost use Rattle.run_outcome.specs.Shows.{ShowsOutcome};
 
-use client_calls::{Entry, Outcome};
 use itoa::Buffer;
+use run_outcome::{History, Outcome};
 use std::alloc::Global;
 use wp_coding::{Bytes, PairList};
 use wp_model::NoMemory;
-use write_batch::Batch;
 
 /// The summary of an outcome, whose map's values have this sum as numbers.
 pub fn summary_text(
@@ -36,13 +35,13 @@ pub fn summary_text(
     Ok(text)
 }
 
-/// How many records the batches of the entries count, all together.
-fn record_count(entries: &[Entry<Batch>]) -> u128
-    ensures { result ≡ sum_by (λ entry. count_of entry.batch.records) entries.now }
+/// How many records the batches of a history count, all together.
+fn record_count(history: &History) -> u128
+    ensures { result ≡ sum_by (λ entry. count_of entry.batch.records) history.now }
 {
     let mut count = 0;
-    for entry in entries {
-        count += u128::from(entry.batch.count());
+    for at in 0..history.len() {
+        count += u128::from(history.entry(at).batch.count());
     }
     count
 }

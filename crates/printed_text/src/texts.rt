@@ -4,14 +4,14 @@
 ghost use Rattle.std.specs.Prelude.{◌≡◌, IfOk};
 ghost use Rattle.wp_model.specs.Calls as calls;
 ghost use Rattle.wp_model.specs.Text.{outcome_text};
-ghost use Rattle.client_calls.specs.Shows.{ShowsOutcome};
+ghost use Rattle.run_outcome.specs.Shows.{ShowsOutcome};
 ghost use Rattle.wp_model.specs.Script as model;
 ghost use Rattle.printed_text.specs.Refusals as texts;
 
 use crate::lines::{put_line, put_numbers};
 use crate::parts::{put_clients, put_history, put_log};
 use crate::states::put_pairs;
-use client_calls::Outcome;
+use run_outcome::Outcome;
 use std::alloc::Global;
 use wp_coding::{Bytes, PairList};
 use wp_model::{NoMemory, ScriptFault};

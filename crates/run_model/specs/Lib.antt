@@ -2,4 +2,3 @@ pub mod Lost
 pub mod Crashes
 pub mod Examples
 pub mod Refusals
-pub mod Running

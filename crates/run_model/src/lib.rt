@@ -3,7 +3,6 @@
 //! - `specs/Lost`: the one group of commits whose log write failed, by what became of the clients' commits.
 //! - `specs/Crashes`: the log at the run's end, each image that a crash may leave, and an outcome with both by one
 //!   trace (`IsSafe`).
-//! - `specs/Running`: what a run of a script comes to.
 //! - `specs/Refusals`: which refusals are left where the log has no fault.
 //!
 //! The law and the examples are the contracts of functions that do nothing.

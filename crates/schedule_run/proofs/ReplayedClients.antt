@@ -2,6 +2,7 @@
 use Rattle.std.proofs.Common.{◌≡◌, ◌⊎◌, inl, inr, ℕ, zero, suc, ◌+◌, ◌<◌, ◌≤◌, true, false, List, [], ◌∷◌, ◌++◌, length, map, take_while, nat_le, drop, get_or, Option, Some, None, option_map, slice_get, Vec, refl, ap, sym, ◌∙◌, subst, arith, append_assoc, append-nil, length-append}
 use Rattle.std.specs.Prelude.{MatchOption, ⊤}
 use Rattle.std.specs.List.{AllByRecursion, AllZip}
+use Rattle.std.specs.Option.{option_map_or}
 use Rattle.std.specs.declared.alloc.Global.{Global}
 use Rattle.std.proofs.lemmas.Bool.{lt-leb, le-leb}
 use Rattle.std.proofs.lemmas.List.{length-map, at_drop_more, at_drop_all, drop-drop}
@@ -20,7 +21,7 @@ use Rattle.core_laws.proofs.Histories.{history_rises, history_front}
 use Rattle.client_calls.specs.declared.command.Command.{Command}
 use Rattle.client_calls.specs.declared.command.Command.TheVariants.{Put, Delete, SingleDelete, Note, Clear, Commit, Get, Many, Scan, Stop, Unstop, Slow, Unslow}
 use Rattle.client_calls.specs.Commands.{command_of}
-use Rattle.client_calls.specs.declared.reply.Reply.{Reply}
+use Rattle.run_outcome.specs.declared.reply.Reply.{Reply}
 use Rattle.client_script.specs.Scripts.{IsClientsCommand}
 use Rattle.core_plans.specs.declared.plan.ClientPlan.{ClientPlan}
 use Rattle.write_core.specs.declared.writer.CoreReply.{CoreReply}
@@ -29,8 +30,7 @@ use Rattle.core_plans.specs.Answers.{answers_of}
 use Rattle.write_core.specs.Replies.{AreReplies}
 use Rattle.core_plans.specs.Plans as plans
 use Rattle.core_views.specs.Maps.{map_up_to}
-use Rattle.client_calls.specs.Shows.{ShowsReply}
-use Rattle.schedule_run.specs.Replayed.{with_lines}
+use Rattle.run_outcome.specs.Shows.{ShowsReply, ShowsReplies}
 use Rattle.schedule_run.specs.Replaying.{reply_by, first_reply, replies_by, next_reply, IsTranscript, AreTranscripts}
 
 -- A read's map
@@ -122,8 +122,8 @@ none_told entries (Unslow ∷ xs) = none_told entries xs
 -- a call more, where the others are shown
 one_shown : (entries : List Entry) (x : Command) (xs : List Command) (command : calls.Command) (r : calls.Reply) (cs : List calls.Call) (told : List CoreReply) → IsTold entries x r
     → AreReplies told (answers_of (record { command = command; reply = r } ∷ cs))
-    → ((left : List CoreReply) → AreReplies left (answers_of cs) → AllZip ShowsReply (replies_by entries xs left) (with_lines cs))
-    → AllZip ShowsReply (replies_by entries (x ∷ xs) told) (with_lines (record { command = command; reply = r } ∷ cs))
+    → ((left : List CoreReply) → AreReplies left (answers_of cs) → ShowsReplies (replies_by entries xs left) cs)
+    → ShowsReplies (replies_by entries (x ∷ xs) told) (record { command = command; reply = r } ∷ cs)
 one_shown entries (Put key v) xs command calls.quiet cs told is are rest = rest told are
 one_shown entries (Delete key) xs command calls.quiet cs told is are rest = rest told are
 one_shown entries (SingleDelete key) xs command calls.quiet cs told is are rest = rest told are
@@ -150,7 +150,7 @@ one_shown entries (Scan lo hi) xs command (calls.rows at pairs) cs [] is are res
 one_shown entries x xs command r cs told is are rest = absurd is
 
 told_shown : (o : Options) (s : State) (whole before cs : List calls.Call) (xs : List Command) (rest : List calls.Command) (told : List CoreReply) → IsHistory o.start s.entries → AreRight o s whole
-    → AllByRecursion IsClientsCommand (map command_of xs) → whole ≡ before ++ cs → map command_of xs ≡ commands_of cs ++ rest → AreReplies told (answers_of cs) → AllZip ShowsReply (replies_by s.entries xs told) (with_lines cs)
+    → AllByRecursion IsClientsCommand (map command_of xs) → whole ≡ before ++ cs → map command_of xs ≡ commands_of cs ++ rest → AreReplies told (answers_of cs) → ShowsReplies (replies_by s.entries xs told) cs
 told_shown o s whole before [] xs rest [] history right said split same are = subst (λ rs. AllZip ShowsReply rs []) (sym (none_told s.entries xs)) tt
 told_shown o s whole before [] xs rest (t ∷ ts) history right said split same are = absurd are
 told_shown o s whole before (c ∷ cs) [] rest told history right said split same are = absurd (cc same)
@@ -163,16 +163,16 @@ told_shown o s whole before (c ∷ cs) (x ∷ xs) rest told history right said s
     (λ left all. told_shown o s whole (before ++ c ∷ []) cs xs rest left history right said.1 next others all)
 
 client_shown : (o : Options) (s : State) (n : ℕ) (commands : List Command) (replies : List Reply) (client : Client) → IsHistory o.start s.entries → AllByRecursion IsClientsCommand (map command_of commands)
-    → slice_get s.clients n ≡ Some client → IsAnswered o s (suc n) (map command_of commands) client → IsTranscript s (suc n) commands replies → AllZip ShowsReply replies (with_lines client.calls)
+    → slice_get s.clients n ≡ Some client → IsAnswered o s (suc n) (map command_of commands) client → IsTranscript s (suc n) commands replies → ShowsReplies replies client.calls
 client_shown o s n commands replies client history said there answered t =
     let are : AreReplies t.told (answers_of client.calls) = MatchOption-at_some (t.told ≡ []) (λ (c : Client). AreReplies t.told (answers_of c.calls)) client there t.is_told in
-    subst (λ rs. AllZip ShowsReply rs (with_lines client.calls)) (sym t.replies_are) (told_shown o s client.calls [] client.calls commands answered.rest t.told history answered.right said refl answered.asked are)
+    subst (λ rs. ShowsReplies rs client.calls) (sym t.replies_are) (told_shown o s client.calls [] client.calls commands answered.rest t.told history answered.right said refl answered.asked are)
 
 -- All clients
 
 all_shown : (ts : List (Vec Reply Global)) (cs : List Client) → length ts ≡ length cs
-    → ((i : ℕ) (v : Vec Reply Global) (client : Client) → slice_get ts i ≡ Some v → slice_get cs i ≡ Some client → AllZip ShowsReply v.items (with_lines client.calls))
-    → AllZip (λ (v : Vec Reply Global) (told : List calls.Call). AllZip ShowsReply v.items told) ts (map (λ (c : Client). with_lines c.calls) cs)
+    → ((i : ℕ) (v : Vec Reply Global) (client : Client) → slice_get ts i ≡ Some v → slice_get cs i ≡ Some client → ShowsReplies v.items client.calls)
+    → AllZip (λ (v : Vec Reply Global). ShowsReplies v.items) ts (map (λ (c : Client). c.calls) cs)
 all_shown [] [] e each = tt
 all_shown [] (c ∷ cs) e each = absurd (omega (arith, e))
 all_shown (t ∷ ts) [] e each = absurd (omega (arith, e))
@@ -193,10 +193,10 @@ all_at P (y ∷ xs) zero x all e = subst P (same_Some y x e) all.0
 all_at P (y ∷ xs) (suc i) x all e = all_at P xs i x all.1 e
 
 pub transcripts_shown : (o : Options) (s : State) (clients : List ClientPlan) (ts : List (Vec Reply Global)) → AllByRecursion AreSaid clients → AreRepliesOf o (plans.plans_of clients) s
-    → AreTranscripts s clients (length clients) ts → AllZip (λ (v : Vec Reply Global) (told : List calls.Call). AllZip ShowsReply v.items told) ts (map (λ (c : Client). with_lines c.calls) s.clients)
+    → AreTranscripts s clients (length clients) ts → AllZip (λ (v : Vec Reply Global). ShowsReplies v.items) ts (map (λ (c : Client). c.calls) s.clients)
 transcripts_shown o s clients ts said of t = all_shown ts s.clients (t.each ∙ sym (length-map clients plans.commands_of) ∙ sym of.count) each
   where
-    each : (i : ℕ) (v : Vec Reply Global) (client : Client) → slice_get ts i ≡ Some v → slice_get s.clients i ≡ Some client → AllZip ShowsReply v.items (with_lines client.calls)
+    each : (i : ℕ) (v : Vec Reply Global) (client : Client) → slice_get ts i ≡ Some v → slice_get s.clients i ≡ Some client → ShowsReplies v.items client.calls
     each i v client at there =
         let within = slice_get_within ts i v at in
         let found : (x : ClientPlan) × (slice_get clients i ≡ Some x) = some_at clients i (omega (arith, within, t.each)) in
@@ -230,12 +230,26 @@ transcript_more s clients ts i x v here is t new = record {
 
 -- One client's replies
 
+abbrev one : Reply → List Reply
+one said = said ∷ []
+
 -- the reply at a place is the first of those from there on
-pub first_at : (entries : List Entry) (command : Command) (told : List CoreReply) (n : ℕ) (t : CoreReply) → slice_get told n ≡ Some t → first_reply entries command (drop n told) ≡ reply_by entries command t ∷ []
+first_at : (entries : List Entry) (command : Command) (told : List CoreReply) (n : ℕ) (t : CoreReply) → slice_get told n ≡ Some t → first_reply entries command (drop n told) ≡ option_map_or one (reply_by entries command t) []
 first_at entries command [] zero t e = absurd (cc e)
 first_at entries command [] (suc n) t e = absurd (cc e)
-first_at entries command (r ∷ rs) zero t e = let same : r ≡ t = same_Some r t e in ap (λ x. reply_by entries command x ∷ []) same
+first_at entries command (r ∷ rs) zero t e = let same : r ≡ t = same_Some r t e in ap (λ x. option_map_or one (reply_by entries command x) []) same
 first_at entries command (r ∷ rs) (suc n) t e = first_at entries command rs n t e
+
+-- it stands behind those before it, where its command has it
+pub reply_at : (entries : List Entry) (command : Command) (told : List CoreReply) (replies new : List Reply) (t : CoreReply) (r : Reply) → slice_get told (length replies) ≡ Some t → reply_by entries command t ≡ Some r → new ≡ replies ++ r ∷ []
+    → new ≡ replies ++ first_reply entries command (drop (length replies) told)
+reply_at entries command told replies new t r at is e =
+    e ∙ ap (λ (rs : List Reply). replies ++ rs) (sym (first_at entries command told (length replies) t at ∙ ap (λ (said : Option Reply). option_map_or one said []) is))
+
+pub no_reply_at : (entries : List Entry) (command : Command) (told : List CoreReply) (replies : List Reply) (t : CoreReply) → slice_get told (length replies) ≡ Some t → reply_by entries command t ≡ None
+    → replies ≡ replies ++ first_reply entries command (drop (length replies) told)
+no_reply_at entries command told replies t at is =
+    sym (append-nil replies) ∙ ap (λ (rs : List Reply). replies ++ rs) (sym (first_at entries command told (length replies) t at ∙ ap (λ (said : Option Reply). option_map_or one said []) is))
 
 pub none_at : (entries : List Entry) (command : Command) (told : List CoreReply) (replies : List Reply) (n : ℕ) → slice_get told n ≡ None → replies ≡ replies ++ first_reply entries command (drop n told)
 none_at entries command [] replies zero e = sym (append-nil replies)

@@ -14,7 +14,7 @@ use Rattle.client_calls.specs.Commands.{record_added}
 use Rattle.core_plans.specs.declared.plan.ClientPlan.{ClientPlan}
 use Rattle.write_core.specs.Shown.{CoreEntry, shown_entry}
 use Rattle.write_core.specs.Within.{IsWithinPlans}
-use Rattle.client_calls.specs.Shows.{ShowsEntry}
+use Rattle.run_outcome.specs.Shows.{ShowsEntry}
 use Rattle.schedule_run.specs.Replaying.{entry_by}
 
 -- the last sequence of a run that isn't empty

@@ -1,5 +1,6 @@
 -- What a schedule's clients were told, and the history of their batches, from what the core shows.
-use Rattle.std.specs.Prelude.{◌≡◌, ℕ, suc, List, [], ◌∷◌, ◌++◌, length, map, drop, Some, slice_get, MatchOption, Vec}
+use Rattle.std.specs.Prelude.{◌≡◌, ℕ, suc, List, [], ◌∷◌, ◌++◌, length, map, drop, Option, Some, None, slice_get, MatchOption, Vec}
+use Rattle.std.specs.Option.{option_map_or}
 use Rattle.std.specs.declared.alloc.Global.{Global}
 use Rattle.wp_model.specs.Map.{rows_within, value_at}
 use Rattle.wp_model.specs.History as history
@@ -8,8 +9,8 @@ use Rattle.core_model.specs.Core.{client_at}
 use Rattle.core_model.specs.CoreLaw.{IsCore}
 use Rattle.client_calls.specs.declared.command.Command.{Command}
 use Rattle.client_calls.specs.declared.command.Command.TheVariants.{Commit, Get, Many, Scan}
-use Rattle.client_calls.specs.declared.reply.Reply.{Reply}
-use Rattle.client_calls.specs.declared.reply.Reply.TheVariants as reply
+use Rattle.run_outcome.specs.declared.reply.Reply.{Reply}
+use Rattle.run_outcome.specs.declared.reply.Reply.TheVariants as reply
 use Rattle.client_calls.specs.declared.entry.Entry.{Entry}
 use Rattle.write_batch.specs.Contents.{Contents}
 use Rattle.core_plans.specs.declared.plan.ClientPlan.{ClientPlan}
@@ -29,21 +30,21 @@ InEachShown core is = (o : machine.Options) (s : machine.State) → IsCore o s �
 
 -- Replies
 
--- a read is answered by the map at its sequence, also one of several keys
-abbrev pub read_by : List history.Entry → ℕ → Command → Reply
-read_by entries at (Get key) = reply.Found at (value_at (map_up_to at entries) key)
-read_by entries at (Many keys) = reply.FoundEach at (map (value_at (map_up_to at entries)) keys.items)
-read_by entries at (Scan lo hi) = reply.Rows at (rows_within lo hi (map_up_to at entries))
-read_by entries at other = reply.Quiet
+-- a read is answered by the map at its sequence, also one of several keys; no other command is read
+abbrev pub read_by : List history.Entry → ℕ → Command → Option Reply
+read_by entries at (Get key) = Some (reply.Found at (value_at (map_up_to at entries) key))
+read_by entries at (Many keys) = Some (reply.FoundEach at (map (value_at (map_up_to at entries)) keys.items))
+read_by entries at (Scan lo hi) = Some (reply.Rows at (rows_within lo hi (map_up_to at entries)))
+read_by entries at other = None
 
-abbrev pub reply_by : List history.Entry → Command → CoreReply → Reply
-reply_by entries command (Accepted first last) = reply.Accepted first last
-reply_by entries command (Refused why) = reply.Refused why
+abbrev pub reply_by : List history.Entry → Command → CoreReply → Option Reply
+reply_by entries command (Accepted first last) = Some (reply.Accepted first last)
+reply_by entries command (Refused why) = Some (reply.Refused why)
 reply_by entries command (ReadAt at) = read_by entries at command
 
 abbrev pub first_reply : List history.Entry → Command → List CoreReply → List Reply
 first_reply entries command [] = []
-first_reply entries command (r ∷ rs) = reply_by entries command r ∷ []
+first_reply entries command (r ∷ rs) = option_map_or (λ (said : Reply). said ∷ []) (reply_by entries command r) []
 
 -- the reply to the next command, if that has one by now: commits and reads alone have one, the first of those that are
 -- left

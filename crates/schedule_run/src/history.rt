@@ -4,7 +4,7 @@ ghost use Rattle.std.specs.Prelude.{◌≡◌, filter_map, IfOk, OnOk};
 ghost use Rattle.std.specs.List.{AllZip};
 ghost use Rattle.std.specs.Option.{option_map_or};
 ghost use Rattle.client_calls.specs.Commands.{record_added};
-ghost use Rattle.client_calls.specs.Shows.{ShowsEntry};
+ghost use Rattle.run_outcome.specs.Shows.{ShowsEntry};
 ghost use Rattle.write_batch.specs.Contents.{Contents, added};
 ghost use Rattle.write_core.specs.Shown.{plans_in};
 ghost use Rattle.schedule_run.specs.Replaying.{InEachShown, entry_by};

@@ -6,8 +6,9 @@ ghost use Rattle.write_core.specs.Shown.{plans_in};
 ghost use Rattle.core_views.specs.Maps.{IsMapOf};
 ghost use Rattle.schedule_run.specs.Replaying.{InEachShown, read_by, reply_by, first_reply, next_reply, replies_by, AreTranscripts};
 
-use client_calls::{Command, Reply};
+use client_calls::Command;
 use core_views::MapUpTo;
+use run_outcome::Reply;
 use std::alloc::Global;
 use wp_coding::{Bytes, Found};
 use wp_model::NoMemory;
@@ -88,7 +89,9 @@ fn add_next(
     let Some(next) = reply_at(told, replies.len()) else {
         return Ok(());
     };
-    replies.push(reply_of(reads, command, next, core)?)?;
+    if let Some(reply) = reply_of(reads, command, next, core)? {
+        replies.push(reply)?;
+    }
     Ok(())
 }
 
@@ -102,43 +105,49 @@ fn reply_at(told: &[CoreReply], at: usize) -> Option<CoreReply>
     }
 }
 
-/// The reply to a command, of which the core tells all but a value that was read.
+/// The reply to a command, of which the core tells all but what was read. There would be none to a command that reads
+/// nothing and was read: the core never says so.
 fn reply_of(
     reads: &mut MapUpTo,
     command: &Command,
     told: CoreReply,
     core: &State,
-) -> Result<Reply, NoMemory>
+) -> Result<Option<Reply>, NoMemory>
     ensures reads { InEachShown core.now (λ s. IsMapOf s.entries reads.old → IsMapOf s.entries reads.new) }
     ensures reply { InEachShown core.now (λ s. IsMapOf s.entries reads.old
         → IfOk result (λ reply. reply ≡ reply_by s.entries command.now told)) }
 {
     match told {
-        CoreReply::Accepted { first, last } => Ok(Reply::Accepted { first, last }),
-        CoreReply::Refused { why } => Ok(Reply::Refused(why)),
+        CoreReply::Accepted { first, last } => Ok(Some(Reply::Accepted { first, last })),
+        CoreReply::Refused { why } => Ok(Some(Reply::Refused(why))),
         CoreReply::ReadAt { at } => read_of(reads, command, at, core),
     }
 }
 
-/// The reply to a command that was read at a sequence.
-fn read_of(reads: &mut MapUpTo, command: &Command, at: u64, core: &State) -> Result<Reply, NoMemory>
+/// The reply to a command that was read at a sequence, if it is one that reads.
+fn read_of(
+    reads: &mut MapUpTo,
+    command: &Command,
+    at: u64,
+    core: &State,
+) -> Result<Option<Reply>, NoMemory>
     ensures reads { InEachShown core.now (λ s. IsMapOf s.entries reads.old → IsMapOf s.entries reads.new) }
     ensures reply { InEachShown core.now (λ s. IsMapOf s.entries reads.old
         → IfOk result (λ reply. reply ≡ read_by s.entries at command.now)) }
 {
     match command {
-        Command::Get { key } => Ok(Reply::Found {
+        Command::Get { key } => Ok(Some(Reply::Found {
             at,
             value: found(reads.value(core, key.as_slice(), at)?),
-        }),
-        Command::Many { keys } => Ok(Reply::FoundEach {
+        })),
+        Command::Many { keys } => Ok(Some(Reply::FoundEach {
             at,
             values: reads.values(core, keys, at)?,
-        }),
-        Command::Scan { lo, hi } => Ok(Reply::Rows {
+        })),
+        Command::Scan { lo, hi } => Ok(Some(Reply::Rows {
             at,
             rows: reads.rows(core, lo.as_slice(), hi.as_slice(), at)?,
-        }),
+        })),
         Command::Put { .. }
         | Command::Delete { .. }
         | Command::SingleDelete { .. }
@@ -148,7 +157,7 @@ fn read_of(reads: &mut MapUpTo, command: &Command, at: u64, core: &State) -> Res
         | Command::Stop
         | Command::Unstop
         | Command::Slow { .. }
-        | Command::Unslow => Ok(Reply::Quiet),
+        | Command::Unslow => Ok(None),
     }
 }
 

@@ -12,7 +12,7 @@ use Rattle.log_writer.specs.Words.{disk_of, len_of, fault_of}
 use Rattle.log_writer.specs.Opening.{HasOpened}
 use Rattle.log_writer.specs.Written.{Wrote, no_call, one_more, IsWritten, HoldsSynced, Stands, HasCauseSince}
 use Rattle.run_model.specs.Crashes.{IsImageSince}
-use Rattle.run_model.specs.Running.{Execution, execution_of, GoesOn}
+use Rattle.run_outcome.specs.Running.{Execution, execution_of, GoesOn}
 use Rattle.wp_edge.specs.Disk.{LeavesOnly}
 use Rattle.clients_outcome.specs.declared.run.Parts.{Parts}
 use Rattle.clients_outcome.specs.declared.run.Lacks.{Lacks}

@@ -26,7 +26,7 @@ use Rattle.log_writer.specs.Written.{Wrote, no_call, one_more, IsWritten, writte
 use Rattle.log_writer.proofs.Calls.{synced_later}
 use Rattle.log_writer.proofs.Keeping.{keeps_prefix}
 use Rattle.run_model.specs.Crashes.{IsImageSince, begun, HaveSynced, IsFailedWrite, LeavesPrefix, IsCrashSafe}
-use Rattle.run_model.specs.Running.{Execution, LeavesSafeLog, GoesOn}
+use Rattle.run_outcome.specs.Running.{Execution, LeavesSafeLog, GoesOn}
 use Rattle.account_model.specs.Written.{WroteEntries, AreLost, WritesLog}
 use Rattle.script_run.proofs.LoggedGroups.{Suits, each_has_entries, rising_groups}
 use Rattle.script_run.proofs.GroupCalls.{written_front, safe_front, written_is, synced_is, held_is, failed_write}

@@ -6,7 +6,7 @@ use Rattle.wp_edge.specs.declared.disk.Disk.{Ghosts}
 use Rattle.wp_model.specs.Calls as calls
 use Rattle.client_calls.specs.declared.options.Options.{Options}
 use Rattle.run_model.specs.Refusals.{AreRefusedForThemselves}
-use Rattle.run_model.specs.Running.{Execution, execution_of, IsLegalOf, LeavesSafeLog, HasRun, IsReached}
+use Rattle.run_outcome.specs.Running.{Execution, execution_of, IsLegalOf, LeavesSafeLog, HasRun, IsReached}
 use Rattle.log_writer.specs.declared.errors.OpenError.{OpenError}
 use Rattle.log_writer.specs.declared.errors.OpenError.TheVariants as why
 use Rattle.log_writer.specs.declared.writer.LogWriter.{LogWriter}

@@ -4,9 +4,9 @@ ghost use Rattle.std.specs.Prelude.{◌≡◌};
 ghost use Rattle.log_writer.specs.Words.{disk_of};
 ghost use Rattle.script_run.specs.Ends.{end_of_run};
 
-use client_calls::Outcome;
 use clients_outcome::{Lacks, Parts, Ran};
 use log_writer::{LogWriter, OpenError};
+use run_outcome::Outcome;
 use wp_coding::PairList;
 use wp_edge::Disk;
 

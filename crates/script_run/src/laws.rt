@@ -9,7 +9,7 @@ ghost use Rattle.log_writer.specs.Words.{disk_of, len_of, fault_of};
 ghost use Rattle.log_writer.specs.Opening.{HasOpened};
 ghost use Rattle.log_writer.specs.Written.{Wrote};
 ghost use Rattle.run_model.specs.Crashes.{IsImageSince};
-ghost use Rattle.run_model.specs.Running.{GoesOn};
+ghost use Rattle.run_outcome.specs.Running.{GoesOn};
 ghost use Rattle.clients_outcome.specs.declared.run.Parts.{Parts as PartsOf};
 ghost use Rattle.clients_outcome.specs.declared.run.Lacks.{Lacks as LacksOf};
 ghost use Rattle.clients_outcome.specs.Runs.{ComesTo};

@@ -6,7 +6,7 @@ ghost use Rattle.client_script.specs.Scripts.{commands_of, FitsBatches};
 ghost use Rattle.log_writer.specs.Words.{disk_of};
 ghost use Rattle.log_writer.specs.Opening.{HasOpened};
 ghost use Rattle.run_model.specs.Crashes.{IsImageSince};
-ghost use Rattle.run_model.specs.Running.{GoesOn};
+ghost use Rattle.run_outcome.specs.Running.{GoesOn};
 ghost use Rattle.memory_engine.specs.Tables.{HasShards};
 ghost use Rattle.script_run.specs.Ends.{IsEnd};
 

@@ -7,9 +7,9 @@ use Rattle.wp_model.specs.Calls as calls
 use Rattle.wp_model.specs.History.{IsHistory}
 use Rattle.wp_model.specs.Map.{Pairs}
 use Rattle.wp_model.specs.Script.{Script}
-use Rattle.client_calls.specs.declared.outcome.Outcome.{Outcome}
+use Rattle.run_outcome.specs.declared.outcome.Outcome.{Outcome}
 use Rattle.client_calls.specs.declared.options.Options.{Options}
-use Rattle.run_model.specs.Running.{Execution, execution_of, HasRun, LeavesSafeLog, IsReached}
+use Rattle.run_outcome.specs.Running.{Execution, execution_of, HasRun, LeavesSafeLog, IsReached}
 use Rattle.script_run.specs.declared.end.End.{End}
 use Rattle.script_run.specs.declared.end.End.TheVariants as end
 use Rattle.script_run.specs.Ends.{IsEnd}

@@ -3,7 +3,7 @@ use Rattle.std.proofs.Common.{◌≡◌, ◌⊎◌, inl, inr, ⊎_elim, ℕ, Lis
 use Rattle.wp_edge.specs.Disk.{Disk}
 use Rattle.wp_model.specs.Counts.{Rose}
 use Rattle.wp_model.specs.Script.{Script, script_of, whole_grammar}
-use Rattle.run_model.specs.Running.{IsReached}
+use Rattle.run_outcome.specs.Running.{IsReached}
 use Rattle.printed_text.specs.Refusals.{source_fault}
 use Rattle.writepath_top.specs.declared.reading.ReadError.{ReadError}
 use Rattle.writepath_top.specs.declared.reading.ReadError.TheVariants as read

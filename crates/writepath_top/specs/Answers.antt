@@ -12,7 +12,7 @@ use Rattle.client_script.specs.ReplayLanguage.{replay_grammar, event_words}
 use Rattle.client_calls.specs.declared.options.Options.{Options}
 use Rattle.write_core.specs.declared.state.CoreOptions.{CoreOptions}
 use Rattle.printed_text.specs.Refusals.{usage, script_fault, source_fault, not_empty}
-use Rattle.run_model.specs.Running.{IsReached}
+use Rattle.run_outcome.specs.Running.{IsReached}
 use Rattle.summary_laws.specs.Summaries.{summary_of}
 use Rattle.writepath_top.specs.declared.telling.Form.TheVariants as form
 use Rattle.writepath_top.specs.Asking.{usual_options}

@@ -13,7 +13,7 @@ use Rattle.wp_model.specs.Generator.{generated}
 use Rattle.wp_model.specs.Runs.{NoneWithoutMemory}
 use Rattle.client_calls.specs.declared.options.Options.{Options}
 use Rattle.run_model.specs.Crashes.{IsImageSince}
-use Rattle.run_model.specs.Running.{Execution, execution_of, IsLegalOf, LeavesSafeLog, IsReached}
+use Rattle.run_outcome.specs.Running.{Execution, execution_of, IsLegalOf, LeavesSafeLog, IsReached}
 use Rattle.run_model.specs.Refusals.{AreRefusedForThemselves}
 use Rattle.printed_text.specs.Refusals.{disk_fault}
 use Rattle.writepath_top.specs.declared.telling.Form.{Form}

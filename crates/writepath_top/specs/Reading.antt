@@ -9,7 +9,7 @@ use Rattle.client_script.specs.declared.schedule.Schedule.{Schedule}
 use Rattle.client_script.specs.Schedules.{schedule_of}
 use Rattle.core_model.specs.Schedule as schedules
 use Rattle.client_script.specs.Scripts.{commands_of, FitsBatches, HasClientsCommands}
-use Rattle.run_model.specs.Running.{IsReached}
+use Rattle.run_outcome.specs.Running.{IsReached}
 use Rattle.client_script.specs.ReplayLanguage.{replay_grammar, event_words}
 
 -- it was read to its end, or to one byte past the limit of 16,777,216

@@ -5,7 +5,7 @@ use Rattle.wp_model.specs.Recovery.{Recovered, IsRecovered}
 use Rattle.wp_model.specs.Text.{recovered_text}
 use Rattle.writepath_top.specs.Texts.{Prints, PrintsFront, Says}
 use Rattle.printed_text.specs.Refusals.{disk_fault}
-use Rattle.run_model.specs.Running.{IsReached}
+use Rattle.run_outcome.specs.Running.{IsReached}
 
 -- the sink's bytes before and after a call, and the disk, where they are told
 abbrev pub TellsDisk : Option (List ℕ) → Option (List ℕ) → Option Disk → (List ℕ → List ℕ → Disk → Type 0) → Type 0

@@ -12,7 +12,7 @@ use Rattle.core_model.specs.Step as core
 use Rattle.core_model.specs.ReplayText.{replay_text}
 use Rattle.schedule_run.specs.declared.replaying.Replayed.{Replayed}
 use Rattle.schedule_run.specs.Replayed.{ShowsReplayed}
-use Rattle.client_calls.specs.declared.outcome.Outcome.{Outcome}
+use Rattle.run_outcome.specs.declared.outcome.Outcome.{Outcome}
 use Rattle.writepath_top.specs.declared.reading.ReadError.{ReadError}
 use Rattle.writepath_top.specs.declared.reading.ReadError.TheVariants as read
 use Rattle.script_run.specs.declared.end.End.{End}
@@ -26,7 +26,7 @@ use Rattle.wal_recover.specs.declared.recovery.RecoverError.{RecoverError}
 use Rattle.wal_recover.specs.declared.recovery.RecoverError.TheVariants as none
 use Rattle.wp_model.specs.Recovery as recovery
 use Rattle.wal_recover.specs.Recovering.{ShowsRecovered}
-use Rattle.client_calls.specs.Shows.{ShowsOutcome, ran_short}
+use Rattle.run_outcome.specs.Shows.{ShowsOutcome, ran_short}
 use Rattle.writepath_top.specs.Texts.{SaysTo}
 use Rattle.printed_text.specs.Refusals.{script_fault, source_fault, disk_fault, not_empty}
 

@@ -7,7 +7,7 @@ ghost use Rattle.wp_model.specs.Script.{Fault};
 ghost use Rattle.core_model.specs.Schedule.{Schedule, schedule_of};
 ghost use Rattle.client_script.specs.ReplayLanguage.{replay_grammar, event_words};
 ghost use Rattle.printed_text.specs.Refusals.{script_fault, source_fault};
-ghost use Rattle.run_model.specs.Running.{IsReached};
+ghost use Rattle.run_outcome.specs.Running.{IsReached};
 ghost use Rattle.writepath_top.specs.Replays.{TellsText, Replays, ReplaysFront};
 ghost use Rattle.writepath_top.specs.Texts.{Stood, SaysTo};
 

@@ -7,7 +7,7 @@ ghost use Rattle.wp_model.specs.Script.{Script as Said, Fault, script_of, whole_
 ghost use Rattle.client_script.specs.Scripts.{commands_of, FitsBatches};
 ghost use Rattle.memory_engine.specs.Tables.{HasShards};
 ghost use Rattle.printed_text.specs.Refusals.{script_fault, source_fault};
-ghost use Rattle.run_model.specs.Running.{IsReached};
+ghost use Rattle.run_outcome.specs.Running.{IsReached};
 ghost use Rattle.writepath_top.specs.Answers.{RunsScript};
 ghost use Rattle.writepath_top.specs.Outcomes.{observed, IsScript, SaysScript};
 ghost use Rattle.writepath_top.specs.Texts.{Stood, SaysTo};

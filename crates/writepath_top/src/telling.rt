@@ -3,17 +3,17 @@
 ghost use Rattle.std.specs.Prelude.{◌≡◌, ◌≤◌, ℕ, IfOk, OnErr};
 ghost use Rattle.wp_model.specs.Calls as calls;
 ghost use Rattle.wp_model.specs.History.{IsHistory};
-ghost use Rattle.client_calls.specs.Shows.{ShowsOutcome};
+ghost use Rattle.run_outcome.specs.Shows.{ShowsOutcome};
 ghost use Rattle.writepath_top.specs.Texts.{SaysTo};
 ghost use Rattle.writepath_top.specs.Telling as telling;
 ghost use Rattle.writepath_top.specs.Telling.{TellsReadError, TellsEnd, TellsOutcome, TellsRecovery, TellsRecoverError, ShownEndsSo, TellsReplay, ReplayEndsSo, ran_status};
 
 use crate::reading::ReadError;
-use client_calls::Outcome;
 use printed_text::{
     disk_fault, log_not_empty, outcome_text, recovered_text, replayed_text, script_fault,
     source_fault, summary_text,
 };
+use run_outcome::Outcome;
 use schedule_run::Replayed;
 use script_generator::sum_of;
 use script_run::End;

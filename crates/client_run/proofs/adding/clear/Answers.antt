@@ -1,11 +1,29 @@
-use Rattle.std.proofs.Common.{refl}
+use Rattle.std.proofs.Common.{List, refl, sym, subst}
+use Rattle.wp_model.specs.Batch.{Record}
 use Rattle.wp_model.specs.Calls as calls
+use Rattle.account_model.specs.ClientRuns.{Goes}
 use Rattle.client_run.specs.Answers.{records_in}
+use Rattle.client_run.proofs.Hands.{none_pending}
 use Rattle.client_run.proofs.adding.clear.Goals as goal
 
-pub returns-clause-goes : goal.returns-clause-goes
-returns-clause-goes c = λ settings a. record {
+pub returns-in-Pending-clause-goes : goal.returns-in-Pending-clause-goes
+returns-in-Pending-clause-goes c = λ settings a. record {
   reply = calls.quiet;
   shows = refl;
-  goes = c.commits_are_steps.ensures.cleared settings a (records_in c.args.pending.now);
+  goes = rw c.clear.ensures (c.commits_are_steps.ensures.cleared settings a (records_in c.args.batches.now.at_hand));
 }
+
+-- no batch is in the making
+pub returns-in_default : goal.returns-in_default
+returns-in_default c =
+    let before = records_in c.args.batches.now.at_hand in
+    let none = none_pending c.args.batches.now.at_hand c.in_default.not-Pending in
+    record {
+      goes = λ settings a. record {
+        reply = calls.quiet;
+        shows = refl;
+        goes = subst (λ (after : List Record). Goes settings a before calls.clear calls.quiet a after) (sym none) (c.commits_are_steps.ensures.cleared settings a before);
+      };
+      none = none;
+      kept = refl;
+    }

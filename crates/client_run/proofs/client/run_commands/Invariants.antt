@@ -1,5 +1,5 @@
-use Rattle.std.proofs.Common.{◌≡◌, ◌+◌, ◌≤◌, ◌++◌, length, vec_len, vec_capacity}
-use Rattle.client_run.specs.Answers.{records_in, ShowsEntries, HasRoom}
+use Rattle.std.proofs.Common.{◌≡◌, ◌+◌, ◌≤◌, length, vec_len, vec_capacity}
+use Rattle.client_run.specs.Answers.{records_in, kept_in, ShowsKept, HasRoom}
 use Rattle.client_run.proofs.Going.{HaveGone}
 use Rattle.client_run.proofs.client.run_commands.Given as goal
 
@@ -7,9 +7,10 @@ use Rattle.client_run.proofs.client.run_commands.Given as goal
 abbrev pub invariant-loop-command : goal.invariant-loop-command
 invariant-loop-command g l = record {
   belongs : g.E.Engine.belongs l.engine l.client;
-  gone : HaveGone (g.E.Engine.settings l.engine) l.number l.commands l.command-iterator l.replies.items (g.E.Engine.account l.client) (records_in l.pending);
-  accepted : ShowsEntries l.accepted.items (g.E.Engine.account l.client).mine;
-  fits : HasRoom (records_in l.pending) l.command-iterator;
-  count : (vec_len l.replies + length l.command-iterator ≡ length l.commands) × (vec_len l.accepted + length l.command-iterator ≤ length l.commands);
-  room : (length l.commands ≤ vec_capacity l.replies) × (length l.commands ≤ vec_capacity l.accepted);
+  gone : HaveGone (g.E.Engine.settings l.engine) l.number l.commands l.command-iterator l.replies.items (g.E.Engine.account l.client) (records_in l.batches.at_hand);
+  accepted : ShowsKept l.number (kept_in l.batches) (g.E.Engine.account l.client).mine;
+  fits : HasRoom (records_in l.batches.at_hand) l.command-iterator;
+  count : l.call + length l.command-iterator ≡ length l.commands;
+  told : vec_len l.replies + length l.command-iterator ≤ length l.commands;
+  room : length l.commands ≤ vec_capacity l.replies;
 }

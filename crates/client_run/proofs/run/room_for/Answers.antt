@@ -4,7 +4,7 @@ use Rattle.client_run.proofs.Moves.{room_more}
 use Rattle.client_run.proofs.run.room_for.Goals as goal
 
 pub loop-commands-preserved : goal.loop-commands-preserved
-loop-commands-preserved g c =
+loop-commands-preserved c =
     let made = c.in_ok-with_capacity.ensures in
     let len = c.len.ensures in
     let fits : length c.commands-item.result ≤ vec_capacity c.in_ok-with_capacity.field-0 = rw len at made.capacity in

@@ -1,5 +1,5 @@
 use Rattle.std.proofs.Common.{◌∙◌, ap, sym, map}
-use Rattle.client_run.specs.Parts.{client_of, replies_of, accepted_of}
+use Rattle.client_run.specs.Parts.{client_of, replies_of, batches_of}
 use Rattle.client_run.proofs.Moves.{ready_all, done_ours, done_told, done_entries, whole_slice, jobs_count}
 use Rattle.client_run.proofs.run.run_clients.Goals as goal
 
@@ -7,8 +7,8 @@ pub work_all-requires-after_bounds : goal.work_all-requires-after_bounds
 work_all-requires-after_bounds g c κs within =
     let v = c.as_mut_slice.ensures.value in
     let e = c.args.engine.now in
-    rw v (ready_all (g.E.Engine.belongs e) g.E.Engine.account (g.E.Engine.settings e) c.args.script.now c.args.clients.items c.in-Ok.replies.items c.in-Ok-room_for.accepted.items c.fill.new.jobs.items
-    c.requires.ours c.requires.new c.requires.script c.requires.few c.requires.fits c.in-Ok.ensures c.in-Ok-room_for.ensures c.fill.ensures.clients c.fill.ensures.replies c.fill.ensures.accepted)
+    rw v (ready_all (g.E.Engine.belongs e) g.E.Engine.account (g.E.Engine.settings e) c.args.script.now c.args.clients.items c.in-Ok.replies.items c.fill.new.jobs.items
+    c.requires.ours c.requires.new c.requires.script c.requires.few c.requires.fits c.in-Ok.ensures c.fill.ensures.batches c.fill.ensures.clients c.fill.ensures.replies)
 
 pub returns-clause-ours : goal.returns-clause-ours
 returns-clause-ours g c =
@@ -35,5 +35,5 @@ returns-clause-accepted g c =
     let jobs = c.work_all.new.jobs in
     let len = c.work_all.auto.jobs ∙ c.as_mut_slice.ensures.len in
     let whole = whole_slice c.fill.new.jobs.len jobs c.fill.new.jobs.items len in
-    done_entries (g.E.Engine.belongs e) g.E.Engine.account (g.E.Engine.settings e) c.args.script.now jobs c.empty.new.clients.items c.empty.new.accepted.items c.work_all.ensures
-    (c.empty.ensures.clients ∙ ap (map client_of) whole) (c.empty.ensures.accepted ∙ ap (map accepted_of) whole)
+    done_entries (g.E.Engine.belongs e) g.E.Engine.account (g.E.Engine.settings e) c.args.script.now jobs c.empty.new.clients.items c.empty.new.batches.items c.work_all.ensures
+    (c.empty.ensures.clients ∙ ap (map client_of) whole) (c.empty.ensures.batches ∙ ap (map batches_of) whole)

@@ -1,13 +1,21 @@
-use Rattle.std.proofs.Common.{◌≡◌, ◌∙◌, ℕ, sym, map, List}
+use Rattle.std.proofs.Common.{◌≡◌, ◌∙◌, ℕ, sym, map, List, arith}
 use Rattle.std.proofs.lemmas.List.{length-map}
 use Rattle.wp_model.specs.Calls.{Call}
 use Rattle.client_run.specs.Jobs.{AreNew}
 use Rattle.account_model.specs.ClientRuns.{HaveRun}
 use Rattle.account_model.specs.Closing.{AreOurs}
 use Rattle.clients_outcome.proofs.NotRun.{handed_back, newcomers, log_by_no_call}
-use Rattle.clients_outcome.proofs.Whole.{number_at, makes_up, with_parts, without_parts}
+use Rattle.clients_outcome.proofs.Whole.{as_many, number_at, makes_up, with_parts, without_parts}
 use Rattle.clients_outcome.proofs.run.run_engine.Goals as goal
 use Rattle.clients_outcome.proofs.run.run_engine.Goals.{in-Ok-parts_of, in-Err-parts_of}
+
+-- there are as many as clients
+pub parts_of-requires : goal.parts_of-requires
+parts_of-requires g c =
+    let E = g.E.Engine in
+    let t = c.in-Ok.transcripts in
+    let as_accounts = as_many t.batches.items (map E.account t.clients.items) c.in-Ok.ensures.accepted in
+    omega (arith, as_accounts, length-map t.clients.items E.account, c.in-Ok.ensures.ours.number_of, c.requires.script, c.requires.few)
 
 pub returns-after-parts_of : goal.returns-after-parts_of
 returns-after-parts_of g c =
@@ -23,7 +31,7 @@ returns-after-parts_of g c =
     let closed = c.close-log.ensures in
     let trace = closed.0 in
     let clients = sym c.requires.script in
-    let make = makes_up settings (E.wrote engine) E.fault E.faults log trace closed.1 accounts last closed.2 t.accepted.items c.in-Ok.ensures.accepted (length-map t.clients.items E.account ∙ ours.number_of)
+    let make = makes_up settings (E.wrote engine) E.fault E.faults log trace closed.1 accounts last closed.2 t.batches.items c.in-Ok.ensures.accepted (length-map t.clients.items E.account ∙ ours.number_of)
     (number_at (E.belongs engine) E.account settings.clients t.clients.items ours) in
     let legal = λ (transcripts : List (List Call)) (log_len : ℕ) (run : HaveRun settings script transcripts accounts). c.closed_runs_are_legal.ensures.legal settings (E.faults log) script transcripts accounts trace closed.1 last log_len (E.fault log) clients run closed.2 in
     elim c.match-parts_of.branch [

@@ -1,13 +1,10 @@
-use Rattle.std.proofs.Common.{◌<◌, ◌++◌, length, take, ap, ◌∙◌}
-use Rattle.std.proofs.lemmas.List.{flat_map_more}
-use Rattle.printed_text.specs.ShownText.{entry_line}
-use Rattle.printed_text.proofs.Clients.{item_more}
+use Rattle.printed_text.proofs.Clients.{entry_more, place_more}
 use Rattle.printed_text.proofs.parts.put_history.Goals as goal
 
 -- the next line stands behind those before
-pub loop-entry-preserved : goal.loop-entry-preserved
-loop-entry-preserved c =
-    let entries = c.args.entries.now in
-    let i = c.loop-entry.entry-index in
-    let here : i < length entries = c.loop-entry-test.true in
-    rw (item_more entries i c.entry-item.result here c.entry-item.is) (c.in_ok-put_entry.ensures ∙ (ap (λ text. text ++ entry_line c.entry-item.result) c.loop-entry.invariant ∙ flat_map_more entry_line c.put_line.new.text (take i entries) c.entry-item.result))
+pub loop-at-preserved : goal.loop-at-preserved
+loop-at-preserved c =
+    let history = c.args.history.now in
+    let i = c.loop-at.at in
+    let entry = c.entry-entry.result in
+    entry_more c.put_line.new.text c.loop-at.text c.put_entry.new.text history i entry c.bytes.result.now (place_more history i entry c.entry-entry.ensures) c.bytes.ensures c.loop-at.invariant c.in_ok-put_entry.ensures

@@ -3,5 +3,5 @@ use Rattle.printed_text.specs.ShownText.{entry_line}
 use Rattle.printed_text.proofs.parts.put_history.Given as goal
 
 -- the lines of the batches so far stand behind the text
-abbrev pub invariant-loop-entry : goal.invariant-loop-entry
-invariant-loop-entry l = l.text ≡ l.initial.text ++ flat_map entry_line (take l.entry-index l.entries)
+abbrev pub invariant-loop-at : goal.invariant-loop-at
+invariant-loop-at l = l.text ≡ l.initial.text ++ flat_map entry_line (take l.at l.history)

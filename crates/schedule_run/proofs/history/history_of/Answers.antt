@@ -1,7 +1,7 @@
 use Rattle.std.proofs.Common.{◌≡◌, length, map, take, ap, ◌∙◌, subst, sym, arith}
 use Rattle.std.specs.List.{AllZip}
 use Rattle.std.proofs.Math.Seq.{take-length}
-use Rattle.client_calls.specs.Shows.{ShowsEntry}
+use Rattle.run_outcome.specs.Shows.{ShowsEntry}
 use Rattle.write_core.specs.Shown.{plans_in}
 use Rattle.schedule_run.specs.Replaying.{entry_by}
 use Rattle.schedule_run.proofs.ReplayedHistory.{history_shown}

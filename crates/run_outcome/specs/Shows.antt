@@ -1,20 +1,19 @@
 -- The replies, the entries and the outcome that the values of the code show. What no value of a reply holds is the
 -- records of an accepted batch.
-use Rattle.std.specs.Prelude.{◌≡◌, Bool, true, false, List}
+use Rattle.std.specs.Prelude.{◌≡◌, Bool, true, false, not, List, filter}
 use Rattle.std.specs.List.{AllZip, list_any}
 use Rattle.wp_model.specs.Batch.{Record}
 use Rattle.wp_model.specs.Map.{Pairs}
 use Rattle.wp_model.specs.History as history
 use Rattle.wp_model.specs.Calls as calls
 use Rattle.write_batch.specs.Contents.{Contents}
-use Rattle.client_calls.specs.declared.reply.Reply.{Reply}
-use Rattle.client_calls.specs.declared.reply.Reply.TheVariants.{Quiet, Accepted, Refused, Found, FoundEach, Rows, Done, Held, NotHeld, NoMemory}
+use Rattle.run_outcome.specs.declared.reply.Reply.{Reply}
+use Rattle.run_outcome.specs.declared.reply.Reply.TheVariants.{Accepted, Refused, Found, FoundEach, Rows, Done, Held, NotHeld, NoMemory}
 use Rattle.client_calls.specs.declared.entry.Entry.{Entry}
-use Rattle.client_calls.specs.declared.outcome.Outcome.{Outcome}
+use Rattle.run_outcome.specs.declared.outcome.Outcome.{Outcome}
 
 abbrev pub lacks_memory : Reply → Bool
 lacks_memory NoMemory = true
-lacks_memory Quiet = false
 lacks_memory (Accepted first last) = false
 lacks_memory (Refused why) = false
 lacks_memory (Found at value) = false
@@ -24,9 +23,8 @@ lacks_memory Done = false
 lacks_memory Held = false
 lacks_memory NotHeld = false
 
--- a reply, whatever command it is to
+-- a reply, whatever command it is to; what adds to a batch or empties it has none
 abbrev pub ShowsReply : Reply → calls.Call → Type 0
-ShowsReply Quiet c = c.reply ≡ calls.quiet
 ShowsReply (Accepted first last) c = (records : List Record) × (c.reply ≡ calls.accepted first last records)
 ShowsReply (Refused why) c = c.reply ≡ calls.refused why
 ShowsReply (Found at value) c = c.reply ≡ calls.found at value
@@ -37,8 +35,16 @@ ShowsReply Held c = c.reply ≡ calls.held
 ShowsReply NotHeld c = c.reply ≡ calls.not_held
 ShowsReply NoMemory c = c.reply ≡ calls.no_memory
 
+abbrev pub is_quiet : calls.Reply → Bool
+is_quiet calls.quiet = true
+is_quiet other = false
+
+-- of a client's calls those that have a reply
+abbrev pub with_replies : List calls.Call → List calls.Call
+with_replies cs = filter (λ (c : calls.Call). not (is_quiet c.reply)) cs
+
 abbrev pub ShowsReplies : List Reply → List calls.Call → Type 0
-ShowsReplies replies cs = AllZip ShowsReply replies cs
+ShowsReplies replies cs = AllZip ShowsReply replies (with_replies cs)
 
 pub record ShowsEntry (shown : Entry Contents) (e : history.Entry) : Type 0 where
   pub client : e.client ≡ shown.client
@@ -50,7 +56,7 @@ pub record ShowsEntry (shown : Entry Contents) (e : history.Entry) : Type 0 wher
 
 pub record ShowsOutcome (shown : Outcome Pairs) (o : calls.Outcome) : Type 0 where
   pub transcripts : AllZip (λ v. ShowsReplies v.items) shown.transcripts.items o.transcripts
-  pub history : AllZip ShowsEntry shown.history.items o.history
+  pub history : AllZip ShowsEntry shown.history o.history
   pub last : o.last ≡ shown.last
   pub state : o.state ≡ shown.state
   pub log_len : o.log_len ≡ shown.log_len

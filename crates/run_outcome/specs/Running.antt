@@ -8,9 +8,9 @@ use Rattle.wp_model.specs.Trace.{Settings}
 use Rattle.wp_model.specs.Calls as calls
 use Rattle.wp_model.specs.Outcomes.{IsLegal}
 use Rattle.client_calls.specs.declared.options.Options.{Options}
-use Rattle.client_calls.specs.declared.outcome.Outcome.{Outcome}
+use Rattle.run_outcome.specs.declared.outcome.Outcome.{Outcome}
 use Rattle.client_calls.specs.Settings.{settings_of}
-use Rattle.client_calls.specs.Shows.{ShowsOutcome}
+use Rattle.run_outcome.specs.Shows.{ShowsOutcome}
 use Rattle.run_model.specs.Refusals.{AreRefusedForThemselves}
 use Rattle.run_model.specs.Crashes.{IsSafe}
 

@@ -3,11 +3,9 @@
 use wp_coding::{Bytes, FoundList, PairList};
 use wp_model::Refusal;
 
-/// The reply to a command.
-#[derive(Debug, Drop)]
+/// The reply to a command. What adds to a batch or empties it has none.
+#[derive(Drop)]
 pub enum Reply {
-    /// What adds to the batch or empties it has no reply.
-    Quiet,
     /// The batch was written under these sequences.
     Accepted { first: u64, last: u64 },
     /// The batch was not written.
@@ -30,7 +28,7 @@ pub enum Reply {
 
 impl Reply {
     ghost use Rattle.std.specs.Prelude.{◌≡◌};
-    ghost use Rattle.client_calls.specs.Shows.{lacks_memory};
+    ghost use Rattle.run_outcome.specs.Shows.{lacks_memory};
 
     /// Whether the call found no memory.
     pub fn lacks_memory(&self) -> bool

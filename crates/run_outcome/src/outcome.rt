@@ -2,18 +2,17 @@
 
 ghost use Rattle.std.specs.Prelude.{◌≡◌};
 ghost use Rattle.std.specs.List.{list_any};
-ghost use Rattle.client_calls.specs.Shows.{lacks_memory};
+ghost use Rattle.run_outcome.specs.Shows.{lacks_memory};
 
-use crate::{Entry, Reply};
-use write_batch::Batch;
+use crate::{History, Reply};
 
 /// The outcome of a run. `M` is what holds the map; contracts see it as a list of keys with their values.
-#[derive(Debug, Drop)]
+#[derive(Drop)]
 pub struct Outcome<M> {
     /// The replies of each client, in order of the clients' numbers.
     pub transcripts: Vec<Vec<Reply>>,
     /// The accepted batches, in order of their sequences.
-    pub history: Vec<Entry<Batch>>,
+    pub history: History,
     /// The published sequence, and the map there.
     pub last: u64,
     pub state: M,
@@ -24,7 +23,7 @@ pub struct Outcome<M> {
 
 impl<M> Outcome<M> {
     ghost use Rattle.std.specs.Prelude.{◌≡◌};
-    ghost use Rattle.client_calls.specs.Shows.{ran_short};
+    ghost use Rattle.run_outcome.specs.Shows.{ran_short};
 
     /// Whether a client ran out of memory.
     pub fn lacks_memory(&self) -> bool

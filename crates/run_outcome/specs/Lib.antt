@@ -1,0 +1,5 @@
+pub mod Histories
+pub mod Places
+pub mod Views
+pub mod Shows
+pub mod Running

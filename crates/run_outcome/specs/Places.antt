@@ -1,0 +1,48 @@
+-- Where the batches of the clients' lists stand, and the entries there.
+use Rattle.std.specs.Prelude.{◌≡◌, ℕ, ◌+◌, ◌-◌, ◌<◌, ◌≤◌, List, [], ◌∷◌, ◌++◌, length, map, slice_index_or}
+use Rattle.std.specs.List.{All}
+use Rattle.wp_model.specs.declared.history.Flag.TheVariants.{Log}
+use Rattle.write_batch.specs.Contents.{Contents, empty}
+use Rattle.client_calls.specs.declared.entry.Entry.{Entry}
+use Rattle.batch_list.specs.declared.kept.Kept.{Kept}
+use Rattle.run_outcome.specs.declared.places.Place.{Place}
+use Rattle.run_outcome.specs.Histories.{entry_of}
+
+-- the places of a client's batches in order, from this one on
+abbrev pub places_from : ℕ → ℕ → List (Kept Contents) → List Place
+places_from client at [] = []
+places_from client at (kept ∷ rest) =
+    record { first = kept.batch.sequence; client = client; at = at } ∷ places_from client (at + 1) rest
+
+-- those of clients one after another, from that of this number on
+abbrev pub places_by : ℕ → List (List (Kept Contents)) → List Place
+places_by client [] = []
+places_by client (kept ∷ others) = places_from client 0 kept ++ places_by (client + 1) others
+
+-- a batch that says nothing
+abbrev pub no_batch : Kept Contents
+no_batch = record { flag = Log; batch = empty }
+
+module _ (lists : List (List (Kept Contents))) where
+  abbrev pub list_at : Place → List (Kept Contents)
+  list_at place = slice_index_or lists (place.client - 1) []
+
+  -- the batch there, or one that says nothing
+  abbrev pub kept_at : Place → Kept Contents
+  kept_at place = slice_index_or (list_at place) place.at no_batch
+
+  abbrev pub entry_at : Place → Entry Contents
+  entry_at place = entry_of place.client (place.at + 1) (kept_at place)
+
+  abbrev pub entries_at : List Place → List (Entry Contents)
+  entries_at order = map entry_at order
+
+  -- there is a batch, which begins with this sequence
+  pub record IsPlace (place : Place) : Type 0 where
+    pub numbered : 1 ≤ place.client
+    pub client : place.client ≤ length lists
+    pub within : place.at < length (list_at place)
+    pub first : place.first ≡ (kept_at place).batch.sequence
+
+  abbrev pub ArePlaces : List Place → Type 0
+  ArePlaces order = All IsPlace order

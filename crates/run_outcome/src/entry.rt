@@ -1,0 +1,26 @@
+//! The entries of a client's batches.
+
+ghost use Rattle.std.specs.Prelude.{◌≡◌, ◌<◌, length, Some, slice_get};
+ghost use Rattle.run_outcome.specs.Histories.{entries_of};
+
+use batch_list::{BatchList, Kept, KeptBatch};
+use client_calls::Entry;
+
+/// The entry of the batch at a place of a client's list, from 0 on.
+pub fn entry_of(client: u32, at: usize, list: &BatchList) -> Entry<KeptBatch<'_>>
+    requires { at < length list.now }
+    ensures { slice_get (entries_of client list.now) at ≡ Some result }
+{
+    // So the ordinal doesn't overflow.
+    prove!(at < list.len());
+    let Kept { flag, batch } = list.get(at);
+    let first = batch.sequence();
+    Entry {
+        client,
+        ordinal: at as u64 + 1,
+        first,
+        last: first.saturating_add(u64::from(batch.count()).saturating_sub(1)),
+        flag,
+        batch,
+    }
+}

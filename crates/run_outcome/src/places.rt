@@ -1,0 +1,56 @@
+//! Where the batches of several clients stand.
+
+ghost use Rattle.std.specs.Prelude.{◌≡◌, ◌<◌, ◌-◌, ◌^◌, ◌++◌, min, length, sum_by, IfOk, OnOk};
+ghost use Rattle.run_outcome.specs.Places.{places_from, places_by};
+
+use batch_list::BatchList;
+use std::alloc::Global;
+use wp_model::NoMemory;
+
+/// Where a batch stands, with the first sequence of its run. It takes sixteen bytes.
+#[derive(Drop)]
+pub struct Place {
+    pub first: u64,
+    /// In whose list. Clients are numbered from 1.
+    pub client: u32,
+    /// The how many-th there, from 0 on.
+    pub at: u32,
+}
+
+/// The places of all clients' batches, client by client. There is no memory for more than 2^32 - 1 batches of a client.
+pub fn places_of(alloc: Global, lists: &[BatchList]) -> Result<Vec<Place>, NoMemory>
+    requires { length lists.now < 2 ^ 32 }
+    ensures { IfOk result (λ places. places.items ≡ places_by 1 lists.now) }
+{
+    // Memory for all of them at once: a vector that grows may take twice as much.
+    let mut places = Vec::with_capacity(alloc, count_of(lists))?;
+    for index in 0..lists.len() {
+        add_places(&mut places, index as u32 + 1, &lists[index])?;
+    }
+    Ok(places)
+}
+
+/// How many batches there are, or as many as a `usize` counts.
+fn count_of(lists: &[BatchList]) -> usize
+    ensures { result ≡ min (sum_by length lists.now) (2 ^ 64 - 1) }
+{
+    let mut count = 0usize;
+    for list in lists {
+        count = count.saturating_add(list.len());
+    }
+    count
+}
+
+/// Puts the places of a client's batches behind the others.
+fn add_places(places: &mut Vec<Place>, client: u32, list: &BatchList) -> Result<(), NoMemory>
+    ensures { OnOk result (places.new.items ≡ places.old.items ++ places_from client 0 list.now) }
+{
+    let Ok(len) = u32::try_from(list.len()) else {
+        return Err(NoMemory);
+    };
+    for at in 0..len {
+        let first = list.get(at as usize).batch.sequence();
+        places.push(Place { first, client, at })?;
+    }
+    Ok(())
+}
