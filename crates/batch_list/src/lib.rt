@@ -1,5 +1,5 @@
 //! The accepted batches of a client as bytes one after another, which take little memory: a batch its bytes, one for
-//! how it was committed, and eight for where it ends, and no allocation of its own.
+//! how it was committed, and four for where it ends, and no allocation of its own.
 //!
 //! | Bytes | What they are |
 //! |---|---|

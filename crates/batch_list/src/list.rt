@@ -15,7 +15,7 @@ use write_batch::Batch;
 #[derive(Drop)]
 pub struct BatchList {
     bytes: Bytes,
-    ends: Vec<usize>,
+    ends: Vec<u32>,
     ghost holds: { AreBatches bytes ends.items } by { AreBatches-prop bytes ends.items },
 }
 
@@ -40,7 +40,8 @@ impl BatchList {
         }
     }
 
-    /// Puts a copy of a batch behind the others. Where memory fails, the list stays as it was.
+    /// Puts a copy of a batch behind the others. Where memory fails, the list stays as it was. There is none for a list
+    /// of 2^32 bytes or more.
     pub fn push(&mut self, flag: Flag, batch: &Batch) -> Result<(), NoMemory>
         ensures ok { OnOk result (self.new ≡ self.old ++ record { flag = flag; batch = batch.now } ∷ []) }
         ensures err { OnErr result (self.new ≡ self.old) }
@@ -77,7 +78,7 @@ impl BatchList {
 
 /// Puts a flag's byte and a batch's bytes behind the others, and then their end behind the other ends. Where memory
 /// fails, the ends stay as they were, and a part may stand behind the bytes.
-fn append(bytes: &mut Bytes, ends: &mut Vec<usize>, flag: u8, batch: &[u8]) -> Result<(), NoMemory>
+fn append(bytes: &mut Bytes, ends: &mut Vec<u32>, flag: u8, batch: &[u8]) -> Result<(), NoMemory>
     ensures ok { OnOk result (bytes.new ≡ bytes.old ++ flag ∷ batch.now) }
     ensures end { OnOk result (ends.new.items ≡ ends.old.items ++ length bytes.new ∷ []) }
     ensures err { OnErr result (take (length bytes.old) bytes.new ≡ bytes.old) }
@@ -85,17 +86,20 @@ fn append(bytes: &mut Bytes, ends: &mut Vec<usize>, flag: u8, batch: &[u8]) -> R
 {
     bytes.append(&[flag])?;
     bytes.append(batch)?;
-    ends.push(bytes.len())?;
+    let Ok(end) = u32::try_from(bytes.len()) else {
+        return Err(NoMemory);
+    };
+    ends.push(end)?;
     Ok(())
 }
 
 /// The part of the bytes that stands for the batch at a place: from where the one before it ends to where it ends.
-fn part_at<'a>(bytes: &'a [u8], ends: &[usize], at: usize) -> &'a [u8]
+fn part_at<'a>(bytes: &'a [u8], ends: &[u32], at: usize) -> &'a [u8]
     requires at_in { at < length ends.now }
     requires rising { slice_index (0 ∷ ends.now) at ≤ slice_index ends.now at }
     requires within { slice_index ends.now at ≤ length bytes.now }
     ensures { result.now ≡ slice_range bytes.now (slice_index (0 ∷ ends.now) at) (slice_index ends.now at) }
 {
-    let begin = if at == 0 { 0 } else { ends[at - 1] };
-    &bytes[begin..ends[at]]
+    let begin = if at == 0 { 0 } else { ends[at - 1] as usize };
+    &bytes[begin..ends[at] as usize]
 }
