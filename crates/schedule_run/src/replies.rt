@@ -105,8 +105,8 @@ fn reply_at(told: &[CoreReply], at: usize) -> Option<CoreReply>
     }
 }
 
-/// The reply to a command, of which the core tells all but what was read. There would be none to a command that reads
-/// nothing and was read: the core never says so.
+/// The reply to a command, of which the core tells all but what was read. It is `None` where a command that reads nothing
+/// is said to have been read, which the core never says.
 fn reply_of(
     reads: &mut MapUpTo,
     command: &Command,
