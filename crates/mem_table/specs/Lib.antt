@@ -2,6 +2,7 @@ pub mod Versions
 pub mod Chains
 pub mod Shapes
 pub mod ShapeCode
+pub mod Values
 pub mod Nodes
 pub mod Newest
 pub mod Batches

@@ -11,6 +11,7 @@ mod parts;
 mod range;
 mod rotations;
 mod tree;
+mod value;
 
 pub use node::{Node, Nodes};
 pub use parts::{MemberNodes, Parts};

@@ -8,13 +8,13 @@ ghost use Rattle.mem_table.specs.Nodes.{chain_of};
 ghost use Rattle.mem_table.specs.Newest.{newest, first_up_to, chain_at};
 
 use crate::node::{Node, Nodes, Subtree};
+use crate::value::Value;
 use byte_key::Front;
 use std::cmp::Ordering;
-use wp_coding::Bytes;
 
 impl Subtree {
     /// What the newest version of a key up to a sequence says, if there is one.
-    pub(crate) fn newest(&self, key: &[u8], at: u64) -> Option<&Option<Bytes>>
+    pub(crate) fn newest(&self, key: &[u8], at: u64) -> Option<&Option<Value>>
         requires { AreKeyed (chains_in self.now) }
         ensures { option_copied result ≡ newest key.now at (versions_in self.now) }
     {
@@ -41,7 +41,7 @@ impl Subtree {
 
 impl Node {
     /// What the newest version in its chain up to a sequence says, if there is one.
-    pub(crate) fn said_at(&self, at: u64) -> Option<&Option<Bytes>>
+    pub(crate) fn said_at(&self, at: u64) -> Option<&Option<Value>>
         ensures { option_copied result ≡ first_up_to at (chain_versions (chain_of self.now)) }
     {
         if self.sequence <= at {
@@ -53,7 +53,7 @@ impl Node {
 
 impl Nodes {
     /// The same of the first of these that isn't above the sequence.
-    fn said_at(&self, at: u64) -> Option<&Option<Bytes>>
+    fn said_at(&self, at: u64) -> Option<&Option<Value>>
         ensures { option_copied result ≡ first_up_to at self.now }
     {
         let mut rest = self;

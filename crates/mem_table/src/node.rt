@@ -5,10 +5,10 @@ ghost use Rattle.mem_table.specs.Shapes.{leaf, fork, height, IsBalanced};
 ghost use Rattle.mem_table.specs.Nodes.{version_of, chain_of, HasBalance};
 ghost use Rattle.mem_table.specs.Chains.{alone};
 
+use crate::value::Value;
 use byte_key::Key;
 use std::marker::Model;
-use std::mem;
-use wp_coding::Bytes;
+use std::mem::{self, size_of};
 
 /// Which side of a node is higher, by one.
 #[derive(Clone, Copy)]
@@ -21,7 +21,8 @@ pub(crate) enum Balance {
 /// A version of a key: the value that it gets, or none where it is deleted, and the sequence.
 ///
 /// It has the links of the tree and of a list in it, so that it is inserted and put behind others without memory. What
-/// a search reads comes first, so that it lies together.
+/// a search reads comes first, so that it lies together. A key of at most 16 bytes and a value of at most 23 stand in
+/// it, so that the version is one allocation.
 #[cycle(tree)]
 #[derive(Drop)]
 pub struct Node {
@@ -30,10 +31,13 @@ pub struct Node {
     pub(crate) right: Subtree,
     pub(crate) balance: Balance,
     pub(crate) sequence: u64,
-    pub(crate) value: Option<Bytes>,
+    pub(crate) value: Option<Value>,
     /// Those behind it: the older versions of its key in a tree, or what comes after it in a list.
     pub(crate) next: Nodes,
 }
+
+// One more would cost 16 bytes in an allocator that gives out multiples of 16, eight of them its own.
+const _: () = prove!(size_of::<Node>() <= 152);
 
 /// A balanced tree of keys: a node has the newest version of its key, and the older ones behind it. Contracts see its
 /// shape.

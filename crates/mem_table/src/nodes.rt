@@ -9,10 +9,10 @@ ghost use Rattle.table_rule.specs.declared.content.Version.{Version};
 ghost use Rattle.mem_table.specs.Chains.{insert_older};
 
 use crate::node::{Balance, Node, Nodes, Subtree};
+use crate::value::Value;
 use byte_key::Key;
 use std::alloc::Global;
 use std::mem;
-use wp_coding::Bytes;
 use wp_model::NoMemory;
 use write_batch::{Batch, RecordView};
 
@@ -159,7 +159,7 @@ impl Node {
             ≡ record { key = key.now; value = option_copied value.entry; sequence = 0 }) }
     {
         let value = match value {
-            Some(value) => Some(Bytes::copy(alloc, value)?),
+            Some(value) => Some(Value::copy(alloc, value)?),
             None => None,
         };
         Ok(Box::new(

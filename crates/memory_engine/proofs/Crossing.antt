@@ -12,7 +12,7 @@ use Rattle.engine_calls.proofs.answers.Refused.TheSendSync as refused
 use Rattle.write_controller.proofs.controller.Controller.TheSendSync as controller
 use Rattle.write_controller.proofs.pass.Pass.TheSendSync as pass
 use Rattle.write_controller.proofs.pass.Note.TheSendSync as note
-use Rattle.wp_coding.proofs.bytes.Bytes.TheSendSync as bytes
+use Rattle.mem_table.proofs.value.Value.TheSendSync as value
 use Rattle.wp_model.proofs.write.WriteOptions.TheSendSync as options
 use Rattle.write_batch.proofs.batch.Batch.TheSendSync as batch
 use Rattle.mem_table.specs.contracts.node.Nodes as nodes
@@ -52,10 +52,10 @@ use Rattle.group_engine.proofs.held.NoRight.TheSendSync as no_right
 use Rattle.group_engine.proofs.numbering.Plan.TheSendSync as plan
 
 nodes_send : IsSend nodes.the_row
-nodes_send = search (sendable, crosses, knot.send-Nodes, key.the_send, bytes.the_send, balance.the_send) depth 9
+nodes_send = search (sendable, crosses, knot.send-Nodes, key.the_send, value.the_send, balance.the_send) depth 9
 
 tree_send : IsSend tree.the_row
-tree_send = search (sendable, crosses, knot.send-Subtree, key.the_send, bytes.the_send, balance.the_send) depth 12
+tree_send = search (sendable, crosses, knot.send-Subtree, key.the_send, value.the_send, balance.the_send) depth 12
 
 request_fields : AllSend (fields request.the_type)
 request_fields = (batch.the_send, (nodes_send, (options.the_field_send, (search (sendable, note.the_send), tt))))

@@ -2,7 +2,7 @@
 use denote.Enum.Declared as enum
 use denote.Param.Send.{IsSend, IsSync, EachSync, enum_sync, recorded_sync, sendable}
 use Rattle.std.proofs.Crossing.{crosses}
-use Rattle.wp_coding.proofs.bytes.Bytes.TheSendSync as bytes
+use Rattle.mem_table.proofs.value.Value.TheSendSync as value
 use Rattle.byte_key.proofs.key.Key.TheSendSync as key
 use Rattle.mem_table.specs.contracts.node.Nodes as nodes
 use Rattle.mem_table.specs.contracts.tree.Tree as tree
@@ -19,10 +19,10 @@ use Rattle.mem_shards.proofs.shard_table.ShardTable.TheSendSync as many
 use Rattle.memory_engine.specs.contracts.memory_table.MemoryTable as table
 
 pub nodes_send : IsSend nodes.the_row
-nodes_send = search (sendable, crosses, knot.send-Nodes, key.the_send, bytes.the_send, balance.the_send) depth 9
+nodes_send = search (sendable, crosses, knot.send-Nodes, key.the_send, value.the_send, balance.the_send) depth 9
 
 pub tree_send : IsSend tree.the_row
-tree_send = search (sendable, crosses, knot.send-Subtree, key.the_send, bytes.the_send, balance.the_send) depth 12
+tree_send = search (sendable, crosses, knot.send-Subtree, key.the_send, value.the_send, balance.the_send) depth 12
 
 pub seat_field_send : IsSend (seat_row.the_field tree.the_row nodes.the_row).row
 seat_field_send = seat.the_field_send tree.the_row nodes.the_row tree_send nodes_send
