@@ -55,6 +55,12 @@ pub as_before : (old now ends later : List ℕ) (h : AreBatches old ends) → no
 as_before old now ends later h is is_later =
     (record { batches = h.batches; fit = h.fit; spelled = is ∙ h.spelled; ends_are = is_later ∙ h.ends_are }, refl)
 
+-- so they show the same batches
+pub still : (old now ends later : List ℕ) (h : AreBatches old ends) → now ≡ old → later ≡ ends → (same : AreBatches now later) → same.batches ≡ h.batches
+still old now ends later h is is_later same =
+    let one = as_before old now ends later h is is_later in
+    same_batches now later same one.0 ∙ one.1
+
 -- what holds where there is no error
 pub on_ok : {T E : Type 0} (r : Result T E) (P : Type 0) → is_err r ≡ false → OnOk r P → P
 on_ok (Ok x) P ok holds = holds

@@ -7,16 +7,15 @@ use crate::layout::{byte_of, bytes_of, flag_of};
 use crate::{Kept, KeptBatch};
 use std::alloc::Global;
 use std::marker::Model;
-use wp_coding::Bytes;
 use wp_model::{Flag, NoMemory};
 use write_batch::Batch;
 
 /// The accepted batches of a client, from the first on, each with how it was committed. Contracts see the list of them.
 #[derive(Drop)]
 pub struct BatchList {
-    bytes: Bytes,
+    bytes: Vec<u8>,
     ends: Vec<u32>,
-    ghost holds: { AreBatches bytes ends.items } by { AreBatches-prop bytes ends.items },
+    ghost holds: { AreBatches bytes.items ends.items } by { AreBatches-prop bytes.items ends.items },
 }
 
 impl Model for BatchList {
@@ -35,9 +34,19 @@ impl BatchList {
         ensures { result ≡ [] }
     {
         BatchList {
-            bytes: Bytes::new(alloc),
+            bytes: Vec::new(alloc),
             ends: Vec::new(alloc),
         }
+    }
+
+    /// Makes room for so many batches more, of so many bytes in all: each has its own, and one for its flag. That only
+    /// spares growth: the list asks for more by itself.
+    pub fn reserve(&mut self, batches: usize, bytes: usize) -> Result<(), NoMemory>
+        ensures { self.new ≡ self.old }
+    {
+        self.bytes.reserve(bytes)?;
+        self.ends.reserve(batches)?;
+        Ok(())
     }
 
     /// Puts a copy of a batch behind the others. Where memory fails, the list stays as it was. There is none for a list
@@ -68,7 +77,7 @@ impl BatchList {
         requires { at < length self.now }
         ensures { slice_get self.now at ≡ Some result }
     {
-        let part = part_at(self.bytes.as_slice(), &self.ends, at);
+        let part = part_at(&self.bytes, &self.ends, at);
         Kept {
             flag: flag_of(part[0]),
             batch: KeptBatch::of(&part[1..]),
@@ -78,14 +87,14 @@ impl BatchList {
 
 /// Puts a flag's byte and a batch's bytes behind the others, and then their end behind the other ends. Where memory
 /// fails, the ends stay as they were, and a part may stand behind the bytes.
-fn append(bytes: &mut Bytes, ends: &mut Vec<u32>, flag: u8, batch: &[u8]) -> Result<(), NoMemory>
-    ensures ok { OnOk result (bytes.new ≡ bytes.old ++ flag ∷ batch.now) }
-    ensures end { OnOk result (ends.new.items ≡ ends.old.items ++ length bytes.new ∷ []) }
-    ensures err { OnErr result (take (length bytes.old) bytes.new ≡ bytes.old) }
+fn append(bytes: &mut Vec<u8>, ends: &mut Vec<u32>, flag: u8, batch: &[u8]) -> Result<(), NoMemory>
+    ensures ok { OnOk result (bytes.new.items ≡ bytes.old.items ++ flag ∷ batch.now) }
+    ensures end { OnOk result (ends.new.items ≡ ends.old.items ++ length bytes.new.items ∷ []) }
+    ensures err { OnErr result (take (length bytes.old.items) bytes.new.items ≡ bytes.old.items) }
     ensures no_end { OnErr result (ends.new.items ≡ ends.old.items) }
 {
-    bytes.append(&[flag])?;
-    bytes.append(batch)?;
+    bytes.push(flag)?;
+    bytes.extend_from_slice(batch)?;
     let Ok(end) = u32::try_from(bytes.len()) else {
         return Err(NoMemory);
     };

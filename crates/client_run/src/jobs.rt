@@ -1,50 +1,44 @@
 //! Each client's part of a run.
 
 ghost use Rattle.std.specs.Prelude.{◌≡◌, ◌≤◌, [], map, vec_len, vec_capacity};
-ghost use Rattle.std.specs.List.{AllByRecursion};
-ghost use Rattle.client_run.specs.Jobs.{AreNone};
 ghost use Rattle.client_run.specs.Parts.{client_of, replies_of, batches_of};
 
-use crate::batches::{AtHand, Batches};
-use batch_list::BatchList;
+use crate::batches::Batches;
 use run_outcome::Reply;
-use std::alloc::Global;
 
-/// A client with what it was told, or with the room for it, and its batches.
+/// A client with what it was told and its batches, or with the room for them.
 pub struct Job<C> {
     pub client: C,
     pub replies: Vec<Reply>,
     pub batches: Batches,
 }
 
-/// Moves each client and its room into a job, which has no batch.
+/// Moves each client and its room into a job.
 pub fn fill<C>(
-    alloc: Global,
     clients: &mut Vec<C>,
     replies: &mut Vec<Vec<Reply>>,
+    batches: &mut Vec<Batches>,
     jobs: &mut Vec<Job<C>>,
 )
-    requires same { vec_len clients.old ≡ vec_len replies.old }
+    requires same { (vec_len clients.old ≡ vec_len replies.old) × (vec_len clients.old ≡ vec_len batches.old) }
     requires none { jobs.old.items ≡ [] }
     requires empty { vec_len jobs.old ≡ 0 }
     requires room { vec_len clients.old ≤ vec_capacity jobs.old }
     ensures clients { map client_of jobs.new.items ≡ clients.old.items }
     ensures replies { map replies_of jobs.new.items ≡ replies.old.items }
-    ensures batches { AllByRecursion AreNone (map batches_of jobs.new.items) }
-    ensures none { (clients.new.items ≡ []) × (replies.new.items ≡ []) }
-    ensures empty { (vec_len clients.new ≡ 0) × (vec_len replies.new ≡ 0) }
+    ensures batches { map batches_of jobs.new.items ≡ batches.old.items }
+    ensures none { (clients.new.items ≡ []) × (replies.new.items ≡ []) × (batches.new.items ≡ []) }
+    ensures empty { (vec_len clients.new ≡ 0) × (vec_len replies.new ≡ 0) × (vec_len batches.new ≡ 0) }
     ensures capacity { (vec_capacity clients.new ≡ vec_capacity clients.old)
-        × (vec_capacity replies.new ≡ vec_capacity replies.old) }
+        × (vec_capacity replies.new ≡ vec_capacity replies.old)
+        × (vec_capacity batches.new ≡ vec_capacity batches.old) }
 {
     while !clients.is_empty() {
         let client = clients.remove(0);
         jobs.push_reserved(Job {
             client,
             replies: replies.remove(0),
-            batches: Batches {
-                list: BatchList::new(alloc),
-                at_hand: AtHand::Nothing,
-            },
+            batches: batches.remove(0),
         });
     }
 }

@@ -3,8 +3,9 @@
 //! - [`run_clients`] runs all clients, and says of each that its replies are a transcript of its commands as far as the
 //!   client itself can tell (`HasRun` of `account_model`). [`finish`] closes the write path, and makes of these a legal
 //!   outcome.
-//! - All room for the replies is made before the first call of a client. An accepted batch goes into its client's list
-//!   as the next one is begun, which may find no memory; until then it stays at hand ([`Batches`]).
+//! - All room for the replies is made before the first call of a client, and some for the accepted batches, whose list
+//!   asks for more where they are long. An accepted batch goes into its client's list as the next one is begun, which
+//!   may find no memory; until then it stays at hand ([`Batches`]).
 //! - A client stops at its first call that finds no memory. As it stops or is through, it gives back what tokens it
 //!   holds.
 #![tactic(auto)]

@@ -1,13 +1,15 @@
 //! All clients, each in a thread of its own.
 
 ghost use Rattle.std.specs.Prelude.{◌≡◌, ◌+◌, ◌<◌, ◌≤◌, ◌^◌, length, map, IfOk, IfErr};
+ghost use Rattle.std.specs.List.{AllByRecursion};
 ghost use Rattle.account_model.specs.Closing.{AreOurs};
 ghost use Rattle.client_run.specs.Jobs.{FitBatches, AreNew, HaveTold, HaveEntries};
-ghost use Rattle.client_run.specs.Jobs.{IsRoom, IsReady, IsDone, AreReady, AreDone};
+ghost use Rattle.client_run.specs.Jobs.{AreNone, IsRoom, IsReady, IsDone, AreReady, AreDone};
 
-use crate::batches::Batches;
+use crate::batches::{AtHand, Batches};
 use crate::client::run_client;
 use crate::jobs::{Job, empty, fill};
+use batch_list::BatchList;
 use command_list::CommandList;
 use engine_calls::{Engine, Gate};
 use run_outcome::Reply;
@@ -16,6 +18,10 @@ use std::sync::Wait;
 use std::thread;
 use std::thread::Threads;
 use wp_model::NoMemory;
+
+/// How many bytes of room a client's list has at first for each of its commits: a batch's header and its flag take 13,
+/// and the others are for a short record. A list with longer ones grows.
+const BYTES_A_COMMIT: usize = 32;
 
 /// The clients, handed back, with what each was told and its batches, all in order of the clients' numbers.
 pub struct Transcripts<C> {
@@ -53,13 +59,13 @@ where
     let Ok(mut replies) = room_for(alloc, script) else {
         return Err((clients, NoMemory));
     };
-    let Ok(mut batches) = Vec::with_capacity(alloc, script.len()) else {
+    let Ok(mut batches) = batches_for(alloc, script) else {
         return Err((clients, NoMemory));
     };
     let Ok(mut jobs) = Vec::with_capacity(alloc, script.len()) else {
         return Err((clients, NoMemory));
     };
-    fill(alloc, &mut clients, &mut replies, &mut jobs);
+    fill(&mut clients, &mut replies, &mut batches, &mut jobs);
     work_all(rt, alloc, engine, gate, script, jobs.as_mut_slice());
     empty(&mut jobs, &mut clients, &mut replies, &mut batches);
     jobs.destroy_empty();
@@ -77,6 +83,26 @@ fn room_for(alloc: Global, script: &[CommandList]) -> Result<Vec<Vec<Reply>>, No
     let mut all = Vec::new(alloc);
     for commands in script {
         all.push(Vec::with_capacity(alloc, commands.len())?)?;
+    }
+    Ok(all)
+}
+
+/// No batches for each client, with room for those of its commits. A list that grew during the run would lie between
+/// what the calls ask for, and would cut the memory that this leaves into pieces.
+fn batches_for(alloc: Global, script: &[CommandList]) -> Result<Vec<Batches>, NoMemory>
+    ensures count { IfOk result (λ all. length all.items ≡ length script.now) }
+    ensures none { IfOk result (λ all. AllByRecursion AreNone all.items) }
+{
+    let mut all = Vec::new(alloc);
+    for commands in script {
+        let commits = commands.commit_count();
+        let bytes = commits.checked_mul(BYTES_A_COMMIT).ok_or(NoMemory)?;
+        let mut list = BatchList::new(alloc);
+        list.reserve(commits, bytes)?;
+        all.push(Batches {
+            list,
+            at_hand: AtHand::Nothing,
+        })?;
     }
     Ok(all)
 }

@@ -1,4 +1,6 @@
-use Rattle.std.proofs.Common.{◌∙◌, ap, sym, map}
+use Rattle.std.proofs.Common.{◌∙◌, ap, sym, subst, map}
+use Rattle.std.specs.List.{AllByRecursion}
+use Rattle.client_run.specs.Jobs.{AreNone}
 use Rattle.client_run.specs.Parts.{client_of, replies_of, batches_of}
 use Rattle.client_run.proofs.Moves.{ready_all, done_ours, done_told, done_entries, whole_slice, jobs_count}
 use Rattle.client_run.proofs.run.run_clients.Goals as goal
@@ -7,8 +9,9 @@ pub work_all-requires-after_bounds : goal.work_all-requires-after_bounds
 work_all-requires-after_bounds g c κs within =
     let v = c.as_mut_slice.ensures.value in
     let e = c.args.engine.now in
+    let none = subst (AllByRecursion AreNone) (sym c.fill.ensures.batches) c.in-Ok-batches_for.ensures.none in
     rw v (ready_all (g.E.Engine.belongs e) g.E.Engine.account (g.E.Engine.settings e) c.args.script.now c.args.clients.items c.in-Ok.replies.items c.fill.new.jobs.items
-    c.requires.ours c.requires.new c.requires.script c.requires.few c.requires.fits c.in-Ok.ensures c.fill.ensures.batches c.fill.ensures.clients c.fill.ensures.replies)
+    c.requires.ours c.requires.new c.requires.script c.requires.few c.requires.fits c.in-Ok.ensures none c.fill.ensures.clients c.fill.ensures.replies)
 
 pub returns-clause-ours : goal.returns-clause-ours
 returns-clause-ours g c =
