@@ -1,12 +1,14 @@
 //! Lines: words with one space between them, and a line feed behind the last.
 
-ghost use Rattle.std.specs.Prelude.{◌≡◌, ◌∷◌, ◌++◌, map, flat_map, decimal, OnOk};
+ghost use Rattle.std.specs.Prelude.{◌≡◌, ◌≤◌, ◌∷◌, ◌++◌, length, map, flat_map, decimal, OnOk};
 ghost use Rattle.wp_model.specs.Text.{line, hex};
 
 use itoa::Buffer;
-use std::alloc::Global;
 use wp_coding::Bytes;
 use wp_model::NoMemory;
+
+/// Of how many bytes the digits are made at once.
+const PIECE: usize = 32;
 
 /// Puts a number behind the text, in decimal.
 pub fn put_number(text: &mut Bytes, number: u64) -> Result<(), NoMemory>
@@ -37,9 +39,27 @@ pub fn put_line(text: &mut Bytes, words: &[u8], numbers: &[u64]) -> Result<(), N
 }
 
 /// Puts bytes behind the text, each as two lower-case digits.
-pub fn put_hex(alloc: Global, text: &mut Bytes, bytes: &[u8]) -> Result<(), NoMemory>
+pub fn put_hex(text: &mut Bytes, bytes: &[u8]) -> Result<(), NoMemory>
     ensures { OnOk result (text.new ≡ text.old ++ hex bytes.now) }
 {
-    let digits = hex::encode(alloc, bytes)?;
-    text.append(digits.as_bytes())
+    let mut rest = bytes;
+    while rest.len() > PIECE {
+        let (piece, behind) = rest.split_at(PIECE);
+        put_piece(text, piece)?;
+        rest = behind;
+    }
+    put_piece(text, rest)
+}
+
+/// Puts few bytes behind the text, each as two lower-case digits, which are made in place.
+fn put_piece(text: &mut Bytes, bytes: &[u8]) -> Result<(), NoMemory>
+    requires { length bytes.now ≤ PIECE }
+    ensures { OnOk result (text.new ≡ text.old ++ hex bytes.now) }
+{
+    let mut room = [0; 2 * PIECE];
+    let digits = &mut room[..2 * bytes.len()];
+    match hex::encode_to_slice(bytes, digits) {
+        Ok(()) => text.append(digits),
+        Err(_) => unreachable!(),
+    }
 }

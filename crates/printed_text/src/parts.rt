@@ -8,7 +8,6 @@ use crate::lines::{put_hex, put_line, put_number, put_numbers};
 use crate::reads::{put_found_each, put_rows};
 use client_calls::Entry;
 use run_outcome::{History, Reply};
-use std::alloc::Global;
 use wp_coding::Bytes;
 use wp_model::{Flag, NoMemory, Refusal};
 use write_batch::Batch;
@@ -93,12 +92,7 @@ fn flag_word(flag: Flag) -> &'static [u8]
 }
 
 /// Puts a batch's line behind the text. `B` is what stands for the batch, which has these bytes.
-fn put_entry<B>(
-    alloc: Global,
-    text: &mut Bytes,
-    entry: &Entry<B>,
-    bytes: &[u8],
-) -> Result<(), NoMemory>
+fn put_entry<B>(text: &mut Bytes, entry: &Entry<B>, bytes: &[u8]) -> Result<(), NoMemory>
     ensures { OnOk result (text.new ≡ text.old ++ line_of entry.now bytes.now) }
 {
     put_number(text, entry.first)?;
@@ -106,33 +100,29 @@ fn put_entry<B>(
     text.append(b" ")?;
     text.append(flag_word(entry.flag))?;
     text.append(b" ")?;
-    put_hex(alloc, text, bytes)?;
+    put_hex(text, bytes)?;
     text.append(b"\n")
 }
 
 /// Puts the history of a run behind the text: how many batches there are, and a line for each.
-pub fn put_history(alloc: Global, text: &mut Bytes, history: &History) -> Result<(), NoMemory>
+pub fn put_history(text: &mut Bytes, history: &History) -> Result<(), NoMemory>
     ensures { OnOk result (text.new ≡ text.old ++ history_lines history.now) }
 {
     put_line(text, b"history", &[history.len() as u64])?;
     for at in 0..history.len() {
         let entry = history.entry(at);
-        put_entry(alloc, text, &entry, entry.batch.bytes())?;
+        put_entry(text, &entry, entry.batch.bytes())?;
     }
     Ok(())
 }
 
 /// Puts the history of a schedule behind the text, as that of a run.
-pub fn put_entries(
-    alloc: Global,
-    text: &mut Bytes,
-    entries: &[Entry<Batch>],
-) -> Result<(), NoMemory>
+pub fn put_entries(text: &mut Bytes, entries: &[Entry<Batch>]) -> Result<(), NoMemory>
     ensures { OnOk result (text.new ≡ text.old ++ history_lines entries.now) }
 {
     put_line(text, b"history", &[entries.len() as u64])?;
     for entry in entries {
-        put_entry(alloc, text, entry, entry.batch.bytes())?;
+        put_entry(text, entry, entry.batch.bytes())?;
     }
     Ok(())
 }

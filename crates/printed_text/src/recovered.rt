@@ -22,7 +22,7 @@ pub fn recovered_text(alloc: Global, recovered: &Recovered) -> Result<Bytes, NoM
 {
     let mut text = Bytes::new(alloc);
     put_groups(&mut text, &recovered.groups)?;
-    put_recovered_map(alloc, &mut text, recovered.last, &recovered.map)?;
+    put_recovered_map(&mut text, recovered.last, &recovered.map)?;
     put_end(&mut text, recovered.end.at, recovered.end.why)?;
     Ok(text)
 }

@@ -23,7 +23,7 @@ pub fn replayed_text(alloc: Global, replayed: &Replayed) -> Result<Bytes, NoMemo
     let mut text = Bytes::new(alloc);
     put_counts(&mut text, replayed.counts)?;
     put_clients(&mut text, &replayed.transcripts)?;
-    put_entries(alloc, &mut text, &replayed.history)?;
+    put_entries(&mut text, &replayed.history)?;
     put_map(&mut text, replayed.last, &replayed.map)?;
     put_line(&mut text, b"groups", &[replayed.groups])?;
     Ok(text)

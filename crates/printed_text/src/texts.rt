@@ -22,7 +22,7 @@ pub fn outcome_text(alloc: Global, outcome: &Outcome<PairList>) -> Result<Bytes,
 {
     let mut text = Bytes::new(alloc);
     put_clients(&mut text, &outcome.transcripts)?;
-    put_history(alloc, &mut text, &outcome.history)?;
+    put_history(&mut text, &outcome.history)?;
     put_pairs(&mut text, outcome.last, &outcome.state)?;
     put_log(&mut text, outcome.log_len, outcome.fault)?;
     Ok(text)
