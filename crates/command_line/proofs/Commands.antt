@@ -11,7 +11,7 @@ use Rattle.command_line.specs.Lawful.{Given, Known, command_asked, generate_aske
 use Rattle.command_line.specs.Meaning.{asked_by, asked_in, flag_in, number_in, replay_by, run_by, shards_in}
 use Rattle.command_line.specs.declared.asked.Asked.{Asked}
 use Rattle.command_line.specs.declared.asked.Asked.TheVariants.{Run, Recover, Replay}
-use Rattle.command_line.proofs.Four.{four, mapped_of}
+use Rattle.command_line.proofs.Four.{five, four, mapped_of}
 use Rattle.command_line.proofs.GivenValues.{flag_found, number_found, shards_found}
 use Rattle.command_line.proofs.LeafOptions.{Fits, given_shown, nothing_given, options_pass, rows_given}
 use Rattle.command_line.proofs.LeafWalks.{HasOption, between, leaf, replay_has, run_has}
@@ -46,16 +46,17 @@ options_ask name word s known is takes words given asked e says =
 -- ---- `run`
 
 run_takes : TakesOptions (leaf run.top) run_options
-run_takes = record { options = run_has; once = refl; defaults = (refl, (refl, (refl, (refl, (refl, tt))))); checks = λ rows. refl }
+run_takes = record { options = run_has; once = refl; defaults = (refl, (refl, (refl, (refl, (refl, (refl, tt)))))); checks = λ rows. refl }
 
 run_says : (given : Given) → Each (Fits run_options) given → run_by (fold with_default (rows_given given) (leaf run.top).rules) ≡ Some (run_with given)
 run_says given fits =
     let c = (leaf run.top).rules in
     let rows = rows_given given in
     let end = fold with_default rows c in
-    let make = λ (k : Option ℕ) (g : ℕ) (b : ℕ) (l : ℕ). Run k g b l in
-    four make (shards_in end) (number_in (codes "group-bytes") end) (number_in (codes "batch-bytes") end) (number_in (codes "last") end)
-    (shards_given given) (number_or 1048576 lawful.group_bytes given) (number_or 16777216 lawful.batch_bytes given) (number_or 0 lawful.last given)
+    let make = λ (p : Bool) (k : Option ℕ) (g : ℕ) (b : ℕ) (l : ℕ). Run p k g b l in
+    five make (flag_in (codes "pipelined") end) (shards_in end) (number_in (codes "group-bytes") end) (number_in (codes "batch-bytes") end) (number_in (codes "last") end)
+    (is_some (value_of (codes "pipelined") given)) (shards_given given) (number_or 1048576 lawful.group_bytes given) (number_or 16777216 lawful.batch_bytes given) (number_or 0 lawful.last given)
+    (flag_found run_options c refl refl given fits rows (given_shown (codes "pipelined") given))
     (shards_found run_options c refl refl refl refl given fits rows (given_shown (codes "table") given) (given_shown (codes "shards") given))
     (number_found run_options c (codes "group-bytes") 1 16777216 1048576 (codes "1048576") refl refl refl given fits rows (given_shown (codes "group-bytes") given))
     (number_found run_options c (codes "batch-bytes") 12 16777216 16777216 (codes "16777216") refl refl refl given fits rows (given_shown (codes "batch-bytes") given))

@@ -1,4 +1,4 @@
--- Four values that are all there.
+-- Four values, and five, that are all there.
 use Rattle.std.proofs.Common.{◌≡◌, Option, Some, None, refl}
 use Rattle.std.specs.Prelude.{option_and_then, option_map}
 
@@ -26,3 +26,15 @@ module _ {A B C D Z : Type 0} (f : A → B → C → D → Z) where
       let r = some_of (λ (c : C). option_map (λ (d : D). f p.0 q.0 c d) od) oc z q.2 in
       let s = mapped_of (λ (d : D). f p.0 q.0 r.0 d) od z r.2 in
       (p.0, q.0, r.0, s.0, p.1, q.1, r.1, s.1, s.2)
+
+module _ {A B C D E Z : Type 0} (f : A → B → C → D → E → Z) where
+  abbrev pub all_five : Option A → Option B → Option C → Option D → Option E → Option Z
+  all_five oa ob oc od oe = option_and_then (λ a. all_four (f a) ob oc od oe) oa
+
+  pub five : (oa : Option A) (ob : Option B) (oc : Option C) (od : Option D) (oe : Option E) (a : A) (b : B) (c : C) (d : D) (e : E)
+      → oa ≡ Some a → ob ≡ Some b → oc ≡ Some c → od ≡ Some d → oe ≡ Some e → all_five oa ob oc od oe ≡ Some (f a b c d e)
+  five oa ob oc od oe a b c d e is_a is_b is_c is_d is_e = rw (is_a, is_b, is_c, is_d, is_e) refl
+
+  pub five_of : (oa : Option A) (ob : Option B) (oc : Option C) (od : Option D) (oe : Option E) (z : Z) → all_five oa ob oc od oe ≡ Some z
+      → (a : A) × (oa ≡ Some a) × (all_four (f a) ob oc od oe ≡ Some z)
+  five_of oa ob oc od oe z is = some_of (λ (a : A). all_four (f a) ob oc od oe) oa z is

@@ -80,12 +80,18 @@ batch_valued = number_valued (codes "batch-bytes") 12 16777216 (codes "16777216"
 last_valued : IsValued lawful.last (filled last)
 last_valued = number_valued (codes "last") 0 72057594037927935 (codes "0")
 
+run_pipelined : Finds (leaf run.top) lawful.pipelined (filled pipelined)
+run_pipelined = record { no_escape = refl; long = refl; by_long = refl; by_id = refl; once = refl }
+
 pub run_has : Each (HasOption (leaf run.top)) run_options
 run_has = (
-  (filled table, run_table, inl table_valued),
+  (filled pipelined, run_pipelined, inr pipelined_flag),
   (
-    (filled shards, run_shards, inl shards_valued),
-    ((filled group_bytes, run_group, inl group_valued), ((filled batch_bytes, run_batch, inl batch_valued), ((filled last, run_last, inl last_valued), tt))),
+    (filled table, run_table, inl table_valued),
+    (
+      (filled shards, run_shards, inl shards_valued),
+      ((filled group_bytes, run_group, inl group_valued), ((filled batch_bytes, run_batch, inl batch_valued), ((filled last, run_last, inl last_valued), tt))),
+    ),
   ),
 )
 
@@ -113,8 +119,14 @@ generate_table = record { no_escape = refl; long = refl; by_long = refl; by_id =
 generate_shards : Finds (leaf generate.top) lawful.shards (filled shards)
 generate_shards = record { no_escape = refl; long = refl; by_long = refl; by_id = refl; once = refl }
 
+generate_pipelined : Finds (leaf generate.top) lawful.pipelined (filled pipelined)
+generate_pipelined = record { no_escape = refl; long = refl; by_long = refl; by_id = refl; once = refl }
+
 pub generate_has : Each (HasOption (leaf generate.top)) generate_options
-generate_has = ((filled table, generate_table, inl table_valued), ((filled shards, generate_shards, inl shards_valued), tt))
+generate_has = (
+  (filled pipelined, generate_pipelined, inr pipelined_flag),
+  ((filled table, generate_table, inl table_valued), ((filled shards, generate_shards, inl shards_valued), tt)),
+)
 
 -- ---- a use
 

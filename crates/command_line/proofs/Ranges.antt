@@ -23,7 +23,7 @@ use Rattle.command_line.specs.Limits.{KeepsLimits, KeepsShards}
 use Rattle.command_line.specs.Meaning.{asked_by, asked_in, flag_in, is_taken, number_in, shards_in, shards_of, whole_number}
 use Rattle.command_line.specs.declared.asked.Asked.{Asked}
 use Rattle.command_line.specs.declared.asked.Asked.TheVariants.{Run, Recover, Replay, Generate}
-use Rattle.command_line.proofs.Four.{four_of, some_of}
+use Rattle.command_line.proofs.Four.{five_of, four_of, some_of}
 use Rattle.command_line.proofs.LeafWalks.{leaf}
 use Rattle.command_line.proofs.Lists.{Each, find_holds}
 use Rattle.command_line.proofs.Options.{placed}
@@ -121,19 +121,7 @@ level_rows s has words none =
 run_sound : HasSound (leaf run.top)
 unfolding clap_on_literals
 run_sound = record {
-  all = (
-    record { is_set = record { itself = refl; sets = inl refl }; defaults = refl },
-    (
-      record { is_set = record { itself = refl; sets = inl refl }; defaults = refl },
-      (
-        record { is_set = record { itself = refl; sets = inl refl }; defaults = refl },
-        (
-          record { is_set = record { itself = refl; sets = inl refl }; defaults = refl },
-          (record { is_set = record { itself = refl; sets = inl refl }; defaults = refl }, tt),
-        ),
-      ),
-    ),
-  );
+  all = (record { is_set = record { itself = refl; sets = inr refl }; defaults = refl }, (record { is_set = record { itself = refl; sets = inl refl }; defaults = refl }, (record { is_set = record { itself = refl; sets = inl refl }; defaults = refl }, (record { is_set = record { itself = refl; sets = inl refl }; defaults = refl }, (record { is_set = record { itself = refl; sets = inl refl }; defaults = refl }, (record { is_set = record { itself = refl; sets = inl refl }; defaults = refl }, tt))))));
   by_short = λ x. refl;
   once = refl;
 }
@@ -158,19 +146,7 @@ replay_sound = record {
 generate_sound : HasSound (leaf generate.top)
 unfolding clap_on_literals
 generate_sound = record {
-  all = (
-    record { is_set = record { itself = refl; sets = inl refl }; defaults = refl },
-    (
-      record { is_set = record { itself = refl; sets = inl refl }; defaults = refl },
-      (
-        record { is_set = record { itself = refl; sets = inl refl }; defaults = refl },
-        (
-          record { is_set = record { itself = refl; sets = inl refl }; defaults = refl },
-          (record { is_set = record { itself = refl; sets = inl refl }; defaults = refl }, tt),
-        ),
-      ),
-    ),
-  );
+  all = (record { is_set = record { itself = refl; sets = inr refl }; defaults = refl }, (record { is_set = record { itself = refl; sets = inl refl }; defaults = refl }, (record { is_set = record { itself = refl; sets = inl refl }; defaults = refl }, (record { is_set = record { itself = refl; sets = inl refl }; defaults = refl }, (record { is_set = record { itself = refl; sets = inl refl }; defaults = refl }, (record { is_set = record { itself = refl; sets = inl refl }; defaults = refl }, tt))))));
   by_short = λ x. refl;
   once = refl;
 }
@@ -197,14 +173,15 @@ run_keeps words asked none is =
     let c = (leaf run.top).rules in
     let rows = rows_after c [] words in
     let pass = level_rows (leaf run.top) run_sound words none in
-    let make = λ (k : Option ℕ) (g : ℕ) (b : ℕ) (l : ℕ). Run k g b l in
-    let has = four_of make (shards_in rows) (number_in (codes "group-bytes") rows) (number_in (codes "batch-bytes") rows) (number_in (codes "last") rows) asked is in
+    let make = λ (p : Bool) (k : Option ℕ) (g : ℕ) (b : ℕ) (l : ℕ). Run p k g b l in
+    let first = five_of make (flag_in (codes "pipelined") rows) (shards_in rows) (number_in (codes "group-bytes") rows) (number_in (codes "batch-bytes") rows) (number_in (codes "last") rows) asked is in
+    let has = four_of (make first.0) (shards_in rows) (number_in (codes "group-bytes") rows) (number_in (codes "batch-bytes") rows) (number_in (codes "last") rows) asked first.2 in
     let in_k = shards_in_range c (record { rule = filled shards; found = refl; reads = refl; tests = λ text. refl }) rows pass has.0 has.4 in
     let in_g = number_in_range c (codes "group-bytes") 1 16777216 (record { rule = filled group_bytes; found = refl; reads = refl; tests = λ text. refl }) rows pass has.1 has.5 in
     let in_b = number_in_range c (codes "batch-bytes") 12 16777216 (record { rule = filled batch_bytes; found = refl; reads = refl; tests = λ text. refl }) rows pass has.2 has.6 in
     let in_l = number_in_range c (codes "last") 0 72057594037927935 (record { rule = filled last; found = refl; reads = refl; tests = λ text. refl }) rows pass has.3 has.7 in
     let below : has.3 < 2 ^ 56 = omega (arith, in_l.1) in
-    subst KeepsLimits {x = Run has.0 has.1 has.2 has.3} has.8 (in_k, in_g.0, in_g.1, in_b.0, in_b.1, below)
+    subst KeepsLimits {x = Run first.0 has.0 has.1 has.2 has.3} has.8 (in_k, in_g.0, in_g.1, in_b.0, in_b.1, below)
 
 recover_keeps : LevelKeeps (leaf recover.top)
 recover_keeps words asked none is =
@@ -230,14 +207,15 @@ generate_keeps words asked none is =
     let c = (leaf generate.top).rules in
     let rows = rows_after c [] words in
     let pass = level_rows (leaf generate.top) generate_sound words none in
-    let make = λ (k : Option ℕ) (s : ℕ) (m : ℕ) (b : ℕ). Generate k s m b in
-    let has = four_of make (shards_in rows) (number_in (codes "SEED") rows) (number_in (codes "CLIENTS") rows) (number_in (codes "BATCHES") rows) asked is in
+    let make = λ (p : Bool) (k : Option ℕ) (s : ℕ) (m : ℕ) (b : ℕ). Generate p k s m b in
+    let first = five_of make (flag_in (codes "pipelined") rows) (shards_in rows) (number_in (codes "SEED") rows) (number_in (codes "CLIENTS") rows) (number_in (codes "BATCHES") rows) asked is in
+    let has = four_of (make first.0) (shards_in rows) (number_in (codes "SEED") rows) (number_in (codes "CLIENTS") rows) (number_in (codes "BATCHES") rows) asked first.2 in
     let in_k = shards_in_range c (record { rule = filled shards; found = refl; reads = refl; tests = λ text. refl }) rows pass has.0 has.4 in
     let in_s = number_in_range c (codes "SEED") 0 2147483647 (record { rule = placed 1 seed; found = refl; reads = refl; tests = λ text. refl }) rows pass has.1 has.5 in
     let in_m = number_in_range c (codes "CLIENTS") 1 16 (record { rule = placed 2 clients; found = refl; reads = refl; tests = λ text. refl }) rows pass has.2 has.6 in
     let in_b = number_in_range c (codes "BATCHES") 1 100000 (record { rule = placed 3 batches; found = refl; reads = refl; tests = λ text. refl }) rows pass has.3 has.7 in
     let below : has.1 < 2 ^ 31 = omega (arith, in_s.1) in
-    subst KeepsLimits {x = Generate has.0 has.1 has.2 has.3} has.8 (in_k, below, in_m.0, in_m.1, in_b.0, in_b.1)
+    subst KeepsLimits {x = Generate first.0 has.0 has.1 has.2 has.3} has.8 (in_k, below, in_m.0, in_m.1, in_b.0, in_b.1)
 
 commands_keep : Each LevelKeeps (built writepath).subs
 unfolding clap_on_literals

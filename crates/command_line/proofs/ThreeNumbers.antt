@@ -2,7 +2,7 @@
 use Rattle.std.proofs.Common.{◌≡◌, ◌∙◌, ◌-◌, ◌^◌, ◌&&◌, ◌||◌, ℕ, Bool, true, false, not, List, [], ◌∷◌, ◌++◌, Option, Some, None, cond, fold, refl, ap, subst, codes}
 use Rattle.std.proofs.lemmas.List.{take-append-drop}
 use Rattle.std.proofs.lemmas.List.Sums.{fold-append}
-use Rattle.std.specs.Prelude.{bytes_eq, drop, find, length, option_and_then, option_map, take}
+use Rattle.std.specs.Prelude.{bytes_eq, drop, find, is_some, length, option_and_then, option_map, take}
 use Rattle.std.specs.Option.{option_map_or}
 use Rattle.clap.specs.Words.{Kinds, Row, Rule, Shape, Text}
 use Rattle.clap.specs.Facts.{explicit_source}
@@ -14,13 +14,13 @@ use Rattle.clap.specs.Walk.{Held, Step, Walk, after_step, arg_by_id, finished, h
 use Rattle.clap.specs.declared.parser.matches.ValueSource.TheVariants.{CommandLine}
 use Rattle.clap.proofs.OnLiterals.{clap_on_literals}
 use Rattle.command_line.specs.Definition.{batches, clients, generate, seed}
-use Rattle.command_line.specs.Lawful.{Given, Known, generate_asked, generate_options, generate_with, options_of, shards_given, within, word_of}
-use Rattle.command_line.specs.Meaning.{asked_in, generate_by, number_in, shards_in, whole_number}
+use Rattle.command_line.specs.Lawful.{Given, Known, generate_asked, generate_options, generate_with, options_of, shards_given, value_of, within, word_of}
+use Rattle.command_line.specs.Meaning.{asked_in, flag_in, generate_by, number_in, shards_in, whole_number}
 use Rattle.command_line.specs.declared.asked.Asked.{Asked}
 use Rattle.command_line.specs.declared.asked.Asked.TheVariants.{Generate}
 use Rattle.command_line.proofs.Defaults.{stays}
-use Rattle.command_line.proofs.Four.{four, mapped_of, some_of}
-use Rattle.command_line.proofs.GivenValues.{shards_found, unknown_is_none}
+use Rattle.command_line.proofs.Four.{five, mapped_of, some_of}
+use Rattle.command_line.proofs.GivenValues.{flag_found, shards_found, unknown_is_none}
 use Rattle.command_line.proofs.LeafOptions.{Fits, Shows, given_shown, not_given, nothing_given, options_pass, rows_given}
 use Rattle.command_line.proofs.LeafWalks.{Pending, before, between, generate_has, held, leaf, no_flag, plain_met, use_passes, use_settles}
 use Rattle.command_line.proofs.Levels.{DefaultPasses, command_asks, is_generate, level_passes}
@@ -116,7 +116,10 @@ record AreNumbers (s c b : Text) (i j k : ℕ) : Type 0 where
   is_batches : IsNumberText b 1 100000 k
 
 generate_defaults : Each DefaultPasses shape.rules
-generate_defaults = (refl, (refl, (refl, (refl, (refl, tt)))))
+generate_defaults = (refl, (refl, (refl, (refl, (refl, (refl, tt))))))
+
+abbrev in_stages : Given → Bool
+in_stages given = is_some (value_of (codes "pipelined") given)
 
 -- what is required is there
 checks_pass : (rows : List Row) (s c b : Text) → row_in (codes "SEED") rows ≡ Some (value_row (codes "SEED") CommandLine s)
@@ -185,19 +188,20 @@ module _ (given : Given) (fits : Each (Fits generate_options) given) (s c b : Te
       ∙ row-other id (rows_given given) (value_row (codes "SEED") CommandLine s) no_s
       ∙ given_shown id given
 
-  rows_ask : (i j k : ℕ) → AreNumbers s c b i j k → generate_by end_rows ≡ Some (Generate (shards_given given) i j k)
+  rows_ask : (i j k : ℕ) → AreNumbers s c b i j k → generate_by end_rows ≡ Some (Generate (in_stages given) (shards_given given) i j k)
   rows_ask i j k are =
-      let make = λ (n : Option ℕ) (x : ℕ) (y : ℕ) (z : ℕ). Generate n x y z in
+      let make = λ (p : Bool) (n : Option ℕ) (x : ℕ) (y : ℕ) (z : ℕ). Generate p n x y z in
       let number_of_row = λ (r : Option Row). option_and_then whole_number (option_and_then row_text r) in
-      four make (shards_in end_rows) (number_in (codes "SEED") end_rows) (number_in (codes "CLIENTS") end_rows) (number_in (codes "BATCHES") end_rows)
-      (shards_given given) i j k
+      five make (flag_in (codes "pipelined") end_rows) (shards_in end_rows) (number_in (codes "SEED") end_rows) (number_in (codes "CLIENTS") end_rows) (number_in (codes "BATCHES") end_rows)
+      (in_stages given) (shards_given given) i j k
+      (flag_found generate_options shape.rules refl refl given fits with_batches (shown (codes "pipelined") refl refl refl))
       (shards_found generate_options shape.rules refl refl refl refl given fits with_batches (shown (codes "table") refl refl refl) (shown (codes "shards") refl refl refl))
       (ap number_of_row seed_row ∙ are.is_seed.whole) (ap number_of_row clients_row ∙ are.is_clients.whole) (ap number_of_row batches_row ∙ are.is_batches.whole)
 
 -- ---- the command
 
 numbers_ask : (name : Text) (options : List Text) (given : Given) → options_of generate_options options ≡ Some given
-    → (s c b : Text) (i j k : ℕ) → AreNumbers s c b i j k → asked_in (name ∷ codes "gen" ∷ (options ++ s ∷ c ∷ b ∷ [])) ≡ Some (Generate (shards_given given) i j k)
+    → (s c b : Text) (i j k : ℕ) → AreNumbers s c b i j k → asked_in (name ∷ codes "gen" ∷ (options ++ s ∷ c ∷ b ∷ [])) ≡ Some (Generate (in_stages given) (shards_given given) i j k)
 unfolding walk_fault
 numbers_ask name options given e s c b i j k are =
     let ends = options_pass shape generate_options generate_has options [] given e [] None (nothing_given shape generate_options) in
@@ -232,20 +236,20 @@ numbers_ask name options given e s c b i j k are =
     let checks : check_fault shape (finished shape.rules end.held) false ≡ [] =
     ap (λ (r : List Row). check_fault shape r false) rows_are
     ∙ checks_pass (end_rows given fits s c b) s c b (seed_row given fits s c b) (clients_row given fits s c b) (batches_row given fits s c b) in
-    command_asks name (codes "gen") shape is_generate words (Generate (shards_given given) i j k)
+    command_asks name (codes "gen") shape is_generate words (Generate (in_stages given) (shards_given given) i j k)
     (level_passes shape words end refl generate_defaults walks passes batches_taken.settles checks)
     (ap (λ (w : Walk). generate_by (finished shape.rules w.held)) walks ∙ ap generate_by rows_are ∙ rows_ask given fits s c b i j k are)
 
 numbers_then : (name : Text) (options : List Text) (given : Given) → options_of generate_options options ≡ Some given
-    → (numbers : List Text) (asked : Asked) → generate_with (shards_given given) numbers ≡ Some asked → asked_in (name ∷ codes "gen" ∷ (options ++ numbers)) ≡ Some asked
+    → (numbers : List Text) (asked : Asked) → generate_with (in_stages given) (shards_given given) numbers ≡ Some asked → asked_in (name ∷ codes "gen" ∷ (options ++ numbers)) ≡ Some asked
 numbers_then name options given e [] asked is = cc
 numbers_then name options given e (s ∷ []) asked is = cc
 numbers_then name options given e (s ∷ c ∷ []) asked is = cc
 numbers_then name options given e (s ∷ c ∷ b ∷ []) asked is =
-    let n = shards_given given in
-    let of_seed = some_of (λ (x : ℕ). option_and_then (λ (y : ℕ). option_map (λ (z : ℕ). Generate n x y z) (within 1 100000 b)) (within 1 16 c)) (within 0 (2 ^ 31 - 1) s) asked is in
-    let of_clients = some_of (λ (y : ℕ). option_map (λ (z : ℕ). Generate n of_seed.0 y z) (within 1 100000 b)) (within 1 16 c) asked of_seed.2 in
-    let of_batches = mapped_of (λ (z : ℕ). Generate n of_seed.0 of_clients.0 z) (within 1 100000 b) asked of_clients.2 in
+    let p = in_stages given in let n = shards_given given in
+    let of_seed = some_of (λ (x : ℕ). option_and_then (λ (y : ℕ). option_map (λ (z : ℕ). Generate p n x y z) (within 1 100000 b)) (within 1 16 c)) (within 0 (2 ^ 31 - 1) s) asked is in
+    let of_clients = some_of (λ (y : ℕ). option_map (λ (z : ℕ). Generate p n of_seed.0 y z) (within 1 100000 b)) (within 1 16 c) asked of_seed.2 in
+    let of_batches = mapped_of (λ (z : ℕ). Generate p n of_seed.0 of_clients.0 z) (within 1 100000 b) asked of_clients.2 in
     let are : AreNumbers s c b of_seed.0 of_clients.0 of_batches.0 = record {
       is_seed = number_text s 0 (2 ^ 31 - 1) of_seed.0 of_seed.1;
       is_clients = number_text c 1 16 of_clients.0 of_clients.1;
@@ -257,6 +261,6 @@ numbers_then name options given e (s ∷ c ∷ b ∷ d ∷ words) asked is = cc
 pub generate_asks : (name : Text) (words : List Text) (asked : Asked) → generate_asked words ≡ Some asked → asked_in (name ∷ codes "gen" ∷ words) ≡ Some asked
 generate_asks name words asked e =
     let place = length words - 3 in
-    let given = some_of (λ (g : Given). generate_with (shards_given g) (drop place words)) (options_of generate_options (take place words)) asked e in
+    let given = some_of (λ (g : Given). generate_with (in_stages g) (shards_given g) (drop place words)) (options_of generate_options (take place words)) asked e in
     subst (λ (ws : List Text). asked_in (name ∷ codes "gen" ∷ ws) ≡ Some asked) (take-append-drop place words)
     (numbers_then name (take place words) given.0 given.1 (drop place words) asked given.2)

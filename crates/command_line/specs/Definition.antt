@@ -54,8 +54,8 @@ batches = number_word (codes "BATCHES") 1 100000
 -- the commands, with their options
 
 abbrev pub run : App
-run = with_rule (with_rule (with_rule (with_rule (with_rule (new_app (codes "run")) table) shards) group_bytes)
-    batch_bytes) last
+run = with_rule (with_rule (with_rule (with_rule (with_rule (with_rule (new_app (codes "run")) pipelined) table) shards)
+    group_bytes) batch_bytes) last
 
 abbrev pub recover : App
 recover = new_app (codes "recover")
@@ -64,8 +64,8 @@ abbrev pub replay : App
 replay = with_rule (with_rule (with_rule (with_rule (new_app (codes "replay")) pipelined) group_bytes) batch_bytes) last
 
 abbrev pub generate : App
-generate = with_rule (with_rule (with_rule (with_rule (with_rule (new_app (codes "gen")) table) shards) seed) clients)
-    batches
+generate = with_rule (with_rule (with_rule (with_rule (with_rule (with_rule (new_app (codes "gen")) pipelined) table)
+    shards) seed) clients) batches
 
 -- the program, which wants a command, and has no help
 abbrev pub program : App

@@ -56,7 +56,7 @@ last = number (codes "last") 0 (2 ^ 56 - 1)
 -- what each command takes
 
 abbrev pub run_options : List Known
-run_options = table ∷ shards ∷ group_bytes ∷ batch_bytes ∷ last ∷ []
+run_options = pipelined ∷ table ∷ shards ∷ group_bytes ∷ batch_bytes ∷ last ∷ []
 
 abbrev pub recover_options : List Known
 recover_options = []
@@ -65,7 +65,7 @@ abbrev pub replay_options : List Known
 replay_options = pipelined ∷ group_bytes ∷ batch_bytes ∷ last ∷ []
 
 abbrev pub generate_options : List Known
-generate_options = table ∷ shards ∷ []
+generate_options = pipelined ∷ table ∷ shards ∷ []
 
 -- ---- the options that words give
 
@@ -115,25 +115,25 @@ shards_given given =
     then Some (number_or 16 shards given) else None
 
 abbrev pub run_with : Given → Asked
-run_with given = Run (shards_given given) (number_or 1048576 group_bytes given) (number_or 16777216 batch_bytes given)
-    (number_or 0 last given)
+run_with given = Run (is_some (value_of pipelined.name given)) (shards_given given)
+    (number_or 1048576 group_bytes given) (number_or 16777216 batch_bytes given) (number_or 0 last given)
 
 abbrev pub replay_with : Given → Asked
 replay_with given = Replay (is_some (value_of pipelined.name given)) (number_or 1048576 group_bytes given)
     (number_or 16777216 batch_bytes given) (number_or 0 last given)
 
 -- `gen` wants a seed below 2^31, up to 16 clients, and up to 100000 batches of each
-abbrev pub generate_with : Option ℕ → List Word → Option Asked
-generate_with in_shards (seed ∷ clients ∷ batches ∷ []) =
-    option_and_then (λ s. option_and_then (λ c. option_map (λ b. Generate in_shards s c b)
+abbrev pub generate_with : Bool → Option ℕ → List Word → Option Asked
+generate_with in_stages in_shards (seed ∷ clients ∷ batches ∷ []) =
+    option_and_then (λ s. option_and_then (λ c. option_map (λ b. Generate in_stages in_shards s c b)
     (within 1 100000 batches)) (within 1 16 clients)) (within 0 (2 ^ 31 - 1) seed)
-generate_with in_shards _ = None
+generate_with in_stages in_shards _ = None
 
 -- its last three words are these numbers
 abbrev pub generate_asked : List Word → Option Asked
 generate_asked words =
     let before = length words - 3 in
-    option_and_then (λ given. generate_with (shards_given given) (drop before words))
+    option_and_then (λ given. generate_with (is_some (value_of pipelined.name given)) (shards_given given) (drop before words))
     (options_of generate_options (take before words))
 
 -- what a command asks for with the words behind it

@@ -48,10 +48,10 @@ shards_in rows =
 -- what `run` asks for, by its matches
 abbrev pub run_by : List Row → Option Asked
 run_by rows =
-    option_and_then (λ shards. option_and_then (λ group_bytes. option_and_then
-    (λ batch_bytes. option_map (λ last. Run shards group_bytes batch_bytes last)
+    option_and_then (λ pipelined. option_and_then (λ shards. option_and_then (λ group_bytes. option_and_then
+    (λ batch_bytes. option_map (λ last. Run pipelined shards group_bytes batch_bytes last)
     (number_in (codes "last") rows)) (number_in (codes "batch-bytes") rows)) (number_in (codes "group-bytes") rows))
-    (shards_in rows)
+    (shards_in rows)) (flag_in (codes "pipelined") rows)
 
 -- and `replay`
 abbrev pub replay_by : List Row → Option Asked
@@ -64,10 +64,10 @@ replay_by rows =
 -- and `gen`
 abbrev pub generate_by : List Row → Option Asked
 generate_by rows =
-    option_and_then (λ shards. option_and_then (λ seed. option_and_then
-    (λ clients. option_map (λ batches. Generate shards seed clients batches)
+    option_and_then (λ pipelined. option_and_then (λ shards. option_and_then (λ seed. option_and_then
+    (λ clients. option_map (λ batches. Generate pipelined shards seed clients batches)
     (number_in (codes "BATCHES") rows)) (number_in (codes "CLIENTS") rows)) (number_in (codes "SEED") rows))
-    (shards_in rows)
+    (shards_in rows)) (flag_in (codes "pipelined") rows)
 
 -- what a command and its matches ask for
 abbrev pub asked_by : Text → List Row → Option Asked

@@ -18,6 +18,8 @@ use thiserror::Error;
 pub enum Asked {
     /// To run a script.
     Run {
+        /// Whether the log is handed on before a group is inserted.
+        pipelined: bool,
         /// How many shards the table has; none where it is one tree under one lock.
         shards: Option<u64>,
         /// The most bytes of a write group.
@@ -42,6 +44,8 @@ pub enum Asked {
     },
     /// To make a script.
     Generate {
+        /// Whether the log is handed on before a group is inserted.
+        pipelined: bool,
         /// How many shards the table has; none where it is one tree under one lock.
         shards: Option<u64>,
         /// What its numbers are drawn from.
@@ -110,6 +114,7 @@ fn run_by(options: &ArgMatches) -> Option<Asked>
     ensures { result ≡ meaning.run_by (rows_of (found_of options.now)) }
 {
     Some(Asked::Run {
+        pipelined: flag_in("pipelined", options)?,
         shards: shards_in(options)?,
         group_bytes: number_in("group-bytes", options)?,
         batch_bytes: number_in("batch-bytes", options)?,
@@ -132,6 +137,7 @@ fn generate_by(options: &ArgMatches) -> Option<Asked>
     ensures { result ≡ meaning.generate_by (rows_of (found_of options.now)) }
 {
     Some(Asked::Generate {
+        pipelined: flag_in("pipelined", options)?,
         shards: shards_in(options)?,
         seed: number_in("SEED", options)?,
         clients: number_in("CLIENTS", options)?,

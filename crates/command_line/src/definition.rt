@@ -43,7 +43,8 @@ fn run<'a>(alloc: Global) -> Result<Command<'a>, AllocError>
     ensures app { IfOk result (λ command. app_of command ≡ clap_words.run) }
     ensures local { IfOk result (λ command. (out-Command command).has_globals ≡ false) }
 {
-    with_limits(with_table(Command::new(alloc, "run"), alloc)?, alloc)
+    let staged = Command::new(alloc, "run").arg(pipelined(alloc))?;
+    with_limits(with_table(staged, alloc)?, alloc)
 }
 
 fn recover<'a>(alloc: Global) -> Command<'a>
@@ -64,7 +65,8 @@ fn generate<'a>(alloc: Global) -> Result<Command<'a>, AllocError>
     ensures app { IfOk result (λ command. app_of command ≡ clap_words.generate) }
     ensures local { IfOk result (λ command. (out-Command command).has_globals ≡ false) }
 {
-    with_table(Command::new(alloc, "gen"), alloc)?
+    let staged = Command::new(alloc, "gen").arg(pipelined(alloc))?;
+    with_table(staged, alloc)?
         .arg(number_word(alloc, "SEED", 0, 2147483647))?
         .arg(number_word(alloc, "CLIENTS", 1, 16))?
         .arg(number_word(alloc, "BATCHES", 1, 100000))

@@ -17,39 +17,43 @@ pub fn lawful_words()
 pub fn words_that_are_lawful()
     ensures run { lawful_in (codes "writepath" ∷ codes "run" ∷ codes "--last" ∷ codes "5" ∷ codes "--shards"
         ∷ codes "64" ∷ codes "--batch-bytes" ∷ codes "12" ∷ codes "--table" ∷ codes "shards"
-        ∷ codes "--group-bytes" ∷ codes "1" ∷ []) ≡ Some (Run (Some 64) 1 12 5) }
+        ∷ codes "--pipelined" ∷ codes "--group-bytes" ∷ codes "1" ∷ []) ≡ Some (Run true (Some 64) 1 12 5) }
     ensures recover { lawful_in (codes "writepath" ∷ codes "recover" ∷ []) ≡ Some Recover }
     ensures replay { lawful_in (codes "writepath" ∷ codes "replay" ∷ codes "--last" ∷ codes "5" ∷ codes "--pipelined"
         ∷ []) ≡ Some (Replay true 1048576 16777216 5) }
     ensures generate { lawful_in (codes "writepath" ∷ codes "gen" ∷ codes "--table" ∷ codes "shards" ∷ codes "7"
-        ∷ codes "2" ∷ codes "3" ∷ []) ≡ Some (Generate (Some 16) 7 2 3) }
+        ∷ codes "2" ∷ codes "3" ∷ []) ≡ Some (Generate false (Some 16) 7 2 3) }
 {}
 
 /// Words that ask for something, in lawful form and in another that is read too.
 pub fn words_that_ask()
-    ensures run { asked_in (codes "writepath" ∷ codes "run" ∷ []) ≡ Some (Run None 1048576 16777216 0) }
+    ensures run { asked_in (codes "writepath" ∷ codes "run" ∷ []) ≡ Some (Run false None 1048576 16777216 0) }
     ensures run_with_groups { asked_in (codes "writepath" ∷ codes "run" ∷ codes "--group-bytes" ∷ codes "1" ∷ [])
-        ≡ Some (Run None 1 16777216 0) }
+        ≡ Some (Run false None 1 16777216 0) }
     ensures run_in_shards { asked_in (codes "writepath" ∷ codes "run" ∷ codes "--table" ∷ codes "shards" ∷ [])
-        ≡ Some (Run (Some 16) 1048576 16777216 0) }
+        ≡ Some (Run false (Some 16) 1048576 16777216 0) }
     ensures run_in_one { asked_in (codes "writepath" ∷ codes "run" ∷ codes "--shards" ∷ codes "7" ∷ [])
-        ≡ Some (Run None 1048576 16777216 0) }
+        ≡ Some (Run false None 1048576 16777216 0) }
     ensures run_in_most_shards { asked_in (codes "writepath" ∷ codes "run" ∷ codes "--table" ∷ codes "shards"
         ∷ codes "--shards" ∷ codes "64" ∷ codes "--last" ∷ codes "3" ∷ [])
-        ≡ Some (Run (Some 64) 1048576 16777216 3) }
+        ≡ Some (Run false (Some 64) 1048576 16777216 3) }
+    ensures run_in_two_stages { asked_in (codes "writepath" ∷ codes "run" ∷ codes "--pipelined" ∷ [])
+        ≡ Some (Run true None 1048576 16777216 0) }
     ensures recover { asked_in (codes "writepath" ∷ codes "recover" ∷ []) ≡ Some Recover }
     ensures replay { asked_in (codes "writepath" ∷ codes "replay" ∷ codes "--last" ∷ codes "7" ∷ codes "--group-bytes"
         ∷ codes "1" ∷ []) ≡ Some (Replay false 1 16777216 7) }
     ensures pipelined { asked_in (codes "writepath" ∷ codes "replay" ∷ codes "--last" ∷ codes "7" ∷ codes "--pipelined"
         ∷ []) ≡ Some (Replay true 1048576 16777216 7) }
     ensures with_equals_sign { asked_in (codes "writepath" ∷ codes "run" ∷ codes "--last=4" ∷ [])
-        ≡ Some (Run None 1048576 16777216 4) }
+        ≡ Some (Run false None 1048576 16777216 4) }
     ensures with_leading_zero { asked_in (codes "writepath" ∷ codes "run" ∷ codes "--last" ∷ codes "04" ∷ [])
-        ≡ Some (Run None 1048576 16777216 4) }
+        ≡ Some (Run false None 1048576 16777216 4) }
     ensures generate { asked_in (codes "writepath" ∷ codes "gen" ∷ codes "7" ∷ codes "16" ∷ codes "100000" ∷ [])
-        ≡ Some (Generate None 7 16 100000) }
+        ≡ Some (Generate false None 7 16 100000) }
     ensures generate_in_shards { asked_in (codes "writepath" ∷ codes "gen" ∷ codes "--table" ∷ codes "shards"
-        ∷ codes "--shards" ∷ codes "2" ∷ codes "7" ∷ codes "2" ∷ codes "3" ∷ []) ≡ Some (Generate (Some 2) 7 2 3) }
+        ∷ codes "--shards" ∷ codes "2" ∷ codes "7" ∷ codes "2" ∷ codes "3" ∷ []) ≡ Some (Generate false (Some 2) 7 2 3) }
+    ensures generate_in_two_stages { asked_in (codes "writepath" ∷ codes "gen" ∷ codes "--pipelined" ∷ codes "7"
+        ∷ codes "2" ∷ codes "3" ∷ []) ≡ Some (Generate true None 7 2 3) }
 {}
 
 /// Words that ask for nothing.
@@ -64,7 +68,8 @@ pub fn words_that_do_not_ask()
         ∷ codes "2" ∷ []) ≡ None }
     ensures flag_twice { asked_in (codes "writepath" ∷ codes "replay" ∷ codes "--pipelined" ∷ codes "--pipelined" ∷ [])
         ≡ None }
-    ensures flag_of_another_command { asked_in (codes "writepath" ∷ codes "run" ∷ codes "--pipelined" ∷ []) ≡ None }
+    ensures flag_of_another_command { asked_in (codes "writepath" ∷ codes "recover" ∷ codes "--pipelined" ∷ [])
+        ≡ None }
     ensures below_range { asked_in (codes "writepath" ∷ codes "run" ∷ codes "--batch-bytes" ∷ codes "11" ∷ []) ≡ None }
     ensures above_range { asked_in (codes "writepath" ∷ codes "run" ∷ codes "--last" ∷ codes "72057594037927936" ∷ [])
         ≡ None }
@@ -89,8 +94,6 @@ pub fn words_that_do_not_ask()
         ∷ codes "4" ∷ []) ≡ None }
     ensures option_of_generate { asked_in (codes "writepath" ∷ codes "gen" ∷ codes "7" ∷ codes "2" ∷ codes "3"
         ∷ codes "--last" ∷ codes "1" ∷ []) ≡ None }
-    ensures flag_of_generate { asked_in (codes "writepath" ∷ codes "gen" ∷ codes "--pipelined" ∷ codes "1" ∷ codes "1"
-        ∷ codes "1" ∷ []) ≡ None }
     ensures last_of_generate { asked_in (codes "writepath" ∷ codes "gen" ∷ codes "--last" ∷ codes "1" ∷ codes "7"
         ∷ codes "2" ∷ codes "3" ∷ []) ≡ None }
     ensures help_of_command { asked_in (codes "writepath" ∷ codes "run" ∷ codes "--help" ∷ []) ≡ None }

@@ -68,7 +68,8 @@ struct Outcome {
     last: u64,
 }
 
-// Opens an engine over a table of this kind with a client for each script, lets all play at once, and closes it. The
+// Opens an engine over a table of this kind, in one stage or two, with a client for each script, lets all play at once,
+// and closes it. The
 // disk has much room, and its calls with a number in the list fail. The first batch is written after this sequence.
 fn ended<R: Threads + Wait + Abort + Sync>(
     rt: &R,
@@ -76,6 +77,7 @@ fn ended<R: Threads + Wait + Abort + Sync>(
     fails: &[u64],
     start: u64,
     kind: TableKind,
+    pipelined: bool,
     scripts: &[Vec<Step>],
 ) -> Outcome
     requires start { start ≤ max_sequence }
@@ -94,7 +96,16 @@ fn ended<R: Threads + Wait + Abort + Sync>(
             .push(Mutex::new(Vec::new(alloc)))
             .expect(rt, "memory");
     }
-    let (engine, mut all) = opened(rt, alloc, 65536, fails, count as u32, options, kind);
+    let (engine, mut all) = opened(
+        rt,
+        alloc,
+        65536,
+        fails,
+        count as u32,
+        options,
+        kind,
+        pipelined,
+    );
     play_at_once(
         rt,
         alloc,

@@ -18,6 +18,8 @@ use Rattle.writer_list.specs.declared.writer.Role.TheVariants.{LogLeader, Done}
 use Rattle.writer_list.specs.declared.writer.Writer.{Writer}
 use Rattle.writer_list.specs.declared.writer_list.WriterList.{WriterList}
 use Rattle.writer_list.specs.Seats.{about_of, start_of, told, told_in_first, Belongs, HasGroup}
+use Rattle.writer_list.specs.declared.writer.Task.{Task}
+use Rattle.writer_list.specs.declared.writer.Task.TheVariants.{Awaits, Leads as Leads_, Helps, Queues, Serves}
 use Rattle.writer_list.specs.Roles.{asks, pays, IsLinked, Becomes}
 use Rattle.write_controller.specs.declared.controller.Controller.{Controller}
 use Rattle.write_controller.specs.Delays.{delays_of}
@@ -28,12 +30,15 @@ use Rattle.group_engine.specs.declared.requests.Reply.{Reply}
 use Rattle.group_engine.specs.declared.engine.GroupEngine.{GroupEngine}
 use Rattle.group_engine.specs.declared.held.About.{About}
 use Rattle.group_engine.specs.declared.held.Held.{Held}
-use Rattle.group_engine.specs.declared.held.NoRight.{NoRight}
+use Rattle.group_engine.specs.declared.held.Right.{Right}
 use Rattle.group_engine.specs.Clients.{opened_log, own_commits}
 use Rattle.group_engine.specs.Handled.{AreHandled, HandsBack, InOrder, IsNoted, ShowsDelay, handled_with, seen_for}
 use Rattle.group_engine.specs.Items.{item_with}
-use Rattle.group_engine.specs.Law.{HeldStandsFor}
-use Rattle.group_engine.specs.Serving.{IsReplyAt, LeadsBy}
+use Rattle.group_engine.specs.Law.{LogStandsFor, kept_in}
+use Rattle.write_controller.specs.Passes.{noted}
+use Rattle.group_engine.specs.Runs.{run_of}
+use Rattle.group_engine.specs.Led.{LeadsBy}
+use Rattle.group_engine.specs.Serving.{IsReplyAt}
 use Rattle.group_engine.proofs.Answered.{commit, own_more}
 use Rattle.group_engine.proofs.Paying.{Paid, number_is, paid, run}
 
@@ -47,47 +52,45 @@ all_front P (x ∷ xs) ys h = (h.0, all_front P xs ys h.1)
 
 -- What the list's law is about, and what its leaders keep
 module _ {D T C S U P : Type 0} {ghosts : Ghosts D} where
-  abbrev pub kept_in : WriterList Request Reply (Held D T C S U P ghosts) NoRight (About D T C ghosts) → List (Handling Request Reply) → Type 0
-  kept_in list = AreHandled (about_of list).controller.value (about_of list).opened.value (about_of list).start
-
-  abbrev pub law_in : (T → U → Type 0) → (U → List (List MemberVersions)) → WriterList Request Reply (Held D T C S U P ghosts) NoRight (About D T C ghosts) → Held D T C S U P ghosts → List (Handling Request Reply) → Type 0
-  law_in our_turn history list = logs_from (λ l hs. HeldStandsFor our_turn history (about_of list) l hs) (kept_in list) (λ l. l.path.last) run (start_of list)
-
   -- what is asked of a request and its code
-  abbrev pub wanted_in : WriterList Request Reply (Held D T C S U P ghosts) NoRight (About D T C ghosts) → Request → ℕ → Type 0
+  abbrev pub wanted_in : WriterList Request Reply (Held D T C S U P ghosts) (Right T S U P) (About D T C ghosts) → Request → ℕ → Type 0
   wanted_in list = asks_for (λ (q : Request). item_with q.batch.records q.options) (λ (a : About D T C ghosts) (q : Request). IsNoted a.controller.value q) (about_of list)
 
-  module _ (our_turn : T → U → Type 0) (history : U → List (List MemberVersions)) (about : About D T C ghosts) (held : Held D T C S U P ghosts) where
+  -- the log, with the note, as it is held
+  abbrev pub LogIn : About D T C ghosts → Held D T C S U P ghosts → List (List MemberVersions) → List (Handling Request Reply) → Type 0
+  LogIn about held published handled = LogStandsFor about.opened.value about.start about.clients about.group_bytes (noted held.asked) held.path.log published held.path.last handled
+
+  module _ (about : About D T C ghosts) (held : Held D T C S U P ghosts) (published : List (List MemberVersions)) where
     -- what holds once a leader has answered its group
     pub record HasLed (own : Entry Request) (group : List (Entry Request)) (seen : List (Handling Request Reply)) (ys : List (ℕ × Reply)) : Type 0 where
       pub is_paid : Paid own group ys
-      pub stands : HeldStandsFor our_turn history about held (seen ++ all_answers own is_paid.own_reply is_paid.gs)
+      pub path : LogIn about held published (seen ++ all_answers own is_paid.own_reply is_paid.gs)
       pub kept : AreHandled about.controller.value about.opened.value about.start (seen ++ all_answers own is_paid.own_reply is_paid.gs)
       pub number : held.path.last ≡ last_run run about.start (seen ++ all_answers own is_paid.own_reply is_paid.gs)
 
-    kept_now : (seen new : List (Handling Request Reply)) → HeldStandsFor our_turn history about held (seen ++ new) → AreHandled about.controller.value about.opened.value about.start seen
+    kept_now : (seen new : List (Handling Request Reply)) → LogIn about held published (seen ++ new) → AreHandled about.controller.value about.opened.value about.start seen
         → AllByRecursion HandsBack new → AllByRecursion (ShowsDelay about.controller.value) new → AreHandled about.controller.value about.opened.value about.start (seen ++ new)
-    kept_now seen new stands old handed_back shown = let w = stands.path.consistent.written in record {
-      answered = stands.path.consistent.answered;
+    kept_now seen new path old handed_back shown = let w = path.consistent.written in record {
+      answered = path.consistent.answered;
       handed_back = all_append HandsBack seen new old.handed_back handed_back;
       shown = all_append (ShowsDelay about.controller.value) seen new old.shown shown;
-      written = record { calls = stands.path.calls; log = held.path.log; wrote = stands.path.wrote; worked = w.worked; lost = w.lost; both = w.both; parts = w.parts };
+      written = record { calls = path.calls; log = held.path.log; wrote = path.wrote; worked = w.worked; lost = w.lost; both = w.both; parts = w.parts };
     }
 
     pub has_led : (own : Entry Request) (group : List (Entry Request)) (seen : List (Handling Request Reply)) (xs : List (ℕ × Request)) (ys : List (ℕ × Reply)) → xs ≡ asks own group → InOrder xs ys
-        → HeldStandsFor our_turn history about held (seen ++ handled_with xs ys) → AreHandled about.controller.value about.opened.value about.start seen
+        → LogIn about held published (seen ++ handled_with xs ys) → AreHandled about.controller.value about.opened.value about.start seen
         → AllByRecursion HandsBack (handled_with xs ys) → AllByRecursion (ShowsDelay about.controller.value) (handled_with xs ys) → HasLed own group seen ys
-    has_led own group seen xs ys are pays stands old handed_back shown =
+    has_led own group seen xs ys are pays path old handed_back shown =
         let t = paid own group ys (subst (λ (l : List (ℕ × Request)). InOrder l ys) are pays) in
         let new = all_answers own t.own_reply t.gs in
         let new_is : handled_with xs ys ≡ new = ap (λ (l : List (ℕ × Request)). handled_with l ys) are ∙ sym t.answers_are in
-        let stands1 = subst (λ (hs : List (Handling Request Reply)). HeldStandsFor our_turn history about held (seen ++ hs)) new_is stands in
-        let kept = kept_now seen new stands1 old (subst (AllByRecursion HandsBack) new_is handed_back) (subst (AllByRecursion (ShowsDelay about.controller.value)) new_is shown) in
+        let path1 = subst (λ (hs : List (Handling Request Reply)). LogIn about held published (seen ++ hs)) new_is path in
+        let kept = kept_now seen new path1 old (subst (AllByRecursion HandsBack) new_is handed_back) (subst (AllByRecursion (ShowsDelay about.controller.value)) new_is shown) in
         record {
           is_paid = t;
-          stands = stands1;
+          path = path1;
           kept = kept;
-          number = stands1.path.consistent.last_is ∙ sym (number_is about.start None (seen ++ new) kept.handed_back kept.answered);
+          number = path1.consistent.last_is ∙ sym (number_is about.start None (seen ++ new) kept.handed_back kept.answered);
         }
 
 -- the engine's numbers are those that the list's law is about
@@ -198,9 +201,12 @@ module _ {L M : Type 0} where
 
 -- Where a writer stands
 module _ {Q P L M : Type 0} where
-  pub linked_told : (stood : L → List (Handling Q P) → Type 0) (c : ℕ) (b : Bool) (q : Q) (mine : List (Q × P)) (m : Sat Q P L M) → IsLinked stood c b q mine m → told_in_first m.0 ≡ mine
-  linked_told stood c true q mine m h = ap told_in_first h.3
-  linked_told stood c false q mine m h = ap told_in_first h.0
+  pub linked_told : (stood : L → List (Handling Q P) → Type 0) (c : ℕ) (task : Task) (q : Q) (mine : List (Q × P)) (m : Sat Q P L M) → IsLinked stood c task q mine m → told_in_first m.0 ≡ mine
+  linked_told stood c Awaits q mine m h = ap told_in_first h.0
+  linked_told stood c Leads_ q mine m h = ap told_in_first h.3
+  linked_told stood c Helps q mine m h = ap told_in_first h.0
+  linked_told stood c Queues q mine m h = absurd h
+  linked_told stood c Serves q mine m h = absurd h
 
   pub as_leader : (stood : L → List (Handling Q P) → Type 0) (kept : List (Handling Q P) → Type 0) (c : ℕ) (q : Q) (mine : List (Q × P)) (r : Role L P) (l : L) (m : Sat Q P L M) → r ≡ LogLeader l → Becomes stood kept c q mine r m → Becomes stood kept c q mine (LogLeader l) m
   as_leader stood kept c q mine r l m e h = subst (λ (z : Role L P). Becomes stood kept c q mine z m) e h

@@ -31,8 +31,8 @@ use Rattle.group_engine.specs.declared.requests.Reply.{Reply}
 use Rattle.group_engine.specs.Asking.{HasAskedFor, OnlyLooks, all_seen}
 use Rattle.group_engine.specs.Handled.{ComesBack, HandsBack, InOrder, IsDelayed, IsHeldUp, IsNotHeldUp, IsReplyOf, ShowsDelay, answer_in, commit_of, commit_request_of, commit_requests_of, handled_with, noted_in, seen_at, seen_for}
 use Rattle.group_engine.specs.Law.{StandsFor}
-use Rattle.group_engine.specs.Led.{IsLedGroup}
-use Rattle.group_engine.specs.Serving.{IsReplyAt, LeadsBy}
+use Rattle.group_engine.specs.Led.{IsLedGroup, LeadsBy}
+use Rattle.group_engine.specs.Serving.{IsReplyAt}
 use Rattle.group_engine.proofs.Views.{Saw, unnoted, unseen_commits}
 
 -- The delay that was asked for

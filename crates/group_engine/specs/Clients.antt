@@ -1,5 +1,5 @@
 -- An engine and its clients, and a client's account.
-use Rattle.std.specs.Prelude.{◌≡◌, ℕ, false, ◌<◌, ◌≤◌, List, [], ◌∷◌, ◌++◌, map, vec_len, vec_capacity}
+use Rattle.std.specs.Prelude.{◌≡◌, ℕ, ◌<◌, ◌≤◌, List, [], ◌∷◌, ◌++◌, map, vec_len, vec_capacity}
 use Rattle.wp_edge.specs.declared.disk.Disk.{Ghosts}
 use Rattle.wp_model.specs.History.{max_sequence}
 use Rattle.wp_model.specs.Trace.{Settings}
@@ -26,7 +26,7 @@ use Rattle.group_engine.specs.declared.engine.GroupEngine.{GroupEngine}
 use Rattle.group_engine.specs.declared.engine.Client.{Client}
 use Rattle.group_engine.specs.declared.engine.Room.{Room}
 use Rattle.group_engine.specs.declared.held.Held.{Held}
-use Rattle.group_engine.specs.declared.held.NoRight.{NoRight}
+use Rattle.group_engine.specs.declared.held.Right.{Right}
 use Rattle.group_engine.specs.Handled.{commit_of, AreHandled}
 use Rattle.group_engine.specs.Layout.{IsRoomy}
 
@@ -59,7 +59,7 @@ module _ {D T C S U P : Type 0} {ghosts : Ghosts D} where
       pub start_number : start_of e.list ≡ (opening e.table).start
       pub about_clients : (about_of e.list).clients ≡ clients_of e.list
       pub group_bytes : (about_of e.list).group_bytes ≡ e.group_bytes
-      pub single : piped_of e.list ≡ false
+      pub pipelined : (about_of e.list).pipelined ≡ piped_of e.list
       pub low : (opening e.table).start ≤ max_sequence
       pub few : clients_of e.list < 255
       pub batch_bytes : e.batch_bytes ≤ 16777216
@@ -117,7 +117,7 @@ module _ {D T C S U P : Type 0} {ghosts : Ghosts D} where
     pub number : w.number ≡ v.number
     pub start_same : w.start ≡ v.start
 
-  abbrev pub writer_in : Client D T C S U P ghosts → Writer Request Reply (Held D T C S U P ghosts) NoRight
+  abbrev pub writer_in : Client D T C S U P ghosts → Writer Request Reply (Held D T C S U P ghosts) (Right T S U P)
   writer_in c = c.writer
 
   abbrev pub seat_in : Client D T C S U P ghosts → S

@@ -18,3 +18,8 @@ pub record IsLedGroup (group_bytes clients : ℕ) (requests : List (ℕ × Reque
   pub unlogged : first.1.options.no_log ≡ true → AreUnlogged (commit_requests_of requests)
   pub syncs : SyncsFor (commit_requests_of requests) first.1.options.sync
   pub slowdown : first.1.options.no_slowdown ≡ true → MayNotWait (commit_requests_of requests)
+
+-- the first is the client's own
+abbrev pub LeadsBy : ℕ → List (ℕ × Request) → Type 0
+LeadsBy number [] = ⊥
+LeadsBy number (x ∷ requests) = x.0 ≡ number

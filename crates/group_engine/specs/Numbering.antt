@@ -1,10 +1,14 @@
 -- What a leader lays out while it gives its group runs, and its answers.
-use Rattle.std.specs.Prelude.{◌≡◌, ◌⊎◌, ℕ, ◌+◌, ◌≤◌, List, [], ◌∷◌, ◌++◌, map, Ok, Err, nat_le, if◌then◌else◌, ⊤}
+use Rattle.std.specs.Prelude.{◌≡◌, ◌⊎◌, ℕ, ◌+◌, ◌<◌, ◌≤◌, List, [], ◌∷◌, ◌++◌, length, map, Ok, Err, nat_le, if◌then◌else◌, ⊤}
 use Rattle.wp_model.specs.declared.write.Refusal.TheVariants.{LogFault, SequenceFull}
-use Rattle.wp_model.specs.Batch.{count_of}
+use Rattle.wp_model.specs.Batch.{Record, count_of}
 use Rattle.wp_model.specs.History.{max_sequence}
 use Rattle.write_batch.specs.Contents.{Contents}
+use Rattle.table_rule.specs.declared.content.MemberVersions.{MemberVersions}
 use Rattle.table_rule.specs.declared.content.Version.{Version}
+use Rattle.table_rule.specs.Batches.{made, numbered}
+use Rattle.table_rule.specs.Histories.{In, Members, versions_in}
+use Rattle.mem_table.specs.Parts.{with_part}
 use Rattle.mem_table.specs.declared.parts.MemberNodes.{MemberNodes}
 use Rattle.group_rule.specs.Plans.{last_with}
 use Rattle.group_engine.specs.declared.requests.Request.{Request}
@@ -37,6 +41,17 @@ batches_of last (x ∷ requests) = batch_at last x.1 ++ batches_of (last_with la
 abbrev pub HasVersions : ℕ → List Version → List MemberNodes → Type 0
 HasVersions member versions parts = ((versions ≡ []) × (parts ≡ []))
     ⊎ (parts ≡ record { member = member; nodes = versions } ∷ [])
+
+-- a request's versions behind those of a member, if it has a run
+abbrev pub parts_with : ℕ → ℕ → List Record → List MemberNodes → List MemberNodes
+parts_with member last records parts = if nat_le (last + count_of records) max_sequence then
+    with_part parts member (numbered (last + 1) (made records)) else parts
+
+-- the parts have these versions together, and, where there are any, each member once, and its leader among them
+pub record AreParts (leader clients : ℕ) (versions : List Version) (parts : List MemberVersions) : Type 0 where
+  pub versions_are : versions_in parts ≡ versions
+  pub members : Members clients parts
+  pub own : 0 < length versions → (part : MemberVersions) × In part parts × (part.member ≡ leader)
 
 -- The answers to what was laid out
 

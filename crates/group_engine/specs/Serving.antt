@@ -14,18 +14,13 @@ use Rattle.wp_model.specs.Controller.{ControllerCall}
 use Rattle.group_engine.specs.declared.requests.Request.{Request}
 use Rattle.group_engine.specs.declared.requests.Reply.{Reply}
 use Rattle.group_engine.specs.Handled.{HandsBack, ShowsDelay, IsNoted, seen_for, handled_with, InOrder}
-use Rattle.group_engine.specs.Layout.{IsRoomy}
-use Rattle.group_engine.specs.Led.{IsLedGroup}
+use Rattle.group_engine.specs.Layout.{IsLaid, IsRoomy}
+use Rattle.group_engine.specs.Led.{IsLedGroup, LeadsBy}
 use Rattle.group_engine.specs.Clients.{IsEngine}
 
 -- the reply's delay is the last call that the client saw then
 abbrev pub IsReplyAt : List ControllerCall → ℕ × Reply → Type 0
 IsReplyAt known y = seen_for y.1 ≡ known
-
--- the first is the client's own
-abbrev pub LeadsBy : ℕ → List (ℕ × Request) → Type 0
-LeadsBy number [] = ⊥
-LeadsBy number (x ∷ requests) = x.0 ≡ number
 
 module _ {D T C G S U P : Type 0} {ghosts : Ghosts D} (opening : T → Opening) (ours : T → S → Type 0)
     (account : S → TableAccount) (e : GroupEngine D T C G S U P ghosts) where
@@ -38,11 +33,11 @@ module _ {D T C G S U P : Type 0} {ghosts : Ghosts D} (opening : T → Opening) 
     pub pass : IsPassOf e.controller c.pass
     pub pass_number : pass_client c.pass ≡ c.number
     pub number : (1 ≤ c.number) × (c.number ≤ clients_of e.list)
-    pub layout : IsRoomy (clients_of e.list) c.layout
 
   -- it has the requests of a group that it leads, and room for their replies
   pub record IsToServe (c : Client D T C S U P ghosts) : Type 0 where
     pub seats : HasSeats c
+    pub layout : IsRoomy (clients_of e.list) c.layout
     pub led : IsLedGroup e.group_bytes (clients_of e.list) c.lists.requests.list.items
     pub leads : LeadsBy c.number c.lists.requests.list.items
     pub notes : AllByRecursion (λ (x : ℕ × Request). IsNoted e.controller x.1) c.lists.requests.list.items
@@ -53,6 +48,8 @@ module _ {D T C G S U P : Type 0} {ghosts : Ghosts D} (opening : T → Opening) 
   -- it has answered them, and asked the controller for them once
   pub record IsServed (v w : Client D T C S U P ghosts) : Type 0 where
     pub seats : HasSeats w
+    pub layout : IsLaid (clients_of e.list) w.layout
+    pub seat : w.seat ≡ v.seat
     pub number : w.number ≡ v.number
     pub start : w.start ≡ v.start
     pub writer : w.writer ≡ v.writer

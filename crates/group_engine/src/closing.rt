@@ -7,7 +7,7 @@ ghost use Rattle.write_controller.specs.Passes.{noted, AreAll, IsNoteOf, IsHisto
 ghost use Rattle.group_engine.specs.Clients.{writer_in, seat_in, pass_in};
 
 use crate::engine::{Client, GroupEngine, Room};
-use crate::held::{Held, NoRight, Path};
+use crate::held::{Held, LogPath, Right, one_turn};
 use crate::numbering::take_first;
 use crate::requests::{Reply, Request};
 use engine_calls::{Clients, Closed, Gate};
@@ -23,7 +23,7 @@ use writer_list::Writer;
 /// Takes the clients apart.
 pub(crate) fn part_all<D: Disk, T: Table<Nodes, Parts>, C>(
     clients: &mut Vec<Client<D, T, C>>,
-    writers: &mut Vec<Writer<Request, Reply, Held<D, T, C>, NoRight>>,
+    writers: &mut Vec<Writer<Request, Reply, Held<D, T, C>, Right<T>>>,
     seats: &mut Vec<T::Seat>,
     passes: &mut Vec<Pass>,
 )
@@ -119,12 +119,15 @@ impl<D: Disk, T: Table<Nodes, Parts>, C: Clock + Drop, G: Gate + Drop> GroupEngi
         } = clients;
         part_all(&mut clients, &mut writers, &mut seats, &mut passes);
         clients.destroy_empty();
-        let (held, NoRight) = list.close(writers);
+        let (held, right) = list.close(writers);
         let Held {
-            path: Path { log, turn, last },
+            path: LogPath { log, last },
+            turn,
             clock: _,
             asked,
         } = held;
+        let Right { turn: apart } = right;
+        let turn = one_turn(turn, apart);
         let passes = Passes {
             clients: passes,
             others,

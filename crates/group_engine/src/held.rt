@@ -1,17 +1,20 @@
 //! What a group's leader holds.
 
-ghost use Rattle.std.specs.Prelude.{◌≡◌};
+ghost use Rattle.std.specs.Prelude.{◌≡◌, ◌⊎◌, None, Some};
+ghost use Rattle.group_engine.specs.Turns.{turn_of};
 
 use crate::requests::{Reply, Request};
-use list_rule::{Ledger, Numbered};
+use list_rule::Ledger;
 use log_writer::LogWriter;
 use mem_table::{Nodes, Parts};
 use std::snapshot::Snapshot;
 use table_calls::Table;
 use wp_edge::Disk;
 use write_controller::{Controller, Note};
+use writer_list::PipelinedRole;
 
-/// The engine that a list of writers is for: its table, its controller, its log as it was opened, and its numbers.
+/// The engine that a list of writers is for: its table, its controller, its log as it was opened, its numbers, and
+/// whether its groups go into the table in a second stage.
 #[derive(Drop)]
 pub struct About<D: Disk, T, C> {
     pub table: Snapshot<T>,
@@ -20,44 +23,65 @@ pub struct About<D: Disk, T, C> {
     pub start: u64,
     pub clients: u64,
     pub group_bytes: u64,
+    pub pipelined: bool,
 }
 
-/// The log, the right to launch a group, and the last sequence given.
-pub struct Path<D: Disk, T: Table<Nodes, Parts>> {
+/// The log, and the last sequence given.
+pub struct LogPath<D: Disk> {
     pub log: LogWriter<D>,
-    pub turn: T::Turn,
     pub last: u64,
 }
 
-/// What a leader takes over from the one before: the path of its group, the clock, and what the one before had seen of
-/// the write controller.
+/// What a leader takes over from the one before: the path of its group, the right to launch it where there is one stage,
+/// the clock, and what the one before had seen of the write controller.
 pub struct Held<D: Disk, T: Table<Nodes, Parts>, C> {
-    pub path: Path<D, T>,
+    pub path: LogPath<D>,
+    pub turn: Option<T::Turn>,
     pub clock: C,
     pub asked: Note,
 }
 
-/// The list has no second stage, and so no right.
-#[derive(Drop)]
-pub struct NoRight;
+/// The right to launch groups, where that is a stage of its own.
+pub struct Right<T: Table<Nodes, Parts>> {
+    pub turn: Option<T::Turn>,
+}
 
-impl Numbered for NoRight {
-    ghost number_of = { λ r. 0 };
-
-    fn number(&self) -> u64 {
-        0
+/// The right to launch, which a leader of the second list was given.
+pub(crate) fn turn_in<D: Disk, T: Table<Nodes, Parts>, C>(
+    role: PipelinedRole<Held<D, T, C>, Right<T>, Reply>,
+) -> T::Turn
+    requires { (u : T.Turn) × (turn_of role ≡ Some u) }
+    ensures { turn_of role ≡ Some result }
+{
+    match role {
+        PipelinedRole::MemLeader(Right { turn: Some(turn) }) => turn,
+        _ => unreachable!(),
     }
 }
 
-impl<D: Disk, T: Table<Nodes, Parts>, C> Ledger<Request, Reply> for Held<D, T, C> {
+/// The right to launch, which is at one of the two places.
+pub(crate) fn one_turn<U>(with_log: Option<U>, apart: Option<U>) -> U
+    requires { ((u : U) × (with_log ≡ Some u) × (apart ≡ None)) ⊎ ((u : U) × (with_log ≡ None) × (apart ≡ Some u)) }
+    ensures { ((with_log ≡ Some result) × (apart ≡ None)) ⊎ ((with_log ≡ None) × (apart ≡ Some result)) }
+{
+    match (with_log, apart) {
+        (Some(turn), None) => turn,
+        (None, Some(turn)) => turn,
+        _ => unreachable!(),
+    }
+}
+
+impl<D: Disk, T: Table<Nodes, Parts>, C> Ledger<Request, Reply, Right<T>> for Held<D, T, C> {
     type About = About<D, T, C>;
 
     ghost use Rattle.group_engine.specs.Handled.{AreHandled, IsNoted};
-    ghost use Rattle.group_engine.specs.Law.{HeldStandsFor};
+    ghost use Rattle.group_engine.specs.Law.{HeldStandsFor, RightStandsFor};
 
     ghost stands = { λ a l handled. HeldStandsFor T.our_turn T.history a l handled };
 
     ghost kept = { λ a handled. AreHandled a.controller.value a.opened.value a.start handled };
+
+    ghost serves = { λ a right served. RightStandsFor T.our_turn T.history a right served };
 
     ghost lawful = { λ a q. IsNoted a.controller.value q };
 

@@ -9,12 +9,13 @@ use std::alloc::Global;
 use wp_model::NoMemory;
 use write_batch::Batch;
 
-/// A leader's lists, which are empty between its groups, with room for all clients.
+/// A leader's lists, with room for all clients. They are empty between its groups, but for who worked beside it last.
 #[derive(Drop)]
 pub(crate) struct Layout {
     pub(crate) plans: Vec<Plan>,
     pub(crate) batches: Vec<Batch>,
     pub(crate) parts: Parts,
+    pub(crate) members: Vec<u32>,
 }
 
 impl Layout {
@@ -24,10 +25,12 @@ impl Layout {
         let plans = Vec::with_capacity(alloc, clients as usize)?;
         let batches = Vec::with_capacity(alloc, clients as usize)?;
         let parts = Parts::new(alloc, clients)?;
+        let members = Vec::with_capacity(alloc, clients as usize)?;
         Ok(Layout {
             plans,
             batches,
             parts,
+            members,
         })
     }
 
@@ -45,7 +48,8 @@ impl Layout {
     /// Drops what was to go into the table.
     pub(crate) fn drop_parts(&mut self)
         ensures parts { (self.new.parts.parts ≡ []) × (self.new.parts.clients ≡ self.old.parts.clients) }
-        ensures others { (self.new.plans ≡ self.old.plans) × (self.new.batches ≡ self.old.batches) }
+        ensures others { (self.new.plans ≡ self.old.plans) × (self.new.batches ≡ self.old.batches)
+            × (self.new.members ≡ self.old.members) }
     {
         while let Some(part) = self.parts.pop() {
             drop(part);

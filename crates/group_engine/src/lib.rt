@@ -20,6 +20,8 @@ mod engine;
 mod held;
 mod layout;
 mod leading;
+mod leaving;
+mod logging;
 mod numbering;
 mod opening;
 mod reading;
@@ -29,6 +31,6 @@ mod writing;
 
 pub use engine::{Client, GroupEngine, Room};
 pub use engine_calls::{Clients, Closed, Receipt, Refused};
-pub use held::{About, Held, NoRight, Path};
+pub use held::{About, Held, LogPath, Right};
 pub use opening::OpenRefused;
 pub use requests::{Delay, Reply, Request};

@@ -3,10 +3,13 @@
 ghost use Rattle.std.specs.Prelude.{◌≡◌, ◌≤◌, ◌+◌, ◌<◌, ◌^◌, ℕ, List, Err, [], ◌∷◌, ◌++◌, length, MatchOption, vec_len, vec_capacity};
 ghost use Rattle.wp_model.specs.History.{max_sequence};
 ghost use Rattle.table_rule.specs.declared.content.Version.{Version};
-ghost use Rattle.group_rule.specs.Plans.{last_with_all, last_with, versions_at, versions_from};
+ghost use Rattle.mem_table.specs.Parts.{group_of};
+ghost use Rattle.group_rule.specs.Plans.{last_with_all, last_with, versions_at, versions_from, AreLawful, HaveOwnClients};
+ghost use Rattle.stage_laws.specs.Served.{parts_from};
+ghost use Rattle.group_engine.specs.Led.{IsLedGroup, LeadsBy};
 ghost use Rattle.group_engine.specs.declared.requests.Request.{Request};
 ghost use Rattle.group_engine.specs.Handled.{commit_requests_of, reply_with, failures};
-ghost use Rattle.group_engine.specs.Numbering.{plan_at, plans_of, batch_at, batches_of, HasVersions, answers, AreEnough, IsAnswer, HasBatch, run_with, full_with};
+ghost use Rattle.group_engine.specs.Numbering.{plan_at, plans_of, batch_at, batches_of, HasVersions, AreParts, parts_with, answers, AreEnough, IsAnswer, HasBatch, run_with, full_with};
 
 use crate::requests::{Delay, Reply, Request};
 use engine_calls::{Receipt, Refused};
@@ -91,6 +94,69 @@ pub(crate) fn number_all(
     at
 }
 
+/// The same, where each member with a run gets its own part.
+pub(crate) fn number_apart(
+    requests: &mut Vec<(u32, Request)>,
+    last: u64,
+    plans: &mut Vec<Plan>,
+    batches: &mut Vec<Batch>,
+    parts: &mut Parts,
+) -> u64
+    requires last { last ≤ max_sequence }
+    requires members { AreLawful parts.old.clients (commit_requests_of requests.old.items)
+        × HaveOwnClients (commit_requests_of requests.old.items) }
+    requires room { (length requests.old.items ≤ vec_capacity plans.old)
+        × (length requests.old.items ≤ vec_capacity batches.old) }
+    requires empty { (plans.old.items ≡ []) × (batches.old.items ≡ []) × (parts.old.parts ≡ []) }
+    ensures reached { result ≡ last_with_all last (commit_requests_of requests.old.items) }
+    ensures plans { plans.new.items ≡ plans_of last requests.old.items }
+    ensures batches { batches.new.items ≡ batches_of last requests.old.items }
+    ensures parts { (group_of parts.new.parts ≡ parts_from last (commit_requests_of requests.old.items))
+        × (parts.new.clients ≡ parts.old.clients) }
+    ensures taken { requests.new.items ≡ [] }
+    ensures room { (vec_capacity requests.new ≡ vec_capacity requests.old)
+        × (vec_capacity plans.new ≡ vec_capacity plans.old) × (vec_capacity batches.new ≡ vec_capacity batches.old) }
+{
+    let mut at = last;
+    while let Some((client, request)) = take_first(requests) {
+        at = number_one(client, request, client, at, plans, batches, parts);
+    }
+    at
+}
+
+/// Gives runs behind `last` to the requests whose runs fit, and answers the sequence given last then. Where the parts are
+/// to be apart each member with a run gets its own; else, and where the leader itself has no run, the leader has all.
+pub(crate) fn lay_out(
+    requests: &mut Vec<(u32, Request)>,
+    leader: u32,
+    apart: bool,
+    last: u64,
+    plans: &mut Vec<Plan>,
+    batches: &mut Vec<Batch>,
+    parts: &mut Parts,
+) -> u64
+    requires last { last ≤ max_sequence }
+    requires group { (group_bytes : ℕ) × IsLedGroup group_bytes parts.old.clients requests.old.items }
+    requires leads { LeadsBy leader requests.old.items }
+    requires room { (length requests.old.items ≤ vec_capacity plans.old)
+        × (length requests.old.items ≤ vec_capacity batches.old) }
+    requires empty { (plans.old.items ≡ []) × (batches.old.items ≡ []) × (parts.old.parts ≡ []) }
+    ensures reached { result ≡ last_with_all last (commit_requests_of requests.old.items) }
+    ensures plans { plans.new.items ≡ plans_of last requests.old.items }
+    ensures batches { batches.new.items ≡ batches_of last requests.old.items }
+    ensures parts { AreParts leader parts.old.clients (versions_from last (commit_requests_of requests.old.items))
+        (group_of parts.new.parts) × (parts.new.clients ≡ parts.old.clients) }
+    ensures taken { requests.new.items ≡ [] }
+    ensures room { (vec_capacity requests.new ≡ vec_capacity requests.old)
+        × (vec_capacity plans.new ≡ vec_capacity plans.old) × (vec_capacity batches.new ≡ vec_capacity batches.old) }
+{
+    let count = u64::from(requests[0].1.batch.count());
+    if apart && last + count <= MAX_SEQUENCE {
+        return number_apart(requests, last, plans, batches, parts);
+    }
+    number_all(requests, leader, last, plans, batches, parts)
+}
+
 /// Gives one request its run, if it fits.
 fn number_one(
     client: u32,
@@ -110,6 +176,7 @@ fn number_one(
     ensures batches { batches.new.items ≡ batches.old.items ++ batch_at last request }
     ensures parts { (vs : List Version) → HasVersions member vs parts.old.parts
         → HasVersions member (vs ++ versions_at last request.batch.records) parts.new.parts }
+    ensures added { parts.new.parts ≡ parts_with member last request.batch.records parts.old.parts }
     ensures clients { parts.new.clients ≡ parts.old.clients }
     ensures room { (vec_capacity plans.new ≡ vec_capacity plans.old)
         × (vec_capacity batches.new ≡ vec_capacity batches.old) }

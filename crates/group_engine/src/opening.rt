@@ -1,13 +1,13 @@
 //! How an engine is opened.
 
-ghost use Rattle.std.specs.Prelude.{◌≡◌, ◌≤◌, ◌<◌, ◌+◌, ℕ, [], ◌∷◌, ◌++◌, false, length, vec_len, vec_capacity, MatchOption, IfOk, IfErr, Some, slice_get};
+ghost use Rattle.std.specs.Prelude.{true, false, ◌≡◌, ◌≤◌, ◌<◌, ◌+◌, ℕ, [], ◌∷◌, ◌++◌, length, vec_len, vec_capacity, MatchOption, IfOk, IfErr, Some, slice_get};
 ghost use Rattle.wp_model.specs.History.{max_sequence};
 ghost use Rattle.log_writer.specs.Words.{disk_of};
 ghost use Rattle.log_writer.specs.Opening.{HasOpened};
 ghost use Rattle.table_calls.specs.Account.{IsReady};
 ghost use Rattle.writer_list.specs.Roles.{IsNew, AreNew};
 ghost use Rattle.writer_list.specs.Rooms.{AreReady, AllReady};
-ghost use Rattle.writer_list.specs.Seats.{table_of, clients_of};
+ghost use Rattle.writer_list.specs.Seats.{table_of, clients_of, piped_of};
 ghost use Rattle.write_controller.specs.Passes.{AreNew as AreNewPasses, IsNoteOf, noted};
 ghost use Rattle.account_model.specs.Accounts.{newcomer};
 ghost use Rattle.account_model.specs.Closing.{AreOurs};
@@ -17,7 +17,7 @@ ghost use Rattle.group_engine.specs.Clients.{IsEngine, IsClientOf, HasRoomToClos
 ghost use Rattle.group_engine.specs.AtStart.{AreSeatsAtStart, ArePassesAtStart, IsPassAtStart, IsNewcomer, AreNewcomers};
 
 use crate::engine::{Client, GroupEngine, Room};
-use crate::held::{About, Held, NoRight, Path};
+use crate::held::{About, Held, LogPath, Right, one_turn};
 use crate::layout::Layout;
 use crate::numbering::take_first;
 use crate::requests::{Reply, Request};
@@ -74,9 +74,22 @@ fn first_note<C: Clock>(controller: &Controller<C>, passes: &mut Vec<Pass>) -> N
     controller.note(&mut passes[0])
 }
 
+/// The right to launch goes with the log where there is one stage, and is apart where there are two.
+fn part_turn<U>(pipelined: bool, turn: U) -> (Option<U>, Option<U>)
+    ensures single { pipelined ≡ false → (result.0 ≡ Some turn) × (result.1 ≡ None) }
+    ensures piped { pipelined ≡ true → (result.0 ≡ None) × (result.1 ≡ Some turn) }
+{
+    if pipelined {
+        (None, Some(turn))
+    } else {
+        (Some(turn), None)
+    }
+}
+
 impl<D: Disk, T: Table<Nodes, Parts>, C: Clock + Drop, G: Gate + Drop> GroupEngine<D, T, C, G> {
     /// An engine over an opened log and a table of which nothing is published, with a client for each of its seats.
-    /// Where memory is short, all is handed back.
+    /// Where memory is short, all is handed back. Where it is pipelined a group goes into the table while later ones are
+    /// logged, and its members put their own parts in.
     pub fn open(
         alloc: Global,
         log: LogWriter<D>,
@@ -85,6 +98,7 @@ impl<D: Disk, T: Table<Nodes, Parts>, C: Clock + Drop, G: Gate + Drop> GroupEngi
         seats: Seats<T::Seat, T::Turn>,
         gate: G,
         options: Options,
+        pipelined: bool,
     ) -> Result<
         (
             GroupEngine<D, T, C, G>,
@@ -106,6 +120,7 @@ impl<D: Disk, T: Table<Nodes, Parts>, C: Clock + Drop, G: Gate + Drop> GroupEngi
         ensures new { IfOk result (λ r. (i : ℕ) (c : _) → slice_get r.1.clients.items i ≡ Some c
             → account_in T.opening T.ours T.account c ≡ newcomer options.last (i + 1)) }
         ensures room { IfOk result (λ r. HasRoomToClose r.0.controller (clients_of r.0.list) r.1.room) }
+        ensures stages { IfOk result (λ r. piped_of r.0.list ≡ pipelined) }
         ensures err { IfErr result (λ e. (e.log ≡ log) × (e.clock ≡ clock) × (e.table ≡ table) × (e.seats ≡ seats)
             × (e.gate ≡ gate)) }
     {
@@ -127,7 +142,7 @@ impl<D: Disk, T: Table<Nodes, Parts>, C: Clock + Drop, G: Gate + Drop> GroupEngi
             return Err(refused);
         };
         Self::open_with(
-            alloc, refused, options, controller, passes, layouts, clients,
+            alloc, refused, options, pipelined, controller, passes, layouts, clients,
         )
     }
 
@@ -136,6 +151,7 @@ impl<D: Disk, T: Table<Nodes, Parts>, C: Clock + Drop, G: Gate + Drop> GroupEngi
         alloc: Global,
         given: OpenRefused<D, T, C, G>,
         options: Options,
+        pipelined: bool,
         controller: Controller<C>,
         passes: Passes,
         mut layouts: Vec<Layout>,
@@ -166,6 +182,7 @@ impl<D: Disk, T: Table<Nodes, Parts>, C: Clock + Drop, G: Gate + Drop> GroupEngi
         ensures new { IfOk result (λ r. (i : ℕ) (c : _) → slice_get r.1.clients.items i ≡ Some c
             → account_in T.opening T.ours T.account c ≡ newcomer options.last (i + 1)) }
         ensures room { IfOk result (λ r. HasRoomToClose r.0.controller (clients_of r.0.list) r.1.room) }
+        ensures stages { IfOk result (λ r. piped_of r.0.list ≡ pipelined) }
         ensures err { IfErr result (λ e. e ≡ given) }
     {
         let OpenRefused {
@@ -186,8 +203,7 @@ impl<D: Disk, T: Table<Nodes, Parts>, C: Clock + Drop, G: Gate + Drop> GroupEngi
         let start = Start {
             clients: count,
             log: options.last,
-            right: 0,
-            pipelined: false,
+            pipelined,
             about: About {
                 table: Snapshot::of(&table),
                 controller: Snapshot::of(&controller),
@@ -195,19 +211,21 @@ impl<D: Disk, T: Table<Nodes, Parts>, C: Clock + Drop, G: Gate + Drop> GroupEngi
                 start: options.last,
                 clients: u64::from(count),
                 group_bytes: options.group_bytes,
+                pipelined,
             },
         };
+        let (with_log, apart) = part_turn(pipelined, turn);
         let held = Held {
-            path: Path {
+            path: LogPath {
                 log,
-                turn,
                 last: options.last,
             },
+            turn: with_log,
             clock,
             asked: first_note(&controller, &mut passes),
         };
         groups_stay_consistent();
-        match WriterList::open(alloc, &start, held, NoRight) {
+        match WriterList::open(alloc, &start, held, Right { turn: apart }) {
             Ok((list, mut writers, mut lists)) => {
                 let engine = GroupEngine {
                     list,
@@ -239,13 +257,16 @@ impl<D: Disk, T: Table<Nodes, Parts>, C: Clock + Drop, G: Gate + Drop> GroupEngi
                 };
                 Ok((engine, clients))
             }
-            Err((held, NoRight)) => {
+            Err((held, right)) => {
                 clients.destroy_empty();
                 let Held {
-                    path: Path { log, turn, last: _ },
+                    path: LogPath { log, last: _ },
+                    turn,
                     clock,
                     asked: _,
                 } = held;
+                let Right { turn: apart } = right;
+                let turn = one_turn(turn, apart);
                 Err(OpenRefused {
                     log,
                     clock,
@@ -265,7 +286,7 @@ impl<D: Disk, T: Table<Nodes, Parts>, C: Clock + Drop, G: Gate + Drop> GroupEngi
     fn seat_all(
         &self,
         start: u64,
-        writers: &mut Vec<Writer<Request, Reply, Held<D, T, C>, NoRight>>,
+        writers: &mut Vec<Writer<Request, Reply, Held<D, T, C>, Right<T>>>,
         seats: &mut Vec<T::Seat>,
         passes: &mut Vec<Pass>,
         lists: &mut Vec<Lists<Request, Reply>>,
@@ -314,7 +335,7 @@ impl<D: Disk, T: Table<Nodes, Parts>, C: Clock + Drop, G: Gate + Drop> GroupEngi
         &self,
         number: u32,
         start: u64,
-        writer: Writer<Request, Reply, Held<D, T, C>, NoRight>,
+        writer: Writer<Request, Reply, Held<D, T, C>, Right<T>>,
         seat: T::Seat,
         pass: Pass,
         lists: Lists<Request, Reply>,

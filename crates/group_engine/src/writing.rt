@@ -6,28 +6,32 @@ ghost use Rattle.list_rule.specs.declared.view.Entry.{Entry};
 ghost use Rattle.list_rule.specs.declared.view.Handling.{Handling};
 ghost use Rattle.list_rule.specs.Chain.{of};
 ghost use mathlib.Core.List.{IsPrefix};
-ghost use Rattle.writer_list.specs.Seats.{IsChosen, about_of};
+ghost use Rattle.writer_list.specs.Seats.{Belongs, HasRole, IsChosen, IsIn, about_of, client_of, clients_of, told};
 ghost use Rattle.wp_model.specs.Tokens.{holds_stop};
 ghost use Rattle.write_controller.specs.Passes.{seen_by, asked_by, noted, IsNoteOf};
 ghost use Rattle.group_rule.specs.Asked.{HasAsked};
 ghost use Rattle.group_rule.specs.Entries.{SeesMore};
 ghost use Rattle.group_engine.specs.declared.requests.Request.{Request as Asked};
 ghost use Rattle.group_engine.specs.declared.requests.Reply.{Reply as Told};
-ghost use Rattle.group_engine.specs.Law.{HeldStandsFor};
+ghost use Rattle.table_calls.specs.Account.{IsReady};
+ghost use Rattle.group_engine.specs.Law.{HeldIsStaged, HeldStandsFor, kept_in, law_in};
+ghost use Rattle.group_engine.specs.Staged.{IsStaged};
 ghost use Rattle.group_engine.specs.Handled.{AreHandled, IsNoted, handled_with};
 ghost use Rattle.group_engine.specs.Clients.{IsClientOf, IsSeated, IsAnswered, told_of, own_commits, opened_log};
 ghost use Rattle.group_engine.specs.Serving.{IsToServe, IsServed};
 
 use crate::asking::{ask, holds_up, refuse_held_up, refused_by, wait_out};
 use crate::engine::{Client, GroupEngine};
-use crate::held::Held;
-use crate::leading::handle;
+use crate::held::{Held, Right};
+use crate::leading::publish_alone;
+use crate::logging::log_phase;
 use crate::requests::{Delay, Reply, Request};
 use client_calls::{Measure, refusal_at_once};
 use crossbeam_utils::Backoff;
 use engine_calls::{Gate, Receipt, Refused};
 use list_rule::codes_stand_for_items;
 use mem_table::{Nodes, Parts};
+use memtable_stage::work;
 use std::snapshot::Snapshot;
 use std::sync::Wait;
 use table_calls::Table;
@@ -35,7 +39,7 @@ use wp_edge::{Clock, Disk};
 use wp_model::{Item, Refusal, WriteOptions};
 use write_batch::Batch;
 use write_controller::Note;
-use writer_list::Role;
+use writer_list::{PipelinedRole, Role, Writer};
 
 impl<D: Disk, T: Table<Nodes, Parts>, C: Clock + Drop, G: Gate + Drop> GroupEngine<D, T, C, G> {
     /// Leads a group, and answers the leader's own reply.
@@ -62,13 +66,46 @@ impl<D: Disk, T: Table<Nodes, Parts>, C: Clock + Drop, G: Gate + Drop> GroupEngi
             &mut client.lists.requests,
             &mut client.lists.room,
         );
-        let held = self.serve(rt, client, held);
-        self.list.exit(
-            &mut client.writer,
-            held,
-            &mut client.lists.replies,
-            &mut client.lists.room,
-        )
+        let (held, end) = self.serve(rt, client, held);
+        let Some(end) = end else {
+            return self.leave(client, held);
+        };
+        let Held {
+            path,
+            turn,
+            clock,
+            asked,
+        } = held;
+        match turn {
+            None => {
+                let held = Held {
+                    path,
+                    turn: None,
+                    clock,
+                    asked,
+                };
+                self.hand_on(rt, client, held, end)
+            }
+            Some(turn) => {
+                let turn = publish_alone(
+                    rt,
+                    &self.gate,
+                    &self.table,
+                    client.number,
+                    &mut client.seat,
+                    turn,
+                    &mut client.layout.parts,
+                    end,
+                );
+                let held = Held {
+                    path,
+                    turn: Some(turn),
+                    clock,
+                    asked,
+                };
+                self.leave(client, held)
+            }
+        }
     }
 
     /// Asks the write controller for the leader's group, and writes it, as soon as writes aren't held up. Members that
@@ -78,19 +115,23 @@ impl<D: Disk, T: Table<Nodes, Parts>, C: Clock + Drop, G: Gate + Drop> GroupEngi
         rt: &R,
         client: &mut Client<D, T, C>,
         held: Held<D, T, C>,
-    ) -> Held<D, T, C>
+    ) -> (Held<D, T, C>, Option<u64>)
         requires served { IsToServe T.opening T.ours T.account self.now client.old }
         requires held { (handled : List (Handling Asked Told))
             × HeldStandsFor T.our_turn T.history (about_of self.now.list) held handled }
         ensures served { IsServed T.opening T.ours T.account self.now client.old client.new }
         ensures held { (handled : List (Handling Asked Told))
-            → HeldStandsFor T.our_turn T.history (about_of self.now.list) held handled
-            → HeldStandsFor T.our_turn T.history (about_of self.now.list) result
+            (st : HeldStandsFor T.our_turn T.history (about_of self.now.list) held handled)
+            → HeldIsStaged T.our_turn T.history (about_of self.now.list) result.0 result.1
+            client.new.layout.parts.parts st.published
             (handled ++ handled_with client.old.lists.requests.list.items client.new.lists.replies.list.items) }
-        ensures seen { Begins (T.account client.old.seat).seen (T.account client.new.seat).seen }
+        ensures turn { result.0.turn ≡ held.turn }
+        ensures staged { IsStaged client.old.number (clients_of self.now.list) held.path.last result.0.path.last result.1
+            client.new.layout.parts.parts client.new.lists.replies.list.items }
     {
         let Held {
             path,
+            turn,
             mut clock,
             asked,
         } = held;
@@ -118,21 +159,60 @@ impl<D: Disk, T: Table<Nodes, Parts>, C: Clock + Drop, G: Gate + Drop> GroupEngi
                 requests,
                 replies,
             );
-            return Held { path, clock, asked };
+            let held = Held {
+                path,
+                turn,
+                clock,
+                asked,
+            };
+            return (held, None);
         }
-        let path = handle(
-            rt,
-            &self.gate,
-            &self.table,
-            &mut client.seat,
-            client.number,
+        let (path, end) = log_phase(
             path,
+            client.number,
+            turn.is_none(),
             &delay,
             requests,
             &mut client.layout,
             replies,
         );
-        Held { path, clock, asked }
+        let held = Held {
+            path,
+            turn,
+            clock,
+            asked,
+        };
+        (held, end)
+    }
+
+    /// Waits until the client leads a group, or has its reply. Until then it works beside its leader, where it is told to.
+    fn await_own_role<R: Wait>(
+        &self,
+        rt: &R,
+        writer: &mut Writer<Request, Reply, Held<D, T, C>, Right<T>>,
+        seat: &mut T::Seat,
+    ) -> Role<Held<D, T, C>, Reply>
+        requires list { Belongs self.now.list writer.old
+            × ((q : Asked) × IsIn (law_in T.our_turn T.history self.now.list) q (told writer.old) writer.old) }
+        requires seat { T.ours self.now.table seat.old × IsReady (T.account seat.old) }
+        ensures client { client_of writer.new ≡ client_of writer.old }
+        ensures role { Belongs self.now.list writer.new × ((q : Asked)
+            → IsIn (law_in T.our_turn T.history self.now.list) q (told writer.old) writer.old
+            → HasRole (law_in T.our_turn T.history self.now.list) (kept_in self.now.list)
+            q (told writer.old) result writer.new) }
+        ensures seat { T.ours self.now.table seat.new × IsReady (T.account seat.new)
+            × ((T.account seat.new).number ≡ (T.account seat.old).number)
+            × Begins (T.account seat.old).seen (T.account seat.new).seen }
+    {
+        for _ in rt.forever() {
+            match self.list.await_pipelined_role(rt, writer) {
+                PipelinedRole::LogLeader(held) => return Role::LogLeader(held),
+                PipelinedRole::Done(reply) => return Role::Done(reply),
+                PipelinedRole::Parallel => work::<Nodes, Parts, T, R>(rt, &self.table, seat),
+                _ => unreachable!(),
+            }
+        }
+        unreachable!()
     }
 
     /// Puts a request into the list, and waits for its answer.
@@ -160,7 +240,7 @@ impl<D: Disk, T: Table<Nodes, Parts>, C: Clock + Drop, G: Gate + Drop> GroupEngi
         };
         self.list.link(rt, &mut client.writer, item, request);
         self.gate.linked(client.number);
-        match self.list.await_role(rt, &mut client.writer) {
+        match self.await_own_role(rt, &mut client.writer, &mut client.seat) {
             Role::Done(reply) => reply,
             Role::LogLeader(held) => {
                 let_others_link(item.sync);

@@ -48,11 +48,11 @@ module _ {Q P : Type 0} where
     Next v line' hs' mode' = (k' : Account line' hs' mode') × Happens v (k.queue, k.log, hs, k.owing) (k'.queue, k'.log, hs', k'.owing)
 
     abbrev Same : List (Entry Q) → Mode Q → Type 0
-    Same line' mode' = (k' : Account line' hs mode') × Stays (k.queue, k.log, hs, k.owing) (k'.queue, k'.log, hs, k'.owing)
+    Same line' mode' = (k' : Account line' hs mode') × Stays {A = Core Q P} (k.queue, k.log, hs, k.owing) (k'.queue, k'.log, hs, k'.owing)
 
     -- and the log is that group's
     abbrev Cut : Entry Q → List (Entry Q) → List (Entry Q) → Mode Q → Type 0
-    Cut own g line' mode' = (k' : Account line' hs mode') × Stays (k.queue, k.log, hs, k.owing) (k'.queue, k'.log, hs, k'.owing) × (k'.log ≡ grouped own g)
+    Cut own g line' mode' = (k' : Account line' hs mode') × Stays {A = Core Q P} (k.queue, k.log, hs, k.owing) (k'.queue, k'.log, hs, k'.owing) × (k'.log ≡ grouped own g)
 
     more_shows : (e : Entry Q) (m : Mode Q) → (m ≡ open_ → ⊥) → Shows line k.queue k.log m → Shows (e ∷ line) (e ∷ k.queue) k.log m
     more_shows e open_ ne ok = absurd (ne refl)

@@ -22,7 +22,8 @@ use Rattle.list_rule.specs.Standing.{Phase, idle, preparing, linked, chosen, lea
 use Rattle.list_rule.specs.Laws.{Laws}
 use Rattle.list_rule.specs.Rule.{InChain, Waits, Knows, hold, InPhase, LogHome, InMode, Listed, InSecond, untold}
 use Rattle.list_rule.specs.Events.{Core}
-use Rattle.list_rule.specs.Steps.{Stays, HappensWhere, IsLink, IsElect, now_of, IsNow, StepIs}
+use Rattle.list_rule.specs.SecondList.{second_list_of}
+use Rattle.list_rule.specs.Steps.{Lists, Stays, HappensWhere, IsLink, IsElect, now_of, IsNow, StepIs}
 use Rattle.list_rule.specs.Plays.{Sat, entry, At, begun, peeked, aimed, Elected, entered, looked, rested}
 use Rattle.list_rule.proofs.Chains.{put, put_at, put_here, put_else, links_stay, links_same, ends_same, nobody, newest_small, stand_absent, stand_change, linked_change, taken_change}
 use Rattle.list_rule.proofs.Exits.{owing_stays, cut_stays, away_now}
@@ -97,7 +98,7 @@ out_chain e (taken l f) a b = a
 out_chain e (completed q p) a b = b
 out_chain e collecting a b = b
 
-out_second : {Q P : Type 0} (place : ℕ → Place Q) (k : ℕ) (ph : Phase Q P) → IsOut ph → InSecond place k ph → ⊥
+out_second : {Q P : Type 0} (place : ℕ → Place Q P) (k : ℕ) (ph : Phase Q P) → IsOut ph → InSecond place k ph → ⊥
 out_second place k idle a b = b
 out_second place k (preparing w) a b = b
 out_second place k (linked f) a b = a
@@ -144,7 +145,7 @@ module _ {Q P L M : Type 0} (stands : Laws Q P L M) (n : ℕ) where
         account = r.account;
         has_cut = cut_stays r.account.log r.account.log r.hand r.phase c ph' refl r.mode (λ _ e bad. absurd (subst IsOut (sym now ∙ bad) out)) r.has_cut;
         owing_is = owing_stays r.phase r.due r.account.owing r.owing_is r.account.owing due c ph' refl (owes ∙ ap (λ f. untold f (r.due c)) (sym now)) due_else;
-        second = second_row stands n s.words ws s.homes hs r.phase c ph' r.mode (stands.last r.handled) r.two (λ there. out_second r.two.place c ph out (subst (InSecond r.two.place c) now there)) (same_w 1 (λ e. omega arith) (λ e. omega arith)) (λ j ne. same_w (older_at j) (λ e. omega arith) (λ e. ne (omega arith))) (λ j ne. same_w (state_at j) (λ e. ne (omega arith)) (λ e. omega arith)) to4 (same_h (n + 1) (λ e. let small = fit.2 in omega (arith, client))) r.second;
+        second = second_row stands n s.words ws s.homes hs r.phase c ph' r.mode (stands.given r.handled) r.two (λ there. out_second r.two.place c ph out (subst (InSecond r.two.place c) now there)) (same_w 1 (λ e. omega arith) (λ e. omega arith)) (λ j ne. same_w (older_at j) (λ e. omega arith) (λ e. ne (omega arith))) (λ j ne. same_w (state_at j) (λ e. ne (omega arith)) (λ e. omega arith)) to4 (same_h (n + 1) (λ e. let small = fit.2 in omega (arith, client))) r.second;
         back = subst (KnowsBack r.two h.client) is_away fit.5;
         else_back = λ _ _ _ ok. ok;
         kept = r.kept;
@@ -315,8 +316,8 @@ module _ {Q P L M : Type 0} (stands : Laws Q P L M) (n : ℕ) where
           takes 0 (Log l),
           free.2.1,
           (
-            (acc.0.queue, acc.0.log, r.handled, acc.0.owing),
-            ((λ _ _. acc.1), (λ _ nz. absurd (nz (hit ∙ z))), λ miss. absurd (miss hit)),
+            ((acc.0.queue, acc.0.log, r.handled, acc.0.owing), second_list_of r.two),
+            ((λ _ _. ((acc.1.0, second_list_of r.two), (acc.1.1, refl), (acc.1.2, refl))), (λ _ nz. absurd (nz (hit ∙ z))), λ miss. absurd (miss hit)),
             moved stands n s r c id ws hs h h' (e0 ∷ []) r.hand r.handled (led c) ph r.due r.told r.two record {
               at = at';
               same_client = refl;
@@ -331,7 +332,7 @@ module _ {Q P L M : Type 0} (stands : Laws Q P L M) (n : ℕ) where
               row = refl;
               log_is = (([], e0, refl, tt, here, refl), free.1, row.2);
               one_chosen = λ j e. put_at r.phase c ph (λ i f. f ≡ chosen e → Path (Mode Q) (led c) (waits i)) j (λ _ bad. absurd (cc)) (λ _ ok. let was : r.mode ≡ waits j = r.one_chosen j e ok in absurd (cc));
-              second = second_same stands n s.words ws s.homes hs r.phase c ph r.mode (led c) (stands.last r.handled) (stands.last r.handled) r.two (inr (λ there. subst (InSecond r.two.place c) now there)) same (set_else s.homes 0 (n + 1) none (λ e. omega arith)) (λ k h. inr (ap r.two.place (sym h) ∙ fit.5.0)) (λ k h. inr (λ four. let one : get_or s.words (state_at k) 0 ≡ 1 = ap (λ (j : ℕ). get_or s.words (state_at j) 0) (sym h) ∙ row.0 in let four' = sym (same (state_at k) (λ e. omega arith)) ∙ four in absurd (omega arith))) (λ k _ h. absurd (subst (Holds k) opened h)) (λ v. v) r.second;
+              second = second_same stands n s.words ws s.homes hs r.phase c ph r.mode (led c) (stands.given r.handled) (stands.given r.handled) r.two (inr (λ there. subst (InSecond r.two.place c) now there)) same (set_else s.homes 0 (n + 1) none (λ e. omega arith)) (λ k h. inr (ap r.two.place (sym h) ∙ fit.5.0)) (λ k h. inr (λ four. let one : get_or s.words (state_at k) 0 ≡ 1 = ap (λ (j : ℕ). get_or s.words (state_at j) 0) (sym h) ∙ row.0 in let four' = sym (same (state_at k) (λ e. omega arith)) ∙ four in absurd (omega arith))) (λ k _ h. absurd (subst (Holds k) opened h)) (λ v. v) r.second;
               back = fit.5;
               else_back = λ _ _ _ ok. ok;
               kept = r.kept;
@@ -376,7 +377,7 @@ module _ {Q P L M : Type 0} (stands : Laws Q P L M) (n : ℕ) where
         let away : (e : Entry Q) → InChain e (r.phase c) → ⊥ = λ e is. subst (InChain e) now is in
         let out = away_now stands n s.homes r.line r.hand r.account.queue r.account.log r.handled r.phase r.due c w now (stand_absent r.phase c r.line away r.stand) r.mode r.log_is r.account.shows r.has_cut in
         let acc = comes_more r.line r.handled r.mode r.account e0 some_one (out.0, out.1, r.owing_is c ∙ (ap (λ f. untold f (r.due c)) now ∙ row.2)) in
-        let now_is : Core Q P = (acc.0.queue, acc.0.log, r.handled, acc.0.owing) in
+        let now_is : Lists Q P = ((acc.0.queue, acc.0.log, r.handled, acc.0.owing), second_list_of r.two) in
         let after : IsNow stands n now_is (record { words = ws; homes = hs; views = set s.views id (h' ∷ []) }) =
         moved stands n s r c id ws hs h h' (e0 ∷ r.line) r.hand r.handled r.mode ph r.due r.told r.two record {
           at = at';
@@ -397,7 +398,7 @@ module _ {Q P L M : Type 0} (stands : Laws Q P L M) (n : ℕ) where
           account = acc.0;
           has_cut = cut_stays r.account.log acc.0.log r.hand r.phase c ph (ap (λ (x : Core Q P). x.1) acc.1.1) r.mode (λ _ e bad. absurd (cc)) r.has_cut;
           owing_is = owing_stays r.phase r.due r.account.owing r.owing_is acc.0.owing r.due c ph (ap (λ (x : Core Q P). x.3) acc.1.1) (ap (λ f. untold f (r.due c)) (sym now)) (λ _ _. refl);
-          second = second_row stands n s.words ws s.homes hs r.phase c ph r.mode (stands.last r.handled) r.two (λ there. subst (InSecond r.two.place c) now there) (same 1 (λ e. omega arith)) (λ j _. same (older_at j) (λ e. omega arith)) (λ j _. same (state_at j) (λ e. omega arith)) (λ four. sym (same (state_at c) (λ e. omega arith)) ∙ four) (set_else s.homes c (n + 1) (some (Asked q)) (λ e. omega arith)) r.second;
+          second = second_row stands n s.words ws s.homes hs r.phase c ph r.mode (stands.given r.handled) r.two (λ there. subst (InSecond r.two.place c) now there) (same 1 (λ e. omega arith)) (λ j _. same (older_at j) (λ e. omega arith)) (λ j _. same (state_at j) (λ e. omega arith)) (λ four. sym (same (state_at c) (λ e. omega arith)) ∙ four) (set_else s.homes c (n + 1) (some (Asked q)) (λ e. omega arith)) r.second;
           back = fit.5;
           else_back = λ _ _ _ ok. ok;
           shared_out = r.shared_out;
@@ -409,7 +410,7 @@ module _ {Q P L M : Type 0} (stands : Laws Q P L M) (n : ℕ) where
           h' ∷ [],
           gives,
           tt,
-          (now_is, ((λ _ z. absurd (nz (sym hit ∙ z))), (λ _ _. acc.1), λ miss. absurd (miss hit)), subst (λ (l : List (ℕ × Content Q P L M)). IsNow stands n now_is (stepped s 0 c id l (h' ∷ []) gives)) (sym slot) after),
+          (now_is, ((λ _ z. absurd (nz (sym hit ∙ z))), (λ _ _. (acc.1, refl)), λ miss. absurd (miss hit)), subst (λ (l : List (ℕ × Content Q P L M)). IsNow stands n now_is (stepped s 0 c id l (h' ∷ []) gives)) (sym slot) after),
           λ c' w' q' mine' mid' slot'.
               let e = one_hold c c' (Preparing w) (Preparing w') mine mine' me.0 mid mid' in
               let same_q : q ≡ q' = one_asked c c' q q' me.1 slot slot' in (
@@ -470,8 +471,8 @@ module _ {Q P L M : Type 0} (stands : Laws Q P L M) (n : ℕ) where
           both_acts (takes c (Asked e.asked)) (takes 0 (Log l)),
           (row.2, set_else s.homes c 0 none (λ e. omega arith) ∙ log.2.1),
           (
-            (acc.0.queue, acc.0.log, r.handled, acc.0.owing),
-            ((λ _. (e, row.0, asks, acc.1)), λ y. absurd (y two)),
+            ((acc.0.queue, acc.0.log, r.handled, acc.0.owing), second_list_of r.two),
+            ((λ _. (e, row.0, asks, (acc.1, refl))), λ y. absurd (y two)),
             moved stands n s r c id ws hs hw h' r.line r.hand r.handled (led c) ph r.due r.told r.two record {
               at = at';
               same_client = refl;
@@ -494,7 +495,7 @@ module _ {Q P L M : Type 0} (stands : Laws Q P L M) (n : ℕ) where
               shared_out = r.shared_out;
               told_else = λ _ _. refl;
               mine = fit.3;
-              second = second_same stands n s.words ws s.homes hs r.phase c ph r.mode (led c) (stands.last r.handled) (stands.last r.handled) r.two (inr (λ there. subst (InSecond r.two.place c) now there)) (λ j _. same j) (set_else (set s.homes c none) 0 (n + 1) none (λ e. omega arith) ∙ set_else s.homes c (n + 1) none (λ e. omega arith)) (λ k h. inr (ap r.two.place (sym h) ∙ fit.5.0)) (λ k h. inr (λ four. let here2 : get_or s.words (state_at k) 0 ≡ 2 = ap (λ (j : ℕ). get_or s.words (state_at j) 0) (sym h) ∙ row.1 in let four' = sym (same (state_at k)) ∙ four in absurd (omega arith))) (λ k _ h. absurd (subst (Holds k) mode_was h)) (λ v. v) r.second;
+              second = second_same stands n s.words ws s.homes hs r.phase c ph r.mode (led c) (stands.given r.handled) (stands.given r.handled) r.two (inr (λ there. subst (InSecond r.two.place c) now there)) (λ j _. same j) (set_else (set s.homes c none) 0 (n + 1) none (λ e. omega arith) ∙ set_else s.homes c (n + 1) none (λ e. omega arith)) (λ k h. inr (ap r.two.place (sym h) ∙ fit.5.0)) (λ k h. inr (λ four. let here2 : get_or s.words (state_at k) 0 ≡ 2 = ap (λ (j : ℕ). get_or s.words (state_at j) 0) (sym h) ∙ row.1 in let four' = sym (same (state_at k)) ∙ four in absurd (omega arith))) (λ k _ h. absurd (subst (Holds k) mode_was h)) (λ v. v) r.second;
               back = fit.5;
               else_back = λ _ _ _ ok. ok;
               knows = (refl, here, refl);

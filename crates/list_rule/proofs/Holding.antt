@@ -1,15 +1,15 @@
 -- What the rule says of the list between two steps.
-use Rattle.std.proofs.Common.{ℕ, List}
+use Rattle.std.proofs.Common.{◌≡◌, Bool, true, false, ℕ, List}
 use Rattle.atomic_table.specs.Table.{State}
 use mathlib.Core.Option.{Option}
 use Rattle.list_rule.specs.declared.content.Content.{Content}
 use Rattle.list_rule.specs.declared.view.Entry.{Entry}
 use Rattle.list_rule.specs.declared.view.Handling.{Handling}
 use Rattle.list_rule.specs.declared.view.Hold.{Hold}
-use Rattle.list_rule.specs.Standing.{Phase, Mode, open_, waits, led, built, cut, marked}
+use Rattle.list_rule.specs.Standing.{Phase, Mode, open_, waits, led, built, cut, marked, Two, Turn, still, calls, held_by, passes, flat, InStep}
 use Rattle.list_rule.specs.Laws.{Laws}
-use Rattle.list_rule.specs.Rule.{Listed, InMode}
-use Rattle.list_rule.specs.Between.{LogAtHome, Between}
+use Rattle.list_rule.specs.Rule.{Listed, InMode, InTurn, Level}
+use Rattle.list_rule.specs.Between.{LogAtHome, RightAt, Between}
 use Rattle.list_rule.proofs.Groups.{walk_bound}
 
 module _ {Q P L M : Type 0} (stands : Laws Q P L M) (n : ℕ) where
@@ -21,6 +21,17 @@ module _ {Q P L M : Type 0} (stands : Laws Q P L M) (n : ℕ) where
   home_in homes line hand handled phase due (built c group) ok = tt
   home_in homes line hand handled phase due (cut c next) ok = tt
   home_in homes line hand handled phase due (marked c) ok = tt
+
+  right_in : (words : List ℕ) (homes : List (Option (Content Q P L M))) (phase : ℕ → Phase Q P) (two : Two Q P) (turn : Turn)
+      → InTurn stands n words homes phase two turn → RightAt stands n homes two.groups two.done turn
+  right_in words homes phase two still ok = ok
+  right_in words homes phase two (calls c) ok = ((ok.0.0, ok.0.1, ok.0.2, ok.0.4), ok.1)
+  right_in words homes phase two (held_by c) ok = (ok.0, ok.1, ok.2, ok.4)
+  right_in words homes phase two (passes c next) ok = ok
+
+  level_in : (two : Two Q P) (last : List (Handling Q P)) (piped : Bool) → piped ≡ true → Level stands piped two last → InStep two.done two.groups last two.lead
+  level_in two last true is ok = ok
+  level_in two last false is ok = absurd (cc)
 
   pub between : (s : State (Content Q P L M) (List (Hold Q P))) → Listed stands n s → Between stands n s
   between s r = record {
@@ -40,4 +51,16 @@ module _ {Q P L M : Type 0} (stands : Laws Q P L M) (n : ℕ) where
     ran = r.account.ran;
     shows = r.account.shows;
     home = home_in s.homes r.line r.hand r.handled r.phase r.due r.mode r.log_is;
+    groups = r.two.groups;
+    turn = r.two.turn;
+    lead = r.two.lead;
+    done = r.two.done;
+    second_newest = r.second.newest_is;
+    second_links = r.second.links;
+    second_short = walk_bound n (flat r.two.groups) r.second.within r.second.distinct;
+    second_distinct = r.second.distinct;
+    second_within = r.second.within;
+    right = right_in s.words s.homes r.phase r.two r.two.turn r.second.turn_is;
+    handed = r.second.ahead_holds;
+    in_order = λ is. level_in r.two (stands.given r.handled) stands.piped is r.second.in_level;
   }

@@ -24,7 +24,8 @@ use Rattle.list_rule.specs.Laws.{Laws}
 use Rattle.list_rule.specs.Rule.{InChain, Stand, Waits, AllLinked, AllTaken, AllOwed, Knows, AllFit, hold, InPhase, InMode, Listed, InSecond, hold_at, untold}
 use Rattle.list_rule.proofs.Fitting.{split_group}
 use Rattle.list_rule.specs.Events.{Core, IsOfGroup}
-use Rattle.list_rule.specs.Steps.{Stays, HappensWhere, IsBuild, IsExit, now_of, IsNow, Becomes, StepIs}
+use Rattle.list_rule.specs.SecondList.{second_list_of}
+use Rattle.list_rule.specs.Steps.{Lists, Stays, HappensWhere, IsBuild, IsExit, now_of, IsNow, Becomes, StepIs}
 use Rattle.list_rule.specs.Plays.{Sat, building, At, walking, taking, in_hand, debt, slots_of, AllBelow, Walks, Builds, read_once, traced, fetched, left}
 use Rattle.list_rule.proofs.Chains.{put, put_at, put_here, put_else, links_same, ends_same, stand_change, linked_change, taken_change, owed_change}
 use Rattle.list_rule.proofs.Exits.{group_handled, owing_stays, owing_grows}
@@ -33,7 +34,7 @@ use Rattle.list_rule.proofs.Moves.{St, row_stays, knows_stays, knows_else, moved
 use Rattle.list_rule.proofs.Keeps.{second_same, level_same}
 use Rattle.std.proofs.lemmas.List.{append_cancel_right}
 use Rattle.list_rule.proofs.Groups.{links_at, walk_bound, distinct_apart, distinct_front, distinct_back, within_at, linked_at, linked_front, linked_absent, taken_absent, of-append, of_other, new_none, new_own, owes, none_before_group}
-use Rattle.list_rule.proofs.Enters.{own, one_hold}
+use Rattle.list_rule.proofs.Enters.{one_hold}
 
 last_or : {A : Type 0} → A → List A → A
 last_or d [] = d
@@ -253,8 +254,8 @@ module _ {Q P L M : Type 0} (stands : Laws Q P L M) (n : ℕ) where
         keeps,
         tt,
         (
-          (acc.0.queue, acc.0.log, r.handled, acc.0.owing),
-          (group, left, acc.1),
+          ((acc.0.queue, acc.0.log, r.handled, acc.0.owing), second_list_of r.two),
+          (group, left, (acc.1, refl)),
           moved stands n s r c id ws s.homes h (hold c (Leading lead) mine) r.line r.hand r.handled (built c group) ph r.due r.told r.two record {
             at = at';
             same_client = refl;
@@ -278,7 +279,7 @@ module _ {Q P L M : Type 0} (stands : Laws Q P L M) (n : ℕ) where
             account = acc.0;
             has_cut = tt;
             owing_is = owing_stays r.phase r.due r.account.owing r.owing_is acc.0.owing r.due c ph (ap (λ (y : Core Q P). y.3) acc.1.1) (ap (λ f. untold f (r.due c)) (sym fit.4.1)) (λ _ _. refl);
-            second = second_same stands n s.words ws s.homes s.homes r.phase c ph r.mode (built c group) (stands.last r.handled) (stands.last r.handled) r.two (inl fit.4.1) (λ j _. same j) refl (λ k h. inr (ap r.two.place (sym h) ∙ fit.5.0)) (λ k h. inl (subst (Holds k) (sym led_c) h)) (λ k _ h. subst (Holds k) led_c h) (λ v. v) r.second;
+            second = second_same stands n s.words ws s.homes s.homes r.phase c ph r.mode (built c group) (stands.given r.handled) (stands.given r.handled) r.two (inl fit.4.1) (λ j _. same j) refl (λ k h. inr (ap r.two.place (sym h) ∙ fit.5.0)) (λ k h. inl (subst (Holds k) (sym led_c) h)) (λ k _ h. subst (Holds k) led_c h) (λ v. v) r.second;
             back = fit.5;
             else_back = λ _ _ _ ok. ok;
             shared_out = r.shared_out;
@@ -361,8 +362,8 @@ module _ {Q P L M : Type 0} (stands : Laws Q P L M) (n : ℕ) where
         takes x.by (Asked x.asked),
         row.2,
         (
-          (acc.0.queue, acc.0.log, r.handled, acc.0.owing),
-          acc.1,
+          ((acc.0.queue, acc.0.log, r.handled, acc.0.owing), second_list_of r.two),
+          (λ i. (acc.1 i, second_list_of r.two)),
           moved stands n s r x.by id ws hs h h' r.line (x ∷ r.hand) r.handled (built c lead.group) ph r.due r.told r.two record {
             at = at';
             same_client = refl;
@@ -386,7 +387,7 @@ module _ {Q P L M : Type 0} (stands : Laws Q P L M) (n : ℕ) where
             account = acc.0;
             has_cut = tt;
             owing_is = owing_stays r.phase r.due r.account.owing r.owing_is acc.0.owing r.due x.by ph (ap (λ (y : Core Q P). y.3) acc.1) (ap (λ f. untold f (r.due x.by)) (sym now)) (λ _ _. refl);
-            second = second_same stands n s.words ws s.homes hs r.phase x.by ph r.mode (built c lead.group) (stands.last r.handled) (stands.last r.handled) r.two (inr (λ there. subst (InSecond r.two.place x.by) now there)) (λ j _. same j) (set_else s.homes x.by (n + 1) none (λ e. omega arith)) (λ k h. inr (ap r.two.place (sym h) ∙ fit.5.0)) (λ k h. inl (subst (Holds k) (sym led_c) h)) (λ k _ h. subst (Holds k) led_c h) (λ v. v) r.second;
+            second = second_same stands n s.words ws s.homes hs r.phase x.by ph r.mode (built c lead.group) (stands.given r.handled) (stands.given r.handled) r.two (inr (λ there. subst (InSecond r.two.place x.by) now there)) (λ j _. same j) (set_else s.homes x.by (n + 1) none (λ e. omega arith)) (λ k h. inr (ap r.two.place (sym h) ∙ fit.5.0)) (λ k h. inl (subst (Holds k) (sym led_c) h)) (λ k _ h. subst (Holds k) led_c h) (λ v. v) r.second;
             back = fit.5;
             else_back = λ _ _ _ ok. ok;
             shared_out = r.shared_out;
@@ -497,7 +498,7 @@ module _ {Q P L M : Type 0} (stands : Laws Q P L M) (n : ℕ) where
     else_row ws hs k ne ok = row_due ws hs k (r.due k) (due' k) (r.phase k) (λ no _. due_same k ne (λ e bad _. no c e bad)) ok
 
   module _ (slots id : ℕ) (me : Sat Q P L M) (c old : ℕ) (lead : Lead Q P) (mine : List (Q × P)) (gs : List (Entry Q × P)) (p : P) (l : L) (said : Option (Content Q P L M)) (mid : At c (Leading lead) mine me) (group : heads gs ≡ lead.taken)
-      (slot : me.1 ≡ (0, Log l) ∷ slots_of gs ((c, Told p) ∷ [])) (is_old : old ≡ newest (in_hand lead)) (all : lead.taken ≡ lead.group) (stood : stands.logs l (lead.seen ++ all_answers lead.own p gs)) (unnumbered : stands.piped ≡ true → stands.last (lead.seen ++ all_answers lead.own p gs) ≡ stands.last lead.seen)
+      (slot : me.1 ≡ (0, Log l) ∷ slots_of gs ((c, Told p) ∷ [])) (is_old : old ≡ newest (in_hand lead)) (all : lead.taken ≡ lead.group) (stood : stands.logs l (lead.seen ++ all_answers lead.own p gs)) (unnumbered : stands.piped ≡ true → stands.given (lead.seen ++ all_answers lead.own p gs) ≡ stands.given lead.seen)
       (s : St stands n) (r : Listed stands n s) (at : get_elem? s.views id ≡ some me.0) (hit : get_or s.words 0 0 ≡ old) where
     leaves_last : Goes stands n (HappensWhere old (IsExit lead.own p gs)) s r 0 id me (left (step slots 0 old 0 said) me) 0
     leaves_last =
@@ -525,7 +526,7 @@ module _ {Q P L M : Type 0} (stands : Laws Q P L M) (n : ℕ) where
         let more : List (Handling Q P) = all_answers lead.own p gs in
         let owe : ℕ → List (Q × P) = λ k. r.due k ++ of k more in
         let acc = leaves_now r.line r.handled r.mode r.account c lead.group lead.own more led_c (f.parts ∙ (λ i. none_newer i ++ (all i ++ lead.own ∷ []))) (subst (λ (z : List (Entry Q)). IsOfGroup lead.own z more) (group ∙ all) (group_handled lead.own p gs)) in
-        let now_is : Core Q P = (acc.0.queue, acc.0.log, r.handled ++ more, acc.0.owing) in
+        let now_is : Lists Q P = ((acc.0.queue, acc.0.log, r.handled ++ more, acc.0.owing), second_list_of r.two) in
         let moved_to : IsNow stands n now_is (record { words = ws; homes = hs; views = set s.views id (h' ∷ []) }) =
         moved stands n s r c id ws hs h h' [] [] (r.handled ++ more) open_ ph owe r.told r.two record {
           at = at';
@@ -547,7 +548,7 @@ module _ {Q P L M : Type 0} (stands : Laws Q P L M) (n : ℕ) where
           account = acc.0;
           has_cut = tt;
           owing_is = owing_grows r.phase r.due r.account.owing r.owing_is acc.0.owing more c ph (ap (λ (y : Core Q P). y.3) acc.1.1) (λ d. ap (λ f. untold f d) (sym now)) (done_none s r c lead.own gs p f.own_by now members f.own_due apart);
-          second = second_same stands n s.words ws s.homes hs r.phase c ph r.mode open_ (stands.last r.handled) (stands.last (r.handled ++ more)) r.two (inl now) same (set_else s.homes 0 (n + 1) (some (Log l)) (λ e. omega arith)) (λ k h. absurd h) (λ k h. absurd h) (λ k is h. absurd (fit.5.1 (is ∙ ap ahead (sym (subst (Holds k) led_c h))))) (level_same stands n stands.piped r.two (stands.last r.handled) (stands.last (r.handled ++ more)) (subst (λ (z : List (Handling Q P)). stands.piped ≡ true → stands.last (z ++ more) ≡ stands.last z) fit.4.3 unnumbered)) r.second;
+          second = second_same stands n s.words ws s.homes hs r.phase c ph r.mode open_ (stands.given r.handled) (stands.given (r.handled ++ more)) r.two (inl now) same (set_else s.homes 0 (n + 1) (some (Log l)) (λ e. omega arith)) (λ k h. absurd h) (λ k h. absurd h) (λ k is h. absurd (fit.5.1 (is ∙ ap ahead (sym (subst (Holds k) led_c h))))) (level_same stands n stands.piped r.two (stands.given r.handled) (stands.given (r.handled ++ more)) (subst (λ (z : List (Handling Q P)). stands.piped ≡ true → stands.given (z ++ more) ≡ stands.given z) fit.4.3 unnumbered)) r.second;
           back = fit.5;
           else_back = λ _ _ _ ok. ok;
           shared_out = shared_more s r c lead.own gs p f.own_by now members f.own_due apart;
@@ -568,7 +569,7 @@ module _ {Q P L M : Type 0} (stands : Laws Q P L M) (n : ℕ) where
           h' ∷ [],
           gives,
           tt,
-          (now_is, ((λ _. acc.1), λ miss. absurd (miss hit)), subst (λ (t : List (ℕ × Content Q P L M)). IsNow stands n now_is (stepped s 0 0 id t (h' ∷ []) gives)) (sym slot) moved_to),
+          (now_is, ((λ _. (acc.1, refl)), λ miss. absurd (miss hit)), subst (λ (t : List (ℕ × Content Q P L M)). IsNow stands n now_is (stepped s 0 0 id t (h' ∷ []) gives)) (sym slot) moved_to),
           λ c' lead' mine' gs' p' l' mid' group' slot'.
               let e = one_hold c c' (Leading lead) (Leading lead') mine mine' me.0 mid mid' in
               let le : lead ≡ lead' = one_lead lead lead' e.1 in
@@ -579,7 +580,7 @@ module _ {Q P L M : Type 0} (stands : Laws Q P L M) (n : ℕ) where
         )
 
   pub leaves_is : (slots id : ℕ) (me : Sat Q P L M) (c old : ℕ) (lead : Lead Q P) (mine : List (Q × P)) (gs : List (Entry Q × P)) (p : P) (l : L) (said : Option (Content Q P L M)) → At c (Leading lead) mine me → heads gs ≡ lead.taken
-      → me.1 ≡ (0, Log l) ∷ slots_of gs ((c, Told p) ∷ []) → old ≡ newest (in_hand lead) → lead.taken ≡ lead.group → stands.logs l (lead.seen ++ all_answers lead.own p gs) → (stands.piped ≡ true → stands.last (lead.seen ++ all_answers lead.own p gs) ≡ stands.last lead.seen)
+      → me.1 ≡ (0, Log l) ∷ slots_of gs ((c, Told p) ∷ []) → old ≡ newest (in_hand lead) → lead.taken ≡ lead.group → stands.logs l (lead.seen ++ all_answers lead.own p gs) → (stands.piped ≡ true → stands.given (lead.seen ++ all_answers lead.own p gs) ≡ stands.given lead.seen)
       → StepIs stands n (HappensWhere old (IsExit lead.own p gs)) slots id me 0 (λ y. either (eqb y old) 0 y) (left (step slots 0 old 0 said) me)
   leaves_is slots id me c old lead mine gs p l said mid group slot is_old all stood unnumbered s r long at fits = exchanged (get_or s.words 0 0) old 0 (Goes stands n (HappensWhere old (IsExit lead.own p gs)) s r 0 id me (left (step slots 0 old 0 said) me))
       (λ hit. leaves_last slots id me c old lead mine gs p l said mid group slot is_old all stood unnumbered s r at hit)
@@ -596,6 +597,6 @@ module _ {Q P L M : Type 0} (stands : Laws Q P L M) (n : ℕ) where
       ))
 
   pub leaves : (slots id : ℕ) (me : Sat Q P L M) (c old : ℕ) (lead : Lead Q P) (mine : List (Q × P)) (gs : List (Entry Q × P)) (p : P) (l : L) (said : Option (Content Q P L M)) → At c (Leading lead) mine me → heads gs ≡ lead.taken
-      → me.1 ≡ (0, Log l) ∷ slots_of gs ((c, Told p) ∷ []) → old ≡ newest (in_hand lead) → lead.taken ≡ lead.group → stands.logs l (lead.seen ++ all_answers lead.own p gs) → (stands.piped ≡ true → stands.last (lead.seen ++ all_answers lead.own p gs) ≡ stands.last lead.seen)
+      → me.1 ≡ (0, Log l) ∷ slots_of gs ((c, Told p) ∷ []) → old ≡ newest (in_hand lead) → lead.taken ≡ lead.group → stands.logs l (lead.seen ++ all_answers lead.own p gs) → (stands.piped ≡ true → stands.given (lead.seen ++ all_answers lead.own p gs) ≡ stands.given lead.seen)
       → Allows (Listed stands n) slots id me 0 (λ y. either (eqb y old) 0 y) (left (step slots 0 old 0 said) me)
   leaves slots id me c old lead mine gs p l said mid group slot is_old all stood unnumbered = allows stands n (HappensWhere old (IsExit lead.own p gs)) slots id me 0 (λ y. either (eqb y old) 0 y) (left (step slots 0 old 0 said) me) (leaves_is slots id me c old lead mine gs p l said mid group slot is_old all stood unnumbered)

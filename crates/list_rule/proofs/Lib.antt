@@ -17,3 +17,4 @@ pub mod Opens
 pub mod Holding
 pub mod CoreLaws
 pub mod CoreExits
+pub mod Handings

@@ -17,7 +17,7 @@ use Rattle.list_rule.specs.declared.view.Squad.{Squad}
 use Rattle.list_rule.specs.declared.view.Hold.{Hold}
 use Rattle.list_rule.specs.declared.view.Back.{Back}
 use Rattle.list_rule.specs.declared.view.Back.TheVariants.{Parting}
-use Rattle.list_rule.proofs.Onward.{one_hold_at, taken_with, links_back, within_back, parts_two, parts_else, Hands, onward_two, second_onward, onward_free, onward_back, onward_else}
+use Rattle.list_rule.proofs.Onward.{one_hold_at, taken_with, links_back, within_back, parts_two, parts_else, Hands, onward_two, second_onward, onward_free, onward_back, onward_else, is_boundary, onward_second, is_ahead}
 use Rattle.list_rule.proofs.Seconds.{second_parts, aim_links}
 use Rattle.list_rule.specs.declared.content.Content.{Content}
 use Rattle.list_rule.specs.declared.content.Content.TheVariants.{Told, Log}
@@ -27,7 +27,8 @@ use Rattle.list_rule.specs.Standing.{Phase, linked, chosen, leads, taken, Mode, 
 use Rattle.list_rule.specs.Laws.{Laws}
 use Rattle.list_rule.specs.Rule.{InChain, AllLinked, AllTaken, hold, InPhase, InMode, Listed, InSecond, hold_at, HasCut, untold}
 use Rattle.list_rule.specs.Events.{Core, grouped}
-use Rattle.list_rule.specs.Steps.{Stays, HappensWhere, IsExit, now_of, IsNow, StepIs}
+use Rattle.list_rule.specs.SecondList.{second_list_of}
+use Rattle.list_rule.specs.Steps.{Lists, Stays, HappensWhere, IsBoundary, IsNext, now_of, IsNow, StepIs}
 use Rattle.list_rule.specs.Plays.{Sat, At, walking, in_hand, debt, slots_of, Walks, AtWith, parting, onward, marked_off, freed, WalksMarked, traced_marked, cut_marked}
 use Rattle.list_rule.proofs.Chains.{put, put_at, put_here, put_else, links_same, stand_change, linked_change, taken_change, owed_change}
 use Rattle.list_rule.proofs.Exits.{group_handled, owing_stays, owing_grows}
@@ -39,9 +40,9 @@ use Rattle.list_rule.proofs.Enters.{one_hold}
 use Rattle.list_rule.proofs.Leads.{reviewed, all_below, one_lead, lead_in, leader, walks_now, same_group, others_of, same_last, middle, shared_more, own_owed, all_owed, else_owed, else_due, else_row, one_leads, done_none}
 
 module _ {Q P L M : Type 0} (stands : Laws Q P L M) (n : ℕ) where
-  module _ (from slots id : ℕ) (me : Sat Q P L M) (c old : ℕ) (lead : Lead Q P) (mine : List (Q × P)) (said : Option (Content Q P L M)) (mid : At c (Leading lead) mine me) (is_old : old ≡ newest (in_hand lead)) (all : lead.taken ≡ lead.group)
+  module _ (from : List (Handling Q P)) (slots id : ℕ) (me : Sat Q P L M) (c old : ℕ) (lead : Lead Q P) (mine : List (Q × P)) (said : Option (Content Q P L M)) (mid : At c (Leading lead) mine me) (is_old : old ≡ newest (in_hand lead)) (all : lead.taken ≡ lead.group)
       (s : St stands n) (r : Listed stands n s) (at : get_elem? s.views id ≡ some me.0) (hit : get_or s.words 0 0 ≡ old) where
-    marks_last : Goes stands n (λ _. Stays) s r 0 id me (marked_off from (step slots 0 old 255 said) me) 255
+    marks_last : Goes stands n (HappensWhere old (IsBoundary c (parting lead from))) s r 0 id me (marked_off from (step slots 0 old 255 said) me) 255
     marks_last =
         let h : Hold Q P = hold c (Leading lead) mine in
         let at' : get_elem? s.views id ≡ some (h ∷ []) = at ∙ ap some mid in
@@ -54,7 +55,7 @@ module _ {Q P L M : Type 0} (stands : Laws Q P L M) (n : ℕ) where
         let hand_apart : Distinct r.hand = subst Distinct fit.4.4 (distinct_front lead.taken (lead.own ∷ []) (distinct_back f.queue (in_hand lead) whole)) in
         let none_newer : f.queue ≡ [] = none_before_group f.queue lead.taken lead.own whole ((λ i. newest_from (sym f.base i) (sym f.parts i)) ∙ (sym r.newest_is ∙ (hit ∙ is_old))) in
         let ws : List ℕ = set s.words 0 255 in
-        let g : Squad Q = parting lead from in
+        let g : Squad Q P = parting lead from in
         let h' : Hold Q P = hold_at c (Marking (walking lead [])) mine (Parting g 0) in
         let same : (j : ℕ) → j ≢ 0 → get_or ws j 0 ≡ get_or s.words j 0 = λ j ne. get_or-set_other s.words 0 j 255 0 (λ e. ne (omega arith)) in
         let ph : Phase Q P = leads lead.own in
@@ -65,8 +66,8 @@ module _ {Q P L M : Type 0} (stands : Laws Q P L M) (n : ℕ) where
           keeps,
           tt,
           (
-            (acc.0.queue, acc.0.log, r.handled, acc.0.owing),
-            acc.1,
+            ((acc.0.queue, acc.0.log, r.handled, acc.0.owing), second_list_of (parts_two r.two c g 0)),
+            ((λ _. is_boundary r.two c g _ _ acc.1 (sym (ap (λ (y : Core Q P). y.1) acc.1) ∙ (acc.2 ∙ ap (grouped lead.own) (sym all))) fit.5.0), λ miss. absurd (miss hit)),
             moved stands n s r c id ws s.homes h h' [] r.hand r.handled (marked c) ph r.due r.told (parts_two r.two c g 0) record {
               at = at';
               same_client = refl;
@@ -87,8 +88,8 @@ module _ {Q P L M : Type 0} (stands : Laws Q P L M) (n : ℕ) where
               account = acc.0;
               has_cut = (lead.own, f.own_by, here, acc.2 ∙ ap (grouped lead.own) (sym all ∙ fit.4.4));
               owing_is = owing_stays r.phase r.due r.account.owing r.owing_is acc.0.owing r.due c ph (ap (λ (y : Core Q P). y.3) acc.1) (ap (λ f. untold f (r.due c)) (sym now)) (λ _ _. refl);
-              second = second_parts stands n ws s.homes phase' (marked c) (stands.last r.handled) r.two (
-                  second_same stands n s.words ws s.homes s.homes r.phase c ph r.mode (marked c) (stands.last r.handled) (stands.last r.handled) r.two (inl now) same refl (λ j h. absurd h) (λ j h. inl (subst (Holds j) (sym led_c) h)) (λ j _ h. subst (Holds j) led_c h) (λ v. v) r.second
+              second = second_parts stands n ws s.homes phase' (marked c) (stands.given r.handled) r.two (
+                  second_same stands n s.words ws s.homes s.homes r.phase c ph r.mode (marked c) (stands.given r.handled) (stands.given r.handled) r.two (inl now) same refl (λ j h. absurd h) (λ j h. inl (subst (Holds j) (sym led_c) h)) (λ j _ h. subst (Holds j) led_c h) (λ v. v) r.second
                   ) c g fit.5.0 f.own_by here (taken_with phase' r.due c lead.taken (taken_change r.phase r.due r.due c ph c lead.taken (λ e bad. absurd (cc)) (λ _ _. refl) f.members))
                   (links_same 0 s.words ws (in_hand lead) (λ j. same (older_at j) (λ e. omega arith)) (links_back s.words f.queue (in_hand lead) (subst (Links s.words) f.parts (subst (λ b. LinksFrom b s.words r.line) f.base r.links))))
                   (distinct_back f.queue (in_hand lead) whole) (within_back n f.queue (in_hand lead) (subst (Within n) f.parts r.within)) (λ h. h);
@@ -108,34 +109,34 @@ module _ {Q P L M : Type 0} (stands : Laws Q P L M) (n : ℕ) where
               ((λ _. ((λ i. hold_at (e.0 i) (Marking (walking (one_lead lead lead' e.1 i) [])) (e.2 i) (Parting (parting (one_lead lead lead' e.1 i) from) 0) ∷ []), refl)), λ miss. absurd (miss hit)),
         )
 
-  pub marks_is : (from slots id : ℕ) (me : Sat Q P L M) (c old : ℕ) (lead : Lead Q P) (mine : List (Q × P)) (said : Option (Content Q P L M)) → At c (Leading lead) mine me → old ≡ newest (in_hand lead) → lead.taken ≡ lead.group
-      → StepIs stands n (λ _. Stays) slots id me 0 (λ y. either (eqb y old) 255 y) (marked_off from (step slots 0 old 255 said) me)
-  marks_is from slots id me c old lead mine said mid is_old all s r long at fits = exchanged (get_or s.words 0 0) old 255 (Goes stands n (λ _. Stays) s r 0 id me (marked_off from (step slots 0 old 255 said) me))
+  pub marks_is : (from : List (Handling Q P)) (slots id : ℕ) (me : Sat Q P L M) (c old : ℕ) (lead : Lead Q P) (mine : List (Q × P)) (said : Option (Content Q P L M)) → At c (Leading lead) mine me → old ≡ newest (in_hand lead) → lead.taken ≡ lead.group
+      → StepIs stands n (HappensWhere old (IsBoundary c (parting lead from))) slots id me 0 (λ y. either (eqb y old) 255 y) (marked_off from (step slots 0 old 255 said) me)
+  marks_is from slots id me c old lead mine said mid is_old all s r long at fits = exchanged (get_or s.words 0 0) old 255 (Goes stands n (HappensWhere old (IsBoundary c (parting lead from))) s r 0 id me (marked_off from (step slots 0 old 255 said) me))
       (λ hit. marks_last from slots id me c old lead mine said mid is_old all s r at hit)
       (λ miss.
       let t = walks_now stands n slots id me c lead mine mid s r at long in (
         t.0,
         keeps,
         tt,
-        t.1,
+        (t.1.0, ((λ hit. absurd (miss hit)), λ _. t.1.1), t.1.2),
         λ c' lead' mine' mid'. let e = one_hold c c' (Leading lead) (Leading lead') mine mine' me.0 mid mid' in (
           (λ hit. absurd (miss hit)),
           λ _. subst (λ (z : ℕ × Lead Q P × List (Q × P)). Walks slots z.0 z.1 z.2 (get_or s.words 0 0) me (t.0, me.1)) (λ i. (e.0 i, one_lead lead lead' e.1 i, e.2 i)) t.2,
         ),
       ))
 
-  pub marks : (from slots id : ℕ) (me : Sat Q P L M) (c old : ℕ) (lead : Lead Q P) (mine : List (Q × P)) (said : Option (Content Q P L M)) → At c (Leading lead) mine me → old ≡ newest (in_hand lead) → lead.taken ≡ lead.group
+  pub marks : (from : List (Handling Q P)) (slots id : ℕ) (me : Sat Q P L M) (c old : ℕ) (lead : Lead Q P) (mine : List (Q × P)) (said : Option (Content Q P L M)) → At c (Leading lead) mine me → old ≡ newest (in_hand lead) → lead.taken ≡ lead.group
       → Allows (Listed stands n) slots id me 0 (λ y. either (eqb y old) 255 y) (marked_off from (step slots 0 old 255 said) me)
-  marks from slots id me c old lead mine said mid is_old all = allows stands n (λ _. Stays) slots id me 0 (λ y. either (eqb y old) 255 y) (marked_off from (step slots 0 old 255 said) me) (marks_is from slots id me c old lead mine said mid is_old all)
+  marks from slots id me c old lead mine said mid is_old all = allows stands n (HappensWhere old (IsBoundary c (parting lead from))) slots id me 0 (λ y. either (eqb y old) 255 y) (marked_off from (step slots 0 old 255 said) me) (marks_is from slots id me c old lead mine said mid is_old all)
 
   none_behind : (n b : ℕ) (line : List (Entry Q)) → n < 255 → Within n line → newest_from b line ≡ 255 → line ≡ []
   none_behind m b [] few ok is = refl
   none_behind m b (e ∷ es) few ok is = let h = ok.1 in absurd (omega arith)
 
-  pub frees_is : (slots id : ℕ) (me : Sat Q P L M) (c : ℕ) (lead : Lead Q P) (mine : List (Q × P)) (b : Back Q) (gs : List (Entry Q × P)) (p : P) (l : L) (tail : List (ℕ × Content Q P L M)) (said : Option (Content Q P L M)) → AtWith c (Marking lead) mine b me → heads gs ≡ lead.taken
+  pub frees_is : (slots id : ℕ) (me : Sat Q P L M) (c : ℕ) (lead : Lead Q P) (mine : List (Q × P)) (b : Back Q P) (gs : List (Entry Q × P)) (p : P) (l : L) (tail : List (ℕ × Content Q P L M)) (said : Option (Content Q P L M)) → AtWith c (Marking lead) mine b me → heads gs ≡ lead.taken
       → me.1 ≡ (0, Log l) ∷ slots_of gs ((c, Told p) ∷ tail) → stands.logs l (lead.seen ++ all_answers lead.own p gs) → Hands stands n b lead.seen (lead.seen ++ all_answers lead.own p gs)
-      → StepIs stands n (HappensWhere 255 (IsExit lead.own p gs)) slots id me 0 (λ y. either (eqb y 255) 0 y) (freed (step slots 0 255 0 said) me)
-  frees_is slots id me c lead mine b gs p l tail said mid group slot stood unnumbered s r long at fits = exchanged (get_or s.words 0 0) 255 0 (Goes stands n (HappensWhere 255 (IsExit lead.own p gs)) s r 0 id me (freed (step slots 0 255 0 said) me))
+      → StepIs stands n (HappensWhere 255 (IsNext b lead.own p gs)) slots id me 0 (λ y. either (eqb y 255) 0 y) (freed (step slots 0 255 0 said) me)
+  frees_is slots id me c lead mine b gs p l tail said mid group slot stood unnumbered s r long at fits = exchanged (get_or s.words 0 0) 255 0 (Goes stands n (HappensWhere 255 (IsNext b lead.own p gs)) s r 0 id me (freed (step slots 0 255 0 said) me))
       (λ hit.
       let h : Hold Q P = hold_at c (Marking lead) mine b in
       let at' : get_elem? s.views id ≡ some (h ∷ []) = at ∙ ap some mid in
@@ -164,7 +165,7 @@ module _ {Q P L M : Type 0} (stands : Laws Q P L M) (n : ℕ) where
       let was_cut = subst (HasCut r.account.log r.hand r.phase) is_marked r.has_cut in
       let same_lead : was_cut.0 ≡ lead.own = one_leads was_cut.0 lead.own (sym was_cut.2 ∙ now) in
       let acc = frees_now r.line r.handled r.mode r.account c lead.own (heads gs) more is_marked (none_behind n (base_of r.mode) r.line r.few r.within (sym r.newest_is ∙ hit)) (was_cut.3 ∙ (λ i. grouped (same_lead i) (hand_is i))) (group_handled lead.own p gs) in
-      let now_is : Core Q P = (acc.0.queue, acc.0.log, r.handled ++ more, acc.0.owing) in
+      let now_is : Lists Q P = ((acc.0.queue, acc.0.log, r.handled ++ more, acc.0.owing), second_list_of two') in
       let moved_to : IsNow stands n now_is (record { words = ws; homes = hs; views = set s.views id (h' ∷ []) }) =
       moved stands n s r c id ws hs h h' [] [] (r.handled ++ more) open_ ph owe r.told two' record {
         at = at';
@@ -187,7 +188,7 @@ module _ {Q P L M : Type 0} (stands : Laws Q P L M) (n : ℕ) where
         account = acc.0;
         has_cut = tt;
         owing_is = owing_grows r.phase r.due r.account.owing r.owing_is acc.0.owing more c ph (ap (λ (y : Core Q P). y.3) acc.1.1) (λ d. ap (λ f. untold f d) (sym now)) (done_none stands n s r c lead.own gs p by_c now members m.3 apart);
-        second = second_same stands n s.words ws s.homes hs r.phase c ph r.mode open_ (stands.last (r.handled ++ more)) (stands.last (r.handled ++ more)) two' (inl now) same (set_else s.homes 0 (n + 1) (some (Log l)) (λ e. omega arith)) (λ k h. absurd h) (λ k h. absurd h) (λ k is h. absurd (onward_free stands n b r.two c r.handled (r.handled ++ more) fit.5 hands (is ∙ ap ahead (sym (subst (Holds k) is_marked h))))) (λ v. v) (second_onward stands n b s.words s.homes r.phase r.mode r.two c r.handled (r.handled ++ more) fit.5 hands r.second);
+        second = second_same stands n s.words ws s.homes hs r.phase c ph r.mode open_ (stands.given (r.handled ++ more)) (stands.given (r.handled ++ more)) two' (inl now) same (set_else s.homes 0 (n + 1) (some (Log l)) (λ e. omega arith)) (λ k h. absurd h) (λ k h. absurd h) (λ k is h. absurd (onward_free stands n b r.two c r.handled (r.handled ++ more) fit.5 hands (is ∙ ap ahead (sym (subst (Holds k) is_marked h))))) (λ v. v) (second_onward stands n b s.words s.homes r.phase r.mode r.two c r.handled (r.handled ++ more) fit.5 hands r.second);
         back = onward_back stands n b r.two c r.handled (r.handled ++ more) fit.5 hands;
         else_back = onward_else stands n b r.two c fit.5;
         told_else = λ _ _. refl;
@@ -207,7 +208,7 @@ module _ {Q P L M : Type 0} (stands : Laws Q P L M) (n : ℕ) where
         h' ∷ [],
         gives,
         tt,
-        (now_is, ((λ _. acc.1), λ miss. absurd (miss hit)), subst (λ (t : List (ℕ × Content Q P L M)). IsNow stands n now_is (stepped s 0 0 id t (h' ∷ []) gives)) (sym slot) moved_to),
+        (now_is, ((λ _. (acc.1, onward_second stands n b r.two, is_ahead stands n b r.two c lead.own.by by_c fit.5)), λ miss. absurd (miss hit)), subst (λ (t : List (ℕ × Content Q P L M)). IsNow stands n now_is (stepped s 0 0 id t (h' ∷ []) gives)) (sym slot) moved_to),
         λ c' lead' mine' b' gs' p' l' tail' mid' group' slot'.
             let e = one_hold_at c c' (Marking lead) (Marking lead') mine mine' b b' me.0 mid mid' in
             let le : lead ≡ lead' = ap (lead_in lead) e.1 in
@@ -233,7 +234,7 @@ module _ {Q P L M : Type 0} (stands : Laws Q P L M) (n : ℕ) where
         ),
         λ c' lead' mine' b' gs' p' l' tail' mid' group' slot'. let e = one_hold_at c c' (Marking lead) (Marking lead') mine mine' b b' me.0 mid mid' in (
           (λ hit. absurd (miss hit)),
-          λ _. subst (λ (z : ℕ × Lead Q P × List (Q × P) × Back Q). WalksMarked slots z.0 z.1 z.2 z.3 (get_or s.words 0 0) me (w, me.1)) (λ i. (e.0 i, ap (lead_in lead) e.1 i, e.2 i, e.3 i)) (
+          λ _. subst (λ (z : ℕ × Lead Q P × List (Q × P) × Back Q P). WalksMarked slots z.0 z.1 z.2 z.3 (get_or s.words 0 0) me (w, me.1)) (λ i. (e.0 i, ap (lead_in lead) e.1 i, e.2 i, e.3 i)) (
             r.line,
             refl,
             refl,
@@ -244,10 +245,10 @@ module _ {Q P L M : Type 0} (stands : Laws Q P L M) (n : ℕ) where
         ),
       ))
 
-  pub frees : (slots id : ℕ) (me : Sat Q P L M) (c : ℕ) (lead : Lead Q P) (mine : List (Q × P)) (b : Back Q) (gs : List (Entry Q × P)) (p : P) (l : L) (tail : List (ℕ × Content Q P L M)) (said : Option (Content Q P L M)) → AtWith c (Marking lead) mine b me → heads gs ≡ lead.taken
+  pub frees : (slots id : ℕ) (me : Sat Q P L M) (c : ℕ) (lead : Lead Q P) (mine : List (Q × P)) (b : Back Q P) (gs : List (Entry Q × P)) (p : P) (l : L) (tail : List (ℕ × Content Q P L M)) (said : Option (Content Q P L M)) → AtWith c (Marking lead) mine b me → heads gs ≡ lead.taken
       → me.1 ≡ (0, Log l) ∷ slots_of gs ((c, Told p) ∷ tail) → stands.logs l (lead.seen ++ all_answers lead.own p gs) → Hands stands n b lead.seen (lead.seen ++ all_answers lead.own p gs)
       → Allows (Listed stands n) slots id me 0 (λ y. either (eqb y 255) 0 y) (freed (step slots 0 255 0 said) me)
-  frees slots id me c lead mine b gs p l tail said mid group slot stood unnumbered = allows stands n (HappensWhere 255 (IsExit lead.own p gs)) slots id me 0 (λ y. either (eqb y 255) 0 y) (freed (step slots 0 255 0 said) me) (frees_is slots id me c lead mine b gs p l tail said mid group slot stood unnumbered)
+  frees slots id me c lead mine b gs p l tail said mid group slot stood unnumbered = allows stands n (HappensWhere 255 (IsNext b lead.own p gs)) slots id me 0 (λ y. either (eqb y 255) 0 y) (freed (step slots 0 255 0 said) me) (frees_is slots id me c lead mine b gs p l tail said mid group slot stood unnumbered)
 
   links_from_at : (b : ℕ) (words : List ℕ) (a : List (Entry Q)) (x : Entry Q) (t : List (Entry Q)) → LinksFrom b words (a ++ x ∷ t) → get_or words (older_at x.by) 0 ≡ pack (newest_from b t) x.code
   links_from_at b words [] x t ok = ok.0
@@ -278,7 +279,7 @@ module _ {Q P L M : Type 0} (stands : Laws Q P L M) (n : ℕ) where
   traces_marked slots id me k = allows stands n (λ _. Stays) slots id me k (λ y. y) (traced_marked (step slots k 0 0 none) me) (traces_marked_is slots id me k)
 
   -- the link of the oldest writer behind the marker is cleared
-  pub cuts_marked_is : (slots id : ℕ) (me : Sat Q P L M) (c k new : ℕ) (lead : Lead Q P) (mine : List (Q × P)) (b : Back Q) (pre : List (Entry Q)) (x : Entry Q) → AtWith c (Marking lead) mine b me → lead.walk ≡ pre ++ x ∷ [] → k ≡ older_at x.by → new ≡ pack 0 x.code
+  pub cuts_marked_is : (slots id : ℕ) (me : Sat Q P L M) (c k new : ℕ) (lead : Lead Q P) (mine : List (Q × P)) (b : Back Q P) (pre : List (Entry Q)) (x : Entry Q) → AtWith c (Marking lead) mine b me → lead.walk ≡ pre ++ x ∷ [] → k ≡ older_at x.by → new ≡ pack 0 x.code
       → StepIs stands n (λ _. Stays) slots id me k (λ _. new) (λ _. cut_marked (step slots k new 0 none) me new)
   cuts_marked_is slots id me c k new lead mine b pre x mid is_walk is_word cleared s r long at fits =
       let h : Hold Q P = hold_at c (Marking lead) mine b in
@@ -315,8 +316,8 @@ module _ {Q P L M : Type 0} (stands : Laws Q P L M) (n : ℕ) where
         keeps,
         tt,
         (
-          (acc.0.queue, acc.0.log, r.handled, acc.0.owing),
-          acc.1,
+          ((acc.0.queue, acc.0.log, r.handled, acc.0.owing), second_list_of r.two),
+          (λ i. (acc.1 i, second_list_of r.two)),
           moved stands n s r c id ws s.homes h h' r.line r.hand r.handled (cut c x.by) ph r.due r.told r.two record {
             at = at';
             same_client = refl;
@@ -343,7 +344,7 @@ module _ {Q P L M : Type 0} (stands : Laws Q P L M) (n : ℕ) where
             account = acc.0;
             has_cut = (was_cut.0, was_cut.1, here ∙ (sym now ∙ was_cut.2), ap (λ (y : Core Q P). y.1) acc.1 ∙ was_cut.3);
             owing_is = owing_stays r.phase r.due r.account.owing r.owing_is acc.0.owing r.due c ph (ap (λ (y : Core Q P). y.3) acc.1) (ap (λ f. untold f (r.due c)) (sym now)) (λ _ _. refl);
-            second = second_stays stands n s.words ws s.homes s.homes r.phase phase' r.mode (cut c x.by) (stands.last r.handled) (stands.last r.handled) r.two (same 1 (λ e. omega arith)) (λ j there. (same_older j (λ e. subst (InSecond r.two.place x.by) now_x (subst (λ (i : ℕ). InSecond r.two.place i (r.phase i)) e there)), (λ _ _. same (state_at j) (λ e. omega arith)), put_same r.phase c ph now j)) (λ j e. sym (same (state_at j) (λ e. omega arith)) ∙ e) refl (λ j h. absurd h) (λ j h. inl (subst (Holds j) (sym is_marked) h)) (λ j _ h. subst (Holds j) is_marked h) (λ v. v) r.second;
+            second = second_stays stands n s.words ws s.homes s.homes r.phase phase' r.mode (cut c x.by) (stands.given r.handled) (stands.given r.handled) r.two (same 1 (λ e. omega arith)) (λ j there. (same_older j (λ e. subst (InSecond r.two.place x.by) now_x (subst (λ (i : ℕ). InSecond r.two.place i (r.phase i)) e there)), (λ _ _. same (state_at j) (λ e. omega arith)), put_same r.phase c ph now j)) (λ j e. sym (same (state_at j) (λ e. omega arith)) ∙ e) refl (λ j h. absurd h) (λ j h. inl (subst (Holds j) (sym is_marked) h)) (λ j _ h. subst (Holds j) is_marked h) (λ v. v) r.second;
             back = fit.5;
             else_back = λ _ _ _ ok. ok;
             shared_out = r.shared_out;
@@ -363,6 +364,6 @@ module _ {Q P L M : Type 0} (stands : Laws Q P L M) (n : ℕ) where
             ((λ i. hold_at (e.0 i) (Cutting (le i) (same_x i)) (e.2 i) (e.3 i) ∷ []), refl),
       )
 
-  pub cuts_marked : (slots id : ℕ) (me : Sat Q P L M) (c k new : ℕ) (lead : Lead Q P) (mine : List (Q × P)) (b : Back Q) (pre : List (Entry Q)) (x : Entry Q) → AtWith c (Marking lead) mine b me → lead.walk ≡ pre ++ x ∷ [] → k ≡ older_at x.by → new ≡ pack 0 x.code
+  pub cuts_marked : (slots id : ℕ) (me : Sat Q P L M) (c k new : ℕ) (lead : Lead Q P) (mine : List (Q × P)) (b : Back Q P) (pre : List (Entry Q)) (x : Entry Q) → AtWith c (Marking lead) mine b me → lead.walk ≡ pre ++ x ∷ [] → k ≡ older_at x.by → new ≡ pack 0 x.code
       → Allows (Listed stands n) slots id me k (λ _. new) (λ _. cut_marked (step slots k new 0 none) me new)
   cuts_marked slots id me c k new lead mine b pre x mid is_walk is_word cleared = allows stands n (λ _. Stays) slots id me k (λ _. new) (λ _. cut_marked (step slots k new 0 none) me new) (cuts_marked_is slots id me c k new lead mine b pre x mid is_walk is_word cleared)

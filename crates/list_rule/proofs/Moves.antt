@@ -16,9 +16,9 @@ use Rattle.list_rule.specs.Chain.{state_at, older_at, newest_from, LinksFrom, Di
 use Rattle.list_rule.specs.Standing.{Phase, idle, preparing, linked, chosen, leads, taken, completed, collecting, Mode, open_, waits, led, built, cut, marked, base_of, Holds, Two, KnowsBack}
 use Rattle.list_rule.specs.Laws.{Laws}
 use Rattle.list_rule.specs.Rule.{InChain, Stand, Waits, AllTaken, Knows, AllFit, InPhase, InMode, Account, Listed, Second, HasCut, untold}
-use Rattle.list_rule.specs.Events.{Core}
 use Rattle.list_rule.specs.Plays.{Sat}
-use Rattle.list_rule.specs.Steps.{now_of, IsNow, Becomes, StepIs}
+use Rattle.list_rule.specs.Steps.{Lists, now_of, IsNow, Becomes, StepIs}
+use Rattle.list_rule.specs.SecondList.{second_list_of}
 use Rattle.list_rule.proofs.Chains.{put, put_at, put_else, linked_change, owed_change, ends_trans}
 
 module _ {Q P L M : Type 0} (stands : Laws Q P L M) (n : ℕ) where
@@ -105,7 +105,7 @@ module _ {Q P L M : Type 0} (stands : Laws Q P L M) (n : ℕ) where
       (λ e x here owed. due_else k ne ∙ owed)
 
   -- the row m becomes ph, and the seat id goes from h to h'
-  pub record Move (s : St) (r : Listed stands n s) (m id : ℕ) (ws : List ℕ) (hs : Homes) (h h' : Hold Q P) (line hand : List (Entry Q)) (handled : List (Handling Q P)) (mode : Mode Q) (ph : Phase Q P) (due told : ℕ → List (Q × P)) (two : Two Q) : Type 0 where
+  pub record Move (s : St) (r : Listed stands n s) (m id : ℕ) (ws : List ℕ) (hs : Homes) (h h' : Hold Q P) (line hand : List (Entry Q)) (handled : List (Handling Q P)) (mode : Mode Q) (ph : Phase Q P) (due told : ℕ → List (Q × P)) (two : Two Q P) : Type 0 where
     pub at : get_elem? s.views id ≡ some (h ∷ [])
     pub same_client : h'.client ≡ h.client
     pub wide : length ws ≡ length s.words
@@ -123,9 +123,9 @@ module _ {Q P L M : Type 0} (stands : Laws Q P L M) (n : ℕ) where
     pub account : Account line handled mode
     pub has_cut : HasCut account.log hand (put r.phase m ph) mode
     pub owing_is : (k : ℕ) → of k account.owing ≡ untold (put r.phase m ph k) (due k)
-    pub second : Second stands n ws hs (put r.phase m ph) mode (stands.last handled) two
+    pub second : Second stands n ws hs (put r.phase m ph) mode (stands.given handled) two
     pub back : KnowsBack two h.client h'.back
-    pub else_back : (k : ℕ) → k ≢ h.client → (b : Back Q) → KnowsBack r.two k b → KnowsBack two k b
+    pub else_back : (k : ℕ) → k ≢ h.client → (b : Back Q P) → KnowsBack r.two k b → KnowsBack two k b
     pub kept : stands.kept handled
     pub coded : (e : Entry Q) → InChain e ph → stands.asks e.asked e.code
     pub told_else : (k : ℕ) → k ≢ h.client → told k ≡ r.told k
@@ -133,7 +133,7 @@ module _ {Q P L M : Type 0} (stands : Laws Q P L M) (n : ℕ) where
     pub knows : Knows line hand handled mode (put r.phase m ph) due h.client h'.stage
     pub others : (k : ℕ) → k ≢ h.client → (st : Stage Q P) → Knows r.line r.hand r.handled r.mode r.phase r.due k st → Knows line hand handled mode (put r.phase m ph) due k st
 
-  module _ (s : St) (r : Listed stands n s) (m id : ℕ) (ws : List ℕ) (hs : Homes) (h h' : Hold Q P) (line hand : List (Entry Q)) (handled : List (Handling Q P)) (mode : Mode Q) (ph : Phase Q P) (due told : ℕ → List (Q × P)) (two : Two Q) where
+  module _ (s : St) (r : Listed stands n s) (m id : ℕ) (ws : List ℕ) (hs : Homes) (h h' : Hold Q P) (line hand : List (Entry Q)) (handled : List (Handling Q P)) (mode : Mode Q) (ph : Phase Q P) (due told : ℕ → List (Q × P)) (two : Two Q P) where
     fit_stays : (v : Move s r m id ws hs h h' line hand handled mode ph due told two) (j : ℕ) → j ≢ id → (xs : List (Hold Q P)) → AllFit n r.line r.hand r.handled r.mode r.phase r.due r.told r.two r.seat j xs → AllFit n line hand handled mode (put r.phase m ph) due told two r.seat j xs
     fit_stays v j other [] ok = tt
     fit_stays v j other (x ∷ xs) ok =
@@ -184,20 +184,20 @@ module _ {Q P L M : Type 0} (stands : Laws Q P L M) (n : ℕ) where
         }
 
     -- the state after it, and what the list is then
-    pub moved : (v : Move s r m id ws hs h h' line hand handled mode ph due told two) → IsNow stands n (v.account.queue, v.account.log, handled, v.account.owing) (record { words = ws; homes = hs; views = set s.views id (h' ∷ []) })
+    pub moved : (v : Move s r m id ws hs h h' line hand handled mode ph due told two) → IsNow stands n ((v.account.queue, v.account.log, handled, v.account.owing), second_list_of two) (record { words = ws; homes = hs; views = set s.views id (h' ∷ []) })
     unfolding listed
     moved v = (listed v, refl)
 
   -- what a step makes of the list, and what its seat knows then
-  abbrev pub Goes : (ℕ → Core Q P → Core Q P → Type 0) → (s : St) → Listed stands n s → ℕ → ℕ → Sat Q P L M → (ℕ → Sat Q P L M → Type 0) → ℕ → Type 0
+  abbrev pub Goes : (ℕ → Lists Q P → Lists Q P → Type 0) → (s : St) → Listed stands n s → ℕ → ℕ → Sat Q P L M → (ℕ → Sat Q P L M → Type 0) → ℕ → Type 0
   Goes event s r k id me then x = (w : List (Hold Q P)) × (a : Act (Content Q P L M)) × Valid s.homes me.1 a × Becomes stands n (event (get_or s.words k 0)) (now_of stands n s r) (stepped s k x id me.1 w a) × then (get_or s.words k 0) (w, carried_after me.1 a)
 
   -- what a step allows, whatever event it is
-  pub allows : (event : ℕ → Core Q P → Core Q P → Type 0) (slots id : ℕ) (me : Sat Q P L M) (k : ℕ) (f : ℕ → ℕ) (then : ℕ → Sat Q P L M → Type 0) → StepIs stands n event slots id me k f then → Allows (Listed stands n) slots id me k f then
+  pub allows : (event : ℕ → Lists Q P → Lists Q P → Type 0) (slots id : ℕ) (me : Sat Q P L M) (k : ℕ) (f : ℕ → ℕ) (then : ℕ → Sat Q P L M → Type 0) → StepIs stands n event slots id me k f then → Allows (Listed stands n) slots id me k f then
   allows event slots id me k f then all s r long at fits = let t = all s r long at fits in (t.0, t.1, t.2, t.3.2.0, t.4)
 
   -- the words and slots are as they were
-  pub unmoved : (event : Core Q P → Core Q P → Type 0) (s : St) (k id : ℕ) (cs : List (ℕ × Content Q P L M)) (v : List (Hold Q P)) → get_elem? s.views id ≡ some v → (r : Listed stands n s) → event (now_of stands n s r) (now_of stands n s r) → Becomes stands n event (now_of stands n s r) (stepped s k (get_or s.words k 0) id cs v keeps)
+  pub unmoved : (event : Lists Q P → Lists Q P → Type 0) (s : St) (k id : ℕ) (cs : List (ℕ × Content Q P L M)) (v : List (Hold Q P)) → get_elem? s.views id ≡ some v → (r : Listed stands n s) → event (now_of stands n s r) (now_of stands n s r) → Becomes stands n event (now_of stands n s r) (stepped s k (get_or s.words k 0) id cs v keeps)
   unmoved event s k id cs v at r none_moved = (
     now_of stands n s r,
     none_moved,

@@ -1,7 +1,7 @@
 -- The table at the start, and the seats that are made of the first one.
 use Rattle.std.proofs.Common.{Bool, true, false, ◌≡◌, ◌≢◌, ℕ, zero, suc, ◌+◌, ◌-◌, ◌*◌, ◌<◌, ◌≤◌, ◌⊎◌, List, [], ◌∷◌, ◌++◌, length, get_or, set, refl, sym, ap, ◌∙◌, subst, inl, inr, ⊎_elim, arith, map, replicate, length-set, append-nil, append_assoc}
 use mathlib.Core.Path.{Path}
-use mathlib.Core.Option.{Option, some, some-injective, some-ne-none}
+use mathlib.Core.Option.{Option, some, some-injective, some-ne-none, none}
 use native.Mathlib.Decide.{ℕ_discrete}
 use lib.ListN.{get_elem?}
 use Rattle.atomic_table.specs.Table.{opening, Splits, Joins}
@@ -17,8 +17,8 @@ use Rattle.list_rule.specs.Chain.{Within}
 use Rattle.list_rule.specs.Standing.{Phase, idle, linked, leads, Mode, open_, waits, led, built, cut, marked, Holds, Two, Place, away, Turn, Lead2, level, ahead, InStep, still, Chained, calls, held_by, passes, flat}
 use Rattle.list_rule.specs.Laws.{Laws}
 use Rattle.list_rule.specs.Rule.{all_but_first, first_only, Fits, AllFit, hold, newcomers, Has, AllIdle, Merges, InPhase, LogHome, InMode, Listed, Level, RightHome, AllGroups, InTurn}
-use Rattle.list_rule.specs.Events.{free, Core}
-use Rattle.list_rule.specs.Steps.{IsNow}
+use Rattle.list_rule.specs.Events.{free}
+use Rattle.list_rule.specs.Steps.{Lists, IsNow}
 use Rattle.list_rule.proofs.Chains.{put, put_here, put_else, nobody}
 use Rattle.list_rule.proofs.Accounts.{opens_now}
 use Rattle.list_rule.proofs.Moves.{St}
@@ -51,18 +51,18 @@ module _ {A : Type 0} where
 
 module _ {Q P L M : Type 0} (stands : Laws Q P L M) (n : ℕ) where
   -- nobody is in the second list
-  abbrev fresh_two : ℕ → Two Q
+  abbrev fresh_two : List (Handling Q P) → Two Q P
   fresh_two k = record { groups = []; place = λ _. away; turn = still; lead = level; done = k }
 
-  new_fit : (m k : ℕ) → m ≤ n → AllFit {Q = Q} {P = P} n [] [] [] open_ (λ _. idle) (λ _. []) (λ _. []) (fresh_two k) (λ _. 0) 0 (newcomers m)
+  new_fit : (m : ℕ) (k : List (Handling Q P)) → m ≤ n → AllFit {Q = Q} {P = P} n [] [] [] open_ (λ _. idle) (λ _. []) (λ _. []) (fresh_two k) (λ _. 0) 0 (newcomers m)
   new_fit zero k h = tt
   new_fit (suc m) k h = ((refl, omega arith, h, refl, refl, (refl, (λ e. absurd (cc)))), new_fit m k (omega arith))
 
-  even_level : (piped : Bool) → (piped ≡ true → stands.opened ≡ stands.last []) → Level stands piped (fresh_two stands.opened) (stands.last [])
+  even_level : (piped : Bool) → (piped ≡ true → stands.opened ≡ stands.given []) → Level stands piped (fresh_two stands.opened) (stands.given [])
   even_level true even = even refl
   even_level false even = refl
 
-  pub opens : (words : List ℕ) (slots : List (Content Q P L M)) (l : L) (rt : M) → n < 255 → length words ≡ 2 * n + 4 → (get_or words 0 0 ≡ 0) × (get_or words 1 0 ≡ 0) → slots ≡ Log l ∷ (replicate n Empty ++ Right rt ∷ []) → stands.logs l [] → stands.rights rt stands.opened → (stands.piped ≡ true → stands.opened ≡ stands.last []) → Listed stands n (opening words slots (newcomers n))
+  pub opens : (words : List ℕ) (slots : List (Content Q P L M)) (l : L) (rt : M) → n < 255 → length words ≡ 2 * n + 4 → (get_or words 0 0 ≡ 0) × (get_or words 1 0 ≡ 0) → slots ≡ Log l ∷ (replicate n Empty ++ Right rt ∷ []) → stands.logs l [] → stands.rights rt stands.opened → (stands.piped ≡ true → stands.opened ≡ stands.given []) → Listed stands n (opening words slots (newcomers n))
   opens words slots l rt few wide zero_first are stood right_stood even =
       let at_slot : (i : ℕ) → 0 < i → i ≤ n → get_elem? (map some slots) i ≡ some (some Empty) = λ i lo hi. ap (λ z. get_elem? (map some z) i) are ∙ past i lo hi in
       record {
@@ -119,7 +119,7 @@ module _ {Q P L M : Type 0} (stands : Laws Q P L M) (n : ℕ) where
       first (suc j) v e = absurd (some-ne-none v (sym e))
 
   -- nobody has come yet
-  pub opens_is : (words : List ℕ) (slots : List (Content Q P L M)) (l : L) (rt : M) → n < 255 → length words ≡ 2 * n + 4 → (get_or words 0 0 ≡ 0) × (get_or words 1 0 ≡ 0) → slots ≡ Log l ∷ (replicate n Empty ++ Right rt ∷ []) → stands.logs l [] → stands.rights rt stands.opened → (stands.piped ≡ true → stands.opened ≡ stands.last []) → IsNow stands n ([], free, [], []) (opening words slots (newcomers n))
+  pub opens_is : (words : List ℕ) (slots : List (Content Q P L M)) (l : L) (rt : M) → n < 255 → length words ≡ 2 * n + 4 → (get_or words 0 0 ≡ 0) × (get_or words 1 0 ≡ 0) → slots ≡ Log l ∷ (replicate n Empty ++ Right rt ∷ []) → stands.logs l [] → stands.rights rt stands.opened → (stands.piped ≡ true → stands.opened ≡ stands.given []) → IsNow stands n (([], free, [], []), ([], level, λ _. none)) (opening words slots (newcomers n))
   unfolding opens
   opens_is words slots l rt few wide zero_first are stood right_stood even = (opens words slots l rt few wide zero_first are stood right_stood even, refl)
 
@@ -183,7 +183,7 @@ module _ {Q P L M : Type 0} (stands : Laws Q P L M) (n : ℕ) where
 
 module _ {Q P L M : Type 0} (stands : Laws Q P L M) (n : ℕ) where
   -- making a seat leaves the list as it is
-  pub splits_is : (now : Core Q P) (id m : ℕ) → Splits (IsNow stands n now) id (newcomers (suc m)) (newcomers m) (hold (suc m) Idle [] ∷ [])
+  pub splits_is : (now : Lists Q P) (id m : ℕ) → Splits (IsNow stands n now) id (newcomers (suc m)) (newcomers m) (hold (suc m) Idle [] ∷ [])
   unfolding splits
   splits_is now id m s is at = (splits stands n id m s is.0 at, is.1)
 
@@ -257,7 +257,7 @@ module _ {Q P L M : Type 0} (stands : Laws Q P L M) (n : ℕ) where
       }
 
   -- joining two leaves it as it is
-  pub joins_is : (now : Core Q P) (id other : ℕ) (v w : List (Hold Q P)) → Joins (IsNow stands n now) id v other w (v ++ w) []
+  pub joins_is : (now : Lists Q P) (id other : ℕ) (v w : List (Hold Q P)) → Joins (IsNow stands n now) id v other w (v ++ w) []
   unfolding joins
   joins_is now id other v w s is at apart at_other = (joins id other v w s is.0 at apart at_other, is.1)
 
@@ -297,27 +297,27 @@ module _ {Q P L M : Type 0} (stands : Laws Q P L M) (n : ℕ) where
       let i = within_at n ok.0.0 ok.0.1 [] (subst (Within n) ok.0.2 within) in
       let bad : Path (Phase Q P) (linked ok.0.1) idle = sym ok.0.4 ∙ (ap phase (sym ok.0.5) ∙ nobody ok.0.1.by i.0 i.1) in absurd (cc)
 
-  no_group : (phase : ℕ → Phase Q P) (place : ℕ → Place Q) (gs : List (Squad Q)) → Within n (flat gs) → ((i : ℕ) → 0 < i → i ≤ n → phase i ≡ idle) → AllGroups phase place gs → gs ≡ []
+  no_group : (phase : ℕ → Phase Q P) (place : ℕ → Place Q P) (gs : List (Squad Q P)) → Within n (flat gs) → ((i : ℕ) → 0 < i → i ≤ n → phase i ≡ idle) → AllGroups phase place gs → gs ≡ []
   no_group phase place [] within nobody ok = refl
   no_group phase place (g ∷ gs) within nobody ok =
       let i = within_at n g.rest g.own (flat gs) (subst (Within n) (append_assoc g.rest (g.own ∷ []) (flat gs)) within) in
       let bad : Path (Phase Q P) (leads g.own) idle = sym ok.0 ∙ nobody g.own.by i.0 i.1 in absurd (cc)
 
-  no_last : (gs newer : List (Squad Q)) (g : Squad Q) → gs ≡ [] → gs ≡ newer ++ g ∷ [] → ⊥
-  no_last gs [] g nil is = let bad : Path (List (Squad Q)) [] (g ∷ []) = sym nil ∙ is in absurd (cc)
-  no_last gs (x ∷ xs) g nil is = let bad : Path (List (Squad Q)) [] (x ∷ (xs ++ g ∷ [])) = sym nil ∙ is in absurd (cc)
+  no_last : (gs newer : List (Squad Q P)) (g : Squad Q P) → gs ≡ [] → gs ≡ newer ++ g ∷ [] → ⊥
+  no_last gs [] g nil is = let bad : Path (List (Squad Q P)) [] (g ∷ []) = sym nil ∙ is in absurd (cc)
+  no_last gs (x ∷ xs) g nil is = let bad : Path (List (Squad Q P)) [] (x ∷ (xs ++ g ∷ [])) = sym nil ∙ is in absurd (cc)
 
-  turn_home : (words : List ℕ) (homes : List (Option (Content Q P L M))) (phase : ℕ → Phase Q P) (two : Two Q) → two.groups ≡ [] → (turn : Turn) → InTurn stands n words homes phase two turn → RightHome stands n homes two.done
+  turn_home : (words : List ℕ) (homes : List (Option (Content Q P L M))) (phase : ℕ → Phase Q P) (two : Two Q P) → two.groups ≡ [] → (turn : Turn) → InTurn stands n words homes phase two turn → RightHome stands n homes two.done
   turn_home words homes phase two nil still ok = ok.1
   turn_home words homes phase two nil (calls c) ok = ok.1
   turn_home words homes phase two nil (held_by c) ok = absurd (no_last two.groups ok.0 ok.1 nil ok.2)
   turn_home words homes phase two nil (passes c w) ok = absurd (no_last two.groups ok.0 ok.1 nil ok.2)
 
-  chain_ends : (lead : Lead2) (done last : ℕ) (gs : List (Squad Q)) → gs ≡ [] → ((c : ℕ) → lead ≢ ahead c) → InStep done gs last lead → done ≡ last
-  chain_ends level done last gs nil un ok = subst (λ (l : List (Squad Q)). Chained done l last) nil ok
+  chain_ends : (lead : Lead2) (done last : List (Handling Q P)) (gs : List (Squad Q P)) → gs ≡ [] → ((c : ℕ) → lead ≢ ahead c) → InStep done gs last lead → done ≡ last
+  chain_ends level done last gs nil un ok = subst (λ (l : List (Squad Q P)). Chained done l last) nil ok
   chain_ends (ahead c) done last gs nil un ok = absurd (un c refl)
 
-  level_ends : (piped : Bool) (two : Two Q) (last : ℕ) → two.groups ≡ [] → ((c : ℕ) → two.lead ≢ ahead c) → Level stands piped two last → (piped ≡ false → two.done ≡ stands.opened) × (piped ≡ true → two.done ≡ last)
+  level_ends : (piped : Bool) (two : Two Q P) (last : List (Handling Q P)) → two.groups ≡ [] → ((c : ℕ) → two.lead ≢ ahead c) → Level stands piped two last → (piped ≡ false → two.done ≡ stands.opened) × (piped ≡ true → two.done ≡ last)
   level_ends true two last nil un v = ((λ e. absurd (cc)), (λ _. chain_ends two.lead two.done last two.groups nil un v))
   level_ends false two last nil un v = ((λ _. v), (λ e. absurd (cc)))
 
@@ -330,9 +330,9 @@ module _ {Q P L M : Type 0} (stands : Laws Q P L M) (n : ℕ) where
     pub merges : Merges handled v
     pub right : M
     pub right_home : get_elem? s.homes (n + 1) ≡ some (some (Right right))
-    pub right_number : ℕ
+    pub right_number : List (Handling Q P)
     pub right_stood : stands.rights right right_number
-    pub even : (stands.piped ≡ false → right_number ≡ stands.opened) × (stands.piped ≡ true → right_number ≡ stands.last handled)
+    pub even : (stands.piped ≡ false → right_number ≡ stands.opened) × (stands.piped ≡ true → right_number ≡ stands.given handled)
     pub others : (i : ℕ) → 0 < i → i ≤ n → get_elem? s.homes i ≡ some (some Empty)
 
   pub closes : (s : St stands n) (id : ℕ) (v : List (Hold Q P)) → Listed stands n s → get_elem? s.views id ≡ some v → AllIdle n v → Closes s v
@@ -357,7 +357,7 @@ module _ {Q P L M : Type 0} (stands : Laws Q P L M) (n : ℕ) where
         right_home = right_in.1;
         right_number = r.two.done;
         right_stood = right_in.2;
-        even = level_ends stands.piped r.two (stands.last r.handled) no_groups not_ahead r.second.in_level;
+        even = level_ends stands.piped r.two (stands.given r.handled) no_groups not_ahead r.second.in_level;
         others = λ i lo hi. (subst (InPhase stands s.words s.homes i (r.due i)) (nobody i lo hi) (r.rows i lo hi)).0;
       }
 
@@ -371,6 +371,6 @@ module _ {Q P L M : Type 0} (stands : Laws Q P L M) (n : ℕ) where
   splits_first id zero v lo e = absurd (omega arith)
   splits_first id (suc m) v lo e = subst (λ z. Splits (Listed stands n) id z (all_but_first z) (first_only z)) (sym e) (splits stands n id m)
 
-  pub splits_first_is : (now : Core Q P) (id k : ℕ) (v : List (Hold Q P)) → 0 < k → v ≡ newcomers k → Splits (IsNow stands n now) id v (all_but_first v) (first_only v)
+  pub splits_first_is : (now : Lists Q P) (id k : ℕ) (v : List (Hold Q P)) → 0 < k → v ≡ newcomers k → Splits (IsNow stands n now) id v (all_but_first v) (first_only v)
   splits_first_is now id zero v lo e = absurd (omega arith)
   splits_first_is now id (suc m) v lo e = subst (λ z. Splits (IsNow stands n now) id z (all_but_first z) (first_only z)) (sym e) (splits_is stands n now id m)

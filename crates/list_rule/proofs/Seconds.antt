@@ -5,6 +5,7 @@ use mathlib.Core.Option.{Option, none, some}
 use Rattle.atomic_table.proofs.Lists.{set_here}
 use Rattle.std.proofs.lemmas.List.{append_cancel_right}
 use Rattle.list_rule.specs.declared.view.Entry.{Entry}
+use Rattle.list_rule.specs.declared.view.Handling.{Handling}
 use Rattle.list_rule.specs.declared.view.Squad.{Squad}
 use Rattle.list_rule.specs.declared.content.Content.{Content}
 use Rattle.list_rule.specs.declared.content.Content.TheVariants.{Right}
@@ -37,52 +38,53 @@ called_of d (passes k w) = d
 pub one_calls : (a b : ℕ) → calls a ≡ calls b → a ≡ b
 one_calls a b e = ap (called_of a) e
 
-module _ {Q : Type 0} where
-  abbrev squad_in : Squad Q → Place Q → Squad Q
+module _ {Q P : Type 0} where
+  abbrev squad_in : Squad Q P → Place Q P → Squad Q P
   squad_in d away = d
   squad_in d (parted f k) = f
   squad_in d (queued f) = f
   squad_in d (called f) = f
   squad_in d (serves f) = f
 
-  abbrev base_in : ℕ → Place Q → ℕ
+  abbrev base_in : ℕ → Place Q P → ℕ
   base_in d away = d
   base_in d (parted f k) = k
   base_in d (queued f) = d
   base_in d (called f) = d
   base_in d (serves f) = d
 
-  abbrev head_or : Squad Q → List (Squad Q) → Squad Q
+  abbrev head_or : Squad Q P → List (Squad Q P) → Squad Q P
   head_or d [] = d
   head_or d (x ∷ xs) = x
 
-  abbrev tail_of : List (Squad Q) → List (Squad Q)
+  abbrev tail_of : List (Squad Q P) → List (Squad Q P)
   tail_of [] = []
   tail_of (x ∷ xs) = xs
 
-  pub in_one : (g h : Squad Q) (p : Place Q) → In g p → In h p → g ≡ h
+  pub in_one : (g h : Squad Q P) (p : Place Q P) → In g p → In h p → g ≡ h
   in_one g h away a b = absurd a
   in_one g h (parted f k) a b = absurd a
   in_one g h (queued f) a b = sym a ∙ b
   in_one g h (called f) a b = sym a ∙ b
   in_one g h (serves f) a b = sym a ∙ b
 
-  pub behind_in : (g : Squad Q) (p : Place Q) → Behind g p → In g p
+  pub behind_in : (g : Squad Q P) (p : Place Q P) → Behind g p → In g p
   behind_in g away a = a
   behind_in g (parted f k) a = a
   behind_in g (queued f) a = a
   behind_in g (called f) a = a
   behind_in g (serves f) a = absurd a
 
-  pub one_parted : (g h : Squad Q) (a b : ℕ) → Path (Place Q) (parted g a) (parted h b) → (g ≡ h) × (a ≡ b)
+  pub one_parted : (g h : Squad Q P) (a b : ℕ) → Path (Place Q P) (parted g a) (parted h b) → (g ≡ h) × (a ≡ b)
   one_parted g h a b e = (ap (squad_in g) e, ap (base_in a) e)
 
-  pub one_called : (g h : Squad Q) → Path (Place Q) (called g) (called h) → g ≡ h
+  pub one_called : (g h : Squad Q P) → Path (Place Q P) (called g) (called h) → g ≡ h
   one_called g h e = ap (squad_in g) e
 
-  pub one_serves : (g h : Squad Q) → Path (Place Q) (serves g) (serves h) → g ≡ h
+  pub one_serves : (g h : Squad Q P) → Path (Place Q P) (serves g) (serves h) → g ≡ h
   one_serves g h e = ap (squad_in g) e
 
+module _ {Q : Type 0} where
   -- client 0 is nobody's number, and word 1 nobody's link
   pub newest_front : (a : List (Entry Q)) (x : Entry Q) (b : List (Entry Q)) → newest (a ++ x ∷ []) ≡ newest ((a ++ x ∷ []) ++ b)
   newest_front [] x b = refl
@@ -93,23 +95,25 @@ module _ {Q : Type 0} where
   links_join words (e ∷ []) b x y = (x.0, y)
   links_join words (e ∷ f ∷ es) b x y = (x.0, links_join words (f ∷ es) b x.1 y)
 
-  pub flat_snoc : (newer : List (Squad Q)) (g : Squad Q) → flat (newer ++ g ∷ []) ≡ flat newer ++ line_of g
+module _ {Q P : Type 0} where
+  pub flat_snoc : (newer : List (Squad Q P)) (g : Squad Q P) → flat (newer ++ g ∷ []) ≡ flat newer ++ line_of g
   flat_snoc [] g = append-nil (line_of g)
   flat_snoc (x ∷ xs) g = ap (λ l. line_of x ++ l) (flat_snoc xs g) ∙ sym (append_assoc (line_of x) (flat xs) (line_of g))
 
-  pub snoc_some : (newer : List (Squad Q)) (g : Squad Q) → newer ++ g ∷ [] ≡ [] → ⊥
+  pub snoc_some : (newer : List (Squad Q P)) (g : Squad Q P) → newer ++ g ∷ [] ≡ [] → ⊥
   snoc_some [] g e = absurd (cc)
   snoc_some (x ∷ xs) g e = absurd (cc)
 
   -- a list of groups is empty, or ends with one
-  pub ends_or : (gs : List (Squad Q)) → (gs ≡ []) ⊎ ((newer : List (Squad Q)) × (g : Squad Q) × (gs ≡ newer ++ g ∷ []))
+  pub ends_or : (gs : List (Squad Q P)) → (gs ≡ []) ⊎ ((newer : List (Squad Q P)) × (g : Squad Q P) × (gs ≡ newer ++ g ∷ []))
   ends_or [] = inl refl
-  ends_or (x ∷ xs) = inr (⊎_elim (λ (e : xs ≡ []). ([], x, ap (λ l. x ∷ l) e)) (λ (t : (newer : List (Squad Q)) × (g : Squad Q) × (xs ≡ newer ++ g ∷ [])). (x ∷ t.0, t.1, ap (λ l. x ∷ l) t.2)) (ends_or xs))
+  ends_or (x ∷ xs) = inr (⊎_elim (λ (e : xs ≡ []). ([], x, ap (λ l. x ∷ l) e)) (λ (t : (newer : List (Squad Q P)) × (g : Squad Q P) × (xs ≡ newer ++ g ∷ [])). (x ∷ t.0, t.1, ap (λ l. x ∷ l) t.2)) (ends_or xs))
 
-  pub chain_first : (done last : ℕ) (newer : List (Squad Q)) (g : Squad Q) → Chained done (newer ++ g ∷ []) last → (done ≡ g.from) × Chained g.to newer last
+  pub chain_first : (done last : List (Handling Q P)) (newer : List (Squad Q P)) (g : Squad Q P) → Chained done (newer ++ g ∷ []) last → (done ≡ g.from) × Chained g.to newer last
   chain_first done last [] g ok = (ok.1, ok.0)
   chain_first done last (x ∷ xs) g ok = let t = chain_first done x.from xs g ok.1 in (t.0, (ok.0, t.1))
 
+module _ {Q : Type 0} where
   -- only one client has the log
   pub one_holder : (mode : Mode Q) (a b : ℕ) → Holds a mode → Holds b mode → a ≡ b
   one_holder open_ a b x y = absurd x
@@ -138,7 +142,8 @@ module _ {Q : Type 0} where
   aim_links words ws c (e ∷ []) own b0 b older out new ok = (older e.by out.0 ∙ ok.0, aim_links words ws c [] own b0 b older out.1 new ok.1)
   aim_links words ws c (e ∷ f ∷ fs) own b0 b older out new ok = (older e.by out.0 ∙ ok.0, aim_links words ws c (f ∷ fs) own b0 b older out.1 new ok.1)
 
-  flat_nil : (gs : List (Squad Q)) → flat gs ≡ [] → gs ≡ []
+module _ {Q P : Type 0} where
+  flat_nil : (gs : List (Squad Q P)) → flat gs ≡ [] → gs ≡ []
   flat_nil [] e = refl
   flat_nil (g ∷ gs) e = absurd (line_some g.rest g.own (flat gs) e)
     where
@@ -147,15 +152,15 @@ module _ {Q : Type 0} where
       line_some (y ∷ ys) x t e = absurd (cc)
 
   -- the first group leaves, which is not that of who still has the log
-  pub step_first : (lead : Lead2) (done last c : ℕ) (newer : List (Squad Q)) (g : Squad Q) → g.own.by ≡ c → lead ≢ ahead c → InStep done (newer ++ g ∷ []) last lead → (done ≡ g.from) × InStep g.to newer last lead
+  pub step_first : (lead : Lead2) (done last : List (Handling Q P)) (c : ℕ) (newer : List (Squad Q P)) (g : Squad Q P) → g.own.by ≡ c → lead ≢ ahead c → InStep done (newer ++ g ∷ []) last lead → (done ≡ g.from) × InStep g.to newer last lead
   step_first level done last c newer g by_c un ok = chain_first done last newer g ok
   step_first (ahead k) done last c [] g by_c un ok =
-      let same : g ≡ ok.0 = ap (head_or g) ok.2 in absurd (un (ap ahead (sym ok.4 ∙ (ap (λ (f : Squad Q). f.own.by) (sym same) ∙ by_c))))
+      let same : g ≡ ok.0 = ap (head_or g) ok.2 in absurd (un (ap ahead (sym ok.4 ∙ (ap (λ (f : Squad Q P). f.own.by) (sym same) ∙ by_c))))
   step_first (ahead k) done last c (x ∷ xs) g by_c un ok =
       let same : x ≡ ok.0 = ap (head_or x) ok.2 in
       let tails : xs ++ g ∷ [] ≡ ok.1 = ap tail_of ok.2 in
-      let t = chain_first done last xs g (subst (λ (l : List (Squad Q)). Chained done l last) (sym tails) ok.5) in
-      (t.0, (x, xs, refl, ap (λ (f : Squad Q). f.from) same ∙ ok.3, ap (λ (f : Squad Q). f.own.by) same ∙ ok.4, t.1))
+      let t = chain_first done last xs g (subst (λ (l : List (Squad Q P)). Chained done l last) (sym tails) ok.5) in
+      (t.0, (x, xs, refl, ap (λ (f : Squad Q P). f.from) same ∙ ok.3, ap (λ (f : Squad Q P). f.own.by) same ∙ ok.4, t.1))
 
 module _ {Q P : Type 0} where
   pub with_absent : (phase : ℕ → Phase Q P) (m c : ℕ) (es : List (Entry Q)) → ((e : Entry Q) → phase m ≡ taken c e → ⊥) → AllWith phase c es → Absent m es
@@ -163,13 +168,13 @@ module _ {Q P : Type 0} where
   with_absent phase m c (e ∷ es) un ok = ((λ is. un e (ap phase (sym is) ∙ ok.0)), with_absent phase m c es un ok.1)
 
   -- a leader that is in no group of the second list
-  pub absent_groups : (phase : ℕ → Phase Q P) (place : ℕ → Place Q) (m : ℕ) (gs : List (Squad Q)) → ((g : Squad Q) → In g (place m) → ⊥) → ((k : ℕ) (e : Entry Q) → phase m ≡ taken k e → ⊥) → AllGroups phase place gs → Absent m (flat gs)
+  pub absent_groups : (phase : ℕ → Phase Q P) (place : ℕ → Place Q P) (m : ℕ) (gs : List (Squad Q P)) → ((g : Squad Q P) → In g (place m) → ⊥) → ((k : ℕ) (e : Entry Q) → phase m ≡ taken k e → ⊥) → AllGroups phase place gs → Absent m (flat gs)
   absent_groups phase place m [] un_l un_t ok = tt
   absent_groups phase place m (g ∷ gs) un_l un_t ok =
       absent_append m (line_of g) (flat gs) (absent_append m g.rest (g.own ∷ []) (with_absent phase m g.own.by g.rest (un_t g.own.by) ok.2) ((λ is. un_l g (subst (λ (j : ℕ). In g (place j)) is ok.1)), tt)) (absent_groups phase place m gs un_l un_t ok.3)
 
   -- nor are its members
-  pub member_absent : (phase : ℕ → Phase Q P) (place : ℕ → Place Q) (m c : ℕ) (x : Entry Q) (gs : List (Squad Q)) → phase m ≡ taken c x → ((g : Squad Q) → In g (place c) → ⊥) → AllGroups phase place gs → Absent m (flat gs)
+  pub member_absent : (phase : ℕ → Phase Q P) (place : ℕ → Place Q P) (m c : ℕ) (x : Entry Q) (gs : List (Squad Q P)) → phase m ≡ taken c x → ((g : Squad Q P) → In g (place c) → ⊥) → AllGroups phase place gs → Absent m (flat gs)
   member_absent phase place m c x [] now un ok = tt
   member_absent phase place m c x (g ∷ gs) now un ok =
       absent_append m (line_of g) (flat gs)
@@ -177,31 +182,31 @@ module _ {Q P : Type 0} where
       ((λ is. let bad : phase m ≡ leads g.own = ap phase (sym is) ∙ ok.0 in absurd (cc)), tt))
       (member_absent phase place m c x gs now un ok.3)
 
-  pub distinct_group : (phase : ℕ → Phase Q P) (place : ℕ → Place Q) (c : ℕ) (own : Entry Q) (es : List (Entry Q)) (gs : List (Squad Q)) → ((g : Squad Q) → In g (place c) → ⊥) → AllGroups phase place gs → AllWith phase c es → Distinct (es ++ own ∷ []) → Absent own.by (flat gs) → Distinct (flat gs)
+  pub distinct_group : (phase : ℕ → Phase Q P) (place : ℕ → Place Q P) (c : ℕ) (own : Entry Q) (es : List (Entry Q)) (gs : List (Squad Q P)) → ((g : Squad Q P) → In g (place c) → ⊥) → AllGroups phase place gs → AllWith phase c es → Distinct (es ++ own ∷ []) → Absent own.by (flat gs) → Distinct (flat gs)
       → Distinct ((es ++ own ∷ []) ++ flat gs)
   distinct_group phase place c own [] gs un all with apart out rest = (out, rest)
   distinct_group phase place c own (e ∷ es) gs un all with apart out rest =
       (absent_append e.by (es ++ own ∷ []) (flat gs) apart.0 (member_absent phase place e.by c e gs with.0 un all), distinct_group phase place c own es gs un all with.1 apart.1 out rest)
 
   -- another's place does not matter to who is in no group
-  pub groups_put : (phase : ℕ → Phase Q P) (place : ℕ → Place Q) (c : ℕ) (p : Place Q) (gs : List (Squad Q)) → Absent c (flat gs) → AllGroups phase place gs → AllGroups phase (put place c p) gs
+  pub groups_put : (phase : ℕ → Phase Q P) (place : ℕ → Place Q P) (c : ℕ) (p : Place Q P) (gs : List (Squad Q P)) → Absent c (flat gs) → AllGroups phase place gs → AllGroups phase (put place c p) gs
   groups_put phase place c p [] out ok = tt
   groups_put phase place c p (g ∷ gs) out ok =
       let ne = (absent_back c g.rest (g.own ∷ []) (absent_front c (line_of g) (flat gs) out)).0 in
       (ok.0, subst (In g) (sym (put_else place c p g.own.by ne)) ok.1, ok.2, groups_put phase place c p gs (absent_back c (line_of g) (flat gs) out) ok.3)
 
   -- a group's leader changes its place, and stays in its group
-  pub groups_turn : (phase : ℕ → Phase Q P) (place : ℕ → Place Q) (c : ℕ) (p : Place Q) (gs : List (Squad Q)) → ((g : Squad Q) → In g (place c) → In g p) → AllGroups phase place gs → AllGroups phase (put place c p) gs
+  pub groups_turn : (phase : ℕ → Phase Q P) (place : ℕ → Place Q P) (c : ℕ) (p : Place Q P) (gs : List (Squad Q P)) → ((g : Squad Q P) → In g (place c) → In g p) → AllGroups phase place gs → AllGroups phase (put place c p) gs
   groups_turn phase place c p [] to ok = tt
   groups_turn phase place c p (g ∷ gs) to ok = (ok.0, put_at place c p (λ j q. In g (place j) → In g q) g.own.by (λ is t. to g (subst (λ (j : ℕ). In g (place j)) is t)) (λ _ t. t) ok.1, ok.2, groups_turn phase place c p gs to ok.3)
 
-  pub groups_newer : (phase : ℕ → Phase Q P) (place : ℕ → Place Q) (newer : List (Squad Q)) (g : Squad Q) → AllGroups phase place (newer ++ g ∷ []) → AllGroups phase place newer
+  pub groups_newer : (phase : ℕ → Phase Q P) (place : ℕ → Place Q P) (newer : List (Squad Q P)) (g : Squad Q P) → AllGroups phase place (newer ++ g ∷ []) → AllGroups phase place newer
   groups_newer phase place [] g ok = tt
   groups_newer phase place (x ∷ xs) g ok = (ok.0, ok.1, ok.2, groups_newer phase place xs g ok.3)
 
 module _ {Q P L M : Type 0} (stands : Laws Q P L M) (n : ℕ) where
   -- the turn, where another place changes
-  pub turn_put : (words : List ℕ) (homes : List (Option (Content Q P L M))) (phase : ℕ → Phase Q P) (groups : List (Squad Q)) (place : ℕ → Place Q) (t : Turn) (lead lead' : Lead2) (done : ℕ) (c : ℕ) (p : Place Q) → ((g : Squad Q) → place c ≡ called g → ⊥) → ((g : Squad Q) → place c ≡ serves g → ⊥) → (turn : Turn)
+  pub turn_put : (words : List ℕ) (homes : List (Option (Content Q P L M))) (phase : ℕ → Phase Q P) (groups : List (Squad Q P)) (place : ℕ → Place Q P) (t : Turn) (lead lead' : Lead2) (done : List (Handling Q P)) (c : ℕ) (p : Place Q P) → ((g : Squad Q P) → place c ≡ called g → ⊥) → ((g : Squad Q P) → place c ≡ serves g → ⊥) → (turn : Turn)
       → InTurn stands n words homes phase (record { groups = groups; place = place; turn = t; lead = lead; done = done }) turn → InTurn stands n words homes phase (record { groups = groups; place = put place c p; turn = t; lead = lead'; done = done }) turn
   turn_put words homes phase groups place t lead lead' done c p un_c un_s still ok = ok
   turn_put words homes phase groups place t lead lead' done c p un_c un_s (calls k) ok = ((ok.0.0, ok.0.1, ok.0.2, put_else place c p k (λ e. un_c ok.0.1 (ap place (sym e) ∙ ok.0.3)) ∙ ok.0.3, ok.0.4, ok.0.5), ok.1)
@@ -209,52 +214,52 @@ module _ {Q P L M : Type 0} (stands : Laws Q P L M) (n : ℕ) where
   turn_put words homes phase groups place t lead lead' done c p un_c un_s (passes k w) ok = ok
 
   -- and a newer group comes
-  pub turn_grows : (words ws : List ℕ) (homes : List (Option (Content Q P L M))) (phase : ℕ → Phase Q P) (groups : List (Squad Q)) (place : ℕ → Place Q) (t : Turn) (lead lead' : Lead2) (done : ℕ) (g0 : Squad Q) → ((k : ℕ) → get_or ws (state_at k) 0 ≡ get_or words (state_at k) 0) → (turn : Turn) → (turn ≡ still → ⊥)
+  pub turn_grows : (words ws : List ℕ) (homes : List (Option (Content Q P L M))) (phase : ℕ → Phase Q P) (groups : List (Squad Q P)) (place : ℕ → Place Q P) (t : Turn) (lead lead' : Lead2) (done : List (Handling Q P)) (g0 : Squad Q P) → ((k : ℕ) → get_or ws (state_at k) 0 ≡ get_or words (state_at k) 0) → (turn : Turn) → (turn ≡ still → ⊥)
       → InTurn stands n words homes phase (record { groups = groups; place = place; turn = t; lead = lead; done = done }) turn → InTurn stands n ws homes phase (record { groups = g0 ∷ groups; place = place; turn = t; lead = lead'; done = done }) turn
   turn_grows words ws homes phase groups place t lead lead' done g0 state still un ok = absurd (un refl)
   turn_grows words ws homes phase groups place t lead lead' done g0 state (calls k) un ok = ((g0 ∷ ok.0.0, ok.0.1, ap (λ l. g0 ∷ l) ok.0.2, ok.0.3, ok.0.4, state k ∙ ok.0.5), ok.1)
   turn_grows words ws homes phase groups place t lead lead' done g0 state (held_by k) un ok = (g0 ∷ ok.0, ok.1, ap (λ l. g0 ∷ l) ok.2, ok.3, ok.4)
   turn_grows words ws homes phase groups place t lead lead' done g0 state (passes k w) un ok = (g0 ∷ ok.0, ok.1, ap (λ l. g0 ∷ l) ok.2, ok.3)
 
-  pub turn_same : (words ws : List ℕ) (homes : List (Option (Content Q P L M))) (phase : ℕ → Phase Q P) (two : Two Q) → ((k : ℕ) → get_or ws (state_at k) 0 ≡ get_or words (state_at k) 0) → (turn : Turn) → InTurn stands n words homes phase two turn → InTurn stands n ws homes phase two turn
+  pub turn_same : (words ws : List ℕ) (homes : List (Option (Content Q P L M))) (phase : ℕ → Phase Q P) (two : Two Q P) → ((k : ℕ) → get_or ws (state_at k) 0 ≡ get_or words (state_at k) 0) → (turn : Turn) → InTurn stands n words homes phase two turn → InTurn stands n ws homes phase two turn
   turn_same words ws homes phase two state still ok = ok
   turn_same words ws homes phase two state (calls k) ok = ((ok.0.0, ok.0.1, ok.0.2, ok.0.3, ok.0.4, state k ∙ ok.0.5), ok.1)
   turn_same words ws homes phase two state (held_by k) ok = ok
   turn_same words ws homes phase two state (passes k w) ok = ok
 
-  pub level_put : (groups : List (Squad Q)) (place place' : ℕ → Place Q) (turn turn' : Turn) (lead : Lead2) (done last : ℕ) (piped : Bool)
+  pub level_put : (groups : List (Squad Q P)) (place place' : ℕ → Place Q P) (turn turn' : Turn) (lead : Lead2) (done last : List (Handling Q P)) (piped : Bool)
       → Level stands piped (record { groups = groups; place = place; turn = turn; lead = lead; done = done }) last → Level stands piped (record { groups = groups; place = place'; turn = turn'; lead = lead; done = done }) last
   level_put groups place place' turn turn' lead done last true v = v
   level_put groups place place' turn turn' lead done last false v = v
 
-  pub turn_lead : (words : List ℕ) (homes : List (Option (Content Q P L M))) (phase : ℕ → Phase Q P) (groups : List (Squad Q)) (place : ℕ → Place Q) (t : Turn) (lead lead' : Lead2) (done : ℕ) (turn : Turn)
+  pub turn_lead : (words : List ℕ) (homes : List (Option (Content Q P L M))) (phase : ℕ → Phase Q P) (groups : List (Squad Q P)) (place : ℕ → Place Q P) (t : Turn) (lead lead' : Lead2) (done : List (Handling Q P)) (turn : Turn)
       → InTurn stands n words homes phase (record { groups = groups; place = place; turn = t; lead = lead; done = done }) turn → InTurn stands n words homes phase (record { groups = groups; place = place; turn = t; lead = lead'; done = done }) turn
   turn_lead words homes phase groups place t lead lead' done still ok = ok
   turn_lead words homes phase groups place t lead lead' done (calls k) ok = ok
   turn_lead words homes phase groups place t lead lead' done (held_by k) ok = ok
   turn_lead words homes phase groups place t lead lead' done (passes k w) ok = ok
 
-  pub none_first : (gs : List (Squad Q)) → Within n (flat gs) → newest (flat gs) ≡ 0 → gs ≡ []
+  pub none_first : (gs : List (Squad Q P)) → Within n (flat gs) → newest (flat gs) ≡ 0 → gs ≡ []
   none_first gs inside is = flat_nil gs (nobody n 0 (flat gs) inside is).0
 
-  turn_nil : (words : List ℕ) (homes : List (Option (Content Q P L M))) (phase : ℕ → Phase Q P) (two : Two Q) → two.groups ≡ [] → (turn : Turn) → InTurn stands n words homes phase two turn → RightHome stands n homes two.done
+  turn_nil : (words : List ℕ) (homes : List (Option (Content Q P L M))) (phase : ℕ → Phase Q P) (two : Two Q P) → two.groups ≡ [] → (turn : Turn) → InTurn stands n words homes phase two turn → RightHome stands n homes two.done
   turn_nil words homes phase two nil still ok = ok.1
   turn_nil words homes phase two nil (calls k) ok = ok.1
   turn_nil words homes phase two nil (held_by k) ok = absurd (snoc_some ok.0 ok.1 (sym ok.2 ∙ nil))
   turn_nil words homes phase two nil (passes k w) ok = absurd (snoc_some ok.0 ok.1 (sym ok.2 ∙ nil))
 
-  turn_called : (words : List ℕ) (homes : List (Option (Content Q P L M))) (phase : ℕ → Phase Q P) (two : Two Q) → two.groups ≡ [] → (k : ℕ) → InTurn stands n words homes phase two (calls k) → ⊥
+  turn_called : (words : List ℕ) (homes : List (Option (Content Q P L M))) (phase : ℕ → Phase Q P) (two : Two Q P) → two.groups ≡ [] → (k : ℕ) → InTurn stands n words homes phase two (calls k) → ⊥
   turn_called words homes phase two nil k ok = snoc_some ok.0.0 ok.0.1 (sym ok.0.2 ∙ nil)
 
-  module _ (words : List ℕ) (homes : List (Option (Content Q P L M))) (phase : ℕ → Phase Q P) (mode : Mode Q) (last : ℕ) (two : Two Q) (r : Second stands n words homes phase mode last two) where
+  module _ (words : List ℕ) (homes : List (Option (Content Q P L M))) (phase : ℕ → Phase Q P) (mode : Mode Q) (last : List (Handling Q P)) (two : Two Q P) (r : Second stands n words homes phase mode last two) where
     -- a group is cut off from the first list
-    abbrev pub two_parts : ℕ → Squad Q → ℕ → Two Q
+    abbrev pub two_parts : ℕ → Squad Q P → ℕ → Two Q P
     two_parts c g b = record { groups = two.groups; place = put two.place c (parted g b); turn = two.turn; lead = two.lead; done = two.done }
 
-    pub second_parts : (c : ℕ) (g : Squad Q) → two.place c ≡ away → g.own.by ≡ c → phase c ≡ leads g.own → AllWith phase c g.rest → Links words (line_of g) → Distinct (line_of g) → Within n (line_of g) → (InFront c mode → ⊥) → Second stands n words homes phase mode last (two_parts c g 0)
+    pub second_parts : (c : ℕ) (g : Squad Q P) → two.place c ≡ away → g.own.by ≡ c → phase c ≡ leads g.own → AllWith phase c g.rest → Links words (line_of g) → Distinct (line_of g) → Within n (line_of g) → (InFront c mode → ⊥) → Second stands n words homes phase mode last (two_parts c g 0)
     second_parts c g is_away by_c now with linked apart inside un_front =
         let out : Absent c (flat two.groups) = absent_groups phase two.place c two.groups (λ f t. subst (In f) is_away t) (λ k e bad. absurd (cc)) r.members in
-        let p : Place Q = parted g 0 in
+        let p : Place Q P = parted g 0 in
         record {
           newest_is = r.newest_is;
           links = r.links;
@@ -262,7 +267,7 @@ module _ {Q P L M : Type 0} (stands : Laws Q P L M) (n : ℕ) where
           within = r.within;
           members = groups_put phase two.place c p two.groups out r.members;
           parts = λ k f b. put_at two.place c p (λ j q. q ≡ parted f b → Parts stands n words homes phase j f b) k
-              (λ is e. let o = one_parted g f 0 b e in subst (λ (z : ℕ × Squad Q × ℕ). Parts stands n words homes phase z.0 z.1 z.2) (λ i. (sym is i, o.0 i, o.1 i)) (by_c, now, with, linked, apart, inside)) (λ ne e. r.parts k f b e);
+              (λ is e. let o = one_parted g f 0 b e in subst (λ (z : ℕ × Squad Q P × ℕ). Parts stands n words homes phase z.0 z.1 z.2) (λ i. (sym is i, o.0 i, o.1 i)) (by_c, now, with, linked, apart, inside)) (λ ne e. r.parts k f b e);
           turn_is = turn_put words homes phase two.groups two.place two.turn two.lead two.lead two.done c p (λ f e. absurd (cc)) (λ f e. absurd (cc)) two.turn r.turn_is;
           in_front = λ k h. put_at two.place c p (λ j q. InFront j mode → q ≡ away) k (λ is h'. let hh : InFront c mode = subst (λ (j : ℕ). InFront j mode) is h' in absurd (un_front hh)) (λ _ h'. r.in_front k h') h;
           quiet = λ k h. put_at two.place c p (λ j q. Holds j mode → Apart q → get_or words (state_at j) 0 ≢ 4) k (λ is h' _. subst (λ (j : ℕ). Holds j mode → get_or words (state_at j) 0 ≢ 4) (sym is) (λ hc. r.quiet c hc (subst Apart (sym is_away) tt)) h') (λ ne h' a. r.quiet k h' a) h;
@@ -273,12 +278,12 @@ module _ {Q P L M : Type 0} (stands : Laws Q P L M) (n : ℕ) where
         }
 
     -- its leader names the newest writer of the second list
-    pub second_aims : (c : ℕ) (g : Squad Q) (b0 b v : ℕ) → two.place c ≡ parted g b0 → 0 < c → c ≤ n → v ≡ pack b g.own.code → length words ≡ 2 * n + 4 → Second stands n (set words (older_at c) v) homes phase mode last (two_parts c g b)
+    pub second_aims : (c : ℕ) (g : Squad Q P) (b0 b v : ℕ) → two.place c ≡ parted g b0 → 0 < c → c ≤ n → v ≡ pack b g.own.code → length words ≡ 2 * n + 4 → Second stands n (set words (older_at c) v) homes phase mode last (two_parts c g b)
     second_aims c g b0 b v is_parted lo hi is wide =
         let old = r.parts c g b0 is_parted in
         let no_taken : (k : ℕ) (e : Entry Q) → phase c ≡ taken k e → ⊥ = λ k e bad. let was : phase c ≡ leads g.own = old.1 in absurd (cc) in
         let out : Absent c (flat two.groups) = absent_groups phase two.place c two.groups (λ f t. subst (In f) is_parted t) no_taken r.members in
-        let p : Place Q = parted g b in
+        let p : Place Q P = parted g b in
         let ws : List ℕ = set words (older_at c) v in
         let same : (j : ℕ) → j ≢ older_at c → get_or ws j 0 ≡ get_or words j 0 = λ j ne. get_or-set_other words (older_at c) j v 0 (λ e. ne (omega arith)) in
         let state : (j : ℕ) → get_or ws (state_at j) 0 ≡ get_or words (state_at j) 0 = λ j. same (state_at j) (λ e. omega arith) in
@@ -291,12 +296,12 @@ module _ {Q P L M : Type 0} (stands : Laws Q P L M) (n : ℕ) where
           within = r.within;
           members = groups_put phase two.place c p two.groups out r.members;
           parts = λ k f d. put_at two.place c p (λ j q. q ≡ parted f d → Parts stands n ws homes phase j f d) k
-              (λ is_c e. let o = one_parted g f b d e in subst (λ (z : ℕ × Squad Q × ℕ). Parts stands n ws homes phase z.0 z.1 z.2) (λ i. (sym is_c i, o.0 i, o.1 i))
+              (λ is_c e. let o = one_parted g f b d e in subst (λ (z : ℕ × Squad Q P × ℕ). Parts stands n ws homes phase z.0 z.1 z.2) (λ i. (sym is_c i, o.0 i, o.1 i))
               (old.0, old.1, old.2, aim_links words ws c g.rest g.own b0 b older (with_absent phase c c g.rest (no_taken c) old.2) (ap (λ (j : ℕ). get_or ws (older_at j) 0) old.0 ∙ new_link) old.3, old.4, old.5))
               (λ ne e. let q = r.parts k f d e in
               (q.0, q.1, q.2, links_stay d words ws c (line_of f) older (absent_append c f.rest (f.own ∷ []) (with_absent phase c k f.rest (no_taken k) q.2) ((λ e'. ne (sym q.0 ∙ e')), tt)) q.3, q.4, q.5));
           turn_is = turn_same words ws homes phase (two_parts c g b) state two.turn (turn_put words homes phase two.groups two.place two.turn two.lead two.lead two.done c p (λ f e. absurd (cc)) (λ f e. absurd (cc)) two.turn r.turn_is);
-          in_front = λ k h. put_at two.place c p (λ j q. InFront j mode → q ≡ away) k (λ is h'. let hh : InFront c mode = subst (λ (j : ℕ). InFront j mode) is h' in (let bad : Path (Place Q) (parted g b0) away = sym is_parted ∙ r.in_front c hh in absurd (cc))) (λ _ h'. r.in_front k h') h;
+          in_front = λ k h. put_at two.place c p (λ j q. InFront j mode → q ≡ away) k (λ is h'. let hh : InFront c mode = subst (λ (j : ℕ). InFront j mode) is h' in (let bad : Path (Place Q P) (parted g b0) away = sym is_parted ∙ r.in_front c hh in absurd (cc))) (λ _ h'. r.in_front k h') h;
           quiet = λ k h. put_at two.place c p (λ j q. Holds j mode → Apart q → get_or ws (state_at j) 0 ≢ 4) k (λ is_c h' _. subst (λ (j : ℕ). Holds j mode → get_or ws (state_at j) 0 ≢ 4) (sym is_c) (λ hc e. r.quiet c hc (subst Apart (sym is_parted) tt) (sym (state c) ∙ e)) h') (λ ne h' a e. r.quiet k h' a (sym (state k) ∙ e)) h;
           quiet_queued = λ k f. put_at two.place c p (λ j q. q ≡ queued f → get_or ws (state_at j) 0 ≢ 4) k (λ _ e. absurd (cc)) (λ _ e e'. r.quiet_queued k f e (sym (state k) ∙ e'));
           called_turn = λ k f. put_at two.place c p (λ j q. q ≡ called f → two.turn ≡ calls j) k (λ _ e. absurd (cc)) (λ _ e. r.called_turn k f e);
@@ -309,7 +314,7 @@ module _ {Q P L M : Type 0} (stands : Laws Q P L M) (n : ℕ) where
       step_of = subst (λ (b : Bool). Level stands b two last) piped r.in_level
 
       -- the group comes to the newer end
-      module _ (c : ℕ) (g f : Squad Q) (b v : ℕ) (is_parted : two.place c ≡ parted f b) (own_is : f.own ≡ g.own) (rest_is : f.rest ≡ g.rest) (from_is : g.from ≡ last) (not_ahead : two.lead ≢ ahead c) (holds : Holds c mode) (is_v : v ≡ newest (line_of g)) (hit : get_or words 1 0 ≡ b) (wide : length words ≡ 2 * n + 4) where
+      module _ (c : ℕ) (g f : Squad Q P) (b v : ℕ) (is_parted : two.place c ≡ parted f b) (own_is : f.own ≡ g.own) (rest_is : f.rest ≡ g.rest) (from_is : g.from ≡ last) (not_ahead : two.lead ≢ ahead c) (holds : Holds c mode) (is_v : v ≡ newest (line_of g)) (hit : get_or words 1 0 ≡ b) (wide : length words ≡ 2 * n + 4) where
         old_parts : Parts stands n words homes phase c g b
         old_parts = let o = r.parts c f b is_parted in (ap (λ (e : Entry Q). e.by) (sym own_is) ∙ o.0, o.1 ∙ ap leads own_is, subst (AllWith phase c) rest_is o.2, subst (LinksFrom b words) (λ i. rest_is i ++ own_is i ∷ []) o.3, subst Distinct (λ i. rest_is i ++ own_is i ∷ []) o.4, subst (Within n) (λ i. rest_is i ++ own_is i ∷ []) o.5)
 
@@ -319,7 +324,7 @@ module _ {Q P L M : Type 0} (stands : Laws Q P L M) (n : ℕ) where
         same1 : (j : ℕ) → j ≢ 1 → get_or ws1 j 0 ≡ get_or words j 0
         same1 j ne = get_or-set_other words 1 j v 0 (λ e. ne (omega arith))
 
-        out_of : (h : Squad Q) → In h (two.place c) → ⊥
+        out_of : (h : Squad Q P) → In h (two.place c) → ⊥
         out_of h t = subst (In h) is_parted t
 
         out1 : Absent c (flat two.groups)
@@ -332,8 +337,8 @@ module _ {Q P L M : Type 0} (stands : Laws Q P L M) (n : ℕ) where
         chained1 = subst (InStep two.done two.groups last) level1 step_of
 
         -- the facts on the words, whatever the place and the turn are now
-        second_joins : (p : Place Q) (turn' : Turn) (hs : List (Option (Content Q P L M))) → In g p → (Apart p → ⊥) → ((h : Squad Q) → p ≡ called h → ⊥)
-            → InTurn stands n ws1 hs phase (record { groups = g ∷ two.groups; place = put two.place c p; turn = turn'; lead = ahead c; done = two.done }) turn' → ((k : ℕ) (h : Squad Q) → two.place k ≡ called h → turn' ≡ calls k)
+        second_joins : (p : Place Q P) (turn' : Turn) (hs : List (Option (Content Q P L M))) → In g p → (Apart p → ⊥) → ((h : Squad Q P) → p ≡ called h → ⊥)
+            → InTurn stands n ws1 hs phase (record { groups = g ∷ two.groups; place = put two.place c p; turn = turn'; lead = ahead c; done = two.done }) turn' → ((k : ℕ) (h : Squad Q P) → two.place k ≡ called h → turn' ≡ calls k)
             → Second stands n ws1 hs phase mode last (record { groups = g ∷ two.groups; place = put two.place c p; turn = turn'; lead = ahead c; done = two.done })
         second_joins p turn' hs is_in un_a un_c turn_ok called_ok =
             let state : (j : ℕ) → get_or ws1 (state_at j) 0 ≡ get_or words (state_at j) 0 = λ j. same1 (state_at j) (λ e. omega arith) in
@@ -347,7 +352,7 @@ module _ {Q P L M : Type 0} (stands : Laws Q P L M) (n : ℕ) where
               members = (subst (λ (j : ℕ). phase j ≡ leads g.own) (sym by_c) old_parts.1, subst (λ (j : ℕ). In g (put two.place c p j)) (sym by_c) (subst (In g) (sym (put_here two.place c p)) is_in), subst (λ (j : ℕ). AllWith phase j g.rest) (sym by_c) old_parts.2, groups_put phase two.place c p two.groups out1 r.members);
               parts = λ k h d. put_at two.place c p (λ j q. q ≡ parted h d → Parts stands n ws1 hs phase j h d) k (λ _ e. absurd (un_a (subst Apart (sym e) tt))) (λ _ e. let q = r.parts k h d e in (q.0, q.1, q.2, links_same d words ws1 (line_of h) older q.3, q.4, q.5));
               turn_is = turn_ok;
-              in_front = λ k h. put_at two.place c p (λ j q. InFront j mode → q ≡ away) k (λ is h'. let hh : InFront c mode = subst (λ (j : ℕ). InFront j mode) is h' in (let bad : Path (Place Q) (parted f b) away = sym is_parted ∙ r.in_front c hh in absurd (cc))) (λ _ h'. r.in_front k h') h;
+              in_front = λ k h. put_at two.place c p (λ j q. InFront j mode → q ≡ away) k (λ is h'. let hh : InFront c mode = subst (λ (j : ℕ). InFront j mode) is h' in (let bad : Path (Place Q P) (parted f b) away = sym is_parted ∙ r.in_front c hh in absurd (cc))) (λ _ h'. r.in_front k h') h;
               quiet = λ k h. put_at two.place c p (λ j q. Apart q → get_or ws1 (state_at j) 0 ≢ 4) k (λ _ a. absurd (un_a a)) (λ _ a e. r.quiet k h a (sym (state k) ∙ e));
               quiet_queued = λ k h. put_at two.place c p (λ j q. q ≡ queued h → get_or ws1 (state_at j) 0 ≢ 4) k (λ is_c _ e. r.quiet c holds (subst Apart (sym is_parted) tt) (sym (state c) ∙ (ap (λ (j : ℕ). get_or ws1 (state_at j) 0) (sym is_c) ∙ e))) (λ _ e e'. r.quiet_queued k h e (sym (state k) ∙ e'));
               called_turn = λ k h. put_at two.place c p (λ j q. q ≡ called h → turn' ≡ calls j) k (λ _ e. absurd (un_c h e)) (λ _ e. called_ok k h e);
@@ -355,10 +360,10 @@ module _ {Q P L M : Type 0} (stands : Laws Q P L M) (n : ℕ) where
               in_level = subst (λ (z : Bool). Level stands z (record { groups = g ∷ two.groups; place = put two.place c p; turn = turn'; lead = ahead c; done = two.done }) last) (sym piped) (g, two.groups, refl, from_is, by_c, chained1);
             }
 
-        abbrev pub two_joins : Two Q
+        abbrev pub two_joins : Two Q P
         two_joins = record { groups = g ∷ two.groups; place = put two.place c (queued g); turn = two.turn; lead = ahead c; done = two.done }
 
-        abbrev pub two_alone : Two Q
+        abbrev pub two_alone : Two Q P
         two_alone = record { groups = g ∷ two.groups; place = put two.place c (serves g); turn = held_by c; lead = ahead c; done = two.done }
 
         -- behind others
@@ -366,7 +371,7 @@ module _ {Q P L M : Type 0} (stands : Laws Q P L M) (n : ℕ) where
         second_behind nonzero =
             let un : two.turn ≡ still → ⊥ = λ e. let t = subst (InTurn stands n words homes phase two) e r.turn_is in nonzero (sym hit ∙ (r.newest_is ∙ ap (λ l. newest (flat l)) t.0)) in
             second_joins (queued g) two.turn homes refl (λ a. a) (λ h e. absurd (cc))
-            (turn_put ws1 homes phase (g ∷ two.groups) two.place two.turn (ahead c) (ahead c) two.done c (queued g) (λ h e. let bad : Path (Place Q) (parted f b) (called h) = sym is_parted ∙ e in absurd (cc)) (λ h e. let bad : Path (Place Q) (parted f b) (serves h) = sym is_parted ∙ e in absurd (cc)) two.turn
+            (turn_put ws1 homes phase (g ∷ two.groups) two.place two.turn (ahead c) (ahead c) two.done c (queued g) (λ h e. let bad : Path (Place Q P) (parted f b) (called h) = sym is_parted ∙ e in absurd (cc)) (λ h e. let bad : Path (Place Q P) (parted f b) (serves h) = sym is_parted ∙ e in absurd (cc)) two.turn
             (turn_grows words ws1 homes phase two.groups two.place two.turn two.lead (ahead c) two.done g (λ j. same1 (state_at j) (λ e. omega arith)) two.turn un r.turn_is))
             r.called_turn
 
@@ -375,23 +380,23 @@ module _ {Q P L M : Type 0} (stands : Laws Q P L M) (n : ℕ) where
         second_alone z =
             let nil : two.groups ≡ [] = none_first two.groups r.within (sym r.newest_is ∙ (hit ∙ z)) in
             let home : RightHome stands n homes two.done = turn_nil words homes phase two nil two.turn r.turn_is in
-            let no_called : (k : ℕ) (h : Squad Q) → two.place k ≡ called h → ⊥ = λ k h e. turn_called words homes phase two nil k (subst (InTurn stands n words homes phase two) (r.called_turn k h e) r.turn_is) in (
-              subst (RightHome stands n homes) (subst (λ (l : List (Squad Q)). Chained two.done l last) nil chained1 ∙ sym from_is) home,
+            let no_called : (k : ℕ) (h : Squad Q P) → two.place k ≡ called h → ⊥ = λ k h e. turn_called words homes phase two nil k (subst (InTurn stands n words homes phase two) (r.called_turn k h e) r.turn_is) in (
+              subst (RightHome stands n homes) (subst (λ (l : List (Squad Q P)). Chained two.done l last) nil chained1 ∙ sym from_is) home,
               second_joins (serves g) (held_by c) (set homes (n + 1) none) refl (λ a. a) (λ h e. absurd (cc)) ([], g, ap (λ l. g ∷ l) nil, put_here two.place c (serves g), old_parts.0) (λ k h e. absurd (no_called k h e)),
             )
 
       -- who came first to be alone is called: its leader takes the right
-      abbrev pub two_serves : ℕ → Squad Q → Two Q
+      abbrev pub two_serves : ℕ → Squad Q P → Two Q P
       two_serves c g = record { groups = two.groups; place = put two.place c (serves g); turn = held_by c; lead = two.lead; done = two.done }
 
-      pub second_serves : (c : ℕ) (g : Squad Q) → two.place c ≡ called g → two.lead ≢ ahead c → RightHome stands n homes g.from × Second stands n words (set homes (n + 1) none) phase mode last (two_serves c g)
+      pub second_serves : (c : ℕ) (g : Squad Q P) → two.place c ≡ called g → two.lead ≢ ahead c → RightHome stands n homes g.from × Second stands n words (set homes (n + 1) none) phase mode last (two_serves c g)
       second_serves c g is_called un =
           let turn_c : two.turn ≡ calls c = r.called_turn c g is_called in
           let t = subst (InTurn stands n words homes phase two) turn_c r.turn_is in
           let same : t.0.1 ≡ g = one_called t.0.1 g (sym t.0.3 ∙ is_called) in
-          let first = step_first two.lead two.done last c t.0.0 t.0.1 t.0.4 un (subst (λ (l : List (Squad Q)). InStep two.done l last two.lead) t.0.2 step_of) in
-          let p : Place Q = serves g in (
-            subst (RightHome stands n homes) (first.0 ∙ ap (λ (f : Squad Q). f.from) same) t.1,
+          let first = step_first two.lead two.done last c t.0.0 t.0.1 t.0.4 un (subst (λ (l : List (Squad Q P)). InStep two.done l last two.lead) t.0.2 step_of) in
+          let p : Place Q P = serves g in (
+            subst (RightHome stands n homes) (first.0 ∙ ap (λ (f : Squad Q P). f.from) same) t.1,
             record {
               newest_is = r.newest_is;
               links = r.links;
@@ -400,7 +405,7 @@ module _ {Q P L M : Type 0} (stands : Laws Q P L M) (n : ℕ) where
               members = groups_turn phase two.place c p two.groups (λ f ok. subst (In f) is_called ok) r.members;
               parts = λ k f d. put_at two.place c p (λ j q. q ≡ parted f d → Parts stands n words homes phase j f d) k (λ _ e. absurd (cc)) (λ _ e. r.parts k f d e);
               turn_is = (t.0.0, t.0.1, t.0.2, put_here two.place c p ∙ ap serves (sym same), t.0.4);
-              in_front = λ k h. put_at two.place c p (λ j q. InFront j mode → q ≡ away) k (λ is h'. let hh : InFront c mode = subst (λ (j : ℕ). InFront j mode) is h' in (let bad : Path (Place Q) (called g) away = sym is_called ∙ r.in_front c hh in absurd (cc))) (λ _ h'. r.in_front k h') h;
+              in_front = λ k h. put_at two.place c p (λ j q. InFront j mode → q ≡ away) k (λ is h'. let hh : InFront c mode = subst (λ (j : ℕ). InFront j mode) is h' in (let bad : Path (Place Q P) (called g) away = sym is_called ∙ r.in_front c hh in absurd (cc))) (λ _ h'. r.in_front k h') h;
               quiet = λ k h. put_at two.place c p (λ j q. Apart q → get_or words (state_at j) 0 ≢ 4) k (λ _ a. absurd a) (λ _ a. r.quiet k h a);
               quiet_queued = λ k f. put_at two.place c p (λ j q. q ≡ queued f → get_or words (state_at j) 0 ≢ 4) k (λ _ e. absurd (cc)) (λ _ e. r.quiet_queued k f e);
               called_turn = λ k f. put_at two.place c p (λ j q. q ≡ called f → held_by c ≡ calls j) k (λ _ e. absurd (cc)) (λ ne e. absurd (ne (one_calls k c (sym (r.called_turn k f e) ∙ turn_c))));
@@ -410,21 +415,29 @@ module _ {Q P L M : Type 0} (stands : Laws Q P L M) (n : ℕ) where
           )
 
       -- nobody came after the group: its leader gives the right back
-      abbrev pub two_stops : ℕ → Squad Q → Two Q
+      abbrev pub two_stops : ℕ → Squad Q P → Two Q P
       two_stops c g = record { groups = []; place = put two.place c away; turn = still; lead = two.lead; done = g.to }
 
-      pub second_stops : (c : ℕ) (g : Squad Q) (m : M) → two.turn ≡ held_by c → two.place c ≡ serves g → two.lead ≢ ahead c → (Holds c mode → ⊥) → get_or words 1 0 ≡ newest (line_of g) → stands.rights m g.to → length words ≡ 2 * n + 4 → length homes ≡ n + 2
+      pub one_group : (c : ℕ) (g : Squad Q P) → two.turn ≡ held_by c → two.place c ≡ serves g → get_or words 1 0 ≡ newest (line_of g) → two.groups ≡ g ∷ []
+      one_group c g turn_c is_serves hit =
+          let t = subst (InTurn stands n words homes phase two) turn_c r.turn_is in
+          let same : t.1 ≡ g = one_serves t.1 g (sym t.3 ∙ is_serves) in
+          let split : flat two.groups ≡ flat t.0 ++ line_of g = ap flat t.2 ∙ (flat_snoc t.0 t.1 ∙ ap (λ (f : Squad Q P). flat t.0 ++ line_of f) same) in
+          let nil : t.0 ≡ [] = flat_nil t.0 (none_before_group (flat t.0) g.rest g.own (subst Distinct split r.distinct) (ap newest (sym split) ∙ (sym r.newest_is ∙ hit))) in
+          t.2 ∙ (λ i. nil i ++ same i ∷ [])
+
+      pub second_stops : (c : ℕ) (g : Squad Q P) (m : M) → two.turn ≡ held_by c → two.place c ≡ serves g → two.lead ≢ ahead c → (Holds c mode → ⊥) → get_or words 1 0 ≡ newest (line_of g) → stands.rights m g.to → length words ≡ 2 * n + 4 → length homes ≡ n + 2
           → Second stands n (set words 1 0) (set homes (n + 1) (some (Right m))) phase mode last (two_stops c g)
       second_stops c g m turn_c is_serves un un_holds hit stood wide many =
           let t = subst (InTurn stands n words homes phase two) turn_c r.turn_is in
           let same : t.1 ≡ g = one_serves t.1 g (sym t.3 ∙ is_serves) in
-          let split : flat two.groups ≡ flat t.0 ++ line_of g = ap flat t.2 ∙ (flat_snoc t.0 t.1 ∙ ap (λ (f : Squad Q). flat t.0 ++ line_of f) same) in
+          let split : flat two.groups ≡ flat t.0 ++ line_of g = ap flat t.2 ∙ (flat_snoc t.0 t.1 ∙ ap (λ (f : Squad Q P). flat t.0 ++ line_of f) same) in
           let nil : t.0 ≡ [] = flat_nil t.0 (none_before_group (flat t.0) g.rest g.own (subst Distinct split r.distinct) (ap newest (sym split) ∙ (sym r.newest_is ∙ hit))) in
-          let first = step_first two.lead two.done last c t.0 t.1 t.4 un (subst (λ (l : List (Squad Q)). InStep two.done l last two.lead) t.2 step_of) in
+          let first = step_first two.lead two.done last c t.0 t.1 t.4 un (subst (λ (l : List (Squad Q P)). InStep two.done l last two.lead) t.2 step_of) in
           let ws : List ℕ = set words 1 0 in
           let same1 : (j : ℕ) → j ≢ 1 → get_or ws j 0 ≡ get_or words j 0 = λ j ne. get_or-set_other words 1 j 0 0 (λ e. ne (omega arith)) in
           let state : (j : ℕ) → get_or ws (state_at j) 0 ≡ get_or words (state_at j) 0 = λ j. same1 (state_at j) (λ e. omega arith) in
-          let p : Place Q = away in
+          let p : Place Q P = away in
           record {
             newest_is = get_or-set_same words 1 0 0 (omega arith);
             links = tt;
@@ -433,44 +446,44 @@ module _ {Q P L M : Type 0} (stands : Laws Q P L M) (n : ℕ) where
             members = tt;
             parts = λ k f d. put_at two.place c p (λ j q. q ≡ parted f d → Parts stands n ws homes phase j f d) k (λ _ e. absurd (cc)) (λ _ e. let q = r.parts k f d e in (q.0, q.1, q.2, links_same d words ws (line_of f) (λ j. same1 (older_at j) (λ e'. omega arith)) q.3, q.4, q.5));
             turn_is = (refl, (m, set_here homes (n + 1) (some (Right m)) (omega arith), stood));
-            in_front = λ k h. put_at two.place c p (λ j q. InFront j mode → q ≡ away) k (λ is h'. let hh : InFront c mode = subst (λ (j : ℕ). InFront j mode) is h' in (let bad : Path (Place Q) (serves g) away = sym is_serves ∙ r.in_front c hh in absurd (cc))) (λ _ h'. r.in_front k h') h;
+            in_front = λ k h. put_at two.place c p (λ j q. InFront j mode → q ≡ away) k (λ is h'. let hh : InFront c mode = subst (λ (j : ℕ). InFront j mode) is h' in (let bad : Path (Place Q P) (serves g) away = sym is_serves ∙ r.in_front c hh in absurd (cc))) (λ _ h'. r.in_front k h') h;
             quiet = λ k h. put_at two.place c p (λ j q. Holds j mode → Apart q → get_or ws (state_at j) 0 ≢ 4) k (λ is h' _. absurd (un_holds (subst (λ (j : ℕ). Holds j mode) is h'))) (λ _ h' a e. r.quiet k h' a (sym (state k) ∙ e)) h;
             quiet_queued = λ k f. put_at two.place c p (λ j q. q ≡ queued f → get_or ws (state_at j) 0 ≢ 4) k (λ _ e. absurd (cc)) (λ _ e e'. r.quiet_queued k f e (sym (state k) ∙ e'));
             called_turn = λ k f. put_at two.place c p (λ j q. q ≡ called f → still ≡ calls j) k (λ _ e. absurd (cc)) (λ _ e. let bad : held_by c ≡ calls k = sym turn_c ∙ r.called_turn k f e in absurd (cc));
             ahead_holds = r.ahead_holds;
-            in_level = subst (λ (z : Bool). Level stands z (two_stops c g) last) (sym piped) (subst (λ (z : ℕ × List (Squad Q)). InStep z.0 z.1 last two.lead) (λ i. ((same i).to, nil i)) first.1);
+            in_level = subst (λ (z : Bool). Level stands z (two_stops c g) last) (sym piped) (subst (λ (z : List (Handling Q P) × List (Squad Q P)). InStep z.0 z.1 last two.lead) (λ i. ((same i).to, nil i)) first.1);
           }
 
       -- somebody came: the link of the next group's leader is cleared
-      abbrev pub two_clears : ℕ → Squad Q → ℕ → List (Squad Q) → Two Q
+      abbrev pub two_clears : ℕ → Squad Q P → ℕ → List (Squad Q P) → Two Q P
       two_clears c g w newer = record { groups = newer; place = put two.place c away; turn = passes c w; lead = two.lead; done = g.to }
 
-      pub second_clears : (c v : ℕ) (g : Squad Q) (q : List (Entry Q)) (x : Entry Q) → two.turn ≡ held_by c → two.place c ≡ serves g → two.lead ≢ ahead c → (Holds c mode → ⊥) → flat two.groups ≡ q ++ x ∷ line_of g → v ≡ pack 0 x.code → length words ≡ 2 * n + 4
-          → (newer : List (Squad Q)) × (0 < x.by) × (x.by ≤ n) × (phase x.by ≡ leads x) × (two.place x.by ≢ away) × Second stands n (set words (older_at x.by) v) homes phase mode last (two_clears c g x.by newer)
+      pub second_clears : (c v : ℕ) (g : Squad Q P) (q : List (Entry Q)) (x : Entry Q) → two.turn ≡ held_by c → two.place c ≡ serves g → two.lead ≢ ahead c → (Holds c mode → ⊥) → flat two.groups ≡ q ++ x ∷ line_of g → v ≡ pack 0 x.code → length words ≡ 2 * n + 4
+          → (newer : List (Squad Q P)) × (0 < x.by) × (x.by ≤ n) × (phase x.by ≡ leads x) × (two.place x.by ≢ away) × Second stands n (set words (older_at x.by) v) homes phase mode last (two_clears c g x.by newer) × (two.groups ≡ newer ++ g ∷ [])
       second_clears c v g q x turn_c is_serves un un_holds walk is_v wide =
           let t = subst (InTurn stands n words homes phase two) turn_c r.turn_is in
-          let newer : List (Squad Q) = t.0 in
+          let newer : List (Squad Q P) = t.0 in
           let same : t.1 ≡ g = one_serves t.1 g (sym t.3 ∙ is_serves) in
-          let split : flat two.groups ≡ flat newer ++ line_of g = ap flat t.2 ∙ (flat_snoc newer t.1 ∙ ap (λ (f : Squad Q). flat newer ++ line_of f) same) in
+          let split : flat two.groups ≡ flat newer ++ line_of g = ap flat t.2 ∙ (flat_snoc newer t.1 ∙ ap (λ (f : Squad Q P). flat newer ++ line_of f) same) in
           let flat_is : flat newer ≡ q ++ x ∷ [] = append_cancel_right (flat newer) (q ++ x ∷ []) (line_of g) (sym split ∙ (walk ∙ sym (append_assoc q (x ∷ []) (line_of g)))) in
-          let next : (nw : List (Squad Q)) × (g2 : Squad Q) × (newer ≡ nw ++ g2 ∷ []) = ⊎_elim (λ (e : newer ≡ []). absurd (not_snoc q x (sym flat_is ∙ ap flat e))) (λ (k : (nw : List (Squad Q)) × (g2 : Squad Q) × (newer ≡ nw ++ g2 ∷ [])). k) (ends_or newer) in
-          let g2 : Squad Q = next.1 in
+          let next : (nw : List (Squad Q P)) × (g2 : Squad Q P) × (newer ≡ nw ++ g2 ∷ []) = ⊎_elim (λ (e : newer ≡ []). absurd (not_snoc q x (sym flat_is ∙ ap flat e))) (λ (k : (nw : List (Squad Q P)) × (g2 : Squad Q P) × (newer ≡ nw ++ g2 ∷ [])). k) (ends_or newer) in
+          let g2 : Squad Q P = next.1 in
           let own_x : g2.own ≡ x = same_last (flat next.0 ++ g2.rest) q g2.own x (append_assoc (flat next.0) g2.rest (g2.own ∷ []) ∙ (sym (flat_snoc next.0 g2) ∙ (ap flat (sym next.2) ∙ flat_is))) in
           let members_newer : AllGroups phase two.place newer = groups_newer phase two.place newer t.1 (subst (AllGroups phase two.place) t.2 r.members) in
           let at2 = groups_at phase two.place next.0 g2 (subst (AllGroups phase two.place) next.2 members_newer) in
           let now_x : phase x.by ≡ leads x = subst (λ (e : Entry Q). phase e.by ≡ leads e) own_x at2.0 in
           let whole : Distinct (flat newer ++ line_of g) = subst Distinct split r.distinct in
-          let out_c : Absent c (flat newer) = subst (λ (j : ℕ). Absent j (flat newer)) (ap (λ (f : Squad Q). f.own.by) (sym same) ∙ t.4) (absent_front g.own.by (flat newer) g.rest (distinct_apart (flat newer ++ g.rest) g.own [] (subst Distinct (sym (append_assoc (flat newer) g.rest (g.own ∷ []))) whole))) in
+          let out_c : Absent c (flat newer) = subst (λ (j : ℕ). Absent j (flat newer)) (ap (λ (f : Squad Q P). f.own.by) (sym same) ∙ t.4) (absent_front g.own.by (flat newer) g.rest (distinct_apart (flat newer ++ g.rest) g.own [] (subst Distinct (sym (append_assoc (flat newer) g.rest (g.own ∷ []))) whole))) in
           let out_x : Absent x.by q = distinct_apart q x (line_of g) (subst Distinct walk r.distinct) in
           let range = within_at n q x (line_of g) (subst (Within n) walk r.within) in
-          let first = step_first two.lead two.done last c newer t.1 t.4 un (subst (λ (l : List (Squad Q)). InStep two.done l last two.lead) t.2 step_of) in
+          let first = step_first two.lead two.done last c newer t.1 t.4 un (subst (λ (l : List (Squad Q P)). InStep two.done l last two.lead) t.2 step_of) in
           let lo : 0 < x.by = range.0 in
           let hi : x.by ≤ n = range.1 in
           let ws : List ℕ = set words (older_at x.by) v in
           let samew : (j : ℕ) → j ≢ older_at x.by → get_or ws j 0 ≡ get_or words j 0 = λ j ne. get_or-set_other words (older_at x.by) j v 0 (λ e. ne (omega arith)) in
           let older : (j : ℕ) → j ≢ x.by → get_or ws (older_at j) 0 ≡ get_or words (older_at j) 0 = λ j ne. samew (older_at j) (λ e. ne (omega arith)) in
           let state : (j : ℕ) → get_or ws (state_at j) 0 ≡ get_or words (state_at j) 0 = λ j. samew (state_at j) (λ e. omega arith) in
-          let p : Place Q = away in (
+          let p : Place Q P = away in (
             newer,
             lo,
             hi,
@@ -492,24 +505,25 @@ module _ {Q P L M : Type 0} (stands : Laws Q P L M) (n : ℕ) where
                 z.5,
               ));
               turn_is = (next.0, g2, next.2, ap (λ (y : Entry Q). y.by) own_x);
-              in_front = λ k h. put_at two.place c p (λ j q. InFront j mode → q ≡ away) k (λ is h'. let hh : InFront c mode = subst (λ (j : ℕ). InFront j mode) is h' in (let bad : Path (Place Q) (serves g) away = sym is_serves ∙ r.in_front c hh in absurd (cc))) (λ _ h'. r.in_front k h') h;
+              in_front = λ k h. put_at two.place c p (λ j q. InFront j mode → q ≡ away) k (λ is h'. let hh : InFront c mode = subst (λ (j : ℕ). InFront j mode) is h' in (let bad : Path (Place Q P) (serves g) away = sym is_serves ∙ r.in_front c hh in absurd (cc))) (λ _ h'. r.in_front k h') h;
               quiet = λ k h. put_at two.place c p (λ j z. Holds j mode → Apart z → get_or ws (state_at j) 0 ≢ 4) k (λ is h' _. absurd (un_holds (subst (λ (j : ℕ). Holds j mode) is h'))) (λ _ h' a e. r.quiet k h' a (sym (state k) ∙ e)) h;
               quiet_queued = λ k f. put_at two.place c p (λ j z. z ≡ queued f → get_or ws (state_at j) 0 ≢ 4) k (λ _ e. absurd (cc)) (λ _ e e'. r.quiet_queued k f e (sym (state k) ∙ e'));
               called_turn = λ k f. put_at two.place c p (λ j z. z ≡ called f → passes c x.by ≡ calls j) k (λ _ e. absurd (cc)) (λ _ e. let bad : held_by c ≡ calls k = sym turn_c ∙ r.called_turn k f e in absurd (cc));
               ahead_holds = r.ahead_holds;
-              in_level = subst (λ (z : Bool). Level stands z (two_clears c g x.by newer) last) (sym piped) (subst (λ (z : ℕ). InStep z newer last two.lead) (ap (λ (f : Squad Q). f.to) same) first.1);
+              in_level = subst (λ (z : Bool). Level stands z (two_clears c g x.by newer) last) (sym piped) (subst (λ (z : List (Handling Q P)). InStep z newer last two.lead) (ap (λ (f : Squad Q P). f.to) same) first.1);
             },
+            t.2 ∙ ap (λ (f : Squad Q P). newer ++ f ∷ []) same,
           )
 
     -- the next leader is told, and the right goes home for it
-    abbrev pub two_calls : ℕ → Squad Q → Two Q
+    abbrev pub two_calls : ℕ → Squad Q P → Two Q P
     two_calls w g = record { groups = two.groups; place = put two.place w (called g); turn = calls w; lead = two.lead; done = two.done }
 
     pub second_calls : (c w : ℕ) (m : M) → two.turn ≡ passes c w → stands.rights m two.done → length words ≡ 2 * n + 4 → length homes ≡ n + 2
-        → (g : Squad Q) × In g (two.place w) × (0 < w) × (w ≤ n) × (phase w ≡ leads g.own) × Second stands n (set words (state_at w) 4) (set homes (n + 1) (some (Right m))) phase mode last (two_calls w g)
+        → (g : Squad Q P) × In g (two.place w) × (0 < w) × (w ≤ n) × (phase w ≡ leads g.own) × Second stands n (set words (state_at w) 4) (set homes (n + 1) (some (Right m))) phase mode last (two_calls w g)
     second_calls c w m turn_c stood wide many =
         let t = subst (InTurn stands n words homes phase two) turn_c r.turn_is in
-        let g : Squad Q = t.1 in
+        let g : Squad Q P = t.1 in
         let at = groups_at phase two.place t.0 g (subst (AllGroups phase two.place) t.2 r.members) in
         let is_in : In g (two.place w) = subst (λ (j : ℕ). In g (two.place j)) t.3 at.1 in
         let parts_flat : flat two.groups ≡ (flat t.0 ++ g.rest) ++ g.own ∷ [] = ap flat t.2 ∙ (flat_snoc t.0 g ∙ sym (append_assoc (flat t.0) g.rest (g.own ∷ []))) in
@@ -520,7 +534,7 @@ module _ {Q P L M : Type 0} (stands : Laws Q P L M) (n : ℕ) where
         let same : (j : ℕ) → j ≢ state_at w → get_or ws j 0 ≡ get_or words j 0 = λ j ne. get_or-set_other words (state_at w) j 4 0 (λ e. ne (omega arith)) in
         let older : (j : ℕ) → get_or ws (older_at j) 0 ≡ get_or words (older_at j) 0 = λ j. same (older_at j) (λ e. omega arith) in
         let state : (j : ℕ) → j ≢ w → get_or ws (state_at j) 0 ≡ get_or words (state_at j) 0 = λ j ne. same (state_at j) (λ e. ne (omega arith)) in
-        let p : Place Q = called g in (
+        let p : Place Q P = called g in (
           g,
           is_in,
           lo,
@@ -544,15 +558,15 @@ module _ {Q P L M : Type 0} (stands : Laws Q P L M) (n : ℕ) where
         )
 
     -- the log goes on, behind the group's numbers
-    abbrev pub two_level : Two Q
+    abbrev pub two_level : Two Q P
     two_level = record { groups = two.groups; place = two.place; turn = two.turn; lead = level; done = two.done }
 
-    pub second_hands : (c last' : ℕ) (g : Squad Q) → stands.piped ≡ true → two.lead ≡ ahead c → In g (two.place c) → g.to ≡ last' → Second stands n words homes phase mode last' two_level
+    pub second_hands : (c : ℕ) (last' : List (Handling Q P)) (g : Squad Q P) → stands.piped ≡ true → two.lead ≡ ahead c → In g (two.place c) → g.to ≡ last' → Second stands n words homes phase mode last' two_level
     second_hands c last' g piped is_ahead is_in to_is =
         let s : InStep two.done two.groups last (ahead c) = subst (InStep two.done two.groups last) is_ahead (subst (λ (b : Bool). Level stands b two last) piped r.in_level) in
         let head : AllGroups phase two.place (s.0 ∷ s.1) = subst (AllGroups phase two.place) s.2 r.members in
         let same : s.0 ≡ g = in_one s.0 g (two.place c) (subst (λ (j : ℕ). In s.0 (two.place j)) s.4 head.1) is_in in
-        let chain : Chained two.done (s.0 ∷ s.1) last' = (ap (λ (f : Squad Q). f.to) same ∙ to_is, subst (λ (k : ℕ). Chained two.done s.1 k) (sym s.3) s.5) in
+        let chain : Chained two.done (s.0 ∷ s.1) last' = (ap (λ (f : Squad Q P). f.to) same ∙ to_is, subst (λ (k : List (Handling Q P)). Chained two.done s.1 k) (sym s.3) s.5) in
         record {
           newest_is = r.newest_is;
           links = r.links;
@@ -566,5 +580,5 @@ module _ {Q P L M : Type 0} (stands : Laws Q P L M) (n : ℕ) where
           quiet_queued = r.quiet_queued;
           called_turn = r.called_turn;
           ahead_holds = λ k e. absurd (cc);
-          in_level = subst (λ (z : Bool). Level stands z two_level last') (sym piped) (subst (λ (l : List (Squad Q)). Chained two.done l last') (sym s.2) chain);
+          in_level = subst (λ (z : Bool). Level stands z two_level last') (sym piped) (subst (λ (l : List (Squad Q P)). Chained two.done l last') (sym s.2) chain);
         }

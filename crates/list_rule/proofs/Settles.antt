@@ -14,7 +14,7 @@ use Rattle.list_rule.specs.declared.view.Debt.{Debt}
 use Rattle.list_rule.specs.declared.view.Hold.{Hold}
 use Rattle.list_rule.specs.declared.view.Back.{Back}
 use Rattle.list_rule.specs.declared.view.Back.TheVariants.{Away}
-use Rattle.list_rule.proofs.Onward.{one_hold_at, taken_with, links_back, within_back, cut_two, cut_back, cut_else, cut_second, Hands, onward_two, second_onward, onward_free, onward_back, onward_else}
+use Rattle.list_rule.proofs.Onward.{one_hold_at, taken_with, links_back, within_back, cut_two, cut_back, cut_else, cut_second, Hands, onward_two, second_onward, onward_free, onward_back, onward_else, is_cut_as, onward_second, is_ahead}
 use Rattle.list_rule.specs.declared.content.Content.{Content}
 use Rattle.list_rule.specs.declared.content.Content.TheVariants.{Empty, Told, Log}
 use Rattle.list_rule.specs.declared.view.Stage.{Stage}
@@ -24,7 +24,8 @@ use Rattle.list_rule.specs.Standing.{Phase, idle, linked, chosen, leads, taken, 
 use Rattle.list_rule.specs.Laws.{Laws}
 use Rattle.list_rule.specs.Rule.{InChain, Stand, Waits, AllLinked, AllTaken, AllOwed, Knows, hold, InPhase, InMode, Listed, InSecond, hold_at, HasCut, untold}
 use Rattle.list_rule.specs.Events.{Core, grouped, without}
-use Rattle.list_rule.specs.Steps.{Stays, IsExit, IsNow, StepIs, IsComplete}
+use Rattle.list_rule.specs.SecondList.{second_list_of}
+use Rattle.list_rule.specs.Steps.{Lists, Stays, IsExit, IsNext, IsCutAs, IsNow, StepIs, IsComplete}
 use Rattle.list_rule.specs.Plays.{Sat, At, in_hand, debt, slots_of, told_one, retired, cut_as, cut_off, woken_on, AtWith, after_cut, onward}
 use Rattle.list_rule.proofs.Chains.{put, put_at, put_here, put_else, links_stay, links_same, ends_same, stand_change, linked_change, taken_change, taken_apart, owed_change}
 use Rattle.list_rule.proofs.Exits.{group_handled, owing_stays, owing_grows, owing_told, cut_stays}
@@ -110,7 +111,7 @@ module _ {Q P L M : Type 0} (stands : Laws Q P L M) (n : ℕ) where
       let out : Absent m r.line = handled_out s.homes r.line r.hand r.handled r.phase r.due m (g.0.asked, g.1) owed (λ e bad. absurd (cc)) (λ e bad. absurd (cc)) r.mode r.log_is in
       let other : c ≢ m = λ e. let bad : r.phase m ≡ leads o = ap r.phase (sym e) ∙ leads_c in absurd (cc) in
       let acc = completes_now r.line r.handled r.mode r.account (handling g.0 g.1) (r.owing_is m ∙ (ap (λ f. untold f (r.due m)) now ∙ owed)) in
-      let now_is : Core Q P = (acc.0.queue, acc.0.log, r.handled, acc.0.owing) in
+      let now_is : Lists Q P = ((acc.0.queue, acc.0.log, r.handled, acc.0.owing), second_list_of r.two) in
       let after : IsNow stands n now_is (record { words = ws; homes = hs; views = set s.views id (h' ∷ []) }) =
       moved stands n s r m id ws hs h h' r.line r.hand r.handled r.mode ph r.due r.told r.two record {
         at = at';
@@ -132,7 +133,7 @@ module _ {Q P L M : Type 0} (stands : Laws Q P L M) (n : ℕ) where
         account = acc.0;
         has_cut = cut_stays r.account.log acc.0.log r.hand r.phase m ph (ap (λ (y : Core Q P). y.1) acc.1.1) r.mode (λ _ e bad. absurd (cc)) r.has_cut;
         owing_is = owing_told r.phase r.due r.account.owing r.owing_is acc.0.owing r.due m ph (ap (λ (y : Core Q P). y.3) acc.1.1) refl (λ _ _. refl);
-        second = second_row stands n s.words ws s.homes hs r.phase m ph r.mode (stands.last r.handled) r.two (λ there. subst (InSecond r.two.place m) now there fit.5.0) (same 1 (λ e. omega arith)) (λ j _. same (older_at j) (λ e. omega arith)) (λ j ne. same (state_at j) (λ e. ne (omega arith))) (λ four. let told16 : get_or ws (state_at m) 0 ≡ 16 = ap (λ (i : ℕ). get_or ws i 0) (sym is) ∙ get_or-set_same s.words k 16 0 (omega arith) in absurd (omega arith)) (set_else s.homes m (n + 1) (some (Told g.1)) (λ e. omega arith)) r.second;
+        second = second_row stands n s.words ws s.homes hs r.phase m ph r.mode (stands.given r.handled) r.two (λ there. subst (InSecond r.two.place m) now there fit.5.0) (same 1 (λ e. omega arith)) (λ j _. same (older_at j) (λ e. omega arith)) (λ j ne. same (state_at j) (λ e. ne (omega arith))) (λ four. let told16 : get_or ws (state_at m) 0 ≡ 16 = ap (λ (i : ℕ). get_or ws i 0) (sym is) ∙ get_or-set_same s.words k 16 0 (omega arith) in absurd (omega arith)) (set_else s.homes m (n + 1) (some (Told g.1)) (λ e. omega arith)) r.second;
         back = fit.5;
         else_back = λ _ _ _ ok. ok;
         shared_out = r.shared_out;
@@ -148,7 +149,7 @@ module _ {Q P L M : Type 0} (stands : Laws Q P L M) (n : ℕ) where
         h' ∷ [],
         gives,
         tt,
-        (now_is, acc.1, subst (λ (l : List (ℕ × Content Q P L M)). IsNow stands n now_is (stepped s k 16 id l (h' ∷ []) gives)) (sym slot) after),
+        (now_is, (acc.1, refl), subst (λ (l : List (ℕ × Content Q P L M)). IsNow stands n now_is (stepped s k 16 id l (h' ∷ []) gives)) (sym slot) after),
         λ c' g' gs' o' p' mine' mid'.
             let e = one_hold c c' (Settling (debt (g ∷ gs) o p)) (Settling (debt (g' ∷ gs') o' p')) mine mine' me.0 mid mid' in
             let d = one_debt (debt (g ∷ gs) o p) (debt (g' ∷ gs') o' p') e.1 in
@@ -188,7 +189,7 @@ module _ {Q P L M : Type 0} (stands : Laws Q P L M) (n : ℕ) where
       let shares : r.told c ++ r.due c ≡ told c ++ due c = (λ i. sym fit.3 i ++ owed i) ∙ (sym (append-nil got) ∙ (λ i. sym told_is i ++ sym none_due i)) in
       let by_c : o.by ≡ c = subst (InPhase stands s.words s.homes c (r.due c)) now (r.rows c lo hi) in
       let acc = completes_now r.line r.handled r.mode r.account (handling o p) (ap (λ (j : ℕ). of j r.account.owing) by_c ∙ (r.owing_is c ∙ (ap (λ f. untold f (r.due c)) now ∙ owed))) in
-      let now_is : Core Q P = (acc.0.queue, acc.0.log, r.handled, acc.0.owing) in
+      let now_is : Lists Q P = ((acc.0.queue, acc.0.log, r.handled, acc.0.owing), second_list_of r.two) in
       let after : IsNow stands n now_is (record { words = ws; homes = hs; views = set s.views id (h' ∷ []) }) =
       moved stands n s r c id ws hs h h' r.line r.hand r.handled r.mode ph due told r.two record {
         at = at';
@@ -212,7 +213,7 @@ module _ {Q P L M : Type 0} (stands : Laws Q P L M) (n : ℕ) where
         account = acc.0;
         has_cut = cut_stays r.account.log acc.0.log r.hand r.phase c ph (ap (λ (y : Core Q P). y.1) acc.1.1) r.mode (λ held e bad. absurd (no_log s.homes r.line r.hand r.handled r.phase r.due c (o.asked, p) owed r.mode r.log_is held)) r.has_cut;
         owing_is = owing_told r.phase r.due r.account.owing r.owing_is acc.0.owing due c ph (ap (λ (y : Core Q P). y.3) acc.1.1 ∙ ap (λ (j : ℕ). without j r.account.owing) by_c) none_due due_else;
-        second = second_row stands n s.words ws s.homes hs r.phase c ph r.mode (stands.last r.handled) r.two (λ there. subst (InSecond r.two.place c) now there fit.5.0) (same 1 (λ e. omega arith)) (λ j _. same (older_at j) (λ e. omega arith)) (λ j ne. same (state_at j) (λ e. ne (omega arith))) (λ four. let told16 : get_or ws (state_at c) 0 ≡ 16 = ap (λ (i : ℕ). get_or ws i 0) (sym is) ∙ get_or-set_same s.words k 16 0 (omega arith) in absurd (omega arith)) (set_else s.homes c (n + 1) (some Empty) (λ e. omega arith)) r.second;
+        second = second_row stands n s.words ws s.homes hs r.phase c ph r.mode (stands.given r.handled) r.two (λ there. subst (InSecond r.two.place c) now there fit.5.0) (same 1 (λ e. omega arith)) (λ j _. same (older_at j) (λ e. omega arith)) (λ j ne. same (state_at j) (λ e. ne (omega arith))) (λ four. let told16 : get_or ws (state_at c) 0 ≡ 16 = ap (λ (i : ℕ). get_or ws i 0) (sym is) ∙ get_or-set_same s.words k 16 0 (omega arith) in absurd (omega arith)) (set_else s.homes c (n + 1) (some Empty) (λ e. omega arith)) r.second;
         back = fit.5;
         else_back = λ _ _ _ ok. ok;
         shared_out = λ j. dite (ℕ_discrete j c)
@@ -226,7 +227,7 @@ module _ {Q P L M : Type 0} (stands : Laws Q P L M) (n : ℕ) where
         h' ∷ [],
         gives,
         tt,
-        (now_is, acc.1, subst (λ (l : List (ℕ × Content Q P L M)). IsNow stands n now_is (stepped s k 16 id l (h' ∷ []) gives)) (sym slot) after),
+        (now_is, (acc.1, refl), subst (λ (l : List (ℕ × Content Q P L M)). IsNow stands n now_is (stepped s k 16 id l (h' ∷ []) gives)) (sym slot) after),
         λ c' o' p' mine' mid'.
             let e = one_hold c c' (Settling (debt [] o p)) (Settling (debt [] o' p')) mine mine' me.0 mid mid' in
             let d = one_debt (debt [] o p) (debt [] o' p') e.1 in
@@ -237,8 +238,8 @@ module _ {Q P L M : Type 0} (stands : Laws Q P L M) (n : ℕ) where
       → Allows (Listed stands n) slots id me k (λ _. 16) (λ _. retired (step slots k 16 0 none) me 16)
   retires slots id me c k o p mine mid slot is = allows stands n (λ _. IsComplete o p) slots id me k (λ _. 16) (λ _. retired (step slots k 16 0 none) me 16) (retires_is slots id me c k o p mine mid slot is)
 
-  pub cuts_as_is : (ch : Option ℕ) (slots id : ℕ) (me : Sat Q P L M) (c k new : ℕ) (lead : Lead Q P) (mine : List (Q × P)) (pre : List (Entry Q)) (x : Entry Q) → At c (Leading lead) mine me → lead.walk ≡ pre ++ x ∷ in_hand lead → k ≡ older_at x.by → new ≡ pack 0 x.code → lead.taken ≡ lead.group
-      → StepIs stands n (λ _. Stays) slots id me k (λ _. new) (λ _. cut_as ch (step slots k new 0 none) me new)
+  pub cuts_as_is : (ch : Option (List (Handling Q P))) (slots id : ℕ) (me : Sat Q P L M) (c k new : ℕ) (lead : Lead Q P) (mine : List (Q × P)) (pre : List (Entry Q)) (x : Entry Q) → At c (Leading lead) mine me → lead.walk ≡ pre ++ x ∷ in_hand lead → k ≡ older_at x.by → new ≡ pack 0 x.code → lead.taken ≡ lead.group
+      → StepIs stands n (λ _. IsCutAs ch c lead) slots id me k (λ _. new) (λ _. cut_as ch (step slots k new 0 none) me new)
   cuts_as_is ch slots id me c k new lead mine pre x mid is_walk is_word cleared all s r long at fits =
       let h : Hold Q P = hold c (Leading lead) mine in
       let at' : get_elem? s.views id ≡ some (h ∷ []) = at ∙ ap some mid in
@@ -279,8 +280,8 @@ module _ {Q P L M : Type 0} (stands : Laws Q P L M) (n : ℕ) where
         keeps,
         tt,
         (
-          (acc.0.queue, acc.0.log, r.handled, acc.0.owing),
-          acc.1,
+          ((acc.0.queue, acc.0.log, r.handled, acc.0.owing), second_list_of (cut_two ch r.two c lead)),
+          is_cut_as ch r.two c lead _ _ acc.1 (sym (ap (λ (y : Core Q P). y.1) acc.1) ∙ (acc.2 ∙ ap (grouped lead.own) (sym all))) fit.5.0,
           moved stands n s r c id ws s.homes h h' line r.hand r.handled (cut c x.by) ph r.due r.told (cut_two ch r.two c lead) record {
             at = at';
             same_client = refl;
@@ -307,8 +308,8 @@ module _ {Q P L M : Type 0} (stands : Laws Q P L M) (n : ℕ) where
             account = acc.0;
             has_cut = (lead.own, f.own_by, here, acc.2 ∙ ap (grouped lead.own) (sym all ∙ fit.4.4));
             owing_is = owing_stays r.phase r.due r.account.owing r.owing_is acc.0.owing r.due c ph (ap (λ (y : Core Q P). y.3) acc.1) (ap (λ f. untold f (r.due c)) (sym now)) (λ _ _. refl);
-            second = cut_second stands n ch ws s.homes phase' (cut c x.by) (stands.last r.handled) r.two c lead (
-                second_stays stands n s.words ws s.homes s.homes r.phase phase' r.mode (cut c x.by) (stands.last r.handled) (stands.last r.handled) r.two (same 1 (λ e. omega arith)) (λ j there. (same_older j (λ e. subst (InSecond r.two.place x.by) now_x (subst (λ (i : ℕ). InSecond r.two.place i (r.phase i)) e there)), (λ _ _. same (state_at j) (λ e. omega arith)), put_same r.phase c ph now j)) (λ j e. sym (same (state_at j) (λ e. omega arith)) ∙ e) refl (λ j h. absurd h) (λ j h. inl (subst (Holds j) (sym led_c) h)) (λ j _ h. subst (Holds j) led_c h) (λ v. v) r.second
+            second = cut_second stands n ch ws s.homes phase' (cut c x.by) (stands.given r.handled) r.two c lead (
+                second_stays stands n s.words ws s.homes s.homes r.phase phase' r.mode (cut c x.by) (stands.given r.handled) (stands.given r.handled) r.two (same 1 (λ e. omega arith)) (λ j there. (same_older j (λ e. subst (InSecond r.two.place x.by) now_x (subst (λ (i : ℕ). InSecond r.two.place i (r.phase i)) e there)), (λ _ _. same (state_at j) (λ e. omega arith)), put_same r.phase c ph now j)) (λ j e. sym (same (state_at j) (λ e. omega arith)) ∙ e) refl (λ j h. absurd h) (λ j h. inl (subst (Holds j) (sym led_c) h)) (λ j _ h. subst (Holds j) led_c h) (λ v. v) r.second
                 ) fit.5.0 f.own_by here (taken_with phase' r.due c lead.taken (taken_change r.phase r.due r.due c ph c lead.taken (λ e bad. absurd (cc)) (λ _ _. refl) f.members))
                 (links_stay 0 s.words ws x.by H same_older out_x (links_back s.words (q ++ x ∷ []) H (subst (Links s.words) split (subst (λ b. LinksFrom b s.words r.line) f.base r.links))))
                 (distinct_back (q ++ x ∷ []) H (subst Distinct split r.distinct)) (within_back n (q ++ x ∷ []) H (subst (Within n) split r.within)) (λ h. h);
@@ -340,9 +341,9 @@ module _ {Q P L M : Type 0} (stands : Laws Q P L M) (n : ℕ) where
       → Allows (Listed stands n) slots id me k (λ _. new) (λ _. cut_off (step slots k new 0 none) me new)
   cuts slots id me c k new lead mine pre x mid is_walk is_word cleared all = allows stands n (λ _. Stays) slots id me k (λ _. new) (λ _. cut_off (step slots k new 0 none) me new) (cuts_is slots id me c k new lead mine pre x mid is_walk is_word cleared all)
 
-  pub wakes_on_is : (slots id : ℕ) (me : Sat Q P L M) (c k : ℕ) (lead : Lead Q P) (x : Entry Q) (mine : List (Q × P)) (b : Back Q) (gs : List (Entry Q × P)) (p : P) (l : L) (tail : List (ℕ × Content Q P L M)) → AtWith c (Cutting lead x) mine b me → heads gs ≡ lead.taken
+  pub wakes_on_is : (slots id : ℕ) (me : Sat Q P L M) (c k : ℕ) (lead : Lead Q P) (x : Entry Q) (mine : List (Q × P)) (b : Back Q P) (gs : List (Entry Q × P)) (p : P) (l : L) (tail : List (ℕ × Content Q P L M)) → AtWith c (Cutting lead x) mine b me → heads gs ≡ lead.taken
       → me.1 ≡ (0, Log l) ∷ slots_of gs ((c, Told p) ∷ tail) → k ≡ state_at x.by → (0 < x.by) × (x.by ≤ n) → stands.logs l (lead.seen ++ all_answers lead.own p gs) → Hands stands n b lead.seen (lead.seen ++ all_answers lead.own p gs)
-      → StepIs stands n (λ _. IsExit lead.own p gs) slots id me k (λ _. 2) (λ _. woken_on (step slots k 2 0 none) me 2)
+      → StepIs stands n (λ _. IsNext b lead.own p gs) slots id me k (λ _. 2) (λ _. woken_on (step slots k 2 0 none) me 2)
   wakes_on_is slots id me c k lead x mine b gs p l tail mid group slot is_word range stood unnumbered s r long at fits =
       let h : Hold Q P = hold_at c (Cutting lead x) mine b in
       let at' : get_elem? s.views id ≡ some (h ∷ []) = at ∙ ap some mid in
@@ -380,7 +381,7 @@ module _ {Q P L M : Type 0} (stands : Laws Q P L M) (n : ℕ) where
       let was_cut = subst (HasCut r.account.log r.hand r.phase) cut_c r.has_cut in
       let same_lead : was_cut.0 ≡ lead.own = one_leads was_cut.0 lead.own (sym was_cut.2 ∙ now) in
       let acc = wakes_now r.line r.handled r.mode r.account c x.by lead.own (heads gs) more cut_c (was_cut.3 ∙ (λ i. grouped (same_lead i) (hand_is i))) (group_handled lead.own p gs) in
-      let now_is : Core Q P = (acc.0.queue, acc.0.log, r.handled ++ more, acc.0.owing) in
+      let now_is : Lists Q P = ((acc.0.queue, acc.0.log, r.handled ++ more, acc.0.owing), second_list_of two') in
       let after : IsNow stands n now_is (record { words = ws; homes = hs; views = set s.views id (h' ∷ []) }) =
       moved stands n s r x.by id ws hs h h' r.line [] (r.handled ++ more) (waits x.by) ph owe r.told two' record {
         at = at';
@@ -408,7 +409,7 @@ module _ {Q P L M : Type 0} (stands : Laws Q P L M) (n : ℕ) where
         account = acc.0;
         has_cut = tt;
         owing_is = owing_grows r.phase r.due r.account.owing r.owing_is acc.0.owing more x.by ph (ap (λ (y : Core Q P). y.3) acc.1.1) (λ d. ap (λ f. untold f d) (sym now_x)) (done_none stands n s r c lead.own gs p by_c now members m.2 apart);
-        second = second_stays stands n s.words ws s.homes hs r.phase phase' r.mode (waits x.by) (stands.last (r.handled ++ more)) (stands.last (r.handled ++ more)) two' (same 1 (λ e. omega arith)) (kept_else r.phase two'.place x.by ph s.words ws (λ there. subst (InSecond two'.place x.by) now_x there) (λ j _. same (older_at j) (λ e. omega arith)) (λ j ne. same (state_at j) (λ e. ne (omega arith)))) (λ j four. dite (ℕ_discrete j x.by) (λ e. let two2 : get_or ws (state_at x.by) 0 ≡ 2 = ap (λ (i : ℕ). get_or ws i 0) (sym is_word) ∙ get_or-set_same s.words k 2 0 (omega arith) in let two3 : get_or ws (state_at j) 0 ≡ 2 = ap (λ (i : ℕ). get_or ws (state_at i) 0) e ∙ two2 in absurd (omega arith)) (λ ne. sym (same (state_at j) (λ e. ne (omega arith))) ∙ four)) (set_else s.homes 0 (n + 1) (some (Log l)) (λ e. omega arith)) (λ j h. absurd h) (λ j h. absurd h) (λ j is h. absurd (onward_free stands n b r.two c r.handled (r.handled ++ more) fit.5 hands (is ∙ ap ahead (sym (subst (Holds j) cut_c h))))) (λ v. v) (second_onward stands n b s.words s.homes r.phase r.mode r.two c r.handled (r.handled ++ more) fit.5 hands r.second);
+        second = second_stays stands n s.words ws s.homes hs r.phase phase' r.mode (waits x.by) (stands.given (r.handled ++ more)) (stands.given (r.handled ++ more)) two' (same 1 (λ e. omega arith)) (kept_else r.phase two'.place x.by ph s.words ws (λ there. subst (InSecond two'.place x.by) now_x there) (λ j _. same (older_at j) (λ e. omega arith)) (λ j ne. same (state_at j) (λ e. ne (omega arith)))) (λ j four. dite (ℕ_discrete j x.by) (λ e. let two2 : get_or ws (state_at x.by) 0 ≡ 2 = ap (λ (i : ℕ). get_or ws i 0) (sym is_word) ∙ get_or-set_same s.words k 2 0 (omega arith) in let two3 : get_or ws (state_at j) 0 ≡ 2 = ap (λ (i : ℕ). get_or ws (state_at i) 0) e ∙ two2 in absurd (omega arith)) (λ ne. sym (same (state_at j) (λ e. ne (omega arith))) ∙ four)) (set_else s.homes 0 (n + 1) (some (Log l)) (λ e. omega arith)) (λ j h. absurd h) (λ j h. absurd h) (λ j is h. absurd (onward_free stands n b r.two c r.handled (r.handled ++ more) fit.5 hands (is ∙ ap ahead (sym (subst (Holds j) cut_c h))))) (λ v. v) (second_onward stands n b s.words s.homes r.phase r.mode r.two c r.handled (r.handled ++ more) fit.5 hands r.second);
         back = onward_back stands n b r.two c r.handled (r.handled ++ more) fit.5 hands;
         else_back = onward_else stands n b r.two c fit.5;
         shared_out = shared_more stands n s r c lead.own gs p by_c now members m.2 apart;
@@ -432,7 +433,7 @@ module _ {Q P L M : Type 0} (stands : Laws Q P L M) (n : ℕ) where
         h' ∷ [],
         gives,
         tt,
-        (now_is, acc.1, subst (λ (t : List (ℕ × Content Q P L M)). IsNow stands n now_is (stepped s k 2 id t (h' ∷ []) gives)) (sym slot) after),
+        (now_is, (acc.1, onward_second stands n b r.two, is_ahead stands n b r.two c lead.own.by by_c fit.5), subst (λ (t : List (ℕ × Content Q P L M)). IsNow stands n now_is (stepped s k 2 id t (h' ∷ []) gives)) (sym slot) after),
         λ c' lead' x' mine' b' gs' p' l' tail' mid' group' slot'.
             let e = one_hold_at c c' (Cutting lead x) (Cutting lead' x') mine mine' b b' me.0 mid mid' in
             let le : lead ≡ lead' = ap (lead_in lead) e.1 in
@@ -441,11 +442,13 @@ module _ {Q P L M : Type 0} (stands : Laws Q P L M) (n : ℕ) where
       )
 
   pub wakes_is : (slots id : ℕ) (me : Sat Q P L M) (c k : ℕ) (lead : Lead Q P) (x : Entry Q) (mine : List (Q × P)) (gs : List (Entry Q × P)) (p : P) (l : L) → At c (Cutting lead x) mine me → heads gs ≡ lead.taken
-      → me.1 ≡ (0, Log l) ∷ slots_of gs ((c, Told p) ∷ []) → k ≡ state_at x.by → (0 < x.by) × (x.by ≤ n) → stands.logs l (lead.seen ++ all_answers lead.own p gs) → (stands.piped ≡ true → stands.last (lead.seen ++ all_answers lead.own p gs) ≡ stands.last lead.seen)
+      → me.1 ≡ (0, Log l) ∷ slots_of gs ((c, Told p) ∷ []) → k ≡ state_at x.by → (0 < x.by) × (x.by ≤ n) → stands.logs l (lead.seen ++ all_answers lead.own p gs) → (stands.piped ≡ true → stands.given (lead.seen ++ all_answers lead.own p gs) ≡ stands.given lead.seen)
       → StepIs stands n (λ _. IsExit lead.own p gs) slots id me k (λ _. 2) (λ _. woken_on (step slots k 2 0 none) me 2)
-  wakes_is slots id me c k lead x mine gs p l mid group slot is_word range stood unnumbered = wakes_on_is slots id me c k lead x mine Away gs p l [] mid group slot is_word range stood unnumbered
+  wakes_is slots id me c k lead x mine gs p l mid group slot is_word range stood unnumbered s r long at fits =
+      let t = wakes_on_is slots id me c k lead x mine Away gs p l [] mid group slot is_word range stood unnumbered s r long at fits in
+      (t.0, t.1, t.2, (t.3.0, (t.3.1.0, t.3.1.1), t.3.2), t.4)
 
   pub wakes : (slots id : ℕ) (me : Sat Q P L M) (c k : ℕ) (lead : Lead Q P) (x : Entry Q) (mine : List (Q × P)) (gs : List (Entry Q × P)) (p : P) (l : L) → At c (Cutting lead x) mine me → heads gs ≡ lead.taken
-      → me.1 ≡ (0, Log l) ∷ slots_of gs ((c, Told p) ∷ []) → k ≡ state_at x.by → (0 < x.by) × (x.by ≤ n) → stands.logs l (lead.seen ++ all_answers lead.own p gs) → (stands.piped ≡ true → stands.last (lead.seen ++ all_answers lead.own p gs) ≡ stands.last lead.seen)
+      → me.1 ≡ (0, Log l) ∷ slots_of gs ((c, Told p) ∷ []) → k ≡ state_at x.by → (0 < x.by) × (x.by ≤ n) → stands.logs l (lead.seen ++ all_answers lead.own p gs) → (stands.piped ≡ true → stands.given (lead.seen ++ all_answers lead.own p gs) ≡ stands.given lead.seen)
       → Allows (Listed stands n) slots id me k (λ _. 2) (λ _. woken_on (step slots k 2 0 none) me 2)
   wakes slots id me c k lead x mine gs p l mid group slot is_word range stood unnumbered = allows stands n (λ _. IsExit lead.own p gs) slots id me k (λ _. 2) (λ _. woken_on (step slots k 2 0 none) me 2) (wakes_is slots id me c k lead x mine gs p l mid group slot is_word range stood unnumbered)

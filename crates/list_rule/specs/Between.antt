@@ -1,16 +1,21 @@
 -- What the words and slots show between any two steps.
-use Rattle.std.specs.Prelude.{◌≡◌, ℕ, ◌≤◌, List, length, slice_index}
+use Rattle.std.specs.Prelude.{◌≡◌, true, ℕ, ◌≤◌, List, [], ◌∷◌, ◌++◌, length, slice_index}
 use mathlib.Core.Option.{Option}
 use Rattle.atomic_table.specs.Table.{State}
 use Rattle.list_rule.specs.declared.view.Entry.{Entry}
 use Rattle.list_rule.specs.declared.view.Handling.{Handling}
 use Rattle.list_rule.specs.declared.view.Hold.{Hold}
 use Rattle.list_rule.specs.declared.content.Content.{Content}
-use Rattle.list_rule.specs.Chain.{newest_from, LinksFrom, Distinct, Within}
+use Rattle.list_rule.specs.declared.view.Squad.{Squad}
+use Rattle.list_rule.specs.Chain.{newest_from, Links, LinksFrom, Distinct, Within}
 use Rattle.list_rule.specs.Events.{Event, Held, Legal, core_of}
-use Rattle.list_rule.specs.Standing.{Mode, open_, waits, led, built, cut, marked, base_of}
+use Rattle.list_rule.specs.Standing.{Mode, open_, waits, led, built, cut, marked, base_of, Holds, Turn, still, calls, held_by, passes, Lead2, ahead, flat, InStep}
 use Rattle.list_rule.specs.Laws.{Laws}
-use Rattle.list_rule.specs.Rule.{LogHome, Shows}
+use Rattle.list_rule.specs.Rule.{LogHome, RightHome, Shows}
+
+-- the client leads the oldest group
+abbrev pub IsOldest : {Q P : Type 0} → ℕ → List (Squad Q P) → Type 0
+IsOldest {Q} {P} c groups = (newer : List (Squad Q P)) × (g : Squad Q P) × (groups ≡ newer ++ g ∷ []) × (g.own.by ≡ c)
 
 -- the log is in its slot where nobody leads, and else the leader has it
 module _ {Q P L M : Type 0} (stands : Laws Q P L M) (homes : List (Option (Content Q P L M)))
@@ -22,6 +27,16 @@ module _ {Q P L M : Type 0} (stands : Laws Q P L M) (homes : List (Option (Conte
   LogAtHome (built c group) = Unit {0}
   LogAtHome (cut c next) = Unit {0}
   LogAtHome (marked c) = Unit {0}
+
+-- where the right is: in its slot, and stands for this, where there is no group, or where the oldest group's leader is called
+-- and has yet to take it; and else that leader has it, or the one before it, that has left the list and has yet to call
+module _ {Q P L M : Type 0} (stands : Laws Q P L M) (n : ℕ) (homes : List (Option (Content Q P L M)))
+    (groups : List (Squad Q P)) (done : List (Handling Q P)) where
+  abbrev pub RightAt : Turn → Type 0
+  RightAt still = (groups ≡ []) × RightHome stands n homes done
+  RightAt (calls c) = IsOldest c groups × RightHome stands n homes done
+  RightAt (held_by c) = IsOldest c groups
+  RightAt (passes c next) = IsOldest next groups
 
 module _ {Q P L M : Type 0} (stands : Laws Q P L M) where
   -- the walk from the newest writer, and the events that led here, the latest first: the state after them is the queue,
@@ -44,3 +59,18 @@ module _ {Q P L M : Type 0} (stands : Laws Q P L M) where
     -- the walk is the group in hand and then the queue, until the leader cuts its group off, and then the queue
     pub shows : Shows walk queue log mode
     pub home : LogAtHome stands s.homes handled mode
+    -- the second list: its groups, newest first, and what the right stands for
+    pub groups : List (Squad Q P)
+    pub turn : Turn
+    pub lead : Lead2
+    pub done : List (Handling Q P)
+    pub second_newest : slice_index s.words 1 ≡ newest_from 0 (flat groups)
+    pub second_links : Links s.words (flat groups)
+    pub second_short : length (flat groups) ≤ n
+    pub second_distinct : Distinct (flat groups)
+    pub second_within : Within n (flat groups)
+    pub right : RightAt stands n s.homes groups done turn
+    -- a group is ahead of the log while its leader, whose group is the newest one, has yet to give the log on
+    pub handed : (c : ℕ) → lead ≡ ahead c → Holds c mode
+    -- each group begins with what the one before it ends with, from what the right stands for to all that was given runs
+    pub in_order : stands.piped ≡ true → InStep done groups (stands.given handled) lead

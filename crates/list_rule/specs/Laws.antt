@@ -5,20 +5,19 @@ use Rattle.wp_model.specs.declared.group.Item.{Item}
 use Rattle.list_rule.specs.declared.content.Start.{Start}
 use Rattle.list_rule.specs.Grouping.{code_by}
 use Rattle.list_rule.specs.declared.view.Handling.{Handling}
-use Rattle.list_rule.specs.Chain.{of}
 
--- where there is a second list, nothing between the two gives a number
-abbrev pub Unnumbered : {Q P : Type 0} → Bool → (List (Handling Q P) → ℕ) → List (Handling Q P) → List (Handling Q P)
-    → Type 0
-Unnumbered piped last seen now = piped ≡ true → last now ≡ last seen
+-- where there is a second list, nothing between the two gives a run
+abbrev pub Unnumbered : {Q P : Type 0} → Bool → (List (Handling Q P) → List (Handling Q P)) → List (Handling Q P)
+    → List (Handling Q P) → Type 0
+Unnumbered piped given seen now = piped ≡ true → given now ≡ given seen
 
--- what the log stands for, and the right's number; the last number after what was handled; the right's number at
--- opening; whether there is a second list
+-- what the log stands for, and the right; which of what was handled was given runs, of which alone the right tells;
+-- what the right stands for at opening; whether there is a second list
 pub record Laws (Q P L M : Type 0) : Type 1 where
   pub logs : L → List (Handling Q P) → Type 0
-  pub rights : M → ℕ → Type 0
-  pub last : List (Handling Q P) → ℕ
-  pub opened : ℕ
+  pub rights : M → List (Handling Q P) → Type 0
+  pub given : List (Handling Q P) → List (Handling Q P)
+  pub opened : List (Handling Q P)
   pub piped : Bool
   -- what holds of what was handled, wherever the log is
   pub kept : List (Handling Q P) → Type 0
@@ -42,6 +41,11 @@ last_run run start [] = start
 last_run run start (h ∷ hs) = last_run run
     (cond ((run h.reply).1 == 0) start ((run h.reply).0 + (run h.reply).1 - 1)) hs
 
+-- those of the handled that were given runs
+abbrev pub given_runs : {Q P : Type 0} → (P → ℕ × ℕ) → List (Handling Q P) → List (Handling Q P)
+given_runs run [] = []
+given_runs run (h ∷ hs) = cond ((run h.reply).1 == 0) (given_runs run hs) (h ∷ given_runs run hs)
+
 abbrev pub logs_from : {Q P L : Type 0} → (L → List (Handling Q P) → Type 0) → (List (Handling Q P) → Type 0) → (L → ℕ)
     → (P → ℕ × ℕ) → ℕ → L → List (Handling Q P) → Type 0
 logs_from stands kept number run start l hs = stands l hs × kept hs × (number l ≡ last_run run start hs)
@@ -52,17 +56,23 @@ abbrev pub logs_picked : {Q P L K : Type 0} → (K → L → List (Handling Q P)
 logs_picked stands kept number run start None = λ l hs. Unit {0}
 logs_picked stands kept number run start (Some about) = logs_from (stands about) (kept about) number run start
 
+abbrev pub serves_picked : {Q P M K : Type 0} → (K → M → List (Handling Q P) → Type 0) → Picked K → M
+    → List (Handling Q P) → Type 0
+serves_picked serves None = λ m hs. Unit {0}
+serves_picked serves (Some about) = serves about
+
 abbrev pub kept_picked : {Q P K : Type 0} → (K → List (Handling Q P) → Type 0) → Picked K → List (Handling Q P) → Type 0
 kept_picked kept None = λ hs. Unit {0}
 kept_picked kept (Some about) = kept about
 
 abbrev pub laws : {Q P L M : Type 0} → (Q → ℕ → Type 0) → (L → List (Handling Q P) → Type 0)
-    → (List (Handling Q P) → Type 0) → (L → ℕ) → (P → ℕ × ℕ) → (M → ℕ) → ℕ → ℕ → Bool → Laws Q P L M
-laws asks stands kept number run right_number start right_start piped = record {
+    → (List (Handling Q P) → Type 0) → (L → ℕ) → (P → ℕ × ℕ) → (M → List (Handling Q P) → Type 0) → ℕ → Bool
+    → Laws Q P L M
+laws asks stands kept number run serves start piped = record {
   logs = logs_from stands kept number run start;
-  rights = λ m k. right_number m ≡ k;
-  last = last_run run start;
-  opened = right_start;
+  rights = serves;
+  given = given_runs run;
+  opened = [];
   piped = piped;
   kept = kept;
   keeps = λ l hs h. h.1;
@@ -72,7 +82,7 @@ laws asks stands kept number run right_number start right_start piped = record {
 -- the laws of a list that is opened so
 abbrev pub laws_for : {Q P L M K : Type 0} → (Q → Item) → (K → Q → Type 0) → (K → L → List (Handling Q P) → Type 0)
     → (K → List (Handling Q P) → Type 0)
-    → (L → ℕ) → (P → ℕ × ℕ) → (M → ℕ) → Start K → Laws Q P L M
-laws_for item_of lawful stands kept number run right_number k =
-    laws (asks_for item_of lawful k.about) (stands k.about) (kept k.about) number run right_number k.log k.right
+    → (L → ℕ) → (P → ℕ × ℕ) → (K → M → List (Handling Q P) → Type 0) → Start K → Laws Q P L M
+laws_for item_of lawful stands kept number run serves k =
+    laws (asks_for item_of lawful k.about) (stands k.about) (kept k.about) number run (serves k.about) k.log
     k.pipelined

@@ -47,20 +47,20 @@ taking lead e = record {
 abbrev pub in_hand : {Q P : Type 0} → Lead Q P → List (Entry Q)
 in_hand lead = lead.taken ++ lead.own ∷ []
 
--- a group that is cut off from the first list, for the second one, with the log's number before it
-abbrev pub parting : {Q P : Type 0} → Lead Q P → ℕ → Squad Q
+-- a group that is cut off from the first list, for the second one, with what was given runs before it
+abbrev pub parting : {Q P : Type 0} → Lead Q P → List (Handling Q P) → Squad Q P
 parting lead k = record { own = lead.own; rest = lead.taken; from = k; to = k }
 
-abbrev pub after_cut : {Q P : Type 0} → Option ℕ → Lead Q P → Back Q
+abbrev pub after_cut : {Q P : Type 0} → Option (List (Handling Q P)) → Lead Q P → Back Q P
 after_cut none lead = Away
 after_cut (some k) lead = Parting (parting lead k) 0
 
--- and with the log's number after it
-abbrev pub ending : {Q : Type 0} → Squad Q → ℕ → Squad Q
+-- and with what was given runs after it
+abbrev pub ending : {Q P : Type 0} → Squad Q P → List (Handling Q P) → Squad Q P
 ending g k = record { own = g.own; rest = g.rest; from = g.from; to = k }
 
 -- the leader has given the log on
-abbrev pub onward : {Q : Type 0} → Back Q → Back Q
+abbrev pub onward : {Q P : Type 0} → Back Q P → Back Q P
 onward Away = Away
 onward (Parting g k) = Parting g k
 onward (Joining g) = Queued g
@@ -69,9 +69,9 @@ onward (Queued g) = Queued g
 onward (Serving g walk) = Serving g walk
 onward (Passing g x) = Passing g x
 
--- what a leader needs that gives the log on: a group that is in the second list gives the numbers that it said, one
--- that is not gives none
-abbrev pub HandsOn : {Q P : Type 0} → Bool → (List (Handling Q P) → ℕ) → Back Q → List (Handling Q P)
+-- what a leader needs that gives the log on: a group that is in the second list was given the runs that it said, one
+-- that is not was given none
+abbrev pub HandsOn : {Q P : Type 0} → Bool → (List (Handling Q P) → List (Handling Q P)) → Back Q P → List (Handling Q P)
     → List (Handling Q P) → Type 0
 HandsOn piped last Away seen now = piped ≡ true → last now ≡ last seen
 HandsOn piped last (Parting g d) seen now = ⊥
@@ -111,7 +111,7 @@ module _ {Q P L M : Type 0} where
   At c st mine m = m.0 ≡ hold c st mine ∷ []
 
   -- and its group stands so with respect to the second list
-  abbrev pub AtWith : ℕ → Stage Q P → List (Q × P) → Back Q → Sat Q P L M → Type 0
+  abbrev pub AtWith : ℕ → Stage Q P → List (Q × P) → Back Q P → Sat Q P L M → Type 0
   AtWith c st mine b m = m.0 ≡ hold_at c st mine b ∷ []
 
   -- the client takes its slot, to put a request into it
@@ -204,7 +204,7 @@ module _ {Q P L M : Type 0} where
       → At c Idle (mine ++ (own.asked, p) ∷ []) m' × (m'.1 ≡ rest m.1)
 
   -- the link of the oldest writer behind the group is cleared
-  abbrev pub cut_as : Option ℕ → Step (Content Q P L M) → Sat Q P L M → ℕ → Sat Q P L M → Type 0
+  abbrev pub cut_as : Option (List (Handling Q P)) → Step (Content Q P L M) → Sat Q P L M → ℕ → Sat Q P L M → Type 0
   cut_as ch st m r m' = (c : ℕ) (lead : Lead Q P) (mine : List (Q × P)) (pre : List (Entry Q)) (x : Entry Q)
       → At c (Leading lead) mine m → lead.walk ≡ pre ++ x ∷ in_hand lead → st.word ≡ older_at x.by
       → AtWith c (Cutting lead x) mine (after_cut ch lead) m' × (m'.1 ≡ m.1)
@@ -214,25 +214,25 @@ module _ {Q P L M : Type 0} where
 
   -- that writer has the log now, with all that was handled
   abbrev pub woken_on : Step (Content Q P L M) → Sat Q P L M → ℕ → Sat Q P L M → Type 0
-  woken_on st m r m' = (c : ℕ) (lead : Lead Q P) (x : Entry Q) (mine : List (Q × P)) (b : Back Q)
+  woken_on st m r m' = (c : ℕ) (lead : Lead Q P) (x : Entry Q) (mine : List (Q × P)) (b : Back Q P)
       (gs : List (Entry Q × P)) (p : P) (l : L) (t : List (ℕ × Content Q P L M)) → AtWith c (Cutting lead x) mine b m
       → heads gs ≡ lead.taken → m.1 ≡ (0, Log l) ∷ slots_of gs ((c, Told p) ∷ t)
       → AtWith c (Settling (debt gs lead.own p)) mine (onward b) m' × (m'.1 ≡ slots_of gs ((c, Told p) ∷ t))
 
   -- the marker is put where nobody came after the group
-  abbrev pub marked_off : ℕ → Step (Content Q P L M) → Sat Q P L M → ℕ → Sat Q P L M → Type 0
+  abbrev pub marked_off : List (Handling Q P) → Step (Content Q P L M) → Sat Q P L M → ℕ → Sat Q P L M → Type 0
   marked_off from st m r m' = (c : ℕ) (lead : Lead Q P) (mine : List (Q × P)) → At c (Leading lead) mine m
       → (r ≡ st.first → AtWith c (Marking (walking lead [])) mine (Parting (parting lead from) 0) m' × (m'.1 ≡ m.1))
       × (r ≢ st.first → Walks st.slots c lead mine r m m')
 
   -- the writers behind the marker, from the newest one on
-  abbrev pub WalksMarked : ℕ → ℕ → Lead Q P → List (Q × P) → Back Q → ℕ → Sat Q P L M → Sat Q P L M → Type 0
+  abbrev pub WalksMarked : ℕ → ℕ → Lead Q P → List (Q × P) → Back Q P → ℕ → Sat Q P L M → Sat Q P L M → Type 0
   WalksMarked slots c lead mine b r m m' = (walk : List (Entry Q)) × AtWith c (Marking (walking lead walk)) mine b m'
       × (m'.1 ≡ m.1) × (r ≡ newest_from 255 walk) × (length walk + 1 < slots) × AllBelow slots walk
 
   -- the marker is taken away where nobody came behind it, and the log is given back
   abbrev pub freed : Step (Content Q P L M) → Sat Q P L M → ℕ → Sat Q P L M → Type 0
-  freed st m r m' = (c : ℕ) (lead : Lead Q P) (mine : List (Q × P)) (b : Back Q) (gs : List (Entry Q × P)) (p : P)
+  freed st m r m' = (c : ℕ) (lead : Lead Q P) (mine : List (Q × P)) (b : Back Q P) (gs : List (Entry Q × P)) (p : P)
       (l : L) (t : List (ℕ × Content Q P L M)) → AtWith c (Marking lead) mine b m → heads gs ≡ lead.taken
       → m.1 ≡ (0, Log l) ∷ slots_of gs ((c, Told p) ∷ t)
       → (r ≡ st.first → AtWith c (Settling (debt gs lead.own p)) mine (onward b) m'
@@ -241,25 +241,26 @@ module _ {Q P L M : Type 0} where
   -- a link of the walk behind the marker
   abbrev pub traced_marked : Step (Content Q P L M) → Sat Q P L M → ℕ → Sat Q P L M → Type 0
   traced_marked st m r m' = (m' ≡ m)
-      × ((c : ℕ) (lead : Lead Q P) (mine : List (Q × P)) (b : Back Q) (pre : List (Entry Q)) (x : Entry Q)
+      × ((c : ℕ) (lead : Lead Q P) (mine : List (Q × P)) (b : Back Q P) (pre : List (Entry Q)) (x : Entry Q)
       (post : List (Entry Q)) → AtWith c (Marking lead) mine b m → lead.walk ≡ pre ++ x ∷ post → st.word ≡ older_at x.by
       → r ≡ pack (newest_from 255 post) x.code)
 
   -- the link of the oldest writer behind the marker is cleared
   abbrev pub cut_marked : Step (Content Q P L M) → Sat Q P L M → ℕ → Sat Q P L M → Type 0
-  cut_marked st m r m' = (c : ℕ) (lead : Lead Q P) (mine : List (Q × P)) (b : Back Q) (pre : List (Entry Q))
+  cut_marked st m r m' = (c : ℕ) (lead : Lead Q P) (mine : List (Q × P)) (b : Back Q P) (pre : List (Entry Q))
       (x : Entry Q) → AtWith c (Marking lead) mine b m → lead.walk ≡ pre ++ x ∷ [] → st.word ≡ older_at x.by
       → AtWith c (Cutting lead x) mine b m' × (m'.1 ≡ m.1)
 
   -- the leader of a group that is cut off names the newest writer of the second list
   abbrev pub aimed_second : Step (Content Q P L M) → Sat Q P L M → ℕ → Sat Q P L M → Type 0
-  aimed_second st m r m' = (c : ℕ) (stage : Stage Q P) (mine : List (Q × P)) (g : Squad Q) (b0 b : ℕ)
+  aimed_second st m r m' = (c : ℕ) (stage : Stage Q P) (mine : List (Q × P)) (g : Squad Q P) (b0 b : ℕ)
       → AtWith c stage mine (Parting g b0) m → st.first ≡ pack b g.own.code
       → AtWith c stage mine (Parting g b) m' × (m'.1 ≡ m.1)
 
   -- the group comes into the second list, and its leader takes the right where there was none
-  abbrev pub joined : (M → ℕ → Type 0) → ℕ → Step (Content Q P L M) → Sat Q P L M → ℕ → Sat Q P L M → Type 0
-  joined rights to st m r m' = (c : ℕ) (stage : Stage Q P) (mine : List (Q × P)) (g : Squad Q) (b : ℕ)
+  abbrev pub joined : (M → List (Handling Q P) → Type 0) → List (Handling Q P) → Step (Content Q P L M) → Sat Q P L M → ℕ
+      → Sat Q P L M → Type 0
+  joined rights to st m r m' = (c : ℕ) (stage : Stage Q P) (mine : List (Q × P)) (g : Squad Q P) (b : ℕ)
       → AtWith c stage mine (Parting g b) m
       → (r ≡ st.first → r ≢ 0 → AtWith c stage mine (Joining (ending g to)) m' × (m'.1 ≡ m.1))
       × (r ≡ st.first → r ≡ 0 → (right : M) × (k : ℕ) × rights right g.from
@@ -267,14 +268,14 @@ module _ {Q P L M : Type 0} where
       × (r ≢ st.first → m' ≡ m)
 
   -- a load of the state of a leader whose group is in the second list, behind others at first
-  abbrev pub summoned : (M → ℕ → Type 0) → Step (Content Q P L M) → Sat Q P L M → ℕ → Sat Q P L M → Type 0
-  summoned rights st m r m' = (c : ℕ) (d : Debt Q P) (mine : List (Q × P)) (g : Squad Q)
+  abbrev pub summoned : (M → List (Handling Q P) → Type 0) → Step (Content Q P L M) → Sat Q P L M → ℕ → Sat Q P L M → Type 0
+  summoned rights st m r m' = (c : ℕ) (d : Debt Q P) (mine : List (Q × P)) (g : Squad Q P)
       → AtWith c (Settling d) mine (Queued g) m
       → (r ≡ 4 → (right : M) × (k : ℕ) × rights right g.from × AtWith c (Settling d) mine (Serving g []) m'
       × (m'.1 ≡ (k, Right right) ∷ m.1) × (k + 1 ≡ st.slots)) × (r ≢ 4 → m' ≡ m)
 
   -- the newest writer of the second list, and those from there on
-  abbrev pub WalksSecond : ℕ → ℕ → Debt Q P → List (Q × P) → Squad Q → ℕ → Sat Q P L M → Sat Q P L M → Type 0
+  abbrev pub WalksSecond : ℕ → ℕ → Debt Q P → List (Q × P) → Squad Q P → ℕ → Sat Q P L M → Sat Q P L M → Type 0
   WalksSecond slots c d mine g r m m' = (newer : List (Entry Q))
       × AtWith c (Settling d) mine (Serving g (newer ++ line_of g)) m' × (m'.1 ≡ m.1)
       × (r ≡ newest (newer ++ line_of g)) × (length (newer ++ line_of g) + 1 < slots)
@@ -282,7 +283,7 @@ module _ {Q P L M : Type 0} where
 
   -- the right is given back where no group came after the leader's own
   abbrev pub left_second : Step (Content Q P L M) → Sat Q P L M → ℕ → Sat Q P L M → Type 0
-  left_second st m r m' = (c : ℕ) (d : Debt Q P) (mine : List (Q × P)) (g : Squad Q) (walk : List (Entry Q))
+  left_second st m r m' = (c : ℕ) (d : Debt Q P) (mine : List (Q × P)) (g : Squad Q P) (walk : List (Entry Q))
       → AtWith c (Settling d) mine (Serving g walk) m
       → (r ≡ st.first → At c (Settling d) mine m' × (m'.1 ≡ rest m.1))
       × (r ≢ st.first → WalksSecond st.slots c d mine g r m m')
@@ -290,20 +291,20 @@ module _ {Q P L M : Type 0} where
   -- a link of the walk of the second list
   abbrev pub traced_second : Step (Content Q P L M) → Sat Q P L M → ℕ → Sat Q P L M → Type 0
   traced_second st m r m' = (m' ≡ m)
-      × ((c : ℕ) (stage : Stage Q P) (mine : List (Q × P)) (g : Squad Q) (walk pre : List (Entry Q)) (x : Entry Q)
+      × ((c : ℕ) (stage : Stage Q P) (mine : List (Q × P)) (g : Squad Q P) (walk pre : List (Entry Q)) (x : Entry Q)
       (post : List (Entry Q)) → AtWith c stage mine (Serving g walk) m → walk ≡ pre ++ x ∷ post
       → st.word ≡ older_at x.by → r ≡ pack (newest post) x.code)
 
   -- the link of the next group's leader is cleared
   abbrev pub cleared_second : Step (Content Q P L M) → Sat Q P L M → ℕ → Sat Q P L M → Type 0
-  cleared_second st m r m' = (c : ℕ) (d : Debt Q P) (mine : List (Q × P)) (g : Squad Q) (walk pre : List (Entry Q))
+  cleared_second st m r m' = (c : ℕ) (d : Debt Q P) (mine : List (Q × P)) (g : Squad Q P) (walk pre : List (Entry Q))
       (x : Entry Q) → AtWith c (Settling d) mine (Serving g walk) m → walk ≡ pre ++ x ∷ line_of g
       → st.word ≡ older_at x.by
       → AtWith c (Settling d) mine (Passing g x) m' × (m'.1 ≡ m.1)
 
   -- that leader is told, and has the right
   abbrev pub called_next : Step (Content Q P L M) → Sat Q P L M → ℕ → Sat Q P L M → Type 0
-  called_next st m r m' = (c : ℕ) (stage : Stage Q P) (mine : List (Q × P)) (g : Squad Q) (x : Entry Q)
+  called_next st m r m' = (c : ℕ) (stage : Stage Q P) (mine : List (Q × P)) (g : Squad Q P) (x : Entry Q)
       → AtWith c stage mine (Passing g x) m → At c stage mine m' × (m'.1 ≡ rest m.1)
 
   -- a member is told to work beside its leader

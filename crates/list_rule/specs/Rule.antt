@@ -1,7 +1,7 @@
 -- The rule of the list. Word 0 is the newest writer of the first list, and word 1 that of the second. Client i has word
 -- 2 i + 2, its state, and word 2 i + 3, its link. Slot 0 is the log's, slot i is client i's, and the last one is the
 -- right's.
-use Rattle.std.specs.Prelude.{Bool, true, false, ◌≡◌, ◌≢◌, ℕ, zero, suc, ◌+◌, ◌*◌, ◌-◌, ◌<◌, ◌≤◌, ◌⊎◌, List, [], ◌∷◌, ◌++◌, length, slice_index}
+use Rattle.std.specs.Prelude.{Bool, true, false, ◌≡◌, ◌≢◌, ℕ, zero, suc, ◌+◌, ◌*◌, ◌<◌, ◌≤◌, ◌⊎◌, List, [], ◌∷◌, ◌++◌, length, slice_index}
 use mathlib.Core.Option.{Option, some}
 use lib.ListN.{get_elem?}
 use Rattle.atomic_table.specs.Table.{State}
@@ -20,7 +20,7 @@ use Rattle.list_rule.specs.Chain.{state_at, older_at, newest, newest_from, Links
 use Rattle.list_rule.specs.Standing.{Phase, idle, preparing, linked, chosen, leads, taken, completed, collecting, Mode, open_, waits, led, built, cut, marked, base_of, Holds, InFront, Place, away, parted, queued, called, serves, Turn, still, calls, held_by, passes, ahead, Two, line_of, flat, In, Apart, InStep, KnowsBack}
 use Rattle.list_rule.specs.Laws.{Laws}
 -- cited with the words of the rule by those who make the steps
-pub use Rattle.list_rule.specs.Laws.{Unnumbered, last_run, logs_from, logs_picked, kept_picked, asks_for, asks_picked}
+pub use Rattle.list_rule.specs.Laws.{Unnumbered, given_runs, last_run, logs_from, logs_picked, serves_picked, kept_picked, asks_for, asks_picked}
 
 module _ {Q P : Type 0} where
   -- the writer e stands in the list
@@ -39,7 +39,7 @@ module _ {Q P : Type 0} where
   Stand phase (e ∷ es) = InChain e (phase e.by) × Stand phase es
 
   -- the client's entry is one of a group that has left the first list for the second
-  abbrev pub InSecond : (ℕ → Place Q) → ℕ → Phase Q P → Type 0
+  abbrev pub InSecond : (ℕ → Place Q P) → ℕ → Phase Q P → Type 0
   InSecond place k idle = ⊥
   InSecond place k (preparing w) = ⊥
   InSecond place k (linked e) = ⊥
@@ -54,7 +54,7 @@ module _ {Q P : Type 0} where
   AllWith phase c (e ∷ es) = (phase e.by ≡ taken c e) × AllWith phase c es
 
   -- each group's members are its leader's
-  abbrev pub AllGroups : (ℕ → Phase Q P) → (ℕ → Place Q) → List (Squad Q) → Type 0
+  abbrev pub AllGroups : (ℕ → Phase Q P) → (ℕ → Place Q P) → List (Squad Q P) → Type 0
   AllGroups phase place [] = Unit {0}
   AllGroups phase place (g ∷ gs) = (phase g.own.by ≡ leads g.own) × In g (place g.own.by)
       × AllWith phase g.own.by g.rest × AllGroups phase place gs
@@ -114,7 +114,7 @@ module _ {Q P : Type 0} where
     Knows Collecting = phase c ≡ collecting
 
   module _ (n : ℕ) (line hand : List (Entry Q)) (handled : List (Handling Q P)) (mode : Mode Q) (phase : ℕ
-      → Phase Q P) (due told : ℕ → List (Q × P)) (two : Two Q) (seat : ℕ → ℕ) (j : ℕ) where
+      → Phase Q P) (due told : ℕ → List (Q × P)) (two : Two Q P) (seat : ℕ → ℕ) (j : ℕ) where
     abbrev pub Fits : Hold Q P → Type 0
     Fits h = (seat h.client ≡ j) × (0 < h.client) × (h.client ≤ n) × (h.mine ≡ told h.client)
         × Knows line hand handled mode phase due h.client h.stage × KnowsBack two h.client h.back
@@ -127,7 +127,7 @@ module _ {Q P : Type 0} where
   abbrev pub hold : ℕ → Stage Q P → List (Q × P) → Hold Q P
   hold c st m = record { client = c; stage = st; mine = m; back = Away }
 
-  abbrev pub hold_at : ℕ → Stage Q P → List (Q × P) → Back Q → Hold Q P
+  abbrev pub hold_at : ℕ → Stage Q P → List (Q × P) → Back Q P → Hold Q P
   hold_at c st m b = record { client = c; stage = st; mine = m; back = b }
 
   abbrev pub newcomers : ℕ → List (Hold Q P)
@@ -181,43 +181,43 @@ module _ {Q P L M : Type 0} (stands : Laws Q P L M) where
   abbrev pub LogHome : List (Option (Content Q P L M)) → List (Handling Q P) → Type 0
   LogHome homes handled = (l : L) × (get_elem? homes 0 ≡ some (some (Log l))) × stands.logs l handled
 
-  -- the right is at home, at the last slot, with this number
-  abbrev pub RightHome : ℕ → List (Option (Content Q P L M)) → ℕ → Type 0
-  RightHome n homes k = (r : M) × (get_elem? homes (n + 1) ≡ some (some (Right r))) × stands.rights r k
+  -- the right is at home, at the last slot, and stands for these
+  abbrev pub RightHome : ℕ → List (Option (Content Q P L M)) → List (Handling Q P) → Type 0
+  RightHome n homes hs = (r : M) × (get_elem? homes (n + 1) ≡ some (some (Right r))) × stands.rights r hs
 
-  -- the right's number and the log's go together in a list with a second one, and the right has its first number in
-  -- others
-  abbrev pub Level : Bool → Two Q → ℕ → Type 0
+  -- what the right stands for and what the log does go together in a list with a second one, and the right stands for
+  -- what it did at opening in others
+  abbrev pub Level : Bool → Two Q P → List (Handling Q P) → Type 0
   Level true two last = InStep two.done two.groups last two.lead
   Level false two last = two.done ≡ stands.opened
 
   module _ (n : ℕ) (words : List ℕ) (homes : List (Option (Content Q P L M))) (phase : ℕ → Phase Q P) where
-    abbrev pub InTurn : Two Q → Turn → Type 0
+    abbrev pub InTurn : Two Q P → Turn → Type 0
     InTurn two still = (two.groups ≡ []) × RightHome n homes two.done
-    InTurn two (calls c) = ((newer : List (Squad Q)) × (g : Squad Q) × (two.groups ≡ newer ++ g ∷ [])
+    InTurn two (calls c) = ((newer : List (Squad Q P)) × (g : Squad Q P) × (two.groups ≡ newer ++ g ∷ [])
         × (two.place c ≡ called g) × (g.own.by ≡ c) × (slice_index words (state_at c) ≡ 4)) × RightHome n homes two.done
-    InTurn two (held_by c) = (newer : List (Squad Q)) × (g : Squad Q) × (two.groups ≡ newer ++ g ∷ [])
+    InTurn two (held_by c) = (newer : List (Squad Q P)) × (g : Squad Q P) × (two.groups ≡ newer ++ g ∷ [])
         × (two.place c ≡ serves g) × (g.own.by ≡ c)
-    InTurn two (passes c w) = (newer : List (Squad Q)) × (g : Squad Q) × (two.groups ≡ newer ++ g ∷ []) × (g.own.by ≡ w)
+    InTurn two (passes c w) = (newer : List (Squad Q P)) × (g : Squad Q P) × (two.groups ≡ newer ++ g ∷ []) × (g.own.by ≡ w)
 
     -- a group that is cut off from the first list
-    abbrev pub Parts : ℕ → Squad Q → ℕ → Type 0
+    abbrev pub Parts : ℕ → Squad Q P → ℕ → Type 0
     Parts c g b = (g.own.by ≡ c) × (phase c ≡ leads g.own) × AllWith phase c g.rest × LinksFrom b words (line_of g)
         × Distinct (line_of g) × Within n (line_of g)
 
     -- what the words and slots show of the second list
-    pub record Second (mode : Mode Q) (last : ℕ) (two : Two Q) : Type 0 where
+    pub record Second (mode : Mode Q) (last : List (Handling Q P)) (two : Two Q P) : Type 0 where
       pub newest_is : slice_index words 1 ≡ newest (flat two.groups)
       pub links : Links words (flat two.groups)
       pub distinct : Distinct (flat two.groups)
       pub within : Within n (flat two.groups)
       pub members : AllGroups phase two.place two.groups
-      pub parts : (c : ℕ) (g : Squad Q) (b : ℕ) → two.place c ≡ parted g b → Parts c g b
+      pub parts : (c : ℕ) (g : Squad Q P) (b : ℕ) → two.place c ≡ parted g b → Parts c g b
       pub turn_is : InTurn two two.turn
       pub in_front : (c : ℕ) → InFront c mode → two.place c ≡ away
       pub quiet : (c : ℕ) → Holds c mode → Apart (two.place c) → slice_index words (state_at c) ≢ 4
-      pub quiet_queued : (c : ℕ) (g : Squad Q) → two.place c ≡ queued g → slice_index words (state_at c) ≢ 4
-      pub called_turn : (c : ℕ) (g : Squad Q) → two.place c ≡ called g → two.turn ≡ calls c
+      pub quiet_queued : (c : ℕ) (g : Squad Q P) → two.place c ≡ queued g → slice_index words (state_at c) ≢ 4
+      pub called_turn : (c : ℕ) (g : Squad Q P) → two.place c ≡ called g → two.turn ≡ calls c
       pub ahead_holds : (c : ℕ) → two.lead ≡ ahead c → Holds c mode
       pub in_level : Level stands.piped two last
 
@@ -247,7 +247,7 @@ module _ {Q P L M : Type 0} (stands : Laws Q P L M) where
     -- what was handled for a client and not yet told it, and what it was told
     pub due : ℕ → List (Q × P)
     pub told : ℕ → List (Q × P)
-    pub two : Two Q
+    pub two : Two Q P
     pub seat : ℕ → ℕ
     pub few : n < 255
     pub wide : length s.words ≡ 2 * n + 4
@@ -264,7 +264,7 @@ module _ {Q P L M : Type 0} (stands : Laws Q P L M) where
     pub account : Account line handled mode
     pub has_cut : HasCut account.log hand phase mode
     pub owing_is : (i : ℕ) → of i account.owing ≡ untold (phase i) (due i)
-    pub second : Second n s.words s.homes phase mode (stands.last handled) two
+    pub second : Second n s.words s.homes phase mode (stands.given handled) two
     pub kept : stands.kept handled
     pub coded : (i : ℕ) (e : Entry Q) → InChain e (phase i) → stands.asks e.asked e.code
     pub seats : (j : ℕ) (v : List (Hold Q P)) → get_elem? s.views j ≡ some v

@@ -1,10 +1,11 @@
 -- Where each client stands, who has the log, and where the groups of the second list and its right are.
-use Rattle.std.specs.Prelude.{◌≡◌, ◌≢◌, ℕ, ◌+◌, ◌-◌, List, [], ◌∷◌, ◌++◌}
+use Rattle.std.specs.Prelude.{◌≡◌, ◌≢◌, ℕ, List, [], ◌∷◌, ◌++◌}
 use Rattle.list_rule.specs.declared.view.Entry.{Entry}
+use Rattle.list_rule.specs.declared.view.Handling.{Handling}
 use Rattle.list_rule.specs.declared.view.Squad.{Squad}
 use Rattle.list_rule.specs.declared.view.Back.{Back}
 use Rattle.list_rule.specs.declared.view.Back.TheVariants.{Away, Parting, Joining, Holding, Queued, Serving, Passing}
-use Rattle.list_rule.specs.Chain.{newest, EndsWith, of}
+use Rattle.list_rule.specs.Chain.{EndsWith}
 
 -- where a client stands
 pub data Phase (Q P : Type 0) : Type 0 where
@@ -56,12 +57,12 @@ InFront k (marked c) = ⊥
 
 -- where the group of a leader stands: in no list but the first, cut off from that one with this end of its links,
 -- behind others in the second, first there and told so, or first with the right
-pub data Place (Q : Type 0) : Type 0 where
-  away : Place Q
-  parted : Squad Q → ℕ → Place Q
-  queued : Squad Q → Place Q
-  called : Squad Q → Place Q
-  serves : Squad Q → Place Q
+pub data Place (Q P : Type 0) : Type 0 where
+  away : Place Q P
+  parted : Squad Q P → ℕ → Place Q P
+  queued : Squad Q P → Place Q P
+  called : Squad Q P → Place Q P
+  serves : Squad Q P → Place Q P
 
 -- where the right is: at home with no group, at home for the first group, out with its leader, or with one that has cut
 -- its group off and has yet to wake the next
@@ -76,25 +77,25 @@ pub data Lead2 : Type 0 where
   level : Lead2
   ahead : ℕ → Lead2
 
--- the second list: its groups, newest first, and the right's number
-pub record Two (Q : Type 0) : Type 0 where
-  pub groups : List (Squad Q)
-  pub place : ℕ → Place Q
+-- the second list: its groups, newest first, and what the right stands for
+pub record Two (Q P : Type 0) : Type 0 where
+  pub groups : List (Squad Q P)
+  pub place : ℕ → Place Q P
   pub turn : Turn
   pub lead : Lead2
-  pub done : ℕ
+  pub done : List (Handling Q P)
 
-module _ {Q : Type 0} where
-  abbrev pub line_of : Squad Q → List (Entry Q)
+module _ {Q P : Type 0} where
+  abbrev pub line_of : Squad Q P → List (Entry Q)
   line_of g = g.rest ++ g.own ∷ []
 
   -- the walk from the newest group
-  abbrev pub flat : List (Squad Q) → List (Entry Q)
+  abbrev pub flat : List (Squad Q P) → List (Entry Q)
   flat [] = []
   flat (g ∷ gs) = line_of g ++ flat gs
 
   -- the group is the one in the second list that the place names
-  abbrev pub In : Squad Q → Place Q → Type 0
+  abbrev pub In : Squad Q P → Place Q P → Type 0
   In g away = ⊥
   In g (parted f b) = ⊥
   In g (queued f) = f ≡ g
@@ -102,7 +103,7 @@ module _ {Q : Type 0} where
   In g (serves f) = f ≡ g
 
   -- and has not the right
-  abbrev pub Behind : Squad Q → Place Q → Type 0
+  abbrev pub Behind : Squad Q P → Place Q P → Type 0
   Behind g away = ⊥
   Behind g (parted f b) = ⊥
   Behind g (queued f) = f ≡ g
@@ -110,26 +111,26 @@ module _ {Q : Type 0} where
   Behind g (serves f) = ⊥
 
   -- not yet in the second list, or not any more
-  abbrev pub Apart : Place Q → Type 0
+  abbrev pub Apart : Place Q P → Type 0
   Apart away = Unit {0}
   Apart (parted g b) = Unit {0}
   Apart (queued f) = ⊥
   Apart (called f) = ⊥
   Apart (serves f) = ⊥
 
-  -- each group begins with the number at which the older one ends, the oldest with the right's, and the newest one ends
-  -- with this one
-  abbrev pub Chained : ℕ → List (Squad Q) → ℕ → Type 0
+  -- each group begins with what the older one ends with, the oldest with what the right stands for, and the newest one
+  -- ends with this
+  abbrev pub Chained : List (Handling Q P) → List (Squad Q P) → List (Handling Q P) → Type 0
   Chained done [] last = done ≡ last
   Chained done (g ∷ gs) last = (g.to ≡ last) × Chained done gs g.from
 
-  abbrev pub InStep : ℕ → List (Squad Q) → ℕ → Lead2 → Type 0
+  abbrev pub InStep : List (Handling Q P) → List (Squad Q P) → List (Handling Q P) → Lead2 → Type 0
   InStep done groups last level = Chained done groups last
-  InStep done groups last (ahead c) = (g : Squad Q) × (gs : List (Squad Q)) × (groups ≡ g ∷ gs) × (g.from ≡ last)
+  InStep done groups last (ahead c) = (g : Squad Q P) × (gs : List (Squad Q P)) × (groups ≡ g ∷ gs) × (g.from ≡ last)
       × (g.own.by ≡ c) × Chained done gs last
 
   -- what a client knows of its group in the second list
-  abbrev pub KnowsBack : Two Q → ℕ → Back Q → Type 0
+  abbrev pub KnowsBack : Two Q P → ℕ → Back Q P → Type 0
   KnowsBack two c Away = (two.place c ≡ away) × (two.lead ≢ ahead c)
   KnowsBack two c (Parting g b) = (two.place c ≡ parted g b) × (two.lead ≢ ahead c)
   KnowsBack two c (Joining g) = Behind g (two.place c) × (two.lead ≡ ahead c)

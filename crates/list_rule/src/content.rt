@@ -10,13 +10,12 @@ pub enum Content<Q, P, L, M> {
     Right(M),
 }
 
-/// What a list of writers is made for: how many clients, the numbers of the log and of the right at opening, whether it
-/// has the second list, and what else the log's law is about.
+/// What a list of writers is made for: how many clients, the log's number at opening, whether it has the second list, and
+/// what else the law of log and right is about.
 #[derive(Drop)]
 pub struct Start<K> {
     pub clients: u32,
     pub log: u64,
-    pub right: u64,
     pub pipelined: bool,
     pub about: K,
 }

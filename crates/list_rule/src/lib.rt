@@ -77,8 +77,10 @@ pub use code::{code_of, codes_stand_for_items, item_of};
 pub use content::{Content, Start};
 pub use core_events::list_and_core;
 pub use law::{between_steps, opening_and_seats, steps_and_events};
-pub use rule::{Both, First, Given, Itemized, Ledger, Numbered, Order, Picked, PickedAbout};
-pub use second_law::second_steps_and_events;
+pub use rule::{
+    Both, First, Given, Itemized, Ledger, Order, PickedAbout, PickedGiven, PickedRight,
+};
+pub use second_law::{handing_on, second_steps_and_events};
 pub use steps::{
     AimSecond, Begin, Build, CallNext, ClearSecond, Complete, CutAway, CutBehindMark, CutOff,
     Fetch, Free, JoinSecond, Leave, LeaveSecond, Link, MakeParallel, Mark, NameOlder, ReadNewest,

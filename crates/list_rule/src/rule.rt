@@ -9,7 +9,7 @@ use atomic_table::{Join, Split, TableRule};
 use std::marker::Brand;
 
 /// What a log says that was handled, where it had this number at first, and its number now.
-pub trait Ledger<Q, P> {
+pub trait Ledger<Q, P, M> {
     /// What the law is about, besides the log.
     type About;
 
@@ -21,18 +21,11 @@ pub trait Ledger<Q, P> {
     /// What holds of what was handled, wherever the log is.
     ghost kept: { Self.About → List (Handling Q P) → Type 0 };
 
+    /// For which of what was handled, of those that were given runs, the right stands.
+    ghost serves: { Self.About → M → List (Handling Q P) → Type 0 };
+
     /// What holds of each request that is in the list.
     ghost lawful: { Self.About → Q → Type 0 };
-
-    ghost number_of: { Self → ℕ };
-
-    fn number(&self) -> u64
-        ensures { result ≡ Self.number_of self.now };
-}
-
-/// The right to the memtable, with its number.
-pub trait Numbered {
-    ghost use Rattle.std.specs.Prelude.{ℕ};
 
     ghost number_of: { Self → ℕ };
 
@@ -71,25 +64,46 @@ impl<K> PickedAbout<K> for Brand {
     ghost about = { None };
 }
 
-/// A number that the caller picks.
-pub trait Picked {
-    ghost use Rattle.std.specs.Prelude.{ℕ};
+/// Which of what was handled was given runs, which the caller picks.
+pub trait PickedGiven<Q, P> {
+    ghost use Rattle.std.specs.Prelude.{List};
+    ghost use Rattle.list_rule.specs.declared.view.Handling.{Handling};
 
-    ghost number: { ℕ };
+    ghost given: { List (Handling Q P) };
 }
 
-impl Picked for Brand {
-    ghost number = { 0 };
+impl<Q, P> PickedGiven<Q, P> for Brand {
+    ghost use Rattle.std.specs.Prelude.{[]};
+
+    ghost given = { [] };
+}
+
+/// What the law of the right is about, and which of what was handled was given runs, which the caller picks.
+pub trait PickedRight<Q, P, K> {
+    ghost use Rattle.std.specs.Prelude.{List, Option};
+    ghost use Rattle.list_rule.specs.declared.view.Handling.{Handling};
+
+    ghost about: { Option K };
+
+    ghost given: { List (Handling Q P) };
+}
+
+impl<Q, P, K> PickedRight<Q, P, K> for Brand {
+    ghost use Rattle.std.specs.Prelude.{[], None};
+
+    ghost about = { None };
+
+    ghost given = { [] };
 }
 
 pub struct Order;
 
-impl<Q: Itemized, P: Given, L: Ledger<Q, P>, M: Numbered> TableRule<
+impl<Q: Itemized, P: Given, L: Ledger<Q, P, M>, M> TableRule<
     Content<Q, P, L, M>,
     View<Q, P>,
     Start<L::About>,
 > for Order {
-    ghost holds = { λ k. Listed (laws_for Q.item_of L.lawful L.stands L.kept L.number_of P.run_of M.number_of k)
+    ghost holds = { λ k. Listed (laws_for Q.item_of L.lawful L.stands L.kept L.number_of P.run_of L.serves k)
         k.clients };
 
     ghost first = { λ k. newcomers k.clients };

@@ -1,11 +1,11 @@
 // The steps of the list: which words and slots each may move, and what its seat knows then.
 ghost use Rattle.std.specs.Prelude.{◌≡◌};
-ghost use Rattle.list_rule.specs.Laws.{logs_picked, kept_picked, asks_picked};
+ghost use Rattle.list_rule.specs.Laws.{logs_picked, serves_picked, kept_picked, asks_picked};
 ghost use Rattle.list_rule.specs.Plays.{begun, peeked, aimed, entered, looked, rested, read_once, traced, fetched, left, told_one, retired, cut_as, cut_off, woken_on, marked_off, freed, aimed_second, joined, summoned, left_second, traced_second, cleared_second, called_next, kept, traced_marked, cut_marked};
 ghost use mathlib.Core.Option.{some};
 
 use crate::content::Content;
-use crate::rule::{Given, Itemized, Ledger, Numbered, Picked, PickedAbout};
+use crate::rule::{Given, Itemized, Ledger, PickedAbout, PickedGiven, PickedRight};
 use crate::view::View;
 use atomic_table::Play;
 use std::marker::PhantomData;
@@ -34,7 +34,7 @@ impl<Q, P, L, M> Play<Content<Q, P, L, M>, View<Q, P>> for NameOlder {
 /// A writer comes into the list at the newest end, with its request, and leads where the list was empty.
 pub struct Link<B>(PhantomData<B>);
 
-impl<Q, P: Given, L: Ledger<Q, P>, M, B: PickedAbout<L::About>> Play<
+impl<Q, P: Given, L: Ledger<Q, P, M>, M, B: PickedAbout<L::About>> Play<
     Content<Q, P, L, M>,
     View<Q, P>,
 > for Link<B> {
@@ -44,7 +44,7 @@ impl<Q, P: Given, L: Ledger<Q, P>, M, B: PickedAbout<L::About>> Play<
 /// A writer in the list reads its state: it leads from here on, or it has its reply, or neither.
 pub struct ReadState<B>(PhantomData<B>);
 
-impl<Q, P: Given, L: Ledger<Q, P>, M, B: PickedAbout<L::About>> Play<
+impl<Q, P: Given, L: Ledger<Q, P, M>, M, B: PickedAbout<L::About>> Play<
     Content<Q, P, L, M>,
     View<Q, P>,
 > for ReadState<B> {
@@ -63,7 +63,7 @@ impl<Q, P, L, M> Play<Content<Q, P, L, M>, View<Q, P>> for Rest {
 /// of each request holds of those of the group.
 pub struct Build<B>(PhantomData<B>);
 
-impl<Q: Itemized, P, L: Ledger<Q, P>, M, B: PickedAbout<L::About>> Play<
+impl<Q: Itemized, P, L: Ledger<Q, P, M>, M, B: PickedAbout<L::About>> Play<
     Content<Q, P, L, M>,
     View<Q, P>,
 > for Build<B> {
@@ -119,20 +119,20 @@ impl<Q, P, L, M> Play<Content<Q, P, L, M>, View<Q, P>> for Wake {
     ghost then = { woken_on };
 }
 
-/// A pipelined leader clears the older link of the oldest writer after its group, and so cuts its group off. The
-/// log's number before the group is picked.
+/// A pipelined leader clears the older link of the oldest writer after its group, and so cuts its group off. What
+/// was given runs before the group is picked.
 pub struct CutAway<B>(PhantomData<B>);
 
-impl<Q, P, L, M, B: Picked> Play<Content<Q, P, L, M>, View<Q, P>> for CutAway<B> {
-    ghost then = { cut_as (some B.number) };
+impl<Q, P, L, M, B: PickedGiven<Q, P>> Play<Content<Q, P, L, M>, View<Q, P>> for CutAway<B> {
+    ghost then = { cut_as (some B.given) };
 }
 
-/// A pipelined leader puts its mark in place of its group, after which nobody came. The log's number before the
-/// group is picked.
+/// A pipelined leader puts its mark in place of its group, after which nobody came. What was given runs before
+/// the group is picked.
 pub struct Mark<B>(PhantomData<B>);
 
-impl<Q, P, L, M, B: Picked> Play<Content<Q, P, L, M>, View<Q, P>> for Mark<B> {
-    ghost then = { marked_off B.number };
+impl<Q, P, L, M, B: PickedGiven<Q, P>> Play<Content<Q, P, L, M>, View<Q, P>> for Mark<B> {
+    ghost then = { marked_off B.given };
 }
 
 /// A leader whose group is cut off names the newest writer of the second list.
@@ -142,19 +142,24 @@ impl<Q, P, L, M> Play<Content<Q, P, L, M>, View<Q, P>> for AimSecond {
     ghost then = { aimed_second };
 }
 
-/// A group that is cut off comes into the second list, and its leader takes the right where that was empty. The
-/// log's number after the group is picked.
+/// A group that is cut off comes into the second list, and its leader takes the right where that was empty. What
+/// was given runs with the group is picked, and what the law of the right is about.
 pub struct JoinSecond<B>(PhantomData<B>);
 
-impl<Q, P, L, M: Numbered, B: Picked> Play<Content<Q, P, L, M>, View<Q, P>> for JoinSecond<B> {
-    ghost then = { joined (λ m k. M.number_of m ≡ k) B.number };
+impl<Q, P, L: Ledger<Q, P, M>, M, B: PickedRight<Q, P, L::About>> Play<
+    Content<Q, P, L, M>,
+    View<Q, P>,
+> for JoinSecond<B> {
+    ghost then = { joined (serves_picked L.serves B.about) B.given };
 }
 
-/// A leader in the second list reads its state: it has the right from here on, or not yet.
-pub struct Summon;
+/// A leader in the second list reads its state: it has the right from here on, or not yet. What the law
+/// of the right is about is picked.
+pub struct Summon<B>(PhantomData<B>);
 
-impl<Q, P, L, M: Numbered> Play<Content<Q, P, L, M>, View<Q, P>> for Summon {
-    ghost then = { summoned (λ m k. M.number_of m ≡ k) };
+impl<Q, P, L: Ledger<Q, P, M>, M, B: PickedAbout<L::About>> Play<Content<Q, P, L, M>, View<Q, P>>
+    for Summon<B> {
+    ghost then = { summoned (serves_picked L.serves B.about) };
 }
 
 /// A leader gives the right back, where no group came after its own.

@@ -47,24 +47,24 @@ pub enum Stage<Q, P> {
     Collecting,
 }
 
-/// A group of the second list: its leader, its other members, newest first, and the log's numbers before and after it.
-/// No value of it is made.
-pub struct Squad<Q> {
+/// A group of the second list: its leader, its other members, newest first, and what was given runs before it, and with
+/// it. No value of it is made.
+pub struct Squad<Q, P> {
     pub own: Entry<Q>,
     pub rest: LinkedList<Entry<Q>>,
-    pub from: u64,
-    pub to: u64,
+    pub from: LinkedList<Handling<Q, P>>,
+    pub to: LinkedList<Handling<Q, P>>,
 }
 
 /// Where a leader's group stands with respect to the second list. No value of it is made.
-pub enum Back<Q> {
+pub enum Back<Q, P> {
     Away,
-    Parting(Squad<Q>, u64),
-    Joining(Squad<Q>),
-    Holding(Squad<Q>),
-    Queued(Squad<Q>),
-    Serving(Squad<Q>, LinkedList<Entry<Q>>),
-    Passing(Squad<Q>, Entry<Q>),
+    Parting(Squad<Q, P>, u64),
+    Joining(Squad<Q, P>),
+    Holding(Squad<Q, P>),
+    Queued(Squad<Q, P>),
+    Serving(Squad<Q, P>, LinkedList<Entry<Q>>),
+    Passing(Squad<Q, P>, Entry<Q>),
 }
 
 /// What a seat knows of one client. No value of it is made.
@@ -72,7 +72,7 @@ pub struct Hold<Q, P> {
     pub client: u64,
     pub stage: Stage<Q, P>,
     pub mine: LinkedList<(Q, P)>,
-    pub back: Back<Q>,
+    pub back: Back<Q, P>,
 }
 
 /// What a seat knows. No value of it is made.

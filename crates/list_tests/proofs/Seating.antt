@@ -6,6 +6,8 @@ use Rattle.list_rule.specs.declared.view.Stage.TheVariants.{Idle}
 use Rattle.list_rule.specs.Rule.{hold}
 use Rattle.writer_list.specs.declared.writer.Writer.{Writer}
 use Rattle.writer_list.specs.declared.room.Lists.{Lists}
+use Rattle.writer_list.specs.declared.writer.Task.{Task}
+use Rattle.writer_list.specs.declared.writer.Task.TheVariants.{Awaits, Leads as Leads_, Helps, Queues, Serves}
 use Rattle.list_rule.specs.declared.view.Handling.{Handling}
 use Rattle.list_rule.specs.declared.view.Entry.{Entry}
 use Rattle.writer_list.specs.Roles.{IsNew, AreNew, IsLinked}
@@ -65,11 +67,14 @@ module _ (list : Counted) where
 
   -- a writer that was linked is linked with what it was told
   pub linked : (q : Ask) (mine : List (Ask × Answer)) (w : Writer Ask Answer Counter Nothing) → IsIn (law list) q mine w → IsAsking list w
-  linked q mine w is = (q, subst (λ told. IsIn (law list) q told w) (sym (known w.leads is)) is)
+  linked q mine w is = (q, subst (λ told. IsIn (law list) q told w) (sym (known w.task is)) is)
     where
-      known : (leads : Bool) → IsLinked (law list) w.client leads q mine w.seat.me → told w ≡ mine
-      known true l = ap told_in_first l.3
-      known false l = ap told_in_first l.0
+      known : (task : Task) → IsLinked (law list) w.client task q mine w.seat.me → told w ≡ mine
+      known Awaits l = ap told_in_first l.0
+      known Leads_ l = ap told_in_first l.3
+      known Helps l = ap told_in_first l.0
+      known Queues l = absurd l
+      known Serves l = absurd l
 
   -- a writer that was chosen leads, and one that is done is out
   pub leads : (own : Entry Ask) (seen : List (Handling Ask Answer)) (mine : List (Ask × Answer)) (w : Writer Ask Answer Counter Nothing) → Belongs list w → IsChosen own seen mine w → Leads list w

@@ -1,7 +1,7 @@
 // A plain counter as the log, and who takes part.
 ghost use Rattle.std.specs.Prelude.{◌≡◌, ⊤};
 
-use list_rule::{Given, Itemized, Ledger, Numbered};
+use list_rule::{Given, Itemized, Ledger};
 use wp_model::Item;
 use writer_list::{Lists, Writer};
 
@@ -33,12 +33,14 @@ pub struct Counter {
     pub sum: u64,
 }
 
-impl Ledger<Ask, Answer> for Counter {
+impl Ledger<Ask, Answer, Nothing> for Counter {
     type About = u64;
 
     ghost stands = { λ about c hs. about ≡ about };
 
     ghost kept = { λ about hs. about ≡ about };
+
+    ghost serves = { λ _ _ _. ⊤ };
 
     ghost lawful = { λ _ _. ⊤ };
 
@@ -53,14 +55,6 @@ impl Ledger<Ask, Answer> for Counter {
 #[derive(Drop)]
 pub struct Nothing {
     pub mark: u64,
-}
-
-impl Numbered for Nothing {
-    ghost number_of = { λ m. 0 };
-
-    fn number(&self) -> u64 {
-        0
-    }
 }
 
 /// A client: its writer, the lists that it leads with, what it was told, and the size of the group that it led last.

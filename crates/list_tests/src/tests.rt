@@ -275,7 +275,6 @@ fn open_three(alloc: Global) -> Result<(usize, usize), (u64, u64, u64)> {
     let start = Start {
         clients: 3,
         log: 0,
-        right: 0,
         pipelined: false,
         about: 0,
     };

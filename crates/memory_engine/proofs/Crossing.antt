@@ -38,17 +38,16 @@ use Rattle.writer_list.proofs.room.Lists.TheSendSync as lists
 use Rattle.group_engine.specs.contracts.requests.Request as request
 use Rattle.group_engine.specs.contracts.requests.Reply as reply_row
 use Rattle.group_engine.specs.contracts.held.Held as held_row
-use Rattle.group_engine.specs.contracts.held.NoRight as no_right_row
+use Rattle.group_engine.specs.contracts.held.Right as right_row
 use Rattle.group_engine.specs.contracts.held.About as about_row
 use Rattle.group_engine.specs.contracts.layout.Layout as layout
 use Rattle.group_engine.specs.contracts.engine.GroupEngine as engine
 use Rattle.group_engine.specs.contracts.engine.Client as client
 use Rattle.group_engine.specs.contracts.requests.RequestItemized.TheImpl as itemized
 use Rattle.group_engine.specs.contracts.requests.ReplyGiven.TheImpl as given
-use Rattle.group_engine.specs.contracts.held.HeldLedgerRequestReply.TheImpl as ledger
-use Rattle.group_engine.specs.contracts.held.NoRightNumbered.TheImpl as numbered
+use Rattle.group_engine.specs.contracts.held.HeldLedgerRequestReplyRight.TheImpl as ledger
 use Rattle.group_engine.proofs.held.Held.TheSendSync as held
-use Rattle.group_engine.proofs.held.NoRight.TheSendSync as no_right
+use Rattle.group_engine.proofs.held.Right.TheSendSync as right
 use Rattle.group_engine.proofs.numbering.Plan.TheSendSync as plan
 
 nodes_send : IsSend nodes.the_row
@@ -79,7 +78,7 @@ parts_send : IsSend parts.the_row
 parts_send = search (sendable, Vec-send, part_send) depth 9
 
 layout_fields : AllSend (fields layout.the_type)
-layout_fields = (Vec-send _ plan.the_send, (Vec-send _ batch.the_send, (parts_send, tt)))
+layout_fields = (Vec-send _ plan.the_send, (Vec-send _ batch.the_send, (parts_send, (search (sendable, Vec-send), tt))))
 
 abbrev S : RattleType
 S = seat_row.the_row tree.the_row nodes.the_row
@@ -108,14 +107,20 @@ module _ (D C G : RattleType) (ghosts : Ghosts (RattleType.Denot D)) (disk_send 
   held_send : IsSend H
   held_send = held.the_send D table.the_row C S U nodes.the_row ghosts disk_send clock_send turn_send
 
+  abbrev M : RattleType
+  M = right_row.the_row table.the_row S U nodes.the_row
+
+  right_send : IsSend M
+  right_send = right.the_send table.the_row S U nodes.the_row turn_send
+
   pub client_send : IsSend (client.the_row D table.the_row C S U nodes.the_row ghosts)
   client_send =
       let K = client.the_type D table.the_row C S U nodes.the_row ghosts in
-      let all : AllSend (fields K) = (search sendable, (search sendable, (writer.the_field_send request.the_row reply_row.the_row H no_right_row.the_row request_send reply_send held_send no_right.the_send, (seat_send, (pass.the_field_send, (lists.the_field_send request.the_row reply_row.the_row request_send reply_send, (struct_send (shape layout.the_type) layout_fields, tt))))))) in
+      let all : AllSend (fields K) = (search sendable, (search sendable, (writer.the_field_send request.the_row reply_row.the_row H M request_send reply_send held_send right_send, (seat_send, (pass.the_field_send, (lists.the_field_send request.the_row reply_row.the_row request_send reply_send, (struct_send (shape layout.the_type) layout_fields, tt))))))) in
       recorded_send (client.the_field D table.the_row C S U nodes.the_row ghosts).row K.D K.to K.to_one (struct_send (shape K) all)
 
   pub engine_sync : IsSync G → IsSync (engine.the_row D table.the_row C G S U nodes.the_row ghosts table_ghosts.ghosts)
   engine_sync gate_sync =
       let K = engine.the_type D table.the_row C G S U nodes.the_row ghosts table_ghosts.ghosts in
-      let all : AllSync (fields K) = (list.the_field_sync request.the_row reply_row.the_row H no_right_row.the_row (about_row.the_row D table.the_row C ghosts) itemized.ghosts given.ghosts (ledger.ghosts D table.the_row C S U nodes.the_row ghosts ledger.no_dict table_ghosts.ghosts ledger.no_dict) numbered.ghosts request_send reply_send held_send no_right.the_send, (table_sync, (controller.the_field_sync C, (gate_sync, (heap.the_field_sync, (search sendable, (search sendable, tt))))))) in
+      let all : AllSync (fields K) = (list.the_field_sync request.the_row reply_row.the_row H M (about_row.the_row D table.the_row C ghosts) itemized.ghosts given.ghosts (ledger.ghosts D table.the_row C S U nodes.the_row ghosts ledger.no_dict table_ghosts.ghosts ledger.no_dict) request_send reply_send held_send right_send, (table_sync, (controller.the_field_sync C, (gate_sync, (heap.the_field_sync, (search sendable, (search sendable, tt))))))) in
       recorded_sync (engine.the_field D table.the_row C G S U nodes.the_row ghosts table_ghosts.ghosts).row K.D K.to K.to_one (struct_sync (shape K) all)

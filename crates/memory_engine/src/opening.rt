@@ -4,7 +4,7 @@ ghost use Rattle.std.specs.Prelude.{◌≡◌, ◌≤◌, ◌<◌, ◌+◌, ℕ,
 ghost use Rattle.wp_model.specs.History.{max_sequence};
 ghost use Rattle.log_writer.specs.Words.{disk_of};
 ghost use Rattle.log_writer.specs.Opening.{HasOpened};
-ghost use Rattle.writer_list.specs.Seats.{clients_of};
+ghost use Rattle.writer_list.specs.Seats.{clients_of, piped_of};
 ghost use Rattle.account_model.specs.Accounts.{newcomer};
 ghost use Rattle.account_model.specs.Closing.{AreOurs};
 ghost use Rattle.client_calls.specs.Settings.{settings_of as settings_with};
@@ -21,7 +21,8 @@ use std::alloc::Global;
 use wp_edge::{Clock, Disk};
 
 /// An engine over an opened log and a table of this kind, with so many clients, of which none has done anything. Where
-/// memory is short, log, clock and gate come back.
+/// memory is short, log, clock and gate come back. Its groups go into the table in a stage of their own where it is
+/// pipelined.
 pub fn open_engine<D: Disk, C: Clock + Drop, G: Gate + Drop>(
     alloc: Global,
     log: LogWriter<D>,
@@ -30,6 +31,7 @@ pub fn open_engine<D: Disk, C: Clock + Drop, G: Gate + Drop>(
     gate: G,
     options: Options,
     kind: TableKind,
+    pipelined: bool,
 ) -> Result<
     (
         GroupEngine<D, MemoryTable, C, G>,
@@ -50,12 +52,13 @@ pub fn open_engine<D: Disk, C: Clock + Drop, G: Gate + Drop>(
     ensures new { IfOk result (λ r. (i : ℕ) (c : _) → slice_get r.1.clients.items i ≡ Some c
         → account_in opening_of IsOurs account_of c ≡ newcomer options.last (i + 1)) }
     ensures room { IfOk result (λ r. HasRoomToClose r.0.controller (clients_of r.0.list) r.1.room) }
+    ensures stages { IfOk result (λ r. piped_of r.0.list ≡ pipelined) }
     ensures err { IfErr result (λ e. (e.0 ≡ log) × (e.1 ≡ clock) × (e.2 ≡ gate)) }
 {
     let Ok((table, seats)) = MemoryTable::open(alloc, clients, options.last, kind) else {
         return Err((log, clock, gate));
     };
-    match GroupEngine::open(alloc, log, clock, table, seats, gate, options) {
+    match GroupEngine::open(alloc, log, clock, table, seats, gate, options, pipelined) {
         Ok(opened) => Ok(opened),
         Err(
             OpenRefused {

@@ -25,7 +25,8 @@ use std::thread::Threads;
 use wp_edge::{Clock, Disk};
 
 /// Runs a script over the write path of a disk's log, each client in a thread of its own, and gives the disk back. The
-/// log must be empty. The table is of the kind that is asked for. The gate is told of what happens.
+/// log must be empty. The table is of the kind that is asked for, and groups go into it in a stage of their own where
+/// the write path is pipelined. The gate is told of what happens.
 pub fn execute<D: Disk + Send, C: Clock + Send + Drop, G: Gate + Sync, R: Threads + Wait + Sync>(
     rt: &R,
     alloc: Global,
@@ -35,6 +36,7 @@ pub fn execute<D: Disk + Send, C: Clock + Send + Drop, G: Gate + Sync, R: Thread
     script: &Script,
     options: Options,
     kind: TableKind,
+    pipelined: bool,
 ) -> Executed<D>
     requires clients { (1 ≤ length script.now.clients.items) × (length script.now.clients.items ≤ 16) }
     requires fits { FitsBatches script.now }
@@ -56,6 +58,7 @@ pub fn execute<D: Disk + Send, C: Clock + Send + Drop, G: Gate + Sync, R: Thread
             script,
             options,
             kind,
+            pipelined,
         ),
         Err((disk, why)) => Executed {
             disk,
@@ -81,6 +84,7 @@ fn run_over<
     script: &Script,
     options: Options,
     kind: TableKind,
+    pipelined: bool,
 ) -> Executed<D>
     requires clients { (1 ≤ length script.now.clients.items) × (length script.now.clients.items ≤ 16) }
     requires fits { FitsBatches script.now }
@@ -95,7 +99,7 @@ fn run_over<
 {
     let commands = script.clients.as_slice();
     let clients = commands.len() as u32;
-    match open_engine(alloc, log, clock, clients, shared, options, kind) {
+    match open_engine(alloc, log, clock, clients, shared, options, kind, pipelined) {
         Ok((engine, clients)) => {
             runs_leave_safe_logs::<D>();
             ended(run_engine(rt, alloc, engine, clients, commands, gate))

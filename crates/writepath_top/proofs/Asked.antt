@@ -5,17 +5,18 @@ use Rattle.command_line.specs.declared.asked.Asked.TheVariants.{Run, Generate, R
 use Rattle.client_calls.specs.declared.options.Options.{Options}
 use Rattle.write_core.specs.declared.state.CoreOptions.{CoreOptions}
 
-pub of_run : (asked : Option Asked) (shards : Option ℕ) (group_bytes batch_bytes last : ℕ) (wanted_shards : Option ℕ) (options : Options) → asked ≡ Some (Run shards group_bytes batch_bytes last)
-    → asked ≡ Some (Run wanted_shards options.group_bytes options.batch_bytes options.last) → options ≡ record { last = last; group_bytes = group_bytes; batch_bytes = batch_bytes }
-of_run asked shards group_bytes batch_bytes last wanted_shards options given wanted =
+pub of_run : (asked : Option Asked) (pipelined : Bool) (shards : Option ℕ) (group_bytes batch_bytes last : ℕ) (wanted_pipelined : Bool) (wanted_shards : Option ℕ) (options : Options)
+    → asked ≡ Some (Run pipelined shards group_bytes batch_bytes last)
+    → asked ≡ Some (Run wanted_pipelined wanted_shards options.group_bytes options.batch_bytes options.last) → options ≡ record { last = last; group_bytes = group_bytes; batch_bytes = batch_bytes }
+of_run asked pipelined shards group_bytes batch_bytes last wanted_pipelined wanted_shards options given wanted =
     let groups : options.group_bytes ≡ group_bytes = cc (given, wanted) in
     let batches : options.batch_bytes ≡ batch_bytes = cc (given, wanted) in
     let start : options.last ≡ last = cc (given, wanted) in
     rw (← groups, ← batches, ← start) refl
 
-pub of_generate : (asked : Option Asked) (shards : Option ℕ) (seed clients batches : ℕ) (t : Option ℕ) (s k b : ℕ) → asked ≡ Some (Generate shards seed clients batches)
-    → asked ≡ Some (Generate t s k b) → (s ≡ seed) × (k ≡ clients) × (b ≡ batches)
-of_generate asked shards seed clients batches t s k b given wanted = (cc (given, wanted), cc (given, wanted), cc (given, wanted))
+pub of_generate : (asked : Option Asked) (pipelined : Bool) (shards : Option ℕ) (seed clients batches : ℕ) (p : Bool) (t : Option ℕ) (s k b : ℕ)
+    → asked ≡ Some (Generate pipelined shards seed clients batches) → asked ≡ Some (Generate p t s k b) → (s ≡ seed) × (k ≡ clients) × (b ≡ batches)
+of_generate asked pipelined shards seed clients batches p t s k b given wanted = (cc (given, wanted), cc (given, wanted), cc (given, wanted))
 
 pub of_replay : (asked : Option Asked) (pipelined : Bool) (group_bytes batch_bytes last : ℕ) (options : CoreOptions) → asked ≡ Some (Replay pipelined group_bytes batch_bytes last)
     → asked ≡ Some (Replay options.pipelined options.group_bytes options.batch_bytes options.last)
@@ -29,26 +30,26 @@ of_replay asked pipelined group_bytes batch_bytes last options given wanted =
 
 -- words that ask for one command ask for no other, and words that ask for any are lawful
 abbrev pub is_run : Asked → Bool
-is_run (Run a b c d) = true
-is_run (Generate a b c d) = false
+is_run (Run a b c d e) = true
+is_run (Generate a b c d e) = false
 is_run Recover = false
 is_run (Replay a b c d) = false
 
 abbrev pub is_generate : Asked → Bool
-is_generate (Run a b c d) = false
-is_generate (Generate a b c d) = true
+is_generate (Run a b c d e) = false
+is_generate (Generate a b c d e) = true
 is_generate Recover = false
 is_generate (Replay a b c d) = false
 
 abbrev pub is_recover : Asked → Bool
-is_recover (Run a b c d) = false
-is_recover (Generate a b c d) = false
+is_recover (Run a b c d e) = false
+is_recover (Generate a b c d e) = false
 is_recover Recover = true
 is_recover (Replay a b c d) = false
 
 abbrev pub is_replay : Asked → Bool
-is_replay (Run a b c d) = false
-is_replay (Generate a b c d) = false
+is_replay (Run a b c d e) = false
+is_replay (Generate a b c d e) = false
 is_replay Recover = false
 is_replay (Replay a b c d) = true
 

@@ -1,5 +1,5 @@
 -- What the words of a call ask for, with the options that they give.
-use Rattle.std.specs.Prelude.{◌≡◌, ℕ, List, Option, Some, None, String}
+use Rattle.std.specs.Prelude.{◌≡◌, ℕ, Bool, List, Option, Some, None, String}
 use Rattle.std.specs.declared.alloc.Global.{Global}
 use Rattle.command_line.specs.declared.asked.Asked.TheVariants.{Run, Generate, Recover, Replay}
 use Rattle.command_line.specs.Meaning.{asked_of}
@@ -10,15 +10,15 @@ use Rattle.write_core.specs.declared.state.CoreOptions.{CoreOptions}
 abbrev pub AskNothing : List (String Global) → Type 0
 AskNothing words = asked_of words ≡ None
 
--- to run a script, over a table of some shards, or of none
+-- to run a script, in one stage or two, over a table of some shards, or of none
 abbrev pub AskToRun : List (String Global) → Options → Type 0
-AskToRun words options = (shards : Option ℕ)
-    × (asked_of words ≡ Some (Run shards options.group_bytes options.batch_bytes options.last))
+AskToRun words options = (pipelined : Bool) × (shards : Option ℕ)
+    × (asked_of words ≡ Some (Run pipelined shards options.group_bytes options.batch_bytes options.last))
 
 -- to run the script that a seed makes, for so many clients with so many batches each, over such a table
 abbrev pub AskToGenerate : List (String Global) → ℕ → ℕ → ℕ → Type 0
-AskToGenerate words seed clients batches = (shards : Option ℕ)
-    × (asked_of words ≡ Some (Generate shards seed clients batches))
+AskToGenerate words seed clients batches = (pipelined : Bool) × (shards : Option ℕ)
+    × (asked_of words ≡ Some (Generate pipelined shards seed clients batches))
 
 -- with these options
 abbrev pub usual_options : Options

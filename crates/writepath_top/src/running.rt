@@ -39,6 +39,7 @@ pub fn run_script<
     alloc: Global,
     options: Options,
     kind: TableKind,
+    pipelined: bool,
     source: &mut S,
     disk: D,
     sink: &mut K,
@@ -77,6 +78,7 @@ pub fn run_script<
             script,
             options,
             kind,
+            pipelined,
             Form::Whole,
             disk,
             sink,
@@ -100,6 +102,7 @@ pub fn run_and_tell<
     script: Script,
     options: Options,
     kind: TableKind,
+    pipelined: bool,
     form: Form,
     disk: D,
     sink: &mut K,
@@ -116,7 +119,9 @@ pub fn run_and_tell<
         (IsScript (commands_of script)) form options disk result.disk sink.old sink.new)
         disk result.disk sink.old sink.new result.status }
 {
-    let Executed { disk, end } = execute(rt, alloc, disk, clock, gate, &script, options, kind);
+    let Executed { disk, end } = execute(
+        rt, alloc, disk, clock, gate, &script, options, kind, pipelined,
+    );
     // What was asked is no longer needed while the text is made.
     drop(script);
     end_with(tell_end(alloc, sink, form, &end), disk)

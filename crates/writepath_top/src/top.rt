@@ -40,7 +40,7 @@ use write_core::CoreOptions;
 /// | `--batch-bytes` | `run`, `replay` | 12 to 16777216 | 16777216 | the most bytes of a batch |
 /// | `--group-bytes` | `run`, `replay` | 1 to 16777216 | 1048576 | the most bytes of a write group |
 /// | `--last` | `run`, `replay` | 0 to 2^56 - 1 | 0 | the sequence before the first batch |
-/// | `--pipelined` | `replay` | no value | a single stage | the log is handed on before a group is inserted |
+/// | `--pipelined` | `run`, `gen`, `replay` | no value | a single stage | the log is handed on before a group is inserted |
 /// | `--shards` | `run`, `gen` | 1 to 64 | 16 | with `--table shards`, how many shards the table has |
 /// | `--table` | `run`, `gen` | `one`, `shards` | `one` | a tree under one lock, or a tree and a lock for each shard |
 ///
@@ -111,6 +111,7 @@ pub fn run_gated<
     match read_words(alloc, words) {
         Ok(
             Asked::Run {
+                pipelined,
                 shards,
                 group_bytes,
                 batch_bytes,
@@ -123,10 +124,13 @@ pub fn run_gated<
                 batch_bytes,
             };
             let kind = kind_of(shards);
-            run_script(rt, alloc, options, kind, source, disk, sink, clock, gate)
+            run_script(
+                rt, alloc, options, kind, pipelined, source, disk, sink, clock, gate,
+            )
         }
         Ok(
             Asked::Generate {
+                pipelined,
                 shards,
                 seed,
                 clients,
@@ -135,7 +139,7 @@ pub fn run_gated<
         ) => {
             let kind = kind_of(shards);
             run_generated(
-                rt, alloc, seed, clients, batches, kind, disk, sink, clock, gate,
+                rt, alloc, seed, clients, batches, kind, pipelined, disk, sink, clock, gate,
             )
         }
         Ok(Asked::Recover) => recover_log(alloc, disk, sink),

@@ -4,7 +4,8 @@ use Rattle.std.proofs.lemmas.List.{reverse-append}
 use Rattle.list_rule.specs.declared.view.Entry.{Entry}
 use Rattle.list_rule.specs.declared.content.Content.{Content}
 use Rattle.list_rule.specs.declared.content.Content.TheVariants.{Empty, Told}
-use Rattle.list_rule.specs.Chain.{heads}
+use Rattle.list_rule.specs.declared.view.Handling.{Handling}
+use Rattle.list_rule.specs.Chain.{heads, handling, all_answers}
 use Rattle.list_rule.specs.Plays.{blanks, slots_of}
 use Rattle.writer_list.specs.Roles.{bys, pays, firsts, fills}
 
@@ -28,6 +29,17 @@ module _ {Q P : Type 0} where
   unfolding newest_first
   members_of own p [] = refl
   members_of own p (g ∷ gs) = ap (λ l. g.0.by ∷ l) (members_of own p gs)
+
+  -- what is handled of a group by these replies, both newest first
+  abbrev pub handled_by : List (Entry Q) → Entry Q → List (ℕ × P) → List (Handling Q P)
+  handled_by es own [] = []
+  handled_by [] own (r ∷ rs) = handling own r.1 ∷ []
+  handled_by (e ∷ es) own (r ∷ rs) = handled_by es own rs ++ handling e r.1 ∷ []
+
+  pub handled_newest : (own : Entry Q) (p : P) (gs : List (Entry Q × P)) → handled_by (heads gs) own (newest_first own p gs) ≡ all_answers own p gs
+  unfolding newest_first
+  handled_newest own p [] = refl
+  handled_newest own p (g ∷ gs) = ap (λ l. l ++ handling g.0 g.1 ∷ []) (handled_newest own p gs)
 
 module _ {Q P L M : Type 0} where
   pub fills-append : (a b : List (ℕ × P)) → fills {Q = Q} {P = P} {L = L} {M = M} (a ++ b) ≡ fills a ++ fills b

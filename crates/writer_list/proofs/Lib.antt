@@ -1,3 +1,4 @@
+mod Alone
 pub mod Surveys
 pub mod Tops
 pub mod Gathers
@@ -9,3 +10,10 @@ pub mod Pays
 pub mod News
 pub mod Contents
 pub mod Closes
+pub mod Ways
+pub mod Traces
+pub mod Frees
+pub mod Sends
+pub mod Turns
+pub mod Views
+pub mod Members

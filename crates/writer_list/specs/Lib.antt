@@ -1,3 +1,4 @@
 pub mod Roles
 pub mod Rooms
 pub mod Seats
+pub mod Second

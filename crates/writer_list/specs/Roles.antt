@@ -5,15 +5,23 @@ use Rattle.list_rule.specs.declared.view.Entry.{Entry}
 use Rattle.list_rule.specs.declared.view.Handling.{Handling}
 use Rattle.list_rule.specs.declared.view.Lead.{Lead}
 use Rattle.list_rule.specs.declared.content.Content.{Content}
-use Rattle.list_rule.specs.declared.content.Content.TheVariants.{Empty, Asked, Told, Log}
-use Rattle.list_rule.specs.declared.view.Stage.TheVariants.{Idle, Waiting, Fresh, Leading, Settling}
+use Rattle.list_rule.specs.declared.content.Content.TheVariants.{Empty, Asked, Told, Log, Right}
+use Rattle.list_rule.specs.declared.view.Stage.{Stage}
+use Rattle.list_rule.specs.declared.view.Stage.TheVariants.{Idle, Waiting, Fresh, Leading, Cutting, Marking, Settling}
+use Rattle.list_rule.specs.declared.view.Debt.{Debt}
+use Rattle.list_rule.specs.declared.view.Squad.{Squad}
+use Rattle.list_rule.specs.declared.view.Back.{Back}
+use Rattle.list_rule.specs.declared.view.Back.TheVariants.{Joining, Holding, Queued, Serving}
 use Rattle.list_rule.specs.Chain.{newest, pairs, Within, heads, of, all_answers}
 use Rattle.list_rule.specs.Grouping.{IsWhole}
 use Rattle.list_rule.specs.Rule.{hold}
-use Rattle.list_rule.specs.Plays.{Sat, At, AllBelow, Elected, building, in_hand, slots_of, debt, Walks, blanks}
+use Rattle.list_rule.specs.Plays.{Sat, At, AtWith, ending, AllBelow, Elected, building, in_hand, slots_of, debt, Walks, blanks}
 use Rattle.writer_list.specs.declared.writer.Writer.{Writer}
 use Rattle.writer_list.specs.declared.writer.Role.{Role}
-use Rattle.writer_list.specs.declared.writer.Role.TheVariants.{LogLeader, Done}
+use Rattle.writer_list.specs.declared.second.PipelinedRole.{PipelinedRole}
+use Rattle.writer_list.specs.declared.second.PipelinedRole.TheVariants.{LogLeader, MemLeader, Parallel, Done}
+use Rattle.writer_list.specs.declared.writer.Task.{Task}
+use Rattle.writer_list.specs.declared.writer.Task.TheVariants.{Awaits, Leads, Helps, Queues, Serves}
 
 module _ {Q : Type 0} where
   abbrev pub bys : List (Entry Q) → List ℕ
@@ -46,9 +54,12 @@ CodesFit (x ∷ xs) = (x.1 < 2 ^ 56) × CodesFit xs
 
 module _ {Q P L M : Type 0} where
   -- the client is in the list with q, and has the log where it leads
-  abbrev pub IsLinked : (L → List (Handling Q P) → Type 0) → ℕ → Bool → Q → List (Q × P) → Sat Q P L M → Type 0
-  IsLinked stood c true q mine m = Elected stood c q mine m
-  IsLinked stood c false q mine m = At c (Waiting q) mine m × (m.1 ≡ [])
+  abbrev pub IsLinked : (L → List (Handling Q P) → Type 0) → ℕ → Task → Q → List (Q × P) → Sat Q P L M → Type 0
+  IsLinked stood c Awaits q mine m = At c (Waiting q) mine m × (m.1 ≡ [])
+  IsLinked stood c Leads q mine m = Elected stood c q mine m
+  IsLinked stood c Helps q mine m = At c (Waiting q) mine m × (m.1 ≡ [])
+  IsLinked stood c Queues q mine m = ⊥
+  IsLinked stood c Serves q mine m = ⊥
 
   -- the client leads, as this writer, and all that was handled before is this
   abbrev pub Chosen : ℕ → Entry Q → List (Handling Q P) → List (Q × P) → Sat Q P L M → Type 0
@@ -59,9 +70,19 @@ module _ {Q P L M : Type 0} where
   -- before
   abbrev pub Becomes : (L → List (Handling Q P) → Type 0) → (List (Handling Q P) → Type 0) → ℕ → Q → List (Q × P)
       → Role L P → Sat Q P L M → Type 0
-  Becomes stood kept c q mine (LogLeader l) m = (own : Entry Q) × (seen : List (Handling Q P))
+  Becomes stood kept c q mine (Role.LogLeader l) m = (own : Entry Q) × (seen : List (Handling Q P))
       × Chosen c own seen mine m × (own.asked ≡ q) × stood l seen × (of c seen ≡ mine)
-  Becomes stood kept c q mine (Done p) m = At c Idle (mine ++ (q, p) ∷ []) m × (m.1 ≡ [])
+  Becomes stood kept c q mine (Role.Done p) m = At c Idle (mine ++ (q, p) ∷ []) m × (m.1 ≡ [])
+      × ((handled : List (Handling Q P)) × kept handled × (of c handled ≡ mine ++ (q, p) ∷ []))
+
+  -- and one that works beside its leader is in the list still
+  abbrev pub Turns : (L → List (Handling Q P) → Type 0) → (List (Handling Q P) → Type 0) → ℕ → Task → Q
+      → List (Q × P) → PipelinedRole L M P → Sat Q P L M → Type 0
+  Turns stood kept c task q mine (LogLeader l) m = (own : Entry Q) × (seen : List (Handling Q P))
+      × Chosen c own seen mine m × (own.asked ≡ q) × stood l seen × (of c seen ≡ mine)
+  Turns stood kept c task q mine (MemLeader right) m = ⊥
+  Turns stood kept c task q mine Parallel m = IsLinked stood c task q mine m
+  Turns stood kept c task q mine (Done p) m = At c Idle (mine ++ (q, p) ∷ []) m × (m.1 ≡ [])
       × ((handled : List (Handling Q P)) × kept handled × (of c handled ≡ mine ++ (q, p) ∷ []))
 
   -- the leader has read the list, from this number on
@@ -107,6 +128,44 @@ module _ {Q P L M : Type 0} where
       (found ≡ old → At c (Settling (debt gs lead.own p)) mine m' × (m'.1 ≡ slots_of gs ((c, Told p) ∷ [])))
       × (found ≢ old → Walks slots c lead mine found m m')
 
+module _ {Q P L M : Type 0} where
+  -- the leader has read these writers behind its marker
+  abbrev pub SeesMarked : ℕ → Sat Q P L M → List (Entry Q) → Type 0
+  SeesMarked c m walk = (lead : Lead Q P) × (mine : List (Q × P)) × (back : Back Q P) × AtWith c (Marking lead) mine back m
+      × (lead.walk ≡ walk)
+
+  -- the leader has the right, and has read these writers of the second list
+  abbrev pub SeesSecond : ℕ → Sat Q P L M → List (Entry Q) → Type 0
+  SeesSecond c m walk = (d : Debt Q P) × (mine : List (Q × P)) × (g : Squad Q P)
+      × AtWith c (Settling d) mine (Serving g walk) m
+
+  -- from this number on
+  abbrev pub HasTrace : (Sat Q P L M → List (Entry Q) → Type 0) → ℕ → ℕ → Sat Q P L M → Type 0
+  HasTrace sees slots at m = (walk : List (Entry Q)) × (x : Entry Q) × (post : List (Entry Q)) × sees m walk
+      × (walk ≡ x ∷ post) × (at ≡ x.by) × (length walk + 1 < slots) × AllBelow slots walk
+
+  -- the leader has cut its group off, behind its marker, or before the writer next
+  abbrev pub HasStage : ℕ → Lead Q P → List (Q × P) → Back Q P → ℕ → Sat Q P L M → Type 0
+  HasStage c lead mine back next m = (next ≡ 0 → AtWith c (Marking lead) mine back m)
+      × (next ≢ 0 → (x : Entry Q) × (x.by ≡ next) × AtWith c (Cutting lead x) mine back m)
+
+  -- the group is in the second list, and its leader has taken the right where it came alone
+  abbrev pub HasJoined : (M → List (Handling Q P) → Type 0) → ℕ → ℕ → List (Handling Q P) → Bool → Stage Q P
+      → List (Q × P) → Squad Q P → Sat Q P L M → Sat Q P L M → Type 0
+  HasJoined serves n c to false stage mine g m m' = AtWith c stage mine (Joining (ending g to)) m' × (m'.1 ≡ m.1)
+  HasJoined serves n c to true stage mine g m m' = (right : M) × serves right g.from
+      × AtWith c stage mine (Holding (ending g to)) m' × (m'.1 ≡ (n + 1, Right right) ∷ m.1)
+
+  -- the log went on, and the group is in the second list; where it came alone the right's slot lies behind those of the
+  -- group
+  abbrev pub HasSent : (M → List (Handling Q P) → Type 0) → ℕ → ℕ → Bool → Debt Q P → List (Q × P) → Squad Q P
+      → Sat Q P L M → Type 0
+  HasSent serves n c false d mine g m = AtWith c (Settling d) mine (Queued g) m
+      × (m.1 ≡ slots_of d.rest ((c, Told d.reply) ∷ []))
+  HasSent serves n c true d mine g m = (right : M) × serves right g.from
+      × AtWith c (Settling d) mine (Serving g []) m
+      × (m.1 ≡ slots_of d.rest ((c, Told d.reply) ∷ (n + 1, Right right) ∷ []))
+
 module _ {Q P L M : Type 0} (stood : L → List (Handling Q P) → Type 0) (flat : List (Handling Q P) → List (Handling Q P)
     → Type 0) (c : ℕ) where
   -- the leader has its whole group, whose newest member is this, with the replies, and the log on top
@@ -133,7 +192,7 @@ module _ {Q P L M : Type 0} (stood : L → List (Handling Q P) → Type 0) (flat
 -- the writers of the clients n, n - 1 and so on, of whom each has done nothing
 module _ {Q P L M : Type 0} (table : TableId) where
   abbrev pub IsNew : ℕ → Writer Q P L M → Type 0
-  IsNew c w = (w.client ≡ c) × (w.leads ≡ false) × (w.seat.table_id ≡ table) × (w.seat.me ≡ (hold c Idle [] ∷ [], []))
+  IsNew c w = (w.client ≡ c) × (w.task ≡ Awaits) × (w.seat.table_id ≡ table) × (w.seat.me ≡ (hold c Idle [] ∷ [], []))
 
   abbrev pub AreNew : ℕ → List (Writer Q P L M) → Type 0
   AreNew n [] = Unit {0}
@@ -148,8 +207,12 @@ abbrev pub fills : {Q P L M : Type 0} → List (ℕ × P) → List (ℕ × Conte
 fills [] = []
 fills (r ∷ rs) = (r.0, Told r.1) ∷ fills rs
 
--- each of these clients is a member of the group, beside the leader
+-- the client is a member of the group, beside the leader
+abbrev pub IsMember : {Q P : Type 0} → ℕ → ℕ → List (Entry Q × P) → Type 0
+IsMember {Q} {P} n k gs = (newer : List (Entry Q × P)) × (y : Entry Q × P) × (older : List (Entry Q × P))
+    × (gs ≡ newer ++ y ∷ older) × (y.0.by ≡ k) × (0 < k) × (k ≤ n)
+
+-- each of these clients is
 abbrev pub AreMembers : {Q P : Type 0} → ℕ → List ℕ → List (Entry Q × P) → Type 0
 AreMembers n [] gs = Unit {0}
-AreMembers {Q} {P} n (k ∷ ks) gs = ((pre : List (Entry Q × P)) × (y : Entry Q × P) × (post : List (Entry Q × P))
-    × (gs ≡ pre ++ y ∷ post) × (y.0.by ≡ k) × (0 < k) × (k ≤ n)) × AreMembers n ks gs
+AreMembers n (k ∷ ks) gs = IsMember n k gs × AreMembers n ks gs

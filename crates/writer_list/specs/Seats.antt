@@ -7,7 +7,7 @@ use Rattle.list_rule.specs.declared.view.Handling.{Handling}
 use Rattle.list_rule.specs.declared.view.Stage.TheVariants.{Idle}
 use Rattle.list_rule.specs.Chain.{of}
 use Rattle.list_rule.specs.declared.content.Start.{Start}
-use Rattle.list_rule.specs.Rule.{hold, logs_from, asks_for, last_run, Unnumbered}
+use Rattle.list_rule.specs.Rule.{hold, logs_from, asks_for, given_runs, Unnumbered}
 use Rattle.list_rule.specs.Plays.{At}
 use Rattle.wp_model.specs.declared.group.Item.{Item}
 use Rattle.writer_list.specs.declared.writer.Writer.{Writer}
@@ -32,6 +32,10 @@ module _ {Q P L M : Type 0} where
   abbrev pub Stays : Writer Q P L M → Writer Q P L M → Type 0
   Stays new old = (new.seat.table_id ≡ old.seat.table_id) × (new.client ≡ old.client)
 
+  -- and stands where it stood
+  abbrev pub StandsStill : Writer Q P L M → Writer Q P L M → Type 0
+  StandsStill new old = Stays new old × (new.task ≡ old.task) × (new.seat.me ≡ old.seat.me)
+
 module _ {Q P L M K : Type 0} where
   abbrev pub table_of : WriterList Q P L M K → TableId
   table_of list = list.table.shared.table_id
@@ -43,12 +47,9 @@ module _ {Q P L M K : Type 0} where
   abbrev pub about_of : WriterList Q P L M K → K
   about_of list = list.table.shared.key.about
 
-  -- the numbers of log and right at opening
+  -- the log's number at opening
   abbrev pub start_of : WriterList Q P L M K → ℕ
   start_of list = list.table.shared.key.log
-
-  abbrev pub right_start_of : WriterList Q P L M K → ℕ
-  right_start_of list = list.table.shared.key.right
 
   -- whether it has the second list
   abbrev pub piped_of : WriterList Q P L M K → Bool
@@ -71,7 +72,7 @@ module _ {Q P L M K : Type 0} where
 
   -- where there is a second list, no reply of a group that is refused gives a number
   abbrev pub flat_of : (P → ℕ × ℕ) → WriterList Q P L M K → List (Handling Q P) → List (Handling Q P) → Type 0
-  flat_of run list = Unnumbered (piped_of list) (last_run run (start_of list))
+  flat_of run list = Unnumbered (piped_of list) (given_runs run)
 
   abbrev pub AllNew : WriterList Q P L M K → List (Writer Q P L M) → Type 0
   AllNew list ws = AreNew list.table.shared.table_id list.clients ws
@@ -80,7 +81,7 @@ module _ {Q P L M K : Type 0} where
   abbrev pub HasOpened : Start K → WriterList Q P L M K → List (Writer Q P L M) → Type 0
   HasOpened start list ws = (clients_of list ≡ start.clients) × (start_of list ≡ start.log)
       × (about_of list ≡ start.about)
-      × (right_start_of list ≡ start.right) × (piped_of list ≡ start.pipelined) × AllNew list ws
+      × (piped_of list ≡ start.pipelined) × AllNew list ws
 
   -- it is a writer of this list
   abbrev pub Belongs : WriterList Q P L M K → Writer Q P L M → Type 0
@@ -93,10 +94,10 @@ module _ {Q P L M : Type 0} where
 
   -- it is in the list with q
   abbrev pub IsIn : (L → List (Handling Q P) → Type 0) → Q → List (Q × P) → Writer Q P L M → Type 0
-  IsIn stood q mine w = IsLinked stood w.client w.leads q mine w.seat.me
+  IsIn stood q mine w = IsLinked stood w.client w.task q mine w.seat.me
 
-  abbrev pub HasRole : (L → List (Handling Q P) → Type 0) → (List (Handling Q P) → Type 0) → Q → List (Q × P) → Role L P
-      → Writer Q P L M → Type 0
+  abbrev pub HasRole : (L → List (Handling Q P) → Type 0) → (List (Handling Q P) → Type 0) → Q → List (Q × P)
+      → Role L P → Writer Q P L M → Type 0
   HasRole stood kept q mine role w = Becomes stood kept w.client q mine role w.seat.me
 
   -- it leads as this writer, and all that was handled before is this

@@ -5,17 +5,17 @@ ghost use mathlib.Core.Option.{some};
 ghost use lib.ListN.{get_elem?};
 ghost use Rattle.list_rule.specs.declared.content.Content.TheVariants.{Empty, Log, Right};
 ghost use Rattle.list_rule.specs.declared.view.Handling.{Handling};
-ghost use Rattle.list_rule.specs.Rule.{last_run};
-ghost use Rattle.writer_list.specs.Seats.{table_of, clients_of, start_of, right_start_of, piped_of, law_of, AllOut, AllThere, Merged, holds_of};
+ghost use Rattle.list_rule.specs.Rule.{given_runs};
+ghost use Rattle.writer_list.specs.Seats.{table_of, clients_of, about_of, piped_of, law_of, AllOut, AllThere, Merged, holds_of};
 
 use crate::slots::{log_of, nothing_of, right_of};
 use crate::writer::Writer;
 use crate::writer_list::WriterList;
 use atomic_table::{Closed, Seat};
-use list_rule::{Both, Content, Given, Itemized, Ledger, Numbered, View};
+use list_rule::{Both, Content, Given, Itemized, Ledger, View};
 use std::alloc::Global;
 
-impl<Q: Itemized, P: Given, L: Ledger<Q, P>, M: Numbered> WriterList<Q, P, L, M> {
+impl<Q: Itemized, P: Given, L: Ledger<Q, P, M>, M> WriterList<Q, P, L, M> {
     /// Gives log and right back. The log stands for all that was handled, of which each client's own is what it was
     /// told, in its order.
     pub fn close(self, mut writers: Vec<Writer<Q, P, L, M>>) -> (L, M)
@@ -23,14 +23,14 @@ impl<Q: Itemized, P: Given, L: Ledger<Q, P>, M: Numbered> WriterList<Q, P, L, M>
             × (vec_len writers ≡ length writers.items) }
         ensures { (handled : List (Handling Q P))
             × law_of L.stands L.kept L.number_of P.run_of self result.0 handled
-            × (piped_of self ≡ false → M.number_of result.1 ≡ right_start_of self)
-            × (piped_of self ≡ true → M.number_of result.1 ≡ last_run P.run_of (start_of self) handled)
+            × (piped_of self ≡ false → L.serves (about_of self) result.1 [])
+            × (piped_of self ≡ true → L.serves (about_of self) result.1 (given_runs P.run_of handled))
             × Merged handled writers.items }
     {
         let Some(
             Writer {
                 client: _,
-                leads: _,
+                task: _,
                 mut seat,
             },
         ) = writers.pop()
@@ -63,7 +63,7 @@ impl<Q: Itemized, P: Given, L: Ledger<Q, P>, M: Numbered> WriterList<Q, P, L, M>
             let Some(
                 Writer {
                     client: _,
-                    leads: _,
+                    task: _,
                     seat,
                 },
             ) = writers.pop()

@@ -19,12 +19,10 @@ ghost use Rattle.writer_list.specs.Seats.{about_of, asks_of, client_of, clients_
 use crate::room::{Requests, Room};
 use crate::writer::Writer;
 use crate::writer_list::WriterList;
-use list_rule::{
-    Build, Content, Fetch, Given, Itemized, Ledger, Numbered, PickedAbout, ReadOlder, item_of,
-};
+use list_rule::{Build, Content, Fetch, Given, Itemized, Ledger, PickedAbout, ReadOlder, item_of};
 use std::marker::Brand;
 
-impl<Q: Itemized, P: Given, L: Ledger<Q, P>, M: Numbered> WriterList<Q, P, L, M> {
+impl<Q: Itemized, P: Given, L: Ledger<Q, P, M>, M> WriterList<Q, P, L, M> {
     /// Takes the requests of the leader's group in link order, its own first. The group is the grouping rule's of the
     /// queue as it stands at one moment of this call; who links later doesn't change it. Each request is lawful for
     /// this list.

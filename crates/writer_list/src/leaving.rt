@@ -15,11 +15,9 @@ ghost use Rattle.writer_list.specs.Seats.{asks_of, client_of, clients_of, law_of
 use crate::room::{Replies, Room};
 use crate::writer::Writer;
 use crate::writer_list::WriterList;
-use list_rule::{
-    Complete, Content, CutOff, Given, Itemized, Leave, Ledger, Numbered, Retire, Wake,
-};
+use list_rule::{Complete, Content, CutOff, Given, Itemized, Leave, Ledger, Retire, Wake};
 
-impl<Q: Itemized, P: Given, L: Ledger<Q, P>, M: Numbered> WriterList<Q, P, L, M> {
+impl<Q: Itemized, P: Given, L: Ledger<Q, P, M>, M> WriterList<Q, P, L, M> {
     /// Ends a group with its replies. The log, which stands for all that was handled before and for the group, goes
     /// back, or on to the next leader, and then each member is told its reply. The leader's own is answered.
     pub fn exit(

@@ -8,16 +8,21 @@
 
 mod closing;
 mod grouping;
+mod joining;
 mod leaving;
 mod linking;
 mod opening;
+mod parting;
 mod reply_law;
 mod room;
+mod second;
+mod serving;
 mod slots;
 mod writer;
 mod writer_list;
 
-pub use reply_law::replies_in_order;
+pub use reply_law::{members_in_order, replies_in_order};
 pub use room::{Lists, Replies, Requests, Room};
+pub use second::PipelinedRole;
 pub use writer::{Role, Writer};
 pub use writer_list::WriterList;

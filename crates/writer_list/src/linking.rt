@@ -1,26 +1,29 @@
 // How a writer links itself, and waits for its role.
-ghost use Rattle.std.specs.Prelude.{◌≡◌, ℕ, ◌+◌, ◌*◌, ◌^◌, ◌<◌, ◌≤◌, List, [], ◌∷◌, Some};
+ghost use Rattle.std.specs.Prelude.{◌≡◌, ℕ, ◌+◌, ◌*◌, ◌^◌, ◌<◌, ◌≤◌, ◌≢◌, true, List, [], ◌∷◌, Some};
 ghost use Rattle.list_rule.specs.declared.content.Content.{Content};
 ghost use Rattle.list_rule.specs.declared.content.Content.TheVariants.{Empty, Asked, Told, Log};
-ghost use Rattle.list_rule.specs.declared.view.Stage.TheVariants.{Idle, Collecting};
+ghost use Rattle.list_rule.specs.declared.view.Stage.TheVariants.{Idle, Waiting, Collecting};
 ghost use Rattle.list_rule.specs.Grouping.{code_by};
 ghost use Rattle.list_rule.specs.Rule.{logs_picked, kept_picked};
 ghost use Rattle.list_rule.specs.Plays.{At, Elected};
-ghost use Rattle.writer_list.specs.Roles.{IsLinked, Becomes};
+ghost use Rattle.writer_list.specs.Roles.{IsLinked, Becomes, Turns};
 ghost use Rattle.writer_list.specs.Seats.{client_of, about_of, law_of, kept_of, Belongs, IsOut, IsIn, HasRole, Stays, told};
+ghost use Rattle.writer_list.specs.declared.second.PipelinedRole.TheVariants.{Parallel};
+ghost use Rattle.writer_list.specs.declared.writer.Task.TheVariants.{Awaits, Leads};
 
-use crate::writer::{Role, Writer};
+use crate::second::PipelinedRole;
+use crate::writer::{Role, Task, Writer};
 use crate::writer_list::WriterList;
 use crossbeam_utils::Backoff;
 use list_rule::{
-    Begin, Content, Given, Itemized, Ledger, Link, NameOlder, Numbered, PickedAbout, ReadNewest,
-    ReadState, Rest, code_of,
+    Begin, Content, Given, Itemized, Ledger, Link, NameOlder, PickedAbout, ReadNewest, ReadState,
+    Rest, code_of,
 };
 use std::marker::Brand;
 use std::sync::Wait;
 use wp_model::Item;
 
-impl<Q: Itemized, P: Given, L: Ledger<Q, P>, M: Numbered> WriterList<Q, P, L, M> {
+impl<Q: Itemized, P: Given, L: Ledger<Q, P, M>, M> WriterList<Q, P, L, M> {
     /// Puts the writer, which is in no list, at the newest end, with a request of which grouping sees this item, and
     /// which is lawful for this list.
     pub fn link<R: Wait>(&self, rt: &R, writer: &mut Writer<Q, P, L, M>, item: Item, request: Q)
@@ -44,7 +47,13 @@ impl<Q: Itemized, P: Given, L: Ledger<Q, P>, M: Numbered> WriterList<Q, P, L, M>
             → HasRole (law_of L.stands L.kept L.number_of P.run_of self.now) (kept_of L.kept self.now)
             q (told writer.old) result writer.new) }
     {
-        self.await_from::<Brand, R>(rt, writer)
+        match writer.task {
+            Task::Awaits => self.await_alone::<Brand, R>(rt, writer),
+            Task::Leads => Role::LogLeader(self.claim::<Brand>(writer)),
+            Task::Helps => self.await_alone::<Brand, R>(rt, writer),
+            Task::Queues => unreachable!(),
+            Task::Serves => unreachable!(),
+        }
     }
 
     // The number and what the law is about are picked, since a step of the table knows neither.
@@ -66,7 +75,7 @@ impl<Q: Itemized, P: Given, L: Ledger<Q, P>, M: Numbered> WriterList<Q, P, L, M>
         ensures seat { Stays writer.new writer.old }
         ensures linked { (mine : List (Q × P)) → At writer.old.client Idle mine writer.old.seat.me
             → IsLinked (logs_picked L.stands L.kept L.number_of P.run_of B.number B.about)
-            writer.old.client writer.new.leads request mine writer.new.seat.me }
+            writer.old.client writer.new.task request mine writer.new.seat.me }
     {
         let shared = &self.table.shared;
         let c = writer.client;
@@ -81,7 +90,7 @@ impl<Q: Itemized, P: Given, L: Ledger<Q, P>, M: Numbered> WriterList<Q, P, L, M>
             shared.store::<NameOlder>(&mut writer.seat, 2 * c as usize + 3, newest + 256 * code);
             let found = shared.compare_exchange::<Link<B>>(&mut writer.seat, 0, newest, c as u64);
             if found == newest {
-                writer.leads = newest == 0;
+                writer.task = task_of(newest);
                 return;
             }
             backoff.snooze();
@@ -89,7 +98,8 @@ impl<Q: Itemized, P: Given, L: Ledger<Q, P>, M: Numbered> WriterList<Q, P, L, M>
         unreachable!()
     }
 
-    fn await_from<B: PickedAbout<L::About>, R: Wait>(
+    // A member works with nobody.
+    fn await_alone<B: PickedAbout<L::About>, R: Wait>(
         &self,
         rt: &R,
         writer: &mut Writer<Q, P, L, M>,
@@ -98,20 +108,41 @@ impl<Q: Itemized, P: Given, L: Ledger<Q, P>, M: Numbered> WriterList<Q, P, L, M>
         requires about { B.about ≡ Some self.now.table.shared.key.about }
         requires seat { (writer.old.seat.table_id ≡ self.now.table.shared.table_id)
             × (0 < writer.old.client) × (writer.old.client ≤ self.now.clients) }
-        requires linked { (q : Q) × (mine : List (Q × P))
-            × IsLinked (logs_picked L.stands L.kept L.number_of P.run_of B.number B.about)
-            writer.old.client writer.old.leads q mine writer.old.seat.me }
+        requires waits { (q : Q) × (mine : List (Q × P))
+            × At writer.old.client (Waiting q) mine writer.old.seat.me × (writer.old.seat.me.1 ≡ []) }
         ensures seat { Stays writer.new writer.old }
         ensures role { (q : Q) (mine : List (Q × P))
-            → IsLinked (logs_picked L.stands L.kept L.number_of P.run_of B.number B.about)
-            writer.old.client writer.old.leads q mine writer.old.seat.me
+            → At writer.old.client (Waiting q) mine writer.old.seat.me → writer.old.seat.me.1 ≡ []
             → Becomes (logs_picked L.stands L.kept L.number_of P.run_of B.number B.about)
             (kept_picked L.kept B.about) writer.old.client q mine result writer.new.seat.me }
     {
-        if writer.leads {
-            writer.leads = false;
-            return Role::LogLeader(self.claim::<B>(writer));
+        match self.await_from::<B, R>(rt, writer, false) {
+            PipelinedRole::LogLeader(log) => Role::LogLeader(log),
+            PipelinedRole::Done(reply) => Role::Done(reply),
+            _ => unreachable!(),
         }
+    }
+
+    // A member is answered Parallel where it may help.
+    pub(crate) fn await_from<B: PickedAbout<L::About>, R: Wait>(
+        &self,
+        rt: &R,
+        writer: &mut Writer<Q, P, L, M>,
+        may_help: bool,
+    ) -> PipelinedRole<L, M, P>
+        requires start { B.number ≡ self.now.table.shared.key.log }
+        requires about { B.about ≡ Some self.now.table.shared.key.about }
+        requires seat { (writer.old.seat.table_id ≡ self.now.table.shared.table_id)
+            × (0 < writer.old.client) × (writer.old.client ≤ self.now.clients) }
+        requires waits { (q : Q) × (mine : List (Q × P))
+            × At writer.old.client (Waiting q) mine writer.old.seat.me × (writer.old.seat.me.1 ≡ []) }
+        ensures seat { Stays writer.new writer.old }
+        ensures role { (q : Q) (mine : List (Q × P))
+            → At writer.old.client (Waiting q) mine writer.old.seat.me → writer.old.seat.me.1 ≡ []
+            → Turns (logs_picked L.stands L.kept L.number_of P.run_of B.number B.about)
+            (kept_picked L.kept B.about) writer.old.client writer.new.task q mine result writer.new.seat.me }
+        ensures parallel { result ≡ Parallel → may_help ≡ true }
+    {
         let c = writer.client;
         let backoff = Backoff::new();
         for _ in rt.forever() {
@@ -120,10 +151,14 @@ impl<Q: Itemized, P: Given, L: Ledger<Q, P>, M: Numbered> WriterList<Q, P, L, M>
                 .shared
                 .load::<ReadState<B>>(&mut writer.seat, 2 * c as usize + 2);
             if state == 16 {
-                return Role::Done(self.collect(writer));
+                return PipelinedRole::Done(self.collect(writer));
             }
             if state == 2 {
-                return Role::LogLeader(self.claim::<B>(writer));
+                return PipelinedRole::LogLeader(self.claim::<B>(writer));
+            }
+            if may_help && state == 8 {
+                writer.task = Task::Helps;
+                return PipelinedRole::Parallel;
             }
             self.bells.pause(rt, &backoff, c as u64);
         }
@@ -131,7 +166,7 @@ impl<Q: Itemized, P: Given, L: Ledger<Q, P>, M: Numbered> WriterList<Q, P, L, M>
     }
 
     // Takes the log out of its slot.
-    fn claim<B: PickedAbout<L::About>>(&self, writer: &mut Writer<Q, P, L, M>) -> L
+    pub(crate) fn claim<B: PickedAbout<L::About>>(&self, writer: &mut Writer<Q, P, L, M>) -> L
         requires seat { writer.old.seat.table_id ≡ self.now.table.shared.table_id }
         requires elected { (q : Q) × (mine : List (Q × P))
             × Elected (logs_picked L.stands L.kept L.number_of P.run_of B.number B.about)
@@ -176,5 +211,17 @@ impl<Q: Itemized, P: Given, L: Ledger<Q, P>, M: Numbered> WriterList<Q, P, L, M>
             }
             _ => unreachable!(),
         }
+    }
+}
+
+// What a writer is to do that found this newest writer as it linked.
+fn task_of(newest: u64) -> Task
+    ensures first { newest ≡ 0 → result ≡ Leads }
+    ensures behind { newest ≢ 0 → result ≡ Awaits }
+{
+    if newest == 0 {
+        Task::Leads
+    } else {
+        Task::Awaits
     }
 }

@@ -8,14 +8,14 @@ ghost use Rattle.writer_list.specs.Seats.{HasOpened};
 
 use crate::room::Lists;
 use crate::slots::{log_of, nothing_of, right_of};
-use crate::writer::Writer;
+use crate::writer::{Task, Writer};
 use crate::writer_list::WriterList;
 use atomic_table::{Refused, Seat, Table};
-use list_rule::{Content, First, Given, Itemized, Ledger, Numbered, Start, View};
+use list_rule::{Content, First, Given, Itemized, Ledger, Start, View};
 use std::alloc::Global;
 use waiting::Bells;
 
-impl<Q: Itemized + Drop, P: Given + Drop, L: Ledger<Q, P>, M: Numbered> WriterList<Q, P, L, M> {
+impl<Q: Itemized + Drop, P: Given + Drop, L: Ledger<Q, P, M>, M> WriterList<Q, P, L, M> {
     /// A list with a writer of each client, greatest number first, and the lists that each needs to lead. Where memory
     /// is short, log and right come back.
     pub fn open(
@@ -31,35 +31,9 @@ impl<Q: Itemized + Drop, P: Given + Drop, L: Ledger<Q, P>, M: Numbered> WriterLi
         ),
         (L, M),
     >
-        requires clients { (0 < start.now.clients) × (start.now.clients < 255) × (start.now.pipelined ≡ false) }
-        requires numbers { (L.number_of log ≡ start.now.log) × (M.number_of right ≡ start.now.right) }
-        requires log { L.stands start.now.about log [] × L.kept start.now.about [] }
-        ensures ok { IfOk result (λ r. HasOpened start.now r.0 r.1.items
-            × (vec_len r.1 ≡ start.now.clients) × (vec_len r.2 ≡ start.now.clients)
-            × AllReady start.now.clients r.2.items) }
-        ensures err { IfErr result (λ e. (e.0 ≡ log) × (e.1 ≡ right)) }
-    {
-        WriterList::open_as(alloc, start, log, right)
-    }
-
-    // The same of a list that may have the second one.
-    fn open_as(
-        alloc: Global,
-        start: &Start<L::About>,
-        log: L,
-        right: M,
-    ) -> Result<
-        (
-            WriterList<Q, P, L, M>,
-            Vec<Writer<Q, P, L, M>>,
-            Vec<Lists<Q, P>>,
-        ),
-        (L, M),
-    >
         requires clients { (0 < start.now.clients) × (start.now.clients < 255) }
-        requires numbers { (L.number_of log ≡ start.now.log) × (M.number_of right ≡ start.now.right) }
+        requires numbers { (L.number_of log ≡ start.now.log) × L.serves start.now.about right [] }
         requires log { L.stands start.now.about log [] × L.kept start.now.about [] }
-        requires even { start.now.pipelined ≡ true → start.now.right ≡ start.now.log }
         ensures ok { IfOk result (λ r. HasOpened start.now r.0 r.1.items
             × (vec_len r.1 ≡ start.now.clients) × (vec_len r.2 ≡ start.now.clients)
             × AllReady start.now.clients r.2.items) }
@@ -97,7 +71,7 @@ impl<Q: Itemized + Drop, P: Given + Drop, L: Ledger<Q, P>, M: Numbered> WriterLi
     }
 }
 
-impl<Q: Itemized, P: Given, L: Ledger<Q, P>, M: Numbered> WriterList<Q, P, L, M> {
+impl<Q: Itemized, P: Given, L: Ledger<Q, P, M>, M> WriterList<Q, P, L, M> {
     // The slots at the start.
     fn slots_for(
         alloc: Global,
@@ -162,7 +136,7 @@ impl<Q: Itemized, P: Given, L: Ledger<Q, P>, M: Numbered> WriterList<Q, P, L, M>
             let seat = self.table.shared.split_seat::<First>(&mut first);
             writers.push_reserved(Writer {
                 client: self.clients - made,
-                leads: false,
+                task: Task::Awaits,
                 seat,
             });
         }

@@ -4,11 +4,22 @@ ghost use Rattle.std.specs.Prelude.{◌≡◌};
 use atomic_table::Seat;
 use list_rule::{Content, View};
 
+/// What a writer is to do when it waits for its role the next time: to wait, to lead with the log that it has taken, to
+/// wait for its reply alone, to wait for the right, or to serve with the right that it has taken.
+#[derive(Clone, Copy)]
+pub(crate) enum Task {
+    Awaits,
+    Leads,
+    Helps,
+    Queues,
+    Serves,
+}
+
 /// A client's seat at the list.
 #[derive(Drop)]
 pub struct Writer<Q, P, L, M> {
     pub(crate) client: u32,
-    pub(crate) leads: bool,
+    pub(crate) task: Task,
     pub(crate) seat: Seat<Content<Q, P, L, M>, View<Q, P>>,
 }
 

@@ -2,14 +2,14 @@
 ghost use Rattle.std.specs.Prelude.{◌≡◌, ℕ, ◌+◌, ◌*◌, ◌<◌};
 
 use atomic_table::Table;
-use list_rule::{Content, Given, Itemized, Ledger, Numbered, Order, Start, View};
+use list_rule::{Content, Given, Itemized, Ledger, Order, Start, View};
 use std::alloc::Global;
 use waiting::Bells;
 
 /// A list of writers: of requests `Q`, replies `P`, the log `L`, which the leader has, and the right `M`, which is for
 /// the leaders of a second list.
 #[derive(Drop)]
-pub struct WriterList<Q: Itemized, P: Given, L: Ledger<Q, P>, M: Numbered> {
+pub struct WriterList<Q: Itemized, P: Given, L: Ledger<Q, P, M>, M> {
     pub(crate) table: Table<Content<Q, P, L, M>, View<Q, P>, Start<L::About>, Order, Global>,
     pub(crate) clients: u32,
     pub(crate) bells: Bells,

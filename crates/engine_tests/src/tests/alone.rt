@@ -137,10 +137,18 @@ const ROWS: [Row; 4] = [
 ];
 
 // The record of a batch that puts one byte at a key of one byte has 24 bytes. The batch begins behind the first seven.
-fn check_row<R: Threads + Wait + Abort + Sync>(rt: &R, alloc: Global, row: &Row) {
+fn check_row<R: Threads + Wait + Abort + Sync>(rt: &R, alloc: Global, row: &Row, pipelined: bool) {
     assert!(rt; row.last < MAX_SEQUENCE);
     let scripts = vec![in alloc; script(rt, alloc, row.steps, 1)].expect(rt, "memory");
-    let ended = ended(rt, alloc, row.fails, row.last, TableKind::One, &scripts);
+    let ended = ended(
+        rt,
+        alloc,
+        row.fails,
+        row.last,
+        TableKind::One,
+        pipelined,
+        &scripts,
+    );
     let told = ended.notes.first().expect(rt, "notes");
     assert_eq!(rt; told.as_slice(), row.notes);
     let last = row.last + 1;
@@ -157,6 +165,7 @@ fn check_row<R: Threads + Wait + Abort + Sync>(rt: &R, alloc: Global, row: &Row)
 #[test]
 fn one_client_is_told_how_its_calls_ended(rt: HostRuntime) {
     for row in &ROWS {
-        check_row(&rt, rt.alloc(), row);
+        check_row(&rt, rt.alloc(), row, false);
+        check_row(&rt, rt.alloc(), row, true);
     }
 }

@@ -59,20 +59,25 @@ fn owners(rt: &impl Abort, notes: &[Vec<Note>], round: Round) -> [usize; 201] {
 }
 
 // Two clients write a hundred times each: the runs 1 to 200 are given once each.
-#[test]
-fn two_write_at_once(rt: HostRuntime) {
-    let alloc = rt.alloc();
+fn two_write<R: Threads + Wait + Abort + Sync>(rt: &R, alloc: Global, pipelined: bool) {
     let round = Round {
         calls: 100,
         writes: 200,
         count: 1,
         last: 200,
     };
-    let own = script(&rt, alloc, &[PUT_A], 100);
-    let others = script(&rt, alloc, &[PUT_A], 100);
-    let ended = ended(&rt, alloc, &[], 0, TableKind::One, &[own, others]);
+    let own = script(rt, alloc, &[PUT_A], 100);
+    let others = script(rt, alloc, &[PUT_A], 100);
+    let ended = ended(rt, alloc, &[], 0, TableKind::One, pipelined, &[own, others]);
     assert_eq!(rt; (ended.last, ended.fault), (round.last, None));
-    owners(&rt, &ended.notes, round);
+    owners(rt, &ended.notes, round);
+}
+
+#[test]
+fn two_write_at_once(rt: HostRuntime) {
+    let alloc = rt.alloc();
+    two_write(&rt, alloc, false);
+    two_write(&rt, alloc, true);
 }
 
 /// What four clients write, four times each: both keys with a name of the write's own, which is one byte.
@@ -147,8 +152,13 @@ fn check_read(rt: &impl Abort, owner: &[usize; 201], note: Note) {
     }
 }
 
-// Four clients write both keys and read them, over a table of any kind.
-fn write_and_read_both<R: Threads + Wait + Abort + Sync>(rt: &R, alloc: Global, kind: TableKind)
+// Four clients write both keys and read them, over a table of any kind, in one stage or two.
+fn write_and_read_both<R: Threads + Wait + Abort + Sync>(
+    rt: &R,
+    alloc: Global,
+    kind: TableKind,
+    pipelined: bool,
+)
     requires { HasShards kind }
 {
     let mut scripts = Vec::with_capacity(alloc, 4).expect(rt, "memory");
@@ -157,7 +167,7 @@ fn write_and_read_both<R: Threads + Wait + Abort + Sync>(rt: &R, alloc: Global, 
             .push(writes_and_reads(rt, alloc, names))
             .expect(rt, "memory");
     }
-    let ended = ended(rt, alloc, &[], 0, kind, &scripts);
+    let ended = ended(rt, alloc, &[], 0, kind, pipelined, &scripts);
     assert_eq!(rt; (ended.last, ended.fault), (FOUR.last, None));
     let owner = owners(rt, &ended.notes, FOUR);
     for told in &ended.notes {
@@ -171,6 +181,8 @@ fn write_and_read_both<R: Threads + Wait + Abort + Sync>(rt: &R, alloc: Global, 
 #[test]
 fn no_read_sees_one_key_without_the_other(rt: HostRuntime) {
     let alloc = rt.alloc();
-    write_and_read_both(&rt, alloc, TableKind::One);
-    write_and_read_both(&rt, alloc, TableKind::Shards(3));
+    for pipelined in [false, true] {
+        write_and_read_both(&rt, alloc, TableKind::One, pipelined);
+        write_and_read_both(&rt, alloc, TableKind::Shards(3), pipelined);
+    }
 }

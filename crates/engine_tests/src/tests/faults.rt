@@ -50,14 +50,19 @@ fn safe_part(rt: &impl Abort, alloc: Global, disk: MemDisk) -> MemDisk {
     MemDisk::new(alloc, content.len(), content, &[]).expect(rt, "memory")
 }
 
-fn check_fault<R: Threads + Wait + Abort + Sync>(rt: &R, alloc: Global, fails: u64) {
+fn check_fault<R: Threads + Wait + Abort + Sync>(
+    rt: &R,
+    alloc: Global,
+    fails: u64,
+    pipelined: bool,
+) {
     let mut scripts = Vec::with_capacity(alloc, 4).expect(rt, "memory");
     for _ in 0..4 {
         scripts
             .push(script(rt, alloc, &STEPS, 1))
             .expect(rt, "memory");
     }
-    let ended = ended(rt, alloc, &[fails], 0, TableKind::One, &scripts);
+    let ended = ended(rt, alloc, &[fails], 0, TableKind::One, pipelined, &scripts);
     let mut disk = safe_part(rt, alloc, ended.disk);
     let Ok(found) = recover(alloc, &mut disk) else {
         panic!(rt; "not recovered")
@@ -71,6 +76,7 @@ fn check_fault<R: Threads + Wait + Abort + Sync>(rt: &R, alloc: Global, fails: u
 #[test]
 fn a_disk_call_fails_under_four(rt: HostRuntime) {
     for fails in 2..14u64 {
-        check_fault(&rt, rt.alloc(), fails);
+        check_fault(&rt, rt.alloc(), fails, false);
+        check_fault(&rt, rt.alloc(), fails, true);
     }
 }

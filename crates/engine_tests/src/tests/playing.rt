@@ -30,7 +30,7 @@ pub(super) type Members = Clients<Member, Room<MemDisk, MemoryTable, SteppedCloc
 
 pub(super) type Notes = Mutex<Vec<Note>>;
 
-// Opens an engine with a table of this kind over an empty disk with so much room, of whose calls those of a list fail.
+// Opens an engine with a table of this kind, in one stage or two, over an empty disk with so much room, of whose calls those of a list fail.
 // The first looks at the disk's length. The clock stands at 1000.
 pub(super) fn opened(
     rt: &impl Abort,
@@ -40,6 +40,7 @@ pub(super) fn opened(
     clients: u32,
     options: Options,
     kind: TableKind,
+    pipelined: bool,
 ) -> (Path, Members)
     requires options { (options.last ≤ max_sequence) × (options.batch_bytes ≤ 16777216) }
     requires clients { (0 < clients) × (clients ≤ 16) }
@@ -59,6 +60,7 @@ pub(super) fn opened(
         OpenGate,
         options,
         kind,
+        pipelined,
     ) {
         Ok(opened) => opened,
         Err(_) => panic!(rt; "no memory"),

@@ -253,7 +253,6 @@ pub(super) fn opened(
     let start = Start {
         clients,
         log: 0,
-        right: 0,
         pipelined: false,
         about: 0,
     };

@@ -9,10 +9,10 @@ pub returns-clause-read_newest : goal.returns-clause-read_newest
 returns-clause-read_newest g a z slots id me = peeks_second_is _ z.clients slots id me
 
 pub returns-clause-cut_away : goal.returns-clause-cut_away
-returns-clause-cut_away g a z slots id word c from new me lead mine newer x at all walk is cleared = cuts_as_is _ z.clients (some from) slots id me c word new lead mine newer x at walk is cleared all
+returns-clause-cut_away g a z slots id word c new from me lead mine newer x at all walk is cleared = cuts_as_is _ z.clients (some from) slots id me c word new lead mine newer x at walk is cleared all
 
 pub returns-clause-mark : goal.returns-clause-mark
-returns-clause-mark g a z slots id c from member me lead mine at all is = marks_is _ z.clients from slots id me c member lead mine none at is all
+returns-clause-mark g a z slots id c member from me lead mine at all is = marks_is _ z.clients from slots id me c member lead mine none at is all
 
 pub returns-clause-wake : goal.returns-clause-wake
 returns-clause-wake g a z slots id word c me lead x mine back gs p l more at group slot is lo hi stood hands = wakes_on_is _ z.clients slots id me c word lead x mine back gs p l more at group slot is (lo, hi) stood hands

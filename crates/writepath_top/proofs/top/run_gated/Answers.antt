@@ -10,7 +10,7 @@ pub returns-in-Ok-Run-clause-run : goal.returns-in-Ok-Run-clause-run
 returns-in-Ok-Run-clause-run g c = λ wanted asked.
     let given = c.in-Ok-Run in
     let does = c.run_script.ensures in
-    let same = of_run (asked_of c.args.words.now) given.shards given.group_bytes given.batch_bytes given.last asked.0 wanted (rw given.field-0-is at given.ensures.ok) asked.1 in
+    let same = of_run (asked_of c.args.words.now) given.pipelined given.shards given.group_bytes given.batch_bytes given.last asked.0 asked.1 wanted (rw given.field-0-is at given.ensures.ok) asked.2 in
     rw same (record {
       other = does.other;
       script = does.script;
@@ -27,7 +27,7 @@ pub returns-in-Ok-Generate-clause-generate : goal.returns-in-Ok-Generate-clause-
 returns-in-Ok-Generate-clause-generate g c = λ seed clients batches asked.
     let given = c.in-Ok-Generate in
     let does = c.run_generated.ensures in
-    let same = of_generate (asked_of c.args.words.now) given.shards given.seed given.clients given.batches asked.0 seed clients batches (rw given.field-0-is at given.ensures.ok) asked.1 in
+    let same = of_generate (asked_of c.args.words.now) given.pipelined given.shards given.seed given.clients given.batches asked.0 asked.1 seed clients batches (rw given.field-0-is at given.ensures.ok) asked.2 in
     rw (same.0, same.1, same.2) (record {
       one = does.status;
       source_untouched = refl;
@@ -77,7 +77,7 @@ pub returns-in-Ok-Run-clause-nothing : goal.returns-in-Ok-Run-clause-nothing
 returns-in-Ok-Run-clause-nothing g c = λ asked. absurd (not_nothing _ _ (rw c.in-Ok-Run.field-0-is at c.in-Ok-Run.ensures.ok) asked)
 
 pub returns-in-Ok-Run-clause-generate : goal.returns-in-Ok-Run-clause-generate
-returns-in-Ok-Run-clause-generate g c = λ seed clients batches asked. absurd (not_another is_run _ _ _ (rw c.in-Ok-Run.field-0-is at c.in-Ok-Run.ensures.ok) asked.1 refl refl)
+returns-in-Ok-Run-clause-generate g c = λ seed clients batches asked. absurd (not_another is_run _ _ _ (rw c.in-Ok-Run.field-0-is at c.in-Ok-Run.ensures.ok) asked.2 refl refl)
 
 pub returns-in-Ok-Run-clause-recover : goal.returns-in-Ok-Run-clause-recover
 returns-in-Ok-Run-clause-recover g c = λ asked. absurd (not_another is_run _ _ _ (rw c.in-Ok-Run.field-0-is at c.in-Ok-Run.ensures.ok) asked refl refl)
@@ -89,7 +89,7 @@ pub returns-in-Ok-Generate-clause-nothing : goal.returns-in-Ok-Generate-clause-n
 returns-in-Ok-Generate-clause-nothing g c = λ asked. absurd (not_nothing _ _ (rw c.in-Ok-Generate.field-0-is at c.in-Ok-Generate.ensures.ok) asked)
 
 pub returns-in-Ok-Generate-clause-run : goal.returns-in-Ok-Generate-clause-run
-returns-in-Ok-Generate-clause-run g c = λ options asked. absurd (not_another is_generate _ _ _ (rw c.in-Ok-Generate.field-0-is at c.in-Ok-Generate.ensures.ok) asked.1 refl refl)
+returns-in-Ok-Generate-clause-run g c = λ options asked. absurd (not_another is_generate _ _ _ (rw c.in-Ok-Generate.field-0-is at c.in-Ok-Generate.ensures.ok) asked.2 refl refl)
 
 pub returns-in-Ok-Generate-clause-recover : goal.returns-in-Ok-Generate-clause-recover
 returns-in-Ok-Generate-clause-recover g c = λ asked. absurd (not_another is_generate _ _ _ (rw c.in-Ok-Generate.field-0-is at c.in-Ok-Generate.ensures.ok) asked refl refl)
@@ -101,10 +101,10 @@ pub returns-in-Ok-Recover-clause-nothing : goal.returns-in-Ok-Recover-clause-not
 returns-in-Ok-Recover-clause-nothing g c = λ asked. absurd (not_nothing _ _ (rw c.in-Ok-Recover.field-0-is at c.in-Ok-Recover.ensures.ok) asked)
 
 pub returns-in-Ok-Recover-clause-run : goal.returns-in-Ok-Recover-clause-run
-returns-in-Ok-Recover-clause-run g c = λ options asked. absurd (not_another is_recover _ _ _ (rw c.in-Ok-Recover.field-0-is at c.in-Ok-Recover.ensures.ok) asked.1 refl refl)
+returns-in-Ok-Recover-clause-run g c = λ options asked. absurd (not_another is_recover _ _ _ (rw c.in-Ok-Recover.field-0-is at c.in-Ok-Recover.ensures.ok) asked.2 refl refl)
 
 pub returns-in-Ok-Recover-clause-generate : goal.returns-in-Ok-Recover-clause-generate
-returns-in-Ok-Recover-clause-generate g c = λ seed clients batches asked. absurd (not_another is_recover _ _ _ (rw c.in-Ok-Recover.field-0-is at c.in-Ok-Recover.ensures.ok) asked.1 refl refl)
+returns-in-Ok-Recover-clause-generate g c = λ seed clients batches asked. absurd (not_another is_recover _ _ _ (rw c.in-Ok-Recover.field-0-is at c.in-Ok-Recover.ensures.ok) asked.2 refl refl)
 
 pub returns-in-Ok-Recover-clause-replay : goal.returns-in-Ok-Recover-clause-replay
 returns-in-Ok-Recover-clause-replay g c = λ options asked. absurd (not_another is_recover _ _ _ (rw c.in-Ok-Recover.field-0-is at c.in-Ok-Recover.ensures.ok) asked refl refl)
@@ -113,19 +113,19 @@ pub returns-in-Ok-Replay-clause-nothing : goal.returns-in-Ok-Replay-clause-nothi
 returns-in-Ok-Replay-clause-nothing g c = λ asked. absurd (not_nothing _ _ (rw c.in-Ok-Replay.field-0-is at c.in-Ok-Replay.ensures.ok) asked)
 
 pub returns-in-Ok-Replay-clause-run : goal.returns-in-Ok-Replay-clause-run
-returns-in-Ok-Replay-clause-run g c = λ options asked. absurd (not_another is_replay _ _ _ (rw c.in-Ok-Replay.field-0-is at c.in-Ok-Replay.ensures.ok) asked.1 refl refl)
+returns-in-Ok-Replay-clause-run g c = λ options asked. absurd (not_another is_replay _ _ _ (rw c.in-Ok-Replay.field-0-is at c.in-Ok-Replay.ensures.ok) asked.2 refl refl)
 
 pub returns-in-Ok-Replay-clause-generate : goal.returns-in-Ok-Replay-clause-generate
-returns-in-Ok-Replay-clause-generate g c = λ seed clients batches asked. absurd (not_another is_replay _ _ _ (rw c.in-Ok-Replay.field-0-is at c.in-Ok-Replay.ensures.ok) asked.1 refl refl)
+returns-in-Ok-Replay-clause-generate g c = λ seed clients batches asked. absurd (not_another is_replay _ _ _ (rw c.in-Ok-Replay.field-0-is at c.in-Ok-Replay.ensures.ok) asked.2 refl refl)
 
 pub returns-in-Ok-Replay-clause-recover : goal.returns-in-Ok-Replay-clause-recover
 returns-in-Ok-Replay-clause-recover g c = λ asked. absurd (not_another is_replay _ _ _ (rw c.in-Ok-Replay.field-0-is at c.in-Ok-Replay.ensures.ok) asked refl refl)
 
 pub returns-in-Err-Usage-clause-run : goal.returns-in-Err-Usage-clause-run
-returns-in-Err-Usage-clause-run g c = λ options asked. absurd (not_nothing _ _ asked.1 ((rw c.in-Err-Usage.field-0-is at c.in-Err-Usage.ensures.usage) refl))
+returns-in-Err-Usage-clause-run g c = λ options asked. absurd (not_nothing _ _ asked.2 ((rw c.in-Err-Usage.field-0-is at c.in-Err-Usage.ensures.usage) refl))
 
 pub returns-in-Err-Usage-clause-generate : goal.returns-in-Err-Usage-clause-generate
-returns-in-Err-Usage-clause-generate g c = λ seed clients batches asked. absurd (not_nothing _ _ asked.1 ((rw c.in-Err-Usage.field-0-is at c.in-Err-Usage.ensures.usage) refl))
+returns-in-Err-Usage-clause-generate g c = λ seed clients batches asked. absurd (not_nothing _ _ asked.2 ((rw c.in-Err-Usage.field-0-is at c.in-Err-Usage.ensures.usage) refl))
 
 pub returns-in-Err-Usage-clause-recover : goal.returns-in-Err-Usage-clause-recover
 returns-in-Err-Usage-clause-recover g c = λ asked. absurd (not_nothing _ _ asked ((rw c.in-Err-Usage.field-0-is at c.in-Err-Usage.ensures.usage) refl))

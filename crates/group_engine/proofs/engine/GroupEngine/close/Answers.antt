@@ -1,17 +1,27 @@
-use Rattle.std.proofs.Common.{rules, ◌≤◌, ℕ, List, [], map, length, IfSome, sym, ap, subst, arith}
+use Rattle.std.proofs.Common.{rules, ◌≤◌, ℕ, List, [], map, length, IfSome, refl, sym, ap, subst, arith}
 use Rattle.wp_model.specs.Counts.{Rose}
 use Rattle.log_writer.specs.Words.{fault_of, disk_of}
 use Rattle.log_writer.specs.Written.{Wrote}
 use Rattle.table_rule.specs.Histories.{In}
 use Rattle.table_calls.specs.Account.{IsReady, IsClosing as IsTableClosing}
-use Rattle.writer_list.specs.Seats.{table_of, clients_of, AllOut, AllThere, Merged}
+use Rattle.writer_list.specs.Seats.{about_of, piped_of, table_of, clients_of, AllOut, AllThere, Merged}
 use Rattle.write_controller.specs.Passes.{noted, IsHistoryOf, IsNoteOf}
 use Rattle.account_model.specs.Closing.{all_attempts}
 use Rattle.group_rule.specs.Entries.{trace_of}
 use Rattle.group_engine.specs.Clients.{account_in, opened_log, settings_of}
 use Rattle.group_engine.specs.Handled.{commit_of}
 use Rattle.group_engine.proofs.engine.GroupEngine.close.Goals as goal
-use Rattle.group_engine.proofs.Ending.{accounts_number, all_out, all_passes, all_there, are_calls, is_engine, parts, passes_number, seats_ready, stands_here, written_by}
+use Rattle.group_engine.proofs.Ending.{accounts_number, all_out, all_passes, all_there, are_calls, is_engine, parts, passes_number, seats_ready, written_by}
+use Rattle.group_engine.proofs.Finally.{ends_at, ends_with, one_place}
+use Rattle.group_engine.proofs.Serves.{stands_by}
+use Rattle.table_rule.specs.declared.content.MemberVersions.{MemberVersions}
+
+-- the log alone
+abbrev our_log : Unit {0} → List (List MemberVersions) → Type 0
+our_log t u = Unit {0}
+
+abbrev as_is : List (List MemberVersions) → List (List MemberVersions)
+as_is u = u
 
 pub close-held-requires : goal.close-held-requires
 close-held-requires g c =
@@ -42,10 +52,20 @@ end_controller-requires-clause-note g c =
     let set = is_engine g.T.Table.opening g.T.Table.ours g.T.Table.account c.args.self c.args.clients.clients.items c.requires.all in
     subst (λ k. IsNoteOf k c.close-held.result.0.asked) set.controller c.close-held.ensures.1.0.note
 
+pub one_turn-turn-requires : goal.one_turn-turn-requires
+one_turn-turn-requires g c =
+    let e = c.args.self in let cs = c.args.clients.clients.items in let set = is_engine g.T.Table.opening g.T.Table.ours g.T.Table.account e cs c.requires.all in
+    let L = c.close-held.ensures in let held = c.close-held.result.0 in let right = c.close-held.result.1 in let about = about_of e.list in
+    let ends = ends_with g.T.Table.our_turn g.T.Table.history about held L.0 right (piped_of e.list) set.pipelined L.1.0 L.1.1 L.2 L.3 in
+    one_place g.T.Table.our_turn g.T.Table.history about held L.0 held.turn right.turn ends
+
 pub close-requires-clause-turn : goal.close-requires-clause-turn
 close-requires-clause-turn g c =
-    let set = is_engine g.T.Table.opening g.T.Table.ours g.T.Table.account c.args.self c.args.clients.clients.items c.requires.all in
-    subst (λ t. g.T.Table.our_turn t c.close-held.result.0.path.turn) set.table c.close-held.ensures.1.0.path.our
+    let e = c.args.self in let cs = c.args.clients.clients.items in let set = is_engine g.T.Table.opening g.T.Table.ours g.T.Table.account e cs c.requires.all in
+    let L = c.close-held.ensures in let held = c.close-held.result.0 in let right = c.close-held.result.1 in let about = about_of e.list in
+    let ends = ends_with g.T.Table.our_turn g.T.Table.history about held L.0 right (piped_of e.list) set.pipelined L.1.0 L.1.1 L.2 L.3 in
+    let at = ends_at g.T.Table.our_turn g.T.Table.history about held L.0 held.turn right.turn c.one_turn-turn.result ends c.one_turn-turn.ensures in
+    subst (λ t. g.T.Table.our_turn t c.one_turn-turn.result) set.table at.0
 
 pub close-requires-clause-clients : goal.close-requires-clause-clients
 close-requires-clause-clients g c =
@@ -61,8 +81,10 @@ returns g c =
     let set = is_engine opening ours account e cs all in
     let settings = settings_of opening ours account e in let accounts = map (account_in opening ours account) cs in
     let start : ℕ = (opening e.table).start in let fault = fault_of held.path.log in let asked = noted held.asked in
-    let commits = map commit_of L.0 in let published = g.T.Table.history held.path.turn in
-    let stands = stands_here opening ours account e cs all g.T.Table.our_turn g.T.Table.history asked held.path.log held.path.turn held.path.last L.0 L.1.0.path in
+    let commits = map commit_of L.0 in let published = g.T.Table.history c.one_turn-turn.result in let right = c.close-held.result.1 in let about = about_of e.list in
+    let ends = ends_with g.T.Table.our_turn g.T.Table.history about held L.0 right (piped_of e.list) set.pipelined L.1.0 L.1.1 L.2 L.3 in
+    let at = ends_at g.T.Table.our_turn g.T.Table.history about held L.0 held.turn right.turn c.one_turn-turn.result ends c.one_turn-turn.ensures in
+    let stands = stands_by our_log as_is about.opened.value held.path.log published held.path.last tt tt about.start start about.clients (clients_of e.list) about.group_bytes e.group_bytes asked asked L.0 refl set.start set.about_clients set.group_bytes refl at.1 in
     let merged = subst (Merged L.0) c.part_all.ensures.writers L.4 in
     let seen = subst (λ (ss : List _). IsTableClosing start published (map account ss)) c.part_all.ensures.seats c.close.ensures in
     let ended = c.end_controller.ensures in let calls = ended.0 in

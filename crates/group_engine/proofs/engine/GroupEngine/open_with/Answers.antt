@@ -1,4 +1,4 @@
-use Rattle.std.proofs.Common.{rules, ◌≡◌, ◌≤◌, ◌<◌, ◌+◌, [], vec_capacity, refl, sym, ap, ◌∙◌, subst, arith}
+use Rattle.std.proofs.Common.{rules, ◌≡◌, ◌≤◌, ◌<◌, ◌+◌, ℕ, List, [], Option, Some, None, ◌⊎◌, vec_capacity, refl, sym, ap, ◌∙◌, subst, arith}
 use Rattle.wp_model.specs.History.{max_sequence}
 use Rattle.log_writer.specs.Words.{disk_of}
 use Rattle.log_writer.specs.Opening.{HasOpened}
@@ -6,12 +6,20 @@ use Rattle.writer_list.specs.Rooms.{AllReady}
 use Rattle.writer_list.specs.Seats.{clients_of}
 use Rattle.account_model.specs.Accounts.{newcomer}
 use Rattle.write_controller.specs.Passes.{noted, IsNoteOf}
-use Rattle.group_engine.specs.Law.{StandsFor}
+use Rattle.group_engine.specs.Law.{LogStandsFor, ServesIs, TurnIs}
+use Rattle.table_rule.specs.declared.content.MemberVersions.{MemberVersions}
 use Rattle.group_engine.specs.Layout.{AreRoomy}
 use Rattle.group_engine.specs.AtStart.{AreSeatsAtStart}
-use Rattle.group_engine.proofs.First.{stands_first, kept_first}
+use Rattle.group_engine.proofs.First.{back_first, kept_first, place_first, stands_first, turn_first}
 use Rattle.group_engine.proofs.Seating.{seats_count, newcomer_at, are_ours, passes_at_start}
 use Rattle.group_engine.proofs.engine.GroupEngine.open_with.Goals as goal
+
+-- the log alone
+abbrev our_log : Unit {0} → List (List MemberVersions) → Type 0
+our_log t u = Unit {0}
+
+abbrev as_is : List (List MemberVersions) → List (List MemberVersions)
+as_is u = u
 
 pub overflow_cast-count : goal.overflow_cast-count
 overflow_cast-count g c =
@@ -31,19 +39,28 @@ open-requires-clause-clients g c =
     let given = c.args.given in
     let n = seats_count g.T.Table.ours g.T.Table.account given.table (g.T.Table.opening given.table).clients given.seats.clients c.requires.seats in
     let some = c.requires.clients.0 in let few = c.requires.clients.1 in let is = c.len-count.ensures in
-    (omega (arith, n, some, is), omega (arith, n, few, is), refl)
+    (omega (arith, n, some, is), omega (arith, n, few, is))
 
 pub open-requires-clause-log : goal.open-requires-clause-log
 open-requires-clause-log g c =
     let given = c.args.given in let last = c.args.options.last in let bytes = c.args.options.group_bytes in
     let first = c.groups_stay_consistent.ensures.first last c.from.result bytes in let note = c.first_note.ensures.note in
-    let fresh = stands_first g.T.Table.our_turn g.T.Table.history given.table given.log last c.from.result bytes given.seats.turn (noted c.first_note.result) first c.requires.turn.0 c.requires.turn.1 c.requires.log.1.fault note.1 in (
+    let fresh = stands_first our_log as_is tt given.log last c.from.result bytes [] (noted c.first_note.result) first tt refl c.requires.log.1.fault note.1 in
+    let t = turn_first g.T.Table.our_turn g.T.Table.history given.table given.seats.turn c.requires.turn.0 c.requires.turn.1 c.part_turn-with_log.result.0 c.part_turn-with_log.result.1 c.args.pipelined c.part_turn-with_log.ensures.single c.part_turn-with_log.ensures.piped in (
       record {
         note = subst (λ k. IsNoteOf k c.first_note.result) (sym c.of-2.ensures) note.0;
-        path = subst (λ (z : _ × _). StandsFor g.T.Table.our_turn g.T.Table.history z.0 z.1 last c.from.result bytes (noted c.first_note.result) given.log given.seats.turn last []) (λ i. (sym c.of.ensures i, sym c.of-3.ensures i)) fresh;
+        published = [];
+        path = subst (λ z. LogStandsFor z last c.from.result bytes (noted c.first_note.result) given.log [] last []) (sym c.of-3.ensures) fresh;
+        turn = subst (λ k. TurnIs g.T.Table.our_turn g.T.Table.history k c.args.pipelined [] c.part_turn-with_log.result.0) (sym c.of.ensures) t.0;
       },
       kept_first _ _ last c.from.result bytes first,
     )
+
+pub open-requires-clause-numbers : goal.open-requires-clause-numbers
+open-requires-clause-numbers g c =
+    let given = c.args.given in
+    let t = turn_first g.T.Table.our_turn g.T.Table.history given.table given.seats.turn c.requires.turn.0 c.requires.turn.1 c.part_turn-with_log.result.0 c.part_turn-with_log.result.1 c.args.pipelined c.part_turn-with_log.ensures.single c.part_turn-with_log.ensures.piped in
+    (refl, subst (λ k. ServesIs g.T.Table.our_turn g.T.Table.history k c.args.pipelined [] c.part_turn-with_log.result.1) (sym c.of.ensures) t.1)
 
 pub seat_all-requires-clause-engine : goal.seat_all-requires-clause-engine
 seat_all-requires-clause-engine g c =
@@ -61,7 +78,7 @@ seat_all-requires-clause-engine g c =
         start_number = ok.1 ∙ options.0;
         about_clients = ap (λ a. a.clients) about ∙ (c.from.ensures ∙ sym ok.0);
         group_bytes = ap (λ a. a.group_bytes) about;
-        single = ok.4;
+        pipelined = ap (λ a. a.pipelined) about ∙ sym ok.3;
         low = subst (λ k. k ≤ max_sequence) options.0 options.1;
         few = (let small : (g.T.Table.opening given.table).clients < 255 = omega (arith, few) in subst (λ k. k < 255) (sym count) small);
         batch_bytes = options.2;
@@ -74,21 +91,29 @@ seat_all-requires-clause-engine g c =
 pub seat_all-requires-clause-writers : goal.seat_all-requires-clause-writers
 seat_all-requires-clause-writers g c =
     let ok = c.in-Ok.ensures.ok in
-    (ok.0.5, sym c.in-Ok.writers.ok.0 ∙ (ok.1 ∙ sym ok.0.0))
+    (ok.0.4, sym c.in-Ok.writers.ok.0 ∙ (ok.1 ∙ sym ok.0.0))
 
 pub seat_all-requires-clause-lists : goal.seat_all-requires-clause-lists
 seat_all-requires-clause-lists g c =
     let ok = c.in-Ok.ensures.ok in
     (subst (λ n. AllReady n c.in-Ok.lists.items) (sym ok.0.0) ok.3, sym c.in-Ok.lists.ok.0 ∙ (ok.2 ∙ sym ok.0.0))
 
+pub one_turn-turn-requires : goal.one_turn-turn-requires
+one_turn-turn-requires g c =
+    let given = c.args.given in let err = c.in-Err.ensures.err in let p = c.part_turn-with_log in
+    subst (λ (z : Option _ × Option _). ((u : _) × (z.0 ≡ Some u) × (z.1 ≡ None)) ⊎ ((u : _) × (z.0 ≡ None) × (z.1 ≡ Some u))) (λ i. ((sym err.0 i).turn, (sym err.1 i).turn))
+    (place_first given.seats.turn p.result.0 p.result.1 c.args.pipelined p.ensures.single p.ensures.piped)
+
 pub returns-in-Err-clause-err : goal.returns-in-Err-clause-err
 returns-in-Err-clause-err g c =
-    let given = c.args.given in let back = c.in-Err.ensures.err.0 in
+    let given = c.args.given in let err = c.in-Err.ensures.err in let p = c.part_turn-with_log in
+    let at = subst (λ (z : Option _ × Option _). ((z.0 ≡ Some c.one_turn-turn.result) × (z.1 ≡ None)) ⊎ ((z.0 ≡ None) × (z.1 ≡ Some c.one_turn-turn.result))) (λ i. ((err.0 i).turn, (err.1 i).turn)) c.one_turn-turn.ensures in
+    let turn : c.one_turn-turn.result ≡ given.seats.turn = back_first given.seats.turn p.result.0 p.result.1 c.one_turn-turn.result c.args.pipelined p.ensures.single p.ensures.piped at in
     λ i. record {
-      log = (back i).path.log;
-      clock = (back i).clock;
+      log = (err.0 i).path.log;
+      clock = (err.0 i).clock;
       table = given.table;
-      seats = record { turn = (back i).path.turn; clients = given.seats.clients };
+      seats = record { turn = turn i; clients = given.seats.clients };
       gate = given.gate;
     }
 

@@ -14,13 +14,26 @@ use Rattle.group_engine.specs.declared.requests.Request.{Request}
 use Rattle.group_engine.specs.declared.requests.Reply.{Reply}
 use Rattle.group_engine.specs.Asking.{HasAskedFor, OnlyLooks, all_seen}
 use Rattle.group_engine.specs.Handled.{HandsBack, InOrder, IsHeldUp, commit_requests_of, handled_with, seen_at}
-use Rattle.group_engine.specs.Law.{StandsFor}
+use Rattle.group_engine.specs.Law.{LogStandsFor}
+use Rattle.group_engine.specs.Staged.{IsStaged, published_with}
+use Rattle.group_engine.specs.declared.layout.Layout.{Layout}
+use Rattle.table_rule.specs.declared.content.MemberVersions.{MemberVersions}
+use Rattle.group_engine.proofs.Staging.{laid, no_runs_held}
 use Rattle.group_engine.specs.Layout.{IsClear}
 use Rattle.group_engine.specs.Led.{IsLedGroup}
 use Rattle.group_engine.proofs.Serves.{as_many, asked_after, asked_delays, asked_is, asked_sees, asked_shown, back_unnoted, first_flag, held_at, held_back, held_order, held_shown, led_unnoted, looks_sees, order_unnoted, put_back, replies_at, replies_shown, stands_by, stands_held_up, stands_noted}
 use Rattle.group_engine.proofs.Views.{only_none, unseen_commits}
 use Rattle.group_engine.proofs.engine.GroupEngine.serve.Goals as goal
 use Rattle.group_engine.proofs.engine.GroupEngine.serve.Goals.{then-not-index, else-not-index+else-holds_up}
+use Rattle.group_engine.proofs.Standing.{last_low}
+use Rattle.wp_model.specs.History.{max_sequence}
+
+-- the log alone
+abbrev our_log : Unit {0} → List (List MemberVersions) → Type 0
+our_log t u = Unit {0}
+
+abbrev as_is : List (List MemberVersions) → List (List MemberVersions)
+as_is u = u
 
 pub returns-then-holds_up-clause-served : goal.returns-then-holds_up-clause-served
 returns-then-holds_up-clause-served g c =
@@ -48,8 +61,9 @@ returns-then-holds_up-clause-served g c =
         pass = R.pass.0;
         pass_number = R.pass.1 ∙ (A.pass.1 ∙ q.pass_number);
         number = q.number;
-        layout = q.layout;
       };
+      layout = laid (clients_of e.list) v.layout S.layout;
+      seat = refl;
       number = refl;
       start = refl;
       writer = refl;
@@ -85,9 +99,10 @@ returns-then-holds_up-clause-held g c hs st =
     let hold : HoldUp n = c.holds_up.ensures.held_up c.if-holds_up.true in
     let led : IsLedGroup about.group_bytes about.clients xs = subst (λ (z : ℕ × ℕ). IsLedGroup z.0 z.1 xs) (λ i. (sym q.is_engine.group_bytes i, sym q.is_engine.about_clients i)) S.led in
     record {
+      turn = st.turn;
       note = subst (λ ctl. IsNoteOf ctl c.ask-asked.result.1) (sym q.is_engine.controller) A.note.0;
-      path = stands_by g.T.Table.our_turn g.T.Table.history about.opened.value path.log path.turn path.last about.table.value about.table.value about.start about.start about.clients about.clients about.group_bytes about.group_bytes known (noted c.ask-asked.result.1) (hs ++ handled_with xs ys) refl refl refl refl (sym A.note.1)
-          (stands_held_up g.T.Table.our_turn g.T.Table.history about.opened.value path.log path.turn path.last e.controller d n about.table.value about.start about.clients about.group_bytes asked known hs xs ys zip is led (asked_is k was asked known xs n h about.group_bytes about.clients led S.leads) (asked_after k was asked known xs n h) hold may st.path);
+      path = stands_by our_log as_is about.opened.value path.log st.published path.last tt tt about.start about.start about.clients about.clients about.group_bytes about.group_bytes known (noted c.ask-asked.result.1) (hs ++ handled_with xs ys) refl refl refl refl (sym A.note.1)
+          (stands_held_up our_log as_is about.opened.value path.log st.published path.last e.controller d n tt about.start about.clients about.group_bytes asked known hs xs ys zip is led (asked_is k was asked known xs n h about.group_bytes about.clients led S.leads) (asked_after k was asked known xs n h) hold may st.path);
     }
 
 pub refuse_held_up-requires-clause-room : goal.refuse_held_up-requires-clause-room
@@ -100,70 +115,41 @@ refuse_held_up-requires-clause-room g c =
     let many = as_many xs left left_is in
     subst (λ (n : ℕ). n ≤ vec_capacity v.lists.replies.list) (sym many) S.room
 
-pub handle-path-requires-clause-seat : goal.handle-path-requires-clause-seat
-handle-path-requires-clause-seat g c =
-    let q = c.requires.served.seats in
-    (q.seat, q.ready, q.seat_number, q.number.0, subst (λ (n : ℕ). c.args.client.now.number ≤ n) (sym q.is_engine.clients) q.number.1)
+pub returns-then-holds_up-clause-staged : goal.returns-then-holds_up-clause-staged
+returns-then-holds_up-clause-staged g c =
+    let S = c.requires.served in let q = S.seats in let e = c.args.self.now in let v = c.args.client.now in
+    let xs : List (ℕ × Request) = v.lists.requests.list.items in
+    let n : Look = look_of c.ask-asked.result.0 in let same = c.deref_mut.ensures.value in
+    let L = v.lists.requests.list in let new : List (ℕ × Request) = c.ask-asked.new.requests in
+    let left : List (ℕ × Request) = take L.len (new ++ drop (length new) L.items) in
+    let left_is : left ≡ all_seen xs = put_back xs new L.len L.ok.0 (c.ask-asked.ensures.requests ∙ ap all_seen same) in
+    let d : Delay = record { pass = c.of.result } in
+    let ys : List (ℕ × Reply) = c.refuse_held_up.new.replies.items in
+    let zip : AllZip (IsHeldUp e.controller d n) (all_seen xs) ys = subst (λ l. AllZip (IsHeldUp e.controller d n) l ys) left_is c.refuse_held_up.ensures.replies in
+    (S.layout.clear.2, refl, no_runs_held e.controller d n (all_seen xs) ys zip)
 
-pub handle-path-requires-clause-start : goal.handle-path-requires-clause-start
-handle-path-requires-clause-start g c =
+pub log_phase-path-requires-clause-last : goal.log_phase-path-requires-clause-last
+log_phase-path-requires-clause-last g c =
+    let q = c.requires.served.seats in let e = c.args.self.now in let about = about_of e.list in let path = c.args.held.path in let st = c.requires.held.1 in
+    last_low our_log as_is tt about.opened.value about.start about.clients about.group_bytes (noted c.args.held.asked) path.log st.published path.last c.requires.held.0 st.path
+    (subst (λ (k : ℕ). k ≤ max_sequence) (sym q.is_engine.start) q.is_engine.low)
+
+pub log_phase-path-requires-clause-group : goal.log_phase-path-requires-clause-group
+log_phase-path-requires-clause-group g c =
     let S = c.requires.served in let q = S.seats in let e = c.args.self.now in let v = c.args.client.now in
     let xs : List (ℕ × Request) = v.lists.requests.list.items in
     let L = v.lists.requests.list in let new : List (ℕ × Request) = c.ask-asked.new.requests in
     let left : List (ℕ × Request) = take L.len (new ++ drop (length new) L.items) in
     let left_is : left ≡ all_seen xs = put_back xs new L.len L.ok.0 (c.ask-asked.ensures.requests ∙ ap all_seen c.deref_mut.ensures.value) in
-    let many = as_many xs left left_is in
-    let few = q.is_engine.few in let most = S.few in
-    (q.is_engine.low, omega (arith, few, most, many))
-
-pub handle-path-requires-clause-layout : goal.handle-path-requires-clause-layout
-handle-path-requires-clause-layout g c =
-    let S = c.requires.served in let q = S.seats in let e = c.args.self.now in let v = c.args.client.now in
-    let xs : List (ℕ × Request) = v.lists.requests.list.items in
-    let L = v.lists.requests.list in let new : List (ℕ × Request) = c.ask-asked.new.requests in
-    let left : List (ℕ × Request) = take L.len (new ++ drop (length new) L.items) in
-    let left_is : left ≡ all_seen xs = put_back xs new L.len L.ok.0 (c.ask-asked.ensures.requests ∙ ap all_seen c.deref_mut.ensures.value) in
-    let many = as_many xs left left_is in
-    let most = S.few in let plans = q.layout.plans in let batches = q.layout.batches in
-    (subst (λ (n : ℕ). IsClear n v.layout) (sym q.is_engine.clients) q.layout.clear, omega (arith, most, plans, many), omega (arith, most, batches, many))
-
-pub handle-path-requires-clause-replies : goal.handle-path-requires-clause-replies
-handle-path-requires-clause-replies g c =
-    let S = c.requires.served in let q = S.seats in let e = c.args.self.now in let v = c.args.client.now in
-    let xs : List (ℕ × Request) = v.lists.requests.list.items in
-    let L = v.lists.requests.list in let new : List (ℕ × Request) = c.ask-asked.new.requests in
-    let left : List (ℕ × Request) = take L.len (new ++ drop (length new) L.items) in
-    let left_is : left ≡ all_seen xs = put_back xs new L.len L.ok.0 (c.ask-asked.ensures.requests ∙ ap all_seen c.deref_mut.ensures.value) in
-    let many = as_many xs left left_is in
-    (S.no_replies, subst (λ (n : ℕ). n ≤ vec_capacity v.lists.replies.list) (sym many) S.room)
-
-pub handle-path-requires-clause-group : goal.handle-path-requires-clause-group
-handle-path-requires-clause-group g c =
-    let S = c.requires.served in let q = S.seats in let e = c.args.self.now in
-    let xs : List (ℕ × Request) = c.args.client.now.lists.requests.list.items in
-    let L = c.args.client.now.lists.requests.list in let new : List (ℕ × Request) = c.ask-asked.new.requests in
-    let left : List (ℕ × Request) = take L.len (new ++ drop (length new) L.items) in
-    let left_is : left ≡ all_seen xs = put_back xs new L.len L.ok.0 (c.ask-asked.ensures.requests ∙ ap all_seen c.deref_mut.ensures.value) in
-    let led = subst (λ (z : ℕ × List (ℕ × Request)). IsLedGroup e.group_bytes z.0 z.1) (λ i. (sym q.is_engine.clients i, sym left_is i)) (led_unnoted e.group_bytes (clients_of e.list) xs S.led) in
+    let led = subst (λ (z : ℕ × List (ℕ × Request)). IsLedGroup e.group_bytes z.0 z.1) (λ i. (sym S.layout.clear.3 i, sym left_is i)) (led_unnoted e.group_bytes (clients_of e.list) xs S.led) in
     (e.group_bytes, led)
-
-pub handle-path-requires-clause-path : goal.handle-path-requires-clause-path
-handle-path-requires-clause-path g c =
-    let q = c.requires.served.seats in let e = c.args.self.now in let about = about_of e.list in let path = c.args.held.path in let home = g.T.Table.opening e.table in let E = q.is_engine in
-    let asked : List ControllerCall = noted c.args.held.asked in let hs = c.requires.held.0 in (
-      about.opened.value,
-      e.group_bytes,
-      asked,
-      hs,
-      stands_by g.T.Table.our_turn g.T.Table.history about.opened.value path.log path.turn path.last about.table.value e.table about.start home.start about.clients home.clients about.group_bytes e.group_bytes asked asked hs E.table E.start (E.about_clients ∙ sym E.clients) E.group_bytes refl c.requires.held.1.path,
-    )
 
 pub returns-clause-served : goal.returns-clause-served
 returns-clause-served g c =
     let S = c.requires.served in let q = S.seats in let e = c.args.self.now in let v = c.args.client.now in
     let xs : List (ℕ × Request) = v.lists.requests.list.items in let k : ℕ = v.number in let was : List ControllerCall = seen_by v.pass in
     let asked : List ControllerCall = noted c.args.held.asked in
-    let A = c.ask-asked.ensures in let H = c.handle-path.ensures in
+    let A = c.ask-asked.ensures in let H = c.log_phase-path.ensures in
     let n : Look = look_of c.ask-asked.result.0 in let known : List ControllerCall = seen_by c.ask-asked.new.pass in
     let L = v.lists.requests.list in let new : List (ℕ × Request) = c.ask-asked.new.requests in let same = c.deref_mut.ensures.value in
     let h : HasAskedFor k was asked xs n known = subst (λ (z : ℕ × List (ℕ × Request)). HasAskedFor z.0 was asked z.1 n known) (λ i. (q.pass_number i, same i)) A.asked in
@@ -171,7 +157,7 @@ returns-clause-served g c =
     let left_is : left ≡ all_seen xs = put_back xs new L.len L.ok.0 (A.requests ∙ ap all_seen same) in
     let d : Delay = record { pass = c.of.result } in
     let is : seen_at d ≡ known = ap seen_by c.of.ensures in
-    let ys : List (ℕ × Reply) = c.handle-path.new.replies.items in
+    let ys : List (ℕ × Reply) = c.log_phase-path.new.replies.items in
     let own : client_of c.ask-asked.new.pass ≡ k = A.pass.1 ∙ q.pass_number in
     let now : Pass = c.if-not-index.client.1.1.1.1.1.0 in
     let waits = elim c.if-not-index.branch as (λ _. IsPassOf e.controller now × (client_of now ≡ k) × OnlyLooks k known (seen_by now)) [
@@ -183,22 +169,26 @@ returns-clause-served g c =
           let now_is : now ≡ c.ask-asked.new.pass = λ i. (w.client-is i).1.1.1.1.1.0 in
           subst (λ (p : Pass). IsPassOf e.controller p × (client_of p ≡ k) × OnlyLooks k known (seen_by p)) (sym now_is) (A.pass.0, own, only_none k known)
     ] in
-    let few = q.is_engine.clients in let layout = c.handle-path.new.layout in
+    let layout = c.log_phase-path.new.layout in
     record {
       seats = record {
         is_engine = q.is_engine;
-        seat = H.seat.0;
-        ready = H.seat.1;
-        seat_number = H.seat.2;
+        seat = q.seat;
+        ready = q.ready;
+        seat_number = q.seat_number;
         pass = waits.0;
         pass_number = waits.1;
         number = q.number;
-        layout = record {
-          clear = subst (λ m. IsClear m layout) few H.taken.1;
-          plans = subst (λ m. clients_of e.list ≤ m) (sym H.room.1) q.layout.plans;
-          batches = subst (λ m. clients_of e.list ≤ m) (sym H.room.2) q.layout.batches;
-        };
       };
+      layout = record {
+        no_plans = H.taken.1;
+        no_batches = H.taken.2;
+        clients_are = H.taken.3 ∙ S.layout.clear.3;
+        plans = subst (λ m. clients_of e.list ≤ m) (sym H.room.1) S.layout.plans;
+        batches = subst (λ m. clients_of e.list ≤ m) (sym H.room.2) S.layout.batches;
+        members = subst (λ v. clients_of e.list ≤ vec_capacity v) (sym H.members) S.layout.members;
+      };
+      seat = refl;
       number = refl;
       start = refl;
       writer = refl;
@@ -217,10 +207,10 @@ returns-clause-served g c =
 
 pub returns-clause-held : goal.returns-clause-held
 returns-clause-held g c hs st =
-    let S = c.requires.served in let q = S.seats in let E = q.is_engine in let e = c.args.self.now in let v = c.args.client.now in let about = about_of e.list in let path = c.args.held.path in let home = g.T.Table.opening e.table in
+    let S = c.requires.served in let q = S.seats in let E = q.is_engine in let e = c.args.self.now in let v = c.args.client.now in let about = about_of e.list in let path = c.args.held.path in
     let xs : List (ℕ × Request) = v.lists.requests.list.items in let k : ℕ = v.number in let was : List ControllerCall = seen_by v.pass in
     let asked : List ControllerCall = noted c.args.held.asked in
-    let A = c.ask-asked.ensures in let H = c.handle-path.ensures in
+    let A = c.ask-asked.ensures in let H = c.log_phase-path.ensures in
     let n : Look = look_of c.ask-asked.result.0 in let known : List ControllerCall = seen_by c.ask-asked.new.pass in
     let L = v.lists.requests.list in let new : List (ℕ × Request) = c.ask-asked.new.requests in let same = c.deref_mut.ensures.value in
     let h : HasAskedFor k was asked xs n known = subst (λ (z : ℕ × List (ℕ × Request)). HasAskedFor z.0 was asked z.1 n known) (λ i. (q.pass_number i, same i)) A.asked in
@@ -228,18 +218,21 @@ returns-clause-held g c hs st =
     let left_is : left ≡ all_seen xs = put_back xs new L.len L.ok.0 (A.requests ∙ ap all_seen same) in
     let d : Delay = record { pass = c.of.result } in
     let is : seen_at d ≡ known = ap seen_by c.of.ensures in
-    let ys : List (ℕ × Reply) = c.handle-path.new.replies.items in
-    let led : IsLedGroup e.group_bytes home.clients left = subst (λ (z : ℕ × List (ℕ × Request)). IsLedGroup e.group_bytes z.0 z.1) (λ i. (sym E.clients i, sym left_is i)) (led_unnoted e.group_bytes (clients_of e.list) xs S.led) in
+    let ys : List (ℕ × Reply) = c.log_phase-path.new.replies.items in
+    let many : ℕ = v.layout.parts.clients in
+    let led : IsLedGroup about.group_bytes many left = subst (λ (z : ℕ × ℕ × List (ℕ × Request)). IsLedGroup z.0 z.1 z.2) (λ i. (sym E.group_bytes i, sym S.layout.clear.3 i, sym left_is i)) (led_unnoted e.group_bytes (clients_of e.list) xs S.led) in
     let comes : ComesAfter asked (seen_at d) = subst (ComesAfter asked) (sym is) (asked_after k was asked known xs n h) in
     let alike : commit_requests_of left ≡ commit_requests_of xs = ap commit_requests_of left_is ∙ unseen_commits xs in
     let is_for : IsAskedFor (commit_requests_of left) n (seen_at d) = subst (λ (z : List CommitRequest × List ControllerCall). IsAskedFor z.0 n z.1) (λ i. (sym alike i, sym is i)) (asked_is k was asked known xs n h e.group_bytes (clients_of e.list) S.led S.leads) in
-    let before = stands_by g.T.Table.our_turn g.T.Table.history about.opened.value path.log path.turn path.last about.table.value e.table about.start home.start about.clients home.clients about.group_bytes e.group_bytes asked asked hs E.table E.start (E.about_clients ∙ sym E.clients) E.group_bytes refl st.path in
-    let p = c.handle-path.result in
-    let after = H.path about.opened.value e.group_bytes asked hs n led comes is_for before in
-    let unnoted = subst (λ l. StandsFor g.T.Table.our_turn g.T.Table.history e.table about.opened.value home.start home.clients e.group_bytes (seen_at d) p.log p.turn p.last (hs ++ handled_with l ys)) left_is after in
-    let as_was = stands_noted g.T.Table.our_turn g.T.Table.history about.opened.value p.log p.turn p.last e.table home.start home.clients e.group_bytes (seen_at d) hs xs ys unnoted in
+    let clients_are : about.clients ≡ many = E.about_clients ∙ sym S.layout.clear.3 in
+    let before : LogStandsFor about.opened.value about.start many about.group_bytes asked path.log st.published path.last hs = stands_by our_log as_is about.opened.value path.log st.published path.last tt tt about.start about.start about.clients many about.group_bytes about.group_bytes asked asked hs refl refl clients_are refl refl st.path in
+    let p = c.log_phase-path.result.0 in
+    let now = published_with c.log_phase-path.result.1 c.log_phase-path.new.layout.parts.parts st.published in
+    let after = H.path about.opened.value about.start about.group_bytes asked st.published hs n led comes is_for before in
+    let unnoted = subst (λ l. LogStandsFor about.opened.value about.start many about.group_bytes (seen_at d) p.log now p.last (hs ++ handled_with l ys)) left_is after in
+    let as_was = stands_noted our_log as_is about.opened.value p.log now p.last tt about.start many about.group_bytes (seen_at d) hs xs ys unnoted in
     record {
       note = subst (λ ctl. IsNoteOf ctl c.ask-asked.result.1) (sym E.controller) A.note.0;
-      path = stands_by g.T.Table.our_turn g.T.Table.history about.opened.value p.log p.turn p.last e.table about.table.value home.start about.start home.clients about.clients e.group_bytes about.group_bytes (seen_at d) (noted c.ask-asked.result.1) (hs ++ handled_with xs ys)
-          (sym E.table) (sym E.start) (E.clients ∙ sym E.about_clients) (sym E.group_bytes) (is ∙ sym A.note.1) as_was;
+      path = stands_by our_log as_is about.opened.value p.log now p.last tt tt about.start about.start many about.clients about.group_bytes about.group_bytes (seen_at d) (noted c.ask-asked.result.1) (hs ++ handled_with xs ys) refl refl (sym clients_are) refl (is ∙ sym A.note.1) as_was;
+      turn = st.turn;
     }

@@ -8,26 +8,27 @@ use Rattle.group_rule.specs.Asked.{HasAsked}
 use Rattle.group_engine.specs.declared.requests.Request.{Request}
 use Rattle.group_engine.specs.declared.requests.Reply.{Reply}
 use Rattle.group_engine.specs.Clients.{own_commits}
-use Rattle.group_engine.proofs.Leads.{as_done, as_leader, asked_more, kept_in, law_in, linked_told, of_engine}
+use Rattle.group_engine.proofs.Leads.{as_done, as_leader, asked_more, linked_told, of_engine}
+use Rattle.group_engine.specs.Law.{kept_in, law_in}
 use Rattle.group_engine.proofs.engine.GroupEngine.submit.Goals as goal
 
-pub await_role-requires : goal.await_role-requires
-await_role-requires g c =
+pub await_own_role-requires-clause-list : goal.await_own_role-requires-clause-list
+await_own_role-requires-clause-list g c =
     let S = c.requires.client.seated in let w0 = c.args.client.now.writer in let w1 = c.link.new.writer in
     let list = c.args.self.now.list in
     let linked = c.link.ensures.linked.1 in
-    let told1 : told w1 ≡ told w0 = linked_told _ w1.client w1.leads c.args.request (told w0) w1.seat.me linked in
+    let told1 : told w1 ≡ told w0 = linked_told _ w1.client w1.task c.args.request (told w0) w1.seat.me linked in
     (c.link.ensures.linked.0, (c.args.request, subst (λ (mine : List (Request × Reply)). IsIn (law_in g.T.Table.our_turn g.T.Table.history list) c.args.request mine w1) (sym told1) linked))
 
 pub lead-requires-clause-seated : goal.lead-requires-clause-seated
 lead-requires-clause-seated g c =
     let S = c.requires.client.seated in record {
       is_engine = S.is_engine;
-      writer = c.await_role.ensures.role.0;
-      number = c.await_role.ensures.client ∙ (c.link.ensures.client ∙ S.number);
-      seat = S.seat;
-      ready = S.ready;
-      seat_number = S.seat_number;
+      writer = c.await_own_role.ensures.role.0;
+      number = c.await_own_role.ensures.client ∙ (c.link.ensures.client ∙ S.number);
+      seat = c.await_own_role.ensures.seat.0;
+      ready = c.await_own_role.ensures.seat.1;
+      seat_number = c.await_own_role.ensures.seat.2 ∙ S.seat_number;
       start = S.start;
       pass = S.pass;
       pass_number = S.pass_number;
@@ -39,11 +40,11 @@ lead-requires-clause-has_asked g c =
     let S = c.requires.client.seated in let w0 = c.args.client.now.writer in let w1 = c.link.new.writer in
     let list = c.args.self.now.list in
     let linked = c.link.ensures.linked.1 in
-    let told1 : told w1 ≡ told w0 = linked_told _ w1.client w1.leads c.args.request (told w0) w1.seat.me linked in
-    let w2 = c.await_role.new.writer in
-    let role = c.await_role.ensures.role.1 c.args.request (subst (λ (mine : List (Request × Reply)). IsIn (law_in g.T.Table.our_turn g.T.Table.history list) c.args.request mine w1) (sym told1) linked) in
-    let client2 : w2.client ≡ c.args.client.now.number = c.await_role.ensures.client ∙ (c.link.ensures.client ∙ S.number) in
-    let B = as_leader (law_in g.T.Table.our_turn g.T.Table.history list) (kept_in list) w2.client c.args.request (told w1) c.await_role.result c.in-LogLeader.held w2.seat.me c.in-LogLeader.is role in
+    let told1 : told w1 ≡ told w0 = linked_told _ w1.client w1.task c.args.request (told w0) w1.seat.me linked in
+    let w2 = c.await_own_role.new.writer in
+    let role = c.await_own_role.ensures.role.1 c.args.request (subst (λ (mine : List (Request × Reply)). IsIn (law_in g.T.Table.our_turn g.T.Table.history list) c.args.request mine w1) (sym told1) linked) in
+    let client2 : w2.client ≡ c.args.client.now.number = c.await_own_role.ensures.client ∙ (c.link.ensures.client ∙ S.number) in
+    let B = as_leader (law_in g.T.Table.our_turn g.T.Table.history list) (kept_in list) w2.client c.args.request (told w1) c.await_own_role.result c.in-LogLeader.held w2.seat.me c.in-LogLeader.is role in
     let told2 : told w2 ≡ told w1 = ap told_in_first B.2.0 in
     subst (λ (mine : List (Request × Reply)). HasAsked c.args.client.now.number (own_commits c.args.client.now.number mine) (seen_by c.args.client.now.pass)) (sym (told2 ∙ told1)) c.requires.client.has_asked
 
@@ -52,11 +53,11 @@ lead-requires-clause-leads g c =
     let S = c.requires.client.seated in let w0 = c.args.client.now.writer in let w1 = c.link.new.writer in
     let list = c.args.self.now.list in
     let linked = c.link.ensures.linked.1 in
-    let told1 : told w1 ≡ told w0 = linked_told _ w1.client w1.leads c.args.request (told w0) w1.seat.me linked in
-    let w2 = c.await_role.new.writer in
-    let role = c.await_role.ensures.role.1 c.args.request (subst (λ (mine : List (Request × Reply)). IsIn (law_in g.T.Table.our_turn g.T.Table.history list) c.args.request mine w1) (sym told1) linked) in
-    let client2 : w2.client ≡ c.args.client.now.number = c.await_role.ensures.client ∙ (c.link.ensures.client ∙ S.number) in
-    let B = as_leader (law_in g.T.Table.our_turn g.T.Table.history list) (kept_in list) w2.client c.args.request (told w1) c.await_role.result c.in-LogLeader.held w2.seat.me c.in-LogLeader.is role in
+    let told1 : told w1 ≡ told w0 = linked_told _ w1.client w1.task c.args.request (told w0) w1.seat.me linked in
+    let w2 = c.await_own_role.new.writer in
+    let role = c.await_own_role.ensures.role.1 c.args.request (subst (λ (mine : List (Request × Reply)). IsIn (law_in g.T.Table.our_turn g.T.Table.history list) c.args.request mine w1) (sym told1) linked) in
+    let client2 : w2.client ≡ c.args.client.now.number = c.await_own_role.ensures.client ∙ (c.link.ensures.client ∙ S.number) in
+    let B = as_leader (law_in g.T.Table.our_turn g.T.Table.history list) (kept_in list) w2.client c.args.request (told w1) c.await_own_role.result c.in-LogLeader.held w2.seat.me c.in-LogLeader.is role in
     let told2 : told w2 ≡ told w1 = ap told_in_first B.2.0 in
     let e = S.is_engine in (
       B.0,
@@ -72,21 +73,21 @@ returns-in-Done-clause-fits g c =
     let S = c.requires.client.seated in let w0 = c.args.client.now.writer in let w1 = c.link.new.writer in
     let list = c.args.self.now.list in
     let linked = c.link.ensures.linked.1 in
-    let told1 : told w1 ≡ told w0 = linked_told _ w1.client w1.leads c.args.request (told w0) w1.seat.me linked in
-    let w2 = c.await_role.new.writer in
-    let role = c.await_role.ensures.role.1 c.args.request (subst (λ (mine : List (Request × Reply)). IsIn (law_in g.T.Table.our_turn g.T.Table.history list) c.args.request mine w1) (sym told1) linked) in
-    let client2 : w2.client ≡ c.args.client.now.number = c.await_role.ensures.client ∙ (c.link.ensures.client ∙ S.number) in
-    let B = as_done (law_in g.T.Table.our_turn g.T.Table.history list) (kept_in list) w2.client c.args.request (told w1) c.await_role.result c.in-Done.reply w2.seat.me c.in-Done.is role in
+    let told1 : told w1 ≡ told w0 = linked_told _ w1.client w1.task c.args.request (told w0) w1.seat.me linked in
+    let w2 = c.await_own_role.new.writer in
+    let role = c.await_own_role.ensures.role.1 c.args.request (subst (λ (mine : List (Request × Reply)). IsIn (law_in g.T.Table.our_turn g.T.Table.history list) c.args.request mine w1) (sym told1) linked) in
+    let client2 : w2.client ≡ c.args.client.now.number = c.await_own_role.ensures.client ∙ (c.link.ensures.client ∙ S.number) in
+    let B = as_done (law_in g.T.Table.our_turn g.T.Table.history list) (kept_in list) w2.client c.args.request (told w1) c.await_own_role.result c.in-Done.reply w2.seat.me c.in-Done.is role in
     let told2 : told w2 ≡ told w1 ++ (c.args.request, c.in-Done.reply) ∷ [] = ap told_in_first B.0 in
     let both : told w2 ≡ told w0 ++ (c.args.request, c.in-Done.reply) ∷ [] = told2 ∙ (λ i. told1 i ++ (c.args.request, c.in-Done.reply) ∷ []) in
     record {
       seated = record {
         is_engine = S.is_engine;
-        writer = c.await_role.ensures.role.0;
+        writer = c.await_own_role.ensures.role.0;
         number = client2;
-        seat = S.seat;
-        ready = S.ready;
-        seat_number = S.seat_number;
+        seat = c.await_own_role.ensures.seat.0;
+        ready = c.await_own_role.ensures.seat.1;
+        seat_number = c.await_own_role.ensures.seat.2 ∙ S.seat_number;
         start = S.start;
         pass = S.pass;
         pass_number = S.pass_number;
@@ -101,11 +102,11 @@ returns-in-Done-clause-answered g c =
     let S = c.requires.client.seated in let w0 = c.args.client.now.writer in let w1 = c.link.new.writer in
     let list = c.args.self.now.list in
     let linked = c.link.ensures.linked.1 in
-    let told1 : told w1 ≡ told w0 = linked_told _ w1.client w1.leads c.args.request (told w0) w1.seat.me linked in
-    let w2 = c.await_role.new.writer in
-    let role = c.await_role.ensures.role.1 c.args.request (subst (λ (mine : List (Request × Reply)). IsIn (law_in g.T.Table.our_turn g.T.Table.history list) c.args.request mine w1) (sym told1) linked) in
-    let client2 : w2.client ≡ c.args.client.now.number = c.await_role.ensures.client ∙ (c.link.ensures.client ∙ S.number) in
-    let B = as_done (law_in g.T.Table.our_turn g.T.Table.history list) (kept_in list) w2.client c.args.request (told w1) c.await_role.result c.in-Done.reply w2.seat.me c.in-Done.is role in
+    let told1 : told w1 ≡ told w0 = linked_told _ w1.client w1.task c.args.request (told w0) w1.seat.me linked in
+    let w2 = c.await_own_role.new.writer in
+    let role = c.await_own_role.ensures.role.1 c.args.request (subst (λ (mine : List (Request × Reply)). IsIn (law_in g.T.Table.our_turn g.T.Table.history list) c.args.request mine w1) (sym told1) linked) in
+    let client2 : w2.client ≡ c.args.client.now.number = c.await_own_role.ensures.client ∙ (c.link.ensures.client ∙ S.number) in
+    let B = as_done (law_in g.T.Table.our_turn g.T.Table.history list) (kept_in list) w2.client c.args.request (told w1) c.await_own_role.result c.in-Done.reply w2.seat.me c.in-Done.is role in
     let told2 : told w2 ≡ told w1 ++ (c.args.request, c.in-Done.reply) ∷ [] = ap told_in_first B.0 in
     let both : told w2 ≡ told w0 ++ (c.args.request, c.in-Done.reply) ∷ [] = told2 ∙ (λ i. told1 i ++ (c.args.request, c.in-Done.reply) ∷ []) in
     let e = S.is_engine in
@@ -123,11 +124,11 @@ returns-in-LogLeader-clause-answered g c =
     let S = c.requires.client.seated in let w0 = c.args.client.now.writer in let w1 = c.link.new.writer in
     let list = c.args.self.now.list in
     let linked = c.link.ensures.linked.1 in
-    let told1 : told w1 ≡ told w0 = linked_told _ w1.client w1.leads c.args.request (told w0) w1.seat.me linked in
-    let w2 = c.await_role.new.writer in
-    let role = c.await_role.ensures.role.1 c.args.request (subst (λ (mine : List (Request × Reply)). IsIn (law_in g.T.Table.our_turn g.T.Table.history list) c.args.request mine w1) (sym told1) linked) in
-    let client2 : w2.client ≡ c.args.client.now.number = c.await_role.ensures.client ∙ (c.link.ensures.client ∙ S.number) in
-    let B = as_leader (law_in g.T.Table.our_turn g.T.Table.history list) (kept_in list) w2.client c.args.request (told w1) c.await_role.result c.in-LogLeader.held w2.seat.me c.in-LogLeader.is role in
+    let told1 : told w1 ≡ told w0 = linked_told _ w1.client w1.task c.args.request (told w0) w1.seat.me linked in
+    let w2 = c.await_own_role.new.writer in
+    let role = c.await_own_role.ensures.role.1 c.args.request (subst (λ (mine : List (Request × Reply)). IsIn (law_in g.T.Table.our_turn g.T.Table.history list) c.args.request mine w1) (sym told1) linked) in
+    let client2 : w2.client ≡ c.args.client.now.number = c.await_own_role.ensures.client ∙ (c.link.ensures.client ∙ S.number) in
+    let B = as_leader (law_in g.T.Table.our_turn g.T.Table.history list) (kept_in list) w2.client c.args.request (told w1) c.await_own_role.result c.in-LogLeader.held w2.seat.me c.in-LogLeader.is role in
     let told2 : told w2 ≡ told w1 = ap told_in_first B.2.0 in
     let A = c.lead.ensures.answered B.0 B.1 (subst (λ (mine : List (Request × Reply)). IsChosen B.0 B.1 mine w2) (sym told2) B.2) in
     let both : told w2 ++ (B.0.asked, c.lead.result) ∷ [] ≡ told w0 ++ (c.args.request, c.lead.result) ∷ [] = (λ i. (told2 ∙ told1) i ++ (B.3 i, c.lead.result) ∷ []) in

@@ -1,3 +1,4 @@
+use Rattle.list_rule.specs.Laws.{given_runs}
 use Rattle.std.proofs.Common.{◌≡◌, ℕ, ◌+◌, ◌≤◌, [], ◌∷◌, ◌++◌, length, reverse, sym, ap, ◌∙◌, subst, arith, length-append}
 use mathlib.Core.Option.{some, some-injective}
 use lib.ListN.{get_elem?}
@@ -48,4 +49,4 @@ returns g c =
     let right_there : get_elem? items (c.args.self.clients + 1) ≡ some (Right k.right) = subst (λ (j : ℕ). get_elem? items (j + 1) ≡ some (Right k.right)) same (fin.4 (key + 1) (Right k.right) k.right_home) in
     let log_is : k.log ≡ c.take_all.result.0 = one_log k.log c.take_all.result.0 (some-injective (Log k.log) (Log c.take_all.result.0) (sym log_there ∙ c.take_all.ensures.0)) in
     let right_is : k.right ≡ c.take_all.result.1 = one_right k.right c.take_all.result.1 (some-injective (Right k.right) (Right c.take_all.result.1) (sym right_there ∙ c.take_all.ensures.1)) in
-    (k.handled, subst (λ l. logs_from (g.L.Ledger.stands shared.key.about) (g.L.Ledger.kept shared.key.about) g.L.Ledger.number_of g.P.Given.run_of shared.key.log l k.handled) log_is k.stood, (λ e. ap g.M.Numbered.number_of (sym right_is) ∙ k.right_stood ∙ k.even.0 e), (λ e. ap g.M.Numbered.number_of (sym right_is) ∙ k.right_stood ∙ k.even.1 e), merged k.handled all all (λ h has. has) (subst (Merges k.handled) view k.merges))
+    (k.handled, subst (λ l. logs_from (g.L.Ledger.stands shared.key.about) (g.L.Ledger.kept shared.key.about) g.L.Ledger.number_of g.P.Given.run_of shared.key.log l k.handled) log_is k.stood, (λ e. subst (λ r. g.L.Ledger.serves shared.key.about r []) right_is (subst (g.L.Ledger.serves shared.key.about k.right) (k.even.0 e) k.right_stood)), (λ e. subst (λ r. g.L.Ledger.serves shared.key.about r (given_runs g.P.Given.run_of k.handled)) right_is (subst (g.L.Ledger.serves shared.key.about k.right) (k.even.1 e) k.right_stood)), merged k.handled all all (λ h has. has) (subst (Merges k.handled) view k.merges))

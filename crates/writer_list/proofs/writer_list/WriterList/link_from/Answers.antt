@@ -1,4 +1,4 @@
-use Rattle.std.proofs.Common.{◌≡◌, ℕ, ◌+◌, ◌*◌, List, ◌∷◌, eqb, Bool, sym, ap, ◌∙◌, refl, subst, arith, eq-eqb, ne_eqb}
+use Rattle.std.proofs.Common.{◌≡◌, ℕ, ◌+◌, ◌*◌, List, ◌∷◌, sym, ap, ◌∙◌, refl, subst, arith}
 use mathlib.Core.Logic.{dite}
 use mathlib.Core.Option.{none}
 use native.Mathlib.Decide.{ℕ_discrete}
@@ -60,10 +60,10 @@ returns-then-found-newest-clause-linked g c mine idle =
     let t = c.compare_exchange-found.ensures.2 k _ c.args.request i.1 b.0 (b.1 ∙ ap (λ m. m.1) c.load-newest.ensures.2.0 ∙ c.loop.invariant.5) in
     let m' = c.compare_exchange-found.new.seat.me in let hit : c.compare_exchange-found.result ≡ newest = c.if-found-newest.true in
     let same = one_hold k k Idle Idle i.1 mine c.args.writer.now.seat.me.0 i.2 idle in
-    subst (λ (x : List (g.row.Q.Denot × g.row.P.Denot)). IsLinked stood k (eqb newest 0) c.args.request x m') same.2
+    subst (λ (x : List (g.row.Q.Denot × g.row.P.Denot)). IsLinked stood k c.task_of-writer.result c.args.request x m') same.2
     (dite (ℕ_discrete newest 0)
-    (λ z. subst (λ (b : Bool). IsLinked stood k b c.args.request i.1 m') (sym (eq-eqb newest 0 z)) (t.0 hit (hit ∙ z)))
-    (λ nz. subst (λ (b : Bool). IsLinked stood k b c.args.request i.1 m') (sym (ne_eqb newest 0 nz)) (t.1 hit (λ f. nz (sym hit ∙ f)))))
+    (λ z. subst (λ b. IsLinked stood k b c.args.request i.1 m') (sym (c.task_of-writer.ensures.first z)) (t.0 hit (hit ∙ z)))
+    (λ nz. subst (λ b. IsLinked stood k b c.args.request i.1 m') (sym (c.task_of-writer.ensures.behind nz)) (t.1 hit (λ f. nz (sym hit ∙ f)))))
 
 pub loop-preserved : goal.loop-preserved
 loop-preserved g c =

@@ -1,0 +1,40 @@
+use Rattle.std.proofs.Common.{◌≡◌, ℕ, [], ◌∷◌, ◌++◌, length, ap, sym, ◌∙◌, subst, arith, append_assoc, length-append}
+use Rattle.group_engine.specs.declared.requests.Request.{Request}
+use Rattle.mem_table.specs.Parts.{group_of}
+use Rattle.group_engine.specs.Handled.{commit_request_of, commit_requests_of}
+use Rattle.group_engine.specs.Numbering.{batch_at, batches_of, plan_at, plans_of}
+use Rattle.group_engine.proofs.Apart.{more_parts, still_left}
+use Rattle.group_engine.proofs.Replies.{one_batch}
+use Rattle.group_engine.proofs.numbering.number_apart.Goals as goal
+use Rattle.group_rule.specs.Plans.{AreLawful, HaveOwnClients, last_with, last_with_all}
+use Rattle.group_engine.proofs.Apart.{AreLeft}
+use Rattle.stage_laws.specs.Served.{part_at, parts_from}
+
+pub loop-client-preserved : goal.loop-client-preserved
+loop-client-preserved c =
+    let v = c.loop-client.invariant in let n = c.number_one-at.ensures in let f = c.in-Some.ensures.first in
+    let q = c.in-Some.request in let rest = c.take_first.new.items.items in let at = c.loop-client.at in
+    let x : ℕ × Request = (c.in-Some.client, q) in let a = commit_request_of x in
+    let next = last_with at q.batch.records in let plan = plan_at at x in
+    let plans = c.loop-client.plans.items in let batches = c.loop-client.batches.items in
+    let lawful = subst (λ l. AreLawful c.args.parts.now.clients (commit_requests_of l)) f v.lawful in
+    let own = subst (λ l. HaveOwnClients (commit_requests_of l)) f v.own in
+    let left = subst (λ l. AreLeft c.loop-client.parts.parts (commit_requests_of l)) f v.left in
+    let parts = group_of c.loop-client.parts.parts in
+    let more : group_of c.number_one-at.new.parts.parts ≡ parts ++ part_at at a = ap group_of n.added ∙ more_parts c.loop-client.parts.parts at c.in-Some.client q left.0 in
+    record {
+      last = n.below;
+      reached = ap (λ m. last_with_all m (commit_requests_of rest)) n.reached ∙ (ap (λ l. last_with_all at (commit_requests_of l)) (sym f) ∙ v.reached);
+      plans = (λ i. n.plans i ++ plans_of (n.reached i) rest) ∙ (append_assoc plans (plan ∷ []) (plans_of next rest) ∙ (ap (λ l. plans ++ plans_of at l) (sym f) ∙ v.plans));
+      batches = (λ i. n.batches i ++ batches_of (n.reached i) rest) ∙ (append_assoc batches (batch_at at q) (batches_of next rest) ∙ (ap (λ l. batches ++ batches_of at l) (sym f) ∙ v.batches));
+      parts = (λ i. more i ++ parts_from (n.reached i) (commit_requests_of rest)) ∙ (append_assoc parts (part_at at a) (parts_from next (commit_requests_of rest)) ∙ (ap (λ l. parts ++ parts_from at (commit_requests_of l)) (sym f) ∙ v.parts));
+      lawful = lawful.1;
+      own = own.1;
+      left = still_left at c.loop-client.parts.parts c.number_one-at.new.parts.parts a (commit_requests_of rest) more own.0 left.1;
+      clients = n.clients ∙ v.clients;
+      count = (let p = ap length n.plans ∙ length-append plans (plan ∷ []) in let r = ap length f in let k = v.count in omega (arith, p, r, k));
+      fewer = (let p = ap length n.plans ∙ length-append plans (plan ∷ []) in let b = ap length n.batches ∙ length-append batches (batch_at at q) in let one = one_batch at q in let k = v.fewer in omega (arith, p, b, one, k));
+      plans_room = n.room.0 ∙ v.plans_room;
+      batches_room = n.room.1 ∙ v.batches_room;
+      requests_room = c.in-Some.ensures.room ∙ v.requests_room;
+    }

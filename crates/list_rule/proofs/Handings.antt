@@ -1,0 +1,98 @@
+-- What a leader's view shows of the lists, in each state in which the rule holds.
+use Rattle.std.proofs.Common.{◌≡◌, ◌⊎◌, inl, inr, ℕ, Bool, true, List, [], ◌∷◌, ◌++◌, refl, sym, ap, ◌∙◌, subst}
+use Rattle.atomic_table.specs.Table.{State}
+use Rattle.list_rule.specs.declared.view.Entry.{Entry}
+use Rattle.list_rule.specs.declared.view.Handling.{Handling}
+use Rattle.list_rule.specs.declared.view.Hold.{Hold}
+use Rattle.list_rule.specs.declared.view.Lead.{Lead}
+use Rattle.list_rule.specs.declared.view.Squad.{Squad}
+use Rattle.list_rule.specs.declared.view.Back.{Back}
+use Rattle.list_rule.specs.declared.view.Back.TheVariants.{Away, Parting, Joining, Holding, Queued, Serving, Passing}
+use Rattle.list_rule.specs.declared.view.Stage.{Stage}
+use Rattle.list_rule.specs.declared.view.Stage.TheVariants.{Idle, Preparing, Waiting, Fresh, Leading, Cutting, Marking, Settling, Collecting}
+use Rattle.list_rule.specs.declared.content.Content.{Content}
+use Rattle.list_rule.specs.Chain.{newest, Links}
+use Rattle.list_rule.specs.Events.{Held, grouped}
+use Rattle.list_rule.specs.Standing.{Phase, Mode, Two, ahead, held_by, serves, line_of, flat, In, InStep, KnowsBack}
+use Rattle.list_rule.specs.Laws.{Laws}
+use Rattle.list_rule.specs.Rule.{hold_at, AllGroups, Knows, HasCut, InTurn, Level, Listed}
+use Rattle.list_rule.specs.Plays.{HandsOn, IsCut}
+use Rattle.list_rule.specs.Steps.{now_of}
+use Rattle.list_rule.specs.Handing.{Sees, IsJoined, IsServed, IsNewestGroup, IsOldestGroup}
+use Rattle.list_rule.proofs.Leads.{one_leads}
+use Rattle.list_rule.proofs.Seconds.{in_one, behind_in, flat_snoc}
+
+module _ {Q P : Type 0} where
+  -- who gives the log on in a list with the second one has its group there, or gives no run
+  pub hands_joined : (last : List (Handling Q P) → List (Handling Q P)) (b : Back Q P) (seen now : List (Handling Q P)) → HandsOn true last b seen now → (last now ≡ last seen) ⊎ ((g : Squad Q P) × IsJoined g b × (g.to ≡ last now))
+  hands_joined last Away seen now h = inl (h refl)
+  hands_joined last (Parting g k) seen now h = absurd h
+  hands_joined last (Joining g) seen now h = inr (g, refl, h.1)
+  hands_joined last (Holding g) seen now h = inr (g, refl, h.1)
+  hands_joined last (Queued g) seen now h = absurd h
+  hands_joined last (Serving g walk) seen now h = absurd h
+  hands_joined last (Passing g x) seen now h = absurd h
+
+  own_cut : (log : Held Q) (line hand : List (Entry Q)) (handled : List (Handling Q P)) (mode : Mode Q) (phase : ℕ → Phase Q P) (due : ℕ → List (Q × P)) (c : ℕ) (lead : Lead Q P) (st : Stage Q P) → IsCut lead st → Knows line hand handled mode phase due c st → HasCut log hand phase mode → log ≡ grouped lead.own lead.taken
+  own_cut log line hand handled mode phase due c lead Idle is ok has = absurd is
+  own_cut log line hand handled mode phase due c lead (Preparing w) is ok has = absurd is
+  own_cut log line hand handled mode phase due c lead (Waiting q) is ok has = absurd is
+  own_cut log line hand handled mode phase due c lead (Fresh o n) is ok has = absurd is
+  own_cut log line hand handled mode phase due c lead (Leading l) is ok has = absurd is
+  own_cut log line hand handled mode phase due c lead (Cutting l e) is ok has =
+      let t = subst (HasCut log hand phase) ok.0 has in
+      let same : t.0 ≡ l.own = one_leads t.0 l.own (sym t.2 ∙ ok.1) in
+      t.3 ∙ ((λ i. grouped (same i) (sym ok.4 i)) ∙ ap (λ (z : Lead Q P). grouped z.own z.taken) is)
+  own_cut log line hand handled mode phase due c lead (Marking l) is ok has =
+      let t = subst (HasCut log hand phase) ok.0 has in
+      let same : t.0 ≡ l.own = one_leads t.0 l.own (sym t.2 ∙ ok.1) in
+      t.3 ∙ ((λ i. grouped (same i) (sym ok.4 i)) ∙ ap (λ (z : Lead Q P). grouped z.own z.taken) is)
+  own_cut log line hand handled mode phase due c lead (Settling b) is ok has = absurd is
+  own_cut log line hand handled mode phase due c lead Collecting is ok has = absurd is
+
+module _ {Q P : Type 0} where
+  -- where the group is, of a leader whose group has joined
+  joined_place : (two : Two Q P) (c : ℕ) (g : Squad Q P) (b : Back Q P) → IsJoined g b → KnowsBack two c b → In g (two.place c) × (two.lead ≡ ahead c)
+  joined_place two c g Away is ok = absurd is
+  joined_place two c g (Parting f k) is ok = absurd is
+  joined_place two c g (Joining f) is ok = (subst (λ z. In z (two.place c)) is (behind_in f (two.place c) ok.0), ok.1)
+  joined_place two c g (Holding f) is ok = (subst (In g) (sym ok.1) is, ok.2)
+  joined_place two c g (Queued f) is ok = absurd is
+  joined_place two c g (Serving f walk) is ok = absurd is
+  joined_place two c g (Passing f x) is ok = absurd is
+
+  served_place : (two : Two Q P) (c : ℕ) (g : Squad Q P) (b : Back Q P) → IsServed g b → KnowsBack two c b → (two.turn ≡ held_by c) × (two.place c ≡ serves g)
+  served_place two c g Away is ok = absurd is
+  served_place two c g (Parting f k) is ok = absurd is
+  served_place two c g (Joining f) is ok = absurd is
+  served_place two c g (Holding f) is ok = (ok.0, ok.1 ∙ ap serves is)
+  served_place two c g (Queued f) is ok = absurd is
+  served_place two c g (Serving f walk) is ok = (ok.0, ok.1 ∙ ap serves is)
+  served_place two c g (Passing f x) is ok = absurd is
+
+module _ {Q P L M : Type 0} (stands : Laws Q P L M) (n : ℕ) (s : State (Content Q P L M) (List (Hold Q P))) (r : Listed stands n s) (id c : ℕ) (st : Stage Q P) (mine : List (Q × P)) (b : Back Q P) (sees : Sees s id (hold_at c st mine b)) where
+  -- the log is that group's until it is given on
+  pub cut_log : (lead : Lead Q P) → IsCut lead st → (now_of stands n s r).0.1 ≡ grouped lead.own lead.taken
+  cut_log lead is = let fit = (r.seats id (hold_at c st mine b ∷ []) sees).0 in own_cut r.account.log r.line r.hand r.handled r.mode r.phase r.due c lead st is fit.4 r.has_cut
+
+  level_true : (piped : Bool) → piped ≡ true → Level stands piped r.two (stands.given r.handled) → InStep r.two.done r.two.groups (stands.given r.handled) r.two.lead
+  level_true piped is ok = subst (λ p. Level stands p r.two (stands.given r.handled)) is ok
+
+  pub joined_newest : (g : Squad Q P) → stands.piped ≡ true → IsJoined g b → IsNewestGroup g s.words
+  joined_newest g piped is =
+      let fit = (r.seats id (hold_at c st mine b ∷ []) sees).0 in
+      let at = joined_place r.two c g b is fit.5 in
+      let step = subst (InStep r.two.done r.two.groups (stands.given r.handled)) at.1 (level_true stands.piped piped r.second.in_level) in
+      let all = subst (λ gs. AllGroups r.phase r.two.place gs) step.2 r.second.members in
+      let same : step.0 ≡ g = in_one step.0 g (r.two.place c) (subst (λ k. In step.0 (r.two.place k)) step.4 all.1) at.0 in
+      let whole : flat r.two.groups ≡ line_of g ++ flat step.1 = ap flat step.2 ∙ ap (λ f. line_of f ++ flat step.1) same in
+      (step.1, r.second.newest_is ∙ ap newest whole, subst (Links s.words) whole r.second.links)
+
+  pub served_oldest : (g : Squad Q P) → IsServed g b → IsOldestGroup g s.words
+  served_oldest g is =
+      let fit = (r.seats id (hold_at c st mine b ∷ []) sees).0 in
+      let at = served_place r.two c g b is fit.5 in
+      let turn = subst (InTurn stands n s.words s.homes r.phase r.two) at.0 r.second.turn_is in
+      let same : turn.1 ≡ g = in_one turn.1 g (r.two.place c) (subst (In turn.1) (sym turn.3) refl) (subst (In g) (sym at.1) refl) in
+      let whole : flat r.two.groups ≡ flat turn.0 ++ line_of g = ap flat turn.2 ∙ (flat_snoc turn.0 turn.1 ∙ ap (λ f. flat turn.0 ++ line_of f) same) in
+      (turn.0, r.second.newest_is ∙ ap newest whole, subst (Links s.words) whole r.second.links)

@@ -1,0 +1,14 @@
+use Rattle.list_rule.proofs.Handings.{hands_joined, cut_log, joined_newest, served_oldest}
+use Rattle.list_rule.proofs.second_law.handing_on.Goals as goal
+
+pub returns-clause-cut : goal.returns-clause-cut
+returns-clause-cut g a z s r id c stage lead mine back sees is = cut_log _ z.clients s r id c stage mine back sees lead is
+
+pub returns-clause-hands : goal.returns-clause-hands
+returns-clause-hands g a last back seen now h = hands_joined last back seen now h
+
+pub returns-clause-joined : goal.returns-clause-joined
+returns-clause-joined g a z s id c stage mine back squad r sees piped is = joined_newest _ z.clients s r id c stage mine back sees squad piped is
+
+pub returns-clause-served : goal.returns-clause-served
+returns-clause-served g a z s id c stage mine back squad r sees is = served_oldest _ z.clients s r id c stage mine back sees squad is

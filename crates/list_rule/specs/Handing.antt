@@ -1,0 +1,47 @@
+-- What a leader's view shows of the lists, in each state in which the rule holds.
+use Rattle.std.specs.Prelude.{◌≡◌, ℕ, List, [], ◌∷◌, ◌++◌, slice_index}
+use mathlib.Core.Option.{some}
+use lib.ListN.{get_elem?}
+use Rattle.atomic_table.specs.Table.{State}
+use Rattle.list_rule.specs.declared.view.Hold.{Hold}
+use Rattle.list_rule.specs.declared.view.Squad.{Squad}
+use Rattle.list_rule.specs.declared.view.Back.{Back}
+use Rattle.list_rule.specs.declared.view.Back.TheVariants.{Away, Parting, Joining, Holding, Queued, Serving, Passing}
+use Rattle.list_rule.specs.declared.content.Content.{Content}
+use Rattle.list_rule.specs.Chain.{newest, Links}
+use Rattle.list_rule.specs.Standing.{line_of, flat}
+
+-- the seat has this client alone, and knows this
+abbrev pub Sees : {Q P L M : Type 0} → State (Content Q P L M) (List (Hold Q P)) → ℕ → Hold Q P → Type 0
+Sees s id h = get_elem? s.views id ≡ some (h ∷ [])
+
+module _ {Q P : Type 0} where
+  -- the group has come into the second list, and its leader has the log still
+  abbrev pub IsJoined : Squad Q P → Back Q P → Type 0
+  IsJoined g Away = ⊥
+  IsJoined g (Parting f end) = ⊥
+  IsJoined g (Joining f) = f ≡ g
+  IsJoined g (Holding f) = f ≡ g
+  IsJoined g (Queued f) = ⊥
+  IsJoined g (Serving f walk) = ⊥
+  IsJoined g (Passing f next) = ⊥
+
+  -- its leader has the right
+  abbrev pub IsServed : Squad Q P → Back Q P → Type 0
+  IsServed g Away = ⊥
+  IsServed g (Parting f end) = ⊥
+  IsServed g (Joining f) = ⊥
+  IsServed g (Holding f) = f ≡ g
+  IsServed g (Queued f) = ⊥
+  IsServed g (Serving f walk) = f ≡ g
+  IsServed g (Passing f next) = ⊥
+
+  -- the second list is this group and then, going on by the older links, older ones
+  abbrev pub IsNewestGroup : Squad Q P → List ℕ → Type 0
+  IsNewestGroup g words = (older : List (Squad Q P)) × (slice_index words 1 ≡ newest (line_of g ++ flat older))
+      × Links words (line_of g ++ flat older)
+
+  -- it is newer ones and then this group
+  abbrev pub IsOldestGroup : Squad Q P → List ℕ → Type 0
+  IsOldestGroup g words = (newer : List (Squad Q P)) × (slice_index words 1 ≡ newest (flat newer ++ line_of g))
+      × Links words (flat newer ++ line_of g)

@@ -1,0 +1,42 @@
+-- What a member's work on its own part of a launched group leaves.
+use Rattle.std.specs.Prelude.{◌≡◌, ◌⊎◌, ℕ, List, [], ◌∷◌, ◌++◌, Some}
+use Rattle.table_rule.specs.declared.content.MemberVersions.{MemberVersions}
+use Rattle.table_rule.specs.declared.content.Version.{Version}
+use Rattle.table_rule.specs.declared.view.Launched.{Launched}
+use Rattle.table_rule.specs.declared.view.Opening.{Opening}
+use Rattle.table_rule.specs.declared.view.Stage.TheVariants.{Idle, Waiting}
+use Rattle.table_rule.specs.Histories.{Begins, IsHistory}
+use Rattle.table_rule.specs.Steps.{IsAwaited, IsPartOf, launched_behind}
+use Rattle.table_calls.specs.Account.{Account}
+
+-- The part was the member's own of a launched group, which goes behind all that the member had seen. It is in the trees,
+-- and finished. Where it was the last of its group the member published the group, whole, and has seen it; else it has
+-- seen what it had.
+pub record Works (opening : Opening) (before after : Account) : Type 0 where
+  pub launched : Launched
+  pub versions : List Version
+  pub own_part : IsPartOf opening before.number before.seen launched versions
+  pub awaited : IsAwaited before.stage launched
+  pub number : after.number ≡ before.number
+  pub idle : after.stage ≡ Idle
+  pub same : after.launched ≡ before.launched
+  pub seen : (after.seen ≡ before.seen)
+      ⊎ ((after.seen ≡ launched.before ++ launched.group ∷ []) × IsHistory opening.start after.seen)
+  pub goes_on : Begins before.seen after.seen
+
+-- The member finished its part of this group, and published the group if it was the last.
+pub record HasFinished (start : ℕ) (before : Account) (launched : Launched) (after : Account) : Type 0 where
+  pub number : after.number ≡ before.number
+  pub idle : after.stage ≡ Idle
+  pub same : after.launched ≡ before.launched
+  pub seen : (after.seen ≡ before.seen)
+      ⊎ ((after.seen ≡ launched.before ++ launched.group ∷ []) × IsHistory start after.seen
+      × Begins before.seen launched.before)
+
+-- The member launched this group behind a history, having seen that much, and is to take its own part of it.
+pub record HasLaunched (start number : ℕ) (seen before : List (List MemberVersions)) (group : List MemberVersions)
+    (after : Account) : Type 0 where
+  pub number_is : after.number ≡ number
+  pub seen_is : after.seen ≡ seen
+  pub stage_is : after.stage ≡ Waiting (launched_behind start before group)
+  pub launched_is : after.launched ≡ Some (launched_behind start before group)
