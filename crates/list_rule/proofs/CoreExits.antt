@@ -53,7 +53,7 @@ module _ {Q P : Type 0} (reply_of : P → Reply) where
     writers_given same reply [] = refl
     writers_given same reply (e ∷ es) = λ i. ((same e).0 i, Some reply) ∷ writers_given same reply es i
 
-    group_given : IsSame writer_of → (reply : Reply) (own : Entry Q) (group : List (Entry Q)) (new : List (Handling Q P)) → IsOfGroup own group new → AllHave reply_of reply new → HasReplies reply_of new (all_answered reply (core_queue writer_of (group ++ own ∷ [])))
+    pub group_given : IsSame writer_of → (reply : Reply) (own : Entry Q) (group : List (Entry Q)) (new : List (Handling Q P)) → IsOfGroup own group new → AllHave reply_of reply new → HasReplies reply_of new (all_answered reply (core_queue writer_of (group ++ own ∷ [])))
     group_given same reply own group new theirs ok = writers_given same reply (reverse (group ++ own ∷ [])) ∙ (ap (λ l. map (given reply) (map wrote l)) (reverse-append group (own ∷ []))
         ∙ (ap (map (given reply)) (sym theirs) ∙ sym (all_given reply new ok)))
 

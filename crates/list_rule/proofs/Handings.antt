@@ -11,16 +11,18 @@ use Rattle.list_rule.specs.declared.view.Back.TheVariants.{Away, Parting, Joinin
 use Rattle.list_rule.specs.declared.view.Stage.{Stage}
 use Rattle.list_rule.specs.declared.view.Stage.TheVariants.{Idle, Preparing, Waiting, Fresh, Leading, Cutting, Marking, Settling, Collecting}
 use Rattle.list_rule.specs.declared.content.Content.{Content}
-use Rattle.list_rule.specs.Chain.{newest, Links}
-use Rattle.list_rule.specs.Events.{Held, grouped}
-use Rattle.list_rule.specs.Standing.{Phase, Mode, Two, ahead, held_by, serves, line_of, flat, In, InStep, KnowsBack}
+use Rattle.list_rule.specs.Chain.{Absent, newest, Links}
+use Rattle.list_rule.specs.Events.{Held, grouped, IsNotWith}
+use Rattle.list_rule.specs.Standing.{Phase, linked, chosen, leads, taken, Mode, open_, waits, led, built, cut, marked, Two, away, ahead, held_by, serves, line_of, flat, In, InStep, KnowsBack}
 use Rattle.list_rule.specs.Laws.{Laws}
-use Rattle.list_rule.specs.Rule.{hold_at, AllGroups, Knows, HasCut, InTurn, Level, Listed}
-use Rattle.list_rule.specs.Plays.{HandsOn, IsCut}
+use Rattle.list_rule.specs.Rule.{hold_at, AllGroups, AllTaken, Knows, HasCut, InMode, InPhase, InTurn, Level, Listed, Shows}
+use Rattle.list_rule.specs.Plays.{HandsOn, IsCut, debt}
 use Rattle.list_rule.specs.Steps.{now_of}
 use Rattle.list_rule.specs.Handing.{Sees, IsJoined, IsServed, IsNewestGroup, IsOldestGroup}
+use Rattle.list_rule.proofs.Groups.{absent_front, absent_back, taken_absent}
 use Rattle.list_rule.proofs.Leads.{one_leads}
-use Rattle.list_rule.proofs.Seconds.{in_one, behind_in, flat_snoc}
+use Rattle.list_rule.proofs.Seconds.{in_one, behind_in, flat_snoc, absent_groups, member_absent}
+use Rattle.list_rule.proofs.Settles.{handled_out}
 
 module _ {Q P : Type 0} where
   -- who gives the log on in a list with the second one has its group there, or gives no run
@@ -96,3 +98,51 @@ module _ {Q P L M : Type 0} (stands : Laws Q P L M) (n : ℕ) (s : State (Conten
       let same : turn.1 ≡ g = in_one turn.1 g (r.two.place c) (subst (In turn.1) (sym turn.3) refl) (subst (In g) (sym at.1) refl) in
       let whole : flat r.two.groups ≡ flat turn.0 ++ line_of g = ap flat turn.2 ∙ (flat_snoc turn.0 turn.1 ∙ ap (λ f. flat turn.0 ++ line_of f) same) in
       (turn.0, r.second.newest_is ∙ ap newest whole, subst (Links s.words) whole r.second.links)
+
+module _ {Q P L M : Type 0} (stands : Laws Q P L M) (n : ℕ) (s : State (Content Q P L M) (List (Hold Q P))) (r : Listed stands n s) (k : ℕ) (y : Q × P) (owed : r.due k ≡ y ∷ []) where
+  -- who is owed a reply isn't of the group in hand
+  not_led : (c : ℕ) → r.due c ≡ [] → c ≡ k → ⊥
+  not_led c none is = let bad : r.due k ≡ [] = ap r.due (sym is) ∙ none in absurd (cc)
+
+  in_hand_out : (c : ℕ) (own : Entry Q) → own.by ≡ c → r.due c ≡ [] → AllTaken r.phase r.due c r.hand → r.account.log ≡ grouped own r.hand → IsNotWith k r.account.log
+  in_hand_out c own by none members held =
+      subst (IsNotWith k) (sym held) ((λ is. not_led c none (sym by ∙ is)), taken_absent r.phase r.due c k r.hand (λ e _ nil. let bad : Path (List (Q × P)) (y ∷ []) [] = sym owed ∙ nil in absurd (cc)) members)
+
+  pub not_held : ((e : Entry Q) → r.phase k ≡ linked e → ⊥) → ((e : Entry Q) → r.phase k ≡ chosen e → ⊥) → IsNotWith k r.account.log
+  not_held no_l no_c = by_mode r.mode r.log_is r.account.shows r.has_cut
+    where
+      by_mode : (mode : Mode Q) → InMode stands n s.homes r.line r.hand r.handled r.phase r.due mode → Shows r.line r.account.queue r.account.log mode → HasCut r.account.log r.hand r.phase mode → IsNotWith k r.account.log
+      by_mode open_ ok shows has = subst (IsNotWith k) (sym shows.1) tt
+      by_mode (waits c) ok shows has = subst (IsNotWith k) (sym shows.1) tt
+      by_mode (led c) ok shows has = subst (IsNotWith k) (sym shows.1) (not_led c ok.2)
+      by_mode (built c g) ok shows has =
+          let out : Absent k (r.account.queue ++ (g ++ shows.0.0 ∷ [])) = subst (Absent k) shows.0.1 (handled_out stands n s.homes r.line r.hand r.handled r.phase r.due k y owed no_l no_c (built c g) ok) in
+          let group : Absent k (g ++ shows.0.0 ∷ []) = absent_back k r.account.queue (g ++ shows.0.0 ∷ []) out in
+          subst (IsNotWith k) (sym shows.1) ((absent_back k g (shows.0.0 ∷ []) group).0, absent_front k g (shows.0.0 ∷ []) group)
+      by_mode (cut c w) ok shows has = in_hand_out c has.0 has.1 ok.2 ok.1 has.3
+      by_mode (marked c) ok shows has = in_hand_out c has.0 has.1 ok.3 ok.2 has.3
+
+module _ {Q P L M : Type 0} (stands : Laws Q P L M) (n : ℕ) (s : State (Content Q P L M) (List (Hold Q P))) (r : Listed stands n s) (id c : ℕ) (mine : List (Q × P)) where
+  no_place : r.two.place c ≡ away → (g : Squad Q P) → In g (r.two.place c) → ⊥
+  no_place there g is = subst (In g) there is
+
+  -- who is told by a leader that is in no list is in none either
+  pub told_apart : (g : Entry Q × P) (gs : List (Entry Q × P)) (own : Entry Q) (p : P) → Sees s id (hold_at c (Settling (debt (g ∷ gs) own p)) mine Away) → IsNotWith g.0.by (now_of stands n s r).0.1 × Absent g.0.by (flat (now_of stands n s r).1.0)
+  told_apart g gs own p sees =
+      let fit = (r.seats id (hold_at c (Settling (debt (g ∷ gs) own p)) mine Away ∷ []) sees).0 in
+      let now : r.phase g.0.by ≡ taken c g.0 = fit.4.0.0 in (
+        not_held stands n s r g.0.by (g.0.asked, g.1) fit.4.0.1 (λ e bad. let no : Path (Phase Q P) (taken c g.0) (linked e) = sym now ∙ bad in absurd (cc)) (λ e bad. let no : Path (Phase Q P) (taken c g.0) (chosen e) = sym now ∙ bad in absurd (cc)),
+        member_absent r.phase r.two.place g.0.by c g.0 r.two.groups now (no_place fit.5.0) r.second.members,
+      )
+
+  -- nor is such a leader
+  pub told_last : (own : Entry Q) (p : P) → Sees s id (hold_at c (Settling (debt [] own p)) mine Away) → IsNotWith own.by (now_of stands n s r).0.1 × Absent own.by (flat (now_of stands n s r).1.0)
+  told_last own p sees =
+      let fit = (r.seats id (hold_at c (Settling (debt [] own p)) mine Away ∷ []) sees).0 in
+      let now : r.phase c ≡ leads own = fit.4.1 in
+      let by : own.by ≡ c = subst (InPhase stands s.words s.homes c (r.due c)) now (r.rows c fit.1 fit.2) in (
+        subst (λ k. IsNotWith k r.account.log) (sym by)
+        (not_held stands n s r c (own.asked, p) fit.4.2 (λ e bad. let no : Path (Phase Q P) (leads own) (linked e) = sym now ∙ bad in absurd (cc)) (λ e bad. let no : Path (Phase Q P) (leads own) (chosen e) = sym now ∙ bad in absurd (cc))),
+        subst (λ k. Absent k (flat r.two.groups)) (sym by)
+        (absent_groups r.phase r.two.place c r.two.groups (no_place fit.5.0) (λ k e bad. let no : Path (Phase Q P) (leads own) (taken k e) = sym now ∙ bad in absurd (cc)) r.second.members),
+      )

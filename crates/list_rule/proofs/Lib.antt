@@ -17,4 +17,7 @@ pub mod Opens
 pub mod Holding
 pub mod CoreLaws
 pub mod CoreExits
+pub mod PipelinedCore
+pub mod PipelinedEvents
+pub mod PipelinedLog
 pub mod Handings

@@ -67,7 +67,7 @@ module _ {Q P L M : Type 0} (stands : Laws Q P L M) (n : ℕ) where
           tt,
           (
             ((acc.0.queue, acc.0.log, r.handled, acc.0.owing), second_list_of (parts_two r.two c g 0)),
-            ((λ _. is_boundary r.two c g _ _ acc.1 (sym (ap (λ (y : Core Q P). y.1) acc.1) ∙ (acc.2 ∙ ap (grouped lead.own) (sym all))) fit.5.0), λ miss. absurd (miss hit)),
+            ((λ _. is_boundary r.two c g _ _ acc.1 (sym (ap (λ (y : Core Q P). y.1) acc.1) ∙ (acc.2 ∙ ap (grouped lead.own) (sym all))) fit.5.0 f.own_by), λ miss. absurd (miss hit)),
             moved stands n s r c id ws s.homes h h' [] r.hand r.handled (marked c) ph r.due r.told (parts_two r.two c g 0) record {
               at = at';
               same_client = refl;

@@ -64,8 +64,8 @@ module _ {Q P : Type 0} where
   in_apart g (serves f) ok = refl
 
   -- a group is cut off for the second list
-  pub is_boundary : (two : Two Q P) (c : ℕ) (g : Squad Q P) (k k' : Core Q P) → k' ≡ k → k.1 ≡ grouped g.own g.rest → two.place c ≡ away → IsBoundary c g (k, second_list_of two) (k', second_list_of (parts_two two c g 0))
-  is_boundary two c g k k' same is there = (is, ap apart_in there, same, refl, refl, apart_put two.place c (parted g 0))
+  pub is_boundary : (two : Two Q P) (c : ℕ) (g : Squad Q P) (k k' : Core Q P) → k' ≡ k → k.1 ≡ grouped g.own g.rest → two.place c ≡ away → g.own.by ≡ c → IsBoundary c g (k, second_list_of two) (k', second_list_of (parts_two two c g 0))
+  is_boundary two c g k k' same is there own = (own, is, ap apart_in there, same, refl, refl, apart_put two.place c (parted g 0))
 
   pub parts_else : (two : Two Q P) (c : ℕ) (g : Squad Q P) (d k : ℕ) → k ≢ c → (b : Back Q P) → KnowsBack two k b → KnowsBack (parts_two two c g d) k b
   parts_else two c g d k ne = back_map two (parts_two two c g d) k (put_else two.place c (parted g d) k ne) (λ h. (h, ([], refl))) (λ w h. (h, refl)) (λ h. h) (λ h. h)
@@ -91,9 +91,9 @@ module _ {Q P : Type 0} where
   cut_two none two c lead = two
   cut_two (some k) two c lead = parts_two two c (parting lead k) 0
 
-  pub is_cut_as : (ch : Option (List (Handling Q P))) (two : Two Q P) (c : ℕ) (lead : Lead Q P) (k k' : Core Q P) → k' ≡ k → k.1 ≡ grouped lead.own lead.taken → two.place c ≡ away → IsCutAs ch c lead (k, second_list_of two) (k', second_list_of (cut_two ch two c lead))
-  is_cut_as none two c lead k k' same is there = λ i. (same i, second_list_of two)
-  is_cut_as (some from) two c lead k k' same is there = is_boundary two c (parting lead from) k k' same is there
+  pub is_cut_as : (ch : Option (List (Handling Q P))) (two : Two Q P) (c : ℕ) (lead : Lead Q P) (k k' : Core Q P) → k' ≡ k → k.1 ≡ grouped lead.own lead.taken → two.place c ≡ away → lead.own.by ≡ c → IsCutAs ch c lead (k, second_list_of two) (k', second_list_of (cut_two ch two c lead))
+  is_cut_as none two c lead k k' same is there own = λ i. (same i, second_list_of two)
+  is_cut_as (some from) two c lead k k' same is there own = is_boundary two c (parting lead from) k k' same is there own
 
   pub cut_back : (ch : Option (List (Handling Q P))) (two : Two Q P) (c : ℕ) (lead : Lead Q P) → KnowsBack two c Away → KnowsBack (cut_two ch two c lead) c (after_cut ch lead)
   cut_back none two c lead ok = ok

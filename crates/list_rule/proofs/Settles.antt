@@ -64,7 +64,7 @@ module _ {Q P : Type 0} where
 
 module _ {Q P L M : Type 0} (stands : Laws Q P L M) (n : ℕ) where
   -- a client whose request is handled is not in the list
-  handled_out : (homes : List (Option (Content Q P L M))) (line hand : List (Entry Q)) (handled : List (Handling Q P)) (phase : ℕ → Phase Q P) (due : ℕ → List (Q × P)) (k : ℕ) (x : Q × P)
+  pub handled_out : (homes : List (Option (Content Q P L M))) (line hand : List (Entry Q)) (handled : List (Handling Q P)) (phase : ℕ → Phase Q P) (due : ℕ → List (Q × P)) (k : ℕ) (x : Q × P)
       → due k ≡ x ∷ [] → ((e : Entry Q) → phase k ≡ linked e → ⊥) → ((e : Entry Q) → phase k ≡ chosen e → ⊥) → (mode : Mode Q) → InMode stands n homes line hand handled phase due mode → Absent k line
   handled_out homes line hand handled phase due k x owed no_l no_c open_ ok = subst (Absent k) (sym ok.0) tt
   handled_out homes line hand handled phase due k x owed no_l no_c (waits c) ok =
@@ -281,7 +281,7 @@ module _ {Q P L M : Type 0} (stands : Laws Q P L M) (n : ℕ) where
         tt,
         (
           ((acc.0.queue, acc.0.log, r.handled, acc.0.owing), second_list_of (cut_two ch r.two c lead)),
-          is_cut_as ch r.two c lead _ _ acc.1 (sym (ap (λ (y : Core Q P). y.1) acc.1) ∙ (acc.2 ∙ ap (grouped lead.own) (sym all))) fit.5.0,
+          is_cut_as ch r.two c lead _ _ acc.1 (sym (ap (λ (y : Core Q P). y.1) acc.1) ∙ (acc.2 ∙ ap (grouped lead.own) (sym all))) fit.5.0 f.own_by,
           moved stands n s r c id ws s.homes h h' line r.hand r.handled (cut c x.by) ph r.due r.told (cut_two ch r.two c lead) record {
             at = at';
             same_client = refl;

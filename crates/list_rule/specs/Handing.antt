@@ -8,8 +8,10 @@ use Rattle.list_rule.specs.declared.view.Squad.{Squad}
 use Rattle.list_rule.specs.declared.view.Back.{Back}
 use Rattle.list_rule.specs.declared.view.Back.TheVariants.{Away, Parting, Joining, Holding, Queued, Serving, Passing}
 use Rattle.list_rule.specs.declared.content.Content.{Content}
-use Rattle.list_rule.specs.Chain.{newest, Links}
+use Rattle.list_rule.specs.Chain.{Absent, newest, Links}
+use Rattle.list_rule.specs.Events.{IsNotWith}
 use Rattle.list_rule.specs.Standing.{line_of, flat}
+use Rattle.list_rule.specs.Steps.{Lists}
 
 -- the seat has this client alone, and knows this
 abbrev pub Sees : {Q P L M : Type 0} → State (Content Q P L M) (List (Hold Q P)) → ℕ → Hold Q P → Type 0
@@ -45,3 +47,7 @@ module _ {Q P : Type 0} where
   abbrev pub IsOldestGroup : Squad Q P → List ℕ → Type 0
   IsOldestGroup g words = (newer : List (Squad Q P)) × (slice_index words 1 ≡ newest (flat newer ++ line_of g))
       × Links words (flat newer ++ line_of g)
+
+  -- the client is neither of the group in hand nor in the second list
+  abbrev pub IsInNone : ℕ → Lists Q P → Type 0
+  IsInNone c l = IsNotWith c l.0.1 × Absent c (flat l.1.0)

@@ -8,5 +8,6 @@ pub mod Plays
 pub mod Steps
 pub mod Between
 pub mod CoreEvents
+pub mod PipelinedCoreEvents
 pub mod Handing
 pub mod SecondList

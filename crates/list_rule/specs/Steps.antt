@@ -64,8 +64,8 @@ module _ {Q P : Type 0} where
 
   -- the client c, whose group has the log, cuts it off from the first list, to bring it into the second
   abbrev pub IsBoundary : ℕ → Squad Q P → Lists Q P → Lists Q P → Type 0
-  IsBoundary c g a b = (a.0.1 ≡ grouped g.own g.rest) × (a.1.2 c ≡ none) × (b.0 ≡ a.0) × (b.1.0 ≡ a.1.0)
-      × (b.1.1 ≡ a.1.1) × IsPut c (some g) a.1.2 b.1.2
+  IsBoundary c g a b = (g.own.by ≡ c) × (a.0.1 ≡ grouped g.own g.rest) × (a.1.2 c ≡ none) × (b.0 ≡ a.0)
+      × (b.1.0 ≡ a.1.0) × (b.1.1 ≡ a.1.1) × IsPut c (some g) a.1.2 b.1.2
 
   -- the link behind a group is cut: to give the log on, or, where it is said what was given runs, to bring the group
   -- into the second list

@@ -26,7 +26,7 @@
 //!
 //! A seat is a client's. Who leads has the log, and the slots of its group. Which event of the list each step is, or
 //! that it is none, say [`steps_and_events`] and [`second_steps_and_events`], and which event of the write path's core
-//! an event of the list is [`list_and_core`].
+//! an event of the list is [`list_and_core`], and [`pipelined_list_and_core`] where groups go on to the second list.
 //!
 //! Each request in the list is lawful for what the list's law is about (`lawful` of [`Ledger`]): who links it shows so,
 //! and its leader knows it.
@@ -68,6 +68,7 @@ mod code;
 mod content;
 mod core_events;
 mod law;
+mod pipelined_core_events;
 mod rule;
 mod second_law;
 mod steps;
@@ -77,6 +78,7 @@ pub use code::{code_of, codes_stand_for_items, item_of};
 pub use content::{Content, Start};
 pub use core_events::list_and_core;
 pub use law::{between_steps, opening_and_seats, steps_and_events};
+pub use pipelined_core_events::pipelined_list_and_core;
 pub use rule::{
     Both, First, Given, Itemized, Ledger, Order, PickedAbout, PickedGiven, PickedRight,
 };

@@ -7,7 +7,7 @@ ghost use Rattle.list_rule.specs.declared.content.Content.{Content};
 ghost use Rattle.list_rule.specs.declared.content.Content.TheVariants.{Told, Log, Right};
 ghost use Rattle.list_rule.specs.declared.content.Start.{Start};
 ghost use Rattle.list_rule.specs.declared.view.Back.{Back};
-ghost use Rattle.list_rule.specs.declared.view.Back.TheVariants.{Parting, Queued, Serving, Passing};
+ghost use Rattle.list_rule.specs.declared.view.Back.TheVariants.{Away, Parting, Queued, Serving, Passing};
 ghost use Rattle.list_rule.specs.declared.view.Debt.{Debt};
 ghost use Rattle.list_rule.specs.declared.view.Entry.{Entry};
 ghost use Rattle.list_rule.specs.declared.view.Handling.{Handling};
@@ -20,7 +20,7 @@ ghost use Rattle.list_rule.specs.Standing.{line_of};
 ghost use Rattle.list_rule.specs.Laws.{laws_for, logs_picked, given_runs};
 ghost use Rattle.list_rule.specs.Plays.{Sat, At, AtWith, HandsOn, IsCut, parting, in_hand, debt, slots_of, peeked, cut_as, marked_off, woken_on, freed, traced_marked, cut_marked, aimed_second, joined, summoned, kept, left_second, traced_second, cleared_second, called_next};
 ghost use Rattle.list_rule.specs.Steps.{now_of, Stays, HappensWhere, IsBoundary, IsSecond, IsNext, IsServedOut, StepIs};
-ghost use Rattle.list_rule.specs.Handing.{Sees, IsJoined, IsServed, IsNewestGroup, IsOldestGroup};
+ghost use Rattle.list_rule.specs.Handing.{Sees, IsInNone, IsJoined, IsServed, IsNewestGroup, IsOldestGroup};
 ghost use Rattle.list_rule.specs.Events.{grouped};
 ghost use Rattle.list_rule.specs.Rule.{Listed, hold_at};
 ghost use Rattle.list_rule.specs.declared.view.Handling.{Handling};
@@ -132,7 +132,8 @@ pub fn second_steps_and_events<Q: Itemized, P: Given, L: Ledger<Q, P, M>, M>()
 /// In each state in which the rule holds, by what a leader knows: from where it has cut its group off until it gives the
 /// log on, the log is with that group, so nobody is elected; who gives the log on, in a list with the second one, has its
 /// group there, as the newest one and with all that was given runs, or nothing more was; and the group of who
-/// has the right is the oldest one.
+/// has the right is the oldest one. Who is told by a leader that is in neither list, and such a leader itself, is in
+/// neither, nor of the group in hand.
 pub fn handing_on<Q: Itemized, P: Given, L: Ledger<Q, P, M>, M>()
     ensures cut { (z : Start L.About) (s : State (Content Q P L M) (List (Hold Q P)))
         (r : Listed (laws_for Q.item_of L.lawful L.stands L.kept L.number_of P.run_of L.serves z) z.clients s)
@@ -151,4 +152,16 @@ pub fn handing_on<Q: Itemized, P: Given, L: Ledger<Q, P, M>, M>()
         (id c : ℕ) (stage : Stage Q P) (mine : List (Q × P)) (back : Back Q P) (g : Squad Q P)
         → Listed (laws_for Q.item_of L.lawful L.stands L.kept L.number_of P.run_of L.serves z) z.clients s
         → Sees s id (hold_at c stage mine back) → IsServed g back → IsOldestGroup g s.words }
+    ensures told { (z : Start L.About) (s : State (Content Q P L M) (List (Hold Q P)))
+        (r : Listed (laws_for Q.item_of L.lawful L.stands L.kept L.number_of P.run_of L.serves z) z.clients s)
+        (id c : ℕ) (mine : List (Q × P)) (member : Entry Q × P) (others : List (Entry Q × P)) (own : Entry Q) (p : P)
+        → Sees s id (hold_at c (Settling (debt (member ∷ others) own p)) mine Away)
+        → IsInNone member.0.by
+        (now_of (laws_for Q.item_of L.lawful L.stands L.kept L.number_of P.run_of L.serves z) z.clients s r) }
+    ensures told_last { (z : Start L.About) (s : State (Content Q P L M) (List (Hold Q P)))
+        (r : Listed (laws_for Q.item_of L.lawful L.stands L.kept L.number_of P.run_of L.serves z) z.clients s)
+        (id c : ℕ) (mine : List (Q × P)) (own : Entry Q) (p : P)
+        → Sees s id (hold_at c (Settling (debt [] own p)) mine Away)
+        → IsInNone own.by
+        (now_of (laws_for Q.item_of L.lawful L.stands L.kept L.number_of P.run_of L.serves z) z.clients s r) }
 {}

@@ -1,4 +1,4 @@
-use Rattle.list_rule.proofs.Handings.{hands_joined, cut_log, joined_newest, served_oldest}
+use Rattle.list_rule.proofs.Handings.{hands_joined, cut_log, joined_newest, served_oldest, told_apart, told_last}
 use Rattle.list_rule.proofs.second_law.handing_on.Goals as goal
 
 pub returns-clause-cut : goal.returns-clause-cut
@@ -12,3 +12,9 @@ returns-clause-joined g a z s id c stage mine back squad r sees piped is = joine
 
 pub returns-clause-served : goal.returns-clause-served
 returns-clause-served g a z s id c stage mine back squad r sees is = served_oldest _ z.clients s r id c stage mine back sees squad is
+
+pub returns-clause-told : goal.returns-clause-told
+returns-clause-told g a z s r id c mine member others own p sees = told_apart _ z.clients s r id c mine member others own p sees
+
+pub returns-clause-told_last : goal.returns-clause-told_last
+returns-clause-told_last g a z s r id c mine own p sees = told_last _ z.clients s r id c mine own p sees

@@ -1,0 +1,86 @@
+-- The two lists of pipelined groups as the half of the write path's core that has the writers.
+use Rattle.std.specs.Prelude.{◌≡◌, ℕ, Bool, List, [], ◌∷◌, ◌++◌, map, reverse, count_by, Some, None}
+use Rattle.std.specs.List.{AllZip}
+use mathlib.Core.Option.{Option, none, some}
+use Rattle.core_model.specs.declared.event.Event.{Event as CoreEvent}
+use Rattle.wp_model.specs.Calls.{Reply}
+use Rattle.core_model.specs.Core.{Options, Writer, LogPhase, free as nobody, led, built as in_hand, in_log, marked, handed, State as CoreState}
+use Rattle.core_model.specs.CoreLaw.{joined}
+use Rattle.core_model.specs.Halves.{ListHalf, ListStep, list_half_of}
+use Rattle.core_model.specs.Step.{step}
+use Rattle.list_rule.specs.declared.view.Entry.{Entry}
+use Rattle.list_rule.specs.declared.view.Squad.{Squad}
+use Rattle.list_rule.specs.Events.{Held, grouped}
+use Rattle.list_rule.specs.Standing.{Lead2, level, ahead, line_of}
+use Rattle.list_rule.specs.SecondList.{IsPut}
+use Rattle.list_rule.specs.Steps.{Lists}
+use Rattle.list_rule.specs.CoreEvents.{core_queue, core_log, answer_of, answer_in}
+
+-- the same in any order: each test holds of as many of the one as of the other
+abbrev pub IsRearranged : {A : Type 0} → List A → List A → Type 0
+IsRearranged {A} xs ys = (test : A → Bool) → count_by test xs ≡ count_by test ys
+
+abbrev pub unanswered : Writer → Writer
+unanswered w = record w { answer = None }
+
+-- the group in hand, where it is in the core's second queue already
+abbrev pub handed_on : LogPhase → List Writer → List Writer
+handed_on nobody ws = []
+handed_on (led c) ws = []
+handed_on (in_hand vs) ws = []
+handed_on (in_log vs) ws = []
+handed_on (marked vs) ws = []
+handed_on (handed c) ws = ws
+
+-- the core's writers are those of these entries, whatever they are answered
+abbrev pub IsGroupOf : {Q : Type 0} → (Entry Q → Writer) → List (Entry Q) → List Writer → Type 0
+IsGroupOf writer_of es ws = map unanswered ws ≡ map unanswered (core_queue writer_of es)
+
+-- no group is between the lists, or in both
+abbrev pub IsSettled : {Q P : Type 0} → Lead2 → (ℕ → Option (Squad Q P)) → Type 0
+IsSettled lead apart = (lead ≡ level) × ((k : ℕ) → apart k ≡ none)
+
+module _ {Q P : Type 0} (writer_of : Entry Q → Writer) where
+  -- the core's second queue is the groups of the second list, the oldest first
+  abbrev pub HasGroups : List (Squad Q P) → List (List Writer) → Type 0
+  HasGroups groups second = AllZip (λ g ws. IsGroupOf writer_of (line_of g) ws) (reverse groups) second
+
+  -- the log is in the same hand, and no group is logged
+  abbrev pub IsUnlogged : Held Q → Lead2 → (ℕ → Option (Squad Q P)) → List Writer → LogPhase → Type 0
+  IsUnlogged held lead apart ws phase = (phase ≡ core_log writer_of held) × (ws ≡ []) × IsSettled lead apart
+
+  -- Where the core's log is, by what the lists show: ws are the writers of the group in hand once it is logged. A
+  -- logged group is marked while it is apart from both lists, and handed on while its leader is ahead.
+  abbrev pub IsLogOf : Held Q → Lead2 → (ℕ → Option (Squad Q P)) → List Writer → LogPhase → Type 0
+  IsLogOf held lead apart ws nobody = IsUnlogged held lead apart ws nobody
+  IsLogOf held lead apart ws (led c) = IsUnlogged held lead apart ws (led c)
+  IsLogOf held lead apart ws (in_hand vs) = IsUnlogged held lead apart ws (in_hand vs)
+  IsLogOf held lead apart ws (in_log vs) = (vs ≡ ws)
+      × ((own : Entry Q) × (group : List (Entry Q)) × (held ≡ grouped own group) × IsGroupOf writer_of (group ++ own ∷ []) ws)
+      × IsSettled lead apart
+  IsLogOf held lead apart ws (marked vs) = (vs ≡ ws) × (lead ≡ level)
+      × ((g : Squad Q P) × (held ≡ grouped g.own g.rest) × IsGroupOf writer_of (line_of g) ws
+      × IsPut g.own.by (some g) (λ _. none) apart)
+  IsLogOf held lead apart ws (handed c) = (lead ≡ ahead c) × ((k : ℕ) → apart k ≡ none)
+      × ((own : Entry Q) × (group : List (Entry Q)) × (held ≡ grouped own group) × (own.by ≡ c)
+      × IsGroupOf writer_of (group ++ own ∷ []) ws)
+
+module _ {Q P : Type 0} (writer_of : Entry Q → Writer) (reply_of : P → Reply) where
+  -- The core has the same queue, the log where the lists show it, and the same groups in its second queue. Who has been
+  -- handled and hasn't been told is in the core's second queue or has left, with the same reply; beside these, the group
+  -- that is handed on has its answers in the core before the list hands its log on.
+  pub record IsPipelinedCoreOf (ws : List Writer) (l : Lists Q P) (half : ListHalf) : Type 0 where
+    pub queue : half.queue ≡ core_queue writer_of l.0.0
+    pub log : IsLogOf writer_of l.0.1 l.1.1 l.1.2 ws half.log
+    pub second : HasGroups writer_of l.1.0 half.second
+    pub owed : IsRearranged (map (answer_in reply_of) l.0.3 ++ map answer_of (handed_on half.log ws))
+        (map answer_of (half.leaving ++ joined half.second))
+
+  -- the event may come in the core, and takes it to what the lists are then
+  abbrev pub IsTaken : Options → CoreEvent → CoreState → List Writer → Lists Q P → Type 0
+  IsTaken o event s ws l = (new : CoreState) × (step o s event ≡ Some new)
+      × IsPipelinedCoreOf ws l (list_half_of new)
+
+  -- the same, of an event that is the core's where its client's next call is one
+  abbrev pub IsMoved : Options → CoreEvent → CoreState → List Writer → Lists Q P → Type 0
+  IsMoved o event s ws l = (new : ListHalf) × ListStep o event s new × IsPipelinedCoreOf ws l new

@@ -1,0 +1,102 @@
+//! The events of a list with a second one are events of the write path's core.
+ghost use Rattle.std.specs.Prelude.{◌≡◌, List, [], ◌∷◌, ◌++◌, true, false, ℕ, Some};
+ghost use Rattle.std.specs.List.{list_any};
+ghost use mathlib.Core.Option.{none};
+ghost use Rattle.wp_model.specs.Calls.{Command, Reply, refused};
+ghost use Rattle.wp_model.specs.declared.write.Refusal.TheVariants as no;
+ghost use Rattle.core_model.specs.declared.event.Event.TheVariants as core;
+ghost use Rattle.core_model.specs.Core.{Options, Writer, State, built as in_hand, in_log, published, opened, first_group, with_runs, has_run};
+ghost use Rattle.core_model.specs.Halves.{list_half_of};
+ghost use Rattle.core_model.specs.Step.{step, is_no_slowdown};
+ghost use Rattle.list_rule.specs.declared.view.Back.{Back};
+ghost use Rattle.list_rule.specs.declared.view.Entry.{Entry};
+ghost use Rattle.list_rule.specs.declared.view.Handling.{Handling};
+ghost use Rattle.list_rule.specs.declared.view.Squad.{Squad};
+ghost use Rattle.list_rule.specs.Chain.{all_answers};
+ghost use Rattle.list_rule.specs.Events.{free, grouped, comes, elects, builds};
+ghost use Rattle.list_rule.specs.Standing.{level, ahead, line_of};
+ghost use Rattle.list_rule.specs.Steps.{Lists, HappensAlone, IsExit, IsComplete, IsBoundary, IsSecond, IsNext, IsServedOut};
+ghost use Rattle.list_rule.specs.Handing.{IsInNone, IsJoined};
+ghost use Rattle.list_rule.specs.CoreEvents.{IsSame, HasReplies, AllHave};
+ghost use Rattle.list_rule.specs.PipelinedCoreEvents.{IsGroupOf, IsPipelinedCoreOf, IsTaken, IsMoved};
+
+/// Of a list with a second one: where the core stands as both lists show it, each event of the lists may come in the
+/// core, and it stands as the lists show it after that event too. `ws` are the writers of the group in hand once the
+/// core has logged it, with their answers.
+///
+/// A writer comes, the oldest leads and builds its group, and the groups of the second list stay. The core logs the
+/// group in hand while the lists stay as they are. A logged group is cut off from the first list by the core's
+/// `boundary`, comes to the end of the second queue by `second`, and its leader gives the log on by `next`, which
+/// comes nowhere else. The group of which no member has a run leaves by a log, a fault or a refusal. The first group of
+/// the second queue leaves it by an exit once it is published, and its members leave with their answers. Who has
+/// left is told.
+pub fn pipelined_list_and_core<Q, P>()
+    ensures open { (writer_of : Entry Q → Writer) (reply_of : P → Reply) (o : Options) (plans : List (List Command))
+        → IsPipelinedCoreOf {Q = Q} {P = P} writer_of reply_of [] (([], free, [], []), ([], level, λ _. none))
+        (list_half_of (opened o plans)) }
+    ensures link { (writer_of : Entry Q → Writer) (reply_of : P → Reply) (o : Options) (s : State) (a b : Lists Q P)
+        (ws : List Writer) (e : Entry Q)
+        → IsSame writer_of → IsPipelinedCoreOf writer_of reply_of ws a (list_half_of s) → HappensAlone (comes e) a b
+        → IsMoved writer_of reply_of o (core.Link e.by) s ws b }
+    ensures elect { (writer_of : Entry Q → Writer) (reply_of : P → Reply) (o : Options) (s : State) (a b : Lists Q P)
+        (ws : List Writer) (e : Entry Q)
+        → IsSame writer_of → IsPipelinedCoreOf writer_of reply_of ws a (list_half_of s) → HappensAlone (elects e) a b
+        → IsTaken writer_of reply_of o (core.Elect e.by) s [] b }
+    ensures build { (writer_of : Entry Q → Writer) (reply_of : P → Reply) (o : Options) (s : State) (a b : Lists Q P)
+        (ws : List Writer) (own : Entry Q) (group left : List (Entry Q))
+        → IsSame writer_of → IsPipelinedCoreOf writer_of reply_of ws a (list_half_of s)
+        → HappensAlone (builds o.group_bytes own group left) a b
+        → IsTaken writer_of reply_of o (core.Build own.by) s [] b }
+    ensures log { (writer_of : Entry Q → Writer) (reply_of : P → Reply) (o : Options) (s : State) (a : Lists Q P)
+        (old ws built : List Writer) (own : Entry Q) (group : List (Entry Q))
+        → IsSame writer_of → IsPipelinedCoreOf writer_of reply_of old a (list_half_of s)
+        → a.0.1 ≡ grouped own group → s.log ≡ in_hand built → s.log_failed ≡ false
+        → ws ≡ with_runs s.assigned built → list_any has_run ws ≡ true
+        → IsTaken writer_of reply_of o (core.Log own.by) s ws a }
+    ensures boundary { (writer_of : Entry Q → Writer) (reply_of : P → Reply) (o : Options) (s : State) (a b : Lists Q P)
+        (ws : List Writer) (c : ℕ) (g : Squad Q P)
+        → o.pipelined ≡ true → IsSame writer_of → IsPipelinedCoreOf writer_of reply_of ws a (list_half_of s)
+        → s.log ≡ in_log ws → IsBoundary c g a b
+        → IsTaken writer_of reply_of o (core.Boundary c) s ws b }
+    ensures second { (writer_of : Entry Q → Writer) (reply_of : P → Reply) (o : Options) (s : State) (a b : Lists Q P)
+        (ws : List Writer) (c : ℕ) (g : Squad Q P) (to : List (Handling Q P))
+        → IsSame writer_of → IsPipelinedCoreOf writer_of reply_of ws a (list_half_of s) → IsSecond c g to a b
+        → IsTaken writer_of reply_of o (core.Second c) s ws b }
+    ensures next { (writer_of : Entry Q → Writer) (reply_of : P → Reply) (o : Options) (s : State) (a b : Lists Q P)
+        (ws : List Writer) (back : Back Q P) (g : Squad Q P) (own : Entry Q) (p : P) (gs : List (Entry Q × P))
+        → IsPipelinedCoreOf writer_of reply_of ws a (list_half_of s) → IsNext back own p gs a b → IsJoined g back
+        → HasReplies reply_of (all_answers own p gs) ws
+        → IsTaken writer_of reply_of o (core.Next own.by) s [] b }
+    ensures next_of_handed { (writer_of : Entry Q → Writer) (reply_of : P → Reply) (o : Options) (s new : State)
+        (a : Lists Q P) (ws : List Writer) (c : ℕ)
+        → IsPipelinedCoreOf writer_of reply_of ws a (list_half_of s) → step o s (core.Next c) ≡ Some new
+        → a.1.1 ≡ ahead c }
+    ensures exit { (writer_of : Entry Q → Writer) (reply_of : P → Reply) (o : Options) (s : State) (a b : Lists Q P)
+        (ws : List Writer) (g : Squad Q P)
+        → o.pipelined ≡ true → IsSame writer_of → IsPipelinedCoreOf writer_of reply_of ws a (list_half_of s)
+        → s.table ≡ published → IsServedOut g a b
+        → IsGroupOf writer_of (line_of g) (first_group s.second)
+        × IsTaken writer_of reply_of o (core.Exit g.own.by) s ws b }
+    ensures log_refused { (writer_of : Entry Q → Writer) (reply_of : P → Reply) (o : Options) (s : State)
+        (a b : Lists Q P) (old ws built : List Writer) (own : Entry Q) (p : P) (gs : List (Entry Q × P))
+        → IsSame writer_of → IsPipelinedCoreOf writer_of reply_of old a (list_half_of s) → IsExit own p gs a b
+        → s.log ≡ in_hand built → s.log_failed ≡ false
+        → ws ≡ with_runs s.assigned built → list_any has_run ws ≡ false → HasReplies reply_of (all_answers own p gs) ws
+        → IsTaken writer_of reply_of o (core.Log own.by) s [] b }
+    ensures fault { (writer_of : Entry Q → Writer) (reply_of : P → Reply) (o : Options) (s : State) (a b : Lists Q P)
+        (old built : List Writer) (own : Entry Q) (p : P) (gs : List (Entry Q × P))
+        → IsSame writer_of → IsPipelinedCoreOf writer_of reply_of old a (list_half_of s) → IsExit own p gs a b
+        → s.log ≡ in_hand built → AllHave reply_of (refused (no.LogFault 1)) (all_answers own p gs)
+        → IsTaken writer_of reply_of o (core.Fault own.by) s [] b }
+    ensures refuse { (writer_of : Entry Q → Writer) (reply_of : P → Reply) (o : Options) (s : State) (a b : Lists Q P)
+        (old built : List Writer) (own : Entry Q) (p : P) (gs : List (Entry Q × P)) (stops delays wait : ℕ)
+        → IsSame writer_of → IsPipelinedCoreOf writer_of reply_of old a (list_half_of s) → IsExit own p gs a b
+        → s.log ≡ in_hand built → is_no_slowdown built ≡ true
+        → AllHave reply_of (refused (no.Incomplete stops delays wait)) (all_answers own p gs)
+        → IsTaken writer_of reply_of o (core.Refuse own.by stops delays wait) s [] b }
+    ensures complete { (writer_of : Entry Q → Writer) (reply_of : P → Reply) (o : Options) (s : State) (a b : Lists Q P)
+        (ws : List Writer) (e : Entry Q) (p : P)
+        → IsSame writer_of → IsPipelinedCoreOf writer_of reply_of ws a (list_half_of s) → IsComplete e p a b
+        → IsInNone e.by a
+        → IsMoved writer_of reply_of o (core.Complete e.by) s ws b }
+{}
