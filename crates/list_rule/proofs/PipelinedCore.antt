@@ -1,10 +1,10 @@
 -- What the events of a list with a second one share: a group's writers, and what is owed.
-use Rattle.std.proofs.Common.{◌≡◌, ◌≢◌, ℕ, ◌+◌, eqb, eq-eqb, ne_eqb, Bool, true, false, not, ◌&&◌, cond, List, [], ◌∷◌, ◌++◌, map, filter, reverse, drop, count_by, if◌then◌else◌, Option as Answer, Some, None, refl, sym, ap, ◌∙◌, subst, arith, append-nil, zero-add}
+use Rattle.std.proofs.Common.{◌≡◌, ◌≢◌, ℕ, ◌+◌, eqb, eq-eqb, ne_eqb, Bool, true, false, not, ◌&&◌, cond, ◌⊎◌, inl, inr, List, [], ◌∷◌, ◌++◌, map, filter, reverse, drop, if◌then◌else◌, Option as Answer, Some, None, refl, sym, ap, ◌∙◌, subst, append-nil, append_assoc, eqb-true}
 use Rattle.std.specs.List.{AllZip}
-use Rattle.std.specs.Prelude.{nat_le}
+use Rattle.std.specs.Prelude.{nat_le, find}
 use Rattle.std.proofs.lemmas.List.{reverse-append, map-append}
 use Rattle.std.proofs.lemmas.List.Concat.{flat_map-append}
-use Rattle.std.proofs.lemmas.List.Sums.{sum_by-append, sum_by-cons}
+use Rattle.std.proofs.lemmas.List.Elements.{filter-append}
 use Rattle.std.proofs.lemmas.Slice.Zip.{all_zipped_more}
 use native.Mathlib.Decide.{ℕ_discrete}
 use mathlib.Core.Option.{Option, none, some}
@@ -14,9 +14,10 @@ use Rattle.wp_model.specs.History.{max_sequence}
 use Rattle.core_model.specs.Core.{Writer, leads, with_runs, first_group}
 use Rattle.core_model.specs.CoreLaw.{joined}
 use Rattle.list_rule.specs.declared.view.Entry.{Entry}
+use Rattle.list_rule.specs.declared.view.Handling.{Handling}
 use Rattle.list_rule.specs.declared.view.Squad.{Squad}
-use Rattle.list_rule.specs.Chain.{Absent}
-use Rattle.list_rule.specs.CoreEvents.{IsSame, core_queue, answer_of}
+use Rattle.list_rule.specs.Chain.{Absent, of}
+use Rattle.list_rule.specs.CoreEvents.{IsSame, core_queue, answer_of, answer_in}
 use Rattle.list_rule.specs.PipelinedCoreEvents.{IsRearranged, unanswered, IsGroupOf, HasGroups}
 use Rattle.list_rule.specs.SecondList.{IsPut}
 use Rattle.list_rule.specs.Standing.{line_of, flat}
@@ -87,30 +88,75 @@ module _ {Q P : Type 0} where
 
 -- What is owed
 
-module _ {A : Type 0} where
-  counts : (test : A → Bool) (xs ys : List A) → count_by test (xs ++ ys) ≡ count_by test xs + count_by test ys
-  counts test xs ys = sum_by-append (λ x. cond (test x) 1 0) xs ys
+abbrev tail_of : {A : Type 0} → List A → List A
+tail_of [] = []
+tail_of (x ∷ xs) = xs
 
+abbrev head_or : {A : Type 0} → A → List A → A
+head_or d [] = d
+head_or d (x ∷ xs) = x
+
+module _ {A : Type 0} where
   pub rearranged_as : (a b c d : List A) → c ≡ a → d ≡ b → IsRearranged a b → IsRearranged c d
-  rearranged_as a b c d left right is test = ap (count_by test) left ∙ (is test ∙ ap (count_by test) (sym right))
+  rearranged_as a b c d left right is = subst (λ l. IsRearranged l d) (sym left) (subst (IsRearranged a) (sym right) is)
+
+  itself : (a : List A) → IsRearranged a a
+  itself [] = refl
+  itself (x ∷ a) = ([], a, refl, itself a)
 
   pub rearranged_more : (a b more : List A) → IsRearranged a b → IsRearranged (a ++ more) (b ++ more)
-  rearranged_more a b more is test = counts test a more ∙ (ap (λ n. n + count_by test more) (is test) ∙ sym (counts test b more))
+  rearranged_more [] b more is = subst (λ l. IsRearranged more (l ++ more)) (sym is) (itself more)
+  rearranged_more (x ∷ a) b more is =
+      (is.0, is.1 ++ more, ap (λ l. l ++ more) is.2 ∙ append_assoc is.0 (x ∷ is.1) more, subst (IsRearranged (a ++ more)) (append_assoc is.0 is.1 more) (rearranged_more a (is.0 ++ is.1) more is.3))
+
+  -- an element of two lists is of the one or of the other
+  abbrev Splits : List A → List A → List A → A → List A → Type 0
+  Splits b c before x after = ((t : List A) × (b ≡ before ++ x ∷ t) × (after ≡ t ++ c)) ⊎ ((t : List A) × (c ≡ t ++ x ∷ after) × (before ≡ b ++ t))
+
+  splits : (b c before : List A) (x : A) (after : List A) → b ++ c ≡ before ++ x ∷ after → Splits b c before x after
+  splits [] c before x after is = inr (before, is, refl)
+  splits (y ∷ b) c [] x after is = inl (b, (λ i. head_or y (is i) ∷ b), sym (ap tail_of is))
+  splits (y ∷ b) c (z ∷ before) x after is = go (splits b c before x after (ap tail_of is))
+    where
+      go : Splits b c before x after → Splits (y ∷ b) c (z ∷ before) x after
+      go (inl h) = inl (h.0, (λ i. head_or y (is i) ∷ h.1 i), h.2)
+      go (inr h) = inr (h.0, h.1, (λ i. head_or y (sym is i) ∷ h.2 i))
 
   -- more of both, before the end of the one
   pub rearranged_within : (a b c more : List A) → IsRearranged a (b ++ c) → IsRearranged (a ++ more) ((b ++ more) ++ c)
-  rearranged_within a b c more is test = omega (arith, is test, counts test b c, counts test a more, counts test (b ++ more) c, counts test b more)
+  rearranged_within [] [] c more is = subst (λ l. IsRearranged more (more ++ l)) (sym is) (subst (IsRearranged more) (sym (append-nil more)) (itself more))
+  rearranged_within [] (y ∷ b) c more is = absurd (cc)
+  rearranged_within (x ∷ a) b c more is = go (splits b c is.0 x is.1 is.2) (λ f g r. rearranged_within a f g more r)
+    where
+      go : Splits b c is.0 x is.1 → ((f g : List A) → IsRearranged a (f ++ g) → IsRearranged (a ++ more) ((f ++ more) ++ g)) → IsRearranged (x ∷ (a ++ more)) ((b ++ more) ++ c)
+      go (inl h) again =
+          let rest = again (is.0 ++ h.0) c (subst (IsRearranged a) (ap (λ l. is.0 ++ l) h.2 ∙ sym (append_assoc is.0 h.0 c)) is.3) in (
+            is.0,
+            (h.0 ++ more) ++ c,
+            ap (λ l. (l ++ more) ++ c) h.1 ∙ (ap (λ l. l ++ c) (append_assoc is.0 (x ∷ h.0) more) ∙ append_assoc is.0 (x ∷ (h.0 ++ more)) c),
+            subst (IsRearranged (a ++ more)) (ap (λ l. l ++ c) (append_assoc is.0 h.0 more) ∙ append_assoc is.0 (h.0 ++ more) c) rest,
+          )
+      go (inr h) again =
+          let rest = again b (h.0 ++ is.1) (subst (IsRearranged a) (ap (λ l. l ++ is.1) h.2 ∙ append_assoc b h.0 is.1) is.3) in
+          ((b ++ more) ++ h.0, is.1, ap (λ l. (b ++ more) ++ l) h.1 ∙ sym (append_assoc (b ++ more) h.0 (x ∷ is.1)), subst (IsRearranged (a ++ more)) (sym (append_assoc (b ++ more) h.0 is.1)) rest)
 
-  count_one : (test : A → Bool) (b : Bool) (x : A) (xs : List A) → count_by test (cond b (x ∷ xs) xs) ≡ cond (b && test x) 1 0 + count_by test xs
-  count_one test true x xs = sum_by-cons (λ x. cond (test x) 1 0) x xs
-  count_one test false x xs = sym (zero-add _)
-
-  count_filter : (test keep : A → Bool) (xs : List A) → count_by test (filter keep xs) ≡ count_by (λ x. keep x && test x) xs
-  count_filter test keep [] = refl
-  count_filter test keep (x ∷ xs) = count_one test (keep x) x (filter keep xs) ∙ (ap (λ n. cond (keep x && test x) 1 0 + n) (count_filter test keep xs) ∙ sym (sum_by-cons (λ y. cond (keep y && test y) 1 0) x xs))
+  one_filtered : (keep : Bool) (x : A) (a before after : List A) → IsRearranged a (before ++ after) → IsRearranged (cond keep (x ∷ a) a) (before ++ cond keep (x ∷ after) after)
+  one_filtered true x a before after is = (before, after, refl, is)
+  one_filtered false x a before after is = is
 
   pub rearranged_filter : (keep : A → Bool) (a b : List A) → IsRearranged a b → IsRearranged (filter keep a) (filter keep b)
-  rearranged_filter keep a b is test = count_filter test keep a ∙ (is (λ x. keep x && test x) ∙ sym (count_filter test keep b))
+  rearranged_filter keep [] b is = ap (filter keep) is
+  rearranged_filter keep (x ∷ a) b is =
+      subst (IsRearranged (filter keep (x ∷ a))) (sym (ap (filter keep) is.2 ∙ filter-append keep is.0 (x ∷ is.1)))
+      (one_filtered (keep x) x (filter keep a) (filter keep is.0) (filter keep is.1) (subst (IsRearranged (filter keep a)) (filter-append keep is.0 is.1) (rearranged_filter keep a (is.0 ++ is.1) is.3)))
+
+  none_both : (a b : List A) → a ++ b ≡ [] → (a ≡ []) × (b ≡ [])
+  none_both [] b is = (refl, is)
+  none_both (x ∷ a) b is = absurd (cc)
+
+  -- one alone is the one alone
+  pub rearranged_one : (x : A) (b : List A) → IsRearranged (x ∷ []) b → b ≡ x ∷ []
+  rearranged_one x b is = let none = none_both is.0 is.1 is.3 in is.2 ∙ (λ i. none.0 i ++ x ∷ none.1 i)
 
 -- Who is told is in no group
 
@@ -136,6 +182,34 @@ stays c x = not (eqb x.0 c)
 pub out_stays : (c : ℕ) (ws : List Writer) → Out c ws → filter (stays c) (map answer_of ws) ≡ map answer_of ws
 out_stays c [] out = refl
 out_stays c (w ∷ ws) out = ap (λ b. cond (not b) (answer_of w ∷ filter (stays c) (map answer_of ws)) (filter (stays c) (map answer_of ws))) (ne_eqb w.client c out.0) ∙ ap (λ l. answer_of w ∷ l) (out_stays c ws out.1)
+
+-- those of one client
+abbrev pub belongs : ℕ → ℕ × Answer Reply → Bool
+belongs c x = eqb x.0 c
+
+pub out_own : (c : ℕ) (ws : List Writer) → Out c ws → filter (belongs c) (map answer_of ws) ≡ []
+out_own c [] out = refl
+out_own c (w ∷ ws) out = ap (λ b. cond b (answer_of w ∷ filter (belongs c) (map answer_of ws)) (filter (belongs c) (map answer_of ws))) (ne_eqb w.client c out.0) ∙ out_own c ws out.1
+
+pub found_first : (c : ℕ) (ws : List Writer) (y : ℕ × Answer Reply) (rest : List (ℕ × Answer Reply)) → filter (belongs c) (map answer_of ws) ≡ y ∷ rest → (w : Writer) × (find (λ (x : Writer). eqb x.client c) ws ≡ Some w) × (answer_of w ≡ y)
+found_first c [] y rest is = absurd (cc)
+found_first c (w ∷ ws) y rest is = go (eqb w.client c) is (λ later. found_first c ws y rest later)
+  where
+    go : (b : Bool) → cond b (answer_of w ∷ filter (belongs c) (map answer_of ws)) (filter (belongs c) (map answer_of ws)) ≡ y ∷ rest → (filter (belongs c) (map answer_of ws) ≡ y ∷ rest → (x : Writer) × (find (λ (x : Writer). eqb x.client c) ws ≡ Some x) × (answer_of x ≡ y)) → (x : Writer) × (cond b (Some w) (find (λ (x : Writer). eqb x.client c) ws) ≡ Some x) × (answer_of x ≡ y)
+    go true is again = (w, refl, ap (head_or y) is)
+    go false is again = again is
+
+module _ {Q P : Type 0} (reply_of : P → Reply) (c : ℕ) where
+  abbrev pub own_answer : Q × P → ℕ × Answer Reply
+  own_answer x = (c, Some (reply_of x.1))
+
+  pub own_replies : (hs : List (Handling Q P)) → filter (belongs c) (map (answer_in reply_of) hs) ≡ map own_answer (of c hs)
+  own_replies [] = refl
+  own_replies (h ∷ hs) = go (eqb h.by c) refl (own_replies hs)
+    where
+      go : (b : Bool) → eqb h.by c ≡ b → filter (belongs c) (map (answer_in reply_of) hs) ≡ map own_answer (of c hs) → cond b (answer_in reply_of h ∷ filter (belongs c) (map (answer_in reply_of) hs)) (filter (belongs c) (map (answer_in reply_of) hs)) ≡ map own_answer (cond b ((h.asked, h.reply) ∷ of c hs) (of c hs))
+      go true is more = λ i. (eqb-true h.by c is i, Some (reply_of h.reply)) ∷ more i
+      go false is more = more
 
 module _ {Q : Type 0} (writer_of : Entry Q → Writer) (same : IsSame writer_of) where
   absent_writers : (c : ℕ) (es : List (Entry Q)) → Absent c es → Out c (map writer_of es)

@@ -21,7 +21,7 @@ use Rattle.list_rule.specs.Chain.{Absent, all_answers}
 use Rattle.list_rule.specs.CoreEvents.{IsSame, core_queue, core_log, answer_of, answer_in, HasReplies, AllHave, IsCoreOf}
 use Rattle.list_rule.specs.Events.{Core, Held, free, elected, grouped, comes, elects, builds, exits, completes, after, IsOfGroup, IsNotWith, was_for, wrote, without}
 use Rattle.list_rule.specs.Handing.{IsJoined}
-use Rattle.list_rule.specs.PipelinedCoreEvents.{IsRearranged, unanswered, handed_on, IsGroupOf, HasGroups, IsSettled, IsUnlogged, IsLogOf, IsPipelinedCoreOf, IsTaken, IsMoved}
+use Rattle.list_rule.specs.PipelinedCoreEvents.{IsRearranged, unanswered, handed_on, IsGroupOf, HasGroups, IsSettled, IsUnlogged, IsLogOf, IsPipelinedCoreOf, IsTaken}
 use Rattle.list_rule.specs.Plays.{ending}
 use Rattle.list_rule.specs.SecondList.{SecondList, IsPut, IsAhead, handed as handed_over}
 use Rattle.list_rule.specs.Standing.{Lead2, level, ahead, line_of, flat}

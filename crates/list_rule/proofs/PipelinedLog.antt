@@ -4,27 +4,28 @@ use Rattle.std.specs.List.{list_any}
 use Rattle.std.proofs.lemmas.List.{reverse-append, map-append}
 use Rattle.std.proofs.lemmas.List.Elements.{filter-append}
 use mathlib.Core.Option.{Option, none, some}
-use Rattle.wp_model.specs.Calls.{Command, Reply, refused}
+use Rattle.wp_model.specs.declared.write.WriteOptions.{WriteOptions}
+use Rattle.wp_model.specs.Calls.{Reply, refused}
 use Rattle.wp_model.specs.declared.write.Refusal.TheVariants as no
 use Rattle.core_model.specs.declared.event.Event.TheVariants as core
-use Rattle.core_model.specs.Core.{Options, Writer, LogPhase, free as nobody, led, built as in_hand, in_log, marked, handed, State, opened, leads, with_runs, has_run, all_answered, entries_of}
+use Rattle.core_model.specs.Core.{Options, Writer, Client, LogPhase, free as nobody, led, built as in_hand, in_log, marked, handed, State, opened, leads, with_runs, has_run, all_answered, entries_of, client_at, with_client, next_call}
 use Rattle.core_model.specs.CoreLaw.{joined}
 use Rattle.core_model.specs.Halves.{ListHalf, list_half_of, left_with}
-use Rattle.core_model.specs.Step.{when, elect, build, log_group, logged_group, with_group, leave, fault, refuse, is_no_slowdown, group_size}
+use Rattle.core_model.specs.Step.{when, link, link_call, link_with, complete, complete_with, completed, elect, build, log_group, logged_group, with_group, leave, fault, refuse, is_no_slowdown, group_size}
 use Rattle.list_rule.specs.declared.view.Entry.{Entry}
 use Rattle.list_rule.specs.declared.view.Handling.{Handling}
 use Rattle.list_rule.specs.declared.view.Squad.{Squad}
 use Rattle.list_rule.specs.Chain.{Absent, all_answers, handling}
 use Rattle.list_rule.specs.CoreEvents.{IsSame, core_queue, core_log, answer_of, answer_in, HasReplies, AllHave, IsCoreOf}
 use Rattle.list_rule.specs.Events.{Core, Held, free, elected, grouped, comes, elects, builds, exits, completes, after, IsOfGroup, IsNotWith, was_for, wrote, without}
-use Rattle.list_rule.specs.PipelinedCoreEvents.{IsRearranged, unanswered, handed_on, IsGroupOf, HasGroups, IsSettled, IsUnlogged, IsLogOf, IsPipelinedCoreOf, IsTaken, IsMoved}
+use Rattle.list_rule.specs.PipelinedCoreEvents.{IsRearranged, unanswered, handed_on, IsGroupOf, HasGroups, IsSettled, IsUnlogged, IsLogOf, IsPipelinedCoreOf, IsTaken, IsCommit, HasLeft}
 use Rattle.list_rule.specs.SecondList.{SecondList}
 use Rattle.list_rule.specs.Standing.{Lead2, level, line_of, flat}
 use Rattle.list_rule.specs.Steps.{Lists, HappensAlone, IsExit, IsComplete}
 use Rattle.list_rule.proofs.CoreExits.{group_given}
 use Rattle.list_rule.proofs.CoreLaws.{builds_core}
 use Rattle.list_rule.proofs.Groups.{absent_append}
-use Rattle.list_rule.proofs.PipelinedCore.{first_leads, runs_kept, rearranged_as, rearranged_within, rearranged_filter, Out, out_both, stays, out_stays, group_out, groups_out}
+use Rattle.list_rule.proofs.PipelinedCore.{first_leads, runs_kept, rearranged_as, rearranged_within, rearranged_filter, rearranged_one, Out, stays, out_stays, belongs, out_own, found_first, own_answer, own_replies, group_out, groups_out}
 use Rattle.list_rule.proofs.PipelinedEvents.{same_log, unlogged, one_built, first_or}
 
 module _ {Q P : Type 0} (writer_of : Entry Q → Writer) (reply_of : P → Reply) (o : Options) (s : State) (a b : Lists Q P) (ws : List Writer) where
@@ -44,14 +45,19 @@ module _ {Q P : Type 0} (writer_of : Entry Q → Writer) (reply_of : P → Reply
   waits = answered (s.leaving ++ joined s.second)
 
   -- a writer comes
-  pub comes_core : (e : Entry Q) → IsSame writer_of → Stands → HappensAlone (comes e) a b → IsMoved writer_of reply_of o (core.Link e.by) s ws b
-  comes_core e same r ev =
+  pub comes_core : (e : Entry Q) → Stands → HappensAlone (comes e) a b → IsCommit o s e.by (writer_of e) → IsTaken writer_of reply_of o (core.Link e.by) s ws b
+  comes_core e r ev commits =
       let more : core_queue writer_of (e ∷ a.0.0) ≡ core_queue writer_of a.0.0 ++ writer_of e ∷ [] = ap (map writer_of) (reverse-append (e ∷ []) a.0.0) ∙ map-append writer_of (reverse a.0.0) (e ∷ []) in
-      let new : ListHalf = record (list_half_of s) { queue = s.queue ++ writer_of e ∷ [] } in (
+      let c : ℕ = e.by in
+      let client : Client = commits.0 in
+      let how : WriteOptions = commits.1 in
+      let ready = next_call client in
+      let w : Writer = record { client = c; options = how; records = ready.client.added; answer = None } in
+      let new : State = record (with_client s c (record ready.client { idle = false })) { queue = s.queue ++ w ∷ [] } in (
         new,
-        inr (writer_of e, (same e).0, refl),
+        (λ i. link o s c (commits.2 i)) ∙ ((λ i. if commits.3 i then link_call o s c ready.client (commits.4 i) else None) ∙ (λ i. Some (link_with o s c ready.client how (commits.5 i)))),
         record {
-          queue = ap (λ q. q ++ writer_of e ∷ []) r.queue ∙ (sym more ∙ ap (λ (k : Core Q P). core_queue writer_of k.0) (sym ev.0.1));
+          queue = (λ i. r.queue i ++ sym commits.6 i ∷ []) ∙ (sym more ∙ ap (λ (k : Core Q P). core_queue writer_of k.0) (sym ev.0.1));
           log = same_log writer_of a.0.1 b.0.1 a.1.1 b.1.1 a.1.2 b.1.2 ws s.log (ap (λ (k : Core Q P). k.1) ev.0.1) (ap (λ (x : SecondList Q P). x.1) ev.1) (ap (λ (x : SecondList Q P). x.2) ev.1) r.log;
           second = subst (λ gs. HasGroups writer_of gs s.second) (ap (λ (x : SecondList Q P). x.0) (sym ev.1)) r.second;
           owed = rearranged_as was_owed waits (handled b.0.3 ++ answered (handed_on s.log ws)) waits (λ i. handled ((ev.0.1 i).3) ++ answered (handed_on s.log ws)) refl r.owed;
@@ -184,23 +190,35 @@ module _ {Q P : Type 0} (writer_of : Entry Q → Writer) (reply_of : P → Reply
       (new, (λ i. refuse s own.by (no.Incomplete stops delays wait) (is i)) ∙ (λ i. when (first i && unslowed i) new), leaves_there own p gs vs now r ev is (given_there reply own p gs vs same r ev is ok))
 
   -- a client is told
-  pub told_core : (e : Entry Q) (p : P) → IsSame writer_of → Stands → IsComplete e p a b → IsNotWith e.by a.0.1 → Absent e.by (flat a.1.0) → IsMoved writer_of reply_of o (core.Complete e.by) s ws b
-  told_core e p same r ev unheld out =
+  pub told_core : (e : Entry Q) (p : P) (client : Client) → IsSame writer_of → Stands → IsComplete e p a b → IsNotWith e.by a.0.1 → Absent e.by (flat a.1.0) → client_at s e.by ≡ Some client → HasLeft s e.by (reply_of p) × IsTaken writer_of reply_of o (core.Complete e.by) s ws b
+  told_core e p client same r ev unheld out there =
       let c : ℕ = e.by in
       let off : Out c (joined s.second) = groups_out writer_of same c a.1.0 s.second out r.second in
       let kept : List Writer = filter (λ (w : Writer). not (eqb w.client c)) s.leaving in
-      let new : ListHalf = record (list_half_of s) { leaving = kept } in (
-        new,
-        refl,
-        record {
-          queue = r.queue ∙ ap (λ (k : Core Q P). core_queue writer_of k.0) (sym ev.0.1);
-          log = same_log writer_of a.0.1 b.0.1 a.1.1 b.1.1 a.1.2 b.1.2 ws s.log (ap (λ (k : Core Q P). k.1) ev.0.1) (ap (λ (x : SecondList Q P). x.1) ev.1) (ap (λ (x : SecondList Q P). x.2) ev.1) r.log;
-          second = subst (λ gs. HasGroups writer_of gs s.second) (ap (λ (x : SecondList Q P). x.0) (sym ev.1)) r.second;
-          owed = rearranged_as (filter (stays c) was_owed) (filter (stays c) waits) (handled b.0.3 ++ answered (handed_on s.log ws)) (answered (kept ++ joined s.second))
-              ((λ i. handled ((ev.0.1 i).3) ++ answered (handed_on s.log ws)) ∙ ((λ i. sym (told_handled a.0.3) i ++ sym (out_stays c (handed_on s.log ws) (in_hand_out s.log r.log)) i) ∙ sym (filter-append (stays c) (handled a.0.3) (answered (handed_on s.log ws)))))
-              (map-append answer_of kept (joined s.second) ∙ ((λ i. sym (told_writers s.leaving) i ++ sym (out_stays c (joined s.second) off) i) ∙ (sym (filter-append (stays c) (answered s.leaving) (answered (joined s.second))) ∙ ap (filter (stays c)) (sym (map-append answer_of s.leaving (joined s.second))))))
-              (rearranged_filter (stays c) was_owed waits r.owed);
-        },
+      let mine : List (ℕ × Answer Reply) = (c, Some (reply_of p)) ∷ [] in
+      let left : List (ℕ × Answer Reply) = filter (belongs c) (answered s.leaving) in
+      let one : left ≡ mine = rearranged_one (c, Some (reply_of p)) left (rearranged_as (filter (belongs c) was_owed) (filter (belongs c) waits) mine left
+          (sym (append-nil mine) ∙ ((λ i. (ap (map (own_answer reply_of c)) (sym ev.0.0) ∙ sym (own_replies reply_of c a.0.3)) i ++ sym (out_own c (handed_on s.log ws) (in_hand_out s.log r.log)) i) ∙ sym (filter-append (belongs c) (handled a.0.3) (answered (handed_on s.log ws)))))
+          (sym (append-nil left) ∙ ((λ i. left ++ sym (out_own c (joined s.second) off) i) ∙ (sym (filter-append (belongs c) (answered s.leaving) (answered (joined s.second))) ∙ ap (filter (belongs c)) (sym (map-append answer_of s.leaving (joined s.second))))))
+          (rearranged_filter (belongs c) was_owed waits r.owed)) in
+      let found = found_first c s.leaving (c, Some (reply_of p)) [] one in
+      let w : Writer = found.0 in
+      let reply : w.answer ≡ Some (reply_of p) = ap (λ (x : ℕ × Answer Reply). x.1) found.2 in
+      let new : State = record (with_client s c (completed client w (reply_of p))) { leaving = kept } in (
+        (w, client, there, found.1, reply),
+        (
+          new,
+          (λ i. complete s c (found.1 i)) ∙ (λ i. complete_with s c (there i) w (reply i)),
+          record {
+            queue = r.queue ∙ ap (λ (k : Core Q P). core_queue writer_of k.0) (sym ev.0.1);
+            log = same_log writer_of a.0.1 b.0.1 a.1.1 b.1.1 a.1.2 b.1.2 ws s.log (ap (λ (k : Core Q P). k.1) ev.0.1) (ap (λ (x : SecondList Q P). x.1) ev.1) (ap (λ (x : SecondList Q P). x.2) ev.1) r.log;
+            second = subst (λ gs. HasGroups writer_of gs s.second) (ap (λ (x : SecondList Q P). x.0) (sym ev.1)) r.second;
+            owed = rearranged_as (filter (stays c) was_owed) (filter (stays c) waits) (handled b.0.3 ++ answered (handed_on s.log ws)) (answered (kept ++ joined s.second))
+                ((λ i. handled ((ev.0.1 i).3) ++ answered (handed_on s.log ws)) ∙ ((λ i. sym (told_handled a.0.3) i ++ sym (out_stays c (handed_on s.log ws) (in_hand_out s.log r.log)) i) ∙ sym (filter-append (stays c) (handled a.0.3) (answered (handed_on s.log ws)))))
+                (map-append answer_of kept (joined s.second) ∙ ((λ i. sym (told_writers s.leaving) i ++ sym (out_stays c (joined s.second) off) i) ∙ (sym (filter-append (stays c) (answered s.leaving) (answered (joined s.second))) ∙ ap (filter (stays c)) (sym (map-append answer_of s.leaving (joined s.second))))))
+                (rearranged_filter (stays c) was_owed waits r.owed);
+          },
+        ),
       )
     where
       told_one : {A B : Type 0} (f : A → B) (x : Bool) (y : A) (ys : List A) → map f (cond x (y ∷ ys) ys) ≡ cond x (f y ∷ map f ys) (map f ys)

@@ -1,12 +1,13 @@
 -- The two lists of pipelined groups as the half of the write path's core that has the writers.
-use Rattle.std.specs.Prelude.{◌≡◌, ℕ, Bool, List, [], ◌∷◌, ◌++◌, map, reverse, count_by, Some, None}
+use Rattle.std.specs.Prelude.{◌≡◌, ℕ, ◌==◌, true, List, [], ◌∷◌, ◌++◌, map, reverse, find, Some, None}
 use Rattle.std.specs.List.{AllZip}
 use mathlib.Core.Option.{Option, none, some}
 use Rattle.core_model.specs.declared.event.Event.{Event as CoreEvent}
-use Rattle.wp_model.specs.Calls.{Reply}
-use Rattle.core_model.specs.Core.{Options, Writer, LogPhase, free as nobody, led, built as in_hand, in_log, marked, handed, State as CoreState}
+use Rattle.wp_model.specs.declared.write.WriteOptions.{WriteOptions}
+use Rattle.wp_model.specs.Calls.{commit, Reply}
+use Rattle.core_model.specs.Core.{Options, Writer, Client, LogPhase, free as nobody, led, built as in_hand, in_log, marked, handed, State as CoreState, client_at, next_call, refusal_of}
 use Rattle.core_model.specs.CoreLaw.{joined}
-use Rattle.core_model.specs.Halves.{ListHalf, ListStep, list_half_of}
+use Rattle.core_model.specs.Halves.{ListHalf, list_half_of}
 use Rattle.core_model.specs.Step.{step}
 use Rattle.list_rule.specs.declared.view.Entry.{Entry}
 use Rattle.list_rule.specs.declared.view.Squad.{Squad}
@@ -16,9 +17,10 @@ use Rattle.list_rule.specs.SecondList.{IsPut}
 use Rattle.list_rule.specs.Steps.{Lists}
 use Rattle.list_rule.specs.CoreEvents.{core_queue, core_log, answer_of, answer_in}
 
--- the same in any order: each test holds of as many of the one as of the other
+-- the same in any order: the first of the one is somewhere in the other, and the rest are the others
 abbrev pub IsRearranged : {A : Type 0} → List A → List A → Type 0
-IsRearranged {A} xs ys = (test : A → Bool) → count_by test xs ≡ count_by test ys
+IsRearranged {A} [] ys = ys ≡ []
+IsRearranged {A} (x ∷ xs) ys = (before after : List A) × (ys ≡ before ++ x ∷ after) × IsRearranged xs (before ++ after)
 
 abbrev pub unanswered : Writer → Writer
 unanswered w = record w { answer = None }
@@ -81,6 +83,13 @@ module _ {Q P : Type 0} (writer_of : Entry Q → Writer) (reply_of : P → Reply
   IsTaken o event s ws l = (new : CoreState) × (step o s event ≡ Some new)
       × IsPipelinedCoreOf ws l (list_half_of new)
 
-  -- the same, of an event that is the core's where its client's next call is one
-  abbrev pub IsMoved : Options → CoreEvent → CoreState → List Writer → Lists Q P → Type 0
-  IsMoved o event s ws l = (new : ListHalf) × ListStep o event s new × IsPipelinedCoreOf ws l new
+-- the client is idle, its next call is a commit that no check refuses, and this is its writer
+abbrev pub IsCommit : Options → CoreState → ℕ → Writer → Type 0
+IsCommit o s c w = (client : Client) × (how : WriteOptions) × (client_at s c ≡ Some client) × (client.idle ≡ true)
+    × ((next_call client).call ≡ Some (commit how)) × (refusal_of o how (next_call client).client.added ≡ None)
+    × (w ≡ record { client = c; options = how; records = (next_call client).client.added; answer = None })
+
+-- the client is there, and has left with this answer
+abbrev pub HasLeft : CoreState → ℕ → Reply → Type 0
+HasLeft s c reply = (w : Writer) × (client : Client) × (client_at s c ≡ Some client)
+    × (find (λ (x : Writer). x.client == c) s.leaving ≡ Some w) × (w.answer ≡ Some reply)

@@ -5,7 +5,7 @@ ghost use mathlib.Core.Option.{none};
 ghost use Rattle.wp_model.specs.Calls.{Command, Reply, refused};
 ghost use Rattle.wp_model.specs.declared.write.Refusal.TheVariants as no;
 ghost use Rattle.core_model.specs.declared.event.Event.TheVariants as core;
-ghost use Rattle.core_model.specs.Core.{Options, Writer, State, built as in_hand, in_log, published, opened, first_group, with_runs, has_run};
+ghost use Rattle.core_model.specs.Core.{Options, Writer, Client, State, client_at, built as in_hand, in_log, published, opened, first_group, with_runs, has_run};
 ghost use Rattle.core_model.specs.Halves.{list_half_of};
 ghost use Rattle.core_model.specs.Step.{step, is_no_slowdown};
 ghost use Rattle.list_rule.specs.declared.view.Back.{Back};
@@ -18,7 +18,7 @@ ghost use Rattle.list_rule.specs.Standing.{level, ahead, line_of};
 ghost use Rattle.list_rule.specs.Steps.{Lists, HappensAlone, IsExit, IsComplete, IsBoundary, IsSecond, IsNext, IsServedOut};
 ghost use Rattle.list_rule.specs.Handing.{IsInNone, IsJoined};
 ghost use Rattle.list_rule.specs.CoreEvents.{IsSame, HasReplies, AllHave};
-ghost use Rattle.list_rule.specs.PipelinedCoreEvents.{IsGroupOf, IsPipelinedCoreOf, IsTaken, IsMoved};
+ghost use Rattle.list_rule.specs.PipelinedCoreEvents.{IsGroupOf, IsPipelinedCoreOf, IsTaken, IsCommit, HasLeft};
 
 /// Of a list with a second one: where the core stands as both lists show it, each event of the lists may come in the
 /// core, and it stands as the lists show it after that event too. `ws` are the writers of the group in hand once the
@@ -36,8 +36,9 @@ pub fn pipelined_list_and_core<Q, P>()
         (list_half_of (opened o plans)) }
     ensures link { (writer_of : Entry Q → Writer) (reply_of : P → Reply) (o : Options) (s : State) (a b : Lists Q P)
         (ws : List Writer) (e : Entry Q)
-        → IsSame writer_of → IsPipelinedCoreOf writer_of reply_of ws a (list_half_of s) → HappensAlone (comes e) a b
-        → IsMoved writer_of reply_of o (core.Link e.by) s ws b }
+        → IsPipelinedCoreOf writer_of reply_of ws a (list_half_of s) → HappensAlone (comes e) a b
+        → IsCommit o s e.by (writer_of e)
+        → IsTaken writer_of reply_of o (core.Link e.by) s ws b }
     ensures elect { (writer_of : Entry Q → Writer) (reply_of : P → Reply) (o : Options) (s : State) (a b : Lists Q P)
         (ws : List Writer) (e : Entry Q)
         → IsSame writer_of → IsPipelinedCoreOf writer_of reply_of ws a (list_half_of s) → HappensAlone (elects e) a b
@@ -95,8 +96,8 @@ pub fn pipelined_list_and_core<Q, P>()
         → AllHave reply_of (refused (no.Incomplete stops delays wait)) (all_answers own p gs)
         → IsTaken writer_of reply_of o (core.Refuse own.by stops delays wait) s [] b }
     ensures complete { (writer_of : Entry Q → Writer) (reply_of : P → Reply) (o : Options) (s : State) (a b : Lists Q P)
-        (ws : List Writer) (e : Entry Q) (p : P)
+        (ws : List Writer) (e : Entry Q) (p : P) (client : Client)
         → IsSame writer_of → IsPipelinedCoreOf writer_of reply_of ws a (list_half_of s) → IsComplete e p a b
-        → IsInNone e.by a
-        → IsMoved writer_of reply_of o (core.Complete e.by) s ws b }
+        → IsInNone e.by a → client_at s e.by ≡ Some client
+        → HasLeft s e.by (reply_of p) × IsTaken writer_of reply_of o (core.Complete e.by) s ws b }
 {}

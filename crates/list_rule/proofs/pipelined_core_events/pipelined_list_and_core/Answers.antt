@@ -4,10 +4,10 @@ use Rattle.list_rule.proofs.PipelinedLog.{comes_core, leads_core, groups_core, l
 use Rattle.list_rule.proofs.pipelined_core_events.pipelined_list_and_core.Goals as goal
 
 pub returns-clause-open : goal.returns-clause-open
-returns-clause-open g c writer_of reply_of o plans = record { queue = refl; log = (refl, refl, (refl, λ k. refl)); second = tt; owed = λ test. refl }
+returns-clause-open g c writer_of reply_of o plans = record { queue = refl; log = (refl, refl, (refl, λ k. refl)); second = tt; owed = refl }
 
 pub returns-clause-link : goal.returns-clause-link
-returns-clause-link g c writer_of reply_of o s a b ws e same r ev = comes_core writer_of reply_of o s a b ws e same r ev
+returns-clause-link g c writer_of reply_of o s a b ws e r ev commits = comes_core writer_of reply_of o s a b ws e r ev commits
 
 pub returns-clause-elect : goal.returns-clause-elect
 returns-clause-elect g c writer_of reply_of o s a b ws e same r ev = leads_core writer_of reply_of o s a b ws e same r ev
@@ -43,4 +43,4 @@ pub returns-clause-refuse : goal.returns-clause-refuse
 returns-clause-refuse g c writer_of reply_of o s a b old built own p gs stops delays wait same r ev is unslowed ok = refuse_leaves writer_of reply_of o s a b old built own p gs stops delays wait same r ev is unslowed ok
 
 pub returns-clause-complete : goal.returns-clause-complete
-returns-clause-complete g c writer_of reply_of o s a b ws e p same r ev none = told_core writer_of reply_of o s a b ws e p same r ev none.0 none.1
+returns-clause-complete g c writer_of reply_of o s a b ws e p client same r ev none there = told_core writer_of reply_of o s a b ws e p client same r ev none.0 none.1 there
