@@ -18,7 +18,7 @@ use Rattle.list_rule.specs.Laws.{Laws}
 use Rattle.list_rule.specs.Rule.{hold_at, AllGroups, AllTaken, Knows, HasCut, InMode, InPhase, InTurn, Level, Listed, Shows}
 use Rattle.list_rule.specs.Plays.{HandsOn, IsCut, debt}
 use Rattle.list_rule.specs.Steps.{now_of}
-use Rattle.list_rule.specs.Handing.{Sees, IsJoined, IsServed, IsNewestGroup, IsOldestGroup}
+use Rattle.list_rule.specs.Handing.{Sees, IsOwn, IsJoined, IsServed, IsNewestGroup, IsOldestGroup}
 use Rattle.list_rule.proofs.Groups.{absent_front, absent_back, taken_absent}
 use Rattle.list_rule.proofs.Leads.{one_leads}
 use Rattle.list_rule.proofs.Seconds.{in_one, behind_in, flat_snoc, absent_groups, member_absent}
@@ -73,6 +73,21 @@ module _ {Q P : Type 0} where
   served_place two c g (Passing f x) is ok = absurd is
 
 module _ {Q P L M : Type 0} (stands : Laws Q P L M) (n : ℕ) (s : State (Content Q P L M) (List (Hold Q P))) (r : Listed stands n s) (id c : ℕ) (st : Stage Q P) (mine : List (Q × P)) (b : Back Q P) (sees : Sees s id (hold_at c st mine b)) where
+  -- the leader that the stage tells of is the client
+  pub own_stage : IsOwn c st
+  own_stage = let fit = (r.seats id (hold_at c st mine b ∷ []) sees).0 in by_stage st fit.4 (λ own is. subst (InPhase stands s.words s.homes c (r.due c)) is (r.rows c fit.1 fit.2))
+    where
+      by_stage : (st : Stage Q P) → Knows r.line r.hand r.handled r.mode r.phase r.due c st → ((own : Entry Q) → r.phase c ≡ leads own → own.by ≡ c) → IsOwn c st
+      by_stage Idle ok own = tt
+      by_stage (Preparing w) ok own = tt
+      by_stage (Waiting q) ok own = tt
+      by_stage (Fresh o seen) ok own = own o ok.1
+      by_stage (Leading l) ok own = own l.own ok.1
+      by_stage (Cutting l e) ok own = own l.own ok.1
+      by_stage (Marking l) ok own = own l.own ok.1
+      by_stage (Settling d) ok own = own d.own ok.1
+      by_stage Collecting ok own = tt
+
   -- the log is that group's until it is given on
   pub cut_log : (lead : Lead Q P) → IsCut lead st → (now_of stands n s r).0.1 ≡ grouped lead.own lead.taken
   cut_log lead is = let fit = (r.seats id (hold_at c st mine b ∷ []) sees).0 in own_cut r.account.log r.line r.hand r.handled r.mode r.phase r.due c lead st is fit.4 r.has_cut

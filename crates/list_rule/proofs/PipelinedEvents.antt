@@ -191,22 +191,22 @@ module _ {Q P : Type 0} (writer_of : Entry Q → Writer) (reply_of : P → Reply
       by_phase (marked vs) log came = absurd (cc)
 
   -- the oldest group leaves the second list
-  pub serves_core : (g : Squad Q P) → o.pipelined ≡ true → IsSame writer_of → Stands → s.table ≡ published → IsServedOut g a b → IsGroupOf writer_of (line_of g) (first_group s.second) × IsTaken writer_of reply_of o (core.Exit g.own.by) s ws b
-  serves_core g two same r is ev =
-      let first = groups_first writer_of g b.1.0 s.second (subst (λ gs. HasGroups writer_of gs s.second) ev.0 r.second) in
+  pub serves_core : (c : ℕ) (g : Squad Q P) → o.pipelined ≡ true → IsSame writer_of → Stands → s.table ≡ published → IsServedOut c g a b → IsGroupOf writer_of (line_of g) (first_group s.second) × IsTaken writer_of reply_of o (core.Exit c) s ws b
+  serves_core c g two same r is ev =
+      let first = groups_first writer_of g b.1.0 s.second (subst (λ gs. HasGroups writer_of gs s.second) ev.1 r.second) in
       let vs : List Writer = first_group s.second in
-      let led_by : Bool → Bool = λ x. leads g.own.by (if x then vs else logged s.log) in
+      let led_by : Bool → Bool = λ x. leads c (if x then vs else logged s.log) in
       let left_by : Bool → State = λ x. record (leave (if x then record s { second = drop 1 s.second } else record s { log = nobody }) (if x then vs else logged s.log)) { table = still } in
-      let leads_g : leads g.own.by vs ≡ true = group_leads writer_of same g.own g.rest vs first.0 in (
+      let leads_g : leads c vs ≡ true = subst (λ d. leads d vs ≡ true) ev.0 (group_leads writer_of same g.own g.rest vs first.0) in (
         first.0,
         (
           left_by true,
-          (λ i. exit o s g.own.by (is i)) ∙ ((λ i. when (led_by (two i)) (left_by (two i))) ∙ (λ i. when (leads_g i) (left_by true))),
+          (λ i. exit o s c (is i)) ∙ ((λ i. when (led_by (two i)) (left_by (two i))) ∙ (λ i. when (leads_g i) (left_by true))),
           record {
-            queue = r.queue ∙ ap (λ (k : Core Q P). core_queue writer_of k.0) (sym ev.1);
-            log = same_log writer_of a.0.1 b.0.1 a.1.1 b.1.1 a.1.2 b.1.2 ws s.log (ap (λ (k : Core Q P). k.1) ev.1) ev.2 ev.3 r.log;
+            queue = r.queue ∙ ap (λ (k : Core Q P). core_queue writer_of k.0) (sym ev.2);
+            log = same_log writer_of a.0.1 b.0.1 a.1.1 b.1.1 a.1.2 b.1.2 ws s.log (ap (λ (k : Core Q P). k.1) ev.2) ev.3 ev.4 r.log;
             second = first.1;
-            owed = rearranged_as was_owed waits (handled b.0.3 ++ answered (handed_on s.log ws)) (answered ((s.leaving ++ vs) ++ joined (drop 1 s.second))) (λ i. handled ((ev.1 i).3) ++ answered (handed_on s.log ws))
+            owed = rearranged_as was_owed waits (handled b.0.3 ++ answered (handed_on s.log ws)) (answered ((s.leaving ++ vs) ++ joined (drop 1 s.second))) (λ i. handled ((ev.2 i).3) ++ answered (handed_on s.log ws))
                 (ap answered (append_assoc s.leaving vs (joined (drop 1 s.second))) ∙ ap (λ l. answered (s.leaving ++ l)) (sym first.2)) r.owed;
           },
         ),

@@ -19,7 +19,7 @@ use Rattle.list_rule.specs.declared.content.Content.TheVariants.{Right}
 use Rattle.list_rule.specs.declared.view.Stage.{Stage}
 use Rattle.list_rule.specs.declared.view.Stage.TheVariants.{Settling}
 use Rattle.list_rule.specs.Chain.{state_at, older_at, pack, newest, Links, Absent, Distinct, Within}
-use Rattle.list_rule.specs.Standing.{Phase, leads, taken, base_of, away, called, Turn, still, calls, held_by, passes, Two, line_of, flat, In, Behind, KnowsBack}
+use Rattle.list_rule.specs.Standing.{Phase, leads, taken, base_of, away, called, Turn, still, calls, serves, held_by, passes, Two, line_of, flat, In, Behind, KnowsBack}
 use Rattle.list_rule.specs.Laws.{Laws}
 use Rattle.list_rule.specs.Rule.{AllOwed, hold_at, InPhase, Listed, InTurn, Second}
 use Rattle.list_rule.specs.Steps.{Stays, HappensWhere, IsServedOut, now_of, IsNow, StepIs}
@@ -98,14 +98,20 @@ module _ {Q P L M : Type 0} (stands : Laws Q P L M) (n : ℕ) where
   last_slot : (slots k : ℕ) (s : St stands n) → Listed stands n s → length s.homes ≡ slots → k + 1 ≡ slots → k ≡ n + 1
   last_slot slots k s r long is = let many : length s.homes ≡ n + 2 = r.many in omega (arith, long, is)
 
+  -- who has the right leads the oldest group
+  served_by : (s : St stands n) (r : Listed stands n s) (c : ℕ) (g : Squad Q P) → r.two.turn ≡ held_by c → r.two.place c ≡ serves g → g.own.by ≡ c
+  served_by s r c g turn place =
+      let t = subst (InTurn stands n s.words s.homes r.phase r.two) turn r.second.turn_is in
+      ap (λ (f : Squad Q P). f.own.by) (sym (one_serves t.1 g (sym t.3 ∙ place))) ∙ t.4
+
   -- the right is given back, where no group came
   pub leaves_second_is : (slots id : ℕ) (me : Sat Q P L M) (c old k : ℕ) (d : Debt Q P) (mine : List (Q × P)) (g : Squad Q P) (walk : List (Entry Q)) (right : M) (t : List (ℕ × Content Q P L M)) (said : Option (Content Q P L M)) → stands.piped ≡ true → AtWith c (Settling d) mine (Serving g walk) me
-      → me.1 ≡ (k, Right right) ∷ t → k + 1 ≡ slots → old ≡ newest (line_of g) → stands.rights right g.to → StepIs stands n (HappensWhere old (IsServedOut g)) slots id me 1 (λ y. either (eqb y old) 0 y) (left_second (step slots 1 old 0 said) me)
+      → me.1 ≡ (k, Right right) ∷ t → k + 1 ≡ slots → old ≡ newest (line_of g) → stands.rights right g.to → StepIs stands n (HappensWhere old (IsServedOut c g)) slots id me 1 (λ y. either (eqb y old) 0 y) (left_second (step slots 1 old 0 said) me)
   leaves_second_is slots id me c old k d mine g walk right t said piped mid slot is_last is_old stood s r long at fits =
       let st : Stage Q P = Settling d in
       let at' : get_elem? s.views id ≡ some (hold_at c st mine (Serving g walk) ∷ []) = at ∙ ap some mid in
       let fit = (r.seats id (hold_at c st mine (Serving g walk) ∷ []) at').0 in
-      exchanged (get_or s.words 1 0) old 0 (Goes stands n (HappensWhere old (IsServedOut g)) s r 1 id me (left_second (step slots 1 old 0 said) me))
+      exchanged (get_or s.words 1 0) old 0 (Goes stands n (HappensWhere old (IsServedOut c g)) s r 1 id me (left_second (step slots 1 old 0 said) me))
       (λ hit.
       let many : length s.homes ≡ n + 2 = r.many in
       let k_is : k ≡ n + 1 = last_slot slots k s r long is_last in
@@ -129,7 +135,7 @@ module _ {Q P L M : Type 0} (stands : Laws Q P L M) (n : ℕ) where
         hold_at c st mine Away ∷ [],
         gives,
         tt,
-        (((now_of stands n s r).0, second_list_of two'), ((λ _. (one_group stands n s.words s.homes r.phase r.mode (stands.given r.handled) r.two r.second piped c g fit.5.0 fit.5.1 (hit ∙ is_old), refl, refl, ap (λ (p : SecondList Q P). p.2) (second_put r.two c away (sym (ap apart_in fit.5.1))))), λ miss. absurd (miss hit)), subst (λ (z : List (ℕ × Content Q P L M)). IsNow stands n ((now_of stands n s r).0, second_list_of two') (stepped s 1 0 id z (hold_at c st mine Away ∷ []) gives)) (sym slot) (subst (λ (j : ℕ). IsNow stands n ((now_of stands n s r).0, second_list_of two') (record { words = ws; homes = set s.homes j (some (Right right)); views = set s.views id (hold_at c st mine Away ∷ []) })) (sym k_is) after)),
+        (((now_of stands n s r).0, second_list_of two'), ((λ _. (served_by s r c g fit.5.0 fit.5.1, one_group stands n s.words s.homes r.phase r.mode (stands.given r.handled) r.two r.second piped c g fit.5.0 fit.5.1 (hit ∙ is_old), refl, refl, ap (λ (p : SecondList Q P). p.2) (second_put r.two c away (sym (ap apart_in fit.5.1))))), λ miss. absurd (miss hit)), subst (λ (z : List (ℕ × Content Q P L M)). IsNow stands n ((now_of stands n s r).0, second_list_of two') (stepped s 1 0 id z (hold_at c st mine Away ∷ []) gives)) (sym slot) (subst (λ (j : ℕ). IsNow stands n ((now_of stands n s r).0, second_list_of two') (record { words = ws; homes = set s.homes j (some (Right right)); views = set s.views id (hold_at c st mine Away ∷ []) })) (sym k_is) after)),
         λ c' d' mine' f walk' mid'.
             let e = one_hold_at c c' st (Settling d') mine mine' (Serving g walk) (Serving f walk') me.0 mid mid' in
             ((λ _. ((λ i. hold_at (e.0 i) (e.1 i) (e.2 i) Away ∷ []), refl)), λ miss. absurd (miss hit)),
@@ -175,11 +181,11 @@ module _ {Q P L M : Type 0} (stands : Laws Q P L M) (n : ℕ) where
 
   pub leaves_second : (slots id : ℕ) (me : Sat Q P L M) (c old k : ℕ) (d : Debt Q P) (mine : List (Q × P)) (g : Squad Q P) (walk : List (Entry Q)) (right : M) (t : List (ℕ × Content Q P L M)) (said : Option (Content Q P L M)) → stands.piped ≡ true → AtWith c (Settling d) mine (Serving g walk) me
       → me.1 ≡ (k, Right right) ∷ t → k + 1 ≡ slots → old ≡ newest (line_of g) → stands.rights right g.to → Allows (Listed stands n) slots id me 1 (λ y. either (eqb y old) 0 y) (left_second (step slots 1 old 0 said) me)
-  leaves_second slots id me c old k d mine g walk right t said piped mid slot is_last is_old stood = allows stands n (HappensWhere old (IsServedOut g)) slots id me 1 (λ y. either (eqb y old) 0 y) (left_second (step slots 1 old 0 said) me) (leaves_second_is slots id me c old k d mine g walk right t said piped mid slot is_last is_old stood)
+  leaves_second slots id me c old k d mine g walk right t said piped mid slot is_last is_old stood = allows stands n (HappensWhere old (IsServedOut c g)) slots id me 1 (λ y. either (eqb y old) 0 y) (left_second (step slots 1 old 0 said) me) (leaves_second_is slots id me c old k d mine g walk right t said piped mid slot is_last is_old stood)
 
   -- the link of the next group's leader is cleared
   pub clears_second_is : (slots id : ℕ) (me : Sat Q P L M) (c k new : ℕ) (d : Debt Q P) (mine : List (Q × P)) (g : Squad Q P) (walk pre : List (Entry Q)) (x : Entry Q) → stands.piped ≡ true → AtWith c (Settling d) mine (Serving g walk) me → walk ≡ pre ++ x ∷ line_of g → k ≡ older_at x.by → new ≡ pack 0 x.code
-      → StepIs stands n (λ _. IsServedOut g) slots id me k (λ _. new) (λ _. cleared_second (step slots k new 0 none) me new)
+      → StepIs stands n (λ _. IsServedOut c g) slots id me k (λ _. new) (λ _. cleared_second (step slots k new 0 none) me new)
   clears_second_is slots id me c k new d mine g walk pre x piped mid is_walk is_word is_new s r long at fits =
       let st : Stage Q P = Settling d in
       let at' : get_elem? s.views id ≡ some (hold_at c st mine (Serving g walk) ∷ []) = at ∙ ap some mid in
@@ -201,7 +207,7 @@ module _ {Q P L M : Type 0} (stands : Laws Q P L M) (n : ℕ) where
         tt,
         (
           ((now_of stands n s r).0, second_list_of two'),
-          (cl.6, refl, refl, ap (λ (p : SecondList Q P). p.2) (second_put r.two c away (sym (ap apart_in fit.5.1)))),
+          (served_by s r c g fit.5.0 fit.5.1, cl.6, refl, refl, ap (λ (p : SecondList Q P). p.2) (second_put r.two c away (sym (ap apart_in fit.5.1)))),
           passed_to stands n s r id ws s.homes c st mine (Serving g walk) (Passing g x) two' record {
             at = at';
             wide = length-set s.words k new;
@@ -226,7 +232,7 @@ module _ {Q P L M : Type 0} (stands : Laws Q P L M) (n : ℕ) where
 
   pub clears_second : (slots id : ℕ) (me : Sat Q P L M) (c k new : ℕ) (d : Debt Q P) (mine : List (Q × P)) (g : Squad Q P) (walk pre : List (Entry Q)) (x : Entry Q) → stands.piped ≡ true → AtWith c (Settling d) mine (Serving g walk) me → walk ≡ pre ++ x ∷ line_of g → k ≡ older_at x.by → new ≡ pack 0 x.code
       → Allows (Listed stands n) slots id me k (λ _. new) (λ _. cleared_second (step slots k new 0 none) me new)
-  clears_second slots id me c k new d mine g walk pre x piped mid is_walk is_word is_new = allows stands n (λ _. IsServedOut g) slots id me k (λ _. new) (λ _. cleared_second (step slots k new 0 none) me new) (clears_second_is slots id me c k new d mine g walk pre x piped mid is_walk is_word is_new)
+  clears_second slots id me c k new d mine g walk pre x piped mid is_walk is_word is_new = allows stands n (λ _. IsServedOut c g) slots id me k (λ _. new) (λ _. cleared_second (step slots k new 0 none) me new) (clears_second_is slots id me c k new d mine g walk pre x piped mid is_walk is_word is_new)
 
   -- that leader is told, and has the right
   pub calls_next_is : (slots id : ℕ) (me : Sat Q P L M) (c k j0 : ℕ) (st : Stage Q P) (mine : List (Q × P)) (g : Squad Q P) (x : Entry Q) (right : M) (t : List (ℕ × Content Q P L M)) → AtWith c st mine (Passing g x) me → me.1 ≡ (j0, Right right) ∷ t → j0 + 1 ≡ slots → k ≡ state_at x.by → stands.rights right g.to

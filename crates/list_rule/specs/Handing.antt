@@ -7,6 +7,8 @@ use Rattle.list_rule.specs.declared.view.Hold.{Hold}
 use Rattle.list_rule.specs.declared.view.Squad.{Squad}
 use Rattle.list_rule.specs.declared.view.Back.{Back}
 use Rattle.list_rule.specs.declared.view.Back.TheVariants.{Away, Parting, Joining, Holding, Queued, Serving, Passing}
+use Rattle.list_rule.specs.declared.view.Stage.{Stage}
+use Rattle.list_rule.specs.declared.view.Stage.TheVariants.{Idle, Preparing, Waiting, Fresh, Leading, Cutting, Marking, Settling, Collecting}
 use Rattle.list_rule.specs.declared.content.Content.{Content}
 use Rattle.list_rule.specs.Chain.{Absent, newest, Links}
 use Rattle.list_rule.specs.Events.{IsNotWith}
@@ -18,6 +20,18 @@ abbrev pub Sees : {Q P L M : Type 0} → State (Content Q P L M) (List (Hold Q P
 Sees s id h = get_elem? s.views id ≡ some (h ∷ [])
 
 module _ {Q P : Type 0} where
+  -- the leader that the stage tells of is this client
+  abbrev pub IsOwn : ℕ → Stage Q P → Type 0
+  IsOwn c Idle = Unit {0}
+  IsOwn c (Preparing w) = Unit {0}
+  IsOwn c (Waiting q) = Unit {0}
+  IsOwn c (Fresh own seen) = own.by ≡ c
+  IsOwn c (Leading lead) = lead.own.by ≡ c
+  IsOwn c (Cutting lead next) = lead.own.by ≡ c
+  IsOwn c (Marking lead) = lead.own.by ≡ c
+  IsOwn c (Settling debt) = debt.own.by ≡ c
+  IsOwn c Collecting = Unit {0}
+
   -- the group has come into the second list, and its leader has the log still
   abbrev pub IsJoined : Squad Q P → Back Q P → Type 0
   IsJoined g Away = ⊥

@@ -83,9 +83,10 @@ module _ {Q P : Type 0} where
   IsNext back own p gs a b = Happens (exits (all_answers own p gs)) a.0 b.0 × (b.1 ≡ handed back a.1)
       × IsAhead back own.by a.1.1
 
-  -- the oldest group leaves the second list
-  abbrev pub IsServedOut : Squad Q P → Lists Q P → Lists Q P → Type 0
-  IsServedOut g a b = (a.1.0 ≡ b.1.0 ++ g ∷ []) × (b.0 ≡ a.0) × (b.1.1 ≡ a.1.1) × (b.1.2 ≡ a.1.2)
+  -- the oldest group, which c leads, leaves the second list
+  abbrev pub IsServedOut : ℕ → Squad Q P → Lists Q P → Lists Q P → Type 0
+  IsServedOut c g a b = (g.own.by ≡ c) × (a.1.0 ≡ b.1.0 ++ g ∷ []) × (b.0 ≡ a.0) × (b.1.1 ≡ a.1.1)
+      × (b.1.2 ≡ a.1.2)
 
 module _ {Q P L M : Type 0} (stands : Laws Q P L M) (n : ℕ) where
   -- the first list as it is after the events that led to a state, and the second one

@@ -73,11 +73,11 @@ pub fn pipelined_list_and_core<Q, P>()
         → IsPipelinedCoreOf writer_of reply_of ws a (list_half_of s) → step o s (core.Next c) ≡ Some new
         → a.1.1 ≡ ahead c }
     ensures exit { (writer_of : Entry Q → Writer) (reply_of : P → Reply) (o : Options) (s : State) (a b : Lists Q P)
-        (ws : List Writer) (g : Squad Q P)
+        (ws : List Writer) (c : ℕ) (g : Squad Q P)
         → o.pipelined ≡ true → IsSame writer_of → IsPipelinedCoreOf writer_of reply_of ws a (list_half_of s)
-        → s.table ≡ published → IsServedOut g a b
+        → s.table ≡ published → IsServedOut c g a b
         → IsGroupOf writer_of (line_of g) (first_group s.second)
-        × IsTaken writer_of reply_of o (core.Exit g.own.by) s ws b }
+        × IsTaken writer_of reply_of o (core.Exit c) s ws b }
     ensures log_refused { (writer_of : Entry Q → Writer) (reply_of : P → Reply) (o : Options) (s : State)
         (a b : Lists Q P) (old ws built : List Writer) (own : Entry Q) (p : P) (gs : List (Entry Q × P))
         → IsSame writer_of → IsPipelinedCoreOf writer_of reply_of old a (list_half_of s) → IsExit own p gs a b

@@ -20,7 +20,7 @@ ghost use Rattle.list_rule.specs.Standing.{line_of};
 ghost use Rattle.list_rule.specs.Laws.{laws_for, logs_picked, given_runs};
 ghost use Rattle.list_rule.specs.Plays.{Sat, At, AtWith, HandsOn, IsCut, parting, in_hand, debt, slots_of, peeked, cut_as, marked_off, woken_on, freed, traced_marked, cut_marked, aimed_second, joined, summoned, kept, left_second, traced_second, cleared_second, called_next};
 ghost use Rattle.list_rule.specs.Steps.{now_of, Stays, HappensWhere, IsBoundary, IsSecond, IsNext, IsServedOut, StepIs};
-ghost use Rattle.list_rule.specs.Handing.{Sees, IsInNone, IsJoined, IsServed, IsNewestGroup, IsOldestGroup};
+ghost use Rattle.list_rule.specs.Handing.{Sees, IsOwn, IsInNone, IsJoined, IsServed, IsNewestGroup, IsOldestGroup};
 ghost use Rattle.list_rule.specs.Events.{grouped};
 ghost use Rattle.list_rule.specs.Rule.{Listed, hold_at};
 ghost use Rattle.list_rule.specs.declared.view.Handling.{Handling};
@@ -109,7 +109,7 @@ pub fn second_steps_and_events<Q: Itemized, P: Given, L: Ledger<Q, P, M>, M>()
         → z.pipelined ≡ true → AtWith c (Settling d) mine (Serving g walk) me → me.1 ≡ (k, Right right) ∷ more
         → k + 1 ≡ slots → member ≡ newest (line_of g) → L.serves z.about right g.to
         → StepIs (laws_for Q.item_of L.lawful L.stands L.kept L.number_of P.run_of L.serves z) z.clients
-        (HappensWhere member (IsServedOut g))
+        (HappensWhere member (IsServedOut c g))
         slots id me 1 (λ x. either (x == member) 0 x) (left_second (step slots 1 member 0 none) me) }
     ensures read_older_second { (z : Start L.About) (slots id word : ℕ) (me : Sat Q P L M)
         → StepIs (laws_for Q.item_of L.lawful L.stands L.kept L.number_of P.run_of L.serves z) z.clients (λ _. Stays)
@@ -119,7 +119,7 @@ pub fn second_steps_and_events<Q: Itemized, P: Given, L: Ledger<Q, P, M>, M>()
         → z.pipelined ≡ true → AtWith c (Settling d) mine (Serving g walk) me → walk ≡ newer ++ x ∷ line_of g
         → word ≡ older_at x.by → new ≡ pack 0 x.code
         → StepIs (laws_for Q.item_of L.lawful L.stands L.kept L.number_of P.run_of L.serves z) z.clients
-        (λ _. IsServedOut g)
+        (λ _. IsServedOut c g)
         slots id me word (λ _. new) (λ _. cleared_second (step slots word new 0 none) me new) }
     ensures call_next { (z : Start L.About) (slots id word c k : ℕ) (me : Sat Q P L M) (stage : Stage Q P)
         (mine : List (Q × P)) (g : Squad Q P) (x : Entry Q) (right : M) (more : List (ℕ × Content Q P L M))
@@ -133,7 +133,7 @@ pub fn second_steps_and_events<Q: Itemized, P: Given, L: Ledger<Q, P, M>, M>()
 /// log on, the log is with that group, so nobody is elected; who gives the log on, in a list with the second one, has its
 /// group there, as the newest one and with all that was given runs, or nothing more was; and the group of who
 /// has the right is the oldest one. Who is told by a leader that is in neither list, and such a leader itself, is in
-/// neither, nor of the group in hand.
+/// neither, nor of the group in hand. The leader that a stage tells of is the client itself.
 pub fn handing_on<Q: Itemized, P: Given, L: Ledger<Q, P, M>, M>()
     ensures cut { (z : Start L.About) (s : State (Content Q P L M) (List (Hold Q P)))
         (r : Listed (laws_for Q.item_of L.lawful L.stands L.kept L.number_of P.run_of L.serves z) z.clients s)
@@ -164,4 +164,8 @@ pub fn handing_on<Q: Itemized, P: Given, L: Ledger<Q, P, M>, M>()
         → Sees s id (hold_at c (Settling (debt [] own p)) mine Away)
         → IsInNone own.by
         (now_of (laws_for Q.item_of L.lawful L.stands L.kept L.number_of P.run_of L.serves z) z.clients s r) }
+    ensures own { (z : Start L.About) (s : State (Content Q P L M) (List (Hold Q P)))
+        (id c : ℕ) (stage : Stage Q P) (mine : List (Q × P)) (back : Back Q P)
+        → Listed (laws_for Q.item_of L.lawful L.stands L.kept L.number_of P.run_of L.serves z) z.clients s
+        → Sees s id (hold_at c stage mine back) → IsOwn c stage }
 {}

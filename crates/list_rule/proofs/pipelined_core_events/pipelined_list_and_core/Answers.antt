@@ -31,7 +31,7 @@ pub returns-clause-next_of_handed : goal.returns-clause-next_of_handed
 returns-clause-next_of_handed g c writer_of reply_of o s new a ws client r came = next_there writer_of reply_of o s a a ws client new r came
 
 pub returns-clause-exit : goal.returns-clause-exit
-returns-clause-exit g c writer_of reply_of o s a b ws squad two same r is ev = serves_core writer_of reply_of o s a b ws squad two same r is ev
+returns-clause-exit g c writer_of reply_of o s a b ws client squad two same r is ev = serves_core writer_of reply_of o s a b ws client squad two same r is ev
 
 pub returns-clause-log_refused : goal.returns-clause-log_refused
 returns-clause-log_refused g c writer_of reply_of o s a b old ws built own p gs same r ev is alive runs no_run has = log_leaves writer_of reply_of o s a b old ws built own p gs same r ev is alive runs no_run has

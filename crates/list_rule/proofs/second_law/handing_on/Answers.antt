@@ -1,4 +1,4 @@
-use Rattle.list_rule.proofs.Handings.{hands_joined, cut_log, joined_newest, served_oldest, told_apart, told_last}
+use Rattle.list_rule.proofs.Handings.{hands_joined, cut_log, joined_newest, served_oldest, told_apart, told_last, own_stage}
 use Rattle.list_rule.proofs.second_law.handing_on.Goals as goal
 
 pub returns-clause-cut : goal.returns-clause-cut
@@ -18,3 +18,6 @@ returns-clause-told g a z s r id c mine member others own p sees = told_apart _ 
 
 pub returns-clause-told_last : goal.returns-clause-told_last
 returns-clause-told_last g a z s r id c mine own p sees = told_last _ z.clients s r id c mine own p sees
+
+pub returns-clause-own : goal.returns-clause-own
+returns-clause-own g a z s id c stage mine back r sees = own_stage _ z.clients s r id c stage mine back sees
