@@ -157,7 +157,7 @@ module _ {Q P L M : Type 0} (stands : Laws Q P L M) (n : ℕ) (s : State (Conten
       let now : r.phase c ≡ leads own = fit.4.1 in
       let by : own.by ≡ c = subst (InPhase stands s.words s.homes c (r.due c)) now (r.rows c fit.1 fit.2) in (
         subst (λ k. IsNotWith k r.account.log) (sym by)
-        (not_held stands n s r c (own.asked, p) fit.4.2 (λ e bad. let no : Path (Phase Q P) (leads own) (linked e) = sym now ∙ bad in absurd (cc)) (λ e bad. let no : Path (Phase Q P) (leads own) (chosen e) = sym now ∙ bad in absurd (cc))),
+            (not_held stands n s r c (own.asked, p) fit.4.2 (λ e bad. let no : Path (Phase Q P) (leads own) (linked e) = sym now ∙ bad in absurd (cc)) (λ e bad. let no : Path (Phase Q P) (leads own) (chosen e) = sym now ∙ bad in absurd (cc))),
         subst (λ k. Absent k (flat r.two.groups)) (sym by)
-        (absent_groups r.phase r.two.place c r.two.groups (no_place fit.5.0) (λ k e bad. let no : Path (Phase Q P) (leads own) (taken k e) = sym now ∙ bad in absurd (cc)) r.second.members),
+            (absent_groups r.phase r.two.place c r.two.groups (no_place fit.5.0) (λ k e bad. let no : Path (Phase Q P) (leads own) (taken k e) = sym now ∙ bad in absurd (cc)) r.second.members),
       )

@@ -1,34 +1,28 @@
 -- The events of a list with a second one are events of the core.
-use Rattle.std.proofs.Common.{◌≡◌, ℕ, eqb, eq-eqb, Bool, true, false, not, ◌&&◌, cond, List, [], ◌∷◌, ◌++◌, map, filter, reverse, take, drop, if◌then◌else◌, Option as Answer, Some, None, inl, inr, refl, sym, ap, ◌∙◌, subst, append-nil, append_assoc, eqb-true}
-use Rattle.std.specs.List.{AllZip, list_any}
-use Rattle.std.proofs.lemmas.List.{reverse-append, map-append}
-use Rattle.std.proofs.lemmas.List.Elements.{filter-append}
+use Rattle.std.proofs.Common.{◌≡◌, ℕ, eqb, eq-eqb, Bool, true, false, not, ◌&&◌, List, [], ◌∷◌, ◌++◌, map, drop, if◌then◌else◌, Option as Answer, Some, refl, sym, ap, ◌∙◌, subst, append-nil, append_assoc, eqb-true}
+use Rattle.std.proofs.lemmas.List.{map-append}
 use mathlib.Core.Option.{Option, none, some}
-use Rattle.wp_model.specs.Calls.{Command, Reply, refused}
-use Rattle.wp_model.specs.declared.write.Refusal.{Refusal}
-use Rattle.wp_model.specs.declared.write.Refusal.TheVariants as no
+use Rattle.wp_model.specs.Calls.{Reply}
 use Rattle.core_model.specs.declared.event.Event.TheVariants as core
-use Rattle.core_model.specs.Core.{Options, Writer, LogPhase, free as nobody, led, built as in_hand, in_log, marked, handed, TablePhase, still, published, State, opened, leads, with_runs, has_run, all_answered, first_group, in_hand as logged, entries_of}
+use Rattle.core_model.specs.Core.{Options, Writer, LogPhase, free as nobody, led, built as in_hand, in_log, marked, handed, still, published, State, leads, first_group, in_hand as logged}
 use Rattle.core_model.specs.CoreLaw.{joined}
-use Rattle.core_model.specs.Halves.{ListHalf, ListStep, list_half_of, left_with}
-use Rattle.core_model.specs.Step.{step, when, elect, build, log_group, logged_group, with_group, leave, fault, refuse, is_no_slowdown, boundary, to_second, next, exit, group_size}
+use Rattle.core_model.specs.Halves.{list_half_of}
+use Rattle.core_model.specs.Step.{step, when, leave, boundary, to_second, next, exit}
 use Rattle.list_rule.specs.declared.view.Back.{Back}
 use Rattle.list_rule.specs.declared.view.Back.TheVariants.{Away, Parting, Joining, Holding, Queued, Serving, Passing}
 use Rattle.list_rule.specs.declared.view.Entry.{Entry}
 use Rattle.list_rule.specs.declared.view.Handling.{Handling}
 use Rattle.list_rule.specs.declared.view.Squad.{Squad}
-use Rattle.list_rule.specs.Chain.{Absent, all_answers}
-use Rattle.list_rule.specs.CoreEvents.{IsSame, core_queue, core_log, answer_of, answer_in, HasReplies, AllHave, IsCoreOf}
-use Rattle.list_rule.specs.Events.{Core, Held, free, elected, grouped, comes, elects, builds, exits, completes, after, IsOfGroup, IsNotWith, was_for, wrote, without}
+use Rattle.list_rule.specs.Chain.{all_answers}
+use Rattle.list_rule.specs.CoreEvents.{IsSame, core_queue, core_log, answer_of, answer_in, HasReplies}
+use Rattle.list_rule.specs.Events.{Core, Held, free, elected, grouped}
 use Rattle.list_rule.specs.Handing.{IsJoined}
-use Rattle.list_rule.specs.PipelinedCoreEvents.{IsRearranged, unanswered, handed_on, IsGroupOf, HasGroups, IsSettled, IsUnlogged, IsLogOf, IsPipelinedCoreOf, IsTaken}
+use Rattle.list_rule.specs.PipelinedCoreEvents.{IsRearranged, handed_on, IsGroupOf, HasGroups, IsUnlogged, IsLogOf, IsPipelinedCoreOf, IsTaken}
 use Rattle.list_rule.specs.Plays.{ending}
 use Rattle.list_rule.specs.SecondList.{SecondList, IsPut, IsAhead, handed as handed_over}
-use Rattle.list_rule.specs.Standing.{Lead2, level, ahead, line_of, flat}
-use Rattle.list_rule.specs.Steps.{Lists, HappensAlone, IsExit, IsComplete, IsBoundary, IsSecond, IsNext, IsServedOut}
-use Rattle.list_rule.proofs.CoreExits.{group_given}
-use Rattle.list_rule.proofs.CoreLaws.{builds_core}
-use Rattle.list_rule.proofs.PipelinedCore.{first_leads, group_leads, runs_kept, joined_more, groups_more, groups_first, only_put, none_now, rearranged_as, rearranged_more, rearranged_within, rearranged_filter, Out, out_both, stays, out_stays, group_out, groups_out}
+use Rattle.list_rule.specs.Standing.{Lead2, level, ahead, line_of}
+use Rattle.list_rule.specs.Steps.{Lists, IsBoundary, IsSecond, IsNext, IsServedOut}
+use Rattle.list_rule.proofs.PipelinedCore.{group_leads, joined_more, groups_more, groups_first, only_put, none_now, rearranged_as, rearranged_more}
 
 abbrev line_held : {Q : Type 0} → Held Q → List (Entry Q)
 line_held free = []

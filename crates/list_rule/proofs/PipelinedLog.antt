@@ -1,26 +1,26 @@
 -- The events of the first list of pipelined groups, and being told, are events of the core.
-use Rattle.std.proofs.Common.{◌≡◌, ℕ, eqb, eq-eqb, Bool, true, false, not, ◌&&◌, cond, List, [], ◌∷◌, ◌++◌, map, filter, reverse, take, drop, if◌then◌else◌, Option as Answer, Some, None, inl, inr, refl, sym, ap, ◌∙◌, subst, append-nil, append_assoc}
+use Rattle.std.proofs.Common.{◌≡◌, ℕ, eqb, eq-eqb, Bool, true, false, not, ◌&&◌, cond, List, [], ◌∷◌, ◌++◌, map, filter, reverse, take, drop, if◌then◌else◌, Option as Answer, Some, None, refl, sym, ap, ◌∙◌, subst, append-nil}
 use Rattle.std.specs.List.{list_any}
 use Rattle.std.proofs.lemmas.List.{reverse-append, map-append}
 use Rattle.std.proofs.lemmas.List.Elements.{filter-append}
-use mathlib.Core.Option.{Option, none, some}
+use mathlib.Core.Option.{Option}
 use Rattle.wp_model.specs.declared.write.WriteOptions.{WriteOptions}
 use Rattle.wp_model.specs.Calls.{Reply, refused}
 use Rattle.wp_model.specs.declared.write.Refusal.TheVariants as no
 use Rattle.core_model.specs.declared.event.Event.TheVariants as core
-use Rattle.core_model.specs.Core.{Options, Writer, Client, LogPhase, free as nobody, led, built as in_hand, in_log, marked, handed, State, opened, leads, with_runs, has_run, all_answered, entries_of, client_at, with_client, next_call}
+use Rattle.core_model.specs.Core.{Options, Writer, Client, LogPhase, free as nobody, led, built as in_hand, in_log, marked, handed, State, leads, with_runs, has_run, all_answered, entries_of, client_at, with_client, next_call}
 use Rattle.core_model.specs.CoreLaw.{joined}
-use Rattle.core_model.specs.Halves.{ListHalf, list_half_of, left_with}
+use Rattle.core_model.specs.Halves.{list_half_of, left_with}
 use Rattle.core_model.specs.Step.{when, link, link_call, link_with, complete, complete_with, completed, elect, build, log_group, logged_group, with_group, leave, fault, refuse, is_no_slowdown, group_size}
 use Rattle.list_rule.specs.declared.view.Entry.{Entry}
 use Rattle.list_rule.specs.declared.view.Handling.{Handling}
 use Rattle.list_rule.specs.declared.view.Squad.{Squad}
 use Rattle.list_rule.specs.Chain.{Absent, all_answers, handling}
 use Rattle.list_rule.specs.CoreEvents.{IsSame, core_queue, core_log, answer_of, answer_in, HasReplies, AllHave, IsCoreOf}
-use Rattle.list_rule.specs.Events.{Core, Held, free, elected, grouped, comes, elects, builds, exits, completes, after, IsOfGroup, IsNotWith, was_for, wrote, without}
-use Rattle.list_rule.specs.PipelinedCoreEvents.{IsRearranged, unanswered, handed_on, IsGroupOf, HasGroups, IsSettled, IsUnlogged, IsLogOf, IsPipelinedCoreOf, IsTaken, IsCommit, HasLeft}
+use Rattle.list_rule.specs.Events.{Core, Held, free, elected, grouped, comes, elects, builds, after, IsNotWith, was_for, without}
+use Rattle.list_rule.specs.PipelinedCoreEvents.{IsRearranged, unanswered, handed_on, HasGroups, IsSettled, IsUnlogged, IsLogOf, IsPipelinedCoreOf, IsTaken, IsCommit, HasLeft}
 use Rattle.list_rule.specs.SecondList.{SecondList}
-use Rattle.list_rule.specs.Standing.{Lead2, level, line_of, flat}
+use Rattle.list_rule.specs.Standing.{Lead2, flat}
 use Rattle.list_rule.specs.Steps.{Lists, HappensAlone, IsExit, IsComplete}
 use Rattle.list_rule.proofs.CoreExits.{group_given}
 use Rattle.list_rule.proofs.CoreLaws.{builds_core}
@@ -198,9 +198,9 @@ module _ {Q P : Type 0} (writer_of : Entry Q → Writer) (reply_of : P → Reply
       let mine : List (ℕ × Answer Reply) = (c, Some (reply_of p)) ∷ [] in
       let left : List (ℕ × Answer Reply) = filter (belongs c) (answered s.leaving) in
       let one : left ≡ mine = rearranged_one (c, Some (reply_of p)) left (rearranged_as (filter (belongs c) was_owed) (filter (belongs c) waits) mine left
-          (sym (append-nil mine) ∙ ((λ i. (ap (map (own_answer reply_of c)) (sym ev.0.0) ∙ sym (own_replies reply_of c a.0.3)) i ++ sym (out_own c (handed_on s.log ws) (in_hand_out s.log r.log)) i) ∙ sym (filter-append (belongs c) (handled a.0.3) (answered (handed_on s.log ws)))))
-          (sym (append-nil left) ∙ ((λ i. left ++ sym (out_own c (joined s.second) off) i) ∙ (sym (filter-append (belongs c) (answered s.leaving) (answered (joined s.second))) ∙ ap (filter (belongs c)) (sym (map-append answer_of s.leaving (joined s.second))))))
-          (rearranged_filter (belongs c) was_owed waits r.owed)) in
+      (sym (append-nil mine) ∙ ((λ i. (ap (map (own_answer reply_of c)) (sym ev.0.0) ∙ sym (own_replies reply_of c a.0.3)) i ++ sym (out_own c (handed_on s.log ws) (in_hand_out s.log r.log)) i) ∙ sym (filter-append (belongs c) (handled a.0.3) (answered (handed_on s.log ws)))))
+      (sym (append-nil left) ∙ ((λ i. left ++ sym (out_own c (joined s.second) off) i) ∙ (sym (filter-append (belongs c) (answered s.leaving) (answered (joined s.second))) ∙ ap (filter (belongs c)) (sym (map-append answer_of s.leaving (joined s.second))))))
+      (rearranged_filter (belongs c) was_owed waits r.owed)) in
       let found = found_first c s.leaving (c, Some (reply_of p)) [] one in
       let w : Writer = found.0 in
       let reply : w.answer ≡ Some (reply_of p) = ap (λ (x : ℕ × Answer Reply). x.1) found.2 in
