@@ -2,9 +2,10 @@
 
 ghost use Rattle.std.specs.Prelude.{◌≡◌, ◌≤◌, ◌<◌, ◌^◌, ℕ, List, [], ◌∷◌, ◌++◌};
 ghost use Rattle.table_rule.specs.declared.content.MemberVersions.{MemberVersions};
-ghost use Rattle.table_rule.specs.Histories.{Begins, In, last_of};
+ghost use Rattle.table_rule.specs.Histories.{Begins, last_of};
 ghost use Rattle.table_rule.specs.Rule.{end_of};
 ghost use Rattle.table_rule.specs.Steps.{IsNext};
+ghost use Rattle.memtable_stage.specs.Parts.{HaveParts};
 ghost use Rattle.memtable_stage.specs.Working.{HasLaunched};
 ghost use Rattle.table_calls.specs.Account.{IsReady};
 ghost use Rattle.list_rule.specs.declared.view.Debt.{Debt};
@@ -45,8 +46,9 @@ pub fn await_group<N: Versioned, P: GroupParts<N>, T: Table<N, P>, R: Wait>(
 }
 
 /// Leads a group of the second list, whose leader has the right: launches its parts, tells its members to work beside it,
-/// works on its own part, and waits until the group is published. `members` are those that are to work, and `end` is the
-/// group's last sequence.
+/// works on its own part, and waits until the group is published. `members` are those that have a part beside the
+/// leader, and `end` is the group's last sequence. Who is told without a part would wait for one forever, and the leader
+/// would wait forever for one who has a part and isn't told.
 pub fn lead<
     Q: Itemized,
     A: Given,
@@ -72,8 +74,7 @@ pub fn lead<
         × AreMembers (clients_of list.now) members.now d.rest) }
     requires ours { T.ours table.now seat.old × T.our_turn table.now turn × IsReady (T.account seat.old) }
     requires next { IsNext (T.opening table.now) (T.history turn) (P.parts parts.old) }
-    requires member { (part : MemberVersions) × In part (P.parts parts.old)
-        × (part.member ≡ (T.account seat.old).number) }
+    requires parts { HaveParts (T.account seat.old).number members.now (P.parts parts.old) }
     requires end { (end ≡ end_of (last_of (T.opening table.now).start (T.history turn)) (P.parts parts.old))
         × (end < 2 ^ 64) }
     ensures client { (client_of writer.new ≡ client_of writer.old) × Belongs list.now writer.new }

@@ -1,4 +1,8 @@
+use Rattle.memtable_stage.proofs.Own.{own_part}
 use Rattle.memtable_stage.proofs.leading.lead.Goals as goal
+
+pub launch-requires-clause-member : goal.launch-requires-clause-member
+launch-requires-clause-member g c = own_part (g.T.Table.account c.args.seat.now).number c.args.members.now (g.P.GroupParts.parts c.args.parts.now) c.requires.parts
 
 pub returns-clause-published : goal.returns-clause-published
 returns-clause-published g c =
