@@ -13,16 +13,17 @@ use Rattle.list_rule.specs.declared.view.Stage.TheVariants.{Idle, Preparing, Wai
 use Rattle.list_rule.specs.declared.content.Content.{Content}
 use Rattle.list_rule.specs.Chain.{Absent, newest, Links}
 use Rattle.list_rule.specs.Events.{Held, grouped, IsNotWith}
-use Rattle.list_rule.specs.Standing.{Phase, linked, chosen, leads, taken, Mode, open_, waits, led, built, cut, marked, Two, away, ahead, held_by, serves, line_of, flat, In, InStep, KnowsBack}
+use Rattle.list_rule.specs.Standing.{Phase, linked, chosen, leads, taken, Mode, open_, waits, led, built, cut, marked, Place, away, parted, queued, called, serves, served, Turn, still, calls, held_by, passes, Two, ahead, line_of, flat, In, InStep, KnowsBack}
 use Rattle.list_rule.specs.Laws.{Laws}
 use Rattle.list_rule.specs.Rule.{hold_at, AllGroups, AllTaken, Knows, HasCut, InMode, InPhase, InTurn, Level, Listed, Shows}
 use Rattle.list_rule.specs.Plays.{HandsOn, IsCut, debt}
+use Rattle.list_rule.specs.SecondList.{served_in, last_served}
 use Rattle.list_rule.specs.Steps.{now_of}
 use Rattle.list_rule.specs.Handing.{Sees, IsOwn, IsJoined, IsServed, IsNewestGroup, IsOldestGroup}
-use Rattle.list_rule.proofs.Groups.{absent_front, absent_back, taken_absent}
+use Rattle.list_rule.proofs.Groups.{absent_append, absent_front, absent_back, taken_absent}
 use Rattle.list_rule.proofs.Leads.{one_leads}
-use Rattle.list_rule.proofs.Seconds.{in_one, behind_in, flat_snoc, absent_groups, member_absent}
-use Rattle.list_rule.proofs.Settles.{handled_out}
+use Rattle.list_rule.proofs.Seconds.{in_one, behind_in, flat_snoc, with_absent, absent_groups, member_absent}
+use Rattle.list_rule.proofs.Settles.{handled_out, one_taker}
 
 module _ {Q P : Type 0} where
   -- who gives the log on in a list with the second one has its group there, or gives no run
@@ -141,13 +142,40 @@ module _ {Q P L M : Type 0} (stands : Laws Q P L M) (n : ℕ) (s : State (Conten
   no_place : r.two.place c ≡ away → (g : Squad Q P) → In g (r.two.place c) → ⊥
   no_place there g is = subst (In g) there is
 
+  -- a client that is in none of the groups, and not in the one that is served last
+  in_neither : (m : ℕ) → Absent m (flat r.two.groups) → ((d : ℕ) (f : Squad Q P) → r.two.place d ≡ served f → Absent m (line_of f)) → Absent m (flat (now_of stands n s r).1.0)
+  in_neither m out un = absent_both r.two.groups out
+    where
+      of_place : (p : Place Q P) → ((f : Squad Q P) → p ≡ served f → Absent m (line_of f)) → Absent m (flat (served_in p))
+      of_place away un = tt
+      of_place (parted f b) un = tt
+      of_place (queued f) un = tt
+      of_place (called f) un = tt
+      of_place (serves f) un = tt
+      of_place (served f) un = absent_append m (line_of f) [] (un f refl) tt
+
+      of_turn : (turn : Turn) → Absent m (flat (last_served r.two.place turn))
+      of_turn still = tt
+      of_turn (calls k) = tt
+      of_turn (held_by k) = tt
+      of_turn (passes k w) = of_place (r.two.place k) (un k)
+
+      absent_both : (gs : List (Squad Q P)) → Absent m (flat gs) → Absent m (flat (gs ++ last_served r.two.place r.two.turn))
+      absent_both [] gone = of_turn r.two.turn
+      absent_both (g ∷ gs) gone = absent_append m (line_of g) (flat (gs ++ last_served r.two.place r.two.turn)) (absent_front m (line_of g) (flat gs) gone) (absent_both gs (absent_back m (line_of g) (flat gs) gone))
+
   -- who is told by a leader that is in no list is in none either
   pub told_apart : (g : Entry Q × P) (gs : List (Entry Q × P)) (own : Entry Q) (p : P) → Sees s id (hold_at c (Settling (debt (g ∷ gs) own p)) mine Away) → IsNotWith g.0.by (now_of stands n s r).0.1 × Absent g.0.by (flat (now_of stands n s r).1.0)
   told_apart g gs own p sees =
       let fit = (r.seats id (hold_at c (Settling (debt (g ∷ gs) own p)) mine Away ∷ []) sees).0 in
       let now : r.phase g.0.by ≡ taken c g.0 = fit.4.0.0 in (
         not_held stands n s r g.0.by (g.0.asked, g.1) fit.4.0.1 (λ e bad. let no : Path (Phase Q P) (taken c g.0) (linked e) = sym now ∙ bad in absurd (cc)) (λ e bad. let no : Path (Phase Q P) (taken c g.0) (chosen e) = sym now ∙ bad in absurd (cc)),
-        member_absent r.phase r.two.place g.0.by c g.0 r.two.groups now (no_place fit.5.0) r.second.members,
+        in_neither g.0.by (member_absent r.phase r.two.place g.0.by c g.0 r.two.groups now (no_place fit.5.0) r.second.members)
+        (λ d f is.
+        let led_d = r.second.outgoing d f is in
+        absent_append g.0.by f.rest (f.own ∷ [])
+        (with_absent r.phase g.0.by d f.rest (λ e bad. let who : c ≡ d = one_taker c d g.0 e (sym now ∙ bad) in let no : Path (Place Q P) (served f) away = sym is ∙ (ap r.two.place (sym who) ∙ fit.5.0) in absurd (cc)) led_d.2)
+        ((λ own_is. let no : Path (Phase Q P) (taken c g.0) (leads f.own) = sym now ∙ (ap r.phase (sym own_is ∙ led_d.0) ∙ led_d.1) in absurd (cc)), tt)),
       )
 
   -- nor is such a leader
@@ -158,6 +186,11 @@ module _ {Q P L M : Type 0} (stands : Laws Q P L M) (n : ℕ) (s : State (Conten
       let by : own.by ≡ c = subst (InPhase stands s.words s.homes c (r.due c)) now (r.rows c fit.1 fit.2) in (
         subst (λ k. IsNotWith k r.account.log) (sym by)
             (not_held stands n s r c (own.asked, p) fit.4.2 (λ e bad. let no : Path (Phase Q P) (leads own) (linked e) = sym now ∙ bad in absurd (cc)) (λ e bad. let no : Path (Phase Q P) (leads own) (chosen e) = sym now ∙ bad in absurd (cc))),
-        subst (λ k. Absent k (flat r.two.groups)) (sym by)
-            (absent_groups r.phase r.two.place c r.two.groups (no_place fit.5.0) (λ k e bad. let no : Path (Phase Q P) (leads own) (taken k e) = sym now ∙ bad in absurd (cc)) r.second.members),
+        subst (λ k. Absent k (flat (now_of stands n s r).1.0)) (sym by)
+            (in_neither c (absent_groups r.phase r.two.place c r.two.groups (no_place fit.5.0) (λ k e bad. let no : Path (Phase Q P) (leads own) (taken k e) = sym now ∙ bad in absurd (cc)) r.second.members)
+        (λ d f is.
+        let led_d = r.second.outgoing d f is in
+        absent_append c f.rest (f.own ∷ [])
+        (with_absent r.phase c d f.rest (λ e bad. let no : Path (Phase Q P) (leads own) (taken d e) = sym now ∙ bad in absurd (cc)) led_d.2)
+        ((λ own_is. let no : Path (Place Q P) (served f) away = sym is ∙ (ap r.two.place (sym led_d.0 ∙ own_is) ∙ fit.5.0) in absurd (cc)), tt))),
       )

@@ -10,9 +10,9 @@ use Rattle.list_rule.specs.declared.view.Handling.{Handling}
 use Rattle.list_rule.specs.declared.view.Squad.{Squad}
 use Rattle.list_rule.specs.declared.content.Content.{Content}
 use Rattle.list_rule.specs.Chain.{state_at, older_at, Links, LinksFrom}
-use Rattle.list_rule.specs.Standing.{Phase, leads, Mode, Holds, InFront, Place, away, parted, queued, called, serves, Turn, still, calls, held_by, passes, ahead, Two, flat, In, InStep}
+use Rattle.list_rule.specs.Standing.{Phase, leads, Mode, Holds, InFront, Place, away, parted, queued, called, serves, served, Turn, still, calls, held_by, passes, ahead, Two, flat, In, InStep}
 use Rattle.list_rule.specs.Laws.{Laws}
-use Rattle.list_rule.specs.Rule.{InSecond, AllWith, AllGroups, Level, InTurn, Parts, Second}
+use Rattle.list_rule.specs.Rule.{InSecond, AllWith, AllGroups, IsLed, Level, InTurn, Parts, Second}
 use Rattle.list_rule.proofs.Chains.{put, put_at, put_else}
 
 module _ {Q P : Type 0} where
@@ -22,6 +22,7 @@ module _ {Q P : Type 0} where
   in_not_away g (queued f) ok e = absurd (cc)
   in_not_away g (called f) ok e = absurd (cc)
   in_not_away g (serves f) ok e = absurd (cc)
+  in_not_away g (served f) ok e = ok
 
 module _ {Q P : Type 0} where
   -- nothing moves of the clients in the second list
@@ -95,6 +96,11 @@ module _ {Q P L M : Type 0} (stands : Laws Q P L M) (n : ℕ) where
         ok.5,
       )
 
+  led_kept : (words ws : List ℕ) (phase phase' : ℕ → Phase Q P) (place : ℕ → Place Q P) (c : ℕ) (g : Squad Q P) → Kept phase phase' place words ws → place c ≡ served g → IsLed phase c g → IsLed phase' c g
+  led_kept words ws phase phase' place c g keep is ok =
+      let un : place c ≢ away = λ e. let bad : Path (Place Q P) (served g) away = sym is ∙ e in absurd (cc) in
+      (ok.0, (keep c (subst (InSecond place c) (sym ok.1) un)).2 ∙ ok.1, with_kept phase phase' place words ws c g.rest un keep ok.2)
+
   -- a step that moves nothing of the second list
   pub second_stays : (words ws : List ℕ) (homes hs : List (Option (Content Q P L M))) (phase phase' : ℕ → Phase Q P) (mode mode' : Mode Q) (last last' : List (Handling Q P)) (two : Two Q P) → get_or ws 1 0 ≡ get_or words 1 0 → Kept phase phase' two.place words ws
       → ((k : ℕ) → get_or ws (state_at k) 0 ≡ 4 → get_or words (state_at k) 0 ≡ 4) → get_elem? hs (n + 1) ≡ get_elem? homes (n + 1) → ((k : ℕ) → InFront k mode' → InFront k mode ⊎ (two.place k ≡ away)) → ((k : ℕ) → Holds k mode' → Holds k mode ⊎ (get_or ws (state_at k) 0 ≢ 4))
@@ -106,6 +112,7 @@ module _ {Q P L M : Type 0} (stands : Laws Q P L M) (n : ℕ) where
     within = r.within;
     members = groups_kept phase phase' two.place words ws two.groups keep r.members;
     parts = λ c g b is. parts_kept words ws homes hs phase phase' two.place c g b keep is (r.parts c g b is);
+    outgoing = λ c g is. led_kept words ws phase phase' two.place c g keep is (r.outgoing c g is);
     turn_is = turn_kept words ws homes hs phase phase' two r.members keep home two.turn r.turn_is;
     in_front = λ c h. ⊎_elim (λ (t : InFront c mode). r.in_front c t) (λ (t : two.place c ≡ away). t) (fronts c h);
     quiet = λ c h apart. ⊎_elim (λ (t : Holds c mode). (λ e. r.quiet c t apart (to4 c e))) (λ (t : get_or ws (state_at c) 0 ≢ 4). t) (holds c h);

@@ -11,12 +11,12 @@ use Rattle.list_rule.specs.declared.view.Back.TheVariants.{Away, Parting, Joinin
 use Rattle.list_rule.specs.declared.view.Stage.{Stage}
 use Rattle.list_rule.specs.declared.content.Content.{Content}
 use Rattle.list_rule.specs.Chain.{Links, Distinct, Within, EndsWith}
-use Rattle.list_rule.specs.Standing.{Phase, leads, Mode, InFront, Place, away, parted, queued, called, serves, held_by, passes, level, ahead, Two, flat, In, Behind, KnowsBack}
+use Rattle.list_rule.specs.Standing.{Phase, leads, Mode, InFront, Place, away, parted, queued, called, serves, served, Turn, still, calls, held_by, passes, level, ahead, Two, flat, In, Behind, KnowsBack}
 use Rattle.list_rule.specs.Laws.{Laws}
 use Rattle.list_rule.specs.Rule.{AllTaken, AllWith, Second, hold_at}
 use Rattle.list_rule.specs.Plays.{in_hand, parting, after_cut, onward, HandsOn}
 use Rattle.list_rule.specs.Events.{Core, grouped}
-use Rattle.list_rule.specs.SecondList.{SecondList, apart_in, second_list_of, IsPut, IsAhead, handed}
+use Rattle.list_rule.specs.SecondList.{SecondList, apart_in, served_in, last_served, second_list_of, IsPut, IsAhead, handed}
 use Rattle.list_rule.specs.Steps.{IsBoundary, IsCutAs}
 use Rattle.list_rule.proofs.Chains.{put, put_at, put_here, put_else, ends_trans}
 use Rattle.list_rule.proofs.Enters.{own}
@@ -42,8 +42,24 @@ module _ {Q P : Type 0} where
   level_two two = record { groups = two.groups; place = two.place; turn = two.turn; lead = level; done = two.done }
 
   -- the second list is as it was, where another group of c, or none, is apart
-  pub second_put : (two : Two Q P) (c : ℕ) (p : Place Q P) → apart_in p ≡ apart_in (two.place c) → Path (SecondList Q P) (two.groups, two.lead, λ k. apart_in (put two.place c p k)) (second_list_of two)
-  second_put two c p is i = (two.groups, two.lead, λ k. put_at two.place c p (λ j x. apart_in x ≡ apart_in (two.place j)) k (λ e. is ∙ ap (λ j. apart_in (two.place j)) (sym e)) (λ _. refl) i)
+  pub second_put : (two : Two Q P) (c : ℕ) (p : Place Q P) (turn : Turn) → apart_in p ≡ apart_in (two.place c) → last_served (put two.place c p) turn ≡ last_served two.place two.turn → Path (SecondList Q P) (two.groups ++ last_served (put two.place c p) turn, two.lead, λ k. apart_in (put two.place c p k)) (second_list_of two)
+  second_put two c p turn is same i = (two.groups ++ same i, two.lead, λ k. put_at two.place c p (λ j x. apart_in x ≡ apart_in (two.place j)) k (λ e. is ∙ ap (λ j. apart_in (two.place j)) (sym e)) (λ _. refl) i)
+
+  pub apart_same : (place : ℕ → Place Q P) (c : ℕ) (p : Place Q P) → apart_in p ≡ apart_in (place c) → Path (ℕ → Option (Squad Q P)) (λ k. apart_in (put place c p k)) (λ k. apart_in (place k))
+  apart_same place c p is i = λ k. put_at place c p (λ j x. apart_in x ≡ apart_in (place j)) k (λ e. is ∙ ap (λ j. apart_in (place j)) (sym e)) (λ _. refl) i
+
+  -- the group that is served last is the same
+  pub served_put : (place : ℕ → Place Q P) (c : ℕ) (p : Place Q P) → served_in p ≡ served_in (place c) → (turn : Turn) → last_served (put place c p) turn ≡ last_served place turn
+  served_put place c p is still = refl
+  served_put place c p is (calls k) = refl
+  served_put place c p is (held_by k) = refl
+  served_put place c p is (passes k w) = put_at place c p (λ j x. served_in x ≡ served_in (place j)) k (λ e. is ∙ ap (λ j. served_in (place j)) (sym e)) (λ _. refl)
+
+  pub none_served : (place : ℕ → Place Q P) (turn : Turn) → ((k w : ℕ) → turn ≡ passes k w → ⊥) → last_served place turn ≡ []
+  none_served place still un = refl
+  none_served place (calls k) un = refl
+  none_served place (held_by k) un = refl
+  none_served place (passes k w) un = absurd (un k w refl)
 
   pub apart_put : (place : ℕ → Place Q P) (c : ℕ) (p : Place Q P) → IsPut c (apart_in p) (λ k. apart_in (place k)) (λ k. apart_in (put place c p k))
   apart_put place c p = (ap apart_in (put_here place c p), λ k ne. ap apart_in (put_else place c p k ne))
@@ -55,6 +71,7 @@ module _ {Q P : Type 0} where
   behind_apart g (queued f) ok = refl
   behind_apart g (called f) ok = refl
   behind_apart g (serves f) ok = absurd ok
+  behind_apart g (served f) ok = absurd ok
 
   pub in_apart : (g : Squad Q P) (p : Place Q P) → In g p → apart_in p ≡ none
   in_apart g away ok = absurd ok
@@ -62,10 +79,11 @@ module _ {Q P : Type 0} where
   in_apart g (queued f) ok = refl
   in_apart g (called f) ok = refl
   in_apart g (serves f) ok = refl
+  in_apart g (served f) ok = absurd ok
 
   -- a group is cut off for the second list
   pub is_boundary : (two : Two Q P) (c : ℕ) (g : Squad Q P) (k k' : Core Q P) → k' ≡ k → k.1 ≡ grouped g.own g.rest → two.place c ≡ away → g.own.by ≡ c → IsBoundary c g (k, second_list_of two) (k', second_list_of (parts_two two c g 0))
-  is_boundary two c g k k' same is there own = (own, is, ap apart_in there, same, refl, refl, apart_put two.place c (parted g 0))
+  is_boundary two c g k k' same is there own = (own, is, ap apart_in there, same, ap (λ l. two.groups ++ l) (served_put two.place c (parted g 0) (sym (ap served_in there)) two.turn), refl, apart_put two.place c (parted g 0))
 
   pub parts_else : (two : Two Q P) (c : ℕ) (g : Squad Q P) (d k : ℕ) → k ≢ c → (b : Back Q P) → KnowsBack two k b → KnowsBack (parts_two two c g d) k b
   parts_else two c g d k ne = back_map two (parts_two two c g d) k (put_else two.place c (parted g d) k ne) (λ h. (h, ([], refl))) (λ w h. (h, refl)) (λ h. h) (λ h. h)

@@ -96,6 +96,7 @@ module _ {Q P L M : Type 0} (stands : Laws Q P L M) (n : ℕ) where
           within = tt;
           members = tt;
           parts = λ c g b bad. absurd (cc);
+          outgoing = λ c g bad. absurd (cc);
           turn_is = (refl, (rt, ap (λ z. get_elem? (map some z) (n + 1)) are ∙ (ap (λ j. get_elem? (map some (Log l ∷ (replicate n Empty ++ Right rt ∷ []))) j) (let e : n + 1 ≡ suc n = omega arith in e) ∙ replicate_last n Empty (Right rt)), right_stood));
           in_front = λ c h. absurd h;
           quiet = λ c h _. absurd h;

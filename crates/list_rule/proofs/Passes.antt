@@ -22,17 +22,17 @@ use Rattle.list_rule.specs.declared.content.Content.TheVariants.{Right}
 use Rattle.list_rule.specs.declared.view.Stage.{Stage}
 use Rattle.list_rule.specs.declared.view.Stage.TheVariants.{Idle, Preparing, Waiting, Fresh, Leading, Cutting, Marking, Settling, Collecting}
 use Rattle.list_rule.specs.Chain.{state_at, older_at, pack, newest, LinksFrom, Absent}
-use Rattle.list_rule.specs.Standing.{Phase, linked, chosen, leads, Mode, open_, waits, led, built, cut, marked, base_of, Holds, InFront, Place, away, parted, queued, called, serves, calls, held_by, passes, ahead, Two, line_of, flat, Behind, KnowsBack}
+use Rattle.list_rule.specs.Standing.{Phase, linked, chosen, leads, Mode, open_, waits, led, built, cut, marked, base_of, Holds, InFront, Place, away, parted, queued, called, serves, served, calls, held_by, passes, ahead, Two, line_of, flat, Behind, KnowsBack}
 use Rattle.list_rule.specs.Laws.{Laws}
 use Rattle.list_rule.specs.Rule.{Knows, AllFit, hold_at, InPhase, InMode, Listed, InTurn, Second}
 use Rattle.list_rule.specs.Steps.{Stays, HappensWhere, IsSecond, now_of, IsNow, StepIs}
-use Rattle.list_rule.specs.SecondList.{apart_in, second_list_of}
+use Rattle.list_rule.specs.SecondList.{apart_in, served_in, last_served, second_list_of}
 use Rattle.list_rule.specs.Plays.{Sat, AtWith, ending, aimed_second, joined, summoned, peeked, IsCut}
 use Rattle.list_rule.proofs.Chains.{put, put_here, put_else, links_stay, links_same, newest_small}
 use Rattle.list_rule.proofs.Groups.{absent_append, linked_out, taken_absent}
 use Rattle.list_rule.proofs.Moves.{St, Homes, row_stays, Goes, allows, unmoved}
 use Rattle.list_rule.proofs.Seconds.{is_level, one_ahead, one_holder, second_aims, second_behind, second_alone, second_serves, snoc_some, none_first}
-use Rattle.list_rule.proofs.Onward.{back_map, parts_two, parts_else, one_hold_at, second_put, apart_put, behind_apart}
+use Rattle.list_rule.proofs.Onward.{back_map, parts_two, parts_else, one_hold_at, second_put, served_put, none_served, apart_put, behind_apart}
 
 module _ {Q P : Type 0} where
   abbrev pub squad_of : Squad Q P → Back Q P → Squad Q P
@@ -63,6 +63,7 @@ module _ {Q P : Type 0} where
   behind_called g (queued f) ok un = absurd (un f refl)
   behind_called g (called f) ok un = ap called ok
   behind_called g (serves f) ok un = absurd ok
+  behind_called g (served f) ok un = absurd ok
 
 module _ {Q P L M : Type 0} (stands : Laws Q P L M) (n : ℕ) where
   -- only the log's slot matters to the mode
@@ -182,7 +183,7 @@ module _ {Q P L M : Type 0} (stands : Laws Q P L M) (n : ℕ) where
         (
           now_of stands n s r,
           refl,
-          passed s r id ws s.homes c st mine (Parting g b0) (Parting g b) two' (second_put r.two c (parted g b) (sym (ap apart_in fit.5.0))) record {
+          passed s r id ws s.homes c st mine (Parting g b0) (Parting g b) two' (second_put r.two c (parted g b) r.two.turn (sym (ap apart_in fit.5.0)) (served_put r.two.place c (parted g b) (sym (ap served_in fit.5.0)) r.two.turn)) record {
             at = at';
             wide = length-set s.words k new;
             many = refl;
@@ -249,7 +250,7 @@ module _ {Q P L M : Type 0} (stands : Laws Q P L M) (n : ℕ) where
           tt,
           (
             ((now_of stands n s r).0, second_list_of two'),
-            ((λ _. (ap apart_in fit.5.0, is_level r.two.lead (λ k t. fit.5.1 (t ∙ ap ahead (one_holder r.mode k c (r.second.ahead_holds k t) kn.0))), refl, refl, refl, apart_put r.two.place c (queued g'))), λ miss. absurd (miss hit)),
+            ((λ _. (ap apart_in fit.5.0, is_level r.two.lead (λ k t. fit.5.1 (t ∙ ap ahead (one_holder r.mode k c (r.second.ahead_holds k t) kn.0))), refl, ap (λ l. (g' ∷ r.two.groups) ++ l) (served_put r.two.place c (queued g') (sym (ap served_in fit.5.0)) r.two.turn), refl, apart_put r.two.place c (queued g'))), λ miss. absurd (miss hit)),
             passed_to s r id ws s.homes c st mine (Parting g b) (Joining g') two' record {
               at = at';
               wide = length-set s.words 1 new;
@@ -290,7 +291,7 @@ module _ {Q P L M : Type 0} (stands : Laws Q P L M) (n : ℕ) where
           al.0.1,
           (
             ((now_of stands n s r).0, second_list_of two'),
-            ((λ _. (ap apart_in fit.5.0, is_level r.two.lead (λ k t. fit.5.1 (t ∙ ap ahead (one_holder r.mode k c (r.second.ahead_holds k t) kn.0))), refl, refl, refl, apart_put r.two.place c (serves g'))), λ miss. absurd (miss hit)),
+            ((λ _. (ap apart_in fit.5.0, is_level r.two.lead (λ k t. fit.5.1 (t ∙ ap ahead (one_holder r.mode k c (r.second.ahead_holds k t) kn.0))), refl, ap (λ l. (g' ∷ r.two.groups) ++ l) (sym (none_served r.two.place r.two.turn nobody_passes)), refl, apart_put r.two.place c (serves g'))), λ miss. absurd (miss hit)),
             passed_to s r id ws hs c st mine (Parting g b) (Holding g') two' record {
               at = at';
               wide = length-set s.words 1 new;
@@ -343,7 +344,7 @@ module _ {Q P L M : Type 0} (stands : Laws Q P L M) (n : ℕ) where
       let hs = set s.homes (n + 1) none in
       let home_else : (j : ℕ) → j ≤ n → get_elem? hs j ≡ get_elem? s.homes j = λ j small. set_else s.homes (n + 1) j none (λ e. omega arith) in
       let two' : Two Q P = record { groups = r.two.groups; place = put r.two.place c (serves g); turn = held_by c; lead = r.two.lead; done = r.two.done } in
-      let after : IsNow stands n (now_of stands n s r) (record { words = s.words; homes = hs; views = set s.views id (hold_at c st mine (Serving g []) ∷ []) }) = passed s r id s.words hs c st mine (Queued g) (Serving g []) two' (second_put r.two c (serves g) (sym (behind_apart g (r.two.place c) fit.5.0))) record {
+      let after : IsNow stands n (now_of stands n s r) (record { words = s.words; homes = hs; views = set s.views id (hold_at c st mine (Serving g []) ∷ []) }) = passed s r id s.words hs c st mine (Queued g) (Serving g []) two' (second_put r.two c (serves g) (held_by c) (sym (behind_apart g (r.two.place c) fit.5.0)) (sym (ap (last_served r.two.place) turn_c))) record {
         at = at';
         wide = refl;
         many = length-set s.homes (n + 1) none;

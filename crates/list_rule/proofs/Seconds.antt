@@ -10,9 +10,9 @@ use Rattle.list_rule.specs.declared.view.Squad.{Squad}
 use Rattle.list_rule.specs.declared.content.Content.{Content}
 use Rattle.list_rule.specs.declared.content.Content.TheVariants.{Right}
 use Rattle.list_rule.specs.Chain.{state_at, older_at, pack, newest, Links, LinksFrom, Absent, Distinct, Within}
-use Rattle.list_rule.specs.Standing.{Phase, leads, taken, Mode, Holds, InFront, open_, waits, led, built, cut, marked, Place, away, parted, queued, called, serves, Turn, still, calls, held_by, passes, Lead2, level, ahead, Two, line_of, flat, In, Behind, Apart, Chained, InStep}
+use Rattle.list_rule.specs.Standing.{Phase, leads, taken, Mode, Holds, InFront, open_, waits, led, built, cut, marked, Place, away, parted, queued, called, serves, served, Turn, still, calls, held_by, passes, Lead2, level, ahead, Two, line_of, flat, In, Behind, Apart, Chained, InStep}
 use Rattle.list_rule.specs.Laws.{Laws}
-use Rattle.list_rule.specs.Rule.{AllWith, AllGroups, RightHome, Level, InTurn, Parts, Second}
+use Rattle.list_rule.specs.Rule.{AllWith, AllGroups, IsLed, RightHome, Level, InTurn, Parts, Second}
 use Rattle.list_rule.proofs.Chains.{put, put_at, put_here, put_else, links_stay, links_same, nobody}
 use Rattle.list_rule.proofs.Groups.{distinct_apart, distinct_front, absent_front, absent_back, absent_append, within_front, within_at, links_cut, newest_cut, none_before_group}
 use Rattle.list_rule.proofs.Keeps.{in_not_away, groups_at}
@@ -45,6 +45,7 @@ module _ {Q P : Type 0} where
   squad_in d (queued f) = f
   squad_in d (called f) = f
   squad_in d (serves f) = f
+  squad_in d (served f) = f
 
   abbrev base_in : ℕ → Place Q P → ℕ
   base_in d away = d
@@ -52,6 +53,7 @@ module _ {Q P : Type 0} where
   base_in d (queued f) = d
   base_in d (called f) = d
   base_in d (serves f) = d
+  base_in d (served f) = d
 
   abbrev head_or : Squad Q P → List (Squad Q P) → Squad Q P
   head_or d [] = d
@@ -67,6 +69,7 @@ module _ {Q P : Type 0} where
   in_one g h (queued f) a b = sym a ∙ b
   in_one g h (called f) a b = sym a ∙ b
   in_one g h (serves f) a b = sym a ∙ b
+  in_one g h (served f) a b = absurd a
 
   pub behind_in : (g : Squad Q P) (p : Place Q P) → Behind g p → In g p
   behind_in g away a = a
@@ -74,12 +77,16 @@ module _ {Q P : Type 0} where
   behind_in g (queued f) a = a
   behind_in g (called f) a = a
   behind_in g (serves f) a = absurd a
+  behind_in g (served f) a = absurd a
 
   pub one_parted : (g h : Squad Q P) (a b : ℕ) → Path (Place Q P) (parted g a) (parted h b) → (g ≡ h) × (a ≡ b)
   one_parted g h a b e = (ap (squad_in g) e, ap (base_in a) e)
 
   pub one_called : (g h : Squad Q P) → Path (Place Q P) (called g) (called h) → g ≡ h
   one_called g h e = ap (squad_in g) e
+
+  one_served : (g h : Squad Q P) → Path (Place Q P) (served g) (served h) → g ≡ h
+  one_served g h e = ap (squad_in g) e
 
   pub one_serves : (g h : Squad Q P) → Path (Place Q P) (serves g) (serves h) → g ≡ h
   one_serves g h e = ap (squad_in g) e
@@ -268,6 +275,7 @@ module _ {Q P L M : Type 0} (stands : Laws Q P L M) (n : ℕ) where
           members = groups_put phase two.place c p two.groups out r.members;
           parts = λ k f b. put_at two.place c p (λ j q. q ≡ parted f b → Parts stands n words homes phase j f b) k
               (λ is e. let o = one_parted g f 0 b e in subst (λ (z : ℕ × Squad Q P × ℕ). Parts stands n words homes phase z.0 z.1 z.2) (λ i. (sym is i, o.0 i, o.1 i)) (by_c, now, with, linked, apart, inside)) (λ ne e. r.parts k f b e);
+          outgoing = λ k f. put_at two.place c p (λ j q. q ≡ served f → IsLed phase j f) k (λ _ e. absurd (cc)) (λ _ e. r.outgoing k f e);
           turn_is = turn_put words homes phase two.groups two.place two.turn two.lead two.lead two.done c p (λ f e. absurd (cc)) (λ f e. absurd (cc)) two.turn r.turn_is;
           in_front = λ k h. put_at two.place c p (λ j q. InFront j mode → q ≡ away) k (λ is h'. let hh : InFront c mode = subst (λ (j : ℕ). InFront j mode) is h' in absurd (un_front hh)) (λ _ h'. r.in_front k h') h;
           quiet = λ k h. put_at two.place c p (λ j q. Holds j mode → Apart q → get_or words (state_at j) 0 ≢ 4) k (λ is h' _. subst (λ (j : ℕ). Holds j mode → get_or words (state_at j) 0 ≢ 4) (sym is) (λ hc. r.quiet c hc (subst Apart (sym is_away) tt)) h') (λ ne h' a. r.quiet k h' a) h;
@@ -300,6 +308,7 @@ module _ {Q P L M : Type 0} (stands : Laws Q P L M) (n : ℕ) where
               (old.0, old.1, old.2, aim_links words ws c g.rest g.own b0 b older (with_absent phase c c g.rest (no_taken c) old.2) (ap (λ (j : ℕ). get_or ws (older_at j) 0) old.0 ∙ new_link) old.3, old.4, old.5))
               (λ ne e. let q = r.parts k f d e in
               (q.0, q.1, q.2, links_stay d words ws c (line_of f) older (absent_append c f.rest (f.own ∷ []) (with_absent phase c k f.rest (no_taken k) q.2) ((λ e'. ne (sym q.0 ∙ e')), tt)) q.3, q.4, q.5));
+          outgoing = λ k f. put_at two.place c p (λ j q. q ≡ served f → IsLed phase j f) k (λ _ e. absurd (cc)) (λ _ e. r.outgoing k f e);
           turn_is = turn_same words ws homes phase (two_parts c g b) state two.turn (turn_put words homes phase two.groups two.place two.turn two.lead two.lead two.done c p (λ f e. absurd (cc)) (λ f e. absurd (cc)) two.turn r.turn_is);
           in_front = λ k h. put_at two.place c p (λ j q. InFront j mode → q ≡ away) k (λ is h'. let hh : InFront c mode = subst (λ (j : ℕ). InFront j mode) is h' in (let bad : Path (Place Q P) (parted g b0) away = sym is_parted ∙ r.in_front c hh in absurd (cc))) (λ _ h'. r.in_front k h') h;
           quiet = λ k h. put_at two.place c p (λ j q. Holds j mode → Apart q → get_or ws (state_at j) 0 ≢ 4) k (λ is_c h' _. subst (λ (j : ℕ). Holds j mode → get_or ws (state_at j) 0 ≢ 4) (sym is_c) (λ hc e. r.quiet c hc (subst Apart (sym is_parted) tt) (sym (state c) ∙ e)) h') (λ ne h' a e. r.quiet k h' a (sym (state k) ∙ e)) h;
@@ -351,6 +360,7 @@ module _ {Q P L M : Type 0} (stands : Laws Q P L M) (n : ℕ) where
               within = within_append n (line_of g) (flat two.groups) old_parts.5 r.within;
               members = (subst (λ (j : ℕ). phase j ≡ leads g.own) (sym by_c) old_parts.1, subst (λ (j : ℕ). In g (put two.place c p j)) (sym by_c) (subst (In g) (sym (put_here two.place c p)) is_in), subst (λ (j : ℕ). AllWith phase j g.rest) (sym by_c) old_parts.2, groups_put phase two.place c p two.groups out1 r.members);
               parts = λ k h d. put_at two.place c p (λ j q. q ≡ parted h d → Parts stands n ws1 hs phase j h d) k (λ _ e. absurd (un_a (subst Apart (sym e) tt))) (λ _ e. let q = r.parts k h d e in (q.0, q.1, q.2, links_same d words ws1 (line_of h) older q.3, q.4, q.5));
+              outgoing = λ k f. put_at two.place c p (λ j q. q ≡ served f → IsLed phase j f) k (λ _ e. absurd (un_a (subst Apart (sym e) tt))) (λ _ e. r.outgoing k f e);
               turn_is = turn_ok;
               in_front = λ k h. put_at two.place c p (λ j q. InFront j mode → q ≡ away) k (λ is h'. let hh : InFront c mode = subst (λ (j : ℕ). InFront j mode) is h' in (let bad : Path (Place Q P) (parted f b) away = sym is_parted ∙ r.in_front c hh in absurd (cc))) (λ _ h'. r.in_front k h') h;
               quiet = λ k h. put_at two.place c p (λ j q. Apart q → get_or ws1 (state_at j) 0 ≢ 4) k (λ _ a. absurd (un_a a)) (λ _ a e. r.quiet k h a (sym (state k) ∙ e));
@@ -404,6 +414,7 @@ module _ {Q P L M : Type 0} (stands : Laws Q P L M) (n : ℕ) where
               within = r.within;
               members = groups_turn phase two.place c p two.groups (λ f ok. subst (In f) is_called ok) r.members;
               parts = λ k f d. put_at two.place c p (λ j q. q ≡ parted f d → Parts stands n words homes phase j f d) k (λ _ e. absurd (cc)) (λ _ e. r.parts k f d e);
+              outgoing = λ k f. put_at two.place c p (λ j q. q ≡ served f → IsLed phase j f) k (λ _ e. absurd (cc)) (λ _ e. r.outgoing k f e);
               turn_is = (t.0.0, t.0.1, t.0.2, put_here two.place c p ∙ ap serves (sym same), t.0.4);
               in_front = λ k h. put_at two.place c p (λ j q. InFront j mode → q ≡ away) k (λ is h'. let hh : InFront c mode = subst (λ (j : ℕ). InFront j mode) is h' in (let bad : Path (Place Q P) (called g) away = sym is_called ∙ r.in_front c hh in absurd (cc))) (λ _ h'. r.in_front k h') h;
               quiet = λ k h. put_at two.place c p (λ j q. Apart q → get_or words (state_at j) 0 ≢ 4) k (λ _ a. absurd a) (λ _ a. r.quiet k h a);
@@ -445,6 +456,7 @@ module _ {Q P L M : Type 0} (stands : Laws Q P L M) (n : ℕ) where
             within = tt;
             members = tt;
             parts = λ k f d. put_at two.place c p (λ j q. q ≡ parted f d → Parts stands n ws homes phase j f d) k (λ _ e. absurd (cc)) (λ _ e. let q = r.parts k f d e in (q.0, q.1, q.2, links_same d words ws (line_of f) (λ j. same1 (older_at j) (λ e'. omega arith)) q.3, q.4, q.5));
+            outgoing = λ k f. put_at two.place c p (λ j q. q ≡ served f → IsLed phase j f) k (λ _ e. absurd (cc)) (λ _ e. r.outgoing k f e);
             turn_is = (refl, (m, set_here homes (n + 1) (some (Right m)) (omega arith), stood));
             in_front = λ k h. put_at two.place c p (λ j q. InFront j mode → q ≡ away) k (λ is h'. let hh : InFront c mode = subst (λ (j : ℕ). InFront j mode) is h' in (let bad : Path (Place Q P) (serves g) away = sym is_serves ∙ r.in_front c hh in absurd (cc))) (λ _ h'. r.in_front k h') h;
             quiet = λ k h. put_at two.place c p (λ j q. Holds j mode → Apart q → get_or ws (state_at j) 0 ≢ 4) k (λ is h' _. absurd (un_holds (subst (λ (j : ℕ). Holds j mode) is h'))) (λ _ h' a e. r.quiet k h' a (sym (state k) ∙ e)) h;
@@ -456,7 +468,7 @@ module _ {Q P L M : Type 0} (stands : Laws Q P L M) (n : ℕ) where
 
       -- somebody came: the link of the next group's leader is cleared
       abbrev pub two_clears : ℕ → Squad Q P → ℕ → List (Squad Q P) → Two Q P
-      two_clears c g w newer = record { groups = newer; place = put two.place c away; turn = passes c w; lead = two.lead; done = g.to }
+      two_clears c g w newer = record { groups = newer; place = put two.place c (served g); turn = passes c w; lead = two.lead; done = g.to }
 
       pub second_clears : (c v : ℕ) (g : Squad Q P) (q : List (Entry Q)) (x : Entry Q) → two.turn ≡ held_by c → two.place c ≡ serves g → two.lead ≢ ahead c → (Holds c mode → ⊥) → flat two.groups ≡ q ++ x ∷ line_of g → v ≡ pack 0 x.code → length words ≡ 2 * n + 4
           → (newer : List (Squad Q P)) × (0 < x.by) × (x.by ≤ n) × (phase x.by ≡ leads x) × (two.place x.by ≢ away) × Second stands n (set words (older_at x.by) v) homes phase mode last (two_clears c g x.by newer) × (two.groups ≡ newer ++ g ∷ [])
@@ -483,7 +495,9 @@ module _ {Q P L M : Type 0} (stands : Laws Q P L M) (n : ℕ) where
           let samew : (j : ℕ) → j ≢ older_at x.by → get_or ws j 0 ≡ get_or words j 0 = λ j ne. get_or-set_other words (older_at x.by) j v 0 (λ e. ne (omega arith)) in
           let older : (j : ℕ) → j ≢ x.by → get_or ws (older_at j) 0 ≡ get_or words (older_at j) 0 = λ j ne. samew (older_at j) (λ e. ne (omega arith)) in
           let state : (j : ℕ) → get_or ws (state_at j) 0 ≡ get_or words (state_at j) 0 = λ j. samew (state_at j) (λ e. omega arith) in
-          let p : Place Q P = away in (
+          let own_at = groups_at phase two.place newer t.1 (subst (AllGroups phase two.place) t.2 r.members) in
+          let led_c : IsLed phase c g = subst (IsLed phase c) same (t.4, subst (λ (j : ℕ). phase j ≡ leads t.1.own) t.4 own_at.0, subst (λ (j : ℕ). AllWith phase j t.1.rest) t.4 own_at.2) in
+          let p : Place Q P = served g in (
             newer,
             lo,
             hi,
@@ -504,6 +518,7 @@ module _ {Q P L M : Type 0} (stands : Laws Q P L M) (n : ℕ) where
                 z.4,
                 z.5,
               ));
+              outgoing = λ k f. put_at two.place c p (λ j q. q ≡ served f → IsLed phase j f) k (λ is e. subst (λ (z : ℕ × Squad Q P). IsLed phase z.0 z.1) (λ i. (sym is i, one_served g f e i)) led_c) (λ _ e. r.outgoing k f e);
               turn_is = (next.0, g2, next.2, ap (λ (y : Entry Q). y.by) own_x);
               in_front = λ k h. put_at two.place c p (λ j q. InFront j mode → q ≡ away) k (λ is h'. let hh : InFront c mode = subst (λ (j : ℕ). InFront j mode) is h' in (let bad : Path (Place Q P) (serves g) away = sym is_serves ∙ r.in_front c hh in absurd (cc))) (λ _ h'. r.in_front k h') h;
               quiet = λ k h. put_at two.place c p (λ j z. Holds j mode → Apart z → get_or ws (state_at j) 0 ≢ 4) k (λ is h' _. absurd (un_holds (subst (λ (j : ℕ). Holds j mode) is h'))) (λ _ h' a e. r.quiet k h' a (sym (state k) ∙ e)) h;
@@ -514,6 +529,33 @@ module _ {Q P L M : Type 0} (stands : Laws Q P L M) (n : ℕ) where
             },
             t.2 ∙ ap (λ (f : Squad Q P). newer ++ f ∷ []) same,
           )
+
+    -- who gives the right on is in no list any more
+    abbrev pub two_ends : ℕ → Two Q P
+    two_ends c = record { groups = two.groups; place = put two.place c away; turn = two.turn; lead = two.lead; done = two.done }
+
+    pub second_ends : (c : ℕ) (g : Squad Q P) → two.place c ≡ served g → Second stands n words homes phase mode last (two_ends c)
+    second_ends c g is_served =
+        let led_c : IsLed phase c g = r.outgoing c g is_served in
+        let out : Absent c (flat two.groups) = absent_groups phase two.place c two.groups (λ f t. subst (In f) is_served t) (λ k e bad. let was : phase c ≡ leads g.own = led_c.1 in absurd (cc)) r.members in
+        let p : Place Q P = away in
+        record {
+          newest_is = r.newest_is;
+          links = r.links;
+          distinct = r.distinct;
+          within = r.within;
+          members = groups_put phase two.place c p two.groups out r.members;
+          parts = λ k f b. put_at two.place c p (λ j q. q ≡ parted f b → Parts stands n words homes phase j f b) k (λ _ e. absurd (cc)) (λ _ e. r.parts k f b e);
+          outgoing = λ k f. put_at two.place c p (λ j q. q ≡ served f → IsLed phase j f) k (λ _ e. absurd (cc)) (λ _ e. r.outgoing k f e);
+          turn_is = turn_put words homes phase two.groups two.place two.turn two.lead two.lead two.done c p
+              (λ f e. let bad : Path (Place Q P) (served g) (called f) = sym is_served ∙ e in absurd (cc)) (λ f e. let bad : Path (Place Q P) (served g) (serves f) = sym is_served ∙ e in absurd (cc)) two.turn r.turn_is;
+          in_front = λ k h. put_at two.place c p (λ j q. InFront j mode → q ≡ away) k (λ _ _. refl) (λ _ h'. r.in_front k h') h;
+          quiet = λ k h. put_at two.place c p (λ j q. Holds j mode → Apart q → get_or words (state_at j) 0 ≢ 4) k (λ is h' _. subst (λ (j : ℕ). Holds j mode → get_or words (state_at j) 0 ≢ 4) (sym is) (λ hc. r.quiet c hc (subst Apart (sym is_served) tt)) h') (λ ne h' a. r.quiet k h' a) h;
+          quiet_queued = λ k f. put_at two.place c p (λ j q. q ≡ queued f → get_or words (state_at j) 0 ≢ 4) k (λ _ e. absurd (cc)) (λ _ e. r.quiet_queued k f e);
+          called_turn = λ k f. put_at two.place c p (λ j q. q ≡ called f → two.turn ≡ calls j) k (λ _ e. absurd (cc)) (λ _ e. r.called_turn k f e);
+          ahead_holds = r.ahead_holds;
+          in_level = level_put two.groups two.place (put two.place c p) two.turn two.turn two.lead two.done last stands.piped r.in_level;
+        }
 
     -- the next leader is told, and the right goes home for it
     abbrev pub two_calls : ℕ → Squad Q P → Two Q P
@@ -547,6 +589,7 @@ module _ {Q P L M : Type 0} (stands : Laws Q P L M) (n : ℕ) where
             within = r.within;
             members = groups_turn phase two.place w p two.groups (λ f ok. in_one g f (two.place w) is_in ok) r.members;
             parts = λ k f d. put_at two.place w p (λ j q. q ≡ parted f d → Parts stands n ws homes phase j f d) k (λ _ e. absurd (cc)) (λ _ e. let q = r.parts k f d e in (q.0, q.1, q.2, links_same d words ws (line_of f) older q.3, q.4, q.5));
+            outgoing = λ k f. put_at two.place w p (λ j q. q ≡ served f → IsLed phase j f) k (λ _ e. absurd (cc)) (λ _ e. r.outgoing k f e);
             turn_is = ((t.0, g, t.2, put_here two.place w p, t.3, get_or-set_same words (state_at w) 4 0 (omega arith)), (m, set_here homes (n + 1) (some (Right m)) (omega arith), stood));
             in_front = λ k h. put_at two.place w p (λ j q. InFront j mode → q ≡ away) k (λ is h'. let hh : InFront w mode = subst (λ (j : ℕ). InFront j mode) is h' in absurd (in_not_away g (two.place w) is_in (r.in_front w hh))) (λ _ h'. r.in_front k h') h;
             quiet = λ k h. put_at two.place w p (λ j q. Apart q → get_or ws (state_at j) 0 ≢ 4) k (λ _ a. absurd a) (λ ne a e. r.quiet k h a (sym (state k ne) ∙ e));
@@ -574,6 +617,7 @@ module _ {Q P L M : Type 0} (stands : Laws Q P L M) (n : ℕ) where
           within = r.within;
           members = r.members;
           parts = r.parts;
+          outgoing = r.outgoing;
           turn_is = turn_lead words homes phase two.groups two.place two.turn two.lead level two.done two.turn r.turn_is;
           in_front = r.in_front;
           quiet = r.quiet;

@@ -19,20 +19,20 @@ use Rattle.list_rule.specs.declared.content.Content.TheVariants.{Right}
 use Rattle.list_rule.specs.declared.view.Stage.{Stage}
 use Rattle.list_rule.specs.declared.view.Stage.TheVariants.{Settling}
 use Rattle.list_rule.specs.Chain.{state_at, older_at, pack, newest, Links, Absent, Distinct, Within}
-use Rattle.list_rule.specs.Standing.{Phase, leads, taken, base_of, away, called, Turn, still, calls, serves, held_by, passes, Two, line_of, flat, In, Behind, KnowsBack}
+use Rattle.list_rule.specs.Standing.{Phase, leads, taken, base_of, away, called, Turn, still, calls, serves, served, held_by, passes, Two, line_of, flat, In, Behind, KnowsBack}
 use Rattle.list_rule.specs.Laws.{Laws}
 use Rattle.list_rule.specs.Rule.{AllOwed, hold_at, InPhase, Listed, InTurn, Second}
-use Rattle.list_rule.specs.Steps.{Stays, HappensWhere, IsServedOut, now_of, IsNow, StepIs}
-use Rattle.list_rule.specs.SecondList.{SecondList, apart_in, second_list_of}
+use Rattle.list_rule.specs.Steps.{Lists, Stays, HappensWhere, IsServedOut, now_of, IsNow, StepIs}
+use Rattle.list_rule.specs.SecondList.{SecondList, apart_in, served_in, last_served, second_list_of}
 use Rattle.list_rule.specs.Plays.{Sat, AtWith, debt, WalksSecond, left_second, traced_second, cleared_second, called_next, kept}
 use Rattle.list_rule.proofs.Chains.{put, put_here, put_else, links_stay, links_same}
 use Rattle.list_rule.proofs.Groups.{links_at, walk_bound}
 use Rattle.list_rule.proofs.Leads.{all_below, middle, same_last, snoc}
-use Rattle.std.proofs.lemmas.List.{append_cancel_right}
+use Rattle.std.proofs.lemmas.List.{append_cancel_right, append-nil}
 use Rattle.list_rule.proofs.Moves.{St, row_stays, Goes, allows, unmoved}
-use Rattle.list_rule.proofs.Seconds.{one_serves, flat_snoc, in_one, behind_in, second_stops, second_clears, second_calls, one_group}
+use Rattle.list_rule.proofs.Seconds.{one_serves, flat_snoc, in_one, behind_in, second_stops, second_clears, second_ends, second_calls, one_group}
 use Rattle.list_rule.proofs.Keeps.{in_not_away, second_stays}
-use Rattle.list_rule.proofs.Onward.{back_map, one_hold_at, second_put, in_apart}
+use Rattle.list_rule.proofs.Onward.{back_map, one_hold_at, apart_same, in_apart}
 use Rattle.list_rule.proofs.Settles.{debt_in, no_log}
 use Rattle.list_rule.proofs.Passes.{squad_of, out_of_line, rows_else, passed, passed_to}
 
@@ -54,7 +54,7 @@ module _ {Q P : Type 0} where
   call_back two z c w g is_in turn_c here same (Holding f) ok = let bad : passes c w ≡ held_by w = sym turn_c ∙ ok.0 in absurd (cc)
   call_back two z c w g is_in turn_c here same (Queued f) ok = (subst (Behind f) (sym here) (in_one g f (two.place w) is_in (behind_in f (two.place w) ok.0)), λ e. ok.1 (sym same ∙ e))
   call_back two z c w g is_in turn_c here same (Serving f walk) ok = let bad : passes c w ≡ held_by w = sym turn_c ∙ ok.0 in absurd (cc)
-  call_back two z c w g is_in turn_c here same (Passing f x) ok = absurd (in_not_away g (two.place w) is_in ok.1)
+  call_back two z c w g is_in turn_c here same (Passing f x) ok = absurd (subst (In g) ok.1 is_in)
 
 abbrev passes_of : ℕ → Turn → ℕ
 passes_of d still = d
@@ -135,7 +135,7 @@ module _ {Q P L M : Type 0} (stands : Laws Q P L M) (n : ℕ) where
         hold_at c st mine Away ∷ [],
         gives,
         tt,
-        (((now_of stands n s r).0, second_list_of two'), ((λ _. (served_by s r c g fit.5.0 fit.5.1, one_group stands n s.words s.homes r.phase r.mode (stands.given r.handled) r.two r.second piped c g fit.5.0 fit.5.1 (hit ∙ is_old), refl, refl, ap (λ (p : SecondList Q P). p.2) (second_put r.two c away (sym (ap apart_in fit.5.1))))), λ miss. absurd (miss hit)), subst (λ (z : List (ℕ × Content Q P L M)). IsNow stands n ((now_of stands n s r).0, second_list_of two') (stepped s 1 0 id z (hold_at c st mine Away ∷ []) gives)) (sym slot) (subst (λ (j : ℕ). IsNow stands n ((now_of stands n s r).0, second_list_of two') (record { words = ws; homes = set s.homes j (some (Right right)); views = set s.views id (hold_at c st mine Away ∷ []) })) (sym k_is) after)),
+        (((now_of stands n s r).0, second_list_of two'), ((λ _. (served_by s r c g fit.5.0 fit.5.1, ap (λ t. r.two.groups ++ last_served r.two.place t) fit.5.0 ∙ (append-nil r.two.groups ∙ one_group stands n s.words s.homes r.phase r.mode (stands.given r.handled) r.two r.second piped c g fit.5.0 fit.5.1 (hit ∙ is_old)), refl, refl, apart_same r.two.place c away (sym (ap apart_in fit.5.1)))), λ miss. absurd (miss hit)), subst (λ (z : List (ℕ × Content Q P L M)). IsNow stands n ((now_of stands n s r).0, second_list_of two') (stepped s 1 0 id z (hold_at c st mine Away ∷ []) gives)) (sym slot) (subst (λ (j : ℕ). IsNow stands n ((now_of stands n s r).0, second_list_of two') (record { words = ws; homes = set s.homes j (some (Right right)); views = set s.views id (hold_at c st mine Away ∷ []) })) (sym k_is) after)),
         λ c' d' mine' f walk' mid'.
             let e = one_hold_at c c' st (Settling d') mine mine' (Serving g walk) (Serving f walk') me.0 mid mid' in
             ((λ _. ((λ i. hold_at (e.0 i) (e.1 i) (e.2 i) Away ∷ []), refl)), λ miss. absurd (miss hit)),
@@ -185,7 +185,7 @@ module _ {Q P L M : Type 0} (stands : Laws Q P L M) (n : ℕ) where
 
   -- the link of the next group's leader is cleared
   pub clears_second_is : (slots id : ℕ) (me : Sat Q P L M) (c k new : ℕ) (d : Debt Q P) (mine : List (Q × P)) (g : Squad Q P) (walk pre : List (Entry Q)) (x : Entry Q) → stands.piped ≡ true → AtWith c (Settling d) mine (Serving g walk) me → walk ≡ pre ++ x ∷ line_of g → k ≡ older_at x.by → new ≡ pack 0 x.code
-      → StepIs stands n (λ _. IsServedOut c g) slots id me k (λ _. new) (λ _. cleared_second (step slots k new 0 none) me new)
+      → StepIs stands n (λ _. Stays) slots id me k (λ _. new) (λ _. cleared_second (step slots k new 0 none) me new)
   clears_second_is slots id me c k new d mine g walk pre x piped mid is_walk is_word is_new s r long at fits =
       let st : Stage Q P = Settling d in
       let at' : get_elem? s.views id ≡ some (hold_at c st mine (Serving g walk) ∷ []) = at ∙ ap some mid in
@@ -201,14 +201,15 @@ module _ {Q P L M : Type 0} (stands : Laws Q P L M) (n : ℕ) where
       let same : (j : ℕ) → j ≢ k → get_or ws j 0 ≡ get_or s.words j 0 = λ j ne. get_or-set_other s.words k j new 0 (λ e. ne (omega arith)) in
       let older : (j : ℕ) → j ≢ x.by → get_or ws (older_at j) 0 ≡ get_or s.words (older_at j) 0 = λ j ne. same (older_at j) (λ e. ne (omega arith)) in
       let out : Absent x.by r.line = out_of_line stands n s.homes r.line r.hand r.handled r.phase r.due x.by x cl.3 r.mode (λ h. cl.4 (r.second.in_front x.by h)) r.log_is in
-      let two' : Two Q P = record { groups = cl.0; place = put r.two.place c away; turn = passes c x.by; lead = r.two.lead; done = g.to } in (
+      let two' : Two Q P = record { groups = cl.0; place = put r.two.place c (served g); turn = passes c x.by; lead = r.two.lead; done = g.to } in
+      let as_was : Path (SecondList Q P) (second_list_of two') (second_list_of r.two) = λ i. ((ap (λ l. cl.0 ++ l) (ap served_in (put_here r.two.place c (served g))) ∙ (sym cl.6 ∙ (sym (append-nil r.two.groups) ∙ ap (λ t. r.two.groups ++ last_served r.two.place t) (sym fit.5.0)))) i, r.two.lead, apart_same r.two.place c (served g) (sym (ap apart_in fit.5.1)) i) in (
         hold_at c st mine (Passing g x) ∷ [],
         keeps,
         tt,
         (
-          ((now_of stands n s r).0, second_list_of two'),
-          (served_by s r c g fit.5.0 fit.5.1, cl.6, refl, refl, ap (λ (p : SecondList Q P). p.2) (second_put r.two c away (sym (ap apart_in fit.5.1)))),
-          passed_to stands n s r id ws s.homes c st mine (Serving g walk) (Passing g x) two' record {
+          now_of stands n s r,
+          refl,
+          passed stands n s r id ws s.homes c st mine (Serving g walk) (Passing g x) two' as_was record {
             at = at';
             wide = length-set s.words k new;
             many = refl;
@@ -217,8 +218,8 @@ module _ {Q P L M : Type 0} (stands : Laws Q P L M) (n : ℕ) where
             rows = rows_else stands n s.words ws s.homes s.homes r.due r.phase x.by x cl.3 (λ j _. same (state_at j) (λ e. omega arith)) older (λ _ _. refl) r.rows;
             home = refl;
             second = subst (λ (j : ℕ). Second stands n (set s.words j new) s.homes r.phase r.mode (stands.given r.handled) two') (sym is_word) cl.5;
-            back = (refl, put_here r.two.place c away, fit.5.2, refl);
-            else_back = λ j ne. back_map r.two two' j (put_else r.two.place c away j ne) (λ e. absurd (ne (same_turn j c (sym e ∙ fit.5.0)))) (λ w e. let bad : held_by c ≡ passes j w = sym fit.5.0 ∙ e in absurd (cc)) (λ e. e) (λ e. e);
+            back = (refl, put_here r.two.place c (served g), fit.5.2, refl);
+            else_back = λ j ne. back_map r.two two' j (put_else r.two.place c (served g) j ne) (λ e. absurd (ne (same_turn j c (sym e ∙ fit.5.0)))) (λ w e. let bad : held_by c ≡ passes j w = sym fit.5.0 ∙ e in absurd (cc)) (λ e. e) (λ e. e);
           },
         ),
         λ c' d' mine' f walk' pre' x' mid' is_walk' is_word'.
@@ -232,18 +233,19 @@ module _ {Q P L M : Type 0} (stands : Laws Q P L M) (n : ℕ) where
 
   pub clears_second : (slots id : ℕ) (me : Sat Q P L M) (c k new : ℕ) (d : Debt Q P) (mine : List (Q × P)) (g : Squad Q P) (walk pre : List (Entry Q)) (x : Entry Q) → stands.piped ≡ true → AtWith c (Settling d) mine (Serving g walk) me → walk ≡ pre ++ x ∷ line_of g → k ≡ older_at x.by → new ≡ pack 0 x.code
       → Allows (Listed stands n) slots id me k (λ _. new) (λ _. cleared_second (step slots k new 0 none) me new)
-  clears_second slots id me c k new d mine g walk pre x piped mid is_walk is_word is_new = allows stands n (λ _. IsServedOut c g) slots id me k (λ _. new) (λ _. cleared_second (step slots k new 0 none) me new) (clears_second_is slots id me c k new d mine g walk pre x piped mid is_walk is_word is_new)
+  clears_second slots id me c k new d mine g walk pre x piped mid is_walk is_word is_new = allows stands n (λ _. Stays) slots id me k (λ _. new) (λ _. cleared_second (step slots k new 0 none) me new) (clears_second_is slots id me c k new d mine g walk pre x piped mid is_walk is_word is_new)
 
   -- that leader is told, and has the right
   pub calls_next_is : (slots id : ℕ) (me : Sat Q P L M) (c k j0 : ℕ) (st : Stage Q P) (mine : List (Q × P)) (g : Squad Q P) (x : Entry Q) (right : M) (t : List (ℕ × Content Q P L M)) → AtWith c st mine (Passing g x) me → me.1 ≡ (j0, Right right) ∷ t → j0 + 1 ≡ slots → k ≡ state_at x.by → stands.rights right g.to
-      → StepIs stands n (λ _. Stays) slots id me k (λ _. 4) (λ _. called_next (step slots k 4 0 none) me 4)
+      → StepIs stands n (λ _. IsServedOut c g) slots id me k (λ _. 4) (λ _. called_next (step slots k 4 0 none) me 4)
   calls_next_is slots id me c k j0 st mine g x right t mid slot is_last is_word stood s r long at fits =
       let at' : get_elem? s.views id ≡ some (hold_at c st mine (Passing g x) ∷ []) = at ∙ ap some mid in
       let fit = (r.seats id (hold_at c st mine (Passing g x) ∷ []) at').0 in
       let many : length s.homes ≡ n + 2 = r.many in
       let j_is : j0 ≡ n + 1 = last_slot slots j0 s r long is_last in
       let w : ℕ = x.by in
-      let cl = second_calls stands n s.words s.homes r.phase r.mode (stands.given r.handled) r.two r.second c w right fit.5.0 (subst (stands.rights right) (sym fit.5.3) stood) r.wide many in
+      let gone : Two Q P = record { groups = r.two.groups; place = put r.two.place c away; turn = r.two.turn; lead = r.two.lead; done = r.two.done } in
+      let cl = second_calls stands n s.words s.homes r.phase r.mode (stands.given r.handled) gone (second_ends stands n s.words s.homes r.phase r.mode (stands.given r.handled) r.two r.second c g fit.5.1) c w right fit.5.0 (subst (stands.rights right) (sym fit.5.3) stood) r.wide many in
       let lo : 0 < w = cl.2 in
       let hi : w ≤ n = cl.3 in
       let wide : length s.words ≡ 2 * n + 4 = r.wide in
@@ -251,9 +253,10 @@ module _ {Q P L M : Type 0} (stands : Laws Q P L M) (n : ℕ) where
       let hs = set s.homes (n + 1) (some (Right right)) in
       let same : (j : ℕ) → j ≢ k → get_or ws j 0 ≡ get_or s.words j 0 = λ j ne. get_or-set_other s.words k j 4 0 (λ e. ne (omega arith)) in
       let home_else : (j : ℕ) → j ≤ n → get_elem? hs j ≡ get_elem? s.homes j = λ j small. set_else s.homes (n + 1) j (some (Right right)) (λ e. omega arith) in
-      let two' : Two Q P = record { groups = r.two.groups; place = put r.two.place w (called cl.0); turn = calls w; lead = r.two.lead; done = r.two.done } in
-      let other : c ≢ w = λ e. in_not_away cl.0 (r.two.place w) cl.1 (ap r.two.place (sym e) ∙ fit.5.1) in
-      let after : IsNow stands n (now_of stands n s r) (record { words = ws; homes = hs; views = set s.views id (hold_at c st mine Away ∷ []) }) = passed stands n s r id ws hs c st mine (Passing g x) Away two' (second_put r.two w (called cl.0) (sym (in_apart cl.0 (r.two.place w) cl.1))) record {
+      let two' : Two Q P = record { groups = r.two.groups; place = put gone.place w (called cl.0); turn = calls w; lead = r.two.lead; done = r.two.done } in
+      let other : c ≢ w = λ e. in_not_away cl.0 (gone.place w) cl.1 (ap gone.place (sym e) ∙ put_here r.two.place c away) in
+      let now' : Lists Q P = ((now_of stands n s r).0, second_list_of two') in
+      let after : IsNow stands n now' (record { words = ws; homes = hs; views = set s.views id (hold_at c st mine Away ∷ []) }) = passed_to stands n s r id ws hs c st mine (Passing g x) Away two' record {
         at = at';
         wide = length-set s.words k 4;
         many = length-set s.homes (n + 1) (some (Right right));
@@ -262,15 +265,27 @@ module _ {Q P L M : Type 0} (stands : Laws Q P L M) (n : ℕ) where
         rows = rows_else stands n s.words ws s.homes hs r.due r.phase w cl.0.own cl.4 (λ j ne. same (state_at j) (λ e. ne (omega arith))) (λ j _. same (older_at j) (λ e. omega arith)) home_else r.rows;
         home = home_else 0 (omega arith);
         second = subst (λ (j : ℕ). Second stands n (set s.words j 4) hs r.phase r.mode (stands.given r.handled) two') (sym is_word) cl.5;
-        back = (put_else r.two.place w (called cl.0) c other ∙ fit.5.1, fit.5.2);
-        else_back = λ j ne. dite (ℕ_discrete j w)
-            (λ e. subst (λ (i : ℕ). (y : Back Q P) → KnowsBack r.two i y → KnowsBack two' i y) (sym e) (call_back r.two two' c w cl.0 cl.1 fit.5.0 (put_here r.two.place w (called cl.0)) refl))
-            (λ away_w. back_map r.two two' j (put_else r.two.place w (called cl.0) j away_w) (λ e. let bad : passes c w ≡ held_by j = sym fit.5.0 ∙ e in absurd (cc)) (λ v e. absurd (ne (same_pass j c v w (sym e ∙ fit.5.0)))) (λ e. e) (λ e. e));
+        back = (put_else gone.place w (called cl.0) c other ∙ put_here r.two.place c away, fit.5.2);
+        else_back = λ j ne y knows.
+            let later : KnowsBack gone j y = back_map r.two gone j (put_else r.two.place c away j ne) (λ e. (e, ([], refl))) (λ v e. (e, refl)) (λ e. e) (λ e. e) y knows in
+            dite (ℕ_discrete j w)
+            (λ e. subst (λ (i : ℕ). (y : Back Q P) → KnowsBack gone i y → KnowsBack two' i y) (sym e) (call_back gone two' c w cl.0 cl.1 fit.5.0 (put_here gone.place w (called cl.0)) refl) y later)
+            (λ away_w. back_map gone two' j (put_else gone.place w (called cl.0) j away_w) (λ e. let bad : passes c w ≡ held_by j = sym fit.5.0 ∙ e in absurd (cc)) (λ v e. absurd (ne (same_pass j c v w (sym e ∙ fit.5.0)))) (λ e. e) (λ e. e) y later);
       } in (
         hold_at c st mine Away ∷ [],
         gives,
         tt,
-        (now_of stands n s r, refl, subst (λ (z : List (ℕ × Content Q P L M)). IsNow stands n (now_of stands n s r) (stepped s k 4 id z (hold_at c st mine Away ∷ []) gives)) (sym slot) (subst (λ (j : ℕ). IsNow stands n (now_of stands n s r) (record { words = ws; homes = set s.homes j (some (Right right)); views = set s.views id (hold_at c st mine Away ∷ []) })) (sym j_is) after)),
+        (
+          now',
+          (
+            (r.second.outgoing c g fit.5.1).0,
+            ap (λ t. r.two.groups ++ last_served r.two.place t) fit.5.0 ∙ (ap (λ p. r.two.groups ++ served_in p) fit.5.1 ∙ ap (λ l. l ++ g ∷ []) (sym (append-nil r.two.groups))),
+            refl,
+            refl,
+            apart_same gone.place w (called cl.0) (sym (in_apart cl.0 (gone.place w) cl.1)) ∙ apart_same r.two.place c away (sym (ap apart_in fit.5.1)),
+          ),
+          subst (λ (z : List (ℕ × Content Q P L M)). IsNow stands n now' (stepped s k 4 id z (hold_at c st mine Away ∷ []) gives)) (sym slot) (subst (λ (j : ℕ). IsNow stands n now' (record { words = ws; homes = set s.homes j (some (Right right)); views = set s.views id (hold_at c st mine Away ∷ []) })) (sym j_is) after),
+        ),
         λ c' st' mine' f x' mid'.
             let e = one_hold_at c c' st st' mine mine' (Passing g x) (Passing f x') me.0 mid mid' in
             ((λ i. hold_at (e.0 i) (e.1 i) (e.2 i) Away ∷ []), refl),
@@ -278,7 +293,7 @@ module _ {Q P L M : Type 0} (stands : Laws Q P L M) (n : ℕ) where
 
   pub calls_next : (slots id : ℕ) (me : Sat Q P L M) (c k j0 : ℕ) (st : Stage Q P) (mine : List (Q × P)) (g : Squad Q P) (x : Entry Q) (right : M) (t : List (ℕ × Content Q P L M)) → AtWith c st mine (Passing g x) me → me.1 ≡ (j0, Right right) ∷ t → j0 + 1 ≡ slots → k ≡ state_at x.by → stands.rights right g.to
       → Allows (Listed stands n) slots id me k (λ _. 4) (λ _. called_next (step slots k 4 0 none) me 4)
-  calls_next slots id me c k j0 st mine g x right t mid slot is_last is_word stood = allows stands n (λ _. Stays) slots id me k (λ _. 4) (λ _. called_next (step slots k 4 0 none) me 4) (calls_next_is slots id me c k j0 st mine g x right t mid slot is_last is_word stood)
+  calls_next slots id me c k j0 st mine g x right t mid slot is_last is_word stood = allows stands n (λ _. IsServedOut c g) slots id me k (λ _. 4) (λ _. called_next (step slots k 4 0 none) me 4) (calls_next_is slots id me c k j0 st mine g x right t mid slot is_last is_word stood)
 
   -- a member is told to work beside its leader
   pub parallels_is : (slots id : ℕ) (me : Sat Q P L M) (c k : ℕ) (pre post : List (Entry Q × P)) (y : Entry Q × P) (o : Entry Q) (p : P) (mine : List (Q × P)) (b : Back Q P) → AtWith c (Settling (debt (pre ++ y ∷ post) o p)) mine b me → k ≡ state_at y.0.by → y.0.by ≤ n

@@ -40,7 +40,7 @@ use Rattle.list_rule.proofs.Leads.{still_waits, one_lead, lead_in, leader, same_
 one_linked : {Q P : Type 0} (e f : Entry Q) → Path (Phase Q P) (linked e) (linked f) → e ≡ f
 one_linked e f is = cc
 
-one_taker : {Q P : Type 0} (a b : ℕ) (e f : Entry Q) → Path (Phase Q P) (taken a e) (taken b f) → a ≡ b
+pub one_taker : {Q P : Type 0} (a b : ℕ) (e f : Entry Q) → Path (Phase Q P) (taken a e) (taken b f) → a ≡ b
 one_taker a b e f is = cc
 
 module _ {Q P : Type 0} where

@@ -17,7 +17,7 @@ use Rattle.list_rule.specs.declared.view.Stage.{Stage}
 use Rattle.list_rule.specs.declared.view.Stage.TheVariants.{Idle, Preparing, Waiting, Fresh, Leading, Cutting, Marking, Settling, Collecting}
 use Rattle.list_rule.specs.Events.{Event, Held, free, elected, grouped, core_of, Legal}
 use Rattle.list_rule.specs.Chain.{state_at, older_at, newest, newest_from, Links, LinksFrom, Distinct, Within, EndsWith, of, heads}
-use Rattle.list_rule.specs.Standing.{Phase, idle, preparing, linked, chosen, leads, taken, completed, collecting, Mode, open_, waits, led, built, cut, marked, base_of, Holds, InFront, Place, away, parted, queued, called, serves, Turn, still, calls, held_by, passes, ahead, Two, line_of, flat, In, Apart, InStep, KnowsBack}
+use Rattle.list_rule.specs.Standing.{Phase, idle, preparing, linked, chosen, leads, taken, completed, collecting, Mode, open_, waits, led, built, cut, marked, base_of, Holds, InFront, Place, away, parted, queued, called, serves, served, Turn, still, calls, held_by, passes, ahead, Two, line_of, flat, In, Apart, InStep, KnowsBack}
 use Rattle.list_rule.specs.Laws.{Laws}
 -- cited with the words of the rule by those who make the steps
 pub use Rattle.list_rule.specs.Laws.{Unnumbered, given_runs, last_run, logs_from, logs_picked, serves_picked, kept_picked, asks_for, asks_picked}
@@ -52,6 +52,10 @@ module _ {Q P : Type 0} where
   abbrev pub AllWith : (ℕ → Phase Q P) → ℕ → List (Entry Q) → Type 0
   AllWith phase c [] = Unit {0}
   AllWith phase c (e ∷ es) = (phase e.by ≡ taken c e) × AllWith phase c es
+
+  -- the client leads the group, and its members are with it
+  abbrev pub IsLed : (ℕ → Phase Q P) → ℕ → Squad Q P → Type 0
+  IsLed phase c g = (g.own.by ≡ c) × (phase c ≡ leads g.own) × AllWith phase c g.rest
 
   -- each group's members are its leader's
   abbrev pub AllGroups : (ℕ → Phase Q P) → (ℕ → Place Q P) → List (Squad Q P) → Type 0
@@ -213,6 +217,7 @@ module _ {Q P L M : Type 0} (stands : Laws Q P L M) where
       pub within : Within n (flat two.groups)
       pub members : AllGroups phase two.place two.groups
       pub parts : (c : ℕ) (g : Squad Q P) (b : ℕ) → two.place c ≡ parted g b → Parts c g b
+      pub outgoing : (c : ℕ) (g : Squad Q P) → two.place c ≡ served g → IsLed phase c g
       pub turn_is : InTurn two two.turn
       pub in_front : (c : ℕ) → InFront c mode → two.place c ≡ away
       pub quiet : (c : ℕ) → Holds c mode → Apart (two.place c) → slice_index words (state_at c) ≢ 4

@@ -1,10 +1,10 @@
 -- The second list as its events tell of it.
-use Rattle.std.specs.Prelude.{◌≡◌, ◌≢◌, ℕ, List}
+use Rattle.std.specs.Prelude.{◌≡◌, ◌≢◌, ℕ, List, [], ◌∷◌, ◌++◌}
 use mathlib.Core.Option.{Option, none, some}
 use Rattle.list_rule.specs.declared.view.Squad.{Squad}
 use Rattle.list_rule.specs.declared.view.Back.{Back}
 use Rattle.list_rule.specs.declared.view.Back.TheVariants.{Away, Parting, Joining, Holding, Queued, Serving, Passing}
-use Rattle.list_rule.specs.Standing.{Place, away, parted, queued, called, serves, Lead2, level, ahead, Two}
+use Rattle.list_rule.specs.Standing.{Place, away, parted, queued, called, serves, served, Turn, still, calls, held_by, passes, Lead2, level, ahead, Two}
 
 -- its groups, newest first; whose group, which is the newest one, is there while it has the log still; and the group
 -- that a client has cut off from the first list, and that has yet to come into this one
@@ -18,9 +18,25 @@ module _ {Q P : Type 0} where
   apart_in (queued g) = none
   apart_in (called g) = none
   apart_in (serves g) = none
+  apart_in (served g) = none
+
+  abbrev pub served_in : Place Q P → List (Squad Q P)
+  served_in away = []
+  served_in (parted g b) = []
+  served_in (queued g) = []
+  served_in (called g) = []
+  served_in (serves g) = []
+  served_in (served g) = g ∷ []
+
+  -- the group whose link is cut, and whose leader has yet to give the right on
+  abbrev pub last_served : (ℕ → Place Q P) → Turn → List (Squad Q P)
+  last_served place still = []
+  last_served place (calls c) = []
+  last_served place (held_by c) = []
+  last_served place (passes c w) = served_in (place c)
 
   abbrev pub second_list_of : Two Q P → SecondList Q P
-  second_list_of two = (two.groups, two.lead, λ k. apart_in (two.place k))
+  second_list_of two = (two.groups ++ last_served two.place two.turn, two.lead, λ k. apart_in (two.place k))
 
   -- for c it is this now, and for the others as it was
   abbrev pub IsPut : ℕ → Option (Squad Q P) → (ℕ → Option (Squad Q P)) → (ℕ → Option (Squad Q P)) → Type 0

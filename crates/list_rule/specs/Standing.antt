@@ -56,13 +56,15 @@ InFront k (cut c w) = ⊥
 InFront k (marked c) = ⊥
 
 -- where the group of a leader stands: in no list but the first, cut off from that one with this end of its links,
--- behind others in the second, first there and told so, or first with the right
+-- behind others in the second, first there and told so, first with the right, or cut off from the second one too while
+-- its leader has yet to give the right on
 pub data Place (Q P : Type 0) : Type 0 where
   away : Place Q P
   parted : Squad Q P → ℕ → Place Q P
   queued : Squad Q P → Place Q P
   called : Squad Q P → Place Q P
   serves : Squad Q P → Place Q P
+  served : Squad Q P → Place Q P
 
 -- where the right is: at home with no group, at home for the first group, out with its leader, or with one that has cut
 -- its group off and has yet to wake the next
@@ -101,6 +103,7 @@ module _ {Q P : Type 0} where
   In g (queued f) = f ≡ g
   In g (called f) = f ≡ g
   In g (serves f) = f ≡ g
+  In g (served f) = ⊥
 
   -- and has not the right
   abbrev pub Behind : Squad Q P → Place Q P → Type 0
@@ -109,6 +112,7 @@ module _ {Q P : Type 0} where
   Behind g (queued f) = f ≡ g
   Behind g (called f) = f ≡ g
   Behind g (serves f) = ⊥
+  Behind g (served f) = ⊥
 
   -- not yet in the second list, or not any more
   abbrev pub Apart : Place Q P → Type 0
@@ -117,6 +121,7 @@ module _ {Q P : Type 0} where
   Apart (queued f) = ⊥
   Apart (called f) = ⊥
   Apart (serves f) = ⊥
+  Apart (served f) = Unit {0}
 
   -- each group begins with what the older one ends with, the oldest with what the right stands for, and the newest one
   -- ends with this
@@ -138,5 +143,5 @@ module _ {Q P : Type 0} where
   KnowsBack two c (Queued g) = Behind g (two.place c) × (two.lead ≢ ahead c)
   KnowsBack two c (Serving g walk) = (two.turn ≡ held_by c) × (two.place c ≡ serves g) × (two.lead ≢ ahead c)
       × EndsWith (flat two.groups) walk
-  KnowsBack two c (Passing g x) = (two.turn ≡ passes c x.by) × (two.place c ≡ away) × (two.lead ≢ ahead c)
+  KnowsBack two c (Passing g x) = (two.turn ≡ passes c x.by) × (two.place c ≡ served g) × (two.lead ≢ ahead c)
       × (two.done ≡ g.to)

@@ -119,13 +119,13 @@ pub fn second_steps_and_events<Q: Itemized, P: Given, L: Ledger<Q, P, M>, M>()
         → z.pipelined ≡ true → AtWith c (Settling d) mine (Serving g walk) me → walk ≡ newer ++ x ∷ line_of g
         → word ≡ older_at x.by → new ≡ pack 0 x.code
         → StepIs (laws_for Q.item_of L.lawful L.stands L.kept L.number_of P.run_of L.serves z) z.clients
-        (λ _. IsServedOut c g)
+        (λ _. Stays)
         slots id me word (λ _. new) (λ _. cleared_second (step slots word new 0 none) me new) }
     ensures call_next { (z : Start L.About) (slots id word c k : ℕ) (me : Sat Q P L M) (stage : Stage Q P)
         (mine : List (Q × P)) (g : Squad Q P) (x : Entry Q) (right : M) (more : List (ℕ × Content Q P L M))
         → AtWith c stage mine (Passing g x) me → me.1 ≡ (k, Right right) ∷ more → k + 1 ≡ slots
         → word ≡ state_at x.by → L.serves z.about right g.to
-        → StepIs (laws_for Q.item_of L.lawful L.stands L.kept L.number_of P.run_of L.serves z) z.clients (λ _. Stays)
+        → StepIs (laws_for Q.item_of L.lawful L.stands L.kept L.number_of P.run_of L.serves z) z.clients (λ _. IsServedOut c g)
         slots id me word (λ _. 4) (λ _. called_next (step slots word 4 0 none) me 4) }
 {}
 
