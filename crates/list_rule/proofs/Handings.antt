@@ -1,5 +1,5 @@
 -- What a leader's view shows of the lists, in each state in which the rule holds.
-use Rattle.std.proofs.Common.{◌≡◌, ◌⊎◌, inl, inr, ℕ, Bool, true, List, [], ◌∷◌, ◌++◌, refl, sym, ap, ◌∙◌, subst}
+use Rattle.std.proofs.Common.{◌≤◌, length, arith, ◌≡◌, ◌⊎◌, inl, inr, ℕ, Bool, true, List, [], ◌∷◌, ◌++◌, refl, sym, ap, ◌∙◌, subst}
 use Rattle.atomic_table.specs.Table.{State}
 use Rattle.list_rule.specs.declared.view.Entry.{Entry}
 use Rattle.list_rule.specs.declared.view.Handling.{Handling}
@@ -19,7 +19,7 @@ use Rattle.list_rule.specs.Rule.{hold_at, AllGroups, AllTaken, Knows, HasCut, In
 use Rattle.list_rule.specs.Plays.{HandsOn, IsCut, debt}
 use Rattle.list_rule.specs.SecondList.{served_in, last_served}
 use Rattle.list_rule.specs.Steps.{now_of}
-use Rattle.list_rule.specs.Handing.{Sees, IsOwn, IsJoined, IsServed, IsNewestGroup, IsOldestGroup}
+use Rattle.list_rule.specs.Handing.{Sees, IsWalked, IsOwn, IsJoined, IsServed, IsNewestGroup, IsOldestGroup}
 use Rattle.list_rule.proofs.Groups.{absent_append, absent_front, absent_back, taken_absent}
 use Rattle.list_rule.proofs.Leads.{one_leads}
 use Rattle.list_rule.proofs.Seconds.{in_one, behind_in, flat_snoc, with_absent, absent_groups, member_absent}
@@ -138,6 +138,25 @@ module _ {Q P L M : Type 0} (stands : Laws Q P L M) (n : ℕ) (s : State (Conten
       by_mode (cut c w) ok shows has = in_hand_out c has.0 has.1 ok.2 ok.1 has.3
       by_mode (marked c) ok shows has = in_hand_out c has.0 has.1 ok.3 ok.2 has.3
 
+module _ {Q P L M : Type 0} (stands : Laws Q P L M) (n : ℕ) (s : State (Content Q P L M) (List (Hold Q P))) (r : Listed stands n s) where
+  -- the walk of the second list
+  pub walked_is : IsWalked (now_of stands n s r) s.words
+  walked_is = (r.two.groups, last_served r.two.place r.two.turn, refl, few r.two.turn, r.second.newest_is, r.second.links)
+    where
+      one : (p : Place Q P) → length (served_in p) ≤ 1
+      one away = omega arith
+      one (parted f b) = omega arith
+      one (queued f) = omega arith
+      one (called f) = omega arith
+      one (serves f) = omega arith
+      one (served f) = omega arith
+
+      few : (turn : Turn) → length (last_served r.two.place turn) ≤ 1
+      few still = omega arith
+      few (calls k) = omega arith
+      few (held_by k) = omega arith
+      few (passes k w) = one (r.two.place k)
+
 module _ {Q P L M : Type 0} (stands : Laws Q P L M) (n : ℕ) (s : State (Content Q P L M) (List (Hold Q P))) (r : Listed stands n s) (id c : ℕ) (mine : List (Q × P)) where
   no_place : r.two.place c ≡ away → (g : Squad Q P) → In g (r.two.place c) → ⊥
   no_place there g is = subst (In g) there is
@@ -171,11 +190,11 @@ module _ {Q P L M : Type 0} (stands : Laws Q P L M) (n : ℕ) (s : State (Conten
       let now : r.phase g.0.by ≡ taken c g.0 = fit.4.0.0 in (
         not_held stands n s r g.0.by (g.0.asked, g.1) fit.4.0.1 (λ e bad. let no : Path (Phase Q P) (taken c g.0) (linked e) = sym now ∙ bad in absurd (cc)) (λ e bad. let no : Path (Phase Q P) (taken c g.0) (chosen e) = sym now ∙ bad in absurd (cc)),
         in_neither g.0.by (member_absent r.phase r.two.place g.0.by c g.0 r.two.groups now (no_place fit.5.0) r.second.members)
-        (λ d f is.
-        let led_d = r.second.outgoing d f is in
-        absent_append g.0.by f.rest (f.own ∷ [])
-        (with_absent r.phase g.0.by d f.rest (λ e bad. let who : c ≡ d = one_taker c d g.0 e (sym now ∙ bad) in let no : Path (Place Q P) (served f) away = sym is ∙ (ap r.two.place (sym who) ∙ fit.5.0) in absurd (cc)) led_d.2)
-        ((λ own_is. let no : Path (Phase Q P) (taken c g.0) (leads f.own) = sym now ∙ (ap r.phase (sym own_is ∙ led_d.0) ∙ led_d.1) in absurd (cc)), tt)),
+            (λ d f is.
+            let led_d = r.second.outgoing d f is in
+            absent_append g.0.by f.rest (f.own ∷ [])
+            (with_absent r.phase g.0.by d f.rest (λ e bad. let who : c ≡ d = one_taker c d g.0 e (sym now ∙ bad) in let no : Path (Place Q P) (served f) away = sym is ∙ (ap r.two.place (sym who) ∙ fit.5.0) in absurd (cc)) led_d.2)
+            ((λ own_is. let no : Path (Phase Q P) (taken c g.0) (leads f.own) = sym now ∙ (ap r.phase (sym own_is ∙ led_d.0) ∙ led_d.1) in absurd (cc)), tt)),
       )
 
   -- nor is such a leader
@@ -188,9 +207,9 @@ module _ {Q P L M : Type 0} (stands : Laws Q P L M) (n : ℕ) (s : State (Conten
             (not_held stands n s r c (own.asked, p) fit.4.2 (λ e bad. let no : Path (Phase Q P) (leads own) (linked e) = sym now ∙ bad in absurd (cc)) (λ e bad. let no : Path (Phase Q P) (leads own) (chosen e) = sym now ∙ bad in absurd (cc))),
         subst (λ k. Absent k (flat (now_of stands n s r).1.0)) (sym by)
             (in_neither c (absent_groups r.phase r.two.place c r.two.groups (no_place fit.5.0) (λ k e bad. let no : Path (Phase Q P) (leads own) (taken k e) = sym now ∙ bad in absurd (cc)) r.second.members)
-        (λ d f is.
-        let led_d = r.second.outgoing d f is in
-        absent_append c f.rest (f.own ∷ [])
-        (with_absent r.phase c d f.rest (λ e bad. let no : Path (Phase Q P) (leads own) (taken d e) = sym now ∙ bad in absurd (cc)) led_d.2)
-        ((λ own_is. let no : Path (Place Q P) (served f) away = sym is ∙ (ap r.two.place (sym led_d.0 ∙ own_is) ∙ fit.5.0) in absurd (cc)), tt))),
+            (λ d f is.
+            let led_d = r.second.outgoing d f is in
+            absent_append c f.rest (f.own ∷ [])
+            (with_absent r.phase c d f.rest (λ e bad. let no : Path (Phase Q P) (leads own) (taken d e) = sym now ∙ bad in absurd (cc)) led_d.2)
+            ((λ own_is. let no : Path (Place Q P) (served f) away = sym is ∙ (ap r.two.place (sym led_d.0 ∙ own_is) ∙ fit.5.0) in absurd (cc)), tt))),
       )

@@ -28,8 +28,9 @@ module _ {Q P L M : Type 0} (stands : Laws Q P L M) (homes : List (Option (Conte
   LogAtHome (cut c next) = Unit {0}
   LogAtHome (marked c) = Unit {0}
 
--- where the right is: in its slot, and stands for this, where there is no group, or where the oldest group's leader is called
--- and has yet to take it; and else that leader has it, or the one before it, that has left the list and has yet to call
+-- where the right is: in its slot, and stands for this, where there is no group, or where the oldest group's leader is
+-- called and has yet to take it; and else that leader has it, or the one before it, that has left the list and has yet
+-- to call
 module _ {Q P L M : Type 0} (stands : Laws Q P L M) (n : ℕ) (homes : List (Option (Content Q P L M)))
     (groups : List (Squad Q P)) (done : List (Handling Q P)) where
   abbrev pub RightAt : Turn → Type 0
@@ -72,5 +73,6 @@ module _ {Q P L M : Type 0} (stands : Laws Q P L M) where
     pub right : RightAt stands n s.homes groups done turn
     -- a group is ahead of the log while its leader, whose group is the newest one, has yet to give the log on
     pub handed : (c : ℕ) → lead ≡ ahead c → Holds c mode
-    -- each group begins with what the one before it ends with, from what the right stands for to all that was given runs
+    -- each group begins with what the one before it ends with, from what the right stands for to all that was given
+    -- runs
     pub in_order : stands.piped ≡ true → InStep done groups (stands.given handled) lead

@@ -1,5 +1,5 @@
 -- What a leader's view shows of the lists, in each state in which the rule holds.
-use Rattle.std.specs.Prelude.{◌≡◌, ℕ, List, [], ◌∷◌, ◌++◌, slice_index}
+use Rattle.std.specs.Prelude.{◌≡◌, ℕ, ◌≤◌, List, [], ◌∷◌, ◌++◌, length, slice_index}
 use mathlib.Core.Option.{some}
 use lib.ListN.{get_elem?}
 use Rattle.atomic_table.specs.Table.{State}
@@ -61,6 +61,12 @@ module _ {Q P : Type 0} where
   abbrev pub IsOldestGroup : Squad Q P → List ℕ → Type 0
   IsOldestGroup g words = (newer : List (Squad Q P)) × (slice_index words 1 ≡ newest (flat newer ++ line_of g))
       × Links words (flat newer ++ line_of g)
+
+  -- the walk from the newest writer of the second list is its groups, but for an oldest one whose leader has cut it off
+  -- and has yet to give the right on
+  abbrev pub IsWalked : Lists Q P → List ℕ → Type 0
+  IsWalked l words = (walked cut : List (Squad Q P)) × (l.1.0 ≡ walked ++ cut) × (length cut ≤ 1)
+      × (slice_index words 1 ≡ newest (flat walked)) × Links words (flat walked)
 
   -- the client is neither of the group in hand nor in the second list
   abbrev pub IsInNone : ℕ → Lists Q P → Type 0

@@ -58,8 +58,8 @@ module _ {Q P : Type 0} (writer_of : Entry Q → Writer) where
   IsLogOf held lead apart ws (led c) = IsUnlogged held lead apart ws (led c)
   IsLogOf held lead apart ws (in_hand vs) = IsUnlogged held lead apart ws (in_hand vs)
   IsLogOf held lead apart ws (in_log vs) = (vs ≡ ws)
-      × ((own : Entry Q) × (group : List (Entry Q)) × (held ≡ grouped own group) × IsGroupOf writer_of (group ++ own ∷ []) ws)
-      × IsSettled lead apart
+      × ((own : Entry Q) × (group : List (Entry Q)) × (held ≡ grouped own group)
+      × IsGroupOf writer_of (group ++ own ∷ []) ws) × IsSettled lead apart
   IsLogOf held lead apart ws (marked vs) = (vs ≡ ws) × (lead ≡ level)
       × ((g : Squad Q P) × (held ≡ grouped g.own g.rest) × IsGroupOf writer_of (line_of g) ws
       × IsPut g.own.by (some g) (λ _. none) apart)
@@ -68,9 +68,9 @@ module _ {Q P : Type 0} (writer_of : Entry Q → Writer) where
       × IsGroupOf writer_of (group ++ own ∷ []) ws)
 
 module _ {Q P : Type 0} (writer_of : Entry Q → Writer) (reply_of : P → Reply) where
-  -- The core has the same queue, the log where the lists show it, and the same groups in its second queue. Who has been
-  -- handled and hasn't been told is in the core's second queue or has left, with the same reply; beside these, the group
-  -- that is handed on has its answers in the core before the list hands its log on.
+  -- The core has the same queue, the log where the lists show it, and the same groups in its second queue. Who is
+  -- handled and hasn't been told is in that queue or has left, with the same reply for an answer. Beside these is the
+  -- group that is handed on: the list handles it as its leader gives the log on.
   pub record IsPipelinedCoreOf (ws : List Writer) (l : Lists Q P) (half : ListHalf) : Type 0 where
     pub queue : half.queue ≡ core_queue writer_of l.0.0
     pub log : IsLogOf writer_of l.0.1 l.1.1 l.1.2 ws half.log

@@ -71,8 +71,8 @@ onward (Passing g x) = Passing g x
 
 -- what a leader needs that gives the log on: a group that is in the second list was given the runs that it said, one
 -- that is not was given none
-abbrev pub HandsOn : {Q P : Type 0} → Bool → (List (Handling Q P) → List (Handling Q P)) → Back Q P → List (Handling Q P)
-    → List (Handling Q P) → Type 0
+abbrev pub HandsOn : {Q P : Type 0} → Bool → (List (Handling Q P) → List (Handling Q P)) → Back Q P
+    → List (Handling Q P) → List (Handling Q P) → Type 0
 HandsOn piped last Away seen now = piped ≡ true → last now ≡ last seen
 HandsOn piped last (Parting g d) seen now = ⊥
 HandsOn piped last (Joining g) seen now = (piped ≡ true) × (g.to ≡ last now)
@@ -258,8 +258,8 @@ module _ {Q P L M : Type 0} where
       → AtWith c stage mine (Parting g b) m' × (m'.1 ≡ m.1)
 
   -- the group comes into the second list, and its leader takes the right where there was none
-  abbrev pub joined : (M → List (Handling Q P) → Type 0) → List (Handling Q P) → Step (Content Q P L M) → Sat Q P L M → ℕ
-      → Sat Q P L M → Type 0
+  abbrev pub joined : (M → List (Handling Q P) → Type 0) → List (Handling Q P) → Step (Content Q P L M) → Sat Q P L M
+      → ℕ → Sat Q P L M → Type 0
   joined rights to st m r m' = (c : ℕ) (stage : Stage Q P) (mine : List (Q × P)) (g : Squad Q P) (b : ℕ)
       → AtWith c stage mine (Parting g b) m
       → (r ≡ st.first → r ≢ 0 → AtWith c stage mine (Joining (ending g to)) m' × (m'.1 ≡ m.1))
@@ -268,7 +268,8 @@ module _ {Q P L M : Type 0} where
       × (r ≢ st.first → m' ≡ m)
 
   -- a load of the state of a leader whose group is in the second list, behind others at first
-  abbrev pub summoned : (M → List (Handling Q P) → Type 0) → Step (Content Q P L M) → Sat Q P L M → ℕ → Sat Q P L M → Type 0
+  abbrev pub summoned : (M → List (Handling Q P) → Type 0) → Step (Content Q P L M) → Sat Q P L M → ℕ → Sat Q P L M
+      → Type 0
   summoned rights st m r m' = (c : ℕ) (d : Debt Q P) (mine : List (Q × P)) (g : Squad Q P)
       → AtWith c (Settling d) mine (Queued g) m
       → (r ≡ 4 → (right : M) × (k : ℕ) × rights right g.from × AtWith c (Settling d) mine (Serving g []) m'

@@ -202,7 +202,8 @@ module _ {Q P L M : Type 0} (stands : Laws Q P L M) where
         × (two.place c ≡ called g) × (g.own.by ≡ c) × (slice_index words (state_at c) ≡ 4)) × RightHome n homes two.done
     InTurn two (held_by c) = (newer : List (Squad Q P)) × (g : Squad Q P) × (two.groups ≡ newer ++ g ∷ [])
         × (two.place c ≡ serves g) × (g.own.by ≡ c)
-    InTurn two (passes c w) = (newer : List (Squad Q P)) × (g : Squad Q P) × (two.groups ≡ newer ++ g ∷ []) × (g.own.by ≡ w)
+    InTurn two (passes c w) = (newer : List (Squad Q P)) × (g : Squad Q P) × (two.groups ≡ newer ++ g ∷ [])
+        × (g.own.by ≡ w)
 
     -- a group that is cut off from the first list
     abbrev pub Parts : ℕ → Squad Q P → ℕ → Type 0

@@ -10,8 +10,8 @@ pub enum Content<Q, P, L, M> {
     Right(M),
 }
 
-/// What a list of writers is made for: how many clients, the log's number at opening, whether it has the second list, and
-/// what else the law of log and right is about.
+/// What a list of writers is made for: how many clients, the log's number at opening, whether it has the second list,
+/// and what else the law of log and right is about.
 #[derive(Drop)]
 pub struct Start<K> {
     pub clients: u32,

@@ -27,9 +27,9 @@ use crate::rule::{Given, Itemized, Ledger};
 /// what of it its clients haven't been told are those after a list of legal events: somebody links, the oldest writer
 /// is elected, a leader builds its group, a group leaves, and a client is told its reply.
 ///
-/// The walk from the second list's newest writer is its groups, and the leader of the oldest one has the right, or is to
-/// have it. What the groups were given runs for goes on from what the right stands for to all that was, but for the group
-/// of a leader that has yet to give the log on. So groups are served in the order in which the log was written.
+/// The walk from the second list's newest writer is its groups, and the leader of the oldest one has the right, or is
+/// to have it. What the groups were given runs for goes on from what the right stands for to all that was, but for the
+/// group of a leader that has yet to give the log on. So groups are served in the order in which the log was written.
 pub fn between_steps<Q: Itemized, P: Given, L: Ledger<Q, P, M>, M>()
     ensures { (k : Start L.About) (s : State (Content Q P L M) (List (Hold Q P)))
         → Listed (laws_for Q.item_of L.lawful L.stands L.kept L.number_of P.run_of L.serves k) k.clients s

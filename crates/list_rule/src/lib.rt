@@ -57,8 +57,8 @@
 //! | store of 8 to STATE `k` ([`MakeParallel`]) | a leader in the second list | a member may work beside it | |
 //! | compare-exchange of the second NEWEST to 0 ([`LeaveSecond`]) | who has the right | gives the right back | exit of the pipelined stage |
 //! | load of OLDER `k` ([`ReadOlderSecond`]) | who has the right | sees a link of the second list | |
-//! | store of OLDER `k` ([`ClearSecond`]) | who has the right | clears the link of the next group's oldest writer | exit of the pipelined stage |
-//! | store of 4 to STATE `k` ([`CallNext`]) | who had it | gives the right on to that writer | |
+//! | store of OLDER `k` ([`ClearSecond`]) | who has the right | clears the link of the next group's oldest writer | |
+//! | store of 4 to STATE `k` ([`CallNext`]) | who had it | gives the right on to that writer | exit of the pipelined stage |
 //!
 //! A compare-exchange that fails is a load. A seat is made and joined at opening and closing alone, which leaves the
 //! list as it is ([`opening_and_seats`]).

@@ -20,7 +20,7 @@ ghost use Rattle.list_rule.specs.Standing.{line_of};
 ghost use Rattle.list_rule.specs.Laws.{laws_for, logs_picked, given_runs};
 ghost use Rattle.list_rule.specs.Plays.{Sat, At, AtWith, HandsOn, IsCut, parting, in_hand, debt, slots_of, peeked, cut_as, marked_off, woken_on, freed, traced_marked, cut_marked, aimed_second, joined, summoned, kept, left_second, traced_second, cleared_second, called_next};
 ghost use Rattle.list_rule.specs.Steps.{now_of, Stays, HappensWhere, IsBoundary, IsSecond, IsNext, IsServedOut, StepIs};
-ghost use Rattle.list_rule.specs.Handing.{Sees, IsOwn, IsInNone, IsJoined, IsServed, IsNewestGroup, IsOldestGroup};
+ghost use Rattle.list_rule.specs.Handing.{Sees, IsWalked, IsOwn, IsInNone, IsJoined, IsServed, IsNewestGroup, IsOldestGroup};
 ghost use Rattle.list_rule.specs.Events.{grouped};
 ghost use Rattle.list_rule.specs.Rule.{Listed, hold_at};
 ghost use Rattle.list_rule.specs.declared.view.Handling.{Handling};
@@ -36,15 +36,15 @@ pub fn second_steps_and_events<Q: Itemized, P: Given, L: Ledger<Q, P, M>, M>()
     ensures read_newest { (z : Start L.About) (slots id : ℕ) (me : Sat Q P L M)
         → StepIs (laws_for Q.item_of L.lawful L.stands L.kept L.number_of P.run_of L.serves z) z.clients (λ _. Stays)
         slots id me 1 (λ x. x) (peeked (step slots 1 0 0 none) me) }
-    ensures cut_away { (z : Start L.About) (slots id word c new : ℕ) (from : List (Handling Q P)) (me : Sat Q P L M) (lead : Lead Q P)
-        (mine : List (Q × P)) (newer : List (Entry Q)) (x : Entry Q)
+    ensures cut_away { (z : Start L.About) (slots id word c new : ℕ) (from : List (Handling Q P))
+        (me : Sat Q P L M) (lead : Lead Q P) (mine : List (Q × P)) (newer : List (Entry Q)) (x : Entry Q)
         → At c (Leading lead) mine me → lead.taken ≡ lead.group → lead.walk ≡ newer ++ x ∷ in_hand lead
         → word ≡ older_at x.by → new ≡ pack 0 x.code
         → StepIs (laws_for Q.item_of L.lawful L.stands L.kept L.number_of P.run_of L.serves z) z.clients
         (λ _. IsBoundary c (parting lead from))
         slots id me word (λ _. new) (λ _. cut_as (some from) (step slots word new 0 none) me new) }
-    ensures mark { (z : Start L.About) (slots id c member : ℕ) (from : List (Handling Q P)) (me : Sat Q P L M) (lead : Lead Q P)
-        (mine : List (Q × P))
+    ensures mark { (z : Start L.About) (slots id c member : ℕ) (from : List (Handling Q P)) (me : Sat Q P L M)
+        (lead : Lead Q P) (mine : List (Q × P))
         → At c (Leading lead) mine me → lead.taken ≡ lead.group → member ≡ newest (in_hand lead)
         → StepIs (laws_for Q.item_of L.lawful L.stands L.kept L.number_of P.run_of L.serves z) z.clients
         (HappensWhere member (IsBoundary c (parting lead from)))
@@ -85,8 +85,8 @@ pub fn second_steps_and_events<Q: Itemized, P: Given, L: Ledger<Q, P, M>, M>()
         → AtWith c stage mine (Parting g named) me → word ≡ older_at c → new ≡ pack saw g.own.code
         → StepIs (laws_for Q.item_of L.lawful L.stands L.kept L.number_of P.run_of L.serves z) z.clients (λ _. Stays)
         slots id me word (λ _. new) (λ _. aimed_second (step slots word new 0 none) me new) }
-    ensures join_second { (z : Start L.About) (slots id c saw new : ℕ) (to : List (Handling Q P)) (me : Sat Q P L M) (stage : Stage Q P)
-        (lead : Lead Q P) (mine : List (Q × P)) (g : Squad Q P)
+    ensures join_second { (z : Start L.About) (slots id c saw new : ℕ) (to : List (Handling Q P)) (me : Sat Q P L M)
+        (stage : Stage Q P) (lead : Lead Q P) (mine : List (Q × P)) (g : Squad Q P)
         → z.pipelined ≡ true → AtWith c stage mine (Parting g saw) me → IsCut lead stage
         → g.from ≡ given_runs P.run_of lead.seen → new ≡ newest (line_of g)
         → StepIs (laws_for Q.item_of L.lawful L.stands L.kept L.number_of P.run_of L.serves z) z.clients
@@ -125,15 +125,17 @@ pub fn second_steps_and_events<Q: Itemized, P: Given, L: Ledger<Q, P, M>, M>()
         (mine : List (Q × P)) (g : Squad Q P) (x : Entry Q) (right : M) (more : List (ℕ × Content Q P L M))
         → AtWith c stage mine (Passing g x) me → me.1 ≡ (k, Right right) ∷ more → k + 1 ≡ slots
         → word ≡ state_at x.by → L.serves z.about right g.to
-        → StepIs (laws_for Q.item_of L.lawful L.stands L.kept L.number_of P.run_of L.serves z) z.clients (λ _. IsServedOut c g)
-        slots id me word (λ _. 4) (λ _. called_next (step slots word 4 0 none) me 4) }
+        → StepIs (laws_for Q.item_of L.lawful L.stands L.kept L.number_of P.run_of L.serves z) z.clients
+        (λ _. IsServedOut c g) slots id me word (λ _. 4) (λ _. called_next (step slots word 4 0 none) me 4) }
 {}
 
-/// In each state in which the rule holds, by what a leader knows: from where it has cut its group off until it gives the
-/// log on, the log is with that group, so nobody is elected; who gives the log on, in a list with the second one, has its
-/// group there, as the newest one and with all that was given runs, or nothing more was; and the group of who
-/// has the right is the oldest one. Who is told by a leader that is in neither list, and such a leader itself, is in
-/// neither, nor of the group in hand. The leader that a stage tells of is the client itself.
+/// In each state in which the rule holds, by what a leader knows: from where it has cut its group off until it gives
+/// the log on, the log is with that group, so nobody is elected. Who gives the log on, in a list with the second one,
+/// has its group there, as the newest one and with all that was given runs, or nothing more was. The group of who has
+/// the right is the oldest one. Who is told by a leader that is in neither list, and such a leader itself, is in
+/// neither, nor of the group in hand. The leader that a stage tells of is the client itself. And the walk from the
+/// second list's newest writer is its groups, but for an oldest one whose leader has cut it off and has the right
+/// still.
 pub fn handing_on<Q: Itemized, P: Given, L: Ledger<Q, P, M>, M>()
     ensures cut { (z : Start L.About) (s : State (Content Q P L M) (List (Hold Q P)))
         (r : Listed (laws_for Q.item_of L.lawful L.stands L.kept L.number_of P.run_of L.serves z) z.clients s)
@@ -141,7 +143,8 @@ pub fn handing_on<Q: Itemized, P: Given, L: Ledger<Q, P, M>, M>()
         → Sees s id (hold_at c stage mine back) → IsCut lead stage
         → (now_of (laws_for Q.item_of L.lawful L.stands L.kept L.number_of P.run_of L.serves z) z.clients s r).0.1
         ≡ grouped lead.own lead.taken }
-    ensures hands { (last : List (Handling Q P) → List (Handling Q P)) (back : Back Q P) (seen now : List (Handling Q P))
+    ensures hands { (last : List (Handling Q P) → List (Handling Q P)) (back : Back Q P)
+        (seen now : List (Handling Q P))
         → HandsOn true last back seen now
         → (last now ≡ last seen) ⊎ ((g : Squad Q P) × IsJoined g back × (g.to ≡ last now)) }
     ensures joined { (z : Start L.About) (s : State (Content Q P L M) (List (Hold Q P)))
@@ -164,6 +167,10 @@ pub fn handing_on<Q: Itemized, P: Given, L: Ledger<Q, P, M>, M>()
         → Sees s id (hold_at c (Settling (debt [] own p)) mine Away)
         → IsInNone own.by
         (now_of (laws_for Q.item_of L.lawful L.stands L.kept L.number_of P.run_of L.serves z) z.clients s r) }
+    ensures walked { (z : Start L.About) (s : State (Content Q P L M) (List (Hold Q P)))
+        (r : Listed (laws_for Q.item_of L.lawful L.stands L.kept L.number_of P.run_of L.serves z) z.clients s)
+        → IsWalked (now_of (laws_for Q.item_of L.lawful L.stands L.kept L.number_of P.run_of L.serves z) z.clients s r)
+        s.words }
     ensures own { (z : Start L.About) (s : State (Content Q P L M) (List (Hold Q P)))
         (id c : ℕ) (stage : Stage Q P) (mine : List (Q × P)) (back : Back Q P)
         → Listed (laws_for Q.item_of L.lawful L.stands L.kept L.number_of P.run_of L.serves z) z.clients s

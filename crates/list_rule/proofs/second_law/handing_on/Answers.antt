@@ -1,4 +1,4 @@
-use Rattle.list_rule.proofs.Handings.{hands_joined, cut_log, joined_newest, served_oldest, told_apart, told_last, own_stage}
+use Rattle.list_rule.proofs.Handings.{hands_joined, cut_log, joined_newest, served_oldest, told_apart, told_last, own_stage, walked_is}
 use Rattle.list_rule.proofs.second_law.handing_on.Goals as goal
 
 pub returns-clause-cut : goal.returns-clause-cut
@@ -21,3 +21,6 @@ returns-clause-told_last g a z s r id c mine own p sees = told_last _ z.clients 
 
 pub returns-clause-own : goal.returns-clause-own
 returns-clause-own g a z s id c stage mine back r sees = own_stage _ z.clients s r id c stage mine back sees
+
+pub returns-clause-walked : goal.returns-clause-walked
+returns-clause-walked g a z s r = walked_is _ z.clients s r
