@@ -40,12 +40,12 @@ no_runs delay last end (x ∷ xs) none = by (nat_le (last + count_of x.1.batch.r
 pub stays : (last : ℕ) (asks : List CommitRequest) → versions_from last asks ≡ [] → last_with_all last asks ≡ last
 stays last asks none = let r = (versions_runs last asks).1 in let l : length (versions_from last asks) ≡ 0 = ap length none in omega (arith, r, l)
 
-pub may_launch : (leader clients last end : ℕ) (asks : List CommitRequest) (parts : List MemberVersions) → AreParts leader clients (versions_from last asks) parts → 0 < length (versions_from last asks) → end ≡ last_with_all last asks → MayLaunch leader clients last end parts
-may_launch leader clients last end asks parts are some is = let r = versions_runs last asks in record {
+pub may_launch : (leader clients last end : ℕ) (asks : List CommitRequest) (beside : List ℕ) (parts : List MemberVersions) → AreParts leader clients beside (versions_from last asks) parts → 0 < length (versions_from last asks) → end ≡ last_with_all last asks → MayLaunch leader clients last end beside parts
+may_launch leader clients last end asks beside parts are some is = let r = versions_runs last asks in record {
   runs = subst (Runs last) (sym are.versions_are) r.0;
   some = subst (λ vs. 0 < length vs) (sym are.versions_are) some;
   members = are.members;
-  own = are.own some;
+  each = are.each some;
   ends = is ∙ (sym r.1 ∙ ap (λ vs. last + length vs) (sym are.versions_are));
 }
 

@@ -1,5 +1,5 @@
 -- Where the right to launch is, and what a group adds to what is published.
-use Rattle.std.proofs.Common.{◌≡◌, ℕ, suc, ◌+◌, ◌<◌, ◌≤◌, Bool, true, false, cond, ◌==◌, map, List, [], ◌∷◌, ◌++◌, Option, Some, None, Result, Ok, Err, length, refl, sym, ap, ◌∙◌, subst, arith, append_assoc, append-nil}
+use Rattle.std.proofs.Common.{◌≡◌, ℕ, suc, ◌+◌, ◌<◌, ◌≤◌, Bool, true, false, cond, ◌==◌, map, List, [], ◌∷◌, ◌++◌, Option, Some, None, is_some, is_none, not, Result, Ok, Err, length, refl, sym, ap, ◌∙◌, subst, arith, append_assoc, append-nil}
 use Rattle.std.specs.List.{AllByRecursion}
 use Rattle.std.proofs.lemmas.List.{append_cancel_left}
 use Rattle.wp_model.specs.declared.write.Refusal.{Refusal}
@@ -85,3 +85,7 @@ given_append (h ∷ a) b = by ((run_of h.reply).1 == 0) (given_append a b)
 
 pub given_same : (seen new : List (Handling Request Reply)) (xs : List (ℕ × Request)) (ys : List (ℕ × Reply)) → new ≡ handled_with xs ys → HaveNoRuns ys → given_runs run_of (seen ++ new) ≡ given_runs run_of seen
 given_same seen new xs ys is none = given_append seen new ∙ (ap (λ l. given_runs run_of seen ++ l) (ap (given_runs run_of) is ∙ given_none xs ys none) ∙ append-nil (given_runs run_of seen))
+
+pub is_none_by : {U : Type 0} (b : Bool) (turn : Option U) → is_some turn ≡ not b → b ≡ is_none turn
+is_none_by true turn h = sym (ap not h)
+is_none_by false turn h = sym (ap not h)

@@ -11,7 +11,7 @@ use Rattle.list_rule.specs.declared.view.Entry.{Entry}
 use Rattle.list_rule.specs.declared.view.Handling.{Handling}
 use Rattle.list_rule.specs.Chain.{heads, all_answers, of}
 use Rattle.list_rule.specs.Laws.{asks_for, last_run}
-use Rattle.writer_list.specs.Roles.{pays}
+use Rattle.writer_list.specs.Roles.{AreMembers, pays}
 use Rattle.writer_list.specs.Rooms.{HasRoom, TakesRequests}
 use Rattle.writer_list.specs.Seats.{about_of, client_of, clients_of, flat_of, start_of, told, Belongs, HasGroup}
 use Rattle.write_controller.specs.declared.controller.Controller.{Controller}
@@ -77,13 +77,16 @@ module _ {D T C G S U P : Type 0} {ghosts : Ghosts D} (opening : T → Opening) 
       → IsToLeave number start mine own seen w held → Type 0
   IsFlat number start mine own seen w held l = flat_of run_of e.list seen (seen ++ all_answers own l.p l.gs)
 
-  -- the parts that it laid out are those of its group, and go behind all that was given runs before
+  -- the parts that it laid out are those of its group, and go behind all that was given runs before; who is to work
+  -- beside it is another member of the group
   pub record IsToHandOn (number start : ℕ) (mine : List (Request × Reply)) (own : Entry Request)
       (seen : List (Handling Request Reply)) (w : Client D T C S U P ghosts) (held : Held D T C S U P ghosts)
       (end : ℕ) : Type 0 where
     pub leaves : IsToLeave number start mine own seen w held
     pub may : MayLaunch (account w.seat).number (opening e.table).clients
-        (last_after_all (opening e.table).start (map commit_of seen)) end (group_of w.layout.parts.parts)
+        (last_after_all (opening e.table).start (map commit_of seen)) end w.layout.members.items
+        (group_of w.layout.parts.parts)
+    pub beside : AreMembers (clients_of e.list) w.layout.members.items leaves.gs
     pub made : versions_in (group_of w.layout.parts.parts)
         ≡ made_by versions_made (map commit_of (all_answers own leaves.p leaves.gs))
 

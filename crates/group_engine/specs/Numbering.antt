@@ -1,5 +1,6 @@
 -- What a leader lays out while it gives its group runs, and its answers.
-use Rattle.std.specs.Prelude.{◌≡◌, ◌⊎◌, ℕ, ◌+◌, ◌<◌, ◌≤◌, List, [], ◌∷◌, ◌++◌, length, map, Ok, Err, nat_le, if◌then◌else◌, ⊤}
+use Rattle.std.specs.Prelude.{◌≡◌, ◌⊎◌, ℕ, ◌+◌, ◌<◌, ◌≤◌, Bool, false, not, ◌==◌, List, [], ◌∷◌, ◌++◌, length, map, filter, Ok, Err, nat_le, if◌then◌else◌, ⊤}
+use Rattle.std.specs.List.{AllByRecursion}
 use Rattle.wp_model.specs.declared.write.Refusal.TheVariants.{LogFault, SequenceFull}
 use Rattle.wp_model.specs.Batch.{Record, count_of}
 use Rattle.wp_model.specs.History.{max_sequence}
@@ -10,6 +11,7 @@ use Rattle.table_rule.specs.Batches.{made, numbered}
 use Rattle.table_rule.specs.Histories.{In, Members, versions_in}
 use Rattle.mem_table.specs.Parts.{with_part}
 use Rattle.mem_table.specs.declared.parts.MemberNodes.{MemberNodes}
+use Rattle.memtable_stage.specs.Parts.{HaveParts}
 use Rattle.group_rule.specs.Plans.{last_with}
 use Rattle.group_engine.specs.declared.requests.Request.{Request}
 use Rattle.group_engine.specs.declared.numbering.Plan.{Plan}
@@ -47,11 +49,27 @@ abbrev pub parts_with : ℕ → ℕ → List Record → List MemberNodes → Lis
 parts_with member last records parts = if nat_le (last + count_of records) max_sequence then
     with_part parts member (numbered (last + 1) (made records)) else parts
 
--- the parts have these versions together, and, where there are any, each member once, and its leader among them
-pub record AreParts (leader clients : ℕ) (versions : List Version) (parts : List MemberVersions) : Type 0 where
+-- the members but the leader
+abbrev pub others_than : ℕ → List ℕ → List ℕ
+others_than leader members = filter (λ (member : ℕ). not (member == leader)) members
+
+-- The parts have these versions together, and each member once. Where there are any, they are the leader's, and those of
+-- just these who are to work beside it.
+pub record AreParts (leader clients : ℕ) (beside : List ℕ) (versions : List Version) (parts : List MemberVersions) :
+    Type 0 where
   pub versions_are : versions_in parts ≡ versions
   pub members : Members clients parts
-  pub own : 0 < length versions → (part : MemberVersions) × In part parts × (part.member ≡ leader)
+  pub each : 0 < length versions → HaveParts leader beside parts
+
+-- the clients of a leader's requests, but for its own, which is the first
+abbrev pub others_in : List (ℕ × Request) → List ℕ
+others_in [] = []
+others_in (x ∷ requests) = map (λ (y : ℕ × Request). y.0) requests
+
+-- Who is to work beside the leader is another client of its group, and nobody is where the parts aren't to be apart.
+pub record AreBeside (apart : Bool) (others beside : List ℕ) : Type 0 where
+  pub of_group : AllByRecursion (λ (member : ℕ). In member others) beside
+  pub alone : apart ≡ false → beside ≡ []
 
 -- The answers to what was laid out
 

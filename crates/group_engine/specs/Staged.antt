@@ -2,9 +2,10 @@
 use Rattle.std.specs.Prelude.{◌≡◌, ℕ, ◌+◌, ◌<◌, List, [], ◌∷◌, ◌++◌, length, Option, Some, None, ⊤}
 use Rattle.std.specs.List.{AllByRecursion}
 use Rattle.table_rule.specs.declared.content.MemberVersions.{MemberVersions}
-use Rattle.table_rule.specs.Histories.{In, Members, Runs, versions_in}
+use Rattle.table_rule.specs.Histories.{Members, Runs, versions_in}
 use Rattle.mem_table.specs.declared.parts.MemberNodes.{MemberNodes}
 use Rattle.mem_table.specs.Parts.{group_of}
+use Rattle.memtable_stage.specs.Parts.{HaveParts}
 use Rattle.group_rule.specs.Commits.{Answer, accepted, held_up, failed, no_room}
 use Rattle.group_engine.specs.declared.requests.Reply.{Reply}
 use Rattle.group_engine.specs.Handled.{answer_in}
@@ -20,17 +21,17 @@ HasNoRun (held_up numbers) = ⊤
 HasNoRun (failed count) = ⊤
 HasNoRun (no_room at) = ⊤
 
--- these parts may be launched behind `last`, by this client
-pub record MayLaunch (leader clients last end : ℕ) (parts : List MemberVersions) : Type 0 where
+-- these parts may be launched behind `last`, by this client, while just these work beside it
+pub record MayLaunch (leader clients last end : ℕ) (beside : List ℕ) (parts : List MemberVersions) : Type 0 where
   pub runs : Runs last (versions_in parts)
   pub some : 0 < length (versions_in parts)
   pub members : Members clients parts
-  pub own : (part : MemberVersions) × In part parts × (part.member ≡ leader)
+  pub each : HaveParts leader beside parts
   pub ends : end ≡ last + length (versions_in parts)
 
 -- no member has a run, and there are no parts; or there are, and the last sequence given is theirs
-abbrev pub IsStaged : ℕ → ℕ → ℕ → ℕ → Option ℕ → List MemberNodes → List (ℕ × Reply) → Type 0
-IsStaged leader clients last now None parts replies = (parts ≡ []) × (now ≡ last)
+abbrev pub IsStaged : ℕ → ℕ → ℕ → ℕ → Option ℕ → List ℕ → List MemberNodes → List (ℕ × Reply) → Type 0
+IsStaged leader clients last now None beside parts replies = (parts ≡ []) × (now ≡ last)
     × AllByRecursion (λ (y : ℕ × Reply). HasNoRun (answer_in y.1.answer)) replies
-IsStaged leader clients last now (Some end) parts replies = (now ≡ end)
-    × MayLaunch leader clients last end (group_of parts)
+IsStaged leader clients last now (Some end) beside parts replies = (now ≡ end)
+    × MayLaunch leader clients last end beside (group_of parts)

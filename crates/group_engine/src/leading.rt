@@ -25,7 +25,7 @@ pub(crate) fn publish_alone<T: Table<Nodes, Parts>, G: Gate, R: Wait>(
 ) -> T::Turn
     requires ours { T.ours table.now seat.old × T.our_turn table.now turn × IsReady (T.account seat.old) }
     requires may { MayLaunch (T.account seat.old).number (T.opening table.now).clients
-        (last_of (T.opening table.now).start (T.history turn)) end (group_of parts.old.parts) }
+        (last_of (T.opening table.now).start (T.history turn)) end [] (group_of parts.old.parts) }
     ensures ours { T.ours table.now seat.new × T.our_turn table.now result × IsReady (T.account seat.new) }
     ensures history { T.history result ≡ T.history turn ++ group_of parts.old.parts ∷ [] }
     ensures seen { ((T.account seat.new).number ≡ (T.account seat.old).number)

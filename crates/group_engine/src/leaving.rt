@@ -1,11 +1,9 @@
 //! How a leader that has answered its group leaves.
 
-ghost use Rattle.std.specs.Prelude.{◌≡◌, ◌≤◌, ◌<◌, ◌++◌, [], ◌∷◌, ℕ, List, true, vec_len, vec_capacity};
+ghost use Rattle.std.specs.Prelude.{◌≡◌, [], ◌∷◌, ℕ, List, true};
 ghost use Rattle.table_rule.specs.Histories.{Begins};
-ghost use Rattle.list_rule.specs.Chain.{heads, Within};
 ghost use Rattle.list_rule.specs.declared.view.Entry.{Entry};
 ghost use Rattle.list_rule.specs.declared.view.Handling.{Handling};
-ghost use Rattle.writer_list.specs.Roles.{pays, AreMembers};
 ghost use Rattle.writer_list.specs.Seats.{piped_of};
 ghost use Rattle.group_engine.specs.declared.requests.Request.{Request as Asked};
 ghost use Rattle.group_engine.specs.declared.requests.Reply.{Reply as Told};
@@ -14,42 +12,13 @@ ghost use Rattle.group_engine.specs.Leaving.{HasAnswered, IsFlat, IsToHandOn, Is
 
 use crate::engine::{Client, GroupEngine};
 use crate::held::{Held, Right, turn_in};
-use crate::requests::{Reply, Request};
+use crate::requests::Reply;
 use engine_calls::Gate;
 use mem_table::{Nodes, Parts};
 use memtable_stage::lead;
 use std::sync::Wait;
 use table_calls::Table;
 use wp_edge::{Clock, Disk};
-use writer_list::{Replies, members_in_order};
-
-/// Whether the batch that is answered here was given a run.
-fn has_run(replies: &Replies<Reply>, at: usize) -> bool
-    requires { at < vec_len replies.now.list }
-{
-    replies.list[at].1.answer.is_ok()
-}
-
-/// Notes who is to work beside the leader: those who were given runs, where the leader was too. Where it wasn't, it has
-/// all parts.
-fn note_members(replies: &Replies<Reply>, members: &mut Vec<u32>)
-    requires room { vec_len replies.now.list ≤ vec_capacity members.old }
-    ensures room { vec_capacity members.new ≡ vec_capacity members.old }
-    ensures members { (n : ℕ) (own : Entry Asked) (p : Told) (gs : List (Entry Asked × Told))
-        → replies.now.list.items ≡ pays own p gs → Within n (heads gs) → AreMembers n members.new.items gs }
-{
-    members_in_order::<Request, Reply>();
-    members.clear();
-    let count = replies.list.len();
-    if count == 0 || !has_run(replies, 0) {
-        return;
-    }
-    for i in 1..count {
-        if has_run(replies, i) {
-            members.push_reserved(replies.list[i].0);
-        }
-    }
-}
 
 impl<D: Disk, T: Table<Nodes, Parts>, C: Clock + Drop, G: Gate + Drop> GroupEngine<D, T, C, G> {
     /// Gives the log back or on, and tells the members of the group their replies.
@@ -103,7 +72,6 @@ impl<D: Disk, T: Table<Nodes, Parts>, C: Clock + Drop, G: Gate + Drop> GroupEngi
             × (client.new.pass ≡ client.old.pass) }
         ensures seen { Begins (T.account client.old.seat).seen (T.account client.new.seat).seen }
     {
-        note_members(&client.lists.replies, &mut client.layout.members);
         self.list.exit_pipelined(
             rt,
             &mut client.writer,

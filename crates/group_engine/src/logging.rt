@@ -1,6 +1,6 @@
 //! The first stage of a leader's work: the group gets its runs, and is written to the log.
 
-ghost use Rattle.std.specs.Prelude.{◌≡◌, ◌≤◌, ◌<◌, ◌+◌, ◌-◌, ◌^◌, ℕ, List, [], ◌∷◌, ◌++◌, true, false, Ok, MatchOption, length, vec_len, vec_capacity};
+ghost use Rattle.std.specs.Prelude.{◌≡◌, ◌≤◌, ◌<◌, ◌+◌, ◌-◌, ◌^◌, ℕ, List, [], ◌∷◌, ◌++◌, true, false, Ok, MatchOption, IfSome, length, vec_len, vec_capacity};
 ghost use Rattle.std.specs.List.{AllByRecursion};
 ghost use Rattle.wp_model.specs.History.{max_sequence};
 ghost use Rattle.wp_model.specs.Controller.{ControllerCall, Look as Numbers};
@@ -14,7 +14,7 @@ ghost use Rattle.group_engine.specs.declared.requests.Request.{Request as Asked}
 ghost use Rattle.group_engine.specs.declared.requests.Reply.{Reply as Told};
 ghost use Rattle.group_engine.specs.Handled.{HandsBack, IsReplyOf, commit_requests_of, seen_at, handled_with, InOrder};
 ghost use Rattle.group_rule.specs.Plans.{ComesAfter, IsAskedFor};
-ghost use Rattle.group_engine.specs.Numbering.{AreEnough, answers};
+ghost use Rattle.group_engine.specs.Numbering.{AreBeside, AreEnough, answers, others_in};
 ghost use Rattle.group_engine.specs.Layout.{IsClear};
 ghost use Rattle.group_engine.specs.Law.{LogStandsFor};
 ghost use Rattle.group_engine.specs.Led.{IsLedGroup, LeadsBy};
@@ -50,7 +50,7 @@ fn log_group<D: Disk>(
 }
 
 /// Writes a group to the log, and answers each member. Where members have runs their parts lie on the layout then, for the
-/// table, apart if they are to be, and the answer is the group's last sequence.
+/// table, apart if they may be, with those who are to work beside the leader, and the answer is the group's last sequence.
 pub(crate) fn log_phase<D: Disk>(
     path: LogPath<D>,
     leader: u32,
@@ -66,7 +66,8 @@ pub(crate) fn log_phase<D: Disk>(
     requires leads { LeadsBy leader requests.old.items }
     requires layout { IsClear layout.old.parts.clients layout.old
         × (length requests.old.items ≤ vec_capacity layout.old.plans)
-        × (length requests.old.items ≤ vec_capacity layout.old.batches) }
+        × (length requests.old.items ≤ vec_capacity layout.old.batches)
+        × (length requests.old.items ≤ vec_capacity layout.old.members) }
     requires replies { (replies.old.items ≡ []) × (length requests.old.items ≤ vec_capacity replies.old) }
     ensures path { (opened : Log D ⟦<D as Disk>⟧) (start group_bytes : ℕ) (asked : List ControllerCall)
         (published : List (List MemberVersions)) (handled : List (Handling Asked Told)) (numbers : Numbers)
@@ -77,18 +78,19 @@ pub(crate) fn log_phase<D: Disk>(
         → LogStandsFor opened start layout.old.parts.clients group_bytes (seen_at delay.now) result.0.log
         (published_with result.1 layout.new.parts.parts published) result.0.last
         (handled ++ handled_with requests.old.items replies.new.items) }
-    ensures staged { IsStaged leader layout.old.parts.clients path.last result.0.last result.1 layout.new.parts.parts
-        replies.new.items }
+    ensures staged { IsStaged leader layout.old.parts.clients path.last result.0.last result.1 layout.new.members.items
+        layout.new.parts.parts replies.new.items }
+    ensures beside { IfSome result.1 (λ _. AreBeside apart (others_in requests.old.items) layout.new.members.items) }
     ensures replies { InOrder requests.old.items replies.new.items
         × AllByRecursion HandsBack (handled_with requests.old.items replies.new.items)
         × AllByRecursion (IsReplyOf delay.now) replies.new.items }
     ensures taken { (requests.new.items ≡ []) × (layout.new.plans.items ≡ []) × (layout.new.batches.items ≡ [])
         × (layout.new.parts.clients ≡ layout.old.parts.clients) }
-    ensures members { layout.new.members ≡ layout.old.members }
     ensures room { (vec_capacity requests.new ≡ vec_capacity requests.old)
         × (vec_capacity layout.new.plans ≡ vec_capacity layout.old.plans)
         × (vec_capacity layout.new.batches ≡ vec_capacity layout.old.batches)
-        × (vec_capacity replies.new ≡ vec_capacity replies.old) }
+        × (vec_capacity replies.new ≡ vec_capacity replies.old)
+        × (vec_capacity layout.new.members ≡ vec_capacity layout.old.members) }
 {
     let LogPath { mut log, last } = path;
     if let Some(count) = log.fault() {
@@ -104,6 +106,7 @@ pub(crate) fn log_phase<D: Disk>(
         &mut layout.plans,
         &mut layout.batches,
         &mut layout.parts,
+        &mut layout.members,
     );
     if layout.batches.is_empty() {
         layout.drop_parts();

@@ -1,15 +1,16 @@
 //! How a leader gives its group runs, and answers it.
 
-ghost use Rattle.std.specs.Prelude.{◌≡◌, ◌≤◌, ◌+◌, ◌<◌, ◌^◌, ℕ, List, Err, [], ◌∷◌, ◌++◌, length, MatchOption, vec_len, vec_capacity};
+ghost use Rattle.std.specs.Prelude.{◌≡◌, ◌≤◌, ◌+◌, ◌<◌, ◌^◌, ℕ, List, Err, [], ◌∷◌, ◌++◌, length, if◌then◌else◌, MatchOption, vec_len, vec_capacity};
 ghost use Rattle.wp_model.specs.History.{max_sequence};
 ghost use Rattle.table_rule.specs.declared.content.Version.{Version};
 ghost use Rattle.mem_table.specs.Parts.{group_of};
 ghost use Rattle.group_rule.specs.Plans.{last_with_all, last_with, versions_at, versions_from, AreLawful, HaveOwnClients};
+ghost use Rattle.memtable_stage.specs.Parts.{members_of};
 ghost use Rattle.stage_laws.specs.Served.{parts_from};
 ghost use Rattle.group_engine.specs.Led.{IsLedGroup, LeadsBy};
 ghost use Rattle.group_engine.specs.declared.requests.Request.{Request};
 ghost use Rattle.group_engine.specs.Handled.{commit_requests_of, reply_with, failures};
-ghost use Rattle.group_engine.specs.Numbering.{plan_at, plans_of, batch_at, batches_of, HasVersions, AreParts, parts_with, answers, AreEnough, IsAnswer, HasBatch, run_with, full_with};
+ghost use Rattle.group_engine.specs.Numbering.{plan_at, plans_of, batch_at, batches_of, HasVersions, AreBeside, AreParts, others_in, others_than, parts_with, answers, AreEnough, IsAnswer, HasBatch, run_with, full_with};
 
 use crate::requests::{Delay, Reply, Request};
 use engine_calls::{Receipt, Refused};
@@ -17,6 +18,10 @@ use mem_table::Parts;
 use std::snapshot::Snapshot;
 use wp_model::Refusal;
 use write_batch::{Batch, MAX_SEQUENCE};
+
+/// How many records a member has to bring, on the average, so that waking it to insert them itself takes less than that
+/// its leader inserts them too.
+const WORTH_WAKING: u64 = 16;
 
 /// What becomes of a member's batch: it has a run, and stands among the batches that are written; or there is no room.
 #[derive(Drop)]
@@ -94,38 +99,69 @@ pub(crate) fn number_all(
     at
 }
 
-/// The same, where each member with a run gets its own part.
+/// The same, where each member with a run gets its own part. Those that have one beside the leader are noted.
 pub(crate) fn number_apart(
     requests: &mut Vec<(u32, Request)>,
+    leader: u32,
     last: u64,
     plans: &mut Vec<Plan>,
     batches: &mut Vec<Batch>,
     parts: &mut Parts,
+    members: &mut Vec<u32>,
 ) -> u64
     requires last { last ≤ max_sequence }
     requires members { AreLawful parts.old.clients (commit_requests_of requests.old.items)
         × HaveOwnClients (commit_requests_of requests.old.items) }
     requires room { (length requests.old.items ≤ vec_capacity plans.old)
-        × (length requests.old.items ≤ vec_capacity batches.old) }
-    requires empty { (plans.old.items ≡ []) × (batches.old.items ≡ []) × (parts.old.parts ≡ []) }
+        × (length requests.old.items ≤ vec_capacity batches.old) × (length requests.old.items ≤ vec_capacity members.old) }
+    requires empty { (plans.old.items ≡ []) × (batches.old.items ≡ []) × (parts.old.parts ≡ [])
+        × (members.old.items ≡ []) }
     ensures reached { result ≡ last_with_all last (commit_requests_of requests.old.items) }
     ensures plans { plans.new.items ≡ plans_of last requests.old.items }
     ensures batches { batches.new.items ≡ batches_of last requests.old.items }
     ensures parts { (group_of parts.new.parts ≡ parts_from last (commit_requests_of requests.old.items))
         × (parts.new.clients ≡ parts.old.clients) }
+    ensures members { members.new.items ≡ others_than leader (members_of (group_of parts.new.parts)) }
     ensures taken { requests.new.items ≡ [] }
     ensures room { (vec_capacity requests.new ≡ vec_capacity requests.old)
-        × (vec_capacity plans.new ≡ vec_capacity plans.old) × (vec_capacity batches.new ≡ vec_capacity batches.old) }
+        × (vec_capacity plans.new ≡ vec_capacity plans.old) × (vec_capacity batches.new ≡ vec_capacity batches.old)
+        × (vec_capacity members.new ≡ vec_capacity members.old) }
 {
     let mut at = last;
     while let Some((client, request)) = take_first(requests) {
+        let before = at;
         at = number_one(client, request, client, at, plans, batches, parts);
+        note_member(client, leader, before < at, members);
     }
     at
 }
 
-/// Gives runs behind `last` to the requests whose runs fit, and answers the sequence given last then. Where the parts are
-/// to be apart each member with a run gets its own; else, and where the leader itself has no run, the leader has all.
+/// Notes a member that has a part, unless it is the leader.
+fn note_member(member: u32, leader: u32, has_part: bool, members: &mut Vec<u32>)
+    requires room { vec_len members.old < vec_capacity members.old }
+    ensures noted { members.new.items
+        ≡ members.old.items ++ others_than leader (if has_part then member ∷ [] else []) }
+    ensures room { vec_capacity members.new ≡ vec_capacity members.old }
+{
+    if has_part && member != leader {
+        members.push_reserved(member);
+    }
+}
+
+/// Whether it is worth waking the members, so that each inserts its own part: they bring so many records beside the
+/// leader's, on the average.
+fn are_worth_waking(requests: &[(u32, Request)]) -> bool {
+    let mut records: u64 = 0;
+    for (_, request) in requests.iter().skip(1) {
+        records = records.saturating_add(u64::from(request.batch.count()));
+    }
+    let members = (requests.len() as u64).saturating_sub(1);
+    records >= members.saturating_mul(WORTH_WAKING)
+}
+
+/// Gives runs behind `last` to the requests whose runs fit, and answers the sequence given last then. Where the parts may
+/// be apart each member with a run gets its own, and is noted as one that is to work beside the leader. The leader has all
+/// where they may not, where it has no run itself, and where the group isn't worth waking anybody.
 pub(crate) fn lay_out(
     requests: &mut Vec<(u32, Request)>,
     leader: u32,
@@ -134,25 +170,30 @@ pub(crate) fn lay_out(
     plans: &mut Vec<Plan>,
     batches: &mut Vec<Batch>,
     parts: &mut Parts,
+    members: &mut Vec<u32>,
 ) -> u64
     requires last { last ≤ max_sequence }
     requires group { (group_bytes : ℕ) × IsLedGroup group_bytes parts.old.clients requests.old.items }
     requires leads { LeadsBy leader requests.old.items }
     requires room { (length requests.old.items ≤ vec_capacity plans.old)
-        × (length requests.old.items ≤ vec_capacity batches.old) }
+        × (length requests.old.items ≤ vec_capacity batches.old) × (length requests.old.items ≤ vec_capacity members.old) }
     requires empty { (plans.old.items ≡ []) × (batches.old.items ≡ []) × (parts.old.parts ≡ []) }
     ensures reached { result ≡ last_with_all last (commit_requests_of requests.old.items) }
     ensures plans { plans.new.items ≡ plans_of last requests.old.items }
     ensures batches { batches.new.items ≡ batches_of last requests.old.items }
-    ensures parts { AreParts leader parts.old.clients (versions_from last (commit_requests_of requests.old.items))
-        (group_of parts.new.parts) × (parts.new.clients ≡ parts.old.clients) }
+    ensures parts { AreParts leader parts.old.clients members.new.items
+        (versions_from last (commit_requests_of requests.old.items)) (group_of parts.new.parts)
+        × (parts.new.clients ≡ parts.old.clients) }
+    ensures beside { AreBeside apart (others_in requests.old.items) members.new.items }
     ensures taken { requests.new.items ≡ [] }
     ensures room { (vec_capacity requests.new ≡ vec_capacity requests.old)
-        × (vec_capacity plans.new ≡ vec_capacity plans.old) × (vec_capacity batches.new ≡ vec_capacity batches.old) }
+        × (vec_capacity plans.new ≡ vec_capacity plans.old) × (vec_capacity batches.new ≡ vec_capacity batches.old)
+        × (vec_capacity members.new ≡ vec_capacity members.old) }
 {
+    members.clear();
     let count = u64::from(requests[0].1.batch.count());
-    if apart && last + count <= MAX_SEQUENCE {
-        return number_apart(requests, last, plans, batches, parts);
+    if apart && last + count <= MAX_SEQUENCE && are_worth_waking(requests.as_slice()) {
+        return number_apart(requests, leader, last, plans, batches, parts, members);
     }
     number_all(requests, leader, last, plans, batches, parts)
 }

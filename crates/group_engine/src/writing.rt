@@ -1,12 +1,12 @@
 //! A client's write.
 
-ghost use Rattle.std.specs.Prelude.{◌≡◌, true, false, ◌≤◌, ℕ, List, [], ◌∷◌, ◌++◌, Ok, Err, IfOk, IfErr, IfSome};
+ghost use Rattle.std.specs.Prelude.{◌≡◌, true, false, ◌≤◌, ℕ, List, [], ◌∷◌, ◌++◌, Ok, Err, IfOk, IfErr, IfSome, is_none};
 ghost use Rattle.table_rule.specs.Histories.{Begins, last_of};
 ghost use Rattle.list_rule.specs.declared.view.Entry.{Entry};
 ghost use Rattle.list_rule.specs.declared.view.Handling.{Handling};
 ghost use Rattle.list_rule.specs.Chain.{of};
 ghost use mathlib.Core.List.{IsPrefix};
-ghost use Rattle.writer_list.specs.Seats.{Belongs, HasRole, IsChosen, IsIn, about_of, client_of, clients_of, told};
+ghost use Rattle.writer_list.specs.Seats.{Belongs, HasRole, IsChosen, IsIn, StandsStill, about_of, client_of, clients_of, told};
 ghost use Rattle.wp_model.specs.Tokens.{holds_stop};
 ghost use Rattle.write_controller.specs.Passes.{seen_by, asked_by, noted, IsNoteOf};
 ghost use Rattle.group_rule.specs.Asked.{HasAsked};
@@ -15,6 +15,7 @@ ghost use Rattle.group_engine.specs.declared.requests.Request.{Request as Asked}
 ghost use Rattle.group_engine.specs.declared.requests.Reply.{Reply as Told};
 ghost use Rattle.table_calls.specs.Account.{IsReady};
 ghost use Rattle.group_engine.specs.Law.{HeldIsStaged, HeldStandsFor, kept_in, law_in};
+ghost use Rattle.group_engine.specs.Numbering.{AreBeside, others_in};
 ghost use Rattle.group_engine.specs.Staged.{IsStaged};
 ghost use Rattle.group_engine.specs.Handled.{AreHandled, IsNoted, handled_with};
 ghost use Rattle.group_engine.specs.Clients.{IsClientOf, IsSeated, IsAnswered, told_of, own_commits, opened_log};
@@ -127,7 +128,9 @@ impl<D: Disk, T: Table<Nodes, Parts>, C: Clock + Drop, G: Gate + Drop> GroupEngi
             (handled ++ handled_with client.old.lists.requests.list.items client.new.lists.replies.list.items) }
         ensures turn { result.0.turn ≡ held.turn }
         ensures staged { IsStaged client.old.number (clients_of self.now.list) held.path.last result.0.path.last result.1
-            client.new.layout.parts.parts client.new.lists.replies.list.items }
+            client.new.layout.members.items client.new.layout.parts.parts client.new.lists.replies.list.items }
+        ensures beside { IfSome result.1 (λ _. AreBeside (is_none held.turn)
+            (others_in client.old.lists.requests.list.items) client.new.layout.members.items) }
     {
         let Held {
             path,
@@ -243,9 +246,43 @@ impl<D: Disk, T: Table<Nodes, Parts>, C: Clock + Drop, G: Gate + Drop> GroupEngi
         match self.await_own_role(rt, &mut client.writer, &mut client.seat) {
             Role::Done(reply) => reply,
             Role::LogLeader(held) => {
-                let_others_link(item.sync);
+                self.let_others_link(&mut client.writer, item.sync, held.turn.is_none());
                 self.lead(rt, client, held)
             }
+        }
+    }
+
+    /// Lets others link before the leader closes its group. Where its batch is to be synced those who were told their
+    /// replies a moment ago may come: a sync takes no longer for more batches. Where there are two stages it pauses too
+    /// while groups before it are on their way into the table, behind which its own would wait.
+    fn let_others_link(
+        &self,
+        writer: &mut Writer<Request, Reply, Held<D, T, C>, Right<T>>,
+        sync: bool,
+        staged: bool,
+    )
+        requires { Belongs self.now.list writer.old }
+        ensures { StandsStill writer.new writer.old }
+    {
+        if sync {
+            pause_for_sync();
+        }
+        if staged {
+            self.pause_behind(writer);
+        }
+    }
+
+    /// Pauses while a group stands in the second list, some times at most.
+    fn pause_behind(&self, writer: &mut Writer<Request, Reply, Held<D, T, C>, Right<T>>)
+        requires { Belongs self.now.list writer.old }
+        ensures { StandsStill writer.new writer.old }
+    {
+        let backoff = Backoff::new();
+        for _ in 0..PAUSES_BEHIND {
+            if !self.list.has_groups(writer) {
+                return;
+            }
+            backoff.snooze();
         }
     }
 }
@@ -253,14 +290,13 @@ impl<D: Disk, T: Table<Nodes, Parts>, C: Clock + Drop, G: Gate + Drop> GroupEngi
 /// How many times a leader pauses before it closes a group that is to be synced.
 const PAUSES: u32 = 12;
 
-/// Lets those link who were told their replies a moment ago, where the leader's batch is to be synced: a sync takes no
-/// longer for more batches.
-fn let_others_link(sync: bool) {
-    if sync {
-        let backoff = Backoff::new();
-        for _ in 0..PAUSES {
-            backoff.snooze();
-        }
+/// How many times at most it pauses while groups before its own are on their way into the table.
+const PAUSES_BEHIND: u32 = 12;
+
+fn pause_for_sync() {
+    let backoff = Backoff::new();
+    for _ in 0..PAUSES {
+        backoff.snooze();
     }
 }
 

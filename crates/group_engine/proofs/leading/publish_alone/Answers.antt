@@ -3,7 +3,11 @@ use Rattle.mem_table.specs.Parts.{group_of}
 use Rattle.mem_table.specs.declared.parts.MemberNodes.{MemberNodes}
 use Rattle.group_engine.proofs.Standing.{none_of}
 use Rattle.memtable_stage.specs.Working.{HasLaunched}
+use Rattle.memtable_stage.proofs.Own.{own_part}
 use Rattle.group_engine.proofs.leading.publish_alone.Goals as goal
+
+pub launch-requires-clause-member : goal.launch-requires-clause-member
+launch-requires-clause-member g c = own_part (g.T.Table.account c.args.seat.now).number [] (group_of c.args.parts.now.parts) c.requires.may.each
 
 pub returns-clause-history : goal.returns-clause-history
 returns-clause-history g c =

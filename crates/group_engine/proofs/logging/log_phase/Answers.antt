@@ -7,7 +7,7 @@ use Rattle.table_rule.specs.declared.content.MemberVersions.{MemberVersions}
 use Rattle.mem_table.specs.Parts.{Members, group_of}
 use Rattle.group_engine.proofs.logging.log_phase.Goals as goal
 use Rattle.group_engine.specs.Handled.{commit_requests_of, handled_with, replies_of, seen_at}
-use Rattle.group_engine.specs.Numbering.{batches_of}
+use Rattle.group_engine.specs.Numbering.{AreBeside, batches_of, others_in}
 use Rattle.group_engine.specs.Staged.{MayLaunch}
 use Rattle.group_rule.specs.Plans.{batches_from, versions_from}
 use Rattle.group_engine.proofs.Logged.{empty_list, head_is, layout_enough, layout_faulted, layout_room, layout_written, logs_on, no_versions, none_is, none_left, ok_is, pays_faulted, pays_written, same_length, some_of, some_versions, to_log, writes}
@@ -162,6 +162,9 @@ returns-clause-staged g c =
     let some_batches : 0 < length (batches_from h.last (commit_requests_of xs)) = subst (λ (m : ℕ). 0 < m) (same_length (λ (b : Contents). b.records) c.as_slice.result.now (batches_from h.last (commit_requests_of xs)) from) some in
     let some_vs : 0 < length (versions_from h.last (commit_requests_of xs)) = some_versions clients h.last (commit_requests_of xs) led.lawful some_batches in (
       refl,
-      subst (λ (p : Members). MayLaunch c.args.leader clients h.last c.lay_out-end.result (group_of p.parts)) (sym c.answer_layout-2.ensures.taken.2)
-          (may_launch c.args.leader clients h.last c.lay_out-end.result (commit_requests_of xs) (group_of c.lay_out-end.new.parts.parts) n.parts.0 some_vs n.reached),
+      subst (λ (z : Members × List ℕ). MayLaunch c.args.leader clients h.last c.lay_out-end.result z.1 (group_of z.0.parts)) (λ i. (sym c.answer_layout-2.ensures.taken.2 i, (sym c.answer_layout-2.ensures.taken.3 i).items))
+          (may_launch c.args.leader clients h.last c.lay_out-end.result (commit_requests_of xs) c.lay_out-end.new.members.items (group_of c.lay_out-end.new.parts.parts) n.parts.0 some_vs n.reached),
     )
+
+pub returns-clause-beside : goal.returns-clause-beside
+returns-clause-beside g c = subst (λ v. AreBeside c.args.apart (others_in c.args.requests.now.items) v.items) (sym c.answer_layout-2.ensures.taken.3) c.lay_out-end.ensures.beside

@@ -4,8 +4,9 @@ use Rattle.wp_model.specs.History.{max_sequence}
 use Rattle.mem_table.specs.Parts.{group_of}
 use Rattle.group_engine.proofs.numbering.number_apart.Given as goal
 use Rattle.group_engine.specs.Handled.{commit_requests_of}
-use Rattle.group_engine.specs.Numbering.{batches_of, plans_of}
+use Rattle.group_engine.specs.Numbering.{batches_of, others_than, plans_of}
 use Rattle.group_rule.specs.Plans.{AreLawful, HaveOwnClients, last_with_all}
+use Rattle.memtable_stage.specs.Parts.{members_of}
 use Rattle.stage_laws.specs.Served.{parts_from}
 use Rattle.group_engine.proofs.Apart.{AreLeft}
 
@@ -19,11 +20,14 @@ invariant-loop-client l = record {
   lawful : AreLawful l.initial.parts.clients (commit_requests_of l.requests.items);
   own : HaveOwnClients (commit_requests_of l.requests.items);
   left : AreLeft l.parts.parts (commit_requests_of l.requests.items);
+  beside : l.members.items ≡ others_than l.leader (members_of (group_of l.parts.parts));
   clients : l.parts.clients ≡ l.initial.parts.clients;
   count : length l.plans.items + length l.requests.items ≡ length l.initial.requests.items;
   fewer : length l.batches.items ≤ length l.plans.items;
+  fewer_beside : length l.members.items ≤ length l.plans.items;
   plans_room : vec_capacity l.plans ≡ vec_capacity l.initial.plans;
   batches_room : vec_capacity l.batches ≡ vec_capacity l.initial.batches;
+  members_room : vec_capacity l.members ≡ vec_capacity l.initial.members;
   requests_room : vec_capacity l.requests ≡ vec_capacity l.initial.requests;
 }
 

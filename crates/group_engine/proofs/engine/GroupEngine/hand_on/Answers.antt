@@ -2,7 +2,8 @@ use Rattle.std.proofs.Common.{◌≤◌, ◌≡◌, ◌+◌, ℕ, List, [], ◌�
 use Rattle.table_rule.specs.Histories.{Runs, last_of, versions_in}
 use Rattle.mem_table.specs.Parts.{group_of}
 use Rattle.mem_table.specs.declared.parts.MemberNodes.{MemberNodes}
-use Rattle.list_rule.specs.Chain.{Within, all_answers}
+use Rattle.memtable_stage.specs.Parts.{HaveParts}
+use Rattle.list_rule.specs.Chain.{all_answers}
 use Rattle.list_rule.specs.Laws.{given_runs}
 use Rattle.list_rule.specs.Plays.{debt}
 use Rattle.writer_list.specs.Roles.{AreMembers}
@@ -44,8 +45,7 @@ lead-turn-requires-clause-leads g c =
     let piped = l.seats.is_engine.pipelined ∙ c.requires.piped in
     let R = c.await_pipelined_role.ensures.right d from to (told w.writer) sent.0 in
     let H = has_turn g.T.Table.our_turn g.T.Table.history about n d from to (told w.writer) c.await_pipelined_role.new.writer piped c.await_pipelined_role.result R in
-    let noted = c.note_members.ensures.members n own l.p l.gs l.pays_are (subst (Within n) (sym l.heads_are) l.has.3) in
-    let members = subst (λ ks. AreMembers n ks l.gs) (sym c.as_slice.ensures.value) noted in
+    let members = subst (λ ks. AreMembers n ks l.gs) (sym c.as_slice.ensures.value) h.beside in
     (c.await_pipelined_role.ensures.client.1, (d, from, to, told w.writer, H.has_right, members))
 
 pub lead-turn-requires-clause-ours : goal.lead-turn-requires-clause-ours
@@ -79,6 +79,11 @@ lead-turn-requires-clause-next g c =
     let answered = subst (λ (k : ℕ). AreAnswered k None (map commit_of seen)) start_is l.before.answered in
     let last_is : last_of home.start (g.T.Table.history c.turn_in-turn.result) ≡ last_after_all home.start (map commit_of seen) = served_last home.start seen (g.T.Table.history c.turn_in-turn.result) l.before.handed_back answered t.1 in
     (subst (λ (m : ℕ). Runs m (versions_in (group_of w.layout.parts.parts))) (sym last_is) h.may.runs, h.may.some, h.may.members)
+
+pub lead-turn-requires-clause-parts : goal.lead-turn-requires-clause-parts
+lead-turn-requires-clause-parts g c =
+    let e = c.args.self.now in let w = c.args.client.now in let h = c.requires.leaves.5 in
+    subst (λ ks. HaveParts (g.T.Table.account w.seat).number ks (group_of w.layout.parts.parts)) (sym c.as_slice.ensures.value) h.may.each
 
 pub lead-turn-requires-clause-end : goal.lead-turn-requires-clause-end
 lead-turn-requires-clause-end g c =
@@ -143,7 +148,7 @@ returns-clause-fits g c =
       ((let k = c.exit_pipelined.new.replies.list.ok.0 in let none = ap length c.exit_pipelined.ensures.replies.0 in omega (arith, k, none)), c.exit_pipelined.ensures.replies.0, subst (λ (k : ℕ). n ≤ k) (sym c.exit_pipelined.ensures.replies.1) l.replies_room),
       x.room,
     )
-    (roomy n _ (record { no_plans = l.layout.no_plans; no_batches = l.layout.no_batches; clients_are = lead.emptied.1 ∙ l.layout.clients_are; plans = l.layout.plans; batches = l.layout.batches; members = subst (λ (k : ℕ). n ≤ k) (sym c.note_members.ensures.room) l.layout.members }) emptied)
+    (roomy n _ (record { no_plans = l.layout.no_plans; no_batches = l.layout.no_batches; clients_are = lead.emptied.1 ∙ l.layout.clients_are; plans = l.layout.plans; batches = l.layout.batches; members = l.layout.members }) emptied)
 
 pub returns-clause-answered : goal.returns-clause-answered
 returns-clause-answered g c number start mine own seen h =

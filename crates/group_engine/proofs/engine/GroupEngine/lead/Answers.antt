@@ -1,8 +1,8 @@
-use Rattle.std.proofs.Common.{◌≡◌, ◌≤◌, ◌<◌, ℕ, List, [], ◌∷◌, ◌++◌, length, sym, ap, ◌∙◌, subst, arith, map, refl, Option, Some, None}
+use Rattle.std.proofs.Common.{◌≡◌, ◌≤◌, ◌<◌, ℕ, List, [], ◌∷◌, ◌++◌, length, sym, ap, ◌∙◌, subst, arith, map, refl, Option, Some, None, IfSome, is_none}
 use Rattle.std.specs.List.{AllByRecursion}
 use Rattle.std.proofs.lemmas.Bool.{false≢true}
 use Rattle.list_rule.specs.declared.view.Entry.{Entry}
-use Rattle.list_rule.specs.Chain.{all_answers}
+use Rattle.list_rule.specs.Chain.{Within, all_answers}
 use Rattle.list_rule.specs.Rule.{last_run}
 use Rattle.writer_list.specs.Seats.{about_of, client_of, clients_of, told, told_in_first}
 use Rattle.writer_list.specs.Rooms.{HasRoom}
@@ -13,6 +13,8 @@ use Rattle.group_engine.specs.Clients.{own_commits}
 use Rattle.group_engine.specs.Handled.{seen_for}
 use Rattle.group_engine.specs.Led.{IsLedGroup, LeadsBy}
 use Rattle.group_engine.specs.Serving.{IsReplyAt}
+use Rattle.group_engine.specs.Numbering.{AreBeside, others_in}
+use Rattle.group_engine.proofs.Members.{AreIn, are_members}
 use Rattle.group_engine.proofs.Leads.{LogIn, asked_own, belongs_as, fresh_same, has_as, has_led, leads_by, noted_as, of_engine, of_list, own_now, own_reply_at, shown_as, wanted_in}
 use Rattle.group_engine.proofs.Paying.{pays_length}
 use Rattle.group_engine.proofs.Whole.{led_of}
@@ -89,7 +91,7 @@ leave-requires-clause-leaves g c =
     let requests_room = served.requests_room ∙ c.group.ensures.room.1 in
     let own_at : seen_for t.own_reply ≡ served.known = own_reply_at served.known own t.own_reply t.gs (subst (AllByRecursion (IsReplyAt served.known)) t.pays_are served.of_delay) in
     let no_end : c.serve-held.result.1 ≡ None = none_is c.serve-held.result.1 c.in_default.not-Some in
-    let staged = subst (λ (o : Option ℕ). IsStaged v.number n c.args.held.path.last held.path.last o parts w.lists.replies.list.items) no_end c.serve-held.ensures.staged in
+    let staged = subst (λ (o : Option ℕ). IsStaged v.number n c.args.held.path.last held.path.last o w.layout.members.items parts w.lists.replies.list.items) no_end c.serve-held.ensures.staged in
     let leaves : IsToLeave g.T.Table.opening g.T.Table.ours g.T.Table.account g.T.Table.our_turn g.T.Table.history e v.number v.start (told v.writer) own L.1 w held = record {
       seats = served.seats;
       layout = served.layout;
@@ -140,7 +142,7 @@ returns-in_default-clause-answered g c own' seen' chosen =
     let requests_room = served.requests_room ∙ c.group.ensures.room.1 in
     let own_at : seen_for t.own_reply ≡ served.known = own_reply_at served.known own t.own_reply t.gs (subst (AllByRecursion (IsReplyAt served.known)) t.pays_are served.of_delay) in
     let no_end : c.serve-held.result.1 ≡ None = none_is c.serve-held.result.1 c.in_default.not-Some in
-    let staged = subst (λ (o : Option ℕ). IsStaged v.number n c.args.held.path.last held.path.last o parts w.lists.replies.list.items) no_end c.serve-held.ensures.staged in
+    let staged = subst (λ (o : Option ℕ). IsStaged v.number n c.args.held.path.last held.path.last o w.layout.members.items parts w.lists.replies.list.items) no_end c.serve-held.ensures.staged in
     let leaves : IsToLeave g.T.Table.opening g.T.Table.ours g.T.Table.account g.T.Table.our_turn g.T.Table.history e v.number v.start (told v.writer) own L.1 w held = record {
       seats = served.seats;
       layout = served.layout;
@@ -205,7 +207,7 @@ hand_on-requires-clause-leaves g c =
     let l = pays_length c.group.new.requests.list.items w.lists.replies.list.items served.in_order in
     let requests_room = served.requests_room ∙ c.group.ensures.room.1 in
     let own_at : seen_for t.own_reply ≡ served.known = own_reply_at served.known own t.own_reply t.gs (subst (AllByRecursion (IsReplyAt served.known)) t.pays_are served.of_delay) in
-    let staged = subst (λ (o : Option ℕ). IsStaged v.number n c.args.held.path.last held.path.last o parts w.lists.replies.list.items) c.in-Some.is c.serve-held.ensures.staged in
+    let staged = subst (λ (o : Option ℕ). IsStaged v.number n c.args.held.path.last held.path.last o w.layout.members.items parts w.lists.replies.list.items) c.in-Some.is c.serve-held.ensures.staged in
     let path = subst (λ (o : Option ℕ). LogIn about held (published_with o parts st.published) (L.1 ++ all)) c.in-Some.is led.path in
     let may = staged.1 in
     let piped = is_piped g.T.Table.our_turn g.T.Table.history about.table.value about.pipelined st.published held.turn hs.turn c.in-None.is in
@@ -239,9 +241,11 @@ hand_on-requires-clause-leaves g c =
     let seat_number : v.number ≡ (g.T.Table.account w.seat).number = sym served.number ∙ sym served.seats.seat_number in
     let home = g.T.Table.opening e.table in
     let last_is : c.args.held.path.last ≡ last_after_all home.start (map commit_of L.1) = st.path.consistent.last_is ∙ ap (λ (k : ℕ). last_after_all k (map commit_of L.1)) E.start in
+    let beside = subst (λ (o : Option ℕ). IfSome o (λ _. AreBeside (is_none c.args.held.turn) (others_in c.group.new.requests.list.items) w.layout.members.items)) c.in-Some.is c.serve-held.ensures.beside in
     let hands : IsToHandOn g.T.Table.opening g.T.Table.ours g.T.Table.account g.T.Table.our_turn g.T.Table.history e v.number v.start (told v.writer) own L.1 w (record { path = held.path; turn = None; clock = held.clock; asked = held.asked }) c.in-Some.end = record {
       leaves = leaves;
-      may = subst (λ (z : ℕ × ℕ × ℕ). MayLaunch z.0 z.1 z.2 c.in-Some.end (group_of parts)) (λ i. (seat_number i, sym E.clients i, last_is i)) may;
+      may = subst (λ (z : ℕ × ℕ × ℕ). MayLaunch z.0 z.1 z.2 c.in-Some.end w.layout.members.items (group_of parts)) (λ i. (seat_number i, sym E.clients i, last_is i)) may;
+      beside = are_members n own t.gs w.layout.members.items (subst (Within n) (sym t.heads_are) G.2.3) (subst (λ xs. AreIn (others_in xs) w.layout.members.items) (G.3 ∙ ap (asks own) (sym t.heads_are)) beside.of_group);
       made = group_made L.1 all st.published (group_of parts) st.path.consistent.images path.consistent.images;
     } in
     (v.number, v.start, told v.writer, own, L.1, hands)
@@ -266,7 +270,7 @@ publish_alone-turn-requires-clause-may g c =
     let l = pays_length c.group.new.requests.list.items w.lists.replies.list.items served.in_order in
     let requests_room = served.requests_room ∙ c.group.ensures.room.1 in
     let own_at : seen_for t.own_reply ≡ served.known = own_reply_at served.known own t.own_reply t.gs (subst (AllByRecursion (IsReplyAt served.known)) t.pays_are served.of_delay) in
-    let staged = subst (λ (o : Option ℕ). IsStaged v.number n c.args.held.path.last held.path.last o parts w.lists.replies.list.items) c.in-Some.is c.serve-held.ensures.staged in
+    let staged = subst (λ (o : Option ℕ). IsStaged v.number n c.args.held.path.last held.path.last o w.layout.members.items parts w.lists.replies.list.items) c.in-Some.is c.serve-held.ensures.staged in
     let path = subst (λ (o : Option ℕ). LogIn about held (published_with o parts st.published) (L.1 ++ all)) c.in-Some.is led.path in
     let may = staged.1 in
     let one = single g.T.Table.our_turn g.T.Table.history about.table.value about.pipelined st.published held.turn c.in-Some-turn.turn hs.turn c.in-Some-turn.is in
@@ -274,7 +278,9 @@ publish_alone-turn-requires-clause-may g c =
     let seat_number : v.number ≡ (g.T.Table.account w.seat).number = sym served.number ∙ sym served.seats.seat_number in
     let ends : last_of about.start st.published ≡ c.args.held.path.last = history_end our_log as_is tt about.opened.value about.start about.clients about.group_bytes (noted c.args.held.asked) c.args.held.path.log st.published c.args.held.path.last L.1 st.path in
     let last_is : c.args.held.path.last ≡ last_of home.start (g.T.Table.history c.in-Some-turn.turn) = sym ends ∙ (λ i. last_of (E.start i) (sym one.2 i)) in
-    subst (λ (z : ℕ × ℕ × ℕ). MayLaunch z.0 z.1 z.2 c.in-Some.end (group_of parts)) (λ i. (seat_number i, sym E.clients i, last_is i)) may
+    let beside = subst (λ (o : Option ℕ). IfSome o (λ _. AreBeside (is_none c.args.held.turn) (others_in c.group.new.requests.list.items) w.layout.members.items)) c.in-Some.is c.serve-held.ensures.beside in
+    let alone : w.layout.members.items ≡ [] = beside.alone (ap is_none (sym c.serve-held.ensures.turn ∙ c.in-Some-turn.is)) in
+    subst (λ (z : ℕ × ℕ × ℕ × List ℕ). MayLaunch z.0 z.1 z.2 c.in-Some.end z.3 (group_of parts)) (λ i. (seat_number i, sym E.clients i, last_is i, alone i)) may
 
 pub leave-requires-in-Some-turn-clause-leaves : goal.leave-requires-in-Some-turn-clause-leaves
 leave-requires-in-Some-turn-clause-leaves g c =
@@ -296,7 +302,7 @@ leave-requires-in-Some-turn-clause-leaves g c =
     let l = pays_length c.group.new.requests.list.items w.lists.replies.list.items served.in_order in
     let requests_room = served.requests_room ∙ c.group.ensures.room.1 in
     let own_at : seen_for t.own_reply ≡ served.known = own_reply_at served.known own t.own_reply t.gs (subst (AllByRecursion (IsReplyAt served.known)) t.pays_are served.of_delay) in
-    let staged = subst (λ (o : Option ℕ). IsStaged v.number n c.args.held.path.last held.path.last o parts w.lists.replies.list.items) c.in-Some.is c.serve-held.ensures.staged in
+    let staged = subst (λ (o : Option ℕ). IsStaged v.number n c.args.held.path.last held.path.last o w.layout.members.items parts w.lists.replies.list.items) c.in-Some.is c.serve-held.ensures.staged in
     let path = subst (λ (o : Option ℕ). LogIn about held (published_with o parts st.published) (L.1 ++ all)) c.in-Some.is led.path in
     let may = staged.1 in
     let one = single g.T.Table.our_turn g.T.Table.history about.table.value about.pipelined st.published held.turn c.in-Some-turn.turn hs.turn c.in-Some-turn.is in
@@ -350,7 +356,7 @@ returns-in-None-clause-answered g c own' seen' chosen =
     let l = pays_length c.group.new.requests.list.items w.lists.replies.list.items served.in_order in
     let requests_room = served.requests_room ∙ c.group.ensures.room.1 in
     let own_at : seen_for t.own_reply ≡ served.known = own_reply_at served.known own t.own_reply t.gs (subst (AllByRecursion (IsReplyAt served.known)) t.pays_are served.of_delay) in
-    let staged = subst (λ (o : Option ℕ). IsStaged v.number n c.args.held.path.last held.path.last o parts w.lists.replies.list.items) c.in-Some.is c.serve-held.ensures.staged in
+    let staged = subst (λ (o : Option ℕ). IsStaged v.number n c.args.held.path.last held.path.last o w.layout.members.items parts w.lists.replies.list.items) c.in-Some.is c.serve-held.ensures.staged in
     let path = subst (λ (o : Option ℕ). LogIn about held (published_with o parts st.published) (L.1 ++ all)) c.in-Some.is led.path in
     let may = staged.1 in
     let piped = is_piped g.T.Table.our_turn g.T.Table.history about.table.value about.pipelined st.published held.turn hs.turn c.in-None.is in
@@ -384,9 +390,11 @@ returns-in-None-clause-answered g c own' seen' chosen =
     let seat_number : v.number ≡ (g.T.Table.account w.seat).number = sym served.number ∙ sym served.seats.seat_number in
     let home = g.T.Table.opening e.table in
     let last_is : c.args.held.path.last ≡ last_after_all home.start (map commit_of L.1) = st.path.consistent.last_is ∙ ap (λ (k : ℕ). last_after_all k (map commit_of L.1)) E.start in
+    let beside = subst (λ (o : Option ℕ). IfSome o (λ _. AreBeside (is_none c.args.held.turn) (others_in c.group.new.requests.list.items) w.layout.members.items)) c.in-Some.is c.serve-held.ensures.beside in
     let hands : IsToHandOn g.T.Table.opening g.T.Table.ours g.T.Table.account g.T.Table.our_turn g.T.Table.history e v.number v.start (told v.writer) own L.1 w (record { path = held.path; turn = None; clock = held.clock; asked = held.asked }) c.in-Some.end = record {
       leaves = leaves;
-      may = subst (λ (z : ℕ × ℕ × ℕ). MayLaunch z.0 z.1 z.2 c.in-Some.end (group_of parts)) (λ i. (seat_number i, sym E.clients i, last_is i)) may;
+      may = subst (λ (z : ℕ × ℕ × ℕ). MayLaunch z.0 z.1 z.2 c.in-Some.end w.layout.members.items (group_of parts)) (λ i. (seat_number i, sym E.clients i, last_is i)) may;
+      beside = are_members n own t.gs w.layout.members.items (subst (Within n) (sym t.heads_are) G.2.3) (subst (λ xs. AreIn (others_in xs) w.layout.members.items) (G.3 ∙ ap (asks own) (sym t.heads_are)) beside.of_group);
       made = group_made L.1 all st.published (group_of parts) st.path.consistent.images path.consistent.images;
     } in
     let fresh = fresh_same v.writer.client v.writer.client own own' L.1 seen' (told v.writer) (told v.writer) (sym L.2.0 ∙ chosen.0) in
@@ -421,7 +429,7 @@ returns-in-Some-turn-clause-answered g c own' seen' chosen =
     let l = pays_length c.group.new.requests.list.items w.lists.replies.list.items served.in_order in
     let requests_room = served.requests_room ∙ c.group.ensures.room.1 in
     let own_at : seen_for t.own_reply ≡ served.known = own_reply_at served.known own t.own_reply t.gs (subst (AllByRecursion (IsReplyAt served.known)) t.pays_are served.of_delay) in
-    let staged = subst (λ (o : Option ℕ). IsStaged v.number n c.args.held.path.last held.path.last o parts w.lists.replies.list.items) c.in-Some.is c.serve-held.ensures.staged in
+    let staged = subst (λ (o : Option ℕ). IsStaged v.number n c.args.held.path.last held.path.last o w.layout.members.items parts w.lists.replies.list.items) c.in-Some.is c.serve-held.ensures.staged in
     let path = subst (λ (o : Option ℕ). LogIn about held (published_with o parts st.published) (L.1 ++ all)) c.in-Some.is led.path in
     let may = staged.1 in
     let one = single g.T.Table.our_turn g.T.Table.history about.table.value about.pipelined st.published held.turn c.in-Some-turn.turn hs.turn c.in-Some-turn.is in

@@ -1,4 +1,4 @@
-use Rattle.std.proofs.Common.{◌≡◌, ◌≤◌, ◌-◌, ℕ, List, [], ◌∷◌, ◌++◌, length, refl, sym, ap, ◌∙◌, subst, take, drop, vec_capacity, arith}
+use Rattle.std.proofs.Common.{◌≡◌, ◌≤◌, ◌-◌, ℕ, Bool, IfSome, List, [], ◌∷◌, ◌++◌, length, refl, sym, ap, ◌∙◌, subst, take, drop, vec_capacity, arith}
 use Rattle.std.specs.List.{AllByRecursion, AllZip}
 use Rattle.wp_model.specs.Controller.{ControllerCall, Look}
 use Rattle.wp_model.specs.Replies.{HoldUp}
@@ -15,10 +15,13 @@ use Rattle.group_engine.specs.declared.requests.Reply.{Reply}
 use Rattle.group_engine.specs.Asking.{HasAskedFor, OnlyLooks, all_seen}
 use Rattle.group_engine.specs.Handled.{HandsBack, InOrder, IsHeldUp, commit_requests_of, handled_with, seen_at}
 use Rattle.group_engine.specs.Law.{LogStandsFor}
+use Rattle.group_engine.specs.Numbering.{AreBeside, others_in}
 use Rattle.group_engine.specs.Staged.{IsStaged, published_with}
 use Rattle.group_engine.specs.declared.layout.Layout.{Layout}
 use Rattle.table_rule.specs.declared.content.MemberVersions.{MemberVersions}
+use Rattle.group_engine.proofs.Members.{others_unnoted}
 use Rattle.group_engine.proofs.Staging.{laid, no_runs_held}
+use Rattle.group_engine.proofs.Turning.{is_none_by}
 use Rattle.group_engine.specs.Layout.{IsClear}
 use Rattle.group_engine.specs.Led.{IsLedGroup}
 use Rattle.group_engine.proofs.Serves.{as_many, asked_after, asked_delays, asked_is, asked_sees, asked_shown, back_unnoted, first_flag, held_at, held_back, held_order, held_shown, led_unnoted, looks_sees, order_unnoted, put_back, replies_at, replies_shown, stands_by, stands_held_up, stands_noted}
@@ -186,7 +189,7 @@ returns-clause-served g c =
         clients_are = H.taken.3 ∙ S.layout.clear.3;
         plans = subst (λ m. clients_of e.list ≤ m) (sym H.room.1) S.layout.plans;
         batches = subst (λ m. clients_of e.list ≤ m) (sym H.room.2) S.layout.batches;
-        members = subst (λ v. clients_of e.list ≤ vec_capacity v) (sym H.members) S.layout.members;
+        members = subst (λ m. clients_of e.list ≤ m) (sym H.room.4) S.layout.members;
       };
       seat = refl;
       number = refl;
@@ -236,3 +239,14 @@ returns-clause-held g c hs st =
       path = stands_by our_log as_is about.opened.value p.log now p.last tt tt about.start about.start many about.clients about.group_bytes about.group_bytes (seen_at d) (noted c.ask-asked.result.1) (hs ++ handled_with xs ys) refl refl (sym clients_are) refl (is ∙ sym A.note.1) as_was;
       turn = st.turn;
     }
+
+pub returns-clause-beside : goal.returns-clause-beside
+returns-clause-beside g c =
+    let v = c.args.client.now in
+    let xs : List (ℕ × Request) = v.lists.requests.list.items in
+    let L = v.lists.requests.list in let new : List (ℕ × Request) = c.ask-asked.new.requests in
+    let left : List (ℕ × Request) = take L.len (new ++ drop (length new) L.items) in
+    let left_is : left ≡ all_seen xs = put_back xs new L.len L.ok.0 (c.ask-asked.ensures.requests ∙ ap all_seen c.deref_mut.ensures.value) in
+    let others = ap others_in left_is ∙ others_unnoted xs in
+    let apart = is_none_by c.is_none.result c.args.held.turn c.is_none.ensures in
+    subst (λ (z : Bool × List ℕ). IfSome c.log_phase-path.result.1 (λ _. AreBeside z.0 z.1 c.log_phase-path.new.layout.members.items)) (λ i. (apart i, others i)) c.log_phase-path.ensures.beside
