@@ -51,7 +51,7 @@ module _ {Q P : Type 0} (reply_of : P → Reply) where
   module _ (writer_of : Entry Q → Writer) where
     writers_given : IsSame writer_of → (reply : Reply) (es : List (Entry Q)) → map answer_of (all_answered reply (map writer_of es)) ≡ map (given reply) (map wrote es)
     writers_given same reply [] = refl
-    writers_given same reply (e ∷ es) = λ i. ((same e).0 i, Some reply) ∷ writers_given same reply es i
+    writers_given same reply (e ∷ es) = λ i. (same e i, Some reply) ∷ writers_given same reply es i
 
     pub group_given : IsSame writer_of → (reply : Reply) (own : Entry Q) (group : List (Entry Q)) (new : List (Handling Q P)) → IsOfGroup own group new → AllHave reply_of reply new → HasReplies reply_of new (all_answered reply (core_queue writer_of (group ++ own ∷ [])))
     group_given same reply own group new theirs ok = writers_given same reply (reverse (group ++ own ∷ [])) ∙ (ap (λ l. map (given reply) (map wrote l)) (reverse-append group (own ∷ []))

@@ -1,5 +1,5 @@
 -- The events of the list are events of the core.
-use Rattle.std.proofs.Common.{◌≡◌, inr, List, [], ◌∷◌, ◌++◌, length, map, reverse, take, drop, refl, sym, ap, ◌∙◌}
+use Rattle.std.proofs.Common.{◌≡◌, inr, List, [], ◌∷◌, ◌++◌, length, map, reverse, take, drop, refl, sym, ap, ◌∙◌, subst}
 use Rattle.std.proofs.lemmas.List.{reverse-append, map-append, length-map, length-reverse}
 use Rattle.std.proofs.Math.Seq.{take-append_seam, drop-append_seam}
 use Rattle.wp_model.specs.Grouping.{group_len}
@@ -9,7 +9,7 @@ use Rattle.core_model.specs.Halves.{ListHalf, list_half_of}
 use Rattle.core_model.specs.Step.{group_size}
 use Rattle.list_rule.specs.declared.view.Entry.{Entry}
 use Rattle.list_rule.specs.declared.view.Handling.{Handling}
-use Rattle.list_rule.specs.CoreEvents.{IsSame, core_queue, core_log, IsCoreOf, IsEvent}
+use Rattle.list_rule.specs.CoreEvents.{IsSame, HasItems, core_queue, core_log, IsCoreOf, IsEvent}
 use Rattle.list_rule.specs.Events.{Core, comes, elects, builds, exits, after, Enabled}
 use Rattle.list_rule.specs.Grouping.{item_of, codes, items}
 
@@ -23,7 +23,7 @@ module _ {Q P : Type 0} (writer_of : Entry Q → Writer) (o : Options) (s : Stat
   pub links_core : (e : Entry Q) → IsEvent writer_of o (core.Link e.by) s (after k (comes e))
   links_core e =
       let new : ListHalf = record (list_half_of s) { queue = s.queue ++ writer_of e ∷ [] } in
-      (new, inr (writer_of e, (same e).0, refl), (ap (λ q. q ++ writer_of e ∷ []) is.0 ∙ sym (queue_more (e ∷ []) k.0), is.1), refl)
+      (new, inr (writer_of e, same e, refl), (ap (λ q. q ++ writer_of e ∷ []) is.0 ∙ sym (queue_more (e ∷ []) k.0), is.1), refl)
 
   pub elects_core : (e : Entry Q) → Enabled k (elects e) → IsEvent writer_of o (core.Elect e.by) s (after k (elects e))
   elects_core e may = (record (list_half_of s) { log = led e.by }, (is.1 ∙ ap (core_log writer_of) may.0, refl), (is.0, refl), refl)
@@ -33,18 +33,26 @@ module _ {Q P : Type 0} (writer_of : Entry Q → Writer) (o : Options) (s : Stat
   reverse_codes (e ∷ es) = reverse-append (e.code ∷ []) (codes es) ∙ (ap (λ l. l ++ e.code ∷ []) (reverse_codes es)
       ∙ sym (ap (map (λ (e : Entry Q). e.code)) (reverse-append (e ∷ []) es) ∙ map-append (λ (e : Entry Q). e.code) (reverse es) (e ∷ [])))
 
-  items_core : (es : List (Entry Q)) → map item_of_writer (map writer_of es) ≡ map item_of (map (λ (e : Entry Q). e.code) es)
-  items_core [] = refl
-  items_core (e ∷ es) = λ i. (same e).1 i ∷ items_core es i
+  items_both : (a b : List (Entry Q)) → HasItems writer_of a → HasItems writer_of b → HasItems writer_of (a ++ b)
+  items_both [] b x y = y
+  items_both (e ∷ a) b x y = (x.0, items_both a b x.1 y)
 
-  same_items : (q : List (Entry Q)) → map item_of_writer (core_queue writer_of q) ≡ items q
-  same_items q = items_core (reverse q) ∙ ap (map item_of) (sym (reverse_codes q))
+  items_back : (q : List (Entry Q)) → HasItems writer_of q → HasItems writer_of (reverse q)
+  items_back [] has = tt
+  items_back (e ∷ es) has = subst (HasItems writer_of) (sym (reverse-append (e ∷ []) es)) (items_both (reverse es) (e ∷ []) (items_back es has.1) (has.0, tt))
 
-  pub builds_core : (own : Entry Q) (group left : List (Entry Q)) → Enabled k (builds o.group_bytes own group left) → IsEvent writer_of o (core.Build own.by) s (after k (builds o.group_bytes own group left))
-  builds_core own group left may =
+  items_core : (es : List (Entry Q)) → HasItems writer_of es → map item_of_writer (map writer_of es) ≡ map item_of (map (λ (e : Entry Q). e.code) es)
+  items_core [] has = refl
+  items_core (e ∷ es) has = λ i. has.0 i ∷ items_core es has.1 i
+
+  same_items : (q : List (Entry Q)) → HasItems writer_of q → map item_of_writer (core_queue writer_of q) ≡ items q
+  same_items q has = items_core (reverse q) (items_back q has) ∙ ap (map item_of) (sym (reverse_codes q))
+
+  pub builds_core : (own : Entry Q) (group left : List (Entry Q)) → HasItems writer_of k.0 → Enabled k (builds o.group_bytes own group left) → IsEvent writer_of o (core.Build own.by) s (after k (builds o.group_bytes own group left))
+  builds_core own group left has may =
       let whole : List (Entry Q) = group ++ own ∷ [] in
       let size : group_size o s ≡ length (core_queue writer_of whole) =
-      ap (λ q. group_len o.group_bytes (map item_of_writer q)) is.0 ∙ (ap (group_len o.group_bytes) (same_items k.0 ∙ ap items may.1) ∙ (sym may.2 ∙ sym (length-queue whole))) in
+      ap (λ q. group_len o.group_bytes (map item_of_writer q)) is.0 ∙ (ap (group_len o.group_bytes) (same_items k.0 has ∙ ap items may.1) ∙ (sym may.2 ∙ sym (length-queue whole))) in
       let parts : s.queue ≡ core_queue writer_of whole ++ core_queue writer_of left = is.0 ∙ (ap (core_queue writer_of) may.1 ∙ queue_more left whole) in
       let new : ListHalf = record (list_half_of s) { log = in_hand (take (group_size o s) s.queue); queue = drop (group_size o s) s.queue } in (
         new,

@@ -31,7 +31,7 @@ leads_else c (w ∷ ws) = refl
 
 module _ {Q : Type 0} (writer_of : Entry Q → Writer) where
   pub first_leads : IsSame writer_of → (own : Entry Q) (group : List (Entry Q)) → leads own.by (core_queue writer_of (group ++ own ∷ [])) ≡ true
-  first_leads same own group = ap (λ l. leads own.by (map writer_of l)) (reverse-append group (own ∷ [])) ∙ eq-eqb (writer_of own).client own.by (same own).0
+  first_leads same own group = ap (λ l. leads own.by (map writer_of l)) (reverse-append group (own ∷ [])) ∙ eq-eqb (writer_of own).client own.by (same own)
 
   -- its leader is its first writer
   pub group_leads : IsSame writer_of → (own : Entry Q) (group : List (Entry Q)) (ws : List Writer) → IsGroupOf writer_of (group ++ own ∷ []) ws → leads own.by ws ≡ true
@@ -214,7 +214,7 @@ module _ {Q P : Type 0} (reply_of : P → Reply) (c : ℕ) where
 module _ {Q : Type 0} (writer_of : Entry Q → Writer) (same : IsSame writer_of) where
   absent_writers : (c : ℕ) (es : List (Entry Q)) → Absent c es → Out c (map writer_of es)
   absent_writers c [] out = tt
-  absent_writers c (e ∷ es) out = ((λ is. out.0 (sym (same e).0 ∙ is)), absent_writers c es out.1)
+  absent_writers c (e ∷ es) out = ((λ is. out.0 (sym (same e) ∙ is)), absent_writers c es out.1)
 
   absent_back_to_front : (c : ℕ) (es : List (Entry Q)) → Absent c es → Absent c (reverse es)
   absent_back_to_front c [] out = tt

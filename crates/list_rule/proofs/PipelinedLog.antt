@@ -16,7 +16,7 @@ use Rattle.list_rule.specs.declared.view.Entry.{Entry}
 use Rattle.list_rule.specs.declared.view.Handling.{Handling}
 use Rattle.list_rule.specs.declared.view.Squad.{Squad}
 use Rattle.list_rule.specs.Chain.{Absent, all_answers, handling}
-use Rattle.list_rule.specs.CoreEvents.{IsSame, core_queue, core_log, answer_of, answer_in, HasReplies, AllHave, IsCoreOf}
+use Rattle.list_rule.specs.CoreEvents.{IsSame, HasItems, core_queue, core_log, answer_of, answer_in, HasReplies, AllHave, IsCoreOf}
 use Rattle.list_rule.specs.Events.{Core, Held, free, elected, grouped, comes, elects, builds, after, IsNotWith, was_for, without}
 use Rattle.list_rule.specs.PipelinedCoreEvents.{IsRearranged, unanswered, handed_on, HasGroups, IsSettled, IsUnlogged, IsLogOf, IsPipelinedCoreOf, IsTaken, IsCommit, HasLeft}
 use Rattle.list_rule.specs.SecondList.{SecondList}
@@ -94,12 +94,12 @@ module _ {Q P : Type 0} (writer_of : Entry Q → Writer) (reply_of : P → Reply
       )
 
   -- it builds its group
-  pub groups_core : (own : Entry Q) (group left : List (Entry Q)) → IsSame writer_of → Stands → HappensAlone (builds o.group_bytes own group left) a b → IsTaken writer_of reply_of o (core.Build own.by) s [] b
-  groups_core own group left same r ev =
+  pub groups_core : (own : Entry Q) (group left : List (Entry Q)) → IsSame writer_of → HasItems writer_of a.0.0 → Stands → HappensAlone (builds o.group_bytes own group left) a b → IsTaken writer_of reply_of o (core.Build own.by) s [] b
+  groups_core own group left same has r ev =
       let u = unlogged writer_of a.0.1 a.1.1 a.1.2 ws s.log (λ own' group' is. let bad : Path (Held Q) (elected own.by) (grouped own' group') = sym ev.0.0.0 ∙ is in absurd (cc)) r.log in
       let is : s.log ≡ led own.by = u.0 ∙ ap (core_log writer_of) ev.0.0.0 in
       let new : State = record s { log = in_hand (take (group_size o s) s.queue); queue = drop (group_size o s) s.queue } in
-      let half = builds_core writer_of o s a.0 same (r.queue, u.0) own group left ev.0.0 in
+      let half = builds_core writer_of o s a.0 same (r.queue, u.0) own group left has ev.0.0 in
       let now : IsCoreOf writer_of (after a.0 (builds o.group_bytes own group left)) (list_half_of new) = subst (IsCoreOf writer_of (after a.0 (builds o.group_bytes own group left))) half.1.1 half.2 in (
         new,
         (λ i. build o s own.by (is i)) ∙ (λ i. when (eq-eqb own.by own.by refl i) new),

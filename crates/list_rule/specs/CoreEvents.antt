@@ -11,9 +11,14 @@ use Rattle.list_rule.specs.Grouping.{item_of}
 
 -- the core's writer of each writer of the list
 module _ {Q : Type 0} (writer_of : Entry Q → Writer) where
-  -- of the same client, and of the same item
+  -- is of the same client
   abbrev pub IsSame : Type 0
-  IsSame = (e : Entry Q) → ((writer_of e).client ≡ e.by) × (item_of_writer (writer_of e) ≡ item_of e.code)
+  IsSame = (e : Entry Q) → (writer_of e).client ≡ e.by
+
+  -- and those of this queue have the same items
+  abbrev pub HasItems : List (Entry Q) → Type 0
+  HasItems [] = Unit {0}
+  HasItems (e ∷ es) = (item_of_writer (writer_of e) ≡ item_of e.code) × HasItems es
 
   -- a queue in the core's order, the oldest writer first
   abbrev pub core_queue : List (Entry Q) → List Writer

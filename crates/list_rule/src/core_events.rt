@@ -8,7 +8,7 @@ ghost use Rattle.core_model.specs.Core.{Options, Writer, State, handed, with_run
 ghost use Rattle.core_model.specs.Halves.{ListHalf, ListStep, list_half_of};
 ghost use Rattle.list_rule.specs.declared.view.Entry.{Entry};
 ghost use Rattle.list_rule.specs.declared.view.Handling.{Handling};
-ghost use Rattle.list_rule.specs.CoreEvents.{IsSame, core_queue, IsCoreOf, IsEvent, HasReplies, AllHave, IsSingleCoreOf, IsLogged, IsSingleEvent};
+ghost use Rattle.list_rule.specs.CoreEvents.{IsSame, HasItems, core_queue, IsCoreOf, IsEvent, HasReplies, AllHave, IsSingleCoreOf, IsLogged, IsSingleEvent};
 ghost use Rattle.list_rule.specs.Events.{Core, grouped, comes, elects, builds, exits, completes, after, Enabled, IsOfGroup};
 
 /// Where the core has the same queue, and the log in the same hand, linking, electing and building a group are those
@@ -27,7 +27,8 @@ pub fn list_and_core<Q, P>()
         → IsEvent writer_of o (core.Elect e.by) s (after k (elects e)) }
     ensures build { (writer_of : Entry Q → Writer) (o : Options) (s : State) (k : Core Q P) (own : Entry Q)
         (group left : List (Entry Q))
-        → IsSame writer_of → IsCoreOf writer_of k (list_half_of s) → Enabled k (builds o.group_bytes own group left)
+        → IsSame writer_of → HasItems writer_of k.0 → IsCoreOf writer_of k (list_half_of s)
+        → Enabled k (builds o.group_bytes own group left)
         → IsEvent writer_of o (core.Build own.by) s (after k (builds o.group_bytes own group left)) }
     ensures log { (writer_of : Entry Q → Writer) (reply_of : P → Reply) (o : Options) (s : State) (k : Core Q P)
         (own : Entry Q) (group : List (Entry Q)) (new : List (Handling Q P)) (ws : List Writer)

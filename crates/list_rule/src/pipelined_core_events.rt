@@ -17,7 +17,7 @@ ghost use Rattle.list_rule.specs.Events.{free, grouped, comes, elects, builds};
 ghost use Rattle.list_rule.specs.Standing.{level, ahead, line_of};
 ghost use Rattle.list_rule.specs.Steps.{Lists, HappensAlone, IsExit, IsComplete, IsBoundary, IsSecond, IsNext, IsServedOut};
 ghost use Rattle.list_rule.specs.Handing.{IsInNone, IsJoined};
-ghost use Rattle.list_rule.specs.CoreEvents.{IsSame, HasReplies, AllHave};
+ghost use Rattle.list_rule.specs.CoreEvents.{IsSame, HasItems, HasReplies, AllHave};
 ghost use Rattle.list_rule.specs.PipelinedCoreEvents.{IsGroupOf, IsPipelinedCoreOf, IsTaken, IsCommit, HasLeft};
 
 /// Of a list with a second one: where the core stands as both lists show it, each event of the lists may come in the
@@ -45,7 +45,7 @@ pub fn pipelined_list_and_core<Q, P>()
         → IsTaken writer_of reply_of o (core.Elect e.by) s [] b }
     ensures build { (writer_of : Entry Q → Writer) (reply_of : P → Reply) (o : Options) (s : State) (a b : Lists Q P)
         (ws : List Writer) (own : Entry Q) (group left : List (Entry Q))
-        → IsSame writer_of → IsPipelinedCoreOf writer_of reply_of ws a (list_half_of s)
+        → IsSame writer_of → HasItems writer_of a.0.0 → IsPipelinedCoreOf writer_of reply_of ws a (list_half_of s)
         → HappensAlone (builds o.group_bytes own group left) a b
         → IsTaken writer_of reply_of o (core.Build own.by) s [] b }
     ensures log { (writer_of : Entry Q → Writer) (reply_of : P → Reply) (o : Options) (s : State) (a : Lists Q P)

@@ -9,7 +9,7 @@ pub returns-clause-elect : goal.returns-clause-elect
 returns-clause-elect g c writer_of o s k e same is may = elects_core writer_of o s k same is e may
 
 pub returns-clause-build : goal.returns-clause-build
-returns-clause-build g c writer_of o s k own group left same is may = builds_core writer_of o s k same is own group left may
+returns-clause-build g c writer_of o s k own group left same has is may = builds_core writer_of o s k same is own group left has may
 
 pub returns-clause-log : goal.returns-clause-log
 returns-clause-log g c writer_of reply_of o s k own group new ws is hand runs one has = logs_core reply_of writer_of o s k own group new ws is hand runs one has

@@ -13,7 +13,7 @@ pub returns-clause-elect : goal.returns-clause-elect
 returns-clause-elect g c writer_of reply_of o s a b ws e same r ev = leads_core writer_of reply_of o s a b ws e same r ev
 
 pub returns-clause-build : goal.returns-clause-build
-returns-clause-build g c writer_of reply_of o s a b ws own group left same r ev = groups_core writer_of reply_of o s a b ws own group left same r ev
+returns-clause-build g c writer_of reply_of o s a b ws own group left same has r ev = groups_core writer_of reply_of o s a b ws own group left same has r ev
 
 pub returns-clause-log : goal.returns-clause-log
 returns-clause-log g c writer_of reply_of o s a old ws built own group same r held is alive runs one = logs_there writer_of reply_of o s a a old ws built own group same r held is alive runs one
