@@ -1,5 +1,5 @@
 -- The events of the list are events of the core.
-use Rattle.std.proofs.Common.{◌≡◌, inr, List, [], ◌∷◌, ◌++◌, length, map, reverse, take, drop, refl, sym, ap, ◌∙◌, subst}
+use Rattle.std.proofs.Common.{◌≡◌, ℕ, inr, List, [], ◌∷◌, ◌++◌, length, map, reverse, take, drop, refl, sym, ap, ◌∙◌, subst}
 use Rattle.std.proofs.lemmas.List.{reverse-append, map-append, length-map, length-reverse}
 use Rattle.std.proofs.Math.Seq.{take-append_seam, drop-append_seam}
 use Rattle.wp_model.specs.Grouping.{group_len}
@@ -9,9 +9,16 @@ use Rattle.core_model.specs.Halves.{ListHalf, list_half_of}
 use Rattle.core_model.specs.Step.{group_size}
 use Rattle.list_rule.specs.declared.view.Entry.{Entry}
 use Rattle.list_rule.specs.declared.view.Handling.{Handling}
+use Rattle.list_rule.specs.Chain.{AllCoded}
+use Rattle.wp_model.specs.declared.group.Item.{Item}
 use Rattle.list_rule.specs.CoreEvents.{IsSame, HasItems, core_queue, core_log, IsCoreOf, IsEvent}
 use Rattle.list_rule.specs.Events.{Core, comes, elects, builds, exits, after, Enabled}
-use Rattle.list_rule.specs.Grouping.{item_of, codes, items}
+use Rattle.list_rule.specs.Grouping.{item_of, code_of, code_by, codes, items}
+
+-- a writer made of client and request has its entry's item
+pub coded_items : {Q : Type 0} → ((i : Item) → item_of (code_of i) ≡ i) → (of_request : Q → Item) (writer : ℕ → Q → Writer) → ((c : ℕ) (q : Q) → ((writer c q).client ≡ c) × (item_of_writer (writer c q) ≡ of_request q)) → (queue : List (Entry Q)) → AllCoded (λ q code. code ≡ code_by of_request q) queue → HasItems (λ e. writer e.by e.asked) queue
+coded_items back of_request writer is [] coded = tt
+coded_items back of_request writer is (e ∷ es) coded = ((is e.by e.asked).1 ∙ sym (ap item_of coded.0 ∙ back (of_request e.asked)), coded_items back of_request writer is es coded.1)
 
 module _ {Q P : Type 0} (writer_of : Entry Q → Writer) (o : Options) (s : State) (k : Core Q P) (same : IsSame writer_of) (is : IsCoreOf writer_of k (list_half_of s)) where
   queue_more : (a b : List (Entry Q)) → core_queue writer_of (a ++ b) ≡ core_queue writer_of b ++ core_queue writer_of a

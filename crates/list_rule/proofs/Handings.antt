@@ -11,7 +11,7 @@ use Rattle.list_rule.specs.declared.view.Back.TheVariants.{Away, Parting, Joinin
 use Rattle.list_rule.specs.declared.view.Stage.{Stage}
 use Rattle.list_rule.specs.declared.view.Stage.TheVariants.{Idle, Preparing, Waiting, Fresh, Leading, Cutting, Marking, Settling, Collecting}
 use Rattle.list_rule.specs.declared.content.Content.{Content}
-use Rattle.list_rule.specs.Chain.{Absent, newest, Links}
+use Rattle.list_rule.specs.Chain.{AllCoded, Absent, newest, Links}
 use Rattle.list_rule.specs.Events.{Held, grouped, IsNotWith}
 use Rattle.list_rule.specs.Standing.{Phase, linked, chosen, leads, taken, Mode, open_, waits, led, built, cut, marked, Place, away, parted, queued, called, serves, served, Turn, still, calls, held_by, passes, Two, ahead, line_of, flat, In, InStep, KnowsBack}
 use Rattle.list_rule.specs.Laws.{Laws}
@@ -21,7 +21,7 @@ use Rattle.list_rule.specs.SecondList.{served_in, last_served}
 use Rattle.list_rule.specs.Steps.{now_of}
 use Rattle.list_rule.specs.Handing.{Sees, IsWalked, IsOwn, IsJoined, IsServed, IsNewestGroup, IsOldestGroup}
 use Rattle.list_rule.proofs.Groups.{absent_append, absent_front, absent_back, taken_absent}
-use Rattle.list_rule.proofs.Leads.{one_leads}
+use Rattle.list_rule.proofs.Leads.{one_leads, coded_in}
 use Rattle.list_rule.proofs.Seconds.{in_one, behind_in, flat_snoc, with_absent, absent_groups, member_absent}
 use Rattle.list_rule.proofs.Settles.{handled_out, one_taker}
 
@@ -139,6 +139,25 @@ module _ {Q P L M : Type 0} (stands : Laws Q P L M) (n : ℕ) (s : State (Conten
       by_mode (marked c) ok shows has = in_hand_out c has.0 has.1 ok.3 ok.2 has.3
 
 module _ {Q P L M : Type 0} (stands : Laws Q P L M) (n : ℕ) (s : State (Content Q P L M) (List (Hold Q P))) (r : Listed stands n s) where
+  -- the codes of the queue are those of its requests
+  pub queue_coded : AllCoded stands.asks (now_of stands n s r).0.0
+  queue_coded = by_mode r.mode r.account.shows
+    where
+      front : (es rest : List (Entry Q)) → AllCoded stands.asks (es ++ rest) → AllCoded stands.asks es
+      front [] rest ok = tt
+      front (e ∷ es) rest ok = (ok.0, front es rest ok.1)
+
+      whole : AllCoded stands.asks r.line
+      whole = coded_in stands n s r r.line r.stand
+
+      by_mode : (mode : Mode Q) → Shows r.line r.account.queue r.account.log mode → AllCoded stands.asks r.account.queue
+      by_mode open_ shows = subst (AllCoded stands.asks) shows.0 whole
+      by_mode (waits c) shows = subst (AllCoded stands.asks) shows.0 whole
+      by_mode (led c) shows = subst (AllCoded stands.asks) shows.0 whole
+      by_mode (built c g) shows = front r.account.queue (g ++ shows.0.0 ∷ []) (subst (AllCoded stands.asks) shows.0.1 whole)
+      by_mode (cut c w) shows = subst (AllCoded stands.asks) shows.0 whole
+      by_mode (marked c) shows = subst (AllCoded stands.asks) shows.0 whole
+
   -- the walk of the second list
   pub walked_is : IsWalked (now_of stands n s r) s.words
   walked_is = (r.two.groups, last_served r.two.place r.two.turn, refl, few r.two.turn, r.second.newest_is, r.second.links)

@@ -218,7 +218,7 @@ module _ {Q P L M : Type 0} (stands : Laws Q P L M) (n : ℕ) where
         ),
       )
 
-  coded_in : (s : St stands n) (r : Listed stands n s) (es : List (Entry Q)) → Stand r.phase es → AllCoded stands.asks es
+  pub coded_in : (s : St stands n) (r : Listed stands n s) (es : List (Entry Q)) → Stand r.phase es → AllCoded stands.asks es
   coded_in s r [] ok = tt
   coded_in s r (e ∷ es) ok = (r.coded e.by e ok.0, coded_in s r es ok.1)
 

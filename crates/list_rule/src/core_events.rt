@@ -1,16 +1,24 @@
 //! The events of the list are events of the write path's core.
 ghost use Rattle.std.specs.Prelude.{◌≡◌, ◌∷◌, ◌++◌, [], ℕ, List, true, false};
 ghost use Rattle.std.specs.List.{list_any};
+ghost use Rattle.wp_model.specs.declared.group.Item.{Item};
 ghost use Rattle.wp_model.specs.Calls.{Reply, refused};
 ghost use Rattle.wp_model.specs.declared.write.Refusal.TheVariants as no;
 ghost use Rattle.core_model.specs.declared.event.Event.TheVariants as core;
-ghost use Rattle.core_model.specs.Core.{Options, Writer, State, handed, with_runs, has_run};
+ghost use Rattle.core_model.specs.Core.{Options, Writer, State, item_of, handed, with_runs, has_run};
 ghost use Rattle.core_model.specs.Halves.{ListHalf, ListStep, list_half_of};
 ghost use Rattle.list_rule.specs.declared.view.Entry.{Entry};
 ghost use Rattle.list_rule.specs.declared.view.Handling.{Handling};
+ghost use Rattle.list_rule.specs.Chain.{AllCoded};
+ghost use Rattle.list_rule.specs.Grouping.{code_by};
 ghost use Rattle.list_rule.specs.CoreEvents.{IsSame, HasItems, core_queue, IsCoreOf, IsEvent, HasReplies, AllHave, IsSingleCoreOf, IsLogged, IsSingleEvent};
 ghost use Rattle.list_rule.specs.Events.{Core, grouped, comes, elects, builds, exits, completes, after, Enabled, IsOfGroup};
 
+use crate::code::codes_stand_for_items;
+
+/// Where a writer of the core is made of each entry's client and request, with their items, it has the item of its entry
+/// in each queue whose codes are those of the requests.
+///
 /// Where the core has the same queue, and the log in the same hand, linking, electing and building a group are those
 /// events of the core, and it has the same queue and the log in the same hand after them.
 ///
@@ -19,6 +27,11 @@ ghost use Rattle.list_rule.specs.Events.{Core, grouped, comes, elects, builds, e
 /// event of the core. Where groups are handed on to a second list, a group leaves the first by the core's `next`. What
 /// the core does in between with the group in hand is no event of the list.
 pub fn list_and_core<Q, P>()
+    ensures writers { (items : Q → Item) (writer : ℕ → Q → Writer)
+        → ((c : ℕ) (q : Q) → ((writer c q).client ≡ c) × (item_of (writer c q) ≡ items q))
+        → IsSame {Q = Q} (λ e. writer e.by e.asked)
+        × ((queue : List (Entry Q)) → AllCoded (λ q code. code ≡ code_by items q) queue
+        → HasItems (λ e. writer e.by e.asked) queue) }
     ensures link { (writer_of : Entry Q → Writer) (o : Options) (s : State) (k : Core Q P) (e : Entry Q)
         → IsSame writer_of → IsCoreOf writer_of k (list_half_of s)
         → IsEvent writer_of o (core.Link e.by) s (after k (comes e)) }
@@ -64,4 +77,6 @@ pub fn list_and_core<Q, P>()
         (h : Handling Q P)
         → IsSingleCoreOf writer_of reply_of k (list_half_of s)
         → IsSingleEvent writer_of reply_of o (core.Complete h.by) s (after k (completes h)) }
-{}
+{
+    codes_stand_for_items();
+}

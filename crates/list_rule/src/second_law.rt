@@ -15,9 +15,9 @@ ghost use Rattle.list_rule.specs.declared.view.Lead.{Lead};
 ghost use Rattle.list_rule.specs.declared.view.Squad.{Squad};
 ghost use Rattle.list_rule.specs.declared.view.Stage.{Stage};
 ghost use Rattle.list_rule.specs.declared.view.Stage.TheVariants.{Leading, Cutting, Marking, Settling};
-ghost use Rattle.list_rule.specs.Chain.{state_at, older_at, pack, newest, heads, all_answers};
+ghost use Rattle.list_rule.specs.Chain.{AllCoded, state_at, older_at, pack, newest, heads, all_answers};
 ghost use Rattle.list_rule.specs.Standing.{line_of};
-ghost use Rattle.list_rule.specs.Laws.{laws_for, logs_picked, given_runs};
+ghost use Rattle.list_rule.specs.Laws.{laws_for, asks_for, logs_picked, given_runs};
 ghost use Rattle.list_rule.specs.Plays.{Sat, At, AtWith, HandsOn, IsCut, parting, in_hand, debt, slots_of, peeked, cut_as, marked_off, woken_on, freed, traced_marked, cut_marked, aimed_second, joined, summoned, kept, left_second, traced_second, cleared_second, called_next};
 ghost use Rattle.list_rule.specs.Steps.{now_of, Stays, HappensWhere, IsBoundary, IsSecond, IsNext, IsServedOut, StepIs};
 ghost use Rattle.list_rule.specs.Handing.{Sees, IsWalked, IsOwn, IsInNone, IsJoined, IsServed, IsNewestGroup, IsOldestGroup};
@@ -135,7 +135,7 @@ pub fn second_steps_and_events<Q: Itemized, P: Given, L: Ledger<Q, P, M>, M>()
 /// the right is the oldest one. Who is told by a leader that is in neither list, and such a leader itself, is in
 /// neither, nor of the group in hand. The leader that a stage tells of is the client itself. And the walk from the
 /// second list's newest writer is its groups, but for an oldest one whose leader has cut it off and has the right
-/// still.
+/// still. The codes of the queue are those of its requests.
 pub fn handing_on<Q: Itemized, P: Given, L: Ledger<Q, P, M>, M>()
     ensures cut { (z : Start L.About) (s : State (Content Q P L M) (List (Hold Q P)))
         (r : Listed (laws_for Q.item_of L.lawful L.stands L.kept L.number_of P.run_of L.serves z) z.clients s)
@@ -171,6 +171,10 @@ pub fn handing_on<Q: Itemized, P: Given, L: Ledger<Q, P, M>, M>()
         (r : Listed (laws_for Q.item_of L.lawful L.stands L.kept L.number_of P.run_of L.serves z) z.clients s)
         → IsWalked (now_of (laws_for Q.item_of L.lawful L.stands L.kept L.number_of P.run_of L.serves z) z.clients s r)
         s.words }
+    ensures coded { (z : Start L.About) (s : State (Content Q P L M) (List (Hold Q P)))
+        (r : Listed (laws_for Q.item_of L.lawful L.stands L.kept L.number_of P.run_of L.serves z) z.clients s)
+        → AllCoded (asks_for Q.item_of L.lawful z.about)
+        (now_of (laws_for Q.item_of L.lawful L.stands L.kept L.number_of P.run_of L.serves z) z.clients s r).0.0 }
     ensures own { (z : Start L.About) (s : State (Content Q P L M) (List (Hold Q P)))
         (id c : ℕ) (stage : Stage Q P) (mine : List (Q × P)) (back : Back Q P)
         → Listed (laws_for Q.item_of L.lawful L.stands L.kept L.number_of P.run_of L.serves z) z.clients s

@@ -1,4 +1,4 @@
-use Rattle.list_rule.proofs.CoreLaws.{links_core, elects_core, builds_core, nexts_core}
+use Rattle.list_rule.proofs.CoreLaws.{coded_items, links_core, elects_core, builds_core, nexts_core}
 use Rattle.list_rule.proofs.CoreExits.{logs_core, exits_core, log_refuses_core, faults_core, refuses_core, completes_core}
 use Rattle.list_rule.proofs.core_events.list_and_core.Goals as goal
 
@@ -31,3 +31,6 @@ returns-clause-complete g c writer_of reply_of o s k h is = completes_core reply
 
 pub returns-clause-next : goal.returns-clause-next
 returns-clause-next g c writer_of o s k own group new queue log hand = nexts_core writer_of o s k own new queue log
+
+pub returns-clause-writers : goal.returns-clause-writers
+returns-clause-writers g c items writer is = ((λ e. (is e.by e.asked).0), coded_items c.codes_stand_for_items.ensures items writer is)

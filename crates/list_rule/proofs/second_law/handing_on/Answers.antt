@@ -1,4 +1,4 @@
-use Rattle.list_rule.proofs.Handings.{hands_joined, cut_log, joined_newest, served_oldest, told_apart, told_last, own_stage, walked_is}
+use Rattle.list_rule.proofs.Handings.{hands_joined, cut_log, joined_newest, served_oldest, told_apart, told_last, own_stage, walked_is, queue_coded}
 use Rattle.list_rule.proofs.second_law.handing_on.Goals as goal
 
 pub returns-clause-cut : goal.returns-clause-cut
@@ -24,3 +24,6 @@ returns-clause-own g a z s id c stage mine back r sees = own_stage _ z.clients s
 
 pub returns-clause-walked : goal.returns-clause-walked
 returns-clause-walked g a z s r = walked_is _ z.clients s r
+
+pub returns-clause-coded : goal.returns-clause-coded
+returns-clause-coded g a z s r = queue_coded _ z.clients s r
