@@ -16,8 +16,8 @@ ghost use Rattle.list_rule.specs.Events.{Core, grouped, comes, elects, builds, e
 
 use crate::code::codes_stand_for_items;
 
-/// Where a writer of the core is made of each entry's client and request, with their items, it has the item of its entry
-/// in each queue whose codes are those of the requests.
+/// Where a writer of the core is made of each entry's client and request, with their items, it has the item of its
+/// entry in each queue whose codes are those of the requests.
 ///
 /// Where the core has the same queue, and the log in the same hand, linking, electing and building a group are those
 /// events of the core, and it has the same queue and the log in the same hand after them.
