@@ -1,5 +1,5 @@
 -- What a client concludes of its answer.
-use Rattle.std.proofs.Common.{◌≡◌, ◌≢◌, ◌⊎◌, inl, inr, ℕ, ◌+◌, ◌-◌, ◌<◌, ◌≤◌, Bool, true, false, not, cond, ◌==◌, ◌&&◌, filter, map, List, [], ◌∷◌, ◌++◌, Option, Some, None, MatchOption, IfSome, Result, Ok, Err, IfOk, IfErr, length, refl, ap, sym, ◌∙◌, subst, arith, append_assoc, append-nil}
+use Rattle.std.proofs.Common.{◌≡◌, inr, ℕ, ◌-◌, ◌≤◌, Bool, true, false, not, cond, ◌==◌, ◌&&◌, map, List, [], ◌∷◌, ◌++◌, Option, Some, None, MatchOption, IfSome, Result, Ok, Err, IfOk, IfErr, length, refl, ap, sym, ◌∙◌, subst, append_assoc, append-nil}
 use Rattle.std.specs.Prelude.{if◌then◌else◌, nat_lt}
 use Rattle.std.specs.List.{AllByRecursion}
 use mathlib.Core.List.{IsPrefix}

@@ -1,5 +1,5 @@
 -- Parts that are apart: each member with a run has its own.
-use Rattle.std.proofs.Common.{◌≡◌, ◌≢◌, ◌⊎◌, inl, inr, ⊎_elim, ℕ, ◌+◌, ◌<◌, ◌≤◌, Bool, true, false, cond, not, nat_le, nat_lt, ◌==◌, map, List, [], ◌∷◌, ◌++◌, length, refl, ap, sym, ◌∙◌, subst, arith, append-nil, append_assoc, length-append}
+use Rattle.std.proofs.Common.{◌≡◌, ◌≢◌, ⊎_elim, ℕ, ◌+◌, ◌≤◌, Bool, true, false, cond, not, nat_le, nat_lt, ◌==◌, List, [], ◌∷◌, ◌++◌, length, refl, ap, sym, ◌∙◌, subst, arith, append-nil, length-append}
 use Rattle.std.specs.List.{AllByRecursion}
 use Rattle.std.proofs.lemmas.Bool.{ne_eqb, eq-eqb, le-leb, lt-ltb, le-ltb}
 use Rattle.std.proofs.lemmas.List.Elements.{filter-append}
@@ -12,7 +12,7 @@ use Rattle.table_rule.specs.Histories.{Apart, Members, versions_in}
 use Rattle.mem_table.specs.declared.parts.MemberNodes.{MemberNodes}
 use Rattle.mem_table.specs.Parts.{group_of, with_part}
 use Rattle.memtable_stage.specs.Parts.{HaveParts, members_of}
-use Rattle.group_rule.specs.Plans.{AreLawful, CommitRequest, HaveOwnClients, last_with, versions_from}
+use Rattle.group_rule.specs.Plans.{AreLawful, CommitRequest, last_with, versions_from}
 use Rattle.stage_laws.specs.Served.{part_at, parts_from}
 use Rattle.stage_laws.proofs.Parts.{parts_members, parts_versions}
 use Rattle.group_engine.specs.declared.requests.Request.{Request}

@@ -6,7 +6,7 @@ use Rattle.wp_edge.specs.declared.disk.Disk.{Ghosts}
 use Rattle.wp_model.specs.Controller.{ControllerCall, Action, Look, unstop, unslow}
 use Rattle.wp_model.specs.Groups.{is_delay}
 use Rattle.wp_model.specs.Map.{Pairs}
-use Rattle.wp_model.specs.Tokens.{tokens_of, holds_stop, holds_slow, given_back}
+use Rattle.wp_model.specs.Tokens.{tokens_of, given_back}
 use Rattle.wp_model.proofs.Prefixes.{prefix_self, prefix_trans}
 use Rattle.table_rule.specs.declared.view.Opening.{Opening}
 use Rattle.table_rule.specs.Histories.{Begins, In, last_of, map_after}
@@ -17,7 +17,7 @@ use Rattle.write_controller.specs.Delays.{delays_of, place_if}
 use Rattle.write_controller.specs.Passes.{IsPassOf, EndsWith, GoesOn, GivesBack as GivesBackIn, asked_by, seen_by, token_in, client_of as pass_client}
 use Rattle.write_controller.proofs.Account.{ends_begins, ends_tokens, ends_last, goes_begins, goes_tokens}
 use Rattle.write_controller.proofs.Places.{ends_delays, goes_delays}
-use Rattle.group_rule.specs.Asked.{HasAsked, place_of}
+use Rattle.group_rule.specs.Asked.{place_of}
 use Rattle.group_rule.specs.Commits.{Commit}
 use Rattle.group_rule.specs.Entries.{SeesMore}
 use Rattle.group_engine.specs.declared.engine.GroupEngine.{GroupEngine}

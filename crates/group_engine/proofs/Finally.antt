@@ -1,5 +1,5 @@
 -- At the end the right to launch is at one place, and what is published is what was handled.
-use Rattle.std.proofs.Common.{◌≡◌, ◌⊎◌, inl, inr, ⊎_elim, ℕ, Bool, true, false, map, List, [], ◌∷◌, ◌++◌, Option, Some, None, refl, sym, ap, ◌∙◌, subst}
+use Rattle.std.proofs.Common.{◌≡◌, ◌⊎◌, inl, inr, ⊎_elim, Bool, true, false, map, List, [], Option, Some, None, refl, sym, ap, ◌∙◌, subst}
 use Rattle.wp_edge.specs.declared.disk.Disk.{Ghosts}
 use Rattle.table_rule.specs.declared.content.MemberVersions.{MemberVersions}
 use Rattle.list_rule.specs.declared.view.Handling.{Handling}
@@ -14,7 +14,7 @@ use Rattle.group_engine.specs.declared.held.Right.{Right}
 use Rattle.group_engine.specs.declared.requests.Request.{Request}
 use Rattle.group_engine.specs.declared.requests.Reply.{Reply}
 use Rattle.group_engine.specs.Handled.{AreHandled, commit_of}
-use Rattle.group_engine.specs.Law.{HeldStandsFor, LogStandsFor, RightStandsFor, ServesIs, TurnIs}
+use Rattle.group_engine.specs.Law.{HeldStandsFor, RightStandsFor, ServesIs, TurnIs}
 use Rattle.group_engine.specs.Runs.{run_of}
 use Rattle.group_engine.proofs.Leads.{LogIn}
 use Rattle.group_engine.proofs.Onto.{given_accepted}

@@ -1,5 +1,5 @@
 -- The law of the list, in the engine's own words.
-use Rattle.std.proofs.Common.{◌≡◌, ◌⊎◌, inl, inr, ⊎_elim, ℕ, ◌+◌, ◌-◌, ◌<◌, ◌≤◌, Bool, true, false, cond, ◌==◌, map, List, [], ◌∷◌, ◌++◌, Option, None, length, refl, ap, sym, ◌∙◌, subst, arith, length-append, append-nil}
+use Rattle.std.proofs.Common.{◌≡◌, inl, inr, ⊎_elim, ℕ, ◌-◌, Bool, true, false, cond, ◌==◌, List, [], ◌∷◌, ◌++◌, None, length, refl, ap, sym, ◌∙◌, subst}
 use Rattle.std.specs.List.{AllByRecursion}
 use Rattle.std.proofs.lemmas.Bool.{ne_eqb, eq-eqb}
 use Rattle.wp_edge.specs.declared.disk.Disk.{Ghosts}
@@ -11,13 +11,13 @@ use Rattle.list_rule.specs.declared.view.Entry.{Entry}
 use Rattle.list_rule.specs.declared.view.Handling.{Handling}
 use Rattle.list_rule.specs.Chain.{Absent, Distinct, heads, handling, answers, all_answers, of}
 use Rattle.list_rule.specs.declared.view.Stage.TheVariants.{Fresh}
-use Rattle.list_rule.specs.Rule.{asks_for, hold, last_run, logs_from}
+use Rattle.list_rule.specs.Rule.{asks_for, hold, last_run}
 use Rattle.list_rule.specs.Plays.{Sat}
 use Rattle.writer_list.specs.declared.writer.Role.{Role}
 use Rattle.writer_list.specs.declared.writer.Role.TheVariants.{LogLeader, Done}
 use Rattle.writer_list.specs.declared.writer.Writer.{Writer}
 use Rattle.writer_list.specs.declared.writer_list.WriterList.{WriterList}
-use Rattle.writer_list.specs.Seats.{about_of, start_of, told, told_in_first, Belongs, HasGroup}
+use Rattle.writer_list.specs.Seats.{about_of, told, told_in_first, Belongs, HasGroup}
 use Rattle.writer_list.specs.declared.writer.Task.{Task}
 use Rattle.writer_list.specs.declared.writer.Task.TheVariants.{Awaits, Leads as Leads_, Helps, Queues, Serves}
 use Rattle.writer_list.specs.Roles.{asks, pays, IsLinked, Becomes}
@@ -36,7 +36,6 @@ use Rattle.group_engine.specs.Handled.{AreHandled, HandsBack, InOrder, IsNoted, 
 use Rattle.group_engine.specs.Items.{item_with}
 use Rattle.group_engine.specs.Law.{LogStandsFor, kept_in}
 use Rattle.write_controller.specs.Passes.{noted}
-use Rattle.group_engine.specs.Runs.{run_of}
 use Rattle.group_engine.specs.Led.{LeadsBy}
 use Rattle.group_engine.specs.Serving.{IsReplyAt}
 use Rattle.group_engine.proofs.Answered.{commit, own_more}

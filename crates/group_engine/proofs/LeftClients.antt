@@ -1,5 +1,5 @@
 -- A client that has left its group.
-use Rattle.std.proofs.Common.{◌≡◌, ℕ, ◌<◌, ◌≤◌, List, [], ◌∷◌, ◌++◌, length, refl, sym, ap, ◌∙◌, subst, arith, vec_capacity}
+use Rattle.std.proofs.Common.{◌≡◌, ℕ, List, [], ◌∷◌, ◌++◌, sym, ap, ◌∙◌, subst}
 use Rattle.wp_edge.specs.declared.disk.Disk.{Ghosts}
 use Rattle.table_rule.specs.declared.content.MemberVersions.{MemberVersions}
 use Rattle.table_rule.specs.declared.view.Opening.{Opening}
@@ -17,7 +17,7 @@ use Rattle.group_engine.specs.declared.held.Held.{Held}
 use Rattle.group_engine.specs.declared.layout.Layout.{Layout}
 use Rattle.group_engine.specs.declared.requests.Request.{Request}
 use Rattle.group_engine.specs.declared.requests.Reply.{Reply}
-use Rattle.group_engine.specs.Clients.{IsClientOf, opened_log, own_commits, told_of}
+use Rattle.group_engine.specs.Clients.{IsClientOf, opened_log, own_commits}
 use Rattle.group_engine.specs.Layout.{IsLaid, IsRoomy}
 use Rattle.group_engine.specs.Leaving.{HasAnswered, IsToLeave}
 use Rattle.group_engine.proofs.Leads.{of_engine}

@@ -1,14 +1,14 @@
 -- What a leader's steps come to.
-use Rattle.std.proofs.Common.{rules, ◌≡◌, ◌≢◌, ◌⊎◌, inl, inr, ℕ, zero, suc, ◌==◌, ◌+◌, ◌-◌, ◌<◌, ◌≤◌, Bool, true, false, cond, nat_le, map, List, [], ◌∷◌, ◌++◌, Option, Some, None, Result, Ok, Err, length, get_or, refl, ap, sym, ◌∙◌, subst, ⊎_elim, arith, append_assoc, append-nil, length-append}
+use Rattle.std.proofs.Common.{rules, ◌≡◌, inl, inr, ℕ, zero, suc, ◌==◌, ◌+◌, ◌<◌, ◌≤◌, Bool, true, false, cond, nat_le, map, List, [], ◌∷◌, ◌++◌, Option, Some, None, Result, Ok, Err, length, get_or, refl, ap, sym, ◌∙◌, subst, ⊎_elim, arith, length-append}
 use Rattle.std.specs.List.{AllByRecursion}
 use Rattle.wp_edge.specs.declared.disk.Disk.{Ghosts}
 use Rattle.wp_model.specs.declared.write.WriteOptions.{WriteOptions}
-use Rattle.wp_model.specs.Batch.{Record, count_of}
+use Rattle.wp_model.specs.Batch.{count_of}
 use Rattle.wp_model.specs.History.{max_sequence}
 use Rattle.write_batch.specs.Contents.{Contents}
 use Rattle.log_writer.specs.declared.errors.Fault.{Fault}
 use Rattle.log_writer.specs.declared.writer.LogWriter.{LogWriter}
-use Rattle.log_writer.specs.Adding.{GroupCall, Adds, call_of, count_of_fault}
+use Rattle.log_writer.specs.Adding.{Adds, call_of, count_of_fault}
 use Rattle.table_rule.specs.declared.content.Version.{Version}
 use Rattle.mem_table.specs.declared.parts.MemberNodes.{MemberNodes}
 use Rattle.table_rule.specs.Batches.{made, numbered}

@@ -1,5 +1,5 @@
 -- A leader that puts its group into the table in a stage of its own.
-use Rattle.std.proofs.Common.{◌≡◌, ℕ, ◌+◌, ◌<◌, ◌≤◌, Bool, true, false, cond, ◌==◌, map, List, [], ◌∷◌, ◌++◌, Option, Some, None, Result, Ok, Err, length, refl, sym, ap, ◌∙◌, subst, arith}
+use Rattle.std.proofs.Common.{◌≡◌, ℕ, ◌≤◌, Bool, true, false, cond, ◌==◌, map, List, [], ◌∷◌, ◌++◌, Option, Some, None, Result, Ok, Err, refl, sym, ap, ◌∙◌, subst, arith}
 use Rattle.std.specs.List.{AllByRecursion}
 use Rattle.std.proofs.lemmas.Bool.{ne_eqb}
 use Rattle.wp_edge.specs.declared.disk.Disk.{Ghosts}
@@ -8,7 +8,7 @@ use Rattle.wp_model.specs.declared.write.Refusal.TheVariants.{Empty, TooLarge, S
 use Rattle.wp_model.specs.Batch.{count_of}
 use Rattle.write_batch.specs.Contents.{Contents}
 use Rattle.table_rule.specs.declared.content.MemberVersions.{MemberVersions}
-use Rattle.table_rule.specs.Histories.{Images, last_of, made_by, versions_in}
+use Rattle.table_rule.specs.Histories.{last_of, made_by, versions_in}
 use Rattle.table_rule.proofs.Images.{images_more}
 use Rattle.list_rule.specs.declared.view.Debt.{Debt}
 use Rattle.list_rule.specs.declared.view.Handling.{Handling}

@@ -1,5 +1,5 @@
 -- A leader's replies as those that the list is given, and the law's number.
-use Rattle.std.proofs.Common.{◌≡◌, ◌≢◌, ℕ, zero, suc, ◌+◌, ◌-◌, ◌<◌, ◌≤◌, Bool, true, false, cond, ◌==◌, map, List, [], ◌∷◌, ◌++◌, Option, None, Result, Ok, Err, length, refl, ap, sym, ◌∙◌, subst, arith, append_assoc, append-nil, length-append}
+use Rattle.std.proofs.Common.{◌≡◌, ℕ, suc, ◌+◌, ◌-◌, ◌≤◌, cond, ◌==◌, map, List, [], ◌∷◌, ◌++◌, Option, Result, Ok, Err, length, refl, ap, sym, ◌∙◌, arith}
 use Rattle.std.specs.List.{AllByRecursion}
 use Rattle.std.proofs.lemmas.Bool.{ne_eqb}
 use Rattle.wp_model.specs.declared.write.Refusal.{Refusal}
@@ -8,7 +8,7 @@ use Rattle.wp_model.specs.Batch.{count_of}
 use Rattle.write_batch.specs.Contents.{Contents}
 use Rattle.list_rule.specs.declared.view.Entry.{Entry}
 use Rattle.list_rule.specs.declared.view.Handling.{Handling}
-use Rattle.list_rule.specs.Chain.{Absent, Distinct, Within, heads, handling, answers, all_answers, of}
+use Rattle.list_rule.specs.Chain.{heads, handling, all_answers}
 use Rattle.list_rule.specs.Rule.{last_run}
 use Rattle.writer_list.specs.Roles.{asks, pays}
 use Rattle.group_engine.specs.declared.requests.Request.{Request}

@@ -1,18 +1,14 @@
 -- What the leader's answers are as commits.
-use Rattle.std.proofs.Common.{◌≡◌, ◌≢◌, ◌⊎◌, inl, inr, ℕ, suc, ◌+◌, ◌-◌, ◌<◌, ◌≤◌, Bool, true, false, cond, nat_le, map, List, [], ◌∷◌, ◌++◌, Option, Some, None, Ok, Err, length, refl, ap, sym, ◌∙◌, subst, ⊎_elim, arith, append_assoc, append-nil}
+use Rattle.std.proofs.Common.{◌≡◌, ℕ, suc, ◌+◌, ◌≤◌, Bool, true, false, cond, nat_le, map, List, [], ◌∷◌, ◌++◌, length, refl, ap, arith}
 use Rattle.std.specs.List.{AllByRecursion}
 use Rattle.wp_model.specs.declared.write.Refusal.TheVariants.{LogFault, SequenceFull}
-use Rattle.wp_model.specs.Batch.{Record, count_of}
+use Rattle.wp_model.specs.Batch.{count_of}
 use Rattle.wp_model.specs.History.{max_sequence}
 use Rattle.write_batch.specs.Contents.{Contents}
 use Rattle.std.specs.declared.snapshot.Snapshot.{Snapshot}
-use Rattle.list_rule.specs.declared.view.Handling.{Handling}
 use Rattle.group_engine.specs.declared.requests.Request.{Request}
 use Rattle.group_engine.specs.declared.requests.Delay.{Delay}
-use Rattle.group_engine.specs.declared.requests.Reply.{Reply}
-use Rattle.group_engine.specs.declared.numbering.Plan.{Plan}
 use Rattle.group_engine.specs.declared.numbering.Plan.TheVariants.{Run, Full}
-use Rattle.group_engine.specs.declared.numbering.Outcome.{Outcome}
 use Rattle.group_engine.specs.declared.numbering.Outcome.TheVariants.{Written, Faulted}
 use Rattle.group_engine.specs.Handled.{ComesBack, HandsBack, IsReplyOf, accepted_reply, commit_of, commit_request_of, commit_requests_of, failures, handled_with, refused_reply, remembered, replies_of, seen_at}
 use Rattle.group_engine.specs.Numbering.{AreEnough, answers, batch_at, batches_of, plans_of}

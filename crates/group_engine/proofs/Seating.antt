@@ -1,5 +1,5 @@
 -- How the clients of an opened engine are made of their writers and seats.
-use Rattle.std.proofs.Common.{◌≡◌, ◌⊎◌, inl, inr, ℕ, zero, suc, ◌+◌, map, slice_get, List, [], ◌∷◌, ◌++◌, Some, length, vec_len, Vec, refl, ap, sym, ◌∙◌, subst, ⊎_elim, arith}
+use Rattle.std.proofs.Common.{◌≡◌, inl, inr, ℕ, zero, suc, ◌+◌, map, slice_get, List, [], ◌∷◌, ◌++◌, Some, length, vec_len, Vec, refl, ap, sym, ◌∙◌, subst, ⊎_elim, arith}
 use Rattle.std.specs.List.{range_with_len}
 use Rattle.wp_edge.specs.declared.disk.Disk.{Ghosts}
 use Rattle.table_rule.specs.declared.view.Opening.{Opening}

@@ -1,9 +1,8 @@
 -- How large a group's batches are together.
-use Rattle.std.proofs.Common.{◌≡◌, ℕ, suc, ◌+◌, ◌*◌, ◌-◌, ◌<◌, ◌≤◌, ◌^◌, Bool, true, false, cond, nat_le, map, List, [], ◌∷◌, ◌++◌, length, refl, ap, sym, ◌∙◌, subst, arith, length-append}
-use Rattle.std.specs.List.{sum_by}
-use Rattle.std.proofs.lemmas.Bool.{leb-true, leb-false}
+use Rattle.std.proofs.Common.{◌≡◌, ℕ, suc, ◌+◌, ◌*◌, ◌≤◌, Bool, true, false, cond, nat_le, List, [], ◌∷◌, ◌++◌, length, refl, arith, length-append}
+use Rattle.std.proofs.lemmas.Bool.{leb-true}
 use Rattle.std.proofs.lemmas.List.Sums.{sum_by-cons}
-use Rattle.wp_model.specs.Batch.{Record, value, deletion, single_deletion, log_data, is_counted, count_of, record_bytes, body, size_of_batch}
+use Rattle.wp_model.specs.Batch.{Record, value, deletion, single_deletion, log_data, is_counted, count_of, record_bytes, body}
 use Rattle.wp_model.specs.History.{max_sequence}
 use Rattle.write_batch.specs.Contents.{Contents}
 use Rattle.log_writer.specs.Groups.{counts_of, body_lens_of}

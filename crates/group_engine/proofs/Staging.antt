@@ -1,5 +1,5 @@
 -- A group that has runs may be launched, and one that has none has no parts.
-use Rattle.std.proofs.Common.{◌≡◌, ℕ, ◌+◌, ◌<◌, ◌≤◌, Bool, true, false, nat_le, List, [], ◌∷◌, ◌++◌, Result, length, refl, ap, sym, ◌∙◌, subst, arith}
+use Rattle.std.proofs.Common.{◌≡◌, ℕ, ◌+◌, ◌<◌, Bool, true, false, nat_le, List, [], ◌∷◌, Result, length, refl, ap, sym, ◌∙◌, subst, arith}
 use Rattle.std.specs.List.{AllByRecursion, AllZip}
 use Rattle.wp_model.specs.Controller.{Look}
 use Rattle.write_controller.specs.declared.controller.Controller.{Controller}
@@ -10,7 +10,7 @@ use Rattle.group_engine.specs.Layout.{IsLaid, IsRoomy}
 use Rattle.wp_model.specs.Batch.{count_of}
 use Rattle.wp_model.specs.History.{max_sequence}
 use Rattle.table_rule.specs.declared.content.MemberVersions.{MemberVersions}
-use Rattle.table_rule.specs.Histories.{Runs, versions_in}
+use Rattle.table_rule.specs.Histories.{Runs}
 use Rattle.group_rule.specs.Plans.{CommitRequest, batches_from, last_with, last_with_all, versions_from}
 use Rattle.group_rule.proofs.Plans.{versions_runs}
 use Rattle.group_engine.specs.declared.requests.Delay.{Delay}

@@ -1,6 +1,5 @@
 -- The law is kept by each end of a leader's work.
-use Rattle.std.proofs.Common.{◌≡◌, ◌≢◌, ◌⊎◌, inl, inr, ℕ, suc, ◌+◌, ◌<◌, ◌≤◌, map, List, [], ◌∷◌, ◌++◌, Option, Some, None, MatchOption, length, refl, ap, sym, ◌∙◌, subst, ⊎_elim, arith, append_assoc, append-nil}
-use Rattle.std.specs.List.{AllByRecursion}
+use Rattle.std.proofs.Common.{◌≡◌, ◌⊎◌, inl, inr, ℕ, ◌+◌, ◌≤◌, map, List, [], ◌∷◌, ◌++◌, Option, Some, None, MatchOption, length, refl, ap, sym, ◌∙◌, subst, ⊎_elim}
 use Rattle.wp_edge.specs.declared.disk.Disk.{Ghosts}
 use Rattle.wp_model.specs.History.{max_sequence}
 use Rattle.wp_model.specs.Controller.{ControllerCall, Look}
@@ -8,9 +7,9 @@ use Rattle.wp_model.specs.Log.{record_text}
 use Rattle.log_writer.specs.declared.writer.LogWriter.{LogWriter}
 use Rattle.log_writer.specs.Words.{fault_of, len_of}
 use Rattle.log_writer.specs.Adding.{GroupCall, Adds, Grows, Stops, record_of_call}
-use Rattle.log_writer.specs.Written.{Wrote, no_call, one_more}
+use Rattle.log_writer.specs.Written.{Wrote, one_more}
 use Rattle.table_rule.specs.declared.content.MemberVersions.{MemberVersions}
-use Rattle.table_rule.specs.Histories.{last_of, versions_of, Runs, made_by}
+use Rattle.table_rule.specs.Histories.{last_of}
 use Rattle.table_rule.proofs.Images.{images_versions}
 use Rattle.list_rule.specs.declared.view.Handling.{Handling}
 use Rattle.group_engine.specs.declared.requests.Request.{Request}

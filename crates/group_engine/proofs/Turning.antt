@@ -1,10 +1,7 @@
 -- Where the right to launch is, and what a group adds to what is published.
-use Rattle.std.proofs.Common.{◌≡◌, ℕ, suc, ◌+◌, ◌<◌, ◌≤◌, Bool, true, false, cond, ◌==◌, map, List, [], ◌∷◌, ◌++◌, Option, Some, None, is_some, is_none, not, Result, Ok, Err, length, refl, sym, ap, ◌∙◌, subst, arith, append_assoc, append-nil}
-use Rattle.std.specs.List.{AllByRecursion}
+use Rattle.std.proofs.Common.{◌≡◌, ℕ, Bool, true, false, cond, ◌==◌, map, List, [], ◌∷◌, ◌++◌, Option, Some, None, is_some, is_none, not, Result, Ok, Err, refl, sym, ap, ◌∙◌, subst, append_assoc, append-nil}
 use Rattle.std.proofs.lemmas.List.{append_cancel_left}
-use Rattle.wp_model.specs.declared.write.Refusal.{Refusal}
 use Rattle.table_rule.specs.declared.content.MemberVersions.{MemberVersions}
-use Rattle.table_rule.specs.declared.content.Version.{Version}
 use Rattle.table_rule.specs.Histories.{Images, made_by, versions_in, versions_of}
 use Rattle.table_rule.proofs.Images.{images_versions}
 use Rattle.list_rule.specs.declared.view.Handling.{Handling}

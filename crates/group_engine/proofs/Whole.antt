@@ -1,23 +1,18 @@
 -- What the list's grouping says of the requests that a leader has.
-use Rattle.std.proofs.Common.{◌≡◌, ◌≢◌, ℕ, zero, suc, ◌+◌, ◌<◌, ◌≤◌, true, false, map, slice_get, Some, List, [], ◌∷◌, ◌++◌, length, reverse, take, refl, ap, sym, ◌∙◌, subst, arith, append_assoc, append-nil, length-append}
+use Rattle.std.proofs.Common.{◌≡◌, ◌≢◌, ℕ, zero, suc, ◌<◌, ◌≤◌, true, false, map, slice_get, Some, List, [], ◌∷◌, ◌++◌, length, reverse, take, refl, ap, sym, ◌∙◌, subst, arith, length-append}
 use Rattle.std.specs.List.{AllByRecursion}
 use Rattle.std.proofs.lemmas.List.{reverse-append, map-append}
 use Rattle.wp_model.specs.declared.group.Item.{Item}
 use Rattle.wp_model.specs.Batch.{count_of}
 use Rattle.wp_model.specs.Grouping.{group_len}
-use Rattle.group_build.specs.LongestGroup.{MayJoin, IsLongestGroup}
 use Rattle.group_build.proofs.Longest.{longest}
 use Rattle.account_model.proofs.Wholes.{whole_of_queue}
 use Rattle.list_rule.specs.declared.view.Entry.{Entry}
-use Rattle.list_rule.specs.declared.view.Handling.{Handling}
 use Rattle.list_rule.specs.Chain.{Absent, Distinct, Within, AllCoded}
 use Rattle.list_rule.specs.Grouping.{code_of, code_by, item_of, codes, items, IsWhole}
 use Rattle.writer_list.specs.Roles.{asks}
-use Rattle.writer_list.specs.Seats.{HasGroup}
-use Rattle.writer_list.specs.declared.writer.Writer.{Writer}
 use Rattle.group_rule.specs.Plans.{CommitRequest, item_of_request, AreLawful, HaveOwnClients}
 use Rattle.group_engine.specs.declared.requests.Request.{Request}
-use Rattle.group_engine.specs.declared.requests.Reply.{Reply}
 use Rattle.group_engine.specs.Items.{item_with}
 use Rattle.group_engine.specs.Handled.{commit_request_of, commit_requests_of}
 use Rattle.group_engine.specs.Led.{IsLedGroup}

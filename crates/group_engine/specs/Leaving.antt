@@ -1,5 +1,5 @@
 -- A leader that has answered its group, and gives the log on.
-use Rattle.std.specs.Prelude.{◌≡◌, ℕ, ◌<◌, ◌≤◌, List, [], ◌∷◌, ◌++◌, map, vec_len, vec_capacity}
+use Rattle.std.specs.Prelude.{◌≡◌, ℕ, ◌≤◌, List, [], ◌∷◌, ◌++◌, map, vec_len, vec_capacity}
 use Rattle.wp_edge.specs.declared.disk.Disk.{Ghosts}
 use Rattle.log_writer.specs.declared.writer.LogWriter.{LogWriter}
 use Rattle.table_rule.specs.declared.content.MemberVersions.{MemberVersions}
@@ -16,7 +16,6 @@ use Rattle.writer_list.specs.Rooms.{HasRoom, TakesRequests}
 use Rattle.writer_list.specs.Seats.{about_of, client_of, clients_of, flat_of, start_of, told, Belongs, HasGroup}
 use Rattle.write_controller.specs.declared.controller.Controller.{Controller}
 use Rattle.write_controller.specs.Passes.{seen_by}
-use Rattle.wp_model.specs.Controller.{ControllerCall}
 use Rattle.group_rule.specs.Asked.{HasAsked}
 use Rattle.group_rule.specs.Commits.{last_after_all}
 use Rattle.group_rule.specs.Entries.{versions_made}
@@ -26,7 +25,7 @@ use Rattle.group_engine.specs.declared.held.About.{About}
 use Rattle.group_engine.specs.declared.held.Held.{Held}
 use Rattle.group_engine.specs.declared.requests.Request.{Request}
 use Rattle.group_engine.specs.declared.requests.Reply.{Reply}
-use Rattle.group_engine.specs.Clients.{own_commits, told_of}
+use Rattle.group_engine.specs.Clients.{own_commits}
 use Rattle.group_engine.specs.Handled.{AreHandled, IsNoted, commit_of}
 use Rattle.group_engine.specs.Items.{item_with}
 use Rattle.group_engine.specs.Runs.{run_of}

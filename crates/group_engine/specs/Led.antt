@@ -1,7 +1,6 @@
 -- The group that a leader has in hand.
 use Rattle.std.specs.Prelude.{◌≡◌, ℕ, true, false, List, [], ◌∷◌}
-use Rattle.wp_model.specs.declared.write.WriteOptions.{WriteOptions}
-use Rattle.group_rule.specs.Plans.{CommitRequest, AreLawful, AreLogged, AreUnlogged, IsWholeGroup, MayNotWait}
+use Rattle.group_rule.specs.Plans.{AreLawful, AreLogged, AreUnlogged, IsWholeGroup, MayNotWait}
 use Rattle.group_rule.specs.LogCalls.{SyncsFor}
 use Rattle.group_engine.specs.declared.requests.Request.{Request}
 use Rattle.group_engine.specs.Handled.{commit_requests_of}

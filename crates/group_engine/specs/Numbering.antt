@@ -1,5 +1,5 @@
 -- What a leader lays out while it gives its group runs, and its answers.
-use Rattle.std.specs.Prelude.{◌≡◌, ◌⊎◌, ℕ, ◌+◌, ◌<◌, ◌≤◌, Bool, false, not, ◌==◌, List, [], ◌∷◌, ◌++◌, length, map, filter, Ok, Err, nat_le, if◌then◌else◌, ⊤}
+use Rattle.std.specs.Prelude.{◌≡◌, ◌⊎◌, ℕ, ◌+◌, ◌<◌, Bool, false, not, ◌==◌, List, [], ◌∷◌, ◌++◌, length, map, filter, Ok, Err, nat_le, if◌then◌else◌, ⊤}
 use Rattle.std.specs.List.{AllByRecursion}
 use Rattle.wp_model.specs.declared.write.Refusal.TheVariants.{LogFault, SequenceFull}
 use Rattle.wp_model.specs.Batch.{Record, count_of}
@@ -53,8 +53,8 @@ parts_with member last records parts = if nat_le (last + count_of records) max_s
 abbrev pub others_than : ℕ → List ℕ → List ℕ
 others_than leader members = filter (λ (member : ℕ). not (member == leader)) members
 
--- The parts have these versions together, and each member once. Where there are any, they are the leader's, and those of
--- just these who are to work beside it.
+-- The parts have these versions together, and each member once. Where there are any, they are the leader's, and those
+-- of just these who are to work beside it.
 pub record AreParts (leader clients : ℕ) (beside : List ℕ) (versions : List Version) (parts : List MemberVersions) :
     Type 0 where
   pub versions_are : versions_in parts ≡ versions

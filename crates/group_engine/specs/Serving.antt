@@ -1,5 +1,5 @@
 -- A leader that has its group's requests, and one that has answered them.
-use Rattle.std.specs.Prelude.{◌≡◌, ℕ, ◌-◌, ◌<◌, ◌≤◌, List, [], ◌∷◌, ◌++◌, length, vec_capacity}
+use Rattle.std.specs.Prelude.{◌≡◌, ℕ, ◌-◌, ◌≤◌, List, [], ◌∷◌, ◌++◌, length, vec_capacity}
 use Rattle.std.specs.List.{AllByRecursion}
 use Rattle.wp_edge.specs.declared.disk.Disk.{Ghosts}
 use Rattle.table_rule.specs.declared.view.Opening.{Opening}

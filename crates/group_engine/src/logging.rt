@@ -49,8 +49,9 @@ fn log_group<D: Disk>(
     log.add_group(last + 1, batches, options.sync)
 }
 
-/// Writes a group to the log, and answers each member. Where members have runs their parts lie on the layout then, for the
-/// table, apart if they may be, with those who are to work beside the leader, and the answer is the group's last sequence.
+/// Writes a group to the log, and answers each member. Where members have runs their parts lie on the layout then, for
+/// the table, apart if they may be, with those who are to work beside the leader, and the answer is the group's last
+/// sequence.
 pub(crate) fn log_phase<D: Disk>(
     path: LogPath<D>,
     leader: u32,

@@ -113,7 +113,8 @@ pub(crate) fn number_apart(
     requires members { AreLawful parts.old.clients (commit_requests_of requests.old.items)
         × HaveOwnClients (commit_requests_of requests.old.items) }
     requires room { (length requests.old.items ≤ vec_capacity plans.old)
-        × (length requests.old.items ≤ vec_capacity batches.old) × (length requests.old.items ≤ vec_capacity members.old) }
+        × (length requests.old.items ≤ vec_capacity batches.old)
+        × (length requests.old.items ≤ vec_capacity members.old) }
     requires empty { (plans.old.items ≡ []) × (batches.old.items ≡ []) × (parts.old.parts ≡ [])
         × (members.old.items ≡ []) }
     ensures reached { result ≡ last_with_all last (commit_requests_of requests.old.items) }
@@ -148,8 +149,8 @@ fn note_member(member: u32, leader: u32, has_part: bool, members: &mut Vec<u32>)
     }
 }
 
-/// Whether it is worth waking the members, so that each inserts its own part: they bring so many records beside the
-/// leader's, on the average.
+/// Whether the members beside the leader bring so many records, on the average, that it is worth waking them, so that
+/// each inserts its own part.
 fn are_worth_waking(requests: &[(u32, Request)]) -> bool {
     let mut records: u64 = 0;
     for (_, request) in requests.iter().skip(1) {
@@ -159,9 +160,9 @@ fn are_worth_waking(requests: &[(u32, Request)]) -> bool {
     records >= members.saturating_mul(WORTH_WAKING)
 }
 
-/// Gives runs behind `last` to the requests whose runs fit, and answers the sequence given last then. Where the parts may
-/// be apart each member with a run gets its own, and is noted as one that is to work beside the leader. The leader has all
-/// where they may not, where it has no run itself, and where the group isn't worth waking anybody.
+/// Gives runs behind `last` to the requests whose runs fit, and answers the sequence given last then. Where the parts
+/// may be apart each member with a run gets its own, and is noted as one that is to work beside the leader. The leader
+/// has all where they may not, where it has no run itself, and where the group isn't worth waking anybody.
 pub(crate) fn lay_out(
     requests: &mut Vec<(u32, Request)>,
     leader: u32,
@@ -176,7 +177,8 @@ pub(crate) fn lay_out(
     requires group { (group_bytes : ℕ) × IsLedGroup group_bytes parts.old.clients requests.old.items }
     requires leads { LeadsBy leader requests.old.items }
     requires room { (length requests.old.items ≤ vec_capacity plans.old)
-        × (length requests.old.items ≤ vec_capacity batches.old) × (length requests.old.items ≤ vec_capacity members.old) }
+        × (length requests.old.items ≤ vec_capacity batches.old)
+        × (length requests.old.items ≤ vec_capacity members.old) }
     requires empty { (plans.old.items ≡ []) × (batches.old.items ≡ []) × (parts.old.parts ≡ []) }
     ensures reached { result ≡ last_with_all last (commit_requests_of requests.old.items) }
     ensures plans { plans.new.items ≡ plans_of last requests.old.items }

@@ -45,10 +45,10 @@ pub fn await_group<N: Versioned, P: GroupParts<N>, T: Table<N, P>, R: Wait>(
     table.await_published(rt, seat, end)
 }
 
-/// Leads a group of the second list, whose leader has the right: launches its parts, tells its members to work beside it,
-/// works on its own part, and waits until the group is published. `members` are those that have a part beside the
-/// leader, and `end` is the group's last sequence. Who is told without a part would wait for one forever, and the leader
-/// would wait forever for one who has a part and isn't told.
+/// Leads a group of the second list, whose leader has the right: launches its parts, tells its members to work beside
+/// it, works on its own part, and waits until the group is published. `members` are just those that have a part beside
+/// the leader, since who is told without a part waits for one forever, and the leader waits forever for one who has a
+/// part and isn't told. `end` is the group's last sequence.
 pub fn lead<
     Q: Itemized,
     A: Given,

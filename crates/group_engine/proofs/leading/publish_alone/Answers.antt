@@ -1,8 +1,7 @@
-use Rattle.std.proofs.Common.{◌≡◌, List, [], ◌∷◌, map, sym, ap, ◌∙◌, subst}
+use Rattle.std.proofs.Common.{[]}
 use Rattle.mem_table.specs.Parts.{group_of}
 use Rattle.mem_table.specs.declared.parts.MemberNodes.{MemberNodes}
 use Rattle.group_engine.proofs.Standing.{none_of}
-use Rattle.memtable_stage.specs.Working.{HasLaunched}
 use Rattle.memtable_stage.proofs.Own.{own_part}
 use Rattle.group_engine.proofs.leading.publish_alone.Goals as goal
 

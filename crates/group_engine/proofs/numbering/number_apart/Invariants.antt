@@ -1,5 +1,5 @@
 -- What is laid out so far, with what the rest will add, is all.
-use Rattle.std.proofs.Common.{◌≡◌, ◌+◌, ◌≤◌, List, ◌++◌, length, vec_capacity}
+use Rattle.std.proofs.Common.{◌≡◌, ◌+◌, ◌≤◌, ◌++◌, length, vec_capacity}
 use Rattle.wp_model.specs.History.{max_sequence}
 use Rattle.mem_table.specs.Parts.{group_of}
 use Rattle.group_engine.proofs.numbering.number_apart.Given as goal

@@ -1,4 +1,4 @@
-use Rattle.std.proofs.Common.{◌≡◌, ◌+◌, ◌++◌, ◌∷◌, [], ℕ, List, Err, length, length-append, append_assoc, refl, sym, ap, ◌∙◌, arith}
+use Rattle.std.proofs.Common.{◌≡◌, ◌++◌, ◌∷◌, [], ℕ, List, Err, length, length-append, append_assoc, sym, ap, ◌∙◌, arith}
 use Rattle.wp_model.specs.declared.write.Refusal.TheVariants.{LogFault}
 use Rattle.write_batch.specs.Contents.{Contents}
 use Rattle.group_engine.specs.declared.requests.Delay.{Delay}

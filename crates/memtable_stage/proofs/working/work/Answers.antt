@@ -1,5 +1,5 @@
-use Rattle.std.proofs.Common.{◌≡◌, List, [], ◌∷◌, ◌++◌, sym, ap, ◌∙◌, inl, inr, ⊎_elim, append_assoc, append-nil}
-use Rattle.table_rule.specs.Histories.{IsHistory, Begins}
+use Rattle.std.proofs.Common.{◌≡◌, [], ◌∷◌, ◌++◌, sym, ap, ◌∙◌, inl, inr, ⊎_elim, append_assoc, append-nil}
+use Rattle.table_rule.specs.Histories.{Begins}
 use Rattle.memtable_stage.proofs.working.work.Goals as goal
 
 pub returns-clause-works : goal.returns-clause-works

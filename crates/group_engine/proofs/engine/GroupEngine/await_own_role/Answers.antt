@@ -1,4 +1,4 @@
-use Rattle.std.proofs.Common.{◌≡◌, List, [], ◌∷◌, ◌++◌, inl, refl, sym, ap, ◌∙◌, subst}
+use Rattle.std.proofs.Common.{◌≡◌, List, inl, refl, sym, ◌∙◌, subst}
 use Rattle.writer_list.specs.declared.second.PipelinedRole.TheVariants.{LogLeader, MemLeader, Parallel, Done}
 use Rattle.writer_list.specs.Second.{HasPipelinedRole}
 use Rattle.writer_list.specs.Seats.{IsIn, told}

@@ -1,5 +1,5 @@
 -- The writer is in the list still, and its client's seat alone went on.
-use Rattle.std.proofs.Common.{◌≡◌, List}
+use Rattle.std.proofs.Common.{◌≡◌}
 use Rattle.table_rule.specs.Histories.{Begins}
 use Rattle.table_calls.specs.Account.{IsReady}
 use Rattle.writer_list.specs.Seats.{Belongs, IsIn, client_of, told}

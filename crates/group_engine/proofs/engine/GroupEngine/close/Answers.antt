@@ -1,4 +1,4 @@
-use Rattle.std.proofs.Common.{rules, ◌≤◌, ℕ, List, [], map, length, IfSome, refl, sym, ap, subst, arith}
+use Rattle.std.proofs.Common.{rules, ◌≤◌, ℕ, List, map, length, IfSome, refl, sym, ap, subst, arith}
 use Rattle.wp_model.specs.Counts.{Rose}
 use Rattle.log_writer.specs.Words.{fault_of, disk_of}
 use Rattle.log_writer.specs.Written.{Wrote}

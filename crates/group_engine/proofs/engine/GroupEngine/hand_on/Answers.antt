@@ -1,4 +1,4 @@
-use Rattle.std.proofs.Common.{◌≤◌, ◌≡◌, ◌+◌, ℕ, List, [], ◌∷◌, ◌++◌, map, None, length, inr, refl, sym, ap, ◌∙◌, subst, arith, vec_capacity}
+use Rattle.std.proofs.Common.{◌≤◌, ◌≡◌, ◌+◌, ℕ, [], ◌∷◌, ◌++◌, map, None, length, inr, refl, sym, ap, ◌∙◌, subst, arith}
 use Rattle.table_rule.specs.Histories.{Runs, last_of, versions_in}
 use Rattle.mem_table.specs.Parts.{group_of}
 use Rattle.mem_table.specs.declared.parts.MemberNodes.{MemberNodes}

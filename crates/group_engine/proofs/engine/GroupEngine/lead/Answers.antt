@@ -7,15 +7,13 @@ use Rattle.list_rule.specs.Rule.{last_run}
 use Rattle.writer_list.specs.Seats.{about_of, client_of, clients_of, told, told_in_first}
 use Rattle.writer_list.specs.Rooms.{HasRoom}
 use Rattle.write_controller.specs.Passes.{seen_by}
-use Rattle.group_rule.specs.Asked.{HasAsked}
 use Rattle.group_engine.specs.declared.requests.Request.{Request}
-use Rattle.group_engine.specs.Clients.{own_commits}
 use Rattle.group_engine.specs.Handled.{seen_for}
 use Rattle.group_engine.specs.Led.{IsLedGroup, LeadsBy}
 use Rattle.group_engine.specs.Serving.{IsReplyAt}
 use Rattle.group_engine.specs.Numbering.{AreBeside, others_in}
 use Rattle.group_engine.proofs.Members.{AreIn, are_members}
-use Rattle.group_engine.proofs.Leads.{LogIn, asked_own, belongs_as, fresh_same, has_as, has_led, leads_by, noted_as, of_engine, of_list, own_now, own_reply_at, shown_as, wanted_in}
+use Rattle.group_engine.proofs.Leads.{LogIn, asked_own, belongs_as, fresh_same, has_as, has_led, leads_by, noted_as, of_list, own_now, own_reply_at, shown_as, wanted_in}
 use Rattle.group_engine.proofs.Paying.{pays_length}
 use Rattle.group_engine.proofs.Whole.{led_of}
 use Rattle.group_engine.proofs.engine.GroupEngine.lead.Goals as goal

@@ -1,4 +1,4 @@
-use Rattle.std.proofs.Common.{◌≤◌, ◌≡◌, ℕ, List, [], ◌∷◌, ◌++◌, length, refl, sym, ap, ◌∙◌, subst, arith}
+use Rattle.std.proofs.Common.{◌≤◌, ℕ, [], ◌∷◌, ◌++◌, length, refl, sym, ap, ◌∙◌, subst, arith}
 use Rattle.writer_list.specs.Seats.{clients_of}
 use Rattle.group_engine.proofs.LeftClients.{has_answered, left_client, roomy}
 use Rattle.group_engine.proofs.engine.GroupEngine.leave.Goals as goal

@@ -1,4 +1,4 @@
-use Rattle.std.proofs.Common.{rules, ◌≡◌, ◌≤◌, [], sym, ◌∙◌, subst, arith}
+use Rattle.std.proofs.Common.{rules, ◌≡◌, ◌≤◌, sym, ◌∙◌, subst, arith}
 use Rattle.write_controller.specs.Passes.{AreNew}
 use Rattle.group_engine.specs.Layout.{AreRoomy}
 use Rattle.group_engine.proofs.Seating.{seats_count}

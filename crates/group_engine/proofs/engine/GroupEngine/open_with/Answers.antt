@@ -1,4 +1,4 @@
-use Rattle.std.proofs.Common.{rules, ◌≡◌, ◌≤◌, ◌<◌, ◌+◌, ℕ, List, [], Option, Some, None, ◌⊎◌, vec_capacity, refl, sym, ap, ◌∙◌, subst, arith}
+use Rattle.std.proofs.Common.{rules, ◌≡◌, ◌≤◌, ◌<◌, ◌+◌, List, [], Option, Some, None, ◌⊎◌, vec_capacity, refl, sym, ap, ◌∙◌, subst, arith}
 use Rattle.wp_model.specs.History.{max_sequence}
 use Rattle.log_writer.specs.Words.{disk_of}
 use Rattle.log_writer.specs.Opening.{HasOpened}

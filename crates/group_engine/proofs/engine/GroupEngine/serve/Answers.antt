@@ -1,4 +1,4 @@
-use Rattle.std.proofs.Common.{◌≡◌, ◌≤◌, ◌-◌, ℕ, Bool, IfSome, List, [], ◌∷◌, ◌++◌, length, refl, sym, ap, ◌∙◌, subst, take, drop, vec_capacity, arith}
+use Rattle.std.proofs.Common.{◌≡◌, ◌≤◌, ◌-◌, ℕ, Bool, IfSome, List, [], ◌∷◌, ◌++◌, length, refl, sym, ap, ◌∙◌, subst, take, drop, vec_capacity}
 use Rattle.std.specs.List.{AllByRecursion, AllZip}
 use Rattle.wp_model.specs.Controller.{ControllerCall, Look}
 use Rattle.wp_model.specs.Replies.{HoldUp}
@@ -16,13 +16,11 @@ use Rattle.group_engine.specs.Asking.{HasAskedFor, OnlyLooks, all_seen}
 use Rattle.group_engine.specs.Handled.{HandsBack, InOrder, IsHeldUp, commit_requests_of, handled_with, seen_at}
 use Rattle.group_engine.specs.Law.{LogStandsFor}
 use Rattle.group_engine.specs.Numbering.{AreBeside, others_in}
-use Rattle.group_engine.specs.Staged.{IsStaged, published_with}
-use Rattle.group_engine.specs.declared.layout.Layout.{Layout}
+use Rattle.group_engine.specs.Staged.{published_with}
 use Rattle.table_rule.specs.declared.content.MemberVersions.{MemberVersions}
 use Rattle.group_engine.proofs.Members.{others_unnoted}
 use Rattle.group_engine.proofs.Staging.{laid, no_runs_held}
 use Rattle.group_engine.proofs.Turning.{is_none_by}
-use Rattle.group_engine.specs.Layout.{IsClear}
 use Rattle.group_engine.specs.Led.{IsLedGroup}
 use Rattle.group_engine.proofs.Serves.{as_many, asked_after, asked_delays, asked_is, asked_sees, asked_shown, back_unnoted, first_flag, held_at, held_back, held_order, held_shown, led_unnoted, looks_sees, order_unnoted, put_back, replies_at, replies_shown, stands_by, stands_held_up, stands_noted}
 use Rattle.group_engine.proofs.Views.{only_none, unseen_commits}
