@@ -1,7 +1,7 @@
 //! The floor of a log without groups, for `engine_program` beside this file: threads that write the same batches, each
 //! with one call of the system under a mutex. It keeps no map and answers no reads, and nothing is proved.
 //!
-//! The arguments are the same, and so is what is printed.
+//! The arguments are the same, without the words for the stages and the table, and so is what is printed.
 
 use std::env;
 use std::error::Error;
@@ -29,22 +29,35 @@ struct Work {
     /// How many batches each writes.
     times: u64,
     sync: bool,
+    /// How many additions are in a batch.
+    records: u32,
 }
 
 fn main() -> Result<(), Box<dyn Error>> {
     let words: Vec<String> = env::args().skip(1).collect();
-    let [clients, times, how, path @ ..] = words.as_slice() else {
-        return Err("how many clients, how many batches each, and `sync` or `plain`".into());
+    let [clients, times, how, records, path @ ..] = words.as_slice() else {
+        return Err("how many clients, how many batches each, `sync` or `plain`, and the additions of a batch".into());
     };
-    let work = Work { clients: clients.parse()?, times: times.parse()?, sync: how == "sync" };
+    let work = Work {
+        clients: clients.parse()?,
+        times: times.parse()?,
+        sync: how == "sync",
+        records: records.parse()?,
+    };
     match path {
         [path, ..] => time(File::create_new(path)?, work),
-        [] => time(Vec::<u8>::with_capacity((work.clients * work.times * 160) as usize + 65536), work),
+        [] => time(Vec::<u8>::with_capacity(room_of(work)), work),
     }
 }
 
+/// The bytes that the log of all batches takes, or more.
+fn room_of(work: Work) -> usize {
+    (work.clients * work.times * (120 * u64::from(work.records) + 40)) as usize + 65536
+}
+
 fn time<D: Disk + Send>(disk: D, work: Work) -> Result<(), Box<dyn Error>> {
-    let log = Mutex::new(Log { tables: Tables::new(), disk, pieces: Vec::with_capacity(BLOCK_LEN), len: 0, last: 0 });
+    let pieces = Vec::with_capacity(BLOCK_LEN);
+    let log = Mutex::new(Log { tables: Tables::new(), disk, pieces, len: 0, last: 0, batches: 0 });
     let start = Instant::now();
     thread::scope(|scope| {
         let clients: Vec<_> = (0..work.clients)
@@ -59,7 +72,7 @@ fn time<D: Disk + Send>(disk: D, work: Work) -> Result<(), Box<dyn Error>> {
     })?;
     let micros = start.elapsed().as_micros();
     let log = log.into_inner().unwrap_or_else(PoisonError::into_inner);
-    println!("{micros} {0} {0} {1}", log.last, log.len);
+    println!("{micros} {0} {0} {1}", log.batches, log.len);
     Ok(())
 }
 
@@ -68,22 +81,24 @@ fn write_all<D: Disk>(log: &Mutex<Log<D>>, work: Work, seed: u64) -> io::Result<
     let mut random = Random { state: seed };
     let mut batch = Vec::new();
     for _ in 0..work.times {
-        fill(&mut batch, &random.key(), &VALUE);
+        fill(&mut batch, &mut random, work.records);
         let first = log.lock().unwrap_or_else(PoisonError::into_inner).write(&mut batch, work.sync)?;
         black_box(first);
     }
     Ok(())
 }
 
-/// A batch of one addition.
-fn fill(batch: &mut Vec<u8>, key: &[u8], value: &[u8]) {
+/// A batch of so many additions.
+fn fill(batch: &mut Vec<u8>, random: &mut Random, records: u32) {
     batch.clear();
     batch.resize(BATCH_HEADER_LEN, 0);
-    batch[8] = 1;
-    batch.push(1);
-    for string in [key, value] {
-        batch.push(string.len() as u8);
-        batch.extend_from_slice(string);
+    batch[8..].copy_from_slice(&records.to_le_bytes());
+    for _ in 0..records {
+        batch.push(1);
+        for string in [&random.key()[..], &VALUE] {
+            batch.push(string.len() as u8);
+            batch.extend_from_slice(string);
+        }
     }
 }
 
@@ -138,10 +153,11 @@ struct Log<D> {
     pieces: Vec<u8>,
     len: u64,
     last: u64,
+    batches: u64,
 }
 
 impl<D: Disk> Log<D> {
-    /// Writes a batch as a record of its own, under the next sequence.
+    /// Writes a batch as a record of its own, under the next sequences.
     fn write(&mut self, batch: &mut [u8], sync: bool) -> io::Result<u64> {
         let first = self.last + 1;
         batch[..8].copy_from_slice(&first.to_le_bytes());
@@ -155,7 +171,8 @@ impl<D: Disk> Log<D> {
         if sync {
             self.disk.sync()?;
         }
-        self.last = first;
+        self.last += u64::from(u32::from_le_bytes([batch[8], batch[9], batch[10], batch[11]]));
+        self.batches += 1;
         Ok(first)
     }
 

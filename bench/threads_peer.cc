@@ -1,7 +1,12 @@
-// What the script `threads` beside this file measures the program with: threads that write the batches of a generated
-// script at once, to LevelDB or RocksDB, or to a plain file.
+// What the scripts `threads` and `engine` beside this file measure the write path with: threads that write the batches
+// of a generated script at once, to LevelDB or RocksDB, or to a plain file.
 //
-//     threads_peer PATH SEED CLIENTS BATCHES sync|plain
+//     threads_peer PATH SEED CLIENTS BATCHES sync|plain [RECORDS single|pipelined serial|concurrent]
+//
+// With RECORDS each batch has so many additions of a key of 16 bytes, which SEED does not change, with a value of 100,
+// and each client makes its next batch when the last one was written. The two words behind it are RocksDB's settings:
+// `pipelined` is `enable_pipelined_write`, and `concurrent` is `allow_concurrent_memtable_write`. `unordered_write` is
+// off, and all else as the library has it.
 //
 // It is built against the library that the macro PEER names, `leveldb` or `rocksdb`, whose calls are alike. Without the
 // macro it writes to a file: each batch by one call of `write` under a mutex, with a call of `fdatasync` behind it where
@@ -16,10 +21,18 @@
 #include <iostream>
 #include <memory>
 #include <mutex>
+#include <optional>
 #include <stdexcept>
 #include <string>
 #include <thread>
 #include <vector>
+
+// How RocksDB writes: whether groups go into the log and into the table in two stages, and whether the members of a
+// group put their batches into the table beside each other.
+struct Ways {
+    bool pipelined;
+    bool concurrent;
+};
 
 #ifdef PEER
 #define TEXT_OF(words) #words
@@ -34,12 +47,23 @@ void check(const PEER::Status& status) {
     if (!status.ok()) throw std::runtime_error(status.ToString());
 }
 
+// Sets how RocksDB writes, where the options are its.
+template <class Options>
+void set_ways(Options& options, const Ways& ways) {
+    if constexpr (requires { options.enable_pipelined_write; }) {
+        options.enable_pipelined_write = ways.pipelined;
+        options.allow_concurrent_memtable_write = ways.concurrent;
+        options.unordered_write = false;
+    }
+}
+
 class Target {
 public:
-    explicit Target(const std::string& path) {
+    Target(const std::string& path, const std::optional<Ways>& ways) {
         PEER::Options options;
         options.create_if_missing = true;
         options.error_if_exists = true;
+        if (ways) set_ways(options, *ways);
         PEER::DB* database = nullptr;
         check(PEER::DB::Open(options, path, &database));
         database_.reset(database);
@@ -60,6 +84,7 @@ class Batch {
 public:
     void Put(const std::string& key, const std::string& value) { add(1, {key, value}); }
     void Delete(const std::string& key) { add(0, {key}); }
+    void Clear() { bytes_.resize(19); }
     const std::string& bytes() const { return bytes_; }
 
 private:
@@ -76,7 +101,8 @@ private:
 
 class Target {
 public:
-    explicit Target(const std::string& path) : file_(open(path.c_str(), O_WRONLY | O_CREAT | O_EXCL | O_APPEND, 0644)) {
+    Target(const std::string& path, const std::optional<Ways>&)
+        : file_(open(path.c_str(), O_WRONLY | O_CREAT | O_EXCL | O_APPEND, 0644)) {
         if (file_ < 0) throw std::runtime_error("no file " + path);
     }
 
@@ -125,20 +151,57 @@ std::vector<Batch> batches_of(std::uint64_t seed, int client, int count) {
     return batches;
 }
 
+// The keys of a client, each of 16 digits: the numbers that `engine_program` makes its keys of, in hexadecimal.
+class Keys {
+public:
+    explicit Keys(int client) : state_(client - 1) {}
+
+    std::string next() {
+        state_ = state_ * 6364136223846793005 + 1442695040888963407;
+        std::string key(16, '0');
+        auto left = state_ >> 1;
+        for (auto at = key.rbegin(); at != key.rend(); ++at, left /= 16) *at = "0123456789abcdef"[left % 16];
+        return key;
+    }
+
+private:
+    std::uint64_t state_;
+};
+
+// Writes so many batches, each of so many records, one after the other.
+void write_records(Target& target, int client, int batches, int records, bool sync) {
+    const std::string value(100, 'v');
+    Keys keys(client);
+    Batch batch;
+    for (int written = 0; written < batches; written++) {
+        batch.Clear();
+        for (int put = 0; put < records; put++) batch.Put(keys.next(), value);
+        target.write(batch, sync);
+    }
+}
+
 int main(int count, char** words) try {
-    if (count != 6) throw std::runtime_error("usage: threads_peer PATH SEED CLIENTS BATCHES sync|plain");
-    Target target(words[1]);
+    if (count != 6 && count != 9) {
+        throw std::runtime_error(
+            "usage: threads_peer PATH SEED CLIENTS BATCHES sync|plain [RECORDS single|pipelined serial|concurrent]");
+    }
+    const bool has_records = count == 9;
+    std::optional<Ways> ways;
+    if (has_records) ways = Ways{std::string(words[7]) == "pipelined", std::string(words[8]) == "concurrent"};
+    Target target(words[1], ways);
     const std::uint64_t seed = std::stoull(words[2]);
     const int clients = std::stoi(words[3]);
     const int each = std::stoi(words[4]);
     const bool sync = std::string(words[5]) == "sync";
+    const int records = has_records ? std::stoi(words[6]) : 0;
     const auto start = std::chrono::steady_clock::now();
     std::vector<std::vector<Batch>> scripts;
-    for (int client = 1; client <= clients; client++) scripts.push_back(batches_of(seed, client, each));
+    for (int client = 1; client <= clients && !has_records; client++) scripts.push_back(batches_of(seed, client, each));
     std::vector<std::thread> threads;
-    for (auto& batches : scripts) {
-        threads.emplace_back([&target, &batches, sync] {
-            for (auto& batch : batches) target.write(batch, sync);
+    for (int client = 1; client <= clients; client++) {
+        threads.emplace_back([&target, &scripts, client, each, records, sync] {
+            if (records > 0) return write_records(target, client, each, records, sync);
+            for (auto& batch : scripts[client - 1]) target.write(batch, sync);
         });
     }
     for (auto& thread : threads) thread.join();
