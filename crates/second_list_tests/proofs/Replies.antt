@@ -2,14 +2,18 @@
 use Rattle.std.proofs.Common.{◌≡◌, ℕ, ◌+◌, ◌<◌, List, [], ◌∷◌, ◌++◌, length, take, get_or, refl, sym, ap, ◌∙◌}
 use Rattle.std.proofs.lemmas.Grind.{take_at_read}
 use Rattle.list_rule.specs.declared.view.Handling.{Handling}
-use Rattle.list_rule.specs.Rule.{last_run}
+use Rattle.list_rule.specs.Rule.{last_run, given_runs}
 use Rattle.list_rule.specs.declared.view.Entry.{Entry}
 use Rattle.writer_list.specs.Roles.{firsts, IsMember, AreMembers}
 
--- where no reply gives a number, the first one stays
+-- where no reply gives a number, the first one stays, and nothing is given runs
 pub none_given : {Q P : Type 0} (start : ℕ) (hs : List (Handling Q P)) → start ≡ 0 → last_run (λ (p : P). (0, 0)) start hs ≡ 0
 none_given start [] is = is
 none_given start (h ∷ hs) is = none_given start hs is
+
+pub none_numbered : {Q P : Type 0} (hs : List (Handling Q P)) → given_runs (λ (p : P). (0, 0)) hs ≡ []
+none_numbered [] = refl
+none_numbered (h ∷ hs) = none_numbered hs
 
 firsts-append : {A : Type 0} (a b : List (ℕ × A)) → firsts (a ++ b) ≡ firsts a ++ firsts b
 firsts-append [] b = refl

@@ -1,1 +1,1 @@
-pub mod Players
+pub mod Clients

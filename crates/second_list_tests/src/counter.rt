@@ -1,9 +1,8 @@
-// A plain counter as the log, a turn as the right, and who takes part.
+// A plain counter as the log, and a right that counts what is served.
 ghost use Rattle.std.specs.Prelude.{◌≡◌, ⊤};
 
 use list_rule::{Given, Itemized, Ledger};
 use wp_model::Item;
-use writer_list::{Lists, Writer};
 
 /// Asks to be counted.
 #[derive(Drop)]
@@ -33,7 +32,7 @@ pub struct Counter {
     pub sum: u64,
 }
 
-impl Ledger<Ask, Answer, Turn> for Counter {
+impl Ledger<Ask, Answer, Right> for Counter {
     type About = u64;
 
     ghost stands = { λ about c hs. about ≡ about };
@@ -51,21 +50,12 @@ impl Ledger<Ask, Answer, Turn> for Counter {
     }
 }
 
-/// How many were served, how many groups didn't come in the counter's order, and how many writers worked beside their
-/// leaders.
+/// The next number to be served, how many groups were served, how many of them didn't come in the counter's order, and
+/// how many writers worked beside their leaders.
 #[derive(Drop)]
-pub struct Turn {
+pub struct Right {
     pub next: u64,
-    pub wrong: u64,
     pub groups: u64,
+    pub wrong: u64,
     pub helped: u64,
-}
-
-/// A client: its writer, the lists that it leads with, the members of its group, and what it was told.
-#[derive(Drop)]
-pub struct Player {
-    pub writer: Writer<Ask, Answer, Counter, Turn>,
-    pub lists: Lists<Ask, Answer>,
-    pub members: Vec<u32>,
-    pub told: Vec<Answer>,
 }
