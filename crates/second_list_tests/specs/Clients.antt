@@ -48,7 +48,8 @@ IsAsking list w = (q : Ask) × IsIn (law list) q (told w) w
 
 -- it leads, and has the log
 abbrev pub IsLeader : Counted → Writer Ask Answer Counter Right → Type 0
-IsLeader list w = Belongs list w × ((own : Entry Ask) × (seen : List (Handling Ask Answer)) × IsChosen own seen (told w) w)
+IsLeader list w = Belongs list w
+    × ((own : Entry Ask) × (seen : List (Handling Ask Answer)) × IsChosen own seen (told w) w)
 
 -- it leads, and has the requests of its group in its lists
 abbrev pub HasRequests : Counted → Writer Ask Answer Counter Right → Lists Ask Answer → Type 0
