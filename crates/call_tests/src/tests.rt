@@ -2,7 +2,7 @@
 //!
 //! - `runs`: scripts of one client, what is refused, devices that fail, and generated scripts
 //! - `clients`: scripts of several clients
-//! - `overlap`: what clients do while an append of another is under way
+//! - `overlap`: what clients do while another's append, or its group, is under way
 //! - `recovery`: what logs recover
 //! - `replay`: schedules of events
 
@@ -55,34 +55,47 @@ enum Fails {
     Disk(u64),
 }
 
-/// What the table of a run is made of.
+/// What a call runs its script over.
 #[derive(Clone, Copy)]
-struct Table {
+struct WritePath {
     /// The options that ask for it, with a space before each word.
     options: &'static str,
-    /// How many locks it has.
+    /// How many locks its table has.
     locks: u64,
 }
 
-/// What there is unless something else is asked for.
-const ONE_TREE: Table = Table {
+/// What there is unless something else is asked for: one tree, and a single stage.
+const ONE_TREE: WritePath = WritePath {
     options: "",
     locks: 1,
 };
 
-const SHARDS: Table = Table {
+const SHARDS: WritePath = WritePath {
     options: " --table shards",
     locks: 16,
 };
 
-const TABLES: [Table; 2] = [ONE_TREE, SHARDS];
+const PIPELINED: WritePath = WritePath {
+    options: " --pipelined",
+    locks: 1,
+};
+
+const PIPELINED_SHARDS: WritePath = WritePath {
+    options: " --pipelined --table shards",
+    locks: 16,
+};
+
+/// Those in which the log is handed on before a group goes into the table.
+const IN_TWO_STAGES: [WritePath; 2] = [PIPELINED, PIPELINED_SHARDS];
+
+const PATHS: [WritePath; 4] = [ONE_TREE, SHARDS, PIPELINED, PIPELINED_SHARDS];
 
 /// What a call is given.
 #[derive(Clone, Copy)]
 struct Given<'a> {
-    /// The words after the program's name, with a space between them, but for the table's.
+    /// The words after the program's name, with a space between them, but for those of the write path.
     words: &'a str,
-    table: Table,
+    path: WritePath,
     text: &'a [u8],
     /// What the disk holds.
     content: &'a [u8],
@@ -91,7 +104,7 @@ struct Given<'a> {
 
 const PLAIN: Given<'static> = Given {
     words: "run",
-    table: ONE_TREE,
+    path: ONE_TREE,
     text: SCRIPT,
     content: b"",
     fails: Fails::Nothing,
@@ -105,9 +118,9 @@ struct Came {
     disk: MemDisk,
 }
 
-/// The program's name, words with a space between them, and the table's options, one by one.
-fn words_of(rt: &impl Abort, alloc: Global, words: &str, table: Table) -> Vec<String> {
-    let options = table.options;
+/// The program's name, words with a space between them, and the write path's options, one by one.
+fn words_of(rt: &impl Abort, alloc: Global, words: &str, path: WritePath) -> Vec<String> {
+    let options = path.options;
     let line = format!(in alloc; "writepath {words}{options}").expect(rt, "memory");
     let mut all = Vec::new(alloc);
     for word in line.split(' ') {
@@ -135,7 +148,7 @@ fn devices_of(rt: &impl Abort, alloc: Global, given: Given) -> Devices {
         Fails::Disk(call) => (0, 0, call),
     };
     Devices {
-        words: words_of(rt, alloc, given.words, given.table),
+        words: words_of(rt, alloc, given.words, given.path),
         source: MemSource::new(alloc, given.text, PIECE, &[of_source]).expect(rt, "memory"),
         sink: MemSink::new(alloc, SINK_ROOM, PIECE, &[of_sink]).expect(rt, "memory"),
         disk: MemDisk::new(alloc, DISK_ROOM, given.content, &[of_disk]).expect(rt, "memory"),
@@ -175,18 +188,18 @@ fn ended<R: Threads + Wait + Abort + Sync>(
 /// The words and the text of a call, and all that it prints.
 type Row = (&'static str, &'static [u8], &'static str);
 
-/// Makes calls that end with this status, over such a table.
+/// Makes calls that end with this status, over such a write path.
 fn check_rows<R: Threads + Wait + Abort + Sync>(
     rt: &R,
     alloc: Global,
-    table: Table,
+    path: WritePath,
     status: u8,
     rows: &[Row],
 ) {
     for (words, text, want) in rows {
         let given = Given {
             words: *words,
-            table,
+            path,
             text: *text,
             ..PLAIN
         };

@@ -1,22 +1,22 @@
 //! Scripts of several clients, which come in any order.
 
-use super::{Came, Given, PLAIN, TABLES, came_of, check_texts};
+use super::{Came, Given, PATHS, PLAIN, came_of, check_texts};
 use std::alloc::Global;
 use std::process::Abort;
 use std::rt::HostRuntime;
 use std::sync::Wait;
 use std::thread::Threads;
 
-/// Runs a script twenty times over each table, so that its clients may come in more than one order.
+/// Runs a script twenty times over each write path, so that its clients may come in more than one order.
 fn check_clients<R: Threads + Wait + Abort + Sync>(
     rt: &R,
     alloc: Global,
     given: Given,
     wanted: &[&str],
 ) {
-    for table in TABLES {
+    for path in PATHS {
         for _ in 0..20 {
-            let Came { status, sink, .. } = came_of(rt, alloc, Given { table, ..given });
+            let Came { status, sink, .. } = came_of(rt, alloc, Given { path, ..given });
             check_texts(rt, &sink, wanted);
             assert_eq!(rt; status, 0);
         }

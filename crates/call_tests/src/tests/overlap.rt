@@ -1,10 +1,10 @@
-//! What clients do while an append of another is under way: the disk holds the append back, and a gate holds the other
-//! clients back until it was begun. Clients that ran one after another, or under one lock, would wait in vain.
+//! What clients do while others are under way: the disk holds an append back, and a gate holds clients back, until
+//! others have come so far. Clients that ran one after another, or under one lock, would wait in vain.
 
 use super::recovery::check_recovery;
 use super::{
-    Devices, Given, ONE_TREE, OUTCOME, PLAIN, SCRIPT, SHARDS, START, TABLES, Table, check_texts,
-    devices_of,
+    Devices, Fails, Given, IN_TWO_STAGES, ONE_TREE, OUTCOME, PATHS, PIPELINED, PIPELINED_SHARDS,
+    SCRIPT, SHARDS, START, WritePath, check_texts, devices_of,
 };
 use engine_calls::Gate;
 use held_disk::{HeldDisk, Hold};
@@ -16,42 +16,113 @@ use std::sync::atomic::Ordering::SeqCst;
 use std::sync::atomic::{AtomicBool, AtomicU64};
 use std::thread;
 use std::thread::Threads;
-use wp_edge::{MemDisk, SteppedClock};
+use wp_edge::SteppedClock;
 use writepath_top::{Ended, run_gated};
 
-/// How many turns a client waits at most: more than a test will take, so that a test whose append is never begun ends
-/// too.
+/// How many turns a client waits at most: more than a test will take, so that a test in which nobody comes ends too.
 const MOST_TURNS: u64 = 1_000_000_000;
 
-/// What the other clients come to before the append goes on.
+/// Where clients come by.
 #[derive(Clone, Copy, PartialEq, Eq)]
-enum Until {
-    /// They stand in the line of writers.
-    Linked,
-    /// They are answered.
-    Answered,
+enum Place {
+    /// The append that may be held back is begun.
+    Appending,
+    /// The first client stands in the line of writers.
+    FirstLinked,
+    /// The first client is about to launch its group.
+    FirstLaunching,
+    /// Another client stands in the line of writers.
+    OthersLinked,
+    /// A call of another client is answered.
+    OthersAnswered,
 }
 
-/// Holds all clients but the first back until its append was begun, and tells the append how far they come.
+/// When clients have come by a place so often.
+type Moment = (Place, u64);
+
+/// Nobody waits for it.
+const AT_ONCE: Moment = (Place::FirstLinked, 0);
+
+/// How clients meet, and what comes of it.
+#[derive(Clone, Copy)]
+struct Meeting {
+    paths: &'static [WritePath],
+    words: &'static str,
+    text: &'static [u8],
+    fails: Fails,
+    /// Which append may be held back, counted from 1, and when it goes on.
+    append: u64,
+    appends: Moment,
+    /// When the others begin.
+    begin: Moment,
+    /// When the first client goes on that stands in the line of writers, and when it launches its group.
+    leads: Moment,
+    launches: Moment,
+    status: u8,
+    want: &'static str,
+    /// What the log recovers.
+    recovered: &'static str,
+}
+
+/// Holds clients back, and tells the append how far others come.
 #[derive(Drop)]
 struct Turnstile<'a> {
+    meeting: Meeting,
     hold: &'a Hold,
-    until: Until,
     /// All locks that it was told of.
     locks: AtomicU64,
+    /// How often clients came by.
+    first_linked: AtomicU64,
+    first_launching: AtomicU64,
+    others_linked: AtomicU64,
+    others_answered: AtomicU64,
     /// Whether a client waited in vain.
     late: AtomicBool,
 }
 
-/// Waits until an append was begun, and answers whether it was. Each turn lets another thread run.
-fn is_begun(hold: &Hold) -> bool {
-    for _ in 0..MOST_TURNS {
-        if hold.is_entered() {
-            return true;
+impl<'a> Turnstile<'a> {
+    fn new(meeting: Meeting, hold: &'a Hold) -> Turnstile<'a> {
+        Turnstile {
+            meeting,
+            hold,
+            locks: AtomicU64::new(0),
+            first_linked: AtomicU64::new(0),
+            first_launching: AtomicU64::new(0),
+            others_linked: AtomicU64::new(0),
+            others_answered: AtomicU64::new(0),
+            late: AtomicBool::new(false),
         }
-        thread::yield_now();
     }
-    false
+
+    /// How often clients have come by.
+    fn times(&self, place: Place) -> u64 {
+        match place {
+            Place::Appending => u64::from(self.hold.is_entered()),
+            Place::FirstLinked => self.first_linked.load(SeqCst),
+            Place::FirstLaunching => self.first_launching.load(SeqCst),
+            Place::OthersLinked => self.others_linked.load(SeqCst),
+            Place::OthersAnswered => self.others_answered.load(SeqCst),
+        }
+    }
+
+    /// A client comes by.
+    fn come(&self, place: Place, times: &AtomicU64) {
+        times.fetch_add(1, SeqCst);
+        if self.meeting.appends.0 == place {
+            self.hold.arrive();
+        }
+    }
+
+    /// Waits until clients have come by so often. Each turn lets another thread run.
+    fn wait_for(&self, (place, times): Moment) {
+        for _ in 0..MOST_TURNS {
+            if self.times(place) >= times {
+                return;
+            }
+            thread::yield_now();
+        }
+        self.late.store(true, SeqCst);
+    }
 }
 
 impl<'a> Gate for Turnstile<'a> {
@@ -60,48 +131,49 @@ impl<'a> Gate for Turnstile<'a> {
     }
 
     fn started(&self, client: u32) {
-        if client != 1 && !is_begun(self.hold) {
-            self.late.store(true, SeqCst);
+        if client != 1 {
+            self.wait_for(self.meeting.begin);
         }
     }
 
     fn linked(&self, client: u32) {
-        if client != 1 && self.until == Until::Linked {
-            self.hold.arrive();
+        if client == 1 {
+            self.come(Place::FirstLinked, &self.first_linked);
+            self.wait_for(self.meeting.leads);
+        } else {
+            self.come(Place::OthersLinked, &self.others_linked);
         }
     }
 
-    fn launching(&self, _client: u32) {}
+    fn launching(&self, client: u32) {
+        if client == 1 {
+            self.come(Place::FirstLaunching, &self.first_launching);
+            self.wait_for(self.meeting.launches);
+        }
+    }
 
     fn answered(&self, client: u32, _number: u64) {
-        if client != 1 && self.until == Until::Answered {
-            self.hold.arrive();
+        if client != 1 {
+            self.come(Place::OthersAnswered, &self.others_answered);
         }
     }
 }
 
-/// Runs a script whose first append waits until the others have arrived so often, and gives the disk back. The table
-/// has its number of locks, nobody waits in vain, and nothing fails.
-fn overlapped<R: Threads + Wait + Abort + Sync>(
+/// Lets clients meet over a write path. The table has its number of locks, and nobody waits in vain.
+fn meet<R: Threads + Wait + Abort + Sync>(
     rt: &R,
     alloc: Global,
-    table: Table,
-    text: &[u8],
-    until: Until,
-    need: u64,
-    want: &str,
-) -> MemDisk {
-    let hold = Hold::new(need);
-    let gate = Turnstile {
-        hold: &hold,
-        until,
-        locks: AtomicU64::new(0),
-        late: AtomicBool::new(false),
-    };
+    meeting: Meeting,
+    path: WritePath,
+) {
+    let hold = Hold::new(meeting.appends.1);
+    let gate = Turnstile::new(meeting, &hold);
     let given = Given {
-        table,
-        text,
-        ..PLAIN
+        words: meeting.words,
+        path,
+        text: meeting.text,
+        content: b"",
+        fails: meeting.fails,
     };
     let Devices {
         words,
@@ -114,62 +186,148 @@ fn overlapped<R: Threads + Wait + Abort + Sync>(
         alloc,
         &words,
         &mut source,
-        HeldDisk::new(inner, &hold, 1),
+        HeldDisk::new(inner, &hold, meeting.append),
         &mut sink,
         SteppedClock::new(START),
         &gate,
     );
-    // Whether a client waited in vain for an append.
     let late = gate.late.load(SeqCst);
     let locks = gate.locks.load(SeqCst);
-    assert_eq!(rt; (late, locks, status), (false, table.locks, 0));
-    check_texts(rt, &sink, &[want]);
-    disk.into_disk()
+    assert_eq!(rt;
+        (late, locks, status),
+        (false, path.locks, meeting.status),
+        "for {}",
+        meeting.want
+    );
+    check_texts(rt, &sink, &[meeting.want]);
+    check_recovery(rt, alloc, disk.into_disk().content(), meeting.recovered);
 }
 
 /// The number of shards has no effect on a table of one tree.
-const ALL_TABLES: [Table; 4] = [
+const ALL_PATHS: [WritePath; 7] = [
     ONE_TREE,
     SHARDS,
-    Table {
+    PIPELINED,
+    PIPELINED_SHARDS,
+    WritePath {
         options: " --shards 7 --table shards",
         locks: 7,
     },
-    Table {
+    WritePath {
+        options: " --shards 7 --pipelined --table shards",
+        locks: 7,
+    },
+    WritePath {
         options: " --shards 7",
         locks: 1,
     },
 ];
 
-#[test]
-fn a_table_has_a_lock_for_each_shard(rt: HostRuntime) {
-    for table in ALL_TABLES {
-        overlapped(&rt, rt.alloc(), table, SCRIPT, Until::Answered, 0, OUTCOME);
-    }
-}
+/// One client, which meets nobody.
+const ALONE: Meeting = Meeting {
+    paths: &ALL_PATHS,
+    words: "run",
+    text: SCRIPT,
+    fails: Fails::Nothing,
+    append: 0,
+    appends: AT_ONCE,
+    begin: AT_ONCE,
+    leads: AT_ONCE,
+    launches: AT_ONCE,
+    status: 0,
+    want: OUTCOME,
+    recovered: "groups 1\n1 1 17\nstate 1 1\n61 31\nend 24 clean\n",
+};
 
-/// The second client is answered while the first one's record is written, and sees nothing of it.
-#[test]
-fn a_read_waits_for_no_append(rt: HostRuntime) {
-    let text = b"client 1\nput a 1\ncommit\nclient 2\nget a\n";
-    let want = "client 1\nok 1 1\nclient 2\nnil 0\n\
-            history 1\n1 1 1 1 log 0100000000000000010000000101610131\nstate 1 1\na 1\nlog 24\n";
-    for table in TABLES {
-        overlapped(&rt, rt.alloc(), table, text, Until::Answered, 1, want);
-    }
-}
+const MEETINGS: [Meeting; 7] = [
+    ALONE,
+    // The second client is answered while the first one's record is written, and sees nothing of it.
+    Meeting {
+        paths: &PATHS,
+        text: b"client 1\nput a 1\ncommit\nclient 2\nget a\n",
+        append: 1,
+        appends: (Place::OthersAnswered, 1),
+        begin: (Place::Appending, 1),
+        want: "client 1\nok 1 1\nclient 2\nnil 0\n\
+            history 1\n1 1 1 1 log 0100000000000000010000000101610131\nstate 1 1\na 1\nlog 24\n",
+        ..ALONE
+    },
+    // The three that come to the line while the first one's record is written are one group, and one record.
+    Meeting {
+        paths: &PATHS,
+        text: b"client 1\nput a 1\ncommit\nclient 2\nput b 1\ncommit\nclient 3\nput c 1\ncommit\n\
+            client 4\nput d 1\ncommit\n",
+        append: 1,
+        appends: (Place::OthersLinked, 3),
+        begin: (Place::Appending, 1),
+        want: "client 1\nok 1 1\nclient 2\nok *\nclient 3\nok *\nclient 4\nok *\n\
+            history 4\n1 1 1 1 log *\n2 2 *\n3 3 *\n4 4 *\nstate 4 4\na 1\nb 1\nc 1\nd 1\nlog 58\n",
+        recovered: "groups 2\n1 1 17\n2 3 27\nstate 4 4\n61 31\n62 31\n63 31\n64 31\nend 58 clean\n",
+        ..ALONE
+    },
+    // Two clients are one group. No run is left for the first one's batch, so that it puts the second one's into the
+    // table.
+    Meeting {
+        paths: &PATHS,
+        words: "run --last 72057594037927933",
+        text: b"client 1\nput a 1\nput b 1\nput c 1\ncommit\nclient 2\nput d 1\ncommit\n",
+        begin: (Place::FirstLinked, 1),
+        leads: (Place::OthersLinked, 1),
+        want: "client 1\nno full 72057594037927933\nclient 2\n\
+            ok 72057594037927934 72057594037927934\n\
+            history 1\n72057594037927934 72057594037927934 2 1 log feffffffffffff00010000000101640131\n\
+            state 72057594037927934 1\nd 1\nlog 24\n",
+        recovered: "groups 1\n72057594037927934 1 17\nstate 72057594037927934 1\n64 31\nend 24 clean\n",
+        ..ALONE
+    },
+    // A run is left for the first one's batch and none for the second one's, which has nothing to put there.
+    Meeting {
+        paths: &PATHS,
+        words: "run --last 72057594037927933",
+        text: b"client 1\nput d 1\ncommit\nclient 2\nput a 1\nput b 1\nput c 1\ncommit\n",
+        begin: (Place::FirstLinked, 1),
+        leads: (Place::OthersLinked, 1),
+        want: "client 1\nok 72057594037927934 72057594037927934\nclient 2\n\
+            no full 72057594037927934\n\
+            history 1\n72057594037927934 72057594037927934 1 1 log feffffffffffff00010000000101640131\n\
+            state 72057594037927934 1\nd 1\nlog 24\n",
+        recovered: "groups 1\n72057594037927934 1 17\nstate 72057594037927934 1\n64 31\nend 24 clean\n",
+        ..ALONE
+    },
+    // The second one's record is begun before the first one's group is launched.
+    Meeting {
+        paths: &IN_TWO_STAGES,
+        text: b"client 1\nput a 1\ncommit\nclient 2\nput a 1\ncommit\n",
+        append: 2,
+        begin: (Place::FirstLaunching, 1),
+        launches: (Place::Appending, 1),
+        want: "client 1\nok 1 1\nclient 2\nok 2 2\n\
+            history 2\n1 1 1 1 log 0100000000000000010000000101610131\n\
+            2 2 2 1 log 0200000000000000010000000101610131\nstate 2 1\na 1\nlog 48\n",
+        recovered: "groups 2\n1 1 17\n2 1 17\nstate 2 1\n61 31\nend 48 clean\n",
+        ..ALONE
+    },
+    // The log fails before the first one's group is launched. That is published all the same, and who comes later is
+    // refused, without waiting for it.
+    Meeting {
+        paths: &IN_TWO_STAGES,
+        text: b"client 1\nput a 1\ncommit\nput c 3\ncommit\nclient 2\nput b 2\ncommit\ncommit\nget a\n",
+        fails: Fails::Disk(3),
+        append: 2,
+        begin: (Place::FirstLaunching, 1),
+        launches: (Place::OthersAnswered, 4),
+        status: 3,
+        want: "client 1\nok 1 1\nno logfault 1\nclient 2\nno logfault 1\nno logfault 1\nnil 0\n\
+            history 1\n1 1 1 1 log 0100000000000000010000000101610131\nstate 1 1\na 1\nlog 24 fault 1\n",
+        ..ALONE
+    },
+];
 
-/// The three that come to the line while the first one's record is written are one group, and one record.
 #[test]
-fn who_waits_for_an_append_is_in_one_group(rt: HostRuntime) {
-    let text =
-        b"client 1\nput a 1\ncommit\nclient 2\nput b 1\ncommit\nclient 3\nput c 1\ncommit\nclient 4\nput d 1\ncommit\n";
-    let want = "client 1\nok 1 1\nclient 2\nok *\nclient 3\nok *\nclient 4\nok *\n\
-            history 4\n1 1 1 1 log *\n2 2 *\n3 3 *\n4 4 *\nstate 4 4\na 1\nb 1\nc 1\nd 1\nlog 58\n";
-    let recovered =
-        "groups 2\n1 1 17\n2 3 27\nstate 4 4\n61 31\n62 31\n63 31\n64 31\nend 58 clean\n";
-    for table in TABLES {
-        let disk = overlapped(&rt, rt.alloc(), table, text, Until::Linked, 3, want);
-        check_recovery(&rt, rt.alloc(), disk.content(), recovered);
+fn clients_meet(rt: HostRuntime) {
+    for meeting in MEETINGS {
+        for path in meeting.paths {
+            meet(&rt, rt.alloc(), meeting, *path);
+        }
     }
 }

@@ -2,7 +2,7 @@
 
 use super::Fails::{Disk, Nothing, Sink, Source};
 use super::{
-    Fails, Given, ONE_TREE, OUTCOME, PLAIN, RECORD, Row, SCRIPT, TABLES, TWO_RECORDS, Table,
+    Fails, Given, ONE_TREE, OUTCOME, PATHS, PLAIN, RECORD, Row, SCRIPT, TWO_RECORDS, WritePath,
     check_rows, ended,
 };
 use client_script::TEXT_LIMIT;
@@ -46,7 +46,9 @@ const FAULTY: [Row; 13] = [
 fn words_and_scripts_are_refused(rt: HostRuntime) {
     let alloc = rt.alloc();
     check_rows(&rt, alloc, ONE_TREE, 1, &WORDS);
-    check_rows(&rt, alloc, ONE_TREE, 2, &FAULTY);
+    for path in PATHS {
+        check_rows(&rt, alloc, path, 2, &FAULTY);
+    }
     let long = vec![in alloc; b'#'; TEXT_LIMIT + 1].expect(&rt, "memory");
     let given = Given {
         text: long.as_slice(),
@@ -143,11 +145,17 @@ const MIDDLE_SUMMARY: &str =
 const LARGE_SUMMARY: &str =
     "clients 16\nbatches 16000\nrecords 39946\nlast 39946\nkeys 1175\nsum 580970\n";
 
-/// However the sixteen clients meet, and whatever the table is made of.
-const SUMMARIES: [Row; 6] = [
+/// However the sixteen clients meet, whatever the table is made of, and in one stage or two.
+const SUMMARIES: [Row; 8] = [
     ("gen 1 1 2", b"", SMALL_SUMMARY),
     ("gen 7 16 1000", b"", LARGE_SUMMARY),
     ("gen --table shards 7 16 1000", b"", LARGE_SUMMARY),
+    ("gen --pipelined 7 16 100", b"", MIDDLE_SUMMARY),
+    (
+        "gen --table shards --shards 2 --pipelined 7 16 100",
+        b"",
+        MIDDLE_SUMMARY,
+    ),
     (
         "gen --table shards --shards 1 7 16 100",
         b"",
@@ -168,8 +176,8 @@ const SUMMARIES: [Row; 6] = [
 #[test]
 fn prints_what_came_of_a_script(rt: HostRuntime) {
     let alloc = rt.alloc();
-    for table in TABLES {
-        check_rows(&rt, alloc, table, 0, &OUTCOMES);
+    for path in PATHS {
+        check_rows(&rt, alloc, path, 0, &OUTCOMES);
     }
     check_rows(&rt, alloc, ONE_TREE, 0, &SUMMARIES);
 }
@@ -180,11 +188,15 @@ const ONE_BATCH: &str = "clients 1\nbatches 1\nrecords 1\nlast 1\nkeys 1\nsum 91
 type Device = (&'static str, &'static [u8], Fails, u8, &'static str);
 
 /// Neither `recover` nor `gen` looks at the source.
-const DEVICES: [Device; 10] = [
+const DEVICES: [Device; 15] = [
     ("run", b"", Disk(1), 3, "disk fault 1\n"),
     ("run", b"", Source(1), 4, "source fault 1\n"),
     ("run", b"", Sink(1), 5, ""),
     ("run", b"x", Nothing, 7, "log not empty 1\n"),
+    ("run --pipelined", b"", Disk(1), 3, "disk fault 1\n"),
+    ("run --pipelined", b"", Source(1), 4, "source fault 1\n"),
+    ("run --pipelined", b"", Sink(1), 5, ""),
+    ("run --pipelined", b"x", Nothing, 7, "log not empty 1\n"),
     ("recover", RECORD, Disk(1), 3, "disk fault 1\n"),
     ("recover", RECORD, Sink(1), 5, ""),
     (
@@ -197,6 +209,7 @@ const DEVICES: [Device; 10] = [
     ("gen 1 1 2", RECORD, Nothing, 7, "log not empty 24\n"),
     ("gen 1 1 2", b"", Source(1), 0, SMALL_SUMMARY),
     ("gen 1 1 2", b"", Disk(3), 3, ONE_BATCH),
+    ("gen --pipelined 1 1 2", b"", Disk(3), 3, ONE_BATCH),
 ];
 
 #[test]
@@ -243,16 +256,16 @@ const FAULTS: [Left; 4] = [
     ),
 ];
 
-/// Runs scripts over such a table, and compares what they leave on the disk too.
+/// Runs scripts over such a write path, and compares what they leave on the disk too.
 fn check_left<R: Threads + Wait + Abort + Sync>(
     rt: &R,
     alloc: Global,
-    table: Table,
+    path: WritePath,
     rows: &[Left],
 ) {
     for (text, fails, status, want, left) in rows {
         let given = Given {
-            table,
+            path,
             text: *text,
             fails: *fails,
             ..PLAIN
@@ -264,7 +277,7 @@ fn check_left<R: Threads + Wait + Abort + Sync>(
 
 #[test]
 fn writes_up_to_a_fault(rt: HostRuntime) {
-    for table in TABLES {
-        check_left(&rt, rt.alloc(), table, &FAULTS);
+    for path in PATHS {
+        check_left(&rt, rt.alloc(), path, &FAULTS);
     }
 }
