@@ -280,18 +280,23 @@ const MEETINGS: [Meeting; 7] = [
         recovered: "groups 1\n72057594037927934 1 17\nstate 72057594037927934 1\n64 31\nend 24 clean\n",
         ..ALONE
     },
-    // A run is left for the first one's batch and none for the second one's, which has nothing to put there.
+    // Three clients are one group, and the others bring so many records that they are woken in two stages, to put in
+    // their own. A run is left for one of them: the other has nothing to put in.
     Meeting {
         paths: &PATHS,
-        words: "run --last 72057594037927933",
-        text: b"client 1\nput d 1\ncommit\nclient 2\nput a 1\nput b 1\nput c 1\ncommit\n",
+        words: "run --last 72057594037927917",
+        text: b"client 1\nput d 1\ncommit\n\
+            client 2\nput a 1\nput a 1\nput a 1\nput a 1\nput a 1\nput a 1\nput a 1\nput a 1\n\
+            put a 1\nput a 1\nput a 1\nput a 1\nput a 1\nput a 1\nput a 1\nput a 1\ncommit\n\
+            client 3\nput a 1\nput a 1\nput a 1\nput a 1\nput a 1\nput a 1\nput a 1\nput a 1\n\
+            put a 1\nput a 1\nput a 1\nput a 1\nput a 1\nput a 1\nput a 1\nput a 1\ncommit\n",
         begin: (Place::FirstLinked, 1),
-        leads: (Place::OthersLinked, 1),
-        want: "client 1\nok 72057594037927934 72057594037927934\nclient 2\n\
-            no full 72057594037927934\n\
-            history 1\n72057594037927934 72057594037927934 1 1 log feffffffffffff00010000000101640131\n\
-            state 72057594037927934 1\nd 1\nlog 24\n",
-        recovered: "groups 1\n72057594037927934 1 17\nstate 72057594037927934 1\n64 31\nend 24 clean\n",
+        leads: (Place::OthersLinked, 2),
+        want: "client 1\nok 72057594037927918 72057594037927918\nclient 2\n*\nclient 3\n*\n\
+            history 2\n72057594037927918 72057594037927918 1 1 log eeffffffffffff00010000000101640131\n\
+            72057594037927919 72057594037927934 *\nstate 72057594037927934 2\na 1\nd 1\nlog 104\n",
+        recovered: "groups 1\n72057594037927918 17 97\nstate 72057594037927934 2\n61 31\n64 31\n\
+            end 104 clean\n",
         ..ALONE
     },
     // The second one's record is begun before the first one's group is launched.
