@@ -1,5 +1,5 @@
 -- Who is to work beside a leader is another member of its group.
-use Rattle.std.proofs.Common.{◌≡◌, ◌⊎◌, inl, inr, ⊎_elim, ℕ, ◌<◌, ◌≤◌, Bool, true, false, nat_le, ◌+◌, map, List, [], ◌∷◌, ◌++◌, refl, sym, ap, subst}
+use Rattle.std.proofs.Common.{◌≡◌, ◌⊎◌, inl, inr, ⊎_elim, ℕ, ◌<◌, ◌≤◌, Bool, true, false, nat_le, ◌+◌, map, Option, Some, None, IfSome, List, [], ◌∷◌, ◌++◌, refl, sym, ap, subst}
 use mathlib.Core.Logic.{dite}
 use native.Mathlib.Decide.{ℕ_discrete}
 use Rattle.std.specs.List.{AllByRecursion}
@@ -18,7 +18,7 @@ use Rattle.group_engine.specs.declared.requests.Request.{Request}
 use Rattle.group_engine.specs.Asking.{all_seen}
 use Rattle.group_engine.specs.Handled.{commit_request_of, commit_requests_of}
 use Rattle.group_engine.specs.Led.{LeadsBy}
-use Rattle.group_engine.specs.Numbering.{others_in, others_than}
+use Rattle.group_engine.specs.Numbering.{AreBeside, others_in, others_than}
 use Rattle.group_engine.proofs.Leads.{leads_by}
 use Rattle.group_engine.proofs.Replies.{map_append}
 
@@ -85,3 +85,8 @@ names_are leader (x ∷ xs) leads = ap (λ k. k ∷ map (λ (z : ℕ × Request)
 
 pub beside_in : (leader last : ℕ) (xs : List (ℕ × Request)) → LeadsBy leader xs → AreIn (others_in xs) (others_than leader (members_of (parts_from last (commit_requests_of xs))))
 beside_in leader last xs leads = others_among leader (others_in xs) (members_of (parts_from last (commit_requests_of xs))) (subst (λ names. AreIn names (members_of (parts_from last (commit_requests_of xs)))) (names_are leader xs leads) (have_names last xs))
+
+-- where the parts are apart only if they may be
+pub beside_where : {A : Type 0} (apart staged : Bool) (others members : List ℕ) (end : Option A) → (staged ≡ false → apart ≡ false) → IfSome end (λ _. AreBeside apart others members) → IfSome end (λ _. AreBeside staged others members)
+beside_where apart staged others members None only h = tt
+beside_where apart staged others members (Some x) only h = record { of_group = h.of_group; alone = λ alone. h.alone (only alone) }

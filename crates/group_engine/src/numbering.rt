@@ -21,7 +21,7 @@ use write_batch::{Batch, MAX_SEQUENCE};
 
 /// How many records a member has to bring, on the average, so that waking it to insert them itself takes less than that
 /// its leader inserts them too.
-const WORTH_WAKING: u64 = 16;
+const WORTH_WAKING: u64 = 8;
 
 /// What becomes of a member's batch: it has a run, and stands among the batches that are written; or there is no room.
 #[derive(Drop)]

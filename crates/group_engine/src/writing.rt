@@ -173,7 +173,7 @@ impl<D: Disk, T: Table<Nodes, Parts>, C: Clock + Drop, G: Gate + Drop> GroupEngi
         let (path, end) = log_phase(
             path,
             client.number,
-            turn.is_none(),
+            may_be_apart(turn.is_none(), self.table.locks()),
             &delay,
             requests,
             &mut client.layout,
@@ -287,11 +287,19 @@ impl<D: Disk, T: Table<Nodes, Parts>, C: Clock + Drop, G: Gate + Drop> GroupEngi
     }
 }
 
+/// Whether each member's part may be apart, for the member itself to insert: where groups go into the table in a stage of
+/// their own, and the table has several locks. Under one lock members would wait for each other.
+fn may_be_apart(staged: bool, locks: u64) -> bool
+    ensures { staged ≡ false → result ≡ false }
+{
+    staged && locks > 1
+}
+
 /// How many times a leader pauses before it closes a group that is to be synced.
 const PAUSES: u32 = 12;
 
 /// How many times at most it pauses while groups before its own are on their way into the table.
-const PAUSES_BEHIND: u32 = 12;
+const PAUSES_BEHIND: u32 = 200;
 
 fn pause_for_sync() {
     let backoff = Backoff::new();

@@ -18,7 +18,7 @@ use Rattle.group_engine.specs.Law.{LogStandsFor}
 use Rattle.group_engine.specs.Numbering.{AreBeside, others_in}
 use Rattle.group_engine.specs.Staged.{published_with}
 use Rattle.table_rule.specs.declared.content.MemberVersions.{MemberVersions}
-use Rattle.group_engine.proofs.Members.{others_unnoted}
+use Rattle.group_engine.proofs.Members.{beside_where, others_unnoted}
 use Rattle.group_engine.proofs.Staging.{laid, no_runs_held}
 use Rattle.group_engine.proofs.Turning.{is_none_by}
 use Rattle.group_engine.specs.Led.{IsLedGroup}
@@ -246,5 +246,6 @@ returns-clause-beside g c =
     let left : List (ℕ × Request) = take L.len (new ++ drop (length new) L.items) in
     let left_is : left ≡ all_seen xs = put_back xs new L.len L.ok.0 (c.ask-asked.ensures.requests ∙ ap all_seen c.deref_mut.ensures.value) in
     let others = ap others_in left_is ∙ others_unnoted xs in
-    let apart = is_none_by c.is_none.result c.args.held.turn c.is_none.ensures in
-    subst (λ (z : Bool × List ℕ). IfSome c.log_phase-path.result.1 (λ _. AreBeside z.0 z.1 c.log_phase-path.new.layout.members.items)) (λ i. (apart i, others i)) c.log_phase-path.ensures.beside
+    let staged = is_none_by c.is_none.result c.args.held.turn c.is_none.ensures in
+    let told = beside_where c.may_be_apart.result c.is_none.result (others_in left) c.log_phase-path.new.layout.members.items c.log_phase-path.result.1 c.may_be_apart.ensures c.log_phase-path.ensures.beside in
+    subst (λ (z : Bool × List ℕ). IfSome c.log_phase-path.result.1 (λ _. AreBeside z.0 z.1 c.log_phase-path.new.layout.members.items)) (λ i. (staged i, others i)) told
