@@ -328,11 +328,16 @@ const MEETINGS: [Meeting; 7] = [
     },
 ];
 
+/// Lets them meet over each of its write paths.
+fn meet_on_each<R: Threads + Wait + Abort + Sync>(rt: &R, alloc: Global, meeting: Meeting) {
+    for path in meeting.paths {
+        meet(rt, alloc, meeting, *path);
+    }
+}
+
 #[test]
 fn clients_meet(rt: HostRuntime) {
     for meeting in MEETINGS {
-        for path in meeting.paths {
-            meet(&rt, rt.alloc(), meeting, *path);
-        }
+        meet_on_each(&rt, rt.alloc(), meeting);
     }
 }
