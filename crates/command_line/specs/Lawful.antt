@@ -133,7 +133,8 @@ generate_with in_stages in_shards _ = None
 abbrev pub generate_asked : List Word → Option Asked
 generate_asked words =
     let before = length words - 3 in
-    option_and_then (λ given. generate_with (is_some (value_of pipelined.name given)) (shards_given given) (drop before words))
+    option_and_then (λ given. generate_with (is_some (value_of pipelined.name given)) (shards_given given)
+    (drop before words))
     (options_of generate_options (take before words))
 
 -- what a command asks for with the words behind it

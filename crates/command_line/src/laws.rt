@@ -51,7 +51,8 @@ pub fn words_that_ask()
     ensures generate { asked_in (codes "writepath" ∷ codes "gen" ∷ codes "7" ∷ codes "16" ∷ codes "100000" ∷ [])
         ≡ Some (Generate false None 7 16 100000) }
     ensures generate_in_shards { asked_in (codes "writepath" ∷ codes "gen" ∷ codes "--table" ∷ codes "shards"
-        ∷ codes "--shards" ∷ codes "2" ∷ codes "7" ∷ codes "2" ∷ codes "3" ∷ []) ≡ Some (Generate false (Some 2) 7 2 3) }
+        ∷ codes "--shards" ∷ codes "2" ∷ codes "7" ∷ codes "2" ∷ codes "3" ∷ [])
+        ≡ Some (Generate false (Some 2) 7 2 3) }
     ensures generate_in_two_stages { asked_in (codes "writepath" ∷ codes "gen" ∷ codes "--pipelined" ∷ codes "7"
         ∷ codes "2" ∷ codes "3" ∷ []) ≡ Some (Generate true None 7 2 3) }
 {}

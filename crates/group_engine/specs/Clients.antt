@@ -67,23 +67,25 @@ module _ {D T C S U P : Type 0} {ghosts : Ghosts D} where
       pub opened : HasOpened disk (opened_log e)
 
     -- it is a client of the engine, but for where its writer and its pass stand
-    pub record IsSeated {G : Type 0} (e : GroupEngine D T C G S U P ghosts) (c : Client D T C S U P ghosts) : Type 0 where
-      pub is_engine : IsEngine e
-      pub writer : Belongs e.list c.writer
-      pub number : client_of c.writer ≡ c.number
-      pub seat : ours e.table c.seat
-      pub ready : IsReady (account c.seat)
-      pub seat_number : (account c.seat).number ≡ c.number
-      pub start : c.start ≡ (opening e.table).start
-      pub pass : IsPassOf e.controller c.pass
-      pub pass_number : pass_client c.pass ≡ c.number
-      pub can_lead : CanLead (clients_of e.list) c
+    pub record IsSeated {G : Type 0} (e : GroupEngine D T C G S U P ghosts) (c : Client D T C S U P ghosts) : Type 0
+      where
+        pub is_engine : IsEngine e
+        pub writer : Belongs e.list c.writer
+        pub number : client_of c.writer ≡ c.number
+        pub seat : ours e.table c.seat
+        pub ready : IsReady (account c.seat)
+        pub seat_number : (account c.seat).number ≡ c.number
+        pub start : c.start ≡ (opening e.table).start
+        pub pass : IsPassOf e.controller c.pass
+        pub pass_number : pass_client c.pass ≡ c.number
+        pub can_lead : CanLead (clients_of e.list) c
 
     -- it is a client of the engine, between two of its calls
-    pub record IsClientOf {G : Type 0} (e : GroupEngine D T C G S U P ghosts) (c : Client D T C S U P ghosts) : Type 0 where
-      pub seated : IsSeated e c
-      pub out : IsOut c.writer
-      pub has_asked : HasAsked c.number (own_commits c.number (told_of c)) (seen_by c.pass)
+    pub record IsClientOf {G : Type 0} (e : GroupEngine D T C G S U P ghosts) (c : Client D T C S U P ghosts) : Type 0
+      where
+        pub seated : IsSeated e c
+        pub out : IsOut c.writer
+        pub has_asked : HasAsked c.number (own_commits c.number (told_of c)) (seen_by c.pass)
 
     abbrev pub account_in : Client D T C S U P ghosts → Account
     account_in c = account_of c.start c.number (own_commits c.number (told_of c)) (account c.seat).seen (seen_by c.pass)

@@ -105,17 +105,18 @@ pub record ShowsDelay {C : Type 0} (controller : Controller C) (h : Handling Req
       × IsDelayed (noted_in h.asked.note) (seen_for h.reply) numbers
 
 -- The log that was opened so was written by calls that wrote the history of these commits, and no others worked.
-pub record HasWritten {D : Type 0} {ghosts : Ghosts D} (opened : LogWriter D ghosts) (commits : List Commit) : Type 0 where
-  pub calls : List GroupCall
-  pub log : LogWriter D ghosts
-  pub wrote : Wrote opened calls log
-  pub worked : List GroupCall
-  pub lost : List GroupCall
-  pub both : calls ≡ worked ++ lost
-  pub parts : WroteParts (entries_of commits) worked
+pub record HasWritten {D : Type 0} {ghosts : Ghosts D} (opened : LogWriter D ghosts) (commits : List Commit) : Type 0
+  where
+    pub calls : List GroupCall
+    pub log : LogWriter D ghosts
+    pub wrote : Wrote opened calls log
+    pub worked : List GroupCall
+    pub lost : List GroupCall
+    pub both : calls ≡ worked ++ lost
+    pub parts : WroteParts (entries_of commits) worked
 
--- What holds of all that was handled, wherever the log is: the answers are right, hand the batches back, and the log has
--- what was accepted.
+-- What holds of all that was handled, wherever the log is: the answers are right, hand the batches back, and the log
+-- has what was accepted.
 pub record AreHandled {C D : Type 0} {ghosts : Ghosts D} (controller : Controller C) (opened : LogWriter D ghosts)
     (start : ℕ) (handled : List (Handling Request Reply)) : Type 0 where
   pub answered : AreAnswered start None (map commit_of handled)

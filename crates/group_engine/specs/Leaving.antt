@@ -40,35 +40,37 @@ module _ {D T C G S U P : Type 0} {ghosts : Ghosts D} (opening : T → Opening) 
   -- The client has answered the group that it leads as `own`, after these were handled. With this number and start, and
   -- these answers of its own before, it came to lead.
   pub record IsToLeave (number start : ℕ) (mine : List (Request × Reply)) (own : Entry Request)
-      (seen : List (Handling Request Reply)) (w : Client D T C S U P ghosts) (held : Held D T C S U P ghosts) : Type 0 where
-    pub seats : HasSeats opening ours account e w
-    pub layout : IsLaid (clients_of e.list) w.layout
-    pub number_is : w.number ≡ number
-    pub start_is : w.start ≡ start
-    pub starts : start ≡ (opening e.table).start
-    pub writer : Belongs e.list w.writer
-    pub client : client_of w.writer ≡ number
-    pub group : List (Entry Request)
-    pub left : List (Entry Request)
-    pub gs : List (Entry Request × Reply)
-    pub p : Reply
-    pub has : HasGroup (asks_for (λ (q : Request). item_with q.batch.records q.options)
-        (λ (a : About D T C ghosts) (q : Request). IsNoted a.controller.value q) (about_of e.list)) (clients_of e.list)
-        e.group_bytes own group left seen (told w.writer) w.writer
-    pub told_is : told w.writer ≡ mine
-    pub heads_are : heads gs ≡ group
-    pub pays_are : w.lists.replies.list.items ≡ pays own p gs
-    pub stands : HeldStandsFor our_turn history (about_of e.list) held (seen ++ all_answers own p gs)
-    pub before : AreHandled (about_of e.list).controller.value (about_of e.list).opened.value (about_of e.list).start seen
-    pub kept : AreHandled (about_of e.list).controller.value (about_of e.list).opened.value (about_of e.list).start
-        (seen ++ all_answers own p gs)
-    pub last : held.path.last ≡ last_run run_of (start_of e.list) (seen ++ all_answers own p gs)
-    pub own_now : of number (seen ++ all_answers own p gs) ≡ mine ++ (own.asked, p) ∷ []
-    pub requests : TakesRequests (clients_of e.list) w.lists.requests
-    pub replies_few : vec_len w.lists.replies.list ≤ clients_of e.list
-    pub replies_room : clients_of e.list ≤ vec_capacity w.lists.replies.list
-    pub room : HasRoom (clients_of e.list) w.lists.room
-    pub has_asked : HasAsked number (own_commits number (mine ++ (own.asked, p) ∷ [])) (seen_by w.pass)
+      (seen : List (Handling Request Reply)) (w : Client D T C S U P ghosts) (held : Held D T C S U P ghosts) : Type 0
+    where
+      pub seats : HasSeats opening ours account e w
+      pub layout : IsLaid (clients_of e.list) w.layout
+      pub number_is : w.number ≡ number
+      pub start_is : w.start ≡ start
+      pub starts : start ≡ (opening e.table).start
+      pub writer : Belongs e.list w.writer
+      pub client : client_of w.writer ≡ number
+      pub group : List (Entry Request)
+      pub left : List (Entry Request)
+      pub gs : List (Entry Request × Reply)
+      pub p : Reply
+      pub has : HasGroup (asks_for (λ (q : Request). item_with q.batch.records q.options)
+          (λ (a : About D T C ghosts) (q : Request). IsNoted a.controller.value q) (about_of e.list)) (clients_of e.list)
+          e.group_bytes own group left seen (told w.writer) w.writer
+      pub told_is : told w.writer ≡ mine
+      pub heads_are : heads gs ≡ group
+      pub pays_are : w.lists.replies.list.items ≡ pays own p gs
+      pub stands : HeldStandsFor our_turn history (about_of e.list) held (seen ++ all_answers own p gs)
+      pub before : AreHandled (about_of e.list).controller.value (about_of e.list).opened.value (about_of e.list).start
+          seen
+      pub kept : AreHandled (about_of e.list).controller.value (about_of e.list).opened.value (about_of e.list).start
+          (seen ++ all_answers own p gs)
+      pub last : held.path.last ≡ last_run run_of (start_of e.list) (seen ++ all_answers own p gs)
+      pub own_now : of number (seen ++ all_answers own p gs) ≡ mine ++ (own.asked, p) ∷ []
+      pub requests : TakesRequests (clients_of e.list) w.lists.requests
+      pub replies_few : vec_len w.lists.replies.list ≤ clients_of e.list
+      pub replies_room : clients_of e.list ≤ vec_capacity w.lists.replies.list
+      pub room : HasRoom (clients_of e.list) w.lists.room
+      pub has_asked : HasAsked number (own_commits number (mine ++ (own.asked, p) ∷ [])) (seen_by w.pass)
 
   -- its members were given no runs, or the list has one stage
   abbrev pub IsFlat : (number start : ℕ) (mine : List (Request × Reply)) (own : Entry Request)

@@ -23,8 +23,8 @@ use write_controller::{Controller, Look, Note, Pass};
 /// How long a leader waits before it looks again whether writes are still stopped, in microseconds.
 const PAUSE: u64 = 1000;
 
-/// Asks for the delay of a group, of the sum of its sizes. Before that the leader's pass sees what the leaders before it
-/// and the members had seen. What it has seen then is noted for the next leader.
+/// Asks for the delay of a group, of the sum of its sizes. Before that the leader's pass sees what the leaders before
+/// it and the members had seen. What it has seen then is noted for the next leader.
 pub(crate) fn ask<C: Clock, R: Wait>(
     rt: &R,
     controller: &Controller<C>,

@@ -32,8 +32,8 @@ pub struct LogPath<D: Disk> {
     pub last: u64,
 }
 
-/// What a leader takes over from the one before: the path of its group, the right to launch it where there is one stage,
-/// the clock, and what the one before had seen of the write controller.
+/// What a leader takes over from the one before: the path of its group, the right to launch it where there is one
+/// stage, the clock, and what the one before had seen of the write controller.
 pub struct Held<D: Disk, T: Table<Nodes, Parts>, C> {
     pub path: LogPath<D>,
     pub turn: Option<T::Turn>,

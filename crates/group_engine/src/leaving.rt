@@ -27,14 +27,16 @@ impl<D: Disk, T: Table<Nodes, Parts>, C: Clock + Drop, G: Gate + Drop> GroupEngi
             × (seen : List (Handling Asked Told))
             × (l : IsToLeave T.opening T.ours T.account T.our_turn T.history self.now number start mine own seen
             client.old held)
-            × IsFlat T.opening T.ours T.account T.our_turn T.history self.now number start mine own seen client.old held l }
+            × IsFlat T.opening T.ours T.account T.our_turn T.history self.now number start mine own seen client.old
+            held l }
         requires parts { client.old.layout.parts.parts ≡ [] }
         ensures fits { IsClientOf T.opening T.ours T.account self.now client.new }
         ensures answered { (number start : ℕ) (mine : List (Asked × Told)) (own : Entry Asked)
             (seen : List (Handling Asked Told))
             → IsToLeave T.opening T.ours T.account T.our_turn T.history self.now number start mine own seen client.old
             held
-            → HasAnswered self.now.controller (opened_log self.now) (T.opening self.now.table).start number mine own.asked
+            → HasAnswered self.now.controller (opened_log self.now) (T.opening self.now.table).start number mine
+            own.asked
             result (told_of client.new) }
         ensures same { (client.new.number ≡ client.old.number) × (client.new.start ≡ client.old.start)
             × (client.new.seat ≡ client.old.seat) × (client.new.pass ≡ client.old.pass) }
@@ -66,7 +68,8 @@ impl<D: Disk, T: Table<Nodes, Parts>, C: Clock + Drop, G: Gate + Drop> GroupEngi
             (seen : List (Handling Asked Told))
             → IsToHandOn T.opening T.ours T.account T.our_turn T.history self.now number start mine own seen client.old
             held end
-            → HasAnswered self.now.controller (opened_log self.now) (T.opening self.now.table).start number mine own.asked
+            → HasAnswered self.now.controller (opened_log self.now) (T.opening self.now.table).start number mine
+            own.asked
             result (told_of client.new) }
         ensures same { (client.new.number ≡ client.old.number) × (client.new.start ≡ client.old.start)
             × (client.new.pass ≡ client.old.pass) }

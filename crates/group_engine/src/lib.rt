@@ -1,7 +1,7 @@
 //! A write path whose clients write in groups, over any published table and any disk. A write goes into a lock-free
 //! list of writers. The oldest writer leads: it takes the group of the grouping rule from the list, asks the write
-//! controller how long the group has to wait, and waits, or refuses a group that may not. Then it gives its members runs
-//! of sequences, writes their batches to the log as one record, and puts their versions into the table, which
+//! controller how long the group has to wait, and waits, or refuses a group that may not. Then it gives its members
+//! runs of sequences, writes their batches to the log as one record, and puts their versions into the table, which
 //! publishes them as one group. Then it answers each member, and gives the log on.
 //!
 //! - `specs/Handled`: requests that were handled, as commits of `group_rule`.

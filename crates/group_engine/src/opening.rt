@@ -88,8 +88,8 @@ fn part_turn<U>(pipelined: bool, turn: U) -> (Option<U>, Option<U>)
 
 impl<D: Disk, T: Table<Nodes, Parts>, C: Clock + Drop, G: Gate + Drop> GroupEngine<D, T, C, G> {
     /// An engine over an opened log and a table of which nothing is published, with a client for each of its seats.
-    /// Where memory is short, all is handed back. Where it is pipelined a group goes into the table while later ones are
-    /// logged, and its members put their own parts in.
+    /// Where memory is short, all is handed back. Where it is pipelined a group goes into the table while later ones
+    /// are logged, and its members put their own parts in.
     pub fn open(
         alloc: Global,
         log: LogWriter<D>,
@@ -281,8 +281,8 @@ impl<D: Disk, T: Table<Nodes, Parts>, C: Clock + Drop, G: Gate + Drop> GroupEngi
         }
     }
 
-    /// Makes a client of each writer, seat and pass. The writers come by falling numbers, and seats and passes by rising
-    /// ones.
+    /// Makes a client of each writer, seat and pass. The writers come by falling numbers, and seats and passes by
+    /// rising ones.
     fn seat_all(
         &self,
         start: u64,

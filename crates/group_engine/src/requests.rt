@@ -31,8 +31,8 @@ impl Itemized for Request {
     ghost item_of = { λ r. item_with r.batch.records r.options };
 }
 
-/// A delay that a leader asked for its group: what its pass had seen then, with the delay itself as the last call. It is
-/// there for the proofs alone.
+/// A delay that a leader asked for its group: what its pass had seen then, with the delay itself as the last call. It
+/// is there for the proofs alone.
 #[derive(Drop)]
 pub struct Delay {
     pub pass: Snapshot<Pass>,

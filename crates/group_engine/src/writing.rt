@@ -56,7 +56,8 @@ impl<D: Disk, T: Table<Nodes, Parts>, C: Clock + Drop, G: Gate + Drop> GroupEngi
         ensures fits { IsClientOf T.opening T.ours T.account self.now client.new }
         ensures answered { (own : Entry Asked) (seen : List (Handling Asked Told))
             → IsChosen own seen (told_of client.old) client.old.writer
-            → IsAnswered self.now.controller (opened_log self.now) (T.opening self.now.table).start own.asked result client.old client.new }
+            → IsAnswered self.now.controller (opened_log self.now) (T.opening self.now.table).start own.asked result
+            client.old client.new }
         ensures seen { Begins (T.account client.old.seat).seen (T.account client.new.seat).seen
             × SeesMore client.old.number (seen_by client.old.pass) (seen_by client.new.pass) }
     {
@@ -127,7 +128,8 @@ impl<D: Disk, T: Table<Nodes, Parts>, C: Clock + Drop, G: Gate + Drop> GroupEngi
             client.new.layout.parts.parts st.published
             (handled ++ handled_with client.old.lists.requests.list.items client.new.lists.replies.list.items) }
         ensures turn { result.0.turn ≡ held.turn }
-        ensures staged { IsStaged client.old.number (clients_of self.now.list) held.path.last result.0.path.last result.1
+        ensures staged { IsStaged client.old.number (clients_of self.now.list) held.path.last result.0.path.last
+            result.1
             client.new.layout.members.items client.new.layout.parts.parts client.new.lists.replies.list.items }
         ensures beside { IfSome result.1 (λ _. AreBeside (is_none held.turn)
             (others_in client.old.lists.requests.list.items) client.new.layout.members.items) }
@@ -188,7 +190,8 @@ impl<D: Disk, T: Table<Nodes, Parts>, C: Clock + Drop, G: Gate + Drop> GroupEngi
         (held, end)
     }
 
-    /// Waits until the client leads a group, or has its reply. Until then it works beside its leader, where it is told to.
+    /// Waits until the client leads a group, or has its reply. Until then it works beside its leader, where it is told
+    /// to.
     fn await_own_role<R: Wait>(
         &self,
         rt: &R,
@@ -230,7 +233,8 @@ impl<D: Disk, T: Table<Nodes, Parts>, C: Clock + Drop, G: Gate + Drop> GroupEngi
         // who holds a stop token never waits in the list
         requires free { holds_stop (asked_by client.old.pass) ≡ false }
         ensures fits { IsClientOf T.opening T.ours T.account self.now client.new }
-        ensures answered { IsAnswered self.now.controller (opened_log self.now) (T.opening self.now.table).start request result client.old
+        ensures answered { IsAnswered self.now.controller (opened_log self.now) (T.opening self.now.table).start
+            request result client.old
             client.new }
         ensures seen { Begins (T.account client.old.seat).seen (T.account client.new.seat).seen
             × SeesMore client.old.number (seen_by client.old.pass) (seen_by client.new.pass) }
@@ -287,8 +291,8 @@ impl<D: Disk, T: Table<Nodes, Parts>, C: Clock + Drop, G: Gate + Drop> GroupEngi
     }
 }
 
-/// Whether each member's part may be apart, for the member itself to insert: where groups go into the table in a stage of
-/// their own, and the table has several locks. Under one lock members would wait for each other.
+/// Whether each member's part may be apart, for the member itself to insert: where groups go into the table in a stage
+/// of their own, and the table has several locks. Under one lock members would wait for each other.
 fn may_be_apart(staged: bool, locks: u64) -> bool
     ensures { staged ≡ false → result ≡ false }
 {

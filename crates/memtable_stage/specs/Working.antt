@@ -9,9 +9,9 @@ use Rattle.table_rule.specs.Histories.{Begins, IsHistory}
 use Rattle.table_rule.specs.Steps.{IsAwaited, IsPartOf, launched_behind}
 use Rattle.table_calls.specs.Account.{Account}
 
--- The part was the member's own of a launched group, which goes behind all that the member had seen. It is in the trees,
--- and finished. Where it was the last of its group the member published the group, whole, and has seen it; else it has
--- seen what it had.
+-- The part was the member's own of a launched group, which goes behind all that the member had seen. It is in the
+-- trees, and finished. Where it was the last of its group the member published the group, whole, and has seen it; else
+-- it has seen what it had.
 pub record Works (opening : Opening) (before after : Account) : Type 0 where
   pub launched : Launched
   pub versions : List Version

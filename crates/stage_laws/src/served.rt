@@ -10,8 +10,8 @@ ghost use Rattle.group_rule.specs.Plans.{CommitRequest, planned, versions_from, 
 ghost use Rattle.group_rule.specs.Consistent.{AreConsistent, Publishes};
 ghost use Rattle.stage_laws.specs.Served.{accepted_of, AreServed, parts_from};
 
-/// The parts of a group, one of each member that has a run, are together the group's versions, and each member is one of
-/// the clients and has one.
+/// The parts of a group, one of each member that has a run, are together the group's versions, and each member is one
+/// of the clients and has one.
 pub fn parts_of_a_group()
     ensures versions { (last : ℕ) (requests : List CommitRequest)
         → versions_in (parts_from last requests) ≡ versions_from last requests }

@@ -131,7 +131,8 @@ module _ {Q P L M : Type 0} where
 module _ {Q P L M : Type 0} where
   -- the leader has read these writers behind its marker
   abbrev pub SeesMarked : ℕ → Sat Q P L M → List (Entry Q) → Type 0
-  SeesMarked c m walk = (lead : Lead Q P) × (mine : List (Q × P)) × (back : Back Q P) × AtWith c (Marking lead) mine back m
+  SeesMarked c m walk = (lead : Lead Q P) × (mine : List (Q × P)) × (back : Back Q P)
+      × AtWith c (Marking lead) mine back m
       × (lead.walk ≡ walk)
 
   -- the leader has the right, and has read these writers of the second list

@@ -67,7 +67,8 @@ impl<Q: Itemized, P: Given, L: Ledger<Q, P, M>, M> WriterList<Q, P, L, M> {
         writer.task = Task::Queues;
     }
 
-    // The same, where what was given runs before the group, and with it, is picked: true where the leader has the right.
+    // The same, where what was given runs before the group, and with it, is picked: true where the leader has the
+    // right.
     fn exit_from<B: PickedGiven<Q, P>, D: PickedRight<Q, P, L::About>, R: Wait>(
         &self,
         rt: &R,
@@ -95,7 +96,8 @@ impl<Q: Itemized, P: Given, L: Ledger<Q, P, M>, M> WriterList<Q, P, L, M> {
             List (Entry Q × P)) (p : P)
             → HasGroup (asks_of Q.item_of L.lawful self.now) (clients_of self.now) max own group left seen (told
             writer.old) writer.old → heads gs ≡ group → replies.old.items ≡ pays own p gs
-            → HasSent (L.serves (about_of self.now)) self.now.clients writer.old.client result (debt gs own p) (told writer.old)
+            → HasSent (L.serves (about_of self.now)) self.now.clients writer.old.client result (debt gs own p)
+            (told writer.old)
             (ending (parting (grouped own seen left group) B.given) D.given) writer.new.seat.me
             × (room.new.members.items ≡ bys (heads gs ++ own ∷ [])) }
     {
@@ -159,8 +161,8 @@ impl<Q: Itemized, P: Given, L: Ledger<Q, P, M>, M> WriterList<Q, P, L, M> {
         ensures sent { (lead : Lead Q P) (mine : List (Q × P)) (gs : List (Entry Q × P)) (p : P) (l : L)
             → At writer.old.client (Leading lead) mine writer.old.seat.me → heads gs ≡ lead.taken
             → writer.old.seat.me.1 ≡ (0, Log l) ∷ slots_of gs ((writer.old.client, Told p) ∷ [])
-            → HasSent (L.serves (about_of self.now)) self.now.clients writer.old.client result (debt gs lead.own p) mine (ending
-            (parting lead B.given) D.given) writer.new.seat.me }
+            → HasSent (L.serves (about_of self.now)) self.now.clients writer.old.client result (debt gs lead.own p)
+            mine (ending (parting lead B.given) D.given) writer.new.seat.me }
     {
         let next = self.part::<B>(writer, newest_member, count, walk);
         let alone = self.join_second::<D, R>(rt, writer, code, newest_member);
@@ -191,7 +193,8 @@ impl<Q: Itemized, P: Given, L: Ledger<Q, P, M>, M> WriterList<Q, P, L, M> {
         ensures seat { Stays writer.new writer.old }
         ensures joined { (st : Stage Q P) (mine : List (Q × P)) (g : Squad Q P) (b : ℕ)
             → AtWith writer.old.client st mine (Parting g b) writer.old.seat.me
-            → HasJoined (L.serves (about_of self.now)) self.now.clients writer.old.client B.given result st mine g writer.old.seat.me
+            → HasJoined (L.serves (about_of self.now)) self.now.clients writer.old.client B.given result st mine g
+            writer.old.seat.me
             writer.new.seat.me }
     {
         let shared = &self.table.shared;

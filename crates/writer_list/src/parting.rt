@@ -20,7 +20,8 @@ use list_rule::{
 };
 
 impl<Q: Itemized, P: Given, L: Ledger<Q, P, M>, M> WriterList<Q, P, L, M> {
-    // Puts the marker where nobody came after the group, whose newest member is `newest_member`; answers the newest writer.
+    // Puts the marker where nobody came after the group, whose newest member is `newest_member`; answers the newest
+    // writer.
     fn mark<B: PickedGiven<Q, P>>(&self, writer: &mut Writer<Q, P, L, M>, newest_member: u64) -> u64
         requires seat { writer.old.seat.table_id ≡ self.now.table.shared.table_id }
         requires leads { (lead : Lead Q P) × (mine : List (Q × P))
@@ -57,7 +58,8 @@ impl<Q: Itemized, P: Given, L: Ledger<Q, P, M>, M> WriterList<Q, P, L, M> {
             .store::<CutAway<B>>(&mut writer.seat, 2 * next as usize + 3, 256 * code);
     }
 
-    // Cuts the group off from the first list: answers 0 where the marker stands in its place, and else the oldest writer behind it.
+    // Cuts the group off from the first list: answers 0 where the marker stands in its place, and else the oldest
+    // writer behind it.
     pub(crate) fn part<B: PickedGiven<Q, P>>(
         &self,
         writer: &mut Writer<Q, P, L, M>,

@@ -31,8 +31,8 @@ use std::sync::Wait;
 impl<Q: Itemized, P: Given, L: Ledger<Q, P, M>, M> WriterList<Q, P, L, M> {
     /// Tells these members of the group to work beside the leader, which has the right.
     pub fn launch_roles(&self, writer: &mut Writer<Q, P, L, M>, members: &[u32])
-        requires leads { Belongs self.now writer.old × ((d : Debt Q P) × (from to : List (Handling Q P)) × (mine : List (Q
-            × P)) × HasRight (clients_of self.now) d from to mine writer.old
+        requires leads { Belongs self.now writer.old × ((d : Debt Q P) × (from to : List (Handling Q P))
+            × (mine : List (Q × P)) × HasRight (clients_of self.now) d from to mine writer.old
             × AreMembers (clients_of self.now) members.now d.rest) }
         ensures client { (client_of writer.new ≡ client_of writer.old) × Belongs self.now writer.new }
         ensures leads { (d : Debt Q P) (from to : List (Handling Q P)) (mine : List (Q × P))
@@ -44,12 +44,13 @@ impl<Q: Itemized, P: Given, L: Ledger<Q, P, M>, M> WriterList<Q, P, L, M> {
         }
     }
 
-    /// Ends a group of the second list. The right, which stands for what was given runs with the group, goes back, or on
-    /// to the leader of the next group, and then each member is told its reply. The leader's own is answered.
+    /// Ends a group of the second list. The right, which stands for what was given runs with the group, goes back, or
+    /// on to the leader of the next group, and then each member is told its reply. The leader's own is answered.
     pub fn exit_memtable(&self, writer: &mut Writer<Q, P, L, M>, right: M, room: &mut Room) -> P
         requires piped { piped_of self.now ≡ true }
-        requires serves { Belongs self.now writer.old × ((d : Debt Q P) × (from to : List (Handling Q P)) × (mine : List (Q
-            × P)) × HasRight (clients_of self.now) d from to mine writer.old × L.serves (about_of self.now) right to
+        requires serves { Belongs self.now writer.old × ((d : Debt Q P) × (from to : List (Handling Q P))
+            × (mine : List (Q × P)) × HasRight (clients_of self.now) d from to mine writer.old
+            × L.serves (about_of self.now) right to
             × ListsMembers (clients_of self.now) d room.old) }
         ensures room { HasRoom (clients_of self.now) room.new }
         ensures client { (client_of writer.new ≡ client_of writer.old) × Belongs self.now writer.new }
@@ -196,7 +197,8 @@ impl<Q: Itemized, P: Given, L: Ledger<Q, P, M>, M> WriterList<Q, P, L, M> {
             × (right : M) × (t : List (ℕ × Content Q P L M))
             × AtWith writer.old.client (Settling d) mine (Serving g line) writer.old.seat.me
             × (writer.old.seat.me.1 ≡ (self.now.clients + 1, Right right) ∷ t)
-            × (newest_member ≡ newest (line_of g)) × L.serves (about_of self.now) right g.to × (count ≡ length (line_of g)) }
+            × (newest_member ≡ newest (line_of g)) × L.serves (about_of self.now) right g.to
+            × (count ≡ length (line_of g)) }
         ensures seat { (writer.new.seat.table_id ≡ writer.old.seat.table_id)
             × (writer.new.client ≡ writer.old.client) × (walk.new.items ≡ []) × (vec_len walk.new ≡ 0)
             × (vec_capacity walk.new ≡ vec_capacity walk.old) }
@@ -217,7 +219,8 @@ impl<Q: Itemized, P: Given, L: Ledger<Q, P, M>, M> WriterList<Q, P, L, M> {
         self.call_next(writer, next);
     }
 
-    // Gives the right back where no group came after the leader's own, whose newest member is `newest_member`; answers the newest writer of the second list.
+    // Gives the right back where no group came after the leader's own, whose newest member is `newest_member`; answers
+    // the newest writer of the second list.
     fn leave_second(&self, writer: &mut Writer<Q, P, L, M>, newest_member: u64) -> u64
         requires piped { piped_of self.now ≡ true }
         requires seat { writer.old.seat.table_id ≡ self.now.table.shared.table_id }

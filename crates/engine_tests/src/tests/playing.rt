@@ -30,8 +30,8 @@ pub(super) type Members = Clients<Member, Room<MemDisk, MemoryTable, SteppedCloc
 
 pub(super) type Notes = Mutex<Vec<Note>>;
 
-// Opens an engine with a table of this kind, in one stage or two, over an empty disk with so much room, of whose calls those of a list fail.
-// The first looks at the disk's length. The clock stands at 1000.
+// Opens an engine with a table of this kind, in one stage or two, over an empty disk with so much room, of whose calls
+// those of a list fail. The first looks at the disk's length. The clock stands at 1000.
 pub(super) fn opened(
     rt: &impl Abort,
     alloc: Global,
