@@ -69,8 +69,8 @@ struct Outcome {
 }
 
 // Opens an engine over a table of this kind, in one stage or two, with a client for each script, lets all play at once,
-// and closes it. The
-// disk has much room, and its calls with a number in the list fail. The first batch is written after this sequence.
+// and closes it. The disk has much room, and its calls with a number in the list fail. The first batch is written after
+// this sequence.
 fn ended<R: Threads + Wait + Abort + Sync>(
     rt: &R,
     alloc: Global,
