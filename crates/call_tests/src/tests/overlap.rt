@@ -280,8 +280,8 @@ const MEETINGS: [Meeting; 7] = [
         recovered: "groups 1\n72057594037927934 1 17\nstate 72057594037927934 1\n64 31\nend 24 clean\n",
         ..ALONE
     },
-    // Three clients are one group, and the others bring so many records that they are woken in two stages, to put in
-    // their own. A run is left for one of them: the other has nothing to put in.
+    // Three clients are one group, and the others bring so many records that they are woken in two stages over shards,
+    // to put in their own. A run is left for one of them: the other has nothing to put in.
     Meeting {
         paths: &PATHS,
         words: "run --last 72057594037927917",
