@@ -4,11 +4,15 @@
 //! runs of sequences, writes their batches to the log as one record, and puts their versions into the table, which
 //! publishes them as one group. Then it answers each member, and gives the log on.
 //!
+//! In two stages it gives the log on first, and its group waits in a second list for its turn at the table, in the order
+//! of the log (`leaving`, `memtable_stage`). Which of the two it is, is where the right to launch is: with the log, or apart.
+//!
 //! - `specs/Handled`: requests that were handled, as commits of `group_rule`.
 //! - `specs/Asking`: how a leader's view of the write controller goes on.
 //! - `specs/Serving`: a leader before and after its group is handled.
 //! - `specs/Numbering`: what a leader lays out while it gives runs.
 //! - `specs/Law`: what the things that a leader holds stand for.
+//! - `specs/Staged`, `Leaving`: a leader whose group is logged, and one that leaves or hands its group on.
 //! - `specs/Clients`: an engine and its clients, and a client's account.
 //! - `specs/AtStart`: what an engine is opened with.
 #![tactic(auto)]

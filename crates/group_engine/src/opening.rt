@@ -89,7 +89,7 @@ fn part_turn<U>(pipelined: bool, turn: U) -> (Option<U>, Option<U>)
 impl<D: Disk, T: Table<Nodes, Parts>, C: Clock + Drop, G: Gate + Drop> GroupEngine<D, T, C, G> {
     /// An engine over an opened log and a table of which nothing is published, with a client for each of its seats.
     /// Where memory is short, all is handed back. Where it is pipelined a group goes into the table while later ones
-    /// are logged, and its members put their own parts in.
+    /// are logged, and its members may put their own parts in.
     pub fn open(
         alloc: Global,
         log: LogWriter<D>,

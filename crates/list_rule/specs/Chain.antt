@@ -22,7 +22,6 @@ module _ {Q : Type 0} where
   abbrev pub newest : List (Entry Q) → ℕ
   newest l = newest_from 0 l
 
-  -- each writer's link names the next older one
   -- each writer's link names the next older one, and the oldest one's names b
   abbrev pub LinksFrom : ℕ → List ℕ → List (Entry Q) → Type 0
   LinksFrom b words [] = Unit {0}

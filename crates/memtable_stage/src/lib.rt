@@ -1,7 +1,7 @@
 //! The second stage of a pipelined write path: a group that is logged goes into the table. The group's leader launches
-//! it, with one part for each member that has a run, and tells these members to work beside it. Each takes its own part
-//! by its own seat, puts it into the table, and finishes; who finishes last publishes the group, whole. The leader
-//! waits for that, and has the right to launch again.
+//! it, with its own part and perhaps one for each other member that has a run, and tells these to work beside it. Each
+//! takes its own part by its own seat, puts it into the table, and finishes; who finishes last publishes the group,
+//! whole. The leader waits for that, and has the right to launch again.
 #![tactic(auto)]
 
 mod leading;
