@@ -54,8 +54,8 @@ module _ {D T C G S U P : Type 0} {ghosts : Ghosts D} (opening : T → Opening) 
       pub gs : List (Entry Request × Reply)
       pub p : Reply
       pub has : HasGroup (asks_for (λ (q : Request). item_with q.batch.records q.options)
-          (λ (a : About D T C ghosts) (q : Request). IsNoted a.controller.value q) (about_of e.list)) (clients_of e.list)
-          e.group_bytes own group left seen (told w.writer) w.writer
+          (λ (a : About D T C ghosts) (q : Request). IsNoted a.controller.value q) (about_of e.list))
+          (clients_of e.list) e.group_bytes own group left seen (told w.writer) w.writer
       pub told_is : told w.writer ≡ mine
       pub heads_are : heads gs ≡ group
       pub pays_are : w.lists.replies.list.items ≡ pays own p gs

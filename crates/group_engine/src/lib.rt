@@ -4,8 +4,9 @@
 //! runs of sequences, writes their batches to the log as one record, and puts their versions into the table, which
 //! publishes them as one group. Then it answers each member, and gives the log on.
 //!
-//! In two stages it gives the log on first, and its group waits in a second list for its turn at the table, in the order
-//! of the log (`leaving`, `memtable_stage`). Which of the two it is, is where the right to launch is: with the log, or apart.
+//! In two stages it gives the log on first, and its group waits in a second list for its turn at the table, in the
+//! order of the log (`leaving`, `memtable_stage`). Which of the two it is, is where the right to launch is: with the
+//! log, or apart.
 //!
 //! - `specs/Handled`: requests that were handled, as commits of `group_rule`.
 //! - `specs/Asking`: how a leader's view of the write controller goes on.

@@ -3,9 +3,9 @@
 //! It takes the requests of its group, as the grouping rule chooses them from the queue, handles them, and leaves: the
 //! log goes back, or on to the next leader, and each member is told its reply.
 //!
-//! Where it has a second list, a leader with a logged group cuts that off, puts it into the second list, and gives the log
-//! on only then. In that list groups wait for a right, in the order of the log; the leader of the oldest one has it, may
-//! tell members to work beside it, and gives the right on.
+//! Where it has a second list, a leader with a logged group cuts that off, puts it into the second list, and gives the
+//! log on only then. In that list groups wait for a right, in the order of the log; the leader of the oldest one has
+//! it, may tell members to work beside it, and gives the right on.
 //!
 //! The words, slots and steps are those of `list_rule`.
 #![tactic(auto)]
