@@ -31,6 +31,8 @@ enum Place {
     FirstLinked,
     /// The first client is about to launch its group.
     FirstLaunching,
+    /// A call of the first client is answered, once it has launched its group.
+    FirstAnswered,
     /// Another client stands in the line of writers.
     OthersLinked,
     /// A call of another client is answered.
@@ -58,6 +60,11 @@ struct Meeting {
     /// When the first client goes on that stands in the line of writers, and when it launches its group.
     leads: Moment,
     launches: Moment,
+    /// When another client goes on that stands in the line of writers, after so many turns at most.
+    follows: Moment,
+    turns: u64,
+    /// Whether a client waits in vain.
+    late: bool,
     status: u8,
     want: &'static str,
     /// What the log recovers.
@@ -74,6 +81,7 @@ struct Turnstile<'a> {
     /// How often clients came by.
     first_linked: AtomicU64,
     first_launching: AtomicU64,
+    first_answered: AtomicU64,
     others_linked: AtomicU64,
     others_answered: AtomicU64,
     /// Whether a client waited in vain.
@@ -88,6 +96,7 @@ impl<'a> Turnstile<'a> {
             locks: AtomicU64::new(0),
             first_linked: AtomicU64::new(0),
             first_launching: AtomicU64::new(0),
+            first_answered: AtomicU64::new(0),
             others_linked: AtomicU64::new(0),
             others_answered: AtomicU64::new(0),
             late: AtomicBool::new(false),
@@ -100,6 +109,7 @@ impl<'a> Turnstile<'a> {
             Place::Appending => u64::from(self.hold.is_entered()),
             Place::FirstLinked => self.first_linked.load(SeqCst),
             Place::FirstLaunching => self.first_launching.load(SeqCst),
+            Place::FirstAnswered => self.first_answered.load(SeqCst),
             Place::OthersLinked => self.others_linked.load(SeqCst),
             Place::OthersAnswered => self.others_answered.load(SeqCst),
         }
@@ -115,7 +125,7 @@ impl<'a> Turnstile<'a> {
 
     /// Waits until clients have come by so often. Each turn lets another thread run.
     fn wait_for(&self, (place, times): Moment) {
-        for _ in 0..MOST_TURNS {
+        for _ in 0..self.meeting.turns {
             if self.times(place) >= times {
                 return;
             }
@@ -142,6 +152,7 @@ impl<'a> Gate for Turnstile<'a> {
             self.wait_for(self.meeting.leads);
         } else {
             self.come(Place::OthersLinked, &self.others_linked);
+            self.wait_for(self.meeting.follows);
         }
     }
 
@@ -155,11 +166,13 @@ impl<'a> Gate for Turnstile<'a> {
     fn answered(&self, client: u32, _number: u64) {
         if client != 1 {
             self.come(Place::OthersAnswered, &self.others_answered);
+        } else if self.times(Place::FirstLaunching) > 0 {
+            self.come(Place::FirstAnswered, &self.first_answered);
         }
     }
 }
 
-/// Lets clients meet over a write path. The table has its number of locks, and nobody waits in vain.
+/// Lets clients meet over a write path. The table has its number of locks, and who waits in vain is to.
 fn meet<R: Threads + Wait + Abort + Sync>(
     rt: &R,
     alloc: Global,
@@ -195,7 +208,7 @@ fn meet<R: Threads + Wait + Abort + Sync>(
     let locks = gate.locks.load(SeqCst);
     assert_eq!(rt;
         (late, locks, status),
-        (false, path.locks, meeting.status),
+        (meeting.late, path.locks, meeting.status),
         "for {}",
         meeting.want
     );
@@ -234,13 +247,41 @@ const ALONE: Meeting = Meeting {
     begin: AT_ONCE,
     leads: AT_ONCE,
     launches: AT_ONCE,
+    follows: AT_ONCE,
+    turns: MOST_TURNS,
+    late: false,
     status: 0,
     want: OUTCOME,
     recovered: "groups 1\n1 1 17\nstate 1 1\n61 31\nend 24 clean\n",
 };
 
-const MEETINGS: [Meeting; 7] = [
+/// Two clients are one group, of which the second is held back in the line until the first is answered: its leader puts
+/// the second one's records into the table too.
+const LEFT_TO_THE_LEADER: Meeting = Meeting {
+    paths: &[ONE_TREE, SHARDS, PIPELINED],
+    text: b"client 1\nput d 1\ncommit\n\
+        client 2\nput a 1\nput a 1\nput a 1\nput a 1\nput a 1\nput a 1\nput a 1\nput a 1\n\
+        put a 1\nput a 1\nput a 1\nput a 1\nput a 1\nput a 1\nput a 1\nput a 1\ncommit\n",
+    begin: (Place::FirstLinked, 1),
+    leads: (Place::OthersLinked, 1),
+    follows: (Place::FirstAnswered, 1),
+    want: "client 1\nok 1 1\nclient 2\nok 2 17\n\
+        history 2\n1 1 1 1 log 0100000000000000010000000101640131\n2 17 2 1 log *\n\
+        state 17 2\na 1\nd 1\nlog 104\n",
+    recovered: "groups 1\n1 17 97\nstate 17 2\n61 31\n64 31\nend 104 clean\n",
+    ..ALONE
+};
+
+const MEETINGS: [Meeting; 9] = [
     ALONE,
+    LEFT_TO_THE_LEADER,
+    // In two stages over shards the second puts in its own: the first is not answered before it goes on.
+    Meeting {
+        paths: &[PIPELINED_SHARDS],
+        turns: 100_000,
+        late: true,
+        ..LEFT_TO_THE_LEADER
+    },
     // The second client is answered while the first one's record is written, and sees nothing of it.
     Meeting {
         paths: &PATHS,
