@@ -1,15 +1,18 @@
 """An independent checker of printed outcomes: a plain map, plain batches, and nothing of the program's own.
 
-`race` and `schedules` beside this file use it. Of an outcome it asks:
+`race`, `schedules`, `kill` and `faults` beside this file use it. Of an outcome it asks:
 
 - each client's accepted batches stand once in the history, in its order, each with just what the client put into it;
 - the runs of the history follow each other without a gap;
 - each read is that of a plain map at its sequence, which is the end of a batch; it is not below what the client has
   seen before, its own batches among it;
-- the printed state is the map at the published sequence.
+- the printed state is the map at the published sequence;
+- where the log has failed, each client is refused by that fault from some commit on, and one is at least.
 """
 
 import os
+
+from plain_log import varint
 
 ROOT = os.path.dirname(os.path.dirname(os.path.realpath(__file__)))
 BUILT = os.environ.get("WRITEPATH", os.path.join(ROOT, "crates/writepath/out/writepath"))
@@ -38,13 +41,20 @@ def text_of(script):
 
 
 def string_bytes(text):
-    return bytes([len(text)]) + text.encode()
+    return varint(len(text)) + text.encode()
+
+
+# The tag of each record.
+TAGS = {"del": b"\x00", "put": b"\x01", "note": b"\x03", "sdel": b"\x07"}
 
 
 def record_bytes(words):
-    if words[0] == "put":
-        return b"\x01" + string_bytes(words[1]) + string_bytes(words[2])
-    return {"del": b"\x00", "sdel": b"\x07"}[words[0]] + string_bytes(words[1])
+    return TAGS[words[0]] + b"".join(string_bytes(text) for text in words[1:])
+
+
+def count_of(records):
+    """How many of some records take a sequence."""
+    return sum(words[0] != "note" for words in records)
 
 
 def changed(pairs, records):
@@ -53,7 +63,7 @@ def changed(pairs, records):
     for words in records:
         if words[0] == "put":
             pairs[words[1]] = words[2]
-        else:
+        elif words[0] != "note":
             pairs.pop(words[1], None)
     return pairs
 
@@ -83,31 +93,42 @@ def sections_of(text, clients):
     return replies, lines
 
 
+def fault_of(lines):
+    """The count of faults in the last line, where the log has failed."""
+    words = lines[-1].split(" ")
+    return words[3] if len(words) == 4 and words[0] == "log" and words[2] == "fault" else None
+
+
 def flag_of(words):
     """What the history says of a commit."""
     return "nolog" if "nolog" in words else "sync" if "sync" in words else "log"
 
 
-def calls_of(commands, replies, whole):
-    """A client's accepted batches by its replies, the one it waits for, and its reads with what it had seen before each.
+def calls_of(commands, replies, whole, fault):
+    """A client's accepted batches by its replies, the one it waits for, its reads with what it had seen before each,
+    and whether a commit was refused by the log's fault, if there is one.
 
     Where the run is not whole, the replies may end early.
     """
     replies = list(replies)
-    pending, accepted, reads, seen = [], [], [], 0
+    pending, accepted, reads, seen, is_refused = [], [], [], 0, False
     for words in commands:
-        if words[0] in ("put", "del", "sdel"):
+        if words[0] in TAGS:
             pending.append(words)
             continue
         if not replies and not whole:
             waits = (flag_of(words), pending) if words[0] == "commit" else None
-            return accepted, waits, reads
+            return accepted, waits, reads, is_refused
         wanted(replies, f"a reply to {' '.join(words)}")
         reply = replies.pop(0).split(" ")
         if words[0] == "commit":
+            is_refused = is_refused or fault is not None and reply[0] == "no"
+            if is_refused:
+                wanted(reply == ["no", "logfault", fault], f"no logfault {fault}, not {' '.join(reply)}")
+                continue
             wanted(reply[0] == "ok", f"ok, not {' '.join(reply)}")
             first, last = int(reply[1]), int(reply[2])
-            wanted(last + 1 == first + len(pending), f"a run of {len(pending)}: {' '.join(reply)}")
+            wanted(last + 1 == first + count_of(pending), f"a run of {count_of(pending)}: {' '.join(reply)}")
             accepted.append((first, last, flag_of(words), pending))
             pending, seen = [], max(seen, last)
         else:
@@ -116,13 +137,13 @@ def calls_of(commands, replies, whole):
             reads.append((words, at, " ".join(reply)))
             seen = at
     wanted(not replies, "no more replies than commands")
-    return accepted, None, reads
+    return accepted, None, reads, is_refused
 
 
 def history_line(client, ordinal, first, flag, records):
-    body = b"".join(record_bytes(words) for words in records)
-    batch = first.to_bytes(8, "little") + len(records).to_bytes(4, "little") + body
-    return f"{first} {first + len(records) - 1} {client} {ordinal} {flag} {batch.hex()}"
+    body, count = b"".join(record_bytes(words) for words in records), count_of(records)
+    batch = first.to_bytes(8, "little") + count.to_bytes(4, "little") + body
+    return f"{first} {first + count - 1} {client} {ordinal} {flag} {batch.hex()}"
 
 
 def check_outcome(script, text, whole=True):
@@ -131,14 +152,17 @@ def check_outcome(script, text, whole=True):
     Where the run is not whole, the history may have a batch more of each client, which it wasn't told of yet.
     """
     replies, rest = sections_of(text, len(script))
-    batches, waits, reads = [], {}, []
+    fault = fault_of(rest)
+    batches, waits, reads, are_refused = [], {}, [], False
     for client, (commands, own) in enumerate(zip(script, replies), 1):
-        accepted, waiting, own_reads = calls_of(commands, own, whole)
+        accepted, waiting, own_reads, is_refused = calls_of(commands, own, whole, fault)
+        are_refused = are_refused or is_refused
         for ordinal, (first, last, flag, records) in enumerate(accepted, 1):
             batches.append((first, last, history_line(client, ordinal, first, flag, records), records))
         if waiting:
             waits[client] = (len(accepted) + 1, *waiting)
         reads += own_reads
+    wanted(are_refused or fault is None, f"a commit that is refused by fault {fault}")
     head = rest.pop(0).split(" ")
     wanted(head[0] == "history", "the history's head")
     lines = [rest.pop(0) for _ in range(int(head[1]))]
@@ -146,7 +170,7 @@ def check_outcome(script, text, whole=True):
         first, client = int(line.split(" ")[0]), int(line.split(" ")[2])
         if client in waits and line == history_line(client, waits[client][0], first, *waits[client][1:]):
             records = waits.pop(client)[2]
-            batches.append((first, first + len(records) - 1, line, records))
+            batches.append((first, first + count_of(records) - 1, line, records))
     batches.sort()
     wanted([batch[2] for batch in batches] == lines, f"the history {[batch[2] for batch in batches]}, not {lines}")
     end, pairs, maps = 0, {}, {0: {}}

@@ -1,0 +1,159 @@
+"""What the log of a run may have, however the run has ended: by its script, and by nothing of the program's own.
+
+`kill` and `faults` beside this file use it, with scripts whose batches are named by notes (`scripts.py`). It reads logs
+by `plain_log.py`. Of a log it asks:
+
+- each record is whole batches of different clients, one after another, of commits that were not to stay out of the log;
+- each client's are all of its own up to some commit, each once, in its order;
+- the runs ascend, and what is between them is the batches that stay out of the log: those that their clients had
+  committed before, and perhaps those that come next.
+
+Of what may be left where the machine ends too, it asks that it is a front of the records, with all that was safe.
+"""
+
+from typing import NamedTuple
+
+from outcomes import TAGS, count_of, flag_of, record_bytes, wanted
+from plain_log import FULL, HEADER, LAST, End, batch_of, fragments_of, records_of, recovery_of
+
+# The first word of a line that adds to a batch, by the tag of what it adds.
+WORDS = {tag[0]: word for word, tag in TAGS.items()}
+
+
+class Record(NamedTuple):
+    """A record of a log: where it ends, its run of sequences, and what it has, as lines of a script."""
+
+    end: int
+    first: int
+    count: int
+    lines: list
+
+
+def read_log(content):
+    """The records of a log, and why it ends."""
+    ends, records, why = [], [], "clean"
+    try:
+        for at, kind, data in fragments_of(content):
+            ends += [at + HEADER + len(data)] if kind in (FULL, LAST) else []
+    except End as end:
+        why = end.args[1]
+    try:
+        for number, (_, record) in enumerate(records_of(content)):
+            first, count, changes = batch_of(record)
+            lines = [[WORDS[tag], *(string.decode() for string in strings)] for tag, strings in changes]
+            records.append(Record(ends[number], first, count, lines))
+    except End as end:
+        why = end.args[1]
+    return records, why
+
+
+def check_recovery_of(content, recovered):
+    """Checks what the program recovers of a log; `recovered` says it of some bytes."""
+    wanted(recovered(content) == recovery_of(content)[0], f"the recovery of {len(content)} bytes")
+
+
+def batches_of(script):
+    """Each client's batches, where none of its commits is refused: how each is committed, and its records."""
+    clients = []
+    for commands in script:
+        batches, pending = [], []
+        for words in commands:
+            if words[0] == "commit":
+                batches.append((flag_of(words), pending))
+                pending = []
+            elif words[0] in TAGS:
+                pending.append(words)
+        clients.append(batches)
+    return clients
+
+
+def logged_bytes(script):
+    """How many bytes of records the script has for the log."""
+    batches = [batch for client in batches_of(script) for flag, batch in client if flag != "nolog"]
+    return sum(len(record_bytes(words)) for batch in batches for words in batch)
+
+
+def members_of(clients, record):
+    """Whose batches a record has, each by its client and how many of the client's come before it."""
+    members, rest = [], record.lines
+    while rest:
+        wanted(rest[0][0] == "note", f"a batch that begins with its name, not with {rest[0]}")
+        client, turn = (int(word) for word in rest[0][1].split("."))
+        batch = clients[client - 1][turn][1]
+        wanted(rest[: len(batch)] == batch, f"the whole batch {client}.{turn}")
+        wanted(client not in [member[0] for member in members], f"one batch of client {client} in a record")
+        members.append((client, turn))
+        rest = rest[len(batch) :]
+    return members
+
+
+def check_records(script, records):
+    """Checks the records of a log that a run has left, and gives back those that were to be synced."""
+    clients, synced = batches_of(script), []
+    counts = [[count_of(batch) for _, batch in batches] for batches in clients]
+    taken = [0] * len(clients)
+    for record in records:
+        members = members_of(clients, record)
+        for client, turn in members:
+            batches, before = clients[client - 1], taken[client - 1]
+            wanted(turn >= before, f"the batch {client}.{turn} once, and in its order")
+            passed = [flag for flag, _ in batches[before:turn]]
+            wanted(set(passed) <= {"nolog"}, f"all logged batches of client {client} before {client}.{turn}")
+            wanted(batches[turn][0] != "nolog", f"{client}.{turn} not in the log")
+            taken[client - 1] = turn
+        # The sequences that are given out before this record: those of all that its members' clients have committed,
+        # and of what others have, with as many of their batches that stay out of the log as come next.
+        sums = {sum(sum(count[:end]) for count, end in zip(counts, taken))}
+        for client in set(range(1, len(clients) + 1)) - {client for client, _ in members}:
+            end, more = taken[client - 1], [0]
+            while end < len(clients[client - 1]) and clients[client - 1][end][0] == "nolog":
+                more.append(more[-1] + counts[client - 1][end])
+                end += 1
+            sums = {have + one for have in sums for one in more}
+        wanted(record.first - 1 in sums, f"a run after one of {sorted(sums)}, not {record.first}")
+        for client, turn in members:
+            taken[client - 1] = turn + 1
+        if any(clients[client - 1][turn][0] == "sync" for client, turn in members):
+            synced.append(record)
+    return synced
+
+
+def check_notes(records, synced, notes):
+    """Checks the calls that a run has made on its log, of which `calls.c` beside this file tells, and gives back how
+    much of the log was safe.
+
+    Nothing is written behind a record that was to be synced until it is safe, and its entry in the folder. Each sync is
+    of whole records.
+    """
+    safe, synced_to, has_entry = 0, 0, False
+    ends = [0, *(record.end for record in records)]
+    for words in notes:
+        if words[0] == "synced":
+            synced_to = int(words[1])
+            wanted(synced_to in ends, f"a sync of whole records, not of {synced_to} bytes")
+        has_entry = has_entry or words[0] == "entry"
+        safe = synced_to if has_entry else 0
+        if words[0] == "write":
+            behind = [record.end for record in synced if safe < record.end <= int(words[1])]
+            wanted(not behind, f"no write at {words[1]} before what ends at {behind} is safe")
+    return safe
+
+
+def check_images(content, safe, draw, recovered):
+    """Checks what a crash of the machine might leave, where so much of the log is safe: it has all records up to there,
+    and no others than were written. `recovered` says what the program recovers of some bytes.
+    """
+    records = read_log(content)[0]
+    cut = draw.randint(safe, len(content))
+    # What isn't safe may be lost in pieces, of the size of a sector.
+    torn = bytearray(content)
+    for at in range(safe // 512, len(torn) // 512 + 1):
+        start, end = max(at * 512, safe), min(at * 512 + 512, len(torn))
+        if draw.random() < 0.5:
+            torn[start:end] = bytes(max(end - start, 0))
+    for image in (content[:safe], content[:cut], bytes(torn)):
+        check_recovery_of(image, recovered)
+        found = read_log(image)[0]
+        wanted(found == records[: len(found)], "a prefix of the records")
+        whole = [record for record in records if record.end <= safe]
+        wanted(found[: len(whole)] == whole, f"all records of the {safe} bytes that are safe")

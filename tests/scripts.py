@@ -1,0 +1,41 @@
+"""Scripts of clients that write and read the same keys, as `race`, `kill` and `faults` beside this file draw them.
+
+`damage` has its options from here too.
+"""
+
+from outcomes import KEYS
+
+# The options of a write path that come by turns: one tree and three shards, in one stage and in two.
+THREE_SHARDS = ["--shards", "3", "--table", "shards"]
+PATHS = [[], THREE_SHARDS, ["--pipelined"], [*THREE_SHARDS, "--pipelined"]]
+
+
+def script_of(draw, is_named=False):
+    """A script of clients that write and read the same keys.
+
+    Where its batches are to be named, each begins with a note of its client and of how many of that client come before
+    it, as `3.0`, and some scripts have long values.
+    """
+    # Where a group has many records, its clients are woken in two stages over shards, each to put in its own.
+    least, most = draw.choice([(1, 4), (1, 4), (16, 40)])
+    width = draw.choice([0, 0, 0, 400]) if is_named and most == 4 else 0
+    clients = []
+    for client in range(draw.randint(2, 16)):
+        lines = []
+        for turn in range(draw.randint(1, 12)):
+            if is_named:
+                lines.append(["note", f"{client + 1}.{turn}"])
+            for record in range(draw.randint(least, most)):
+                key = draw.choice(KEYS)
+                if draw.random() < 0.3:
+                    lines.append([draw.choice(["del", "sdel"]), key])
+                else:
+                    lines.append(["put", key, f"{client + 1}.{turn}.{record}".ljust(width, "v")])
+            flags = draw.choice([(), (), (), ("sync",), ("nolog",)])
+            lines.append(["commit", *flags])
+            for _ in range(draw.randint(0, 2)):
+                lines.append(
+                    draw.choice([["get", draw.choice(KEYS)], ["many", *KEYS], ["scan", "b", "e"], ["scan", "a", "z"]])
+                )
+        clients.append(lines)
+    return clients
