@@ -1,5 +1,5 @@
-// A library that is preloaded to the program. It notes calls of the system on one file and on its folder, and can make one
-// of them fail, or end the program in it.
+// A library that is preloaded to the program. It notes calls of the system on one file and on its folder, and can make
+// one of them fail, or end the program in it.
 //
 //     CALLS_FILE   the file's path, as the program is given it
 //     CALLS_NOTES  a file that is there, to which the notes are added, a line for each:
@@ -13,13 +13,14 @@
 //                  `space`   it fails with ENOSPC, and so does each later one
 //                  `signal`  it fails with EINTR, and so do the two after it
 //                  `short`   from it on each write takes only half of its bytes
-//                  `full`    from it on the first write takes only half of its bytes, and those after it fail with ENOSPC
+//                  `full`    from it on the first write takes only half of its bytes, and those after
+//                            it fail with ENOSPC
 //                  `none`    from it on each write takes no byte
-//                  `before`, `within`, `after`  SIGKILL ends the program before it, after half of its bytes where it is a
-//                            write, or after it
+//                  `before`, `within`, `after`  SIGKILL ends the program before it, after half of its bytes where
+//                            it is a write, or after it
 //
-// A call that closes works always, and isn't counted. The library makes its calls of the system by `syscall`, and needs no
-// other one than the C library.
+// A call that closes works always, and isn't counted. The library makes its calls of the system by `syscall`, and needs
+// no other one than the C library.
 
 #define _GNU_SOURCE
 #include <errno.h>

@@ -1,8 +1,8 @@
 """An independent reader of logs and batches, by docs/FORMATS.md and RocksDB's wiki, and nothing of the program's own.
 
-`damage`, `kill` and `faults` beside this file use it. `recovery_of` says what `recover` should print of a log's bytes. A
-small writer is here too: `laid_out` makes a log of records, as the program should, or with records that are cut at other
-places.
+`damage`, `kill` and `faults` beside this file use it. `recovery_of` says what `recover` should print of a log's bytes.
+A small writer is here too: `laid_out` makes a log of records, as the program should, or with records that are cut at
+other places.
 """
 
 import functools
