@@ -129,6 +129,8 @@ pub(crate) fn number_apart(
         × (vec_capacity members.new ≡ vec_capacity members.old) }
 {
     let mut at = last;
+    // What is laid out so far, with what the requests that are left will add, is the whole layout. None of these has
+    // a part yet, and who has one beside the leader is noted.
     while let Some((client, request)) = take_first(requests) {
         let before = at;
         at = number_one(client, request, client, at, plans, batches, parts);
@@ -153,6 +155,7 @@ fn note_member(member: u32, leader: u32, has_part: bool, members: &mut Vec<u32>)
 /// each inserts its own part.
 fn are_worth_waking(requests: &[(u32, Request)]) -> bool {
     let mut records: u64 = 0;
+    // `records` is the sum of those gone through.
     for (_, request) in requests.iter().skip(1) {
         records = records.saturating_add(u64::from(request.batch.count()));
     }

@@ -210,6 +210,7 @@ impl<D: Disk, T: Table<Nodes, Parts>, C: Clock + Drop, G: Gate + Drop> GroupEngi
             × ((T.account seat.new).number ≡ (T.account seat.old).number)
             × Begins (T.account seat.old).seen (T.account seat.new).seen }
     {
+        // The request is in the list, and each part that the client was asked to insert is in the table.
         for _ in rt.forever() {
             match self.list.await_pipelined_role(rt, writer) {
                 PipelinedRole::LogLeader(held) => return Role::LogLeader(held),
@@ -282,6 +283,7 @@ impl<D: Disk, T: Table<Nodes, Parts>, C: Clock + Drop, G: Gate + Drop> GroupEngi
         ensures { StandsStill writer.new writer.old }
     {
         let backoff = Backoff::new();
+        // A look moves nothing: the writer is where it was.
         for _ in 0..PAUSES_BEHIND {
             if !self.list.has_groups(writer) {
                 return;
@@ -307,6 +309,7 @@ const PAUSES_BEHIND: u32 = 200;
 
 fn pause_for_sync() {
     let backoff = Backoff::new();
+    // Nothing passes but time.
     for _ in 0..PAUSES {
         backoff.snooze();
     }

@@ -85,6 +85,7 @@ const SCHEDULES: [&[Turn]; 3] = [IN_ORDER, REFUSED, BESIDE];
 
 #[test]
 fn schedules_on_one_thread(rt: HostRuntime) {
+    // Each schedule has a list of its own.
     for schedule in SCHEDULES {
         let (list, mut clients) = opened(&rt, rt.alloc(), 3, 0);
         play(&rt, &list, clients.as_mut_slice(), schedule);
@@ -94,6 +95,7 @@ fn schedules_on_one_thread(rt: HostRuntime) {
 // Notes each number that a client was told, of which none was told to anyone yet; each is above the one before it.
 fn note_numbers(rt: &impl Abort, told: &[Answer], size: u64, noted: &mut [bool]) {
     let mut next = 0;
+    // The numbers so far are noted, and all of them are below `next`.
     for answer in told {
         let number = answer.number;
         let is_new = match noted.get_mut(number as usize) {
@@ -114,6 +116,7 @@ fn check_told(rt: &impl Abort, alloc: Global, clients: &[Client], times: usize) 
     let all = clients.len().wrapping_mul(times);
     let mut noted = vec![in alloc; false; all].expect(rt, "memory");
     let mut size = 0u64;
+    // `size` is the number of clients gone through, and the last one's own.
     for client in clients {
         size = size.wrapping_add(1);
         assert_eq!(rt; client.told.len(), times);

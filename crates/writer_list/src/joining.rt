@@ -199,6 +199,7 @@ impl<Q: Itemized, P: Given, L: Ledger<Q, P, M>, M> WriterList<Q, P, L, M> {
     {
         let shared = &self.table.shared;
         let backoff = Backoff::new();
+        // Until the exchange works the group is cut off from the first list, and not in the second.
         for _ in rt.forever() {
             let older = shared.load::<ReadNewest>(&mut writer.seat, 1);
             self.aim_second(writer, older, code);
@@ -266,6 +267,7 @@ impl<Q: Itemized, P: Given, L: Ledger<Q, P, M>, M> WriterList<Q, P, L, M> {
         ensures turned { (a b : List (ℕ × Content Q P L M)) → writer.old.seat.me.1 ≡ a ++ b → length a ≡ count
             → writer.new.seat.me.1 ≡ b ++ a }
     {
+        // The first `i` slots are behind the others, in their order.
         for i in 0..count {
             writer.seat.turn();
         }

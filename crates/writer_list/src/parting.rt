@@ -150,6 +150,7 @@ impl<Q: Itemized, P: Given, L: Ledger<Q, P, M>, M> WriterList<Q, P, L, M> {
     {
         let shared = &self.table.shared;
         let mut at = first;
+        // The walk has the writers behind the marker from the newest one on, and `at` is the next older one.
         for step in 0..self.clients {
             let word = shared.load::<ReadOlderMarked>(&mut writer.seat, 2 * at as usize + 3);
             walk.push_reserved((at, word / 256));

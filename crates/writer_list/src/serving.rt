@@ -39,6 +39,7 @@ impl<Q: Itemized, P: Given, L: Ledger<Q, P, M>, M> WriterList<Q, P, L, M> {
             → HasRight (clients_of self.now) d from to mine writer.old
             → HasRight (clients_of self.now) d from to mine writer.new }
     {
+        // The first `i` members are told, and the leader has the right still.
         for i in 0..members.len() {
             self.make_parallel(writer, members[i]);
         }
@@ -109,6 +110,7 @@ impl<Q: Itemized, P: Given, L: Ledger<Q, P, M>, M> WriterList<Q, P, L, M> {
     {
         let c = writer.client;
         let backoff = Backoff::new();
+        // Until a look shows 4 the group waits behind others.
         for _ in rt.forever() {
             let state = self.summon::<B>(writer);
             if state == 4 {
@@ -259,6 +261,7 @@ impl<Q: Itemized, P: Given, L: Ledger<Q, P, M>, M> WriterList<Q, P, L, M> {
     {
         let shared = &self.table.shared;
         let mut at = first;
+        // The walk has the writers of the second list from the newest one on, and `at` is the next older one.
         for step in 0..self.clients {
             let word = shared.load::<ReadOlderSecond>(&mut writer.seat, 2 * at as usize + 3);
             walk.push_reserved((at, word / 256));

@@ -125,6 +125,7 @@ impl<'a> Turnstile<'a> {
 
     /// Waits until clients have come by so often. Each turn lets another thread run.
     fn wait_for(&self, (place, times): Moment) {
+        // They haven't come by so often yet.
         for _ in 0..self.meeting.turns {
             if self.times(place) >= times {
                 return;

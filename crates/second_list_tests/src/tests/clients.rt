@@ -78,6 +78,7 @@ fn seated(
 {
     let count = writers.len();
     let mut clients = Vec::with_capacity(alloc, count).expect(rt, "memory");
+    // The clients so far may all write, and those of the writers that are left come next.
     for made in 0..count {
         let Some(writer) = writers.pop() else {
             unreachable!()
@@ -120,6 +121,7 @@ fn unseat(list: &Counted, clients: &mut Vec<Client>, writers: &mut Vec<Seat>)
     ensures { AreIdle list.now (vec_len clients.old) writers.new.items
         × (vec_len writers.new ≡ vec_len clients.old) }
 {
+    // The writers so far are those of the clients taken out, and each of these is in no list.
     for i in 0..clients.len() {
         let Some(client) = clients.pop() else {
             unreachable!()

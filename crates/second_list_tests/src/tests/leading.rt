@@ -27,6 +27,7 @@ fn answer_all(counter: &mut Counter, requests: &mut Requests<Ask>, replies: &mut
     ensures room { (vec_capacity requests.new.list ≡ vec_capacity requests.old.list)
         × (vec_capacity replies.new.list ≡ vec_capacity replies.old.list) }
 {
+    // The first `i` requests are answered, in their order.
     for i in 0..requests.list.len() {
         let client = requests.list[i].0;
         let size = requests.list[i].1.item.size;
@@ -62,6 +63,7 @@ fn note_members(replies: &Replies<Answer>, members: &mut Vec<u32>)
 {
     members_in_order::<Ask, Answer>();
     members.clear();
+    // The members before `i` are noted, but for the leader.
     for i in 1..replies.list.len() {
         members.push_reserved(replies.list[i].0);
     }

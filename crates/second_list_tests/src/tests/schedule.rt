@@ -53,6 +53,7 @@ pub(super) fn play<R: Wait + Abort>(
     requires pipelined { IsPipelined list.now }
     ensures { AllStand list.now clients.new × (length clients.new ≡ length clients.old) }
 {
+    // Between two calls each client is where its stage says.
     for (number, call, seen) in schedule {
         let i = number.wrapping_sub(1);
         assert!(rt; i < clients.len());

@@ -21,6 +21,7 @@ use writer_list::PipelinedRole;
 // Waits until all members have worked.
 fn await_members<R: Wait>(rt: &R, pending: &AtomicU64) {
     let backoff = Backoff::new();
+    // `pending` is how many members have yet to work.
     for _ in rt.forever() {
         if pending.load(SeqCst) == 0 {
             return;
@@ -81,6 +82,7 @@ fn finish<R: Wait>(rt: &R, list: &Counted, client: &mut Client, pending: &Atomic
     requires pipelined { IsPipelined list.now }
     ensures { MayWrite list.now client.old.writer.client client.new }
 {
+    // The client's request is in the list, and whatever it was asked to do beside its leader is done.
     for _ in rt.forever() {
         match list.await_pipelined_role(rt, &mut client.writer) {
             PipelinedRole::Done(answer) => {
@@ -115,6 +117,7 @@ fn write_often<R: Wait>(
     requires pipelined { IsPipelined list.now }
     ensures { MayWrite list.now client.old.writer.client client.new }
 {
+    // The client is in no list, and was told the numbers of `time` writes.
     for time in 0..times {
         ask(rt, list, &mut client.writer, item);
         finish(rt, list, client, pending);
