@@ -18,8 +18,8 @@ use Rattle.wp_model.specs.Calls.{Command, add, clear, commit, get, many, scan, s
 use Rattle.wp_model.proofs.Prefixes.{prefix_length}
 use Rattle.wp_model.proofs.Runs.{later_in, refuse_in}
 use Rattle.account_model.specs.Sights.{last_seen, Sees, InEachTrace}
-use Rattle.account_model.specs.Accounts.{Account, Keeps, Wrote, IsRefused, Refuses, Reads, Asks}
-use Rattle.account_model.specs.ClientRuns.{standing, Goes, Lacks}
+use Rattle.account_model.specs.Accounts.{Account, standing, Keeps, Wrote, IsRefused, Refuses, Reads, Asks}
+use Rattle.account_model.specs.ClientRuns.{Goes, Lacks}
 use Rattle.account_model.proofs.Seeing.{sees_self, last_rises, seen_ends, seen_map}
 
 -- a progress by its parts
@@ -71,6 +71,8 @@ module _ (settings : Settings) (v : Account) (pending : List Record) where
         λ trace is_history saw. subst (Committed trace how (accepted first last pending) (standing v pending shown) (standing w [] (max shown last))) (sym wrote.passed) (record {
           batch = refl;
           run = run;
+          above = (let a = wrote.above in omega (arith, low, a));
+          behind = wrote.behind;
           alive = wrote.alive;
           after = stands_by w [] (max shown last) _ _ _ wrote.mine wrote.asked wrote.attempts;
         }),
@@ -89,7 +91,7 @@ module _ (settings : Settings) (v : Account) (pending : List Record) where
             omega (arith, rises, low),
             λ trace is_history saw. subst (Committed trace how (refused why) (standing v pending shown) (standing w pending shown)) (sym e) (
               r.status,
-              refuse_in w.seen.controller_calls trace.controller_calls saw.controller_calls (length v.seen.controller_calls) v.mine v.attempts pending how why r.status r.may,
+              refuse_in w.seen.controller_calls trace.controller_calls saw.controller_calls (standing v pending (last_seen v.seen)) shown (length w.seen.controller_calls) low how why r.status r.may,
               stands_by w pending shown _ _ _ r.mine r.asked r.attempts,
             ),
           ))

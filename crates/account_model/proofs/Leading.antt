@@ -1,12 +1,12 @@
 -- The groups of an outcome, from what the log's holder knows.
 use Rattle.std.proofs.Common.{◌≡◌, inl, inr, ◌≢◌, ℕ, zero, suc, ◌+◌, ◌-◌, ◌<◌, ◌≤◌, Bool, true, false, cond, Some, List, [], ◌∷◌, ◌++◌, length, map, filter, slice_get, ◌==◌, refl, ap, sym, ◌∙◌, subst, arith, append_assoc, length-append}
-use Rattle.std.specs.List.{AllByRecursion}
+use Rattle.std.specs.List.{AllByRecursion, AllZip}
 use Rattle.std.proofs.lemmas.Option.{slice_get_cases}
-use Rattle.std.proofs.lemmas.List.{length-map}
+use Rattle.std.proofs.lemmas.List.{append-nil, length-map}
 use Rattle.wp_model.specs.Controller.{ControllerCall}
-use Rattle.wp_model.specs.Attempts.{Attempt, slowed, item_of}
-use Rattle.wp_model.specs.Groups.{Member, Group, IsAskedFor, IsCommit, AreOfOthers, AreApart, AreAllApart, AreGroups, Holds, items_of, members_of}
-use Rattle.account_model.specs.Led.{Taken, Led, HaveOwnClients, all_taken, is_of, count_of_client, attempts_of, members_after, groups_after, groups_of, IsLed, AreLed}
+use Rattle.wp_model.specs.Attempts.{Attempt, WriteStatus, slowed, item_of}
+use Rattle.wp_model.specs.Groups.{Member, Group, IsAskedFor, IsCommit, AreOfOthers, AreApart, AreAllApart, AreGroups, StandTogether, StandsTogether, Holds, items_of, members_of}
+use Rattle.account_model.specs.Led.{Taken, Led, HaveOwnClients, items_in, all_taken, is_of, count_of_client, attempts_of, members_after, groups_after, groups_of, IsLed, AreLed}
 
 -- Lists
 
@@ -21,17 +21,22 @@ filter_append {A = A} p (x ∷ xs) ys = by_test (p x) (filter_append p xs ys)
 count_append : (client : ℕ) (xs ys : List Taken) → count_of_client client (xs ++ ys) ≡ count_of_client client xs + count_of_client client ys
 count_append client xs ys = ap length (filter_append (is_of client) xs ys) ∙ length-append (filter (is_of client) xs) (filter (is_of client) ys)
 
-all_append : {A : Type 0} (P : A → Type 0) (xs ys : List A) → AllByRecursion P xs → AllByRecursion P ys → AllByRecursion P (xs ++ ys)
-all_append P [] ys h k = k
-all_append P (x ∷ xs) ys h k = (h.0, all_append P xs ys h.1 k)
+all_left : {A : Type 0} (P : A → Type 0) (xs ys : List A) → AllByRecursion P (xs ++ ys) → AllByRecursion P xs
+all_left P [] ys h = tt
+all_left P (x ∷ xs) ys h = (h.0, all_left P xs ys h.1)
+
+all_right : {A : Type 0} (P : A → Type 0) (xs ys : List A) → AllByRecursion P (xs ++ ys) → AllByRecursion P ys
+all_right P [] ys h = h
+all_right P (x ∷ xs) ys h = all_right P xs ys h.1
+
+left_of_zip : {A B : Type 0} (P : A → Type 0) (Q : (x : A) → P x → B → Type 0) (xs : List A) (ys : List B) → AllZip (λ x y. (p : P x) × Q x p y) xs ys → AllByRecursion P xs
+left_of_zip P Q [] ys h = tt
+left_of_zip P Q (x ∷ xs) [] h = absurd h
+left_of_zip P Q (x ∷ xs) (y ∷ ys) h = (h.0.0, left_of_zip P Q xs ys h.1)
 
 -- The members one after another are those of all groups
 members_append : (before ts us : List Taken) → members_after before (ts ++ us) ≡ members_after before ts ++ members_after (before ++ ts) us
-members_append before [] us = ap (λ b. members_after b us) (sym (append_none before))
-  where
-    append_none : (xs : List Taken) → xs ++ [] ≡ xs
-    append_none [] = refl
-    append_none (x ∷ xs) = ap (λ ys. x ∷ ys) (append_none xs)
+members_append before [] us = ap (λ b. members_after b us) (sym (append-nil before))
 members_append before (t ∷ ts) us =
     ap (λ ms. record { client = t.client; call = count_of_client t.client before; item = item_of t.attempt } ∷ ms)
     (members_append (before ++ t ∷ []) ts us ∙ ap (λ b. members_after (before ++ t ∷ []) ts ++ members_after b us) (append_assoc before (t ∷ []) ts))
@@ -94,7 +99,7 @@ all_apart before (t ∷ ts) = (
   all_apart (before ++ t ∷ []) ts,
 )
 
--- Each member is a commit of its client
+-- Each member is a commit of its client, and has its status
 attempt_at : (before : List Taken) (t : Taken) (after : List Taken) → slice_get (attempts_of t.client (before ++ t ∷ after)) (count_of_client t.client before) ≡ Some t.attempt
 attempt_at [] t after = rw (own_is t) refl
 attempt_at (u ∷ before) t after = by_test (is_of t.client u) refl (attempt_at before t after)
@@ -104,39 +109,57 @@ attempt_at (u ∷ before) t after = by_test (is_of t.client u) refl (attempt_at 
     by_test true e h = rw e h
     by_test false e h = rw e h
 
+same_places : (before : List Taken) (led : List Led) → map (λ (h : Group). h.place) (groups_after before led) ≡ map (λ (h : Led). h.place) led
+same_places before [] = refl
+same_places before (g ∷ led) = ap (λ places. g.place ∷ places) (same_places (before ++ g.commits) led)
+
 module _ (attempts : List (List Attempt)) (all : List Taken) (of_client : (i : ℕ) (own : List Attempt) → slice_get attempts i ≡ Some own → own ≡ attempts_of (i + 1) all) where
-  commits_after : (before ts : List Taken) → before ++ ts ≡ all → AllByRecursion (λ (t : Taken). (1 ≤ t.client) × (t.client ≤ length attempts)) ts → AllByRecursion (IsCommit attempts) (members_after before ts)
-  commits_after before [] split h = tt
-  commits_after before (t ∷ ts) split h = (
+  abbrev AreOfClients : List Taken → Type 0
+  AreOfClients ts = AllByRecursion (λ (t : Taken). (1 ≤ t.client) × (t.client ≤ length attempts)) ts
+
+  abbrev HasStatus : (m : Member) → IsCommit attempts m → WriteStatus → Type 0
+  HasStatus m c status = c.attempt.status ≡ status
+
+  statuses_after : (before ts after : List Taken) → before ++ (ts ++ after) ≡ all → AreOfClients ts
+      → AllZip (λ (m : Member) status. (c : IsCommit attempts m) × HasStatus m c status) (members_after before ts) (map (λ (t : Taken). t.attempt.status) ts)
+  statuses_after before [] after split h = tt
+  statuses_after before (t ∷ ts) after split h = (
     elim (slice_get_cases attempts (t.client - 1)).1 [
       | inl there ↦ (
           let number : t.client ≡ (t.client - 1) + 1 = (let a = h.0.0 in omega arith) in
           let commits = of_client (t.client - 1) there.0 there.2 in
-          let at : slice_get (attempts_of t.client all) (count_of_client t.client before) ≡ Some t.attempt = rw (← split) (attempt_at before t ts) in
-          record {
-            number = t.client - 1;
-            commits = there.0;
-            attempt = t.attempt;
-            client = number;
-            of_client = there.2;
-            there = ap (λ own. slice_get own (count_of_client t.client before)) (commits ∙ ap (λ c. attempts_of c all) (sym number)) ∙ at;
-            item = refl;
-          })
+          let at : slice_get (attempts_of t.client all) (count_of_client t.client before) ≡ Some t.attempt = rw (← split) (attempt_at before t (ts ++ after)) in (
+            record {
+              number = t.client - 1;
+              commits = there.0;
+              attempt = t.attempt;
+              client = number;
+              of_client = there.2;
+              there = ap (λ own. slice_get own (count_of_client t.client before)) (commits ∙ ap (λ c. attempts_of c all) (sym number)) ∙ at;
+              item = refl;
+            },
+            refl,
+          ))
       | inr gone ↦ (let a = h.0.0 in let b = h.0.1 in let c = gone.0 in absurd (omega arith))
     ],
-    commits_after (before ++ t ∷ []) ts (append_assoc before (t ∷ []) ts ∙ split) h.1,
+    statuses_after (before ++ t ∷ []) ts after (append_assoc before (t ∷ []) (ts ++ after) ∙ split) h.1,
   )
 
-pub groups_from_led : (group_bytes : ℕ) (controller_calls : List ControllerCall) (led : List Led) (attempts : List (List Attempt)) → AreLed group_bytes controller_calls led attempts → AreGroups group_bytes controller_calls (groups_of led) attempts
-groups_from_led group_bytes controller_calls led attempts a = record {
-  each = asked_after group_bytes controller_calls [] led a.each;
-  all = a.all;
-  places = a.places;
-  commits = rw (members_of_groups [] led) (commits_after attempts (all_taken led) a.of_client [] (all_taken led) refl a.clients);
-  apart = rw (members_of_groups [] led) (all_apart [] (all_taken led));
-}
+  -- each group with its statuses, where it stands together among all
+  together_after : (controller_calls : List ControllerCall) (groups : List Group) (before : List Taken) (led : List Led) → before ++ all_taken led ≡ all → AreOfClients (all_taken led)
+      → AllByRecursion (λ (g : Led). StandTogether controller_calls (map (λ (h : Group). h.place) groups) g.place (items_in g.commits) (map (λ (t : Taken). t.attempt.status) g.commits)) led
+      → AllByRecursion (StandsTogether controller_calls groups attempts) (groups_after before led)
+  together_after controller_calls groups before [] split clients h = tt
+  together_after controller_calls groups before (g ∷ led) split clients h = (
+    record {
+      statuses = map (λ (t : Taken). t.attempt.status) g.commits;
+      are = statuses_after before g.commits (all_taken led) split (all_left _ g.commits (all_taken led) clients);
+      together = rw (items_after before g.commits) h.0;
+    },
+    together_after controller_calls groups (before ++ g.commits) led (append_assoc before g.commits (all_taken led) ∙ split) (all_right _ g.commits (all_taken led) clients) h.1,
+  )
 
--- Who was slowed stands in the group whose delay told it so
+-- A client's commits stand in the groups, and who was slowed in the one whose delay told it so
 
 same_client : (a b : ℕ) → (a == b) ≡ true → a ≡ b
 same_client a b h = grind arith
@@ -219,38 +242,49 @@ stands client before (t ∷ ts) k h e = by_test (is_of client t) refl k e (λ j.
         let one : count_of_client client (t ∷ []) ≡ 0 = rw own refl in
         stands_later client before t ts k k h (omega (arith, more, one)) (later k rest)
 
-holds_later : (g : Group) (groups : List Group) (place client k j : ℕ) → j ≡ k → Holds groups place client j → Holds (g ∷ groups) place client k
-holds_later g groups place client k j e s = record {
-  at = suc s.at;
-  group = s.group;
-  of_place = s.of_place;
-  place_is = s.place_is;
-  among = s.among;
-  member = s.member;
-  there = s.there;
-  client_is = s.client_is;
-  call_is = s.call_is ∙ e;
-}
+-- A group among these holds a client's commit, and who was slowed was told so by its delay
+abbrev HoldsIn : List Group → ℕ → ℕ → Attempt → Type 0
+HoldsIn groups client call h = (place : ℕ) × Holds groups place client call × ((told : ℕ) → h.status ≡ slowed told → told ≡ place)
 
-holds_after : (group_bytes : ℕ) (controller_calls : List ControllerCall) (client place : ℕ) (h : Attempt) → h.status ≡ slowed place → (before : List Taken) (led : List Led) (k : ℕ) → AllByRecursion (IsLed group_bytes controller_calls) led
-    → slice_get (attempts_of client (all_taken led)) k ≡ Some h → Holds (groups_after before led) place client (count_of_client client before + k)
-holds_after group_bytes controller_calls client place h status before [] k all e = absurd (cc e)
-holds_after group_bytes controller_calls client place h status before (g ∷ led) k all e = elim (slice_get_cases (attempts_of client g.commits) k).1 [
+holds_later : (g : Group) (groups : List Group) (client k j : ℕ) (h : Attempt) → j ≡ k → HoldsIn groups client j h → HoldsIn (g ∷ groups) client k h
+holds_later g groups client k j h e (place, s, told) = (
+  place,
+  record {
+    at = suc s.at;
+    group = s.group;
+    of_place = s.of_place;
+    place_is = s.place_is;
+    among = s.among;
+    member = s.member;
+    there = s.there;
+    client_is = s.client_is;
+    call_is = s.call_is ∙ e;
+  },
+  told,
+)
+
+holds_after : (group_bytes : ℕ) (controller_calls : List ControllerCall) (client : ℕ) (h : Attempt) (before : List Taken) (led : List Led) (k : ℕ) → AllByRecursion (IsLed group_bytes controller_calls) led
+    → slice_get (attempts_of client (all_taken led)) k ≡ Some h → HoldsIn (groups_after before led) client (count_of_client client before + k) h
+holds_after group_bytes controller_calls client h before [] k all e = absurd (cc e)
+holds_after group_bytes controller_calls client h before (g ∷ led) k all e = elim (slice_get_cases (attempts_of client g.commits) k).1 [
   | inl here ↦ (
       let at : slice_get (attempts_of client g.commits) k ≡ Some h = sym (get_left (attempts_of client g.commits) (attempts_of client (all_taken led)) k here.1) ∙ joined in
       let s = stands client before g.commits k h at in
-      let slowed_at = all_at _ g.commits s.at s.taken all.0.slowed_here s.there in
-      record {
-        at = 0;
-        group = record { place = g.place; members = members_after before g.commits };
-        of_place = refl;
-        place_is = sym (slowed_at place (ap (λ (x : Attempt). x.status) s.is ∙ status));
-        among = s.at;
-        member = s.member;
-        there = s.member_there;
-        client_is = s.client_is;
-        call_is = s.call_is;
-      })
+      let slowed_at = all_at _ g.commits s.at s.taken all.0.slowed_here s.there in (
+        g.place,
+        record {
+          at = 0;
+          group = record { place = g.place; members = members_after before g.commits };
+          of_place = refl;
+          place_is = refl;
+          among = s.at;
+          member = s.member;
+          there = s.member_there;
+          client_is = s.client_is;
+          call_is = s.call_is;
+        },
+        λ told status. slowed_at told (ap (λ (x : Attempt). x.status) s.is ∙ status),
+      ))
   | inr gone ↦ (
       let n = length (attempts_of client g.commits) in
       let past = gone.0 in
@@ -259,15 +293,34 @@ holds_after group_bytes controller_calls client place h status before (g ∷ led
       sym (get_right (attempts_of client g.commits) (attempts_of client (all_taken led)) (k - n)) ∙ (ap (slice_get (attempts_of client g.commits ++ attempts_of client (all_taken led))) split ∙ joined) in
       let many = attempts_length client g.commits in
       let more = count_append client before g.commits in
-      holds_later _ _ place client _ _ (omega (arith, split, many, more)) (holds_after group_bytes controller_calls client place h status (before ++ g.commits) led (k - n) all.1 at))
+      holds_later _ _ client _ _ h (omega (arith, split, many, more)) (holds_after group_bytes controller_calls client h (before ++ g.commits) led (k - n) all.1 at))
 ]
   where
     joined : slice_get (attempts_of client g.commits ++ attempts_of client (all_taken led)) k ≡ Some h
     joined = ap (λ own. slice_get own k) (sym (attempts_append client g.commits (all_taken led))) ∙ e
 
-pub slowed_holds : (group_bytes : ℕ) (controller_calls : List ControllerCall) (led : List Led) (attempts : List (List Attempt)) → AreLed group_bytes controller_calls led attempts
-    → (i : ℕ) (own : List Attempt) (k : ℕ) (h : Attempt) (place : ℕ) → slice_get attempts i ≡ Some own → slice_get own k ≡ Some h → h.status ≡ slowed place → Holds (groups_of led) place (i + 1) k
-slowed_holds group_bytes controller_calls led attempts a i own k h place of there status =
-    let e : slice_get (attempts_of (i + 1) (all_taken led)) k ≡ Some h = ap (λ xs. slice_get xs k) (sym (a.of_client i own of)) ∙ there in
-    let zero_more : 0 + k ≡ k = omega arith in
-    subst (λ n. Holds (groups_of led) place (i + 1) n) zero_more (holds_after group_bytes controller_calls (i + 1) place h status [] led k a.each e)
+module _ (group_bytes : ℕ) (controller_calls : List ControllerCall) (led : List Led) (attempts : List (List Attempt)) (a : AreLed group_bytes controller_calls led attempts) where
+  holds : (i : ℕ) (own : List Attempt) (k : ℕ) (h : Attempt) → slice_get attempts i ≡ Some own → slice_get own k ≡ Some h → HoldsIn (groups_of led) (i + 1) k h
+  holds i own k h of there =
+      let e : slice_get (attempts_of (i + 1) (all_taken led)) k ≡ Some h = ap (λ xs. slice_get xs k) (sym (a.of_client i own of)) ∙ there in
+      let zero_more : 0 + k ≡ k = omega arith in
+      subst (λ n. HoldsIn (groups_of led) (i + 1) n h) zero_more (holds_after group_bytes controller_calls (i + 1) h [] led k a.each e)
+
+  pub slowed_holds : (i : ℕ) (own : List Attempt) (k : ℕ) (h : Attempt) (place : ℕ) → slice_get attempts i ≡ Some own → slice_get own k ≡ Some h → h.status ≡ slowed place → Holds (groups_of led) place (i + 1) k
+  slowed_holds i own k h place of there status =
+      let s = holds i own k h of there in
+      subst (λ n. Holds (groups_of led) n (i + 1) k) (sym (s.2 place status)) s.1
+
+  pub groups_from_led : AreGroups group_bytes controller_calls (groups_of led) attempts
+  groups_from_led = record {
+    each = asked_after group_bytes controller_calls [] led a.each;
+    all = a.all;
+    places = a.places;
+    commits = rw (members_of_groups [] led) (left_of_zip (IsCommit attempts) (HasStatus attempts all a.of_client) _ _ (statuses_after attempts all a.of_client [] all [] (append-nil all) a.clients));
+    apart = rw (members_of_groups [] led) (all_apart [] all);
+    none_else = λ i own k h of there. (let s = holds i own k h of there in (s.0, s.1));
+    together = together_after attempts all a.of_client controller_calls (groups_of led) [] led refl a.clients (rw (same_places [] led) a.together);
+  }
+    where
+      all : List Taken
+      all = all_taken led

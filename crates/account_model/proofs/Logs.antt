@@ -9,7 +9,7 @@ use Rattle.wp_model.specs.Attempts.{Attempt}
 use Rattle.wp_model.specs.LogContents.{GroupCall, AreGroupsOf, records_of, record_of_entries, record_of_call}
 use Rattle.run_model.specs.Lost.{IsLostGroup}
 use Rattle.run_model.specs.Crashes.{HasSync, is_sync}
-use Rattle.account_model.specs.Written.{WroteEntries, AreLost}
+use Rattle.run_model.specs.Written.{WroteEntries, AreLost}
 
 none_empty : (parts : List (List Entry)) (calls : List GroupCall) → AllZip WroteEntries parts calls → AllByRecursion (λ (g : List Entry). 0 < length g) parts
 none_empty [] calls h = tt

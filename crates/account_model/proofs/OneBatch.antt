@@ -1,9 +1,11 @@
 -- A client that commits one batch, and what can be seen of it.
-use Rattle.std.proofs.Common.{◌≡◌, ℕ, zero, suc, ◌+◌, List, [], ◌∷◌, ◌++◌, length, Some, None, slice_get, codes, refl, ap, sym, ◌∙◌, subst, arith, append_assoc}
+use Rattle.std.proofs.Common.{◌≡◌, inl, inr, ℕ, zero, suc, ◌+◌, List, [], ◌∷◌, ◌++◌, length, Some, None, slice_get, codes, refl, ap, sym, ◌∙◌, subst, arith, append_assoc}
 use Rattle.std.proofs.Math.Dec.{lit≤}
 use Rattle.wp_model.specs.Varint.{varint_within}
-use Rattle.wp_model.specs.Batch.{value}
+use Rattle.wp_model.specs.Batch.{value, size_of_batch}
 use Rattle.wp_model.specs.History.{Entry}
+use Rattle.wp_model.specs.Attempts.{Attempt, succeeded, item_of}
+use Rattle.wp_model.specs.Groups.{IsCommit, Holds, AreGroups}
 use Rattle.wp_model.specs.Calls.{Command, add, commit, Call, quiet, accepted}
 use Rattle.table_rule.specs.Histories.{made_by}
 use Rattle.account_model.specs.Versions.{versions_of_entry}
@@ -11,7 +13,7 @@ use Rattle.account_model.specs.Sights.{Saw}
 use Rattle.account_model.specs.Accounts.{Account, Wrote, GivesBack}
 use Rattle.account_model.specs.Closing.{IsAccountOf, IsClosing}
 use Rattle.account_model.specs.ClientRuns.{HasRun, HaveRun}
-use Rattle.account_model.specs.Examples.{settings, two_records, plain, one_entry, one_batch, first_version, second_version, sight_of, before, after, commands, calls}
+use Rattle.account_model.specs.Examples.{settings, two_records, plain, one_entry, one_delay, one_batch, one_attempt, one_group, first_version, second_version, sight_of, before, after, commands, calls}
 use Rattle.account_model.proofs.Seeing.{sees_self}
 use Rattle.account_model.proofs.Goings.{goes_add, goes_accepted}
 use Rattle.account_model.proofs.Passing.{went_none, went_more, has_run}
@@ -46,9 +48,11 @@ wrote = record {
   mine = refl;
   asked = refl;
   attempts = refl;
-  seen = record { start = refl; published = (after.seen.published, refl); controller_calls = ([], refl) };
+  seen = record { start = refl; published = (after.seen.published, refl); controller_calls = (after.seen.controller_calls, refl) };
   some = lit≤ tt;
   passed = refl;
+  above = lit≤ tt;
+  behind = tt;
   alive = refl;
   within = lit≤ tt;
   reached = lit≤ tt;
@@ -76,24 +80,60 @@ run = record { clients = refl; transcripts_of = refl; each = each }
         subst (λ (x : Account). HasRun settings 1 cs made x) is_account (subst (λ (x : List Call). HasRun settings 1 cs x after) is_calls (subst (λ (x : List Command). HasRun settings 1 x calls after) is_script has_run_once))
     each (suc i) cs made a in_script in_transcripts in_accounts = absurd (cc in_script)
 
-pub closing : IsClosing settings 0 one_batch [] (after ∷ []) 2 None
+-- The commit's group
+
+one_commit : IsCommit ((one_attempt ∷ []) ∷ []) (record { client = 1; call = 0; item = item_of one_attempt })
+one_commit = record { number = 0; commits = one_attempt ∷ []; attempt = one_attempt; client = refl; of_client = refl; there = refl; item = refl }
+
+are_groups : AreGroups settings.group_bytes (one_delay ∷ []) (one_group ∷ []) ((one_attempt ∷ []) ∷ [])
+unfolding varint_within one_commit
+are_groups = record {
+  each = (record { by = 1; now = 0; told = one_delay.told; there = refl; is_group = record { some = lit≤ tt; whole = refl; of_others = (tt, tt) } }, tt);
+  all = ((λ delay. record { at = 0; group = one_group; there = refl; is = refl }), tt);
+  places = (tt, tt);
+  commits = (one_commit, tt);
+  apart = (tt, tt);
+  none_else = none_else;
+  together = (
+    record {
+      statuses = succeeded ∷ [];
+      are = ((one_commit, refl), tt);
+      together = inr ((refl, tt), record { by = 1; now = 0; bytes = size_of_batch two_records; numbers = record { stops = 0; delays = 0; wait = 0 }; there = refl; each = (inl refl, tt) });
+    },
+    tt,
+  );
+}
+  where
+    none_else : (number : ℕ) (commits : List Attempt) (call : ℕ) (attempt : Attempt) → slice_get ((one_attempt ∷ []) ∷ []) number ≡ Some commits → slice_get commits call ≡ Some attempt
+        → (place : ℕ) × Holds (one_group ∷ []) place (number + 1) call
+    none_else zero commits zero attempt of_client there =
+        (0, record { at = 0; group = one_group; of_place = refl; place_is = refl; among = 0; member = record { client = 1; call = 0; item = item_of one_attempt }; there = refl; client_is = refl; call_is = refl })
+    none_else zero commits (suc call) attempt of_client there =
+        let is : one_attempt ∷ [] ≡ commits = cc of_client in
+        let none : slice_get (one_attempt ∷ []) (suc call) ≡ Some attempt = subst (λ xs. slice_get xs (suc call) ≡ Some attempt) (sym is) there in
+        absurd (cc none)
+    none_else (suc number) commits call attempt of_client there = absurd (cc of_client)
+
+-- The closing
+
+pub closing : IsClosing settings 0 one_batch (one_group ∷ []) (after ∷ []) 2 None
 closing = record {
   is_trace = record {
     start = refl;
     entries = (record { counted = refl; some = lit≤ tt; first = refl; fits = lit≤ tt }, tt);
-    controller_calls = tt;
+    controller_calls = (refl, tt);
     clients = ((lit≤ tt, lit≤ tt), tt);
-    tokens = tt;
+    tokens = ((λ token. absurd (cc token)), tt);
   };
-  are_groups = record { each = tt; all = tt; places = tt; commits = tt; apart = tt };
+  are_groups = are_groups;
   each = each;
   last_is = refl;
   fault_is = tt;
 }
   where
-    of_client : IsAccountOf one_batch [] None after
+    of_client : IsAccountOf one_batch (one_group ∷ []) None after
     of_client = record { accepted = refl; tokens = refl; statuses = (tt, tt); seen = whole }
 
-    each : (i : ℕ) (a : Account) → slice_get (after ∷ []) i ≡ Some a → IsAccountOf one_batch [] None a
-    each zero a there = let is : after ≡ a = cc there in subst (λ (x : Account). IsAccountOf one_batch [] None x) is of_client
+    each : (i : ℕ) (a : Account) → slice_get (after ∷ []) i ≡ Some a → IsAccountOf one_batch (one_group ∷ []) None a
+    each zero a there = let is : after ≡ a = cc there in subst (λ (x : Account). IsAccountOf one_batch (one_group ∷ []) None x) is of_client
     each (suc i) a there = absurd (cc there)

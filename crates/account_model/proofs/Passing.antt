@@ -6,8 +6,8 @@ use Rattle.wp_model.specs.Progress.{fresh}
 use Rattle.wp_model.specs.Runs.{Run, whole, cut_off, commands_of}
 use Rattle.wp_model.specs.Calls.{Command, Reply, Call, no_memory}
 use Rattle.wp_model.proofs.Runs.{run_more}
-use Rattle.account_model.specs.Accounts.{Account, newcomer, GivesBack}
-use Rattle.account_model.specs.ClientRuns.{standing, Goes, Lacks, Went, HasRun}
+use Rattle.account_model.specs.Accounts.{Account, newcomer, standing, GivesBack}
+use Rattle.account_model.specs.ClientRuns.{Goes, Lacks, Went, HasRun}
 use Rattle.account_model.proofs.Seeing.{saw_earlier, sees_on}
 
 pub went_none : (settings : Settings) (start number : ℕ) → Went settings [] (newcomer start number) []

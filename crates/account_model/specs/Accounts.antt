@@ -1,5 +1,5 @@
 -- What the calls of a write path say of one client.
-use Rattle.std.specs.Prelude.{◌≡◌, ◌⊎◌, ℕ, ◌+◌, ◌≤◌, false, List, [], ◌∷◌, ◌++◌, length, Option, Some, None, MatchOption}
+use Rattle.std.specs.Prelude.{◌≡◌, ◌⊎◌, ℕ, ◌+◌, ◌<◌, ◌≤◌, false, List, [], ◌∷◌, ◌++◌, length, Option, Some, None, MatchOption}
 use Rattle.wp_model.specs.declared.write.WriteOptions.{WriteOptions}
 use Rattle.wp_model.specs.declared.write.Refusal.{Refusal}
 use Rattle.wp_model.specs.declared.write.Refusal.TheVariants.{NoMemory}
@@ -10,8 +10,8 @@ use Rattle.wp_model.specs.Controller.{Action}
 use Rattle.wp_model.specs.Tokens.{holds_stop, given_back}
 use Rattle.wp_model.specs.Trace.{Settings}
 use Rattle.wp_model.specs.Attempts.{Attempt, WriteStatus, succeeded, with_attempt, knows_dead}
-use Rattle.wp_model.specs.Progress.{next_entry, early_refusal}
-use Rattle.wp_model.specs.Replies.{IsLater, MayRefuse}
+use Rattle.wp_model.specs.Progress.{Progress, next_entry, early_refusal}
+use Rattle.wp_model.specs.Replies.{IsLater, AreFullBelow, MayRefuse}
 use Rattle.table_rule.specs.Histories.{map_after}
 use Rattle.account_model.specs.Sights.{Sight, unseen, last_seen, Sees}
 
@@ -27,6 +27,18 @@ pub record Account : Type 0 where
 abbrev pub newcomer : ℕ → ℕ → Account
 newcomer start number = record { number = number; mine = []; asked = []; attempts = []; seen = unseen start }
 
+-- where a client stands that has this account, this batch in the making, and was shown what is published up to
+-- `seen_up_to`
+abbrev pub standing : Account → List Record → ℕ → Progress
+standing a pending seen_up_to = record {
+  pending = pending;
+  mine = a.mine;
+  asked = a.asked;
+  attempts = a.attempts;
+  seen_up_to = seen_up_to;
+  known = length a.seen.controller_calls;
+}
+
 -- it has done no more, and has seen no less
 pub record Keeps (v w : Account) : Type 0 where
   pub number : w.number ≡ v.number
@@ -35,7 +47,8 @@ pub record Keeps (v w : Account) : Type 0 where
   pub attempts : w.attempts ≡ v.attempts
   pub seen : Sees v.seen w.seen
 
--- A batch has its run: one entry more. The client has seen the end of the batch's group published.
+-- A batch has its run: one entry more. The run is above all that the client had seen published, and above each sequence
+-- behind which there was no room for a batch of its. It has seen the end of the batch's group published.
 pub record Wrote (settings : Settings) (v : Account) (records : List Record) (how : WriteOptions) (first group_last : ℕ)
     (w : Account) : Type 0 where
   pub number : w.number ≡ v.number
@@ -45,6 +58,8 @@ pub record Wrote (settings : Settings) (v : Account) (records : List Record) (ho
   pub seen : Sees v.seen w.seen
   pub some : 1 ≤ count_of records
   pub passed : early_refusal settings.batch_bytes (holds_stop v.asked) records how ≡ None
+  pub above : last_seen v.seen < first
+  pub behind : AreFullBelow first v.attempts
   pub alive : knows_dead v.attempts ≡ false
   pub within : first + count_of records ≤ group_last + 1
   pub reached : group_last ≤ last_seen w.seen
@@ -53,7 +68,8 @@ pub record Wrote (settings : Settings) (v : Account) (records : List Record) (ho
 pub record IsRefused (v : Account) (records : List Record) (how : WriteOptions) (why : Refusal)
     (w : Account) : Type 0 where
   pub status : Option WriteStatus
-  pub may : MayRefuse w.seen.controller_calls (length v.seen.controller_calls) v.mine v.attempts records how why status
+  pub may : MayRefuse w.seen.controller_calls (standing v records (last_seen v.seen)) (length w.seen.controller_calls)
+      how why status
   pub number : w.number ≡ v.number
   pub mine : w.mine ≡ v.mine
   pub asked : w.asked ≡ v.asked

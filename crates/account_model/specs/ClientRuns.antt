@@ -8,19 +8,7 @@ use Rattle.wp_model.specs.Replies.{MayLackMemory}
 use Rattle.wp_model.specs.Runs.{Step, Run, IsTranscript}
 use Rattle.wp_model.specs.Calls.{Command, Reply, Call}
 use Rattle.account_model.specs.Sights.{last_seen, Sees, InEachTrace}
-use Rattle.account_model.specs.Accounts.{Account, Keeps}
-
--- where a client stands that has this account, this batch in the making, and was shown what is published up to
--- `seen_up_to`
-abbrev pub standing : Account → List Record → ℕ → Progress
-standing a pending seen_up_to = record {
-  pending = pending;
-  mine = a.mine;
-  asked = a.asked;
-  attempts = a.attempts;
-  seen_up_to = seen_up_to;
-  known = length a.seen.controller_calls;
-}
+use Rattle.account_model.specs.Accounts.{Account, Keeps, standing}
 
 -- Whatever it was shown before, it goes on by this command and reply, in each trace of which it may have seen what it
 -- now has seen.

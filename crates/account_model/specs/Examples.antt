@@ -2,10 +2,12 @@
 use Rattle.std.specs.Prelude.{false, List, [], ◌∷◌, codes, Some}
 use Rattle.wp_model.specs.declared.history.Flag.TheVariants.{Log}
 use Rattle.wp_model.specs.declared.write.WriteOptions.{WriteOptions}
-use Rattle.wp_model.specs.Batch.{Record, value}
+use Rattle.wp_model.specs.Batch.{Record, value, size_of_batch}
 use Rattle.wp_model.specs.History.{Entry}
+use Rattle.wp_model.specs.Controller.{ControllerCall, delay}
 use Rattle.wp_model.specs.Trace.{Trace, Settings}
-use Rattle.wp_model.specs.Attempts.{succeeded}
+use Rattle.wp_model.specs.Attempts.{Attempt, succeeded, item_of}
+use Rattle.wp_model.specs.Groups.{Group}
 use Rattle.wp_model.specs.Calls.{Command, add, commit, Call, quiet, accepted}
 use Rattle.table_rule.specs.declared.content.Version.{Version}
 use Rattle.account_model.specs.Sights.{Sight}
@@ -24,8 +26,23 @@ plain = record { sync = false; no_log = false; no_slowdown = false }
 abbrev pub one_entry : Entry
 one_entry = record { client = 1; ordinal = 1; first = 1; count = 2; flag = Log; records = two_records }
 
+-- the call of the controller for the commit's group: no token is held, so it needn't wait
+abbrev pub one_delay : ControllerCall
+one_delay = record {
+  client = 1;
+  action = delay 0 (size_of_batch two_records);
+  told = Some (record { stops = 0; delays = 0; wait = 0 });
+}
+
 abbrev pub one_batch : Trace
-one_batch = record { start = 0; entries = one_entry ∷ []; controller_calls = [] }
+one_batch = record { start = 0; entries = one_entry ∷ []; controller_calls = one_delay ∷ [] }
+
+-- the commit, and its group
+abbrev pub one_attempt : Attempt
+one_attempt = record { records = two_records; options = plain; status = succeeded }
+
+abbrev pub one_group : Group
+one_group = record { place = 0; members = record { client = 1; call = 0; item = item_of one_attempt } ∷ [] }
 
 -- the versions that it makes
 abbrev pub first_version : Version
@@ -34,12 +51,12 @@ first_version = record { key = codes "a"; value = Some (codes "1"); sequence = 1
 abbrev pub second_version : Version
 second_version = record { key = codes "b"; value = Some (codes "2"); sequence = 2 }
 
--- these versions, as a group that was published
+-- these versions, as a group that was published once the controller was asked
 abbrev pub sight_of : List Version → Sight
 sight_of versions = record {
   start = 0;
   published = (record { member = 1; versions = versions } ∷ []) ∷ [];
-  controller_calls = [];
+  controller_calls = one_delay ∷ [];
 }
 
 -- the client's account before its commit, and after it
@@ -49,7 +66,7 @@ before = newcomer 0 1
 abbrev pub after : Account
 after = record before {
   mine = one_entry ∷ [];
-  attempts = record { records = two_records; options = plain; status = succeeded } ∷ [];
+  attempts = one_attempt ∷ [];
   seen = sight_of (first_version ∷ second_version ∷ []);
 }
 

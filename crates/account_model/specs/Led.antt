@@ -6,7 +6,7 @@ use Rattle.wp_model.specs.declared.group.Item.{Item}
 use Rattle.wp_model.specs.Grouping.{size_of, group_len}
 use Rattle.wp_model.specs.Controller.{ControllerCall, delay, Look}
 use Rattle.wp_model.specs.Attempts.{Attempt, slowed, item_of}
-use Rattle.wp_model.specs.Groups.{Member, Group, HaveOwnPlaces, AreAsked}
+use Rattle.wp_model.specs.Groups.{Member, Group, HaveOwnPlaces, AreAsked, StandTogether}
 
 -- a commit in a leader's hand, with its client's number
 pub record Taken : Type 0 where
@@ -74,5 +74,7 @@ pub record AreLed (group_bytes : ℕ) (controller_calls : List ControllerCall) (
   pub places : HaveOwnPlaces (groups_of led)
   pub all : AreAsked (groups_of led) 0 controller_calls
   pub clients : AllByRecursion (λ (t : Taken). (1 ≤ t.client) × (t.client ≤ length attempts)) (all_taken led)
+  pub together : AllByRecursion (λ (g : Led). StandTogether controller_calls (map (λ (h : Led). h.place) led) g.place
+      (items_in g.commits) (map (λ (t : Taken). t.attempt.status) g.commits)) led
   pub of_client : (i : ℕ) (own : List Attempt) → slice_get attempts i ≡ Some own
       → own ≡ attempts_of (i + 1) (all_taken led)

@@ -5,5 +5,4 @@ pub mod Closing
 pub mod ClientRuns
 pub mod Led
 pub mod Answered
-pub mod Written
 pub mod Examples

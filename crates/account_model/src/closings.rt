@@ -21,7 +21,7 @@ ghost use Rattle.account_model.specs.Accounts.{Account};
 ghost use Rattle.account_model.specs.Closing.{all_attempts, IsClosing};
 ghost use Rattle.account_model.specs.ClientRuns.{HaveRun};
 ghost use Rattle.account_model.specs.Led.{Led, groups_of, AreLed};
-ghost use Rattle.account_model.specs.Written.{WroteEntries, AreLost};
+ghost use Rattle.run_model.specs.Written.{WroteEntries, AreLost};
 ghost use Rattle.account_model.specs.Answered.{IsAmong};
 
 /// Where each client has run its part of the script, and the closing says that their accounts are parts of one trace,

@@ -5,7 +5,7 @@ ghost use Rattle.account_model.specs.Sights.{Saw};
 ghost use Rattle.account_model.specs.Accounts.{Wrote};
 ghost use Rattle.account_model.specs.Closing.{IsClosing};
 ghost use Rattle.account_model.specs.ClientRuns.{HaveRun};
-ghost use Rattle.account_model.specs.Examples.{settings, two_records, plain, one_batch, first_version, second_version, sight_of, before, after, commands, calls};
+ghost use Rattle.account_model.specs.Examples.{settings, two_records, plain, one_batch, one_group, first_version, second_version, sight_of, before, after, commands, calls};
 
 /// A batch is seen whole or not at all.
 pub fn whole_batches_alone()
@@ -14,9 +14,9 @@ pub fn whole_batches_alone()
 {}
 
 /// A client that adds two records and commits them: the commit, the client's run, and the closing of a run of this
-/// client alone.
+/// client alone. The commit is a group by itself, for which the controller was asked for a delay.
 pub fn one_commit()
     ensures wrote { Wrote settings before two_records plain 1 2 after }
     ensures run { HaveRun settings (commands ∷ []) (calls ∷ []) (after ∷ []) }
-    ensures closing { IsClosing settings 0 one_batch [] (after ∷ []) 2 None }
+    ensures closing { IsClosing settings 0 one_batch (one_group ∷ []) (after ∷ []) 2 None }
 {}

@@ -11,7 +11,6 @@
 //! - `specs/Closing`: what the closing says of all accounts.
 //! - `specs/ClientRuns`: a client's calls one after another, and its whole run.
 //! - `specs/Led`: what the log's holder at the time knows of the groups that it took in hand.
-//! - `specs/Written`: the calls of the log writer that wrote the closed log.
 //! - `specs/Answered`: where a transcript shows a commit that a leader took in hand.
 //!
 //! Each law is a clause of a function that does nothing, in [`sights`], [`calls`], [`runs`] and [`closings`]. Who needs

@@ -46,26 +46,26 @@ module _ (settings : Settings) (ended : ℕ) (script : Script) (o : Outcome) (cl
   most = history.end_of_history settings ended script o legal
 
   -- it may only be accepted
-  never_refused : (p : Progress) (why : Refusal) (status : Option WriteStatus) → most + count_of p.pending ≤ max_sequence → (how.no_slowdown ≡ false) ⊎ HoldsNothingUp script
-      → AreSound most (with_attempt p.attempts p.pending how status) → MayRefuse trace.controller_calls p.known p.mine p.attempts p.pending how why status → ⊥
-  never_refused p (no.Incomplete stops delays wait) status room (inl waits) s may = let yes = may.0 in cc
-  never_refused p (no.Incomplete stops delays wait) status room (inr quiet) s may =
-      not_held_up trace.controller_calls legal.legal.is_trace.controller_calls (history.calm settings ended script o legal quiet) p.known _ status may.2 may.1
-  never_refused p (no.LogFault count) status room freed s may =
+  never_refused : (p : Progress) (knows : ℕ) (why : Refusal) (status : Option WriteStatus) → most + count_of p.pending ≤ max_sequence → (how.no_slowdown ≡ false) ⊎ HoldsNothingUp script
+      → AreSound most (with_attempt p.attempts p.pending how status) → MayRefuse trace.controller_calls p knows how why status → ⊥
+  never_refused p knows (no.Incomplete stops delays wait) status room (inl waits) s may = let yes = may.0 in cc
+  never_refused p knows (no.Incomplete stops delays wait) status room (inr quiet) s may =
+      not_held_up trace.controller_calls legal.legal.is_trace.controller_calls (history.calm settings ended script o legal quiet) p.known knows _ status may.2 may.1
+  never_refused p knows (no.LogFault count) status room freed s may =
       sound_last most p.attempts p.pending how (faulted count) (subst (λ x. AreSound most (with_attempt p.attempts p.pending how x)) may s)
-  never_refused p (no.SequenceFull last) status room freed s may =
+  never_refused p knows (no.SequenceFull last) status room freed s may =
       let within : last ≤ most = sound_last most p.attempts p.pending how (full last) (subst (λ x. AreSound most (with_attempt p.attempts p.pending how x)) may.0 s) in
-      let past = may.3 in omega (arith, room, within, past)
-  never_refused p no.Empty status room freed s may = may
-  never_refused p (no.TooLarge size) status room freed s may = may
-  never_refused p no.SyncWithoutLog status room freed s may = may
-  never_refused p no.SelfStop status room freed s may = may
-  never_refused p no.NoMemory status room freed s may = may
+      let past = may.5 in omega (arith, room, within, past)
+  never_refused p knows no.Empty status room freed s may = may
+  never_refused p knows (no.TooLarge size) status room freed s may = may
+  never_refused p knows no.SyncWithoutLog status room freed s may = may
+  never_refused p knows no.SelfStop status room freed s may = may
+  never_refused p knows no.NoMemory status room freed s may = may
 
   attempt_accepted : (p q : Progress) (told : Reply) → (q.mine ≡ p.mine → most + count_of p.pending ≤ max_sequence) → (how.no_slowdown ≡ false) ⊎ HoldsNothingUp script → AreSound most q.attempts
       → IsAttempted trace (client + 1) p how told q → IsAccepted p.pending told
   attempt_accepted p q (accepted first last records) room freed s a = (first, last, ap (accepted first last) a.batch)
-  attempt_accepted p q (refused why) room freed s a = absurd (never_refused p why a.0 (room (ap (λ (x : Progress). x.mine) a.2)) freed (subst (λ (x : Progress). AreSound most x.attempts) a.2 s) a.1)
+  attempt_accepted p q (refused why) room freed s a = absurd (never_refused p q.known why a.0 (room (ap (λ (x : Progress). x.mine) a.2)) freed (subst (λ (x : Progress). AreSound most x.attempts) a.2 s) a.1)
   attempt_accepted p q other room freed s a = absurd a
 
   commit_accepted : (p q : Progress) → p.pending ≡ batch_after before → p.asked ≡ asked_by before → PassesChecks settings before how → (q.mine ≡ p.mine → most + count_of p.pending ≤ max_sequence)

@@ -1,16 +1,15 @@
 -- Commits that were answered rightly, one after another, and the history that they make.
-use Rattle.std.proofs.Common.{◌≡◌, ℕ, ◌+◌, ◌-◌, ◌<◌, ◌≤◌, Bool, true, false, cond, ◌==◌, filter, map, List, [], ◌∷◌, ◌++◌, Option, Some, None, length, refl, ap, sym, ◌∙◌, subst, arith, append_assoc, append-nil}
+use Rattle.std.proofs.Common.{◌≡◌, ℕ, ◌+◌, ◌-◌, ◌≤◌, ◌==◌, List, [], ◌∷◌, ◌++◌, Option, refl, ap, sym, ◌∙◌, subst, arith, append_assoc, append-nil}
 use Rattle.std.specs.List.{AllByRecursion}
 use Rattle.std.proofs.lemmas.Bool.{ne_eqb, eq-eqb}
 use Rattle.std.proofs.lemmas.List.Elements.{filter-append}
 use Rattle.wp_model.specs.Batch.{count_of}
 use mathlib.Core.Logic.{dite}
 use native.Mathlib.Decide.{ℕ_discrete}
-use Rattle.wp_model.specs.History.{Entry, IsHistory, last_sequence, last_of, max_sequence}
+use Rattle.wp_model.specs.History.{Entry, IsHistory, last_sequence, max_sequence}
 use Rattle.table_rule.specs.declared.content.MemberVersions.{MemberVersions}
 use Rattle.table_rule.specs.Histories.{made_by, Images}
 use Rattle.wp_model.specs.Outcomes.{entries_of_client}
-use Rattle.wp_model.specs.Progress.{next_entry}
 use Rattle.account_model.specs.Versions.{versions_of_entry, versions_of_entries}
 use Rattle.group_rule.specs.Commits.{Answer, AreAnswered, AreOfClients, Commit, IsAnswer, accepted, held_up, commits_of, failed, fault_after, fault_after_all, last_after, last_after_all, no_room}
 use Rattle.group_rule.specs.Entries.{entries_after, entries_of, entry_after, entry_with, mine_after, versions_made, versions_with}

@@ -1,34 +1,33 @@
 -- At the end the commits make one trace of all clients, and the log's calls wrote its history.
-use Rattle.std.proofs.Common.{◌≡◌, ◌≢◌, ◌⊎◌, inl, inr, ℕ, zero, suc, ◌+◌, ◌-◌, ◌<◌, ◌≤◌, Bool, true, false, cond, nat_le, ◌==◌, filter, flat_map, map, get_or, slice_get, List, [], ◌∷◌, ◌++◌, Option, Some, None, IfSome, length, refl, ap, sym, ◌∙◌, subst, ⊎_elim, arith, append_assoc, append-nil, length-append}
+use Rattle.std.proofs.Common.{◌≡◌, ◌≢◌, inl, inr, ℕ, suc, ◌+◌, ◌-◌, ◌<◌, ◌≤◌, Bool, true, false, cond, nat_le, ◌==◌, map, get_or, slice_get, List, [], ◌∷◌, ◌++◌, Option, Some, None, IfSome, length, refl, ap, sym, ◌∙◌, subst, ⊎_elim, arith, append_assoc}
 use Rattle.std.specs.Option.{option_map}
 use Rattle.std.specs.List.{AllByRecursion, AllZip}
 use Rattle.std.specs.Bool.{IsTrue}
 use Rattle.std.proofs.lemmas.Option.{slice_get-map, slice_get_cases}
 use mathlib.Core.List.{IsPrefix}
-use Rattle.std.proofs.lemmas.List.{length-map}
 use Rattle.std.proofs.lemmas.List.Elements.{filter-append}
-use Rattle.wp_model.specs.Batch.{Record, count_of}
-use Rattle.wp_model.specs.History.{Entry, IsHistory, max_sequence, last_sequence, IsBoundary, IsUpTo}
-use Rattle.wp_model.specs.Attempts.{Attempt, WriteStatus, succeeded, slowed, faulted, full}
+use Rattle.wp_model.specs.Batch.{count_of}
+use Rattle.wp_model.specs.History.{Entry, IsHistory, max_sequence, last_sequence, IsBoundary}
+use Rattle.wp_model.specs.Attempts.{Attempt, slowed}
 use Rattle.wp_model.specs.Controller.{ControllerCall, IsLegal}
 use Rattle.wp_model.specs.Tokens.{is_token, tokens_of}
 use Rattle.wp_model.specs.Trace.{Trace, Settings}
-use Rattle.wp_model.specs.Groups.{Member, Group, Holds, IsGroup, AreOfOthers, IsCommit, AreStatuses, IsStatus, items_of}
+use Rattle.wp_model.specs.Groups.{Member, Group, Holds, AreOfOthers, AreStatuses, IsStatus, items_of}
 use Rattle.wp_model.specs.Outcomes.{entries_of_client}
 use Rattle.wp_model.specs.Counts.{Rose}
 use Rattle.wp_model.specs.Grouping.{group_len}
 use Rattle.wp_model.specs.LogContents.{GroupCall}
 use Rattle.table_rule.specs.declared.content.MemberVersions.{MemberVersions}
-use Rattle.run_model.specs.Lost.{fitting, IsLost, IsLostGroup}
+use Rattle.run_model.specs.Lost.{fitting, IsLost}
 use Rattle.account_model.specs.Sights.{Saw}
 use Rattle.account_model.specs.Accounts.{Account}
 use Rattle.account_model.specs.Closing.{IsAccountOf, IsClosing, all_attempts}
 use Rattle.account_model.specs.Led.{AreLed, Led, groups_of}
-use Rattle.account_model.specs.Written.{AreLost, IsLostCall, WritesLog}
+use Rattle.run_model.specs.Written.{AreLost, IsLostCall, WritesLog}
 use Rattle.group_rule.specs.Commits.{Answer, AreAnswered, AreOfClients, Commit, IsAnswer, accepted, held_up, commits_of, failed, fault_after, fault_after_all, last_after, last_after_all, no_room}
 use Rattle.group_rule.specs.Consistent.{AreConsistent}
 use Rattle.group_rule.specs.Asked.{HasAsked, place_of}
-use Rattle.group_rule.specs.Entries.{AreCallsOf, HasPart, trace_of, attempt_of, entries_after, entries_of, entry_after, entry_with, mine_after, status_of, versions_made}
+use Rattle.group_rule.specs.Entries.{AreCallsOf, HasPart, trace_of, attempt_of, entries_after, entries_of, entry_after, entry_with, status_of}
 use Rattle.group_rule.specs.LogCalls.{AreLostWrites, IsLostWrite}
 use Rattle.group_rule.specs.Plans.{AreLogged, CommitRequest, HaveOwnClients, all_failed, answered, batches_from, item_of_request}
 use Rattle.group_rule.proofs.Chains.{entries_clients, entries_history, entries_own, images_entries}
@@ -313,8 +312,8 @@ module _ (settings : Settings) (cs : List Commit) (last : ℕ) (fault : Option �
   are_lost lost None h = h
   are_lost lost (Some n) h = (h.0, h.1, lost_call n h.0 h.2)
 
-  pub writes_log : {L : Type 0} (wrote : List GroupCall → L → Type 0) (log : L) → wrote calls log → WritesLog settings.group_bytes wrote trace (all_attempts accounts) fault log
-  writes_log wrote log by =
+  pub writes_log : (wrote : List GroupCall → Type 0) → wrote calls → WritesLog settings.group_bytes wrote trace (all_attempts accounts) fault
+  writes_log wrote by =
       let w = k.written in record {
         parts = w.parts.parts;
         calls = w.worked;
@@ -323,5 +322,5 @@ module _ (settings : Settings) (cs : List Commit) (last : ℕ) (fault : Option �
         runs = w.parts.runs;
         each = w.parts.each;
         none_else = are_lost w.lost fault w.are_lost;
-        by = subst (λ cs. wrote cs log) w.both by;
+        by = subst wrote w.both by;
       }

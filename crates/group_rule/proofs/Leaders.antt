@@ -4,12 +4,14 @@ use Rattle.std.specs.Prelude.{◌&&◌}
 use Rattle.std.specs.Bool.{IsTrue}
 use Rattle.std.specs.List.{AllByRecursion}
 use Rattle.std.proofs.lemmas.List.{length-map, map-append}
+use Rattle.std.proofs.lemmas.Option.{slice_get_within}
 use mathlib.Core.List.{IsPrefix}
 use Rattle.wp_model.specs.declared.group.Item.{Item}
-use Rattle.wp_model.specs.Attempts.{Attempt, slowed}
-use Rattle.wp_model.specs.Controller.{ControllerCall, delay}
+use Rattle.wp_model.specs.Attempts.{Attempt, WriteStatus, slowed}
+use Rattle.wp_model.specs.Controller.{ControllerCall, Look, delay}
 use Rattle.wp_model.specs.Grouping.{group_len, size_of}
-use Rattle.wp_model.specs.Groups.{AreAsked, Group, HasPlace, HaveOwnPlaces, is_delay}
+use Rattle.wp_model.specs.Groups.{AreAsked, Group, HasPlace, HaveOwnPlaces, MayProceed, SawNoStop, StandTogether, is_delay, is_slowed}
+use Rattle.wp_model.proofs.Prefixes.{prefix_at, prefix_length, prefix_trans}
 use Rattle.table_rule.specs.Histories.{In}
 use Rattle.account_model.specs.Led as leds
 use Rattle.account_model.specs.Led.{AreLed, IsLed, Led, Taken, all_taken, attempts_of, groups_after, groups_of, items_in}
@@ -17,10 +19,9 @@ use Rattle.write_controller.specs.Delays.{delays_from, delays_of, place_if}
 use Rattle.write_controller.proofs.Asked.{same_client}
 use Rattle.write_controller.proofs.Totals.{all_back, all_map, get_behind}
 use Rattle.group_rule.specs.Commits.{Answer, AreOfClients, Commit, accepted, commits_of, failed, held_up, no_room}
-use Rattle.group_rule.specs.Plans.{CommitRequest, HaveOwnClients, item_of_request}
-use Rattle.group_rule.specs.Asked.{AreInGroups, HasAsked, IsLedGroup, LedGroup, Rise, place_of, request_of}
+use Rattle.group_rule.specs.Plans.{CommitRequest, HasLooked, HaveOwnClients, LetsProceed, item_of_request}
+use Rattle.group_rule.specs.Asked.{AreInGroups, AreTogether, HasAsked, IsLedGroup, LedGroup, Rise, is_held_up, place_of, request_of}
 use Rattle.group_rule.specs.Entries.{attempt_of, status_of}
-use Rattle.group_rule.proofs.OneGroup.{prefix_trans}
 
 abbrev taken_of : Commit → Taken
 taken_of c = record { client = c.client; attempt = attempt_of c }
@@ -56,6 +57,58 @@ slowed_here : (known : List ControllerCall) (cs : List Commit) → AllByRecursio
 slowed_here known [] h = tt
 slowed_here known (c ∷ cs) h = ((λ p e. slowed_by (place_of c) p c.answer e ∙ ap (λ ts. length ts - 1) h.0), slowed_here known cs h.1)
 
+-- a group's statuses: all held up, told so by its delay, or none
+abbrev status_in : Taken → WriteStatus
+status_in t = t.attempt.status
+
+slowed_as : (place : ℕ) (v : Answer) → is_held_up v ≡ true → status_of place v ≡ slowed place
+slowed_as place (accepted first group_last) e = absurd (cc)
+slowed_as place (held_up numbers) e = refl
+slowed_as place (failed n) e = absurd (cc)
+slowed_as place (no_room l) e = absurd (cc)
+
+is_slowed_as : (place : ℕ) (v : Answer) → is_slowed (status_of place v) ≡ is_held_up v
+is_slowed_as place (accepted first group_last) = refl
+is_slowed_as place (held_up numbers) = refl
+is_slowed_as place (failed n) = refl
+is_slowed_as place (no_room l) = refl
+
+all_slowed : (known : List ControllerCall) (cs : List Commit) → AllByRecursion (λ (c : Commit). c.controller_calls ≡ known) cs → AllByRecursion (λ (c : Commit). is_held_up c.answer ≡ true) cs
+    → AllByRecursion (λ (status : WriteStatus). status ≡ slowed (length known - 1)) (map status_in (map taken_of cs))
+all_slowed known [] same h = tt
+all_slowed known (c ∷ cs) same h = (slowed_as (place_of c) c.answer h.0 ∙ ap (λ ts. slowed (length ts - 1)) same.0, all_slowed known cs same.1 h.1)
+
+none_slowed : (cs : List Commit) → AllByRecursion (λ (c : Commit). is_held_up c.answer ≡ false) cs → AllByRecursion (λ (status : WriteStatus). is_slowed status ≡ false) (map status_in (map taken_of cs))
+none_slowed [] h = tt
+none_slowed (c ∷ cs) h = (is_slowed_as (place_of c) c.answer ∙ h.0, none_slowed cs h.1)
+
+-- Each group's delay comes behind all that the leaders before it had seen, and before those of the groups behind it
+
+abbrev IsClear : LedGroup → LedGroup → Type 0
+IsClear g h = (length h.known ≤ length g.known) ⊎ (length g.went < length h.known)
+
+all_both : {A : Type 0} (P Q R : A → Type 0) → ((x : A) → P x → Q x → R x) → (xs : List A) → AllByRecursion P xs → AllByRecursion Q xs → AllByRecursion R xs
+all_both P Q R f [] p q = tt
+all_both P Q R f (x ∷ xs) p q = (f x p.0 q.0, all_both P Q R f xs p.1 q.1)
+
+all_clear : (group_bytes : ℕ) (groups : List LedGroup) → AllByRecursion (IsLedGroup group_bytes) groups → Rise groups → AllByRecursion (λ (g : LedGroup). AllByRecursion (IsClear g) groups) groups
+all_clear group_bytes [] h r = tt
+all_clear group_bytes (g ∷ groups) h r =
+    let long = prefix_length g.known g.went h.0.seen_since in (
+      (inl (omega arith), all_map (λ (i : LedGroup). length g.went < length i.known) (IsClear g) (λ i later. inr later) groups r.0),
+      all_both (λ (i : LedGroup). length g.went < length i.known) (λ (i : LedGroup). AllByRecursion (IsClear i) groups) (λ (i : LedGroup). AllByRecursion (IsClear i) (g ∷ groups))
+          (λ i later rest. (inl (omega (arith, later, long)), rest)) groups r.0 (all_clear group_bytes groups h.1 r.1),
+    )
+
+before_others : (g : LedGroup) (at : ℕ) → at < length g.went → 1 ≤ length g.known → (groups : List LedGroup) → AllByRecursion (IsClear g) groups
+    → AllByRecursion (λ (place : ℕ). length g.known - 1 < place → at < place) (map (λ (h : Led). h.place) (map led_of groups))
+before_others g at within some [] clear = tt
+before_others g at within some (h ∷ groups) clear = (by clear.0, before_others g at within some groups clear.1)
+  where
+    by : IsClear g h → length g.known - 1 < length h.known - 1 → at < length h.known - 1
+    by (inl low) behind = absurd (omega (arith, low, behind))
+    by (inr high) behind = omega (arith, high, within)
+
 -- the last call of what begins the history
 last_there : (before : List ControllerCall) (t : ControllerCall) (known history : List ControllerCall) → known ≡ before ++ t ∷ [] → IsPrefix known history → slice_get history (length known - 1) ≡ Some t
 last_there before t known history is p =
@@ -68,22 +121,29 @@ module _ (group_bytes : ℕ) (asked history : List ControllerCall) (cs : List Co
   abbrev pub led : List Led
   led = map led_of k.groups
 
-  is_led : (g : LedGroup) → IsLedGroup group_bytes g → IsPrefix g.known asked → IsLed group_bytes history (led_of g)
+  delay_there : (g : LedGroup) (h : IsLedGroup group_bytes g) → IsPrefix g.went asked
+      → slice_get history (length g.known - 1) ≡ Some (record { client = h.asked.leader.client; action = delay h.asked.now (size_of (items_in (map taken_of g.commits))); told = Some h.numbers })
+  delay_there g h p =
+      let a = h.asked in
+      subst (λ (is : List Item). slice_get history (length g.known - 1) ≡ Some (record { client = a.leader.client; action = delay a.now (size_of is); told = Some h.numbers })) (sym (items_are g.commits))
+      (last_there a.before (record { client = a.leader.client; action = delay a.now (size_of (map item_of_request (map request_of g.commits))); told = Some h.numbers }) g.known history a.is
+      (prefix_trans g.known g.went history h.seen_since (prefix_trans g.went asked history p within)))
+
+  is_led : (g : LedGroup) → IsLedGroup group_bytes g → IsPrefix g.went asked → IsLed group_bytes history (led_of g)
   is_led g h p =
       let a = h.asked in
       let n = as_long g.commits in record {
         by = a.leader.client;
         now = a.now;
         told = Some h.numbers;
-        there = subst (λ (is : List Item). slice_get history (length g.known - 1) ≡ Some (record { client = a.leader.client; action = delay a.now (size_of is); told = Some h.numbers })) (sym (items_are g.commits))
-            (last_there a.before (record { client = a.leader.client; action = delay a.now (size_of (map item_of_request (map request_of g.commits))); told = Some h.numbers }) g.known history a.is (prefix_trans g.known asked history p within));
+        there = delay_there g h p;
         some = (let s = h.is_group.some in omega (arith, n, s));
         whole = ap (group_len group_bytes) (items_are g.commits) ∙ (h.is_group.whole ∙ sym n);
         of_others = of_others g.commits h.is_group.of_others;
         slowed_here = slowed_here g.known g.commits h.same;
       }
 
-  all_led : (groups : List LedGroup) → AllByRecursion (IsLedGroup group_bytes) groups → AllByRecursion (λ (g : LedGroup). IsPrefix g.known asked) groups → AllByRecursion (IsLed group_bytes history) (map led_of groups)
+  all_led : (groups : List LedGroup) → AllByRecursion (IsLedGroup group_bytes) groups → AllByRecursion (λ (g : LedGroup). IsPrefix g.went asked) groups → AllByRecursion (IsLed group_bytes history) (map led_of groups)
   all_led [] h p = tt
   all_led (g ∷ groups) h p = (is_led g h.0 p.0, all_led groups h.1 p.1)
 
@@ -95,14 +155,75 @@ module _ (group_bytes : ℕ) (asked history : List ControllerCall) (cs : List Co
       let long : length g.known ≡ length a.before + 1 = ap length a.is ∙ length-append a.before (t ∷ []) in
       omega (arith, long)
 
-  apart_after : (n : ℕ) (before : List Taken) (groups : List LedGroup) → 1 ≤ n → AllByRecursion (λ (m : ℕ). n < m) (map (λ (g : LedGroup). length g.known) groups)
+  apart_after : (n : ℕ) (before : List Taken) (groups : List LedGroup) → 1 ≤ n → AllByRecursion (λ (g : LedGroup). n < length g.known) groups
       → AllByRecursion (λ (h : Group). n - 1 ≢ h.place) (groups_after before (map led_of groups))
   apart_after n before [] some h = tt
   apart_after n before (g ∷ groups) some h = ((λ e. let below = h.0 in absurd (omega (arith, e, below, some))), apart_after n (before ++ map taken_of g.commits) groups some h.1)
 
-  own_places : (before : List Taken) (groups : List LedGroup) → AllByRecursion (IsLedGroup group_bytes) groups → Rise (map (λ (g : LedGroup). length g.known) groups) → HaveOwnPlaces (groups_after before (map led_of groups))
+  own_places : (before : List Taken) (groups : List LedGroup) → AllByRecursion (IsLedGroup group_bytes) groups → Rise groups → HaveOwnPlaces (groups_after before (map led_of groups))
   own_places before [] h r = tt
-  own_places before (g ∷ groups) h r = (apart_after (length g.known) (before ++ map taken_of g.commits) groups (some_known g h.0) r.0, own_places (before ++ map taken_of g.commits) groups h.1 r.1)
+  own_places before (g ∷ groups) h r =
+      let long = prefix_length g.known g.went h.0.seen_since in
+      let later = all_map (λ (i : LedGroup). length g.went < length i.known) (λ (i : LedGroup). length g.known < length i.known) (λ i more. omega (arith, more, long)) groups r.0 in
+      (apart_after (length g.known) (before ++ map taken_of g.commits) groups (some_known g h.0) later, own_places (before ++ map taken_of g.commits) groups h.1 r.1)
+
+  -- Each is held up whole, or goes on whole
+
+  abbrev places_led : List ℕ
+  places_led = map (λ (g : Led). g.place) led
+
+  -- what lets its leader proceed stands in the history
+  saw_no_stop : (g : LedGroup) → IsLedGroup group_bytes g → IsPrefix g.went asked → AllByRecursion (IsClear g) k.groups → (leader : ℕ) → HasLooked leader g.known g.went → SawNoStop history places_led leader (length g.known - 1)
+  saw_no_stop g h p clear leader l =
+      let there = l.is_later.there in
+      let later = l.is_later.later in
+      let some = some_known g h in record {
+        at = l.place;
+        numbers = l.numbers;
+        there = prefix_at g.went history (prefix_trans g.went asked history p within) l.place _ there;
+        behind = omega (arith, later, some);
+        before = before_others g l.place (slice_get_within g.went l.place _ there) some k.groups clear;
+        free = l.free;
+      }
+
+  may_proceed : (g : LedGroup) → IsLedGroup group_bytes g → IsPrefix g.went asked → AllByRecursion (IsClear g) k.groups → (leader : ℕ) (numbers : Look) (no_slowdown : Bool) → LetsProceed leader numbers g.known g.went no_slowdown
+      → MayProceed history places_led leader (length g.known - 1) numbers no_slowdown
+  may_proceed g h p clear leader numbers true lets = lets
+  may_proceed g h p clear leader numbers false (inl free) = inl free
+  may_proceed g h p clear leader numbers false (inr looked) = inr (saw_no_stop g h p clear leader looked)
+
+  all_proceed : (g : LedGroup) → IsLedGroup group_bytes g → IsPrefix g.went asked → AllByRecursion (IsClear g) k.groups → (leader : ℕ) (numbers : Look) (ds : List Commit)
+      → AllByRecursion (λ (q : CommitRequest). LetsProceed leader numbers g.known g.went q.options.no_slowdown) (map request_of ds) → AllByRecursion (λ (i : Item). MayProceed history places_led leader (length g.known - 1) numbers i.no_slowdown) (items_in (map taken_of ds))
+  all_proceed g h p clear leader numbers [] lets = tt
+  all_proceed g h p clear leader numbers (d ∷ ds) lets = (may_proceed g h p clear leader numbers d.options.no_slowdown lets.0, all_proceed g h p clear leader numbers ds lets.1)
+
+  abbrev IsTogether : LedGroup → Type 0
+  IsTogether g = StandTogether history places_led (length g.known - 1) (items_in (map taken_of g.commits)) (map status_in (map taken_of g.commits))
+
+  stands : (g : LedGroup) → IsLedGroup group_bytes g → IsPrefix g.went asked → AllByRecursion (IsClear g) k.groups → IsTogether g
+  stands g h p clear = by h.together
+    where
+      by : AreTogether g h.numbers → IsTogether g
+      by (inl held) = inl (all_slowed g.known g.commits h.same held)
+      by (inr t) =
+          let leader_is : t.1.leader ≡ h.asked.leader = cc (sym t.1.leads ∙ h.asked.leads) in
+          inr (
+            none_slowed g.commits t.0,
+            record {
+              by = h.asked.leader.client;
+              now = h.asked.now;
+              bytes = size_of (items_in (map taken_of g.commits));
+              numbers = h.numbers;
+              there = delay_there g h p;
+              each = subst (λ (q : CommitRequest). AllByRecursion (λ (i : Item). MayProceed history places_led q.client (length g.known - 1) h.numbers i.no_slowdown) (items_in (map taken_of g.commits))) leader_is
+                  (all_proceed g h p clear t.1.leader.client h.numbers g.commits t.1.each);
+            },
+          )
+
+  all_stand : (groups : List LedGroup) → AllByRecursion (IsLedGroup group_bytes) groups → AllByRecursion (λ (g : LedGroup). IsPrefix g.went asked) groups → AllByRecursion (λ (g : LedGroup). AllByRecursion (IsClear g) k.groups) groups
+      → AllByRecursion (λ (g : Led). StandTogether history places_led g.place (items_in g.commits) (map status_in g.commits)) (map led_of groups)
+  all_stand [] h p clear = tt
+  all_stand (g ∷ groups) h p clear = (stands g h.0 p.0 clear.0, all_stand groups h.1 p.1 clear.1)
 
   -- All commits stand in them
 
@@ -193,5 +314,6 @@ module _ (group_bytes : ℕ) (asked history : List ControllerCall) (cs : List Co
     places = own_places [] k.groups k.each k.rise;
     all = asked_from (groups_of led) n 0 history calls_of (λ client low high. let h = have_asked client low high in places_of client h.0 h.1 h.2);
     clients = subst (λ (z : ℕ × List Taken). AllByRecursion (λ (t : Taken). (1 ≤ t.client) × (t.client ≤ z.0)) z.1) (λ i. (sym number i, sym taken_is i)) (clients_of n cs of_clients);
+    together = all_stand k.groups k.each k.seen (all_clear group_bytes k.groups k.each k.rise);
     of_client = λ i own e. own_is i own e ∙ (sym (attempts_taken (i + 1) cs) ∙ ap (attempts_of (i + 1)) (sym taken_is));
   }

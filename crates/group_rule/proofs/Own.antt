@@ -1,17 +1,18 @@
 -- What a client may conclude of its newest answer.
-use Rattle.std.proofs.Common.{◌≡◌, ◌≢◌, ◌⊎◌, inl, inr, ℕ, zero, suc, ◌+◌, ◌-◌, ◌<◌, ◌≤◌, Bool, true, false, cond, ◌==◌, filter, map, List, [], ◌∷◌, ◌++◌, Option, Some, None, length, refl, ap, sym, ◌∙◌, subst, ⊎_elim, arith, append_assoc, append-nil}
-use Rattle.std.specs.List.{AllByRecursion, list_any}
+use Rattle.std.proofs.Common.{◌≡◌, ℕ, ◌+◌, ◌<◌, ◌≤◌, Bool, true, false, cond, ◌==◌, filter, map, List, [], ◌∷◌, ◌++◌, Option, Some, None, length, refl, ap, sym, ◌∙◌, subst, arith, append_assoc, append-nil}
+use Rattle.std.specs.List.{AllByRecursion}
+use Rattle.std.proofs.lemmas.Option.{slice_get_within}
 use Rattle.wp_model.specs.declared.write.Refusal.TheVariants as no
 use Rattle.wp_model.specs.Batch.{Record, count_of}
 use Rattle.wp_model.specs.declared.write.WriteOptions.{WriteOptions}
 use Rattle.wp_model.specs.History.{Entry, IsHistory, last_of, last_sequence, max_sequence}
-use Rattle.wp_model.specs.Attempts.{Attempt, is_faulted, knows_dead, succeeded, slowed, faulted, full}
-use Rattle.wp_model.specs.Controller.{ControllerCall, Look, delay, look}
+use Rattle.wp_model.specs.Attempts.{is_faulted, knows_dead, slowed, faulted, full}
+use Rattle.wp_model.specs.Controller.{ControllerCall, HoldUp, Look, delay, look}
 use Rattle.wp_model.specs.Tokens.{holds_stop, tokens_of}
 use Rattle.wp_model.specs.Trace.{Settings}
 use Rattle.wp_model.specs.Outcomes.{entries_of_client}
-use Rattle.wp_model.specs.Progress.{early_refusal, next_entry}
-use Rattle.wp_model.specs.Replies.{AreUpTo, HoldUp, IsLater}
+use Rattle.wp_model.specs.Progress.{early_refusal}
+use Rattle.wp_model.specs.Replies.{AreFullBelow, AreUpTo, IsFullBelow, IsLater}
 use Rattle.table_rule.specs.declared.content.MemberVersions.{MemberVersions}
 use Rattle.table_rule.specs.Histories.{Begins, last_of as last_of_groups}
 use Rattle.account_model.specs.Accounts.{Account, IsRefused, Wrote}
@@ -104,6 +105,37 @@ up_to : (start : ℕ) (es : List Entry) → IsHistory start es → AllByRecursio
 up_to start [] h = tt
 up_to start (e ∷ es) h = (rises (last_of e) es h.1, up_to (last_of e) es h.1)
 
+-- the sequence given last never falls, so none was told to be it that is above it now
+rises_with : (last count : ℕ) (v : Answer) → last ≤ last_after last count v
+rises_with last count (accepted first end) = omega arith
+rises_with last count (held_up numbers) = omega arith
+rises_with last count (failed n) = omega arith
+rises_with last count (no_room l) = omega arith
+
+all_rise : (last : ℕ) (cs : List Commit) → last ≤ last_after_all last cs
+all_rise last [] = omega arith
+all_rise last (c ∷ cs) = let a = rises_with last (count_of c.records) c.answer in let b = all_rise (last_after last (count_of c.records) c.answer) cs in omega (arith, a, b)
+
+full_below : (last end : ℕ) (dead : Option ℕ) (count place : ℕ) (v : Answer) → IsAnswer last dead count v → last ≤ end → IsFullBelow (end + 1) (status_of place v)
+full_below last end dead count place (accepted first group_last) h low = tt
+full_below last end dead count place (held_up numbers) h low = tt
+full_below last end dead count place (failed n) h low = tt
+full_below last end dead count place (no_room l) h low = let a = h.1 in omega (arith, a, low)
+
+abbrev IsFullBefore : ℕ → Commit → Type 0
+IsFullBefore end c = IsFullBelow (end + 1) (status_of (place_of c) c.answer)
+
+all_full_below : (last : ℕ) (dead : Option ℕ) (cs : List Commit) → AreAnswered last dead cs → AllByRecursion (IsFullBefore (last_after_all last cs)) cs
+all_full_below last dead [] h = tt
+all_full_below last dead (c ∷ cs) h = (
+  full_below last (last_after_all last (c ∷ cs)) dead (count_of c.records) (place_of c) c.answer h.0 (all_rise last (c ∷ cs)),
+  all_full_below (last_after last (count_of c.records) c.answer) (fault_after dead c.answer) cs h.1,
+)
+
+attempts_full_below : (end : ℕ) (cs : List Commit) → AllByRecursion (IsFullBefore end) cs → AreFullBelow (end + 1) (map attempt_of cs)
+attempts_full_below end [] h = tt
+attempts_full_below end (c ∷ cs) h = (h.0, attempts_full_below end cs h.1)
+
 module _ (start k : ℕ) (cs old : List Commit) (c : Commit) (right : AreAnswered start None cs) (is : commits_of k cs ≡ old ++ c ∷ []) where
   at : Parted (λ (c : Commit). c.client == k) cs old c
   at = parts (λ (c : Commit). c.client == k) cs old c is
@@ -121,6 +153,10 @@ module _ (start k : ℕ) (cs old : List Commit) (c : Commit) (right : AreAnswere
       subst (AllByRecursion (λ (e : Entry). last_of e ≤ last_after_all start at.front)) own_is
       (all_filter (λ (e : Entry). last_of e ≤ last_after_all start at.front) (λ (e : Entry). e.client == k) (entries_of at.front)
       (subst (λ n. AllByRecursion (λ (e : Entry). last_of e ≤ n) (entries_of at.front)) h.1 (up_to start (entries_of at.front) h.0)))
+
+  are_full_below : AreFullBelow (last_after_all start at.front + 1) (map attempt_of old)
+  are_full_below = attempts_full_below (last_after_all start at.front) old
+      (subst (AllByRecursion (IsFullBefore (last_after_all start at.front))) at.own_front (all_filter (IsFullBefore (last_after_all start at.front)) (λ (c : Commit). c.client == k) at.front (all_full_below start None at.front answer.0)))
 
 -- one commit more
 mine_more : (k : ℕ) (mine : List Entry) (old : List Commit) (c : Commit) → mine_after k mine (old ++ c ∷ []) ≡ mine_after k mine old ++ entry_with k (mine ++ mine_after k mine old) c c.answer
@@ -157,7 +193,7 @@ module _ (start k : ℕ) (old : List Commit) (c : Commit) (before after : List (
       → IsRefused was c.records c.options (no.Incomplete numbers.stops numbers.delays numbers.wait) becomes
   refused_held_up numbers by moment bytes held_is impatient hold later = record {
     status = Some (slowed (place_of c));
-    may = (impatient, hold, (by, moment, bytes, later));
+    may = (impatient, hold, (by, moment, bytes, later, slice_get_within now (place_of c) (record { client = by; action = delay moment bytes; told = Some numbers }) later.there));
     number = refl;
     mine = mine_same k old c (held_up numbers) held_is refl;
     asked = more.tokens;
@@ -177,9 +213,9 @@ module _ (start k : ℕ) (old : List Commit) (c : Commit) (before after : List (
   }
 
   module _ (cs : List Commit) (right : AreAnswered start None cs) (is : commits_of k cs ≡ old ++ c ∷ []) where
-    pub wrote : (settings : Settings) (first end : ℕ) → c.answer ≡ accepted first end → early_refusal settings.batch_bytes (holds_stop (tokens_of k known)) c.records c.options ≡ None → end ≤ last_of_groups start after
+    pub wrote : (settings : Settings) (first end : ℕ) → c.answer ≡ accepted first end → early_refusal settings.batch_bytes (holds_stop (tokens_of k known)) c.records c.options ≡ None → last_of_groups start before < first → end ≤ last_of_groups start after
         → Wrote settings was c.records c.options first end becomes
-    wrote settings first end given_is passed reached =
+    wrote settings first end given_is passed above reached =
         let v = subst (IsAnswer (last_after_all start (at start k cs old c right is).front) (fault_after_all None (at start k cs old c right is).front) (count_of c.records)) given_is (answer start k cs old c right is).1 in
         record {
           number = refl;
@@ -189,17 +225,26 @@ module _ (start k : ℕ) (old : List Commit) (c : Commit) (before after : List (
           seen = saw;
           some = v.1;
           passed = passed;
+          above = above;
+          behind = subst (λ n. AreFullBelow n (map attempt_of old)) (sym v.2) (are_full_below start k cs old c right is);
           alive = is_alive start k cs old c right is v.0;
           within = (let a = v.2 in let b = v.4 in omega (arith, a, b));
           reached = reached;
         }
 
-    pub refused_full : (l : ℕ) → c.answer ≡ no_room l → IsRefused was c.records c.options (no.SequenceFull l) becomes
-    refused_full l full_is =
+    pub refused_full : (l : ℕ) → c.answer ≡ no_room l → last_of_groups start before ≤ l → IsRefused was c.records c.options (no.SequenceFull l) becomes
+    refused_full l full_is low =
         let v = subst (IsAnswer (last_after_all start (at start k cs old c right is).front) (fault_after_all None (at start k cs old c right is).front) (count_of c.records)) full_is (answer start k cs old c right is).1 in
         record {
           status = Some (full l);
-          may = (refl, is_alive start k cs old c right is v.0, subst (AreUpTo (mine_after k [] old)) (sym v.1) (are_up_to start k cs old c right is), subst (λ m. max_sequence < m + count_of c.records) (sym v.1) v.2);
+          may = (
+            refl,
+            is_alive start k cs old c right is v.0,
+            low,
+            subst (AreUpTo (mine_after k [] old)) (sym v.1) (are_up_to start k cs old c right is),
+            subst (λ m. AreFullBelow (m + 1) (map attempt_of old)) (sym v.1) (are_full_below start k cs old c right is),
+            subst (λ m. max_sequence < m + count_of c.records) (sym v.1) v.2,
+          );
           number = refl;
           mine = mine_same k old c (no_room l) full_is refl;
           asked = more.tokens;
@@ -214,7 +259,7 @@ pub refused_looked : (start k : ℕ) (own : List Commit) (records : List Record)
 refused_looked start k own records how before after known now numbers sees ends impatient hold =
     let last = ends_last k known look (Some numbers) now ends in record {
       status = None;
-      may = (impatient, hold, (last.place, k, last.is_later));
+      may = (impatient, hold, (last.place, k, last.is_later, slice_get_within now last.place (record { client = k; action = look; told = Some numbers }) last.is_later.there));
       number = refl;
       mine = refl;
       asked = ends_tokens k known look (Some numbers) now ends ∙ append-nil (tokens_of k known);

@@ -1,14 +1,11 @@
 -- The runs that a leader gives are right, and what they make.
-use Rattle.std.proofs.Common.{◌≡◌, ℕ, suc, ◌+◌, ◌-◌, ◌<◌, ◌≤◌, Bool, true, false, cond, nat_le, filter, map, List, [], ◌∷◌, ◌++◌, Option, Some, None, length, refl, ap, sym, ◌∙◌, subst, arith, append_assoc, append-nil, length-append}
-use Rattle.std.specs.List.{AllByRecursion}
+use Rattle.std.proofs.Common.{◌≡◌, ℕ, suc, ◌+◌, ◌<◌, ◌≤◌, Bool, true, false, cond, nat_le, map, List, [], ◌∷◌, ◌++◌, Option, None, length, refl, ap, sym, ◌∙◌, subst, arith, length-append}
 use Rattle.std.proofs.lemmas.Bool.{leb-true, leb-false}
 use Rattle.std.proofs.lemmas.List.Sums.{sum_by-cons}
 use Rattle.wp_model.specs.Batch.{Record, is_counted, count_of, value, deletion, single_deletion, log_data}
-use Rattle.wp_model.specs.declared.history.Flag.TheVariants.{Log, NoLog, Sync}
-use Rattle.wp_model.specs.History.{Entry, max_sequence, logged, is_logged, flag_of}
+use Rattle.wp_model.specs.History.{Entry, max_sequence}
 use Rattle.wp_model.specs.Controller.{ControllerCall}
 use Rattle.wp_model.specs.Outcomes.{entries_of_client}
-use Rattle.wp_model.specs.Progress.{next_entry}
 use Rattle.table_rule.specs.declared.content.Version.{Version}
 use Rattle.table_rule.specs.Histories.{Runs, made_by}
 use Rattle.table_rule.specs.Batches.{made, numbered}

@@ -1,9 +1,9 @@
 -- Where the runs of commits end.
-use Rattle.std.proofs.Common.{◌≡◌, ℕ, ◌+◌, ◌<◌, ◌≤◌, List, [], ◌∷◌, ◌++◌, Option, None, length, refl, ap, sym, ◌∙◌, subst, arith, length-append}
+use Rattle.std.proofs.Common.{◌≡◌, ℕ, ◌+◌, ◌≤◌, List, [], ◌∷◌, Option, length, ap, ◌∙◌, arith, length-append}
 use Rattle.wp_model.specs.Batch.{count_of}
 use Rattle.wp_model.specs.History.{max_sequence}
 use Rattle.table_rule.specs.Histories.{made_by}
-use Rattle.table_rule.specs.Batches.{made, numbered}
+use Rattle.table_rule.specs.Batches.{made}
 use Rattle.group_rule.specs.Commits.{Answer, AreAnswered, Commit, IsAnswer, accepted, held_up, failed, fault_after, last_after, last_after_all, no_room}
 use Rattle.group_rule.specs.Entries.{versions_made, versions_with}
 use Rattle.group_rule.proofs.Plans.{made_length, numbered_length}

@@ -1,27 +1,24 @@
 -- Each end of a leader's work keeps all consistent.
-use Rattle.std.proofs.Common.{◌≡◌, ◌≢◌, ◌⊎◌, inl, inr, ℕ, suc, ◌+◌, ◌-◌, ◌<◌, ◌≤◌, Bool, true, false, cond, ◌==◌, filter, flat_map, map, List, [], ◌∷◌, ◌++◌, Option, Some, None, length, refl, ap, sym, ◌∙◌, subst, ⊎_elim, arith, append_assoc, append-nil, length-append}
+use Rattle.std.proofs.Common.{◌≡◌, ◌≢◌, ◌⊎◌, ℕ, ◌+◌, ◌<◌, ◌≤◌, Bool, true, false, cond, ◌==◌, filter, map, List, [], ◌∷◌, ◌++◌, Option, Some, None, length, refl, ap, sym, ◌∙◌, subst, ⊎_elim, arith, append_assoc, append-nil}
 use Rattle.std.specs.List.{AllByRecursion, AllZip}
 use Rattle.std.proofs.lemmas.List.Elements.{filter-append}
 use Rattle.std.proofs.lemmas.Grind.{flat_map-append}
 use Rattle.wp_model.specs.declared.write.WriteOptions.{WriteOptions}
-use Rattle.wp_model.specs.Batch.{Record, count_of}
-use Rattle.wp_model.specs.declared.history.Flag.{Flag}
+use Rattle.wp_model.specs.Batch.{count_of}
 use Rattle.wp_model.specs.declared.history.Flag.TheVariants.{Log, NoLog, Sync}
-use Rattle.wp_model.specs.History.{Entry, IsHistory, RunsFollow, last_of, logged, is_logged, flag_of}
-use Rattle.wp_model.specs.Controller.{ControllerCall, Look}
+use Rattle.wp_model.specs.History.{Entry, IsHistory, RunsFollow, logged, is_logged, flag_of}
+use Rattle.wp_model.specs.Controller.{ControllerCall, HoldUp, Look}
 use Rattle.wp_model.specs.LogContents.{GroupCall}
-use Rattle.wp_model.specs.Replies.{HoldUp}
 use Rattle.table_rule.specs.declared.content.MemberVersions.{MemberVersions}
-use Rattle.table_rule.specs.declared.content.Version.{Version}
 use Rattle.table_rule.specs.Histories.{made_by, versions_in, Images}
 use Rattle.table_rule.proofs.Images.{images_more, images_none}
-use Rattle.account_model.specs.Written.{AreOfOwnClients, WroteEntries, first_of}
+use Rattle.run_model.specs.Written.{AreOfOwnClients, WroteEntries, first_of}
 use Rattle.group_rule.specs.Commits.{Answer, AreAnswered, AreOfClients, Commit, accepted, held_up, failed, fault_after_all, last_after, last_after_all, no_room}
 use Rattle.group_rule.specs.Asked.{AreInGroups}
 use Rattle.group_rule.specs.Consistent.{AreConsistent, Publishes}
 use Rattle.group_rule.specs.Entries.{entries_after, entries_of, entry_after, entry_with, versions_made, versions_with}
 use Rattle.group_rule.specs.LogCalls.{AreLostWrites, IsLostWrite, LogsGroup, SyncsFor, WritesBatches, WroteCommits, WroteParts}
-use Rattle.group_rule.specs.Plans.{HaveOwnClients, AreLawful, AreUnlogged, ComesAfter, CommitRequest, IsAskedFor, IsWholeGroup, MayNotWait, all_failed, all_held_up, answer_with, answered, batches_from, last_with, last_with_all, planned, versions_from}
+use Rattle.group_rule.specs.Plans.{HaveOwnClients, AreLawful, AreUnlogged, ComesAfter, CommitRequest, IsAskedFor, IsWholeGroup, MayNotWait, ProceedsWith, all_failed, all_held_up, answer_with, answered, batches_from, last_with, last_with_all, planned, versions_from}
 use Rattle.group_rule.proofs.Chains.{answered_append, dead_append, end_append, entries_history, entries_more}
 use Rattle.group_rule.proofs.OneGroup.{all_append, in_groups_failed, in_groups_held_up, in_groups_planned}
 use Rattle.group_rule.proofs.Plans.{planned_answered, planned_batches, planned_clients, planned_dead, planned_end, planned_versions}
@@ -146,8 +143,8 @@ one_more_call last old new calls c h all some first batches synced ok own k = re
 }
 
 -- A group got runs
-module _ (start clients group_bytes : ℕ) (asked known : List ControllerCall) (cs : List Commit) (last : ℕ) (published : List (List MemberVersions)) (calls : List GroupCall) (k : AreConsistent start clients group_bytes asked cs last None published calls) (requests : List CommitRequest) (lawful : AreLawful clients requests)
-    (numbers : Look) (whole : IsWholeGroup group_bytes requests) (is_asked : IsAskedFor requests numbers known) (comes : ComesAfter asked known) where
+module _ (start clients group_bytes : ℕ) (asked known went : List ControllerCall) (cs : List Commit) (last : ℕ) (published : List (List MemberVersions)) (calls : List GroupCall) (k : AreConsistent start clients group_bytes asked cs last None published calls) (requests : List CommitRequest) (lawful : AreLawful clients requests)
+    (numbers : Look) (whole : IsWholeGroup group_bytes requests) (is_asked : IsAskedFor requests numbers known) (comes : ComesAfter asked known) (proceeds : ProceedsWith requests numbers known went) where
   abbrev end : ℕ
   end = last_with_all last requests
 
@@ -187,13 +184,13 @@ module _ (start clients group_bytes : ℕ) (asked known : List ControllerCall) (
       logs in
       record { worked = calls'; lost = []; both = sym (append-nil calls'); parts = subst (λ es. WroteParts es calls') (sym (entries_more cs new)) now; are_lost = refl }
 
-  pub consistent_accepted : (published' : List (List MemberVersions)) (calls' : List GroupCall) → Publishes (versions_from last requests) published published' → LogsGroup last requests calls calls' → AreConsistent start clients group_bytes known (cs ++ new) end None published' calls'
+  pub consistent_accepted : (published' : List (List MemberVersions)) (calls' : List GroupCall) → Publishes (versions_from last requests) published published' → LogsGroup last requests calls calls' → AreConsistent start clients group_bytes went (cs ++ new) end None published' calls'
   consistent_accepted published' calls' publishes logs = record {
     answered = answered_append start None cs new k.answered (subst (λ (z : ℕ × Option ℕ). AreAnswered z.0 z.1 new) (λ i. (k.last_is i, k.fault_is i)) answered_new);
     of_clients = all_append (λ (c : Commit). (1 ≤ c.client) × (c.client ≤ clients)) cs new k.of_clients (planned_clients known clients last end requests lawful);
     last_is = sym (end_append start cs new ∙ (ap (λ n. last_after_all n new) (sym k.last_is) ∙ planned_end known last end requests));
     fault_is = sym (dead_append None cs new ∙ (ap (λ d. fault_after_all d new) (sym k.fault_is) ∙ planned_dead known last end None requests));
-    in_groups = in_groups_planned group_bytes cs asked known numbers k.in_groups requests whole is_asked comes last end;
+    in_groups = in_groups_planned group_bytes cs asked known numbers k.in_groups requests whole is_asked comes went proceeds last end;
     images = ⊎_elim
         (λ (t : (versions_from last requests ≡ []) × (published' ≡ published)). subst (Images versions_made (cs ++ new)) (sym t.1) (images_none versions_made cs new published k.images (planned_versions known last end requests ∙ t.0)))
         (λ (t : (g : List MemberVersions) × (published' ≡ published ++ g ∷ []) × (versions_in g ≡ versions_from last requests)). subst (Images versions_made (cs ++ new)) (sym t.1) (images_more versions_made cs new published t.0 k.images (planned_versions known last end requests ∙ sym t.2)))
@@ -240,11 +237,11 @@ module _ (known : List ControllerCall) (v : Answer) (none : GivesNoRun v) where
   same_entries : (cs : List Commit) (requests : List CommitRequest) → entries_of (cs ++ alike known v requests) ≡ entries_of cs
   same_entries cs requests = entries_more cs (alike known v requests) ∙ ((λ i. entries_of cs ++ alike_entries (entries_of cs) requests i) ∙ append-nil (entries_of cs))
 
-  consistent_alike : (start clients group_bytes : ℕ) (asked : List ControllerCall) (cs : List Commit) (last : ℕ) (fault now : Option ℕ) (published : List (List MemberVersions)) (calls more : List GroupCall) (requests : List CommitRequest)
+  consistent_alike : (start clients group_bytes : ℕ) (asked went : List ControllerCall) (cs : List Commit) (last : ℕ) (fault now : Option ℕ) (published : List (List MemberVersions)) (calls more : List GroupCall) (requests : List CommitRequest)
       → AreConsistent start clients group_bytes asked cs last fault published calls → AreLawful clients requests → AreAnswered last fault (alike known v requests) → fault_after_all fault (alike known v requests) ≡ now
-      → AreInGroups group_bytes known (cs ++ alike known v requests) → WroteCommits group_bytes (cs ++ alike known v requests) now last more
-      → AreConsistent start clients group_bytes known (cs ++ alike known v requests) last now published more
-  consistent_alike start clients group_bytes asked cs last fault now published calls more requests k lawful right fault_now in_groups written = record {
+      → AreInGroups group_bytes went (cs ++ alike known v requests) → WroteCommits group_bytes (cs ++ alike known v requests) now last more
+      → AreConsistent start clients group_bytes went (cs ++ alike known v requests) last now published more
+  consistent_alike start clients group_bytes asked went cs last fault now published calls more requests k lawful right fault_now in_groups written = record {
     answered = answered_append start None cs (alike known v requests) k.answered (subst (λ (z : ℕ × Option ℕ). AreAnswered z.0 z.1 (alike known v requests)) (λ i. (k.last_is i, k.fault_is i)) right);
     of_clients = all_append (λ (c : Commit). (1 ≤ c.client) × (c.client ≤ clients)) cs (alike known v requests) k.of_clients (alike_clients clients requests lawful);
     last_is = k.last_is ∙ sym (end_append start cs (alike known v requests) ∙ alike_end (last_after_all start cs) requests);
@@ -312,43 +309,44 @@ module _ (start clients group_bytes : ℕ) (cs : List Commit) (last : ℕ) (publ
       → AreConsistent start clients group_bytes known (cs ++ all_held_up known numbers requests) last fault published calls
   consistent_held_up fault k hold may =
       let none = held_up_no_run numbers in
-      consistent_alike known (held_up numbers) none start clients group_bytes asked cs last fault fault published calls calls requests k lawful (held_up_answered known last numbers fault requests) (held_up_dead known numbers fault requests)
+      consistent_alike known (held_up numbers) none start clients group_bytes asked known cs last fault fault published calls calls requests k lawful (held_up_answered known last numbers fault requests) (held_up_dead known numbers fault requests)
       (in_groups_held_up group_bytes cs asked known numbers k.in_groups requests whole is_asked comes hold may)
       (wrote_as_before group_bytes last cs (all_held_up known numbers requests) fault calls (same_entries known (held_up numbers) none cs requests) k.written)
 
-  -- the log had failed before
-  pub consistent_after_fault : (n : ℕ) → AreConsistent start clients group_bytes asked cs last (Some n) published calls → AreConsistent start clients group_bytes known (cs ++ all_failed known n requests) last (Some n) published calls
-  consistent_after_fault n k =
-      let none = failed_no_run n in
-      consistent_alike known (failed n) none start clients group_bytes asked cs last (Some n) (Some n) published calls calls requests k lawful (failed_answered_on known last n requests) (failed_dead_on known n requests)
-      (in_groups_failed group_bytes cs asked known numbers k.in_groups requests whole is_asked comes n)
-      (wrote_as_before group_bytes last cs (all_failed known n requests) (Some n) calls (same_entries known (failed n) none cs requests) k.written)
+  module _ (went : List ControllerCall) (proceeds : ProceedsWith requests numbers known went) where
+    -- the log had failed before
+    pub consistent_after_fault : (n : ℕ) → AreConsistent start clients group_bytes asked cs last (Some n) published calls → AreConsistent start clients group_bytes went (cs ++ all_failed known n requests) last (Some n) published calls
+    consistent_after_fault n k =
+        let none = failed_no_run n in
+        consistent_alike known (failed n) none start clients group_bytes asked went cs last (Some n) (Some n) published calls calls requests k lawful (failed_answered_on known last n requests) (failed_dead_on known n requests)
+        (in_groups_failed group_bytes cs asked known numbers k.in_groups requests whole is_asked comes went proceeds n)
+        (wrote_as_before group_bytes last cs (all_failed known n requests) (Some n) calls (same_entries known (failed n) none cs requests) k.written)
 
-  -- the log fails with this group
-  pub consistent_with_fault : (n : ℕ) → AreConsistent start clients group_bytes asked cs last None published calls → (c : GroupCall) → WritesBatches last requests c → c.failed ≡ Some n
-      → AreConsistent start clients group_bytes known (cs ++ all_failed known n requests) last (Some n) published (calls ++ c ∷ [])
-  consistent_with_fault n k c writes failed_is =
-      let none = failed_no_run n in let w = k.written in
-      let all_good : calls ≡ w.worked = w.both ∙ ((λ i. w.worked ++ w.are_lost i) ∙ append-nil w.worked) in
-      let lost : IsLostWrite group_bytes (cs ++ all_failed known n requests) n last c = record {
-        front = cs;
-        known = known;
-        requests = requests;
-        rest = [];
-        split = ap (λ l. cs ++ l) (sym (append-nil (all_failed known n requests)));
-        is_group = whole;
-        writes = writes;
-        failed = failed_is;
-      } in
-      consistent_alike known (failed n) none start clients group_bytes asked cs last None (Some n) published calls (calls ++ c ∷ []) requests k lawful (failed_answered known last n requests) (failed_dead known n None requests whole.some)
-      (in_groups_failed group_bytes cs asked known numbers k.in_groups requests whole is_asked comes n)
-      (record {
-        worked = w.worked;
-        lost = c ∷ [];
-        both = (λ i. all_good i ++ c ∷ []);
-        parts = subst (λ es. WroteParts es w.worked) (sym (same_entries known (failed n) none cs requests)) w.parts;
-        are_lost = (c, refl, lost);
-      })
+    -- the log fails with this group
+    pub consistent_with_fault : (n : ℕ) → AreConsistent start clients group_bytes asked cs last None published calls → (c : GroupCall) → WritesBatches last requests c → c.failed ≡ Some n
+        → AreConsistent start clients group_bytes went (cs ++ all_failed known n requests) last (Some n) published (calls ++ c ∷ [])
+    consistent_with_fault n k c writes failed_is =
+        let none = failed_no_run n in let w = k.written in
+        let all_good : calls ≡ w.worked = w.both ∙ ((λ i. w.worked ++ w.are_lost i) ∙ append-nil w.worked) in
+        let lost : IsLostWrite group_bytes (cs ++ all_failed known n requests) n last c = record {
+          front = cs;
+          known = known;
+          requests = requests;
+          rest = [];
+          split = ap (λ l. cs ++ l) (sym (append-nil (all_failed known n requests)));
+          is_group = whole;
+          writes = writes;
+          failed = failed_is;
+        } in
+        consistent_alike known (failed n) none start clients group_bytes asked went cs last None (Some n) published calls (calls ++ c ∷ []) requests k lawful (failed_answered known last n requests) (failed_dead known n None requests whole.some)
+        (in_groups_failed group_bytes cs asked known numbers k.in_groups requests whole is_asked comes went proceeds n)
+        (record {
+          worked = w.worked;
+          lost = c ∷ [];
+          both = (λ i. all_good i ++ c ∷ []);
+          parts = subst (λ es. WroteParts es w.worked) (sym (same_entries known (failed n) none cs requests)) w.parts;
+          are_lost = (c, refl, lost);
+        })
 
 -- at the beginning nothing was handled
 pub consistent_first : (start clients group_bytes : ℕ) → AreConsistent start clients group_bytes [] [] start None [] []

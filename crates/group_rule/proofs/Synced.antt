@@ -8,7 +8,7 @@ use Rattle.wp_model.specs.Batch.{Record, count_of}
 use Rattle.wp_model.specs.History.{Entry, IsHistory, RunsFollow, last_of, logged, is_logged, flag_of}
 use Rattle.wp_model.specs.LogContents.{GroupCall}
 use Rattle.table_rule.specs.Histories.{In}
-use Rattle.account_model.specs.Written.{first_of, WroteEntries, IsSynced, HaveSynced}
+use Rattle.run_model.specs.Written.{first_of, WroteEntries, IsSynced, IsSyncedBy}
 use Rattle.group_rule.specs.Commits.{Answer, AreAnswered, Commit, accepted, commits_of}
 use Rattle.group_rule.specs.Entries.{entries_after, entries_of, entry_after, entry_with}
 use Rattle.group_rule.specs.LogCalls.{WroteParts}
@@ -129,7 +129,7 @@ synced_by e part c sync w runs ok h =
       ok = w.ok;
     }
 
-later_call : (first : ℕ) (records : List Record) (c : GroupCall) (calls : List GroupCall) → HaveSynced first records calls → HaveSynced first records (c ∷ calls)
+later_call : (first : ℕ) (records : List Record) (c : GroupCall) (calls : List GroupCall) → IsSyncedBy first records calls → IsSyncedBy first records (c ∷ calls)
 later_call first records c calls h = record { front = c ∷ h.front; call = h.call; rest = h.rest; there = ap (λ l. c ∷ l) h.there; is = h.is }
 
 all_front : {A : Type 0} (P : A → Type 0) (xs ys : List A) → AllByRecursion P (xs ++ ys) → AllByRecursion P xs
@@ -141,7 +141,7 @@ all_back P [] ys a = a
 all_back P (x ∷ xs) ys a = all_back P xs ys a.1
 
 synced_among : (e : Entry) (parts : List (List Entry)) (calls : List GroupCall) → e.flag ≡ Sync → AllByRecursion RunsFollow parts → AllZip WroteEntries parts calls
-    → AllByRecursion IsCounted (flat_map (λ part. part) parts) → In e (flat_map (λ part. part) parts) → HaveSynced e.first e.records calls
+    → AllByRecursion IsCounted (flat_map (λ part. part) parts) → In e (flat_map (λ part. part) parts) → IsSyncedBy e.first e.records calls
 synced_among e [] calls sync runs each ok h = absurd h
 synced_among e (part ∷ parts) [] sync runs each ok h = absurd each
 synced_among e (part ∷ parts) (c ∷ calls) sync runs each ok h =
@@ -155,13 +155,13 @@ to_sync : (o : WriteOptions) → o.sync ≡ true → o.no_log ≡ false → flag
 to_sync o sync log = rw (log, sync) refl
 
 pub have_synced : (start client : ℕ) (commits own : List Commit) (c : Commit) (calls : List GroupCall) (first end : ℕ) → AreAnswered start None commits → WroteParts (entries_of commits) calls
-    → commits_of client commits ≡ own ++ c ∷ [] → c.answer ≡ accepted first end → c.options.sync ≡ true → c.options.no_log ≡ false → HaveSynced first c.records calls
+    → commits_of client commits ≡ own ++ c ∷ [] → c.answer ≡ accepted first end → c.options.sync ≡ true → c.options.no_log ≡ false → IsSyncedBy first c.records calls
 have_synced start client commits own c calls first end right wrote is answer sync log =
     let mine : In c (commits_of client commits) = subst (In c) (sym is) (in_back c own (c ∷ []) (inl refl)) in
     let e = has_entry c first end [] commits answer (in_filter (λ (d : Commit). d.client == client) c commits mine) in
     let flag : e.entry.flag ≡ Sync = e.flag_is ∙ to_sync c.options sync log in
     let in_log : In e.entry (logged (entries_of commits)) = passes (λ (x : Entry). is_logged x.flag) e.entry (entries_of commits) (ap is_logged flag) e.among in
     let ok : AllByRecursion IsCounted (logged (entries_of commits)) = all_filter IsCounted (λ (x : Entry). is_logged x.flag) (entries_of commits) (counted start (entries_of commits) (entries_history start None [] commits right).0) in
-    subst (λ n. HaveSynced n c.records calls) e.first_is
-    (subst (λ rs. HaveSynced e.entry.first rs calls) e.records_are
+    subst (λ n. IsSyncedBy n c.records calls) e.first_is
+    (subst (λ rs. IsSyncedBy e.entry.first rs calls) e.records_are
     (synced_among e.entry wrote.parts calls flag wrote.runs wrote.each (subst (AllByRecursion IsCounted) (sym wrote.cut) ok) (subst (In e.entry) (sym wrote.cut) in_log)))

@@ -10,9 +10,9 @@ use Rattle.group_rule.specs.Asked.{AreInGroups}
 use Rattle.group_rule.specs.Entries.{versions_made}
 use Rattle.group_rule.specs.LogCalls.{WroteCommits}
 
--- All commits were answered rightly, group by group, and `asked` is the controller's history up to the delay of the
--- last group. `last` is the last sequence given, the log has the fault that was told, what is published was made by
--- whole commits, and the log's calls wrote them.
+-- All commits were answered rightly, group by group, and `asked` is the controller's history as the last leader had
+-- seen it when it answered. `last` is the last sequence given, the log has the fault that was told, what is published
+-- was made by whole commits, and the log's calls wrote them.
 pub record AreConsistent (start clients group_bytes : ℕ) (asked : List ControllerCall) (commits : List Commit)
     (last : ℕ) (fault : Option ℕ) (published : List (List MemberVersions)) (calls : List GroupCall) : Type 0 where
   pub answered : AreAnswered start None commits

@@ -4,7 +4,7 @@ use Rattle.std.specs.List.{AllByRecursion, AllZip}
 use Rattle.wp_model.specs.History.{Entry, RunsFollow, logged}
 use Rattle.wp_model.specs.LogContents.{GroupCall}
 use Rattle.wp_model.specs.Controller.{ControllerCall}
-use Rattle.account_model.specs.Written.{WroteEntries}
+use Rattle.run_model.specs.Written.{WroteEntries}
 use Rattle.group_rule.specs.Commits.{Commit}
 use Rattle.group_rule.specs.Entries.{entries_of}
 use Rattle.group_rule.specs.Plans.{CommitRequest, all_failed, batches_from, AreLogged, AreUnlogged, IsWholeGroup}

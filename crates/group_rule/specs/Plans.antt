@@ -1,6 +1,8 @@
--- How a leader gives its group runs, one after another, to those that fit below the greatest sequence.
-use Rattle.std.specs.Prelude.{◌≡◌, ◌≢◌, ℕ, ◌+◌, ◌<◌, ◌≤◌, false, true, nat_le, if◌then◌else◌, List, [], ◌∷◌, ◌++◌, length, map, ⊤, Some}
+-- How a leader gives its group runs, one after another, to those that fit below the greatest sequence, and what lets
+-- the group go on at all.
+use Rattle.std.specs.Prelude.{◌≡◌, ◌≢◌, ◌⊎◌, ℕ, ◌+◌, ◌<◌, ◌≤◌, Bool, false, true, nat_le, if◌then◌else◌, List, [], ◌∷◌, ◌++◌, length, map, ⊤, Some}
 use Rattle.std.specs.List.{AllByRecursion}
+use mathlib.Core.List.{IsPrefix}
 use Rattle.wp_model.specs.declared.group.Item.{Item}
 use Rattle.wp_model.specs.declared.write.WriteOptions.{WriteOptions}
 use Rattle.wp_model.specs.Batch.{Record, count_of, size_of_batch}
@@ -8,7 +10,8 @@ use Rattle.wp_model.specs.Grouping.{group_len, size_of}
 use Rattle.wp_model.specs.History.{max_sequence}
 use Rattle.table_rule.specs.declared.content.Version.{Version}
 use Rattle.table_rule.specs.Batches.{made, numbered}
-use Rattle.wp_model.specs.Controller.{ControllerCall, Look, delay}
+use Rattle.wp_model.specs.Controller.{ControllerCall, Look, HoldUp, delay, look}
+use Rattle.wp_model.specs.Replies.{IsLater}
 use Rattle.group_rule.specs.Commits.{Answer, accepted, held_up, failed, no_room, Commit}
 
 -- what a client wants to commit
@@ -119,6 +122,31 @@ pub record IsAskedFor (requests : List CommitRequest) (numbers : Look) (known : 
     action = delay now (size_of (map item_of_request requests));
     told = Some numbers;
   } ∷ []
+
+-- behind the delay a look of the leader told of no stop
+pub record HasLooked (leader : ℕ) (known went : List ControllerCall) : Type 0 where
+  pub place : ℕ
+  pub numbers : Look
+  pub is_later : IsLater went (length known) place
+      (record { client = leader; action = look; told = Some numbers })
+  pub free : numbers.stops ≡ 0
+
+-- What the leader was told by its delay lets a commit go on: one that may not wait where writes aren't held up, and one
+-- that may once no stop was told.
+abbrev pub LetsProceed : ℕ → Look → List ControllerCall → List ControllerCall → Bool → Type 0
+LetsProceed leader numbers known went true = HoldUp numbers → ⊥
+LetsProceed leader numbers known went false = (numbers.stops ≡ 0) ⊎ HasLooked leader known went
+
+-- The leader of a group, the first, has seen so much of the controller's history when it goes on, and what it was told
+-- lets all of the group go on.
+pub record ProceedsWith (requests : List CommitRequest) (numbers : Look)
+    (known went : List ControllerCall) : Type 0 where
+  pub leader : CommitRequest
+  pub rest : List CommitRequest
+  pub leads : requests ≡ leader ∷ rest
+  pub begins : IsPrefix known went
+  pub each : AllByRecursion
+      (λ (q : CommitRequest). LetsProceed leader.client numbers known went q.options.no_slowdown) requests
 
 -- what was seen before the last call goes on from what the leaders before had seen
 pub record ComesAfter (asked known : List ControllerCall) : Type 0 where

@@ -1,24 +1,24 @@
 //! What follows of the commits: for each client at its newest answer, and for all clients at the closing.
 
 ghost use mathlib.Core.List.{IsPrefix};
-ghost use Rattle.std.specs.Prelude.{◌≡◌, ◌+◌, ◌≤◌, ℕ, List, [], ◌∷◌, ◌++◌, length, Option, None, Some, true, false, slice_get, IfSome, ⊤};
+ghost use Rattle.std.specs.Prelude.{◌≡◌, ◌+◌, ◌<◌, ◌≤◌, ℕ, List, [], ◌∷◌, ◌++◌, length, Option, None, Some, true, false, slice_get, IfSome, ⊤};
 ghost use Rattle.wp_model.specs.declared.write.Refusal.TheVariants.{Incomplete, LogFault, SequenceFull};
 ghost use Rattle.wp_model.specs.declared.write.WriteOptions.{WriteOptions};
 ghost use Rattle.wp_model.specs.History.{max_sequence};
 ghost use Rattle.wp_model.specs.Counts.{Rose};
 ghost use Rattle.wp_model.specs.Batch.{Record};
-ghost use Rattle.wp_model.specs.Controller.{ControllerCall, Look, IsLegal, delay, look};
+ghost use Rattle.wp_model.specs.Controller.{ControllerCall, Look, HoldUp, IsLegal, delay, look};
 ghost use Rattle.wp_model.specs.Groups.{Group};
 ghost use Rattle.wp_model.specs.LogContents.{GroupCall};
 ghost use Rattle.wp_model.specs.Progress.{early_refusal};
-ghost use Rattle.wp_model.specs.Replies.{HoldUp, IsLater};
+ghost use Rattle.wp_model.specs.Replies.{IsLater};
 ghost use Rattle.wp_model.specs.Tokens.{tokens_of, holds_stop};
 ghost use Rattle.wp_model.specs.Trace.{Settings};
 ghost use Rattle.table_rule.specs.declared.content.MemberVersions.{MemberVersions};
 ghost use Rattle.table_rule.specs.Histories.{Begins, made_by, last_of};
 ghost use Rattle.account_model.specs.Accounts.{Account, Wrote, IsRefused};
 ghost use Rattle.account_model.specs.Closing.{all_attempts, IsClosing};
-ghost use Rattle.account_model.specs.Written.{WritesLog, HaveSynced};
+ghost use Rattle.run_model.specs.Written.{WritesLog, IsSyncedBy};
 ghost use Rattle.write_controller.specs.Passes.{EndsWith};
 ghost use Rattle.group_rule.specs.Commits.{Commit, accepted, held_up, failed, no_room, last_after_all, AreAnswered, commits_of};
 ghost use Rattle.group_rule.specs.Asked.{place_of};
@@ -44,7 +44,7 @@ pub fn accounts_of_the_commits()
         → commits_of client commits ≡ own ++ c ∷ [] → Begins before after → SeesMore client known now
         → c.answer ≡ accepted first group_last
         → early_refusal settings.batch_bytes (holds_stop (tokens_of client known)) c.records c.options ≡ None
-        → group_last ≤ last_of start after
+        → last_of start before < first → group_last ≤ last_of start after
         → Wrote settings (account_of start client own before known) c.records c.options first group_last
         (account_of start client (own ++ c ∷ []) after now) }
     // where writes are held up, or the log failed, the answer alone says so
@@ -65,7 +65,7 @@ pub fn accounts_of_the_commits()
         (before after : List (List MemberVersions)) (known now : List ControllerCall) (last : ℕ)
         → AreAnswered start None commits
         → commits_of client commits ≡ own ++ c ∷ [] → Begins before after → SeesMore client known now
-        → c.answer ≡ no_room last
+        → c.answer ≡ no_room last → last_of start before ≤ last
         → IsRefused (account_of start client own before known) c.records c.options (SequenceFull last)
         (account_of start client (own ++ c ∷ []) after now) }
     // a client that looked itself, and made no commit of it
@@ -82,7 +82,7 @@ pub fn synced_commits()
     ensures synced { (start client : ℕ) (commits own : List Commit) (c : Commit) (calls : List GroupCall)
         (first group_last : ℕ) → AreAnswered start None commits → WroteParts (entries_of commits) calls
         → commits_of client commits ≡ own ++ c ∷ [] → c.answer ≡ accepted first group_last
-        → c.options.sync ≡ true → c.options.no_log ≡ false → HaveSynced first c.records calls }
+        → c.options.sync ≡ true → c.options.no_log ≡ false → IsSyncedBy first c.records calls }
 {}
 
 /// Once all clients are at rest, their accounts are parts of the one trace of the commits and of the controller's one
@@ -106,6 +106,6 @@ pub fn closings()
         → length accounts ≡ settings.clients
         → ((i : ℕ) (a : Account) → slice_get accounts i ≡ Some a
         → HasPart settings.start commits published history i a)
-        → WritesLog settings.group_bytes (λ (wrote : List GroupCall) (log : ⊤). wrote ≡ calls)
-        (trace_of settings.start commits history) (all_attempts accounts) fault tt }
+        → WritesLog settings.group_bytes (λ (made : List GroupCall). made ≡ calls)
+        (trace_of settings.start commits history) (all_attempts accounts) fault }
 {}

@@ -5,8 +5,9 @@
 //!
 //! - `specs/Commits`: commits with their answers, and which answers are right.
 //! - `specs/Entries`: what commits make: the entries of the history, their versions, and each client's account.
-//! - `specs/Plans`: how a leader gives a group its runs.
-//! - `specs/Asked`: for which groups the write controller was asked for a delay.
+//! - `specs/Plans`: how a leader gives a group its runs, and what lets the group go on.
+//! - `specs/Asked`: for which groups the write controller was asked for a delay. Each is held up whole, or goes on
+//!   whole.
 //! - `specs/LogCalls`: the calls of the log writer that wrote commits.
 //! - `specs/Consistent`: how the log, the table and the answers belong together.
 //!

@@ -1,2 +1,3 @@
 pub mod SyncedGroups
 pub mod TwoGroups
+pub mod GroupByGroup

@@ -1,15 +1,14 @@
 -- Images of the log of two groups.
-use Rattle.std.proofs.Common.{◌≡◌, ℕ, zero, suc, List, [], ◌∷◌, ◌++◌, length, take, Some, slice_get, codes, refl, ap, sym, subst, arith}
+use Rattle.std.proofs.Common.{◌≡◌, ℕ, zero, suc, List, [], ◌∷◌, ◌++◌, length, take, Some, slice_get, refl, ap, sym, subst, arith}
 use Rattle.std.proofs.Math.Dec.{lit≤}
 use Rattle.std.proofs.Math.Seq.{take-append_seam}
 use Rattle.wp_model.specs.declared.history.Flag.TheVariants.{Log}
-use Rattle.wp_model.specs.Batch.{value}
 use Rattle.wp_model.specs.Varint.{varint_within}
 use Rattle.wp_model.specs.History.{Entry}
 use Rattle.wp_model.specs.Attempts.{Attempt}
 use Rattle.wp_model.specs.Calls.{Outcome}
 use Rattle.run_model.specs.Crashes.{HasSync, HoldsUpTo, HoldsSynced, IsCrashSafe}
-use Rattle.run_model.specs.Examples.{entry_of, two_groups, text_of_both, text_of_first, zeros}
+use Rattle.run_model.specs.Examples.{put_b, entry_of, two_groups, text_of_both, text_of_first, zeros}
 
 first_len : length text_of_first ≡ 24
 unfolding varint_within
@@ -19,7 +18,7 @@ first_len = refl
 by_first : (reached : ℕ) (image : List ℕ) → HoldsUpTo reached text_of_first image → HoldsSynced two_groups reached image
 by_first reached image first zero group there some = first
 by_first reached image first (suc zero) group there some =
-    let second : List Entry = entry_of 2 Log (value (codes "b") (codes "2")) ∷ [] in
+    let second : List Entry = entry_of 2 Log put_b ∷ [] in
     let is : second ≡ group = cc there in
     let none : HasSync second = subst HasSync (sym is) some in
     absurd (cc none)
@@ -43,5 +42,5 @@ nothing_before holds =
     absurd (cc byte)
 
 pub synced_at_the_end : (group_bytes : ℕ) (attempts : List (List Attempt)) (o : Outcome)
-    → IsCrashSafe group_bytes attempts o two_groups text_of_both 0 (λ image. image ≡ zeros 25) (λ image. image ≡ text_of_both) → ⊥
+    → IsCrashSafe group_bytes attempts o two_groups text_of_both [] 0 (λ image. image ≡ zeros 25) (λ image. image ≡ text_of_both) → ⊥
 synced_at_the_end group_bytes attempts o safe = nothing_before (safe.held (zeros 25) refl)

@@ -1,5 +1,5 @@
 -- What a run leaves in its log, and what a crash at any moment of the run leaves to recover.
-use Rattle.std.specs.Prelude.{◌≡◌, ℕ, ◌+◌, ◌<◌, ◌≤◌, ⊤, Bool, true, false, IsTrue, List, [], ◌∷◌, ◌++◌, length, take, drop, Option, Some, None, slice_get, IfSome, MatchOption}
+use Rattle.std.specs.Prelude.{◌≡◌, ℕ, ◌+◌, ◌≤◌, ⊤, Bool, true, false, IsTrue, List, [], ◌∷◌, ◌++◌, length, take, drop, Option, Some, None, slice_get, IfSome, MatchOption}
 use Rattle.std.specs.List.{AllByRecursion, list_any}
 use Rattle.wp_model.specs.declared.history.Flag.{Flag}
 use Rattle.wp_model.specs.declared.history.Flag.TheVariants.{Log, NoLog, Sync}
@@ -10,11 +10,12 @@ use Rattle.wp_model.specs.Trace.{Trace, Settings}
 use Rattle.wp_model.specs.Attempts.{Attempt}
 use Rattle.wp_model.specs.Calls.{Command, Outcome}
 use Rattle.wp_model.specs.Outcomes.{IsLegalIn}
-use Rattle.wp_model.specs.LogContents.{records_of, IsLogOf}
+use Rattle.wp_model.specs.LogContents.{GroupCall, record_of_call, records_of, IsLogOf}
 pub use Rattle.wp_model.specs.LogContents.{HoldsUpTo}
 use Rattle.wp_model.specs.Recovery.{NoChance}
 use Rattle.log_laws.specs.Prefixes.{RecoversPrefix}
 use Rattle.run_model.specs.Lost.{IsLostGroup}
+use Rattle.run_model.specs.Written.{WritesLog}
 
 -- a crash at some moment from old to now might have left this image, and the disk still tells of it
 abbrev pub IsImageSince : {D : Type 0} → (D → ℕ) → (D → ℕ) → (D → ℕ → List ℕ → Type 0) → D → D → List ℕ → Type 0
@@ -53,6 +54,11 @@ abbrev pub HoldsSynced : List (List Entry) → ℕ → List ℕ → Type 0
 HoldsSynced groups reached image = (k : ℕ) (group : List Entry) → slice_get groups k ≡ Some group → HasSync group
     → HoldsUpTo reached (text_through groups k) image
 
+-- the record that the call that failed was to write, if one did
+abbrev pub tried : List GroupCall → Option (List ℕ)
+tried [] = None
+tried (c ∷ lost) = Some (record_of_call c)
+
 module _ (group_bytes : ℕ) (attempts : List (List Attempt)) (o : Outcome) (groups : List (List Entry))
     (content : List ℕ) where
   -- this may be the record of the one group whose log write failed
@@ -70,22 +76,31 @@ module _ (group_bytes : ℕ) (attempts : List (List Attempt)) (o : Outcome) (gro
       → NoChance None image (text None (begun (records_of groups) x))
       → RecoversPrefix (begun (records_of groups) x) image enough
 
-  -- What the log holds at the end, and what a crash leaves: at some moment of the run (any), and at its end (now), when
-  -- all that was synced is among it. It holds for each record that may be the failed one, so nobody can choose the one
-  -- whose premise excludes an image.
-  pub record IsCrashSafe (reached : ℕ) (any now : List ℕ → Type 0) : Type 0 where
-    pub failed : MatchOption o.fault (content ≡ text None (records_of groups)) (λ count. (x : List ℕ) × IsFailedWrite x)
+  -- What the log holds at the end, with some of the record that was tried where a call failed; and what a crash leaves,
+  -- at some moment of the run (any), and at its end (now), when all that was synced is among it. It holds for each record
+  -- that may be the failed one, and the one that was tried is among these: so nobody can choose one whose premise
+  -- excludes an image.
+  pub record IsCrashSafe (lost : List GroupCall) (reached : ℕ) (any now : List ℕ → Type 0) : Type 0 where
+    pub failed : MatchOption o.fault (content ≡ text None (records_of groups)) (λ count. (x : List ℕ)
+        × (tried lost ≡ Some x) × IsFailedWrite x)
     pub any_moment : LeavesPrefix any (λ n. ⊤)
     pub held : (image : List ℕ) → any image → HoldsSynced groups reached image
     pub at_end : LeavesPrefix now (HaveSynced groups)
 
--- An outcome of a trace; and, of the same trace with the same commits in its leaders' hands, what the log holds and
--- what a crash leaves of it
-pub record IsSafe (settings : Settings) (ended : ℕ) (script : List (List Command)) (o : Outcome) (content : List ℕ)
-    (reached : ℕ) (any now : List ℕ → Type 0) : Type 0 where
+-- A run: its outcome, of one trace with these commits in its leaders' hands, and how its log was written, where `wrote`
+-- says which calls of the log writer made the log that was handed back of the one that was opened. The printed length is
+-- that of the text of their records.
+pub record IsRun (settings : Settings) (ended : ℕ) (script : List (List Command)) (wrote : List GroupCall → Type 0)
+    (o : Outcome) : Type 0 where
   pub trace : Trace
   pub attempts : List (List Attempt)
   pub legal : IsLegalIn settings ended script trace attempts o
-  pub groups : List (List Entry)
-  pub log : IsLogOf o content groups
-  pub crash : IsCrashSafe settings.group_bytes attempts o groups content reached any now
+  pub writes : WritesLog settings.group_bytes wrote trace attempts o.fault
+  pub length_is : o.log_len ≡ length (text None (records_of writes.parts))
+
+-- what the log of a run holds, and what a crash leaves of it
+pub record IsSafe {settings : Settings} {ended : ℕ} {script : List (List Command)} {wrote : List GroupCall → Type 0}
+    {o : Outcome} (run : IsRun settings ended script wrote o) (content : List ℕ) (reached : ℕ)
+    (any now : List ℕ → Type 0) : Type 0 where
+  pub log : IsLogOf o content run.writes.parts
+  pub crash : IsCrashSafe settings.group_bytes run.attempts o run.writes.parts content run.writes.lost reached any now

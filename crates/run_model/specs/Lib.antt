@@ -1,4 +1,5 @@
 pub mod Lost
+pub mod Written
 pub mod Crashes
 pub mod Examples
 pub mod Refusals

@@ -1,8 +1,10 @@
 //! What a run of several clients leaves in its log, and what a crash at any moment of it leaves to recover.
 //!
 //! - `specs/Lost`: the one group of commits whose log write failed, by what became of the clients' commits.
-//! - `specs/Crashes`: the log at the run's end, each image that a crash may leave, and an outcome with both by one
-//!   trace (`IsSafe`).
+//! - `specs/Written`: which calls of the log writer wrote the log: one for each group of the history, and none besides
+//!   but one that failed.
+//! - `specs/Crashes`: a run, with how its log was written (`IsRun`); and of that run the log at its end, and each image
+//!   that a crash may leave (`IsSafe`).
 //! - `specs/Refusals`: which refusals are left where the log has no fault.
 //!
 //! The law and the examples are the contracts of functions that do nothing.
@@ -11,5 +13,5 @@
 mod examples;
 mod laws;
 
-pub use examples::synced_before_the_next_group;
+pub use examples::{synced_before_the_next_group, written_group_by_group};
 pub use laws::synced_groups_are_recovered;

@@ -1,12 +1,11 @@
 -- The parts of a group are its members' own versions, each member once.
-use Rattle.std.proofs.Common.{◌≡◌, ◌≢◌, ℕ, suc, ◌+◌, ◌<◌, ◌≤◌, Bool, true, false, nat_le, List, [], ◌∷◌, ◌++◌, length, refl, ap, sym, ◌∙◌, subst, arith, append-nil, append_assoc, length-append}
+use Rattle.std.proofs.Common.{◌≡◌, ◌≢◌, ℕ, ◌+◌, ◌≤◌, Bool, true, false, nat_le, List, [], ◌∷◌, ◌++◌, refl, ap, sym, ◌∙◌, arith, append-nil, append_assoc}
 use Rattle.std.specs.List.{AllByRecursion}
-use Rattle.wp_model.specs.Batch.{Record, count_of}
+use Rattle.wp_model.specs.Batch.{count_of}
 use Rattle.wp_model.specs.History.{max_sequence}
 use Rattle.table_rule.specs.declared.content.MemberVersions.{MemberVersions}
-use Rattle.table_rule.specs.declared.content.Version.{Version}
 use Rattle.table_rule.specs.Batches.{made, numbered}
-use Rattle.table_rule.specs.Histories.{Apart, Members, versions_in, In}
+use Rattle.table_rule.specs.Histories.{Apart, Members, versions_in}
 use Rattle.group_rule.specs.Plans.{AreLawful, CommitRequest, HaveOwnClients, last_with, versions_at, versions_from}
 use Rattle.stage_laws.specs.Served.{part_at, parts_from}
 

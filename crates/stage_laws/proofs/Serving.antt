@@ -1,11 +1,9 @@
 -- What was served is what was handled, as far as it has runs.
-use Rattle.std.proofs.Common.{◌≡◌, ◌⊎◌, inl, inr, ℕ, suc, ◌+◌, ◌<◌, ◌≤◌, Bool, true, false, nat_le, map, List, [], ◌∷◌, ◌++◌, Option, Some, None, length, refl, ap, sym, ◌∙◌, subst, ⊎_elim, arith, append-nil, append_assoc, length-append}
-use Rattle.wp_model.specs.Batch.{Record, count_of}
+use Rattle.std.proofs.Common.{◌≡◌, ℕ, ◌+◌, List, [], ◌∷◌, ◌++◌, Option, length, refl, ap, sym, ◌∙◌, subst, ⊎_elim, append_assoc}
 use Rattle.wp_model.specs.Controller.{ControllerCall, Look}
 use Rattle.wp_model.specs.LogContents.{GroupCall}
 use Rattle.table_rule.specs.declared.content.MemberVersions.{MemberVersions}
-use Rattle.table_rule.specs.declared.content.Version.{Version}
-use Rattle.table_rule.specs.Histories.{Images, last_of, made_by, versions_in, versions_of}
+use Rattle.table_rule.specs.Histories.{last_of, made_by, versions_in}
 use Rattle.table_rule.proofs.Images.{images_more, images_none, images_versions}
 use Rattle.group_rule.specs.Commits.{Answer, AreAnswered, Commit, accepted, failed, held_up, last_after_all, no_room}
 use Rattle.group_rule.specs.Consistent.{AreConsistent, Publishes}

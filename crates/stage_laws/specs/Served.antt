@@ -1,7 +1,7 @@
 -- What is published of commits, where the groups' versions go into the table apart from the log.
-use Rattle.std.specs.Prelude.{◌≡◌, ℕ, ◌+◌, ◌≤◌, nat_le, if◌then◌else◌, List, [], ◌∷◌, ◌++◌}
+use Rattle.std.specs.Prelude.{ℕ, ◌+◌, nat_le, if◌then◌else◌, List, [], ◌∷◌, ◌++◌}
 use Rattle.wp_model.specs.History.{max_sequence}
-use Rattle.wp_model.specs.Batch.{Record, count_of}
+use Rattle.wp_model.specs.Batch.{count_of}
 use Rattle.table_rule.specs.declared.content.MemberVersions.{MemberVersions}
 use Rattle.table_rule.specs.Batches.{made, numbered}
 use Rattle.table_rule.specs.Histories.{Images}

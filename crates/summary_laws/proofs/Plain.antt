@@ -119,19 +119,19 @@ module _ (most : ℕ) (small : most + 4 ≤ max_sequence) (settings : Settings) 
   after_add n p r commands other q is s e = absurd e
 
   -- it may only be accepted
-  never_refused : (n : ℕ) (p : Progress) (how : WriteOptions) (why : Refusal) (status : Option WriteStatus) → how ≡ plain → n ≤ 4 → Stands n p
-      → AreSound most (with_attempt p.attempts p.pending how status) → MayRefuse trace.controller_calls p.known p.mine p.attempts p.pending how why status → ⊥
-  never_refused n p how (no.Incomplete stops delays wait) status is few s a may = let no_wait : how.no_slowdown ≡ false = ap (λ (x : WriteOptions). x.no_slowdown) is in let yes = may.0 in cc
-  never_refused n p how (no.LogFault count) status is few s a may =
+  never_refused : (n : ℕ) (p : Progress) (knows : ℕ) (how : WriteOptions) (why : Refusal) (status : Option WriteStatus) → how ≡ plain → n ≤ 4 → Stands n p
+      → AreSound most (with_attempt p.attempts p.pending how status) → MayRefuse trace.controller_calls p knows how why status → ⊥
+  never_refused n p knows how (no.Incomplete stops delays wait) status is few s a may = let no_wait : how.no_slowdown ≡ false = ap (λ (x : WriteOptions). x.no_slowdown) is in let yes = may.0 in cc
+  never_refused n p knows how (no.LogFault count) status is few s a may =
       sound_last most p.attempts p.pending how (faulted count) (subst (λ x. AreSound most (with_attempt p.attempts p.pending how x)) may a)
-  never_refused n p how (no.SequenceFull last) status is few s a may =
+  never_refused n p knows how (no.SequenceFull last) status is few s a may =
       let within : last ≤ most = sound_last most p.attempts p.pending how (full last) (subst (λ x. AreSound most (with_attempt p.attempts p.pending how x)) may.0 a) in
-      let past = may.3 in let count = short_count p.pending s.short in let long = s.long in omega (arith, small, within, past, count, long, few)
-  never_refused n p how no.Empty status is few s a may = may
-  never_refused n p how (no.TooLarge size) status is few s a may = may
-  never_refused n p how no.SyncWithoutLog status is few s a may = may
-  never_refused n p how no.SelfStop status is few s a may = may
-  never_refused n p how no.NoMemory status is few s a may = may
+      let past = may.5 in let count = short_count p.pending s.short in let long = s.long in omega (arith, small, within, past, count, long, few)
+  never_refused n p knows how no.Empty status is few s a may = may
+  never_refused n p knows how (no.TooLarge size) status is few s a may = may
+  never_refused n p knows how no.SyncWithoutLog status is few s a may = may
+  never_refused n p knows how no.SelfStop status is few s a may = may
+  never_refused n p knows how no.NoMemory status is few s a may = may
 
   after_attempt : (n : ℕ) (p : Progress) (how : WriteOptions) (commands : List Command) (reply : Reply) (q : Progress) → IsPlain n (commit how ∷ commands) → Stands n p → AreSound most q.attempts
       → IsAttempted trace client p how reply q → GoesOn p (commit how) commands q
@@ -144,7 +144,7 @@ module _ (most : ℕ) (small : most + 4 ≤ max_sequence) (settings : Settings) 
         ∙ append_assoc (map (λ (e : Entry). e.records) p.mine) (p.pending ∷ []) (batches_after [] commands);
   }
   after_attempt n p how commands (refused why) q is s a e =
-      absurd (never_refused n p how why e.0 is.0 is.2 s (subst (λ (x : Progress). AreSound most x.attempts) e.2 a) e.1)
+      absurd (never_refused n p q.known how why e.0 is.0 is.2 s (subst (λ (x : Progress). AreSound most x.attempts) e.2 a) e.1)
   after_attempt n p how commands other q is s a e = absurd e
 
   after_commit : (n : ℕ) (p : Progress) (how : WriteOptions) (commands : List Command) (reply : Reply) (q : Progress) → IsPlain n (commit how ∷ commands) → Stands n p → AreSound most q.attempts

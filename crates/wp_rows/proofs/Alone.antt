@@ -1,5 +1,6 @@
 -- Outcomes of one client.
-use Rattle.std.proofs.Common.{◌≡◌, ℕ, zero, suc, ◌+◌, Option, Some, List, [], ◌∷◌, ◌++◌, max, slice_get, refl, ap, arith}
+use Rattle.std.proofs.Common.{◌≡◌, ℕ, zero, suc, ◌+◌, Option, Some, List, [], ◌∷◌, ◌++◌, max, slice_get, refl, ap, subst, arith}
+use Rattle.std.specs.List.{AllByRecursion}
 use Rattle.wp_model.specs.Batch.{Record}
 use Rattle.wp_model.specs.Trace.{Trace}
 use Rattle.wp_model.specs.Attempts.{Attempt, WriteStatus, succeeded, with_attempt}
@@ -11,6 +12,15 @@ use Rattle.wp_model.specs.Calls.{Command, Reply, Call}
 use Rattle.wp_model.specs.Outcomes.{IsLegalTranscript}
 use Rattle.wp_rows.specs.Examples.{plain}
 use Rattle.wp_rows.specs.Runs.{one_client}
+
+pub some_same : {A : Type 0} {a b : A} → Some a ≡ Some b → a ≡ b
+some_same e = cc
+
+-- what holds of all elements holds of the one at a place
+pub all_at : {A : Type 0} (P : A → Type 0) (xs : List A) (i : ℕ) (x : A) → AllByRecursion P xs → slice_get xs i ≡ Some x → P x
+all_at P [] i x a there = absurd (cc)
+all_at P (y ∷ xs) zero x a there = subst P (some_same there) a.0
+all_at P (y ∷ xs) (suc i) x a there = all_at P xs i x a.1 there
 
 -- a list of one has its element at the place 0 alone
 first_only : {A : Type 0} (x y : A) (i : ℕ) → slice_get (x ∷ []) i ≡ Some y → (i ≡ 0) × (x ≡ y)

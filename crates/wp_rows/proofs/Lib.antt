@@ -1,4 +1,10 @@
 pub mod Alone
+pub mod Full
+pub mod LaterStop
 pub mod Legal
+pub mod NoLook
+pub mod OwnGroups
 pub mod Stale
+pub mod Steps
+pub mod Waits
 pub mod WholeLogs

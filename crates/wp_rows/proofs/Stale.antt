@@ -1,45 +1,42 @@
--- A read of an older map than the client was shown.
-use Rattle.std.proofs.Common.{◌≡◌, ℕ, ◌≤◌, List, [], ◌∷◌, fold, refl, ◌∙◌, Some, None, arith, ap, max, Option, MatchOption}
-use Rattle.std.proofs.lemmas.List.Sums.{fold-append}
-use Rattle.wp_model.specs.declared.write.WriteOptions.{WriteOptions}
-use Rattle.wp_model.specs.declared.write.Refusal.{Refusal}
-use Rattle.wp_model.specs.Batch.{Record}
-use Rattle.wp_model.specs.Calls.{Command, Reply, quiet, accepted, refused, no_memory, Call}
-use Rattle.wp_model.specs.Trace.{Trace}
-use Rattle.wp_model.specs.Tokens.{holds_stop}
-use Rattle.wp_model.specs.Replies.{IsAttempted, Stays}
-use Rattle.wp_model.specs.Progress.{Progress, fresh, early_refusal}
-use Rattle.wp_model.specs.Runs.{Run, IsTranscript, whole, cut_off}
+-- Reads of older maps than the client was shown, and runs below what it was shown.
+use Rattle.std.proofs.Common.{◌≡◌, ℕ, ◌≤◌, Option, List, [], ◌∷◌, refl, arith, ap}
+use Rattle.wp_model.specs.Trace.{Trace, Settings}
+use Rattle.wp_model.specs.Progress.{Progress, fresh}
+use Rattle.wp_model.specs.Runs.{Run}
 use Rattle.wp_model.specs.Outcomes.{IsLegal}
-use Rattle.wp_rows.specs.Examples.{put_a2, plain}
-use Rattle.wp_rows.specs.Runs.{one_client, stale_script, stale_calls, stale_read}
-
--- what a client was shown after an `ok`
-accepted_shows : (trace : Trace) (client : ℕ) (p : Progress) (how : WriteOptions) (a b : ℕ) (own : List Record) (q : Progress) (o : Option Refusal)
-    → MatchOption o (IsAttempted trace client p how (accepted a b own) q) (λ why. (accepted a b own ≡ refused why) × Stays p q) → b ≤ q.seen_up_to
-accepted_shows trace client p how a b own q None s = let e : q.seen_up_to ≡ max p.seen_up_to b = ap (λ (x : Progress). x.seen_up_to) s.after in omega (arith, e)
-accepted_shows trace client p how a b own q (Some why) s = absurd (cc s.0)
+use Rattle.wp_rows.specs.Examples.{put_a1, put_a2, plain}
+use Rattle.wp_rows.specs.Runs.{one_client, two_clients, adds, commits, reads, stale_script, stale_calls, stale_read, early_script, early_calls, read_ahead, crossing_script, crossing_calls, run_below_what_was_read}
+use Rattle.wp_rows.proofs.Steps.{run_of, is_accepted}
 
 -- the calls run in no trace, whatever the client knew of the controller
 no_run : (trace : Trace) (end : Progress) → Run one_client trace 1 fresh stale_calls end → ⊥
 no_run trace end run =
     let before = run.2.2.0 in
     let after = run.2.2.2.0 in
-    let shown_two : 2 ≤ after.seen_up_to = accepted_shows trace 1 before plain 2 2 (put_a2 ∷ []) after (early_refusal 16777216 (holds_stop before.asked) before.pending plain) run.2.2.2.1.replies in
+    let shown : after.seen_up_to ≡ _ = ap (λ (x : Progress). x.seen_up_to) (is_accepted one_client trace 1 before plain 2 2 (put_a2 ∷ []) after run.2.2.2.1.replies).after in
     let below : after.seen_up_to ≤ 1 = run.2.2.2.2.1.replies.not_below in
     absurd (omega arith)
-
--- the last reply of some calls
-abbrev last_reply : List Call → Reply
-last_reply calls = fold (λ (r : Reply) (c : Call). c.reply) quiet calls
-
--- a transcript that a want of memory cut off ends in that reply
-no_transcript : (trace : Trace) (commands : List Command) (end : Progress) → IsTranscript one_client trace 1 commands stale_calls end → ⊥
-no_transcript trace commands end (whole same run) = no_run trace end run
-no_transcript trace commands end (cut_off front last rest split same run lacks) =
-    let ends : last_reply stale_calls ≡ no_memory = ap last_reply split ∙ fold-append (λ (r : Reply) (c : Call). c.reply) quiet front _ in absurd (cc ends)
 
 -- no trace has the outcome
 pub not_legal : (ended : ℕ) → IsLegal one_client ended stale_script stale_read → ⊥
 not_legal ended legal =
-    let one = legal.legal.each 0 _ _ refl refl in no_transcript legal.trace _ one.2.end one.2.is_transcript
+    let one = legal.legal.each 0 _ _ refl refl in
+    no_run legal.trace one.2.end (run_of one_client legal.trace 1 _ stale_calls one.2.end (λ e. cc) one.2.is_transcript)
+
+-- after a read at 1 or above no run begins at 1
+no_run_behind : (settings : Settings) (trace : Trace) (key : List ℕ) (at : ℕ) (v : Option (List ℕ)) (end : Progress) → 1 ≤ at → Run settings trace 1 fresh (reads key at v ∷ adds put_a1 ∷ commits 1 put_a1 ∷ []) end → ⊥
+no_run_behind settings trace key at v end some run =
+    let read : run.0.seen_up_to ≡ at = ap (λ (x : Progress). x.seen_up_to) run.1.replies.after in
+    let added : run.2.0.seen_up_to ≡ run.0.seen_up_to = ap (λ (x : Progress). x.seen_up_to) run.2.1.replies in
+    let above = (is_accepted settings trace 1 run.2.0 plain 1 1 (put_a1 ∷ []) run.2.2.0 run.2.2.1.replies).above in
+    absurd (omega (arith, some, read, added, above))
+
+pub not_ahead : (ended : ℕ) → IsLegal one_client ended early_script read_ahead → ⊥
+not_ahead ended legal =
+    let one = legal.legal.each 0 _ _ refl refl in
+    no_run_behind one_client legal.trace _ _ _ one.2.end (omega arith) (run_of one_client legal.trace 1 _ early_calls one.2.end (λ e. cc) one.2.is_transcript)
+
+pub not_below_what_was_read : (ended : ℕ) → IsLegal two_clients ended crossing_script run_below_what_was_read → ⊥
+not_below_what_was_read ended legal =
+    let one = legal.legal.each 0 _ _ refl refl in
+    no_run_behind two_clients legal.trace _ _ _ one.2.end (omega arith) (run_of two_clients legal.trace 1 _ crossing_calls one.2.end (λ e. cc) one.2.is_transcript)

@@ -1,5 +1,5 @@
 -- What the examples are made of.
-use Rattle.std.specs.Prelude.{ℕ, false, codes, Result, Err}
+use Rattle.std.specs.Prelude.{ℕ, true, false, codes, Result, Err}
 use Rattle.wp_model.specs.declared.script.ScriptFault.{ScriptFault}
 use Rattle.wp_model.specs.declared.write.WriteOptions.{WriteOptions}
 use Rattle.wp_model.specs.declared.group.Item.{Item}
@@ -19,6 +19,10 @@ put_b2 = value (codes "b") (codes "2")
 -- a commit without flags
 abbrev pub plain : WriteOptions
 plain = record { sync = false; no_log = false; no_slowdown = false }
+
+-- one that may not wait
+abbrev pub noslow : WriteOptions
+noslow = record plain { no_slowdown = true }
 
 -- a write of so many bytes without flags
 abbrev pub sized : ℕ → Item

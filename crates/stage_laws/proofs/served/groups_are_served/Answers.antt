@@ -1,4 +1,4 @@
-use Rattle.std.proofs.Common.{[], ◌++◌, refl, sym, ap, ◌∙◌, subst, append-nil}
+use Rattle.std.proofs.Common.{◌++◌, refl, sym, ap, ◌∙◌, subst, append-nil}
 use Rattle.group_rule.specs.Plans.{all_failed, all_held_up, planned}
 use Rattle.stage_laws.specs.Served.{AreServed, accepted_of}
 use Rattle.stage_laws.proofs.Serving.{accepted_append, consistent_served, none_failed, none_held_up, served_end, served_more}

@@ -40,9 +40,11 @@ AreLost group_bytes attempts fault last lost =
     MatchOption fault (lost ≡ [])
     (λ count. (c : GroupCall) × (lost ≡ c ∷ []) × IsLostCall group_bytes attempts count last c)
 
--- `wrote` says that a log came to be by these calls. No call's entries have another one's between them, logged or not.
-pub record WritesLog {L : Type 0} (group_bytes : ℕ) (wrote : List GroupCall → L → Type 0) (trace : Trace)
-    (attempts : List (List Attempt)) (fault : Option ℕ) (log : L) : Type 0 where
+-- How a log was written, where `wrote` says that it came to be by some calls: one call for each group of the logged
+-- entries, in their order, and where the log has a fault one that failed, behind all others. No call's entries have
+-- another one's between them, logged or not.
+pub record WritesLog (group_bytes : ℕ) (wrote : List GroupCall → Type 0) (trace : Trace)
+    (attempts : List (List Attempt)) (fault : Option ℕ) : Type 0 where
   pub parts : List (List Entry)
   pub calls : List GroupCall
   pub lost : List GroupCall
@@ -50,7 +52,7 @@ pub record WritesLog {L : Type 0} (group_bytes : ℕ) (wrote : List GroupCall �
   pub runs : AllByRecursion RunsFollow parts
   pub each : AllZip WroteEntries parts calls
   pub none_else : AreLost group_bytes attempts fault (last_sequence trace.start trace.entries) lost
-  pub by : wrote (calls ++ lost) log
+  pub by : wrote (calls ++ lost)
 
 -- The call wrote this batch, under the run from this sequence on, and synced.
 pub record IsSynced (first : ℕ) (records : List Record) (c : GroupCall) : Type 0 where
@@ -62,7 +64,7 @@ pub record IsSynced (first : ℕ) (records : List Record) (c : GroupCall) : Type
   pub ok : c.failed ≡ None
 
 -- one of the calls did
-pub record HaveSynced (first : ℕ) (records : List Record) (calls : List GroupCall) : Type 0 where
+pub record IsSyncedBy (first : ℕ) (records : List Record) (calls : List GroupCall) : Type 0 where
   pub front : List GroupCall
   pub call : GroupCall
   pub rest : List GroupCall
