@@ -1,12 +1,13 @@
 -- What a client's seat knows of a table and has to do there, as callers see it.
-use Rattle.std.specs.Prelude.{◌≡◌, ℕ, List, [], ◌∷◌, ◌++◌, length, Option, None, Some}
+use Rattle.std.specs.Prelude.{◌≡◌, ℕ, ◌<◌, ◌≤◌, List, [], ◌∷◌, ◌++◌, length, Option, None, Some}
 use Rattle.table_rule.specs.declared.content.MemberVersions.{MemberVersions}
 use Rattle.table_rule.specs.declared.content.Version.{Version}
 use Rattle.table_rule.specs.declared.view.Launched.{Launched}
 use Rattle.table_rule.specs.declared.view.Opening.{Opening}
 use Rattle.table_rule.specs.declared.view.Stage.{Stage}
 use Rattle.table_rule.specs.declared.view.Stage.TheVariants.{Idle, Waiting, Holding, Publishing}
-use Rattle.table_rule.specs.Histories.{In, Begins, IsHistory}
+use Rattle.table_rule.specs.Events.{IsMember}
+use Rattle.table_rule.specs.Histories.{In, Apart, Begins, IsHistory}
 use Rattle.table_rule.specs.Steps.{work, launched_behind, IsPartOf, IsAwaited}
 use Rattle.table_calls.specs.declared.finished.Finished.{Finished}
 use Rattle.table_calls.specs.declared.finished.Finished.TheVariants.{Last, Others}
@@ -36,12 +37,13 @@ pub record Steps (before : Account) (stage : Stage) (after : Account) : Type 0 w
   pub stage_is : after.stage ≡ stage
   pub launched : after.launched ≡ before.launched
 
--- It launched a group behind a history, and is to take its own part of it.
+-- It launched a group behind a history. It is to take its own part of it, and without one it has none to wait for.
 pub record Launches (start : ℕ) (before : Account) (history : List (List MemberVersions)) (group : List MemberVersions)
     (after : Account) : Type 0 where
   pub number : after.number ≡ before.number
   pub seen : after.seen ≡ before.seen
-  pub stage_is : after.stage ≡ Waiting (launched_behind start history group)
+  pub own_part : IsMember before.number group → after.stage ≡ Waiting (launched_behind start history group)
+  pub no_part : Apart before.number group → after.stage ≡ Idle
   pub launched_is : after.launched ≡ Some (launched_behind start history group)
 
 -- It took its own part of a launched group, which is the one that it waited for, if it launched one.
@@ -51,10 +53,23 @@ pub record Takes (opening : Opening) (before : Account) (versions : List Version
   pub own_part : IsPartOf opening before.number before.seen launched versions
   pub awaited : IsAwaited before.stage launched
 
--- It finished its part. Where it was the last it may publish the group once.
-abbrev pub Counts : Account → Launched → Finished → Account → Type 0
-Counts before launched Last after = Steps before (Publishing launched) after
-Counts before launched Others after = Steps before Idle after
+-- a member is told that it was the last just where it found no other one running
+abbrev pub IsTold : ℕ → Finished → Type 0
+IsTold found Last = found ≡ 1
+IsTold found Others = 1 < found
+
+-- the last one may publish the group, once
+abbrev pub after_finish : Launched → Finished → Stage
+after_finish launched Last = Publishing launched
+after_finish launched Others = Idle
+
+-- It finished its part.
+pub record Counts (before : Account) (launched : Launched) (finished : Finished) (after : Account) : Type 0 where
+  -- how many members of the group were running before, itself among them
+  pub found : ℕ
+  pub within : found ≤ length launched.group
+  pub told : IsTold found finished
+  pub steps : Steps before (after_finish launched finished) after
 
 -- It published the group, and has seen it behind the history before.
 pub record Publishes (start : ℕ) (before : Account) (launched : Launched) (after : Account) : Type 0 where

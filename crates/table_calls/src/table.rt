@@ -1,5 +1,5 @@
 //! The calls.
-ghost use Rattle.std.specs.Prelude.{◌≡◌, ℕ, ◌<◌, ◌≤◌, ◌^◌, List, [], ◌∷◌, ◌++◌, length, None, Some, map, IfOk};
+ghost use Rattle.std.specs.Prelude.{◌≡◌, ℕ, ◌<◌, ◌≤◌, ◌^◌, List, [], ◌∷◌, ◌++◌, None, Some, map, IfOk};
 ghost use Rattle.wp_model.specs.Map.{rows_within};
 ghost use Rattle.wp_coding.specs.Answers.{found_value};
 ghost use Rattle.table_rule.specs.declared.content.MemberVersions.{MemberVersions};
@@ -8,7 +8,6 @@ ghost use Rattle.table_rule.specs.declared.view.Stage.TheVariants.{Idle, Holding
 ghost use Rattle.table_rule.specs.Histories.{In, last_of, map_after, value_in};
 ghost use Rattle.table_rule.specs.Rule.{end_of};
 ghost use Rattle.table_rule.specs.Steps.{IsNext, MayTake, work};
-ghost use Rattle.table_calls.specs.declared.finished.Finished.TheVariants.{Last};
 ghost use Rattle.table_calls.specs.Account.{Account, Learns, Launches, Takes, Steps, Counts, Publishes, IsReady, IsClosing};
 
 use crate::finished::Finished;
@@ -114,15 +113,13 @@ pub trait Table<N: Versioned, P: GroupParts<N>> {
         ensures rows { IfOk result (λ rows. rows.rows ≡ rows_within lo.now hi.now
             (map_after (account seat.new).seen)) };
 
-    /// Launches a group, of which the client is a member, and hands each member its nodes: each takes its own part next,
-    /// by its own seat. The seat of the client that launches keeps the turn until `await_published`.
+    /// Launches a group, and hands each member its nodes: each takes its own part next, by its own seat. The client that
+    /// launches needn't have a part. Its seat keeps the turn until `await_published`.
     fn launch(&self, seat: &mut Self::Seat, turn: Self::Turn, parts: &mut P)
         requires ours { ours self.now seat.old × our_turn self.now turn }
         requires ready { IsReady (account seat.old) }
         requires next { IsNext (opening self.now) (history turn) (P.parts parts.old) }
         requires fits { end_of (last_of (opening self.now).start (history turn)) (P.parts parts.old) < 2 ^ 64 }
-        requires member { (part : MemberVersions) × In part (P.parts parts.old)
-            × (part.member ≡ (account seat.old).number) }
         ensures ours { ours self.now seat.new }
         ensures launched { Launches (opening self.now).start (account seat.old) (history turn) (P.parts parts.old)
             (account seat.new) }
@@ -144,15 +141,13 @@ pub trait Table<N: Versioned, P: GroupParts<N>> {
         ensures stored { (u : Launched) → (account seat.old).stage ≡ Holding (work u [] (versions part))
             → Steps (account seat.old) (Stored u) (account seat.new) };
 
-    /// The client's part is finished. A group's only member is the last to finish.
+    /// The client's part is finished. Just who finds no other member running is the last of the group.
     fn finish(&self, seat: &mut Self::Seat) -> Finished
         requires ours { ours self.now seat.old }
         requires stored { (u : Launched) × ((account seat.old).stage ≡ Stored u) }
         ensures ours { ours self.now seat.new }
         ensures counted { (u : Launched) → (account seat.old).stage ≡ Stored u
-            → Counts (account seat.old) u result (account seat.new) }
-        ensures only_member { (u : Launched) → (account seat.old).stage ≡ Stored u → length u.group ≡ 1
-            → result ≡ Last };
+            → Counts (account seat.old) u result (account seat.new) };
 
     /// Publishes the group, of which this client finished last. The client has then seen it.
     fn publish(&self, seat: &mut Self::Seat)

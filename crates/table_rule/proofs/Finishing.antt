@@ -1,9 +1,10 @@
 -- Who counts down, who publishes, and who launches.
-use Rattle.std.proofs.Common.{◌≡◌, ◌≢◌, ℕ, zero, suc, ◌+◌, ◌-◌, ◌^◌, ◌%◌, ◌<◌, ◌≤◌, ◌⊎◌, List, [], ◌∷◌, ◌++◌, length, get_or, set, refl, sym, ap, ◌∙◌, subst, inl, inr, ⊎_elim, arith, append-nil, length-set, get_or-set_other, get_or-set_same}
+use Rattle.std.proofs.Common.{◌≡◌, ◌≢◌, ℕ, zero, suc, ◌+◌, ◌-◌, ◌^◌, ◌%◌, ◌<◌, ◌≤◌, ◌⊎◌, List, [], ◌∷◌, ◌++◌, length, get_or, set, refl, sym, ap, ◌∙◌, subst, inl, inr, ⊎_elim, cond, arith, length-set, get_or-set_other, get_or-set_same}
 use mathlib.Core.Logic.{dite}
 use mathlib.Core.Option.{none, some}
 use native.Mathlib.Decide.{ℕ_discrete}
 use lib.ListN.{get_elem?}
+use Rattle.std.proofs.lemmas.List.Sums.{sum_by-cons}
 use Rattle.atomic_table.specs.Table.{step, keeps, Allows}
 use Rattle.table_rule.specs.declared.content.Version.{Version}
 use Rattle.table_rule.specs.declared.content.MemberVersions.{MemberVersions}
@@ -13,17 +14,17 @@ use Rattle.table_rule.specs.declared.view.Launched.{Launched}
 use Rattle.table_rule.specs.declared.view.Lock.TheVariants.{Free}
 use Rattle.table_rule.specs.declared.view.Stage.{Stage}
 use Rattle.table_rule.specs.declared.view.Stage.TheVariants.{Idle, Waiting, Holding, Stored, Publishing, Resting, Handing, Filling}
-use Rattle.table_rule.specs.Histories.{In, versions_in, versions_of, Runs, last_of, Begins, Apart, Members, AreSome, IsHistory}
-use Rattle.table_rule.specs.Rule.{Place, out, coming, filling, handed, busy, inserted, finished, ShardState, Mode, still, running, ended, stored_in, InPart, NotTaken, IsComing, open_part, unfinished, AllParts, AllFinished, AllComing, end_of, IsLaunched, IsRunning, InMode, KnowsLock, Knows, seat_state, InPlace}
-use Rattle.table_rule.specs.Steps.{SeatNow, IsAt, IsWithTurn, launched_behind}
+use Rattle.table_rule.specs.Histories.{In, versions_in, versions_of, Runs, last_of, Begins, Apart, AreSome, IsHistory}
+use Rattle.table_rule.specs.Rule.{Place, out, coming, filling, handed, busy, inserted, finished, ShardState, Mode, still, running, ended, stored_in, InPart, NotTaken, IsComing, open_part, unfinished, AllParts, AllFinished, end_of, IsLaunched, InMode, KnowsLock, Knows, seat_state, InPlace}
+use Rattle.table_rule.specs.Steps.{SeatNow, IsAt}
 use Rattle.table_rule.proofs.Puts.{put, put_at, put_here}
-use Rattle.table_rule.proofs.Histories.{in_left, in_right, in_split, begins_same, begins_more, versions_snoc, last_snoc}
-use Rattle.table_rule.proofs.Parts.{IsOpen, part_at}
-use Rattle.table_rule.proofs.Moves.{TableState, Homes, shard_stays, place_stays, moved, all_moved, Goes, unmoved, same_now, allows, progress_moves}
-use Rattle.table_rule.specs.Events.{TableNow, table_now, progress_of, to_insert, to_finish, is_finished, Stays, OnlyMember, IsLaunch, IsFinish, IsPublish, now_of, IsNow, Comes, StepIs}
-use Rattle.table_rule.specs.Steps.{launched, counted, ending, publishes, awaited}
-use Rattle.table_rule.proofs.Locks.{one, own, launched_in, IsWithMember, loaded, Rule, knows_member}
-use Rattle.table_rule.proofs.Parts.{all_done, open_mode, one_less, none_open, in_group, placed, placed_out, placed_is, placed_coming, coming_at, coming_parts, coming_open, parts_put, fit_put, finished_at, finished_parts, stored_group}
+use Rattle.table_rule.proofs.Histories.{in_left, in_right, in_split, begins_same, versions_snoc, last_snoc}
+use Rattle.table_rule.proofs.Parts.{IsOpen}
+use Rattle.table_rule.proofs.Moves.{TableState, Homes, shard_stays, place_stays, moved, allows, progress_moves}
+use Rattle.table_rule.specs.Events.{table_now, progress_of, is_running, count_running, to_finish, is_finished, OnlyMember, IsFinish, IsPublish, now_of, IsNow, Comes, StepIs}
+use Rattle.table_rule.specs.Steps.{counted, ending, publishes}
+use Rattle.table_rule.proofs.Locks.{own, launched_in, IsWithMember, Rule, knows_member}
+use Rattle.table_rule.proofs.Parts.{all_done, one_less, none_open, in_group, parts_put, fit_put, finished_at, finished_parts, stored_group}
 use Rattle.table_rule.proofs.Histories.{some_snoc, runs_append, member_or}
 use Rattle.table_rule.proofs.Handing.{keys_stay}
 
@@ -132,6 +133,20 @@ module _ {T N : Type 0} (held_by : T → List Version) (nodes_of : N → List Ve
       at_most (inserted l vs) = omega arith
       at_most (finished l vs) = omega arith
 
+  open_running : (place : ℕ → Place) (g : List MemberVersions) → unfinished place g ≡ count_running (λ i. progress_of (place i)) g
+  open_running place [] = refl
+  open_running place (p ∷ ps) = let a = as_open (place p.member) in let b = open_running place ps in
+      let c = sum_by-cons (λ (q : MemberVersions). cond (is_running (progress_of (place q.member))) 1 0) p ps in omega arith
+    where
+      as_open : (x : Place) → open_part x ≡ cond (is_running (progress_of x)) 1 0
+      as_open out = refl
+      as_open (coming l vs) = refl
+      as_open (filling l vs) = refl
+      as_open (handed l vs) = refl
+      as_open (busy l d m) = refl
+      as_open (inserted l vs) = refl
+      as_open (finished l vs) = refl
+
   -- the fetch-sub of RUNNING
   pub counts_is : (slots id : ℕ) (me : SeatNow T N) (c k : ℕ) (seen : List (List MemberVersions)) (u : Launched) → k ≡ z.shards + 1 → IsAt c z seen Free (Stored u) me → StepIs held_by nodes_of (IsFinish c) z slots id me k (λ n. (n + (2 ^ 64 - 1)) % 2 ^ 64) (counted (step slots k 1 0 none) me)
   counts_is slots id me c k seen u is mid s r long at fits =
@@ -164,14 +179,14 @@ module _ {T N : Type 0} (held_by : T → List Version) (nodes_of : N → List Ve
       let none_left : unfinished place g ≡ 0 = omega arith in
       let all = none_open place (end_of last g) g none_left parts in (
         table_now r.published (ended c g) place,
-        (g, running_now, p, (was.0, was.1, was.2, was.3), (λ _. (refl, λ q h. ap progress_of (finished_at place (end_of last g) g q all h))), (λ ne. absurd (ne e))),
+        (g, running_now, p, x_open ∙ open_running r.place g, (was.0, was.1, was.2, was.3), (λ _. (refl, λ q h. ap progress_of (finished_at place (end_of last g) g q all h))), (λ ne. absurd (ne e))),
         counts_to s r c l vs now g running_now x y id h h' (ended c g) at' refl refl refl refl refl (y_is ∙ none_left, all, fit')
             (subst (λ (i : ℕ). Knows z.shards z.start r.published (ended c g) place r.lock c seen (ending u i)) (sym e) (subst NotTaken (sym (put_here r.place c (finished l vs))) tt, refl, fit.5.1.1))
             (λ j ne. knows_ended r.published r.mode place r.lock g c j running_now (all_gone z.clients y place last g all fit')),
       ))
       (λ (ne : x ≢ 1). (
         table_now r.published r.mode place,
-        (g, running_now, p, (was.0, was.1, was.2, was.3), (λ e. absurd (ne e)), (λ _. refl)),
+        (g, running_now, p, x_open ∙ open_running r.place g, (was.0, was.1, was.2, was.3), (λ e. absurd (ne e)), (λ _. refl)),
         counts_to s r c l vs now g running_now x y id h h' r.mode at' refl refl refl refl refl (subst (InMode z.clients y place last) (sym running_now) (y_is, (omega arith), parts, fit'))
             (subst (Knows z.shards z.start r.published r.mode place r.lock c seen) (sym (others_end u x ne)) (subst NotTaken (sym (put_here r.place c (finished l vs))) tt))
             (λ j ne seen st ok. ok),
@@ -183,7 +198,8 @@ module _ {T N : Type 0} (held_by : T → List Version) (nodes_of : N → List Ve
         λ c' z' seen' u' mid'. let e = sym mid ∙ mid' in let u_is : u ≡ u' = ap (λ w. launched_in u (own w).stage) e in (
           (λ i. seat_state (own (e i)).client (own (e i)).opening (own (e i)).seen (own (e i)).lock (ending (u_is i) x) ∷ []),
           refl,
-          λ alone. let few = few_open r.place g in let one_member : length g ≡ 1 = ap (λ (v : Launched). length v.group) u_is ∙ alone in omega arith,
+          low,
+          let few = few_open r.place g in subst (λ (v : Launched). x ≤ length v.group) u_is (omega arith),
         ),
       )
     where
@@ -294,211 +310,3 @@ module _ {T N : Type 0} (held_by : T → List Version) (nodes_of : N → List Ve
 
   pub publishes_all : (slots id : ℕ) (me : SeatNow T N) (c k : ℕ) (seen : List (List MemberVersions)) (u : Launched) (l : ℕ) → l ≡ u.last → k ≡ z.shards → IsAt c z seen Free (Publishing u) me → Allows (Rule held_by nodes_of z) slots id me k (λ _. l) (λ _. publishes (step slots k l 0 none) me l)
   publishes_all slots id me c k seen u l l_is is mid = allows held_by nodes_of (λ _. IsPublish c) z slots id me k (λ _. l) (λ _. publishes (step slots k l 0 none) me l) (publishes_is slots id me c k seen u l l_is is mid)
-
-  -- the view of a client and of the turn, when the group g is launched
-  begun : List MemberVersions → List SeatState → List SeatState
-  begun g [] = []
-  begun g (h ∷ []) = []
-  begun g (h ∷ t ∷ ts) = seat_state h.client h.opening h.seen h.lock (Waiting (launched_behind t.opening.start t.seen g)) ∷ seat_state t.client t.opening t.seen t.lock (Handing g g) ∷ []
-
-  -- nothing is launched: what the clients know while the turn launches
-  knows_launched : (published : List (List MemberVersions)) (place place' : ℕ → Place) (lock : ℕ → ShardState) (g : List MemberVersions) (mode : Mode) (k : ℕ) → k ≢ 0 → mode ≡ still → ((i : ℕ) → place i ≡ out) → ((i : ℕ) → NotTaken (place' i)) → (seen : List (List MemberVersions)) (st : Stage)
-      → Knows z.shards z.start published mode place lock k seen st → Knows z.shards z.start published (running g) place' lock k seen st
-  knows_launched published place place' lock g mode k ne is nobody free seen Idle ok = free k
-  knows_launched published place place' lock g mode k ne is nobody free seen (Waiting u) ok = absurd (subst IsComing (nobody k) ok.0)
-  knows_launched published place place' lock g mode k ne is nobody free seen (Holding w) ok = absurd (subst IsOpen (sym ok.0 ∙ nobody k) tt)
-  knows_launched published place place' lock g mode k ne is nobody free seen (Stored u) ok = absurd (subst IsOpen (sym ok.0.1 ∙ nobody k) tt)
-  knows_launched published place place' lock g mode k ne is nobody free seen (Publishing u) ok = let bad : still ≡ ended k u.group = sym is ∙ ok.1 in absurd (cc)
-  knows_launched published place place' lock g mode k ne is nobody free seen Resting ok = absurd (ne ok.0)
-  knows_launched published place place' lock g mode k ne is nobody free seen (Handing h []) ok = absurd (ne ok.0)
-  knows_launched published place place' lock g mode k ne is nobody free seen (Handing h (p ∷ ps)) ok = absurd (ne ok.0)
-  knows_launched published place place' lock g mode k ne is nobody free seen (Filling h p ps) ok = absurd (ne ok.0)
-
-  -- the store of RUNNING, by a member that has the turn
-  pub launches_is : (slots id : ℕ) (me : SeatNow T N) (c k x : ℕ) (own_seen seen : List (List MemberVersions)) (g : List MemberVersions) → k ≡ z.shards + 1 → x ≡ length g → 0 < c → (p : MemberVersions) × In p g × (p.member ≡ c) → IsWithTurn c z own_seen Idle seen Resting me
-      → Runs (last_of z.start seen) (versions_in g) → 0 < length (versions_in g) → Members z.clients g → StepIs held_by nodes_of (λ _. IsLaunch g) z slots id me k (λ _. x) (λ _. launched g (step slots k x 0 none) me x)
-  unfolding begun
-  launches_is slots id me c k x own_seen seen g is count low member mid run nonempty members s r long at fits =
-      let h : SeatState = seat_state c z own_seen Free Idle in
-      let t : SeatState = seat_state 0 z seen Free Resting in
-      let at' : get_elem? s.views id ≡ some (h ∷ t ∷ []) = at ∙ ap some mid in
-      let fits = r.seats id (h ∷ t ∷ []) at' in
-      let own_fit = fits.0 in
-      let fit = fits.1.0 in
-      let last : ℕ = last_of z.start r.published in
-      let end : ℕ = end_of last g in
-      let ok = subst (InMode z.clients (get_or s.words (z.shards + 1) 0) r.place last) fit.5.1 r.mode_is in
-      let place : ℕ → Place = placed end g in
-      let come : AllComing place end g = placed_coming z.clients end g members in
-      let u : Launched = launched_behind z.start seen g in
-      let h' : SeatState = seat_state c z own_seen Free (Waiting u) in
-      let t' : SeatState = seat_state 0 z seen Free (Handing g g) in
-      let ws : List ℕ = set s.words (z.shards + 1) x in
-      let w : (i : ℕ) → i ≢ z.shards + 1 → get_or ws i 0 ≡ get_or s.words i 0 = λ i ne. get_or-set_other s.words (z.shards + 1) i x 0 (λ e. ne (omega arith)) in
-      let wide : length s.words ≡ z.shards + 2 + z.clients = r.wide in
-      let run' : Runs last (versions_in g) = subst (λ (l : List (List MemberVersions)). Runs (last_of z.start l) (versions_in g)) (sym fit.5.2) run in
-      let nothing : (i : ℕ) (v : Version) → In v (stored_in (r.place i)) → ⊥ = λ i v h. subst (λ (p : Place). In v (stored_in p)) (ok.1 i) h in
-      let mine : IsComing (place c) = subst (λ (i : ℕ). IsComing (place i)) member.2 (subst IsComing (sym (coming_at place end g member.0 come member.1)) tt) in
-      let rule : IsNow held_by nodes_of z (table_now r.published (running g) place) (record { words = ws; homes = s.homes; views = set s.views id (h' ∷ t' ∷ []) }) = all_moved held_by nodes_of z s r id ws s.homes (h ∷ t ∷ []) (h' ∷ t' ∷ []) r.published (running g) place r.lock record {
-        sits = at';
-        wide = length-set s.words (z.shards + 1) x;
-        many = refl;
-        last_is = w z.shards (λ e. omega arith) ∙ r.last_is;
-        runs = r.runs;
-        some_each = r.some_each;
-        shards_are = λ i lt o. shard_stays held_by nodes_of s.words ws s.homes s.homes z.shards i (w i (λ e. omega arith)) refl (r.lock i) o;
-        rows = λ i lo _ o. row_in ws s.homes i end (place i) (placed_is end g i) (subst (InPlace held_by nodes_of z.shards ws s.homes i) (ok.1 i) (place_stays held_by nodes_of s.words ws s.homes s.homes z.shards i (w (z.shards + 1 + i) (λ e. omega arith)) refl (r.place i) o));
-        mode_is = (get_or-set_same s.words (z.shards + 1) x 0 (omega arith) ∙ (count ∙ sym (coming_open place end g come)), subst (λ (i : ℕ). 0 < i) (sym (get_or-set_same s.words (z.shards + 1) x 0 (omega arith) ∙ count)) (some_part g nonempty), coming_parts place end g come, (run', nonempty, members, placed_out end g));
-        sound = λ j v lt h. let o = r.sound j v lt h in (o.0, ⊎_elim (λ (a : In v (versions_of r.published)). inl a) (λ (b : (i : ℕ) × In v (stored_in (r.place i))). absurd (nothing b.0 v b.1)) o.1);
-        complete = r.complete;
-        stored = λ i v h. absurd (none_in end (place i) (placed_is end g i) v h);
-        grows = begins_same r.published;
-        fit = (
-          (own_fit.0, own_fit.1, own_fit.2, own_fit.3, tt, (mine, (refl, (fit.5.2, ap (λ (b : List (List MemberVersions)). end_of (last_of z.start b) g) (sym fit.5.2))))),
-          ((fit.0, fit.1, fit.2, fit.3, tt, starts g g come refl fit.5.2), tt),
-        );
-        others_lock = λ j _ x. keys_stay held_by nodes_of z r.published r.published r.mode (running g) r.place place r.lock j x;
-        others = λ j ne. knows_launched r.published r.place place r.lock g r.mode j (λ e. ne (ap r.seat e ∙ fit.0)) fit.5.1 ok.1 (λ i. free_in end (place i) (placed_is end g i));
-      } in (
-        h' ∷ t' ∷ [],
-        keeps,
-        tt,
-        (table_now r.published (running g) place, (fit.5.1, refl, refl, λ i. ahead_in end (place i) (placed_is end g i)), subst (λ (i : ℕ). IsNow held_by nodes_of z (table_now r.published (running g) place) (record { words = set s.words i x; homes = s.homes; views = set s.views id (h' ∷ t' ∷ []) })) (sym is) rule),
-        λ c' z' own' seen' mid'. (ap (begun g) (sym mid ∙ mid'), refl),
-      )
-    where
-      some_part : (g : List MemberVersions) → 0 < length (versions_in g) → 0 < length g
-      some_part [] lo = absurd (omega arith)
-      some_part (p ∷ ps) lo = omega arith
-
-      starts : (h ps : List MemberVersions) → AllComing (placed (end_of (last_of z.start r.published) g) g) (end_of (last_of z.start r.published) h) ps → h ≡ g → r.published ≡ seen → Knows z.shards z.start r.published (running g) (placed (end_of (last_of z.start r.published) g) g) r.lock 0 seen (Handing h ps)
-      starts h [] come e same = (refl, inl (ap running (sym e), same))
-      starts h (p ∷ ps) come e same = (refl, ap running (sym e), same, come)
-
-      row_in : (words : List ℕ) (homes : Homes held_by nodes_of) (i end : ℕ) (p : Place) → (p ≡ out) ⊎ ((vs : List Version) × (p ≡ coming end vs)) → InPlace held_by nodes_of z.shards words homes i out → InPlace held_by nodes_of z.shards words homes i p
-      row_in words homes i end p way ok = ⊎_elim
-          (λ (t : p ≡ out). subst (InPlace held_by nodes_of z.shards words homes i) (sym t) ok)
-          (λ (t : (vs : List Version) × (p ≡ coming end vs)). subst (InPlace held_by nodes_of z.shards words homes i) (sym t.1) (ok.0, ok.1))
-          way
-
-      none_in : (end : ℕ) (p : Place) → (p ≡ out) ⊎ ((vs : List Version) × (p ≡ coming end vs)) → (v : Version) → In v (stored_in p) → ⊥
-      none_in end p way v h = ⊎_elim
-          (λ (t : p ≡ out). absurd (subst (λ (x : Place). In v (stored_in x)) t h))
-          (λ (t : (vs : List Version) × (p ≡ coming end vs)). absurd (subst (λ (x : Place). In v (stored_in x)) t.1 h))
-          way
-
-      ahead_in : (end : ℕ) (p : Place) → (p ≡ out) ⊎ ((vs : List Version) × (p ≡ coming end vs)) → progress_of p ≡ to_insert
-      ahead_in end p way = ⊎_elim (λ (t : p ≡ out). ap progress_of t) (λ (t : (vs : List Version) × (p ≡ coming end vs)). ap progress_of t.1) way
-
-      free_in : (end : ℕ) (p : Place) → (p ≡ out) ⊎ ((vs : List Version) × (p ≡ coming end vs)) → NotTaken p
-      free_in end p way = ⊎_elim
-          (λ (t : p ≡ out). subst NotTaken (sym t) tt)
-          (λ (t : (vs : List Version) × (p ≡ coming end vs)). subst NotTaken (sym t.1) tt)
-          way
-
-  pub launches : (slots id : ℕ) (me : SeatNow T N) (c k x : ℕ) (own_seen seen : List (List MemberVersions)) (g : List MemberVersions) → k ≡ z.shards + 1 → x ≡ length g → 0 < c → (p : MemberVersions) × In p g × (p.member ≡ c) → IsWithTurn c z own_seen Idle seen Resting me
-      → Runs (last_of z.start seen) (versions_in g) → 0 < length (versions_in g) → Members z.clients g → Allows (Rule held_by nodes_of z) slots id me k (λ _. x) (λ _. launched g (step slots k x 0 none) me x)
-  launches slots id me c k x own_seen seen g is count low member mid run nonempty members = allows held_by nodes_of (λ _. IsLaunch g) z slots id me k (λ _. x) (λ _. launched g (step slots k x 0 none) me x) (launches_is slots id me c k x own_seen seen g is count low member mid run nonempty members)
-
-  -- the turn's load of LAST
-  module _ (slots id : ℕ) (me : SeatNow T N) (k : ℕ) (seen : List (List MemberVersions)) (g : List MemberVersions) (is : k ≡ z.shards) (mid : IsAt 0 z seen Free (Handing g []) me)
-      (s : TableState held_by nodes_of) (r : Rule held_by nodes_of z s) (at : get_elem? s.views id ≡ some me.0) where
-    abbrev found : ℕ
-    found = get_or s.words k 0
-
-    found_is : found ≡ last_of z.start r.published
-    found_is = ap (λ (i : ℕ). get_or s.words i 0) is ∙ r.last_is
-
-    same_goal : (z' : Opening) (seen' : List (List MemberVersions)) (g' : List MemberVersions) → IsAt 0 z' seen' Free (Handing g' []) me → end_of (last_of z.start seen) g ≡ end_of (last_of z'.start seen') g'
-    same_goal z' seen' g' mid' =
-        let e = sym mid ∙ mid' in
-        (λ i. end_of (last_of ((own (e i)).opening).start ((own (e i)).seen)) (group_in (own (e i)).stage))
-      where
-        group_in : Stage → List MemberVersions
-        group_in Idle = []
-        group_in (Waiting u) = []
-        group_in (Holding w) = []
-        group_in (Stored l) = []
-        group_in (Publishing l) = []
-        group_in Resting = []
-        group_in (Handing g ps) = g
-        group_in (Filling g p ps) = g
-
-    waits : r.published ≡ seen → 0 < length (versions_in g) → Goes held_by nodes_of (λ _. Stays) z s (now_of held_by nodes_of z s r) k id me (awaited (step slots k 0 0 none) me) found
-    waits same nonempty =
-        let low : found ≡ last_of z.start seen = found_is ∙ ap (last_of z.start) same in
-        let ne : found ≢ end_of (last_of z.start seen) g = λ e. omega arith in (
-          me.0,
-          keeps,
-          tt,
-          unmoved held_by nodes_of z s k id me.0 at r,
-          λ z' seen' g' mid'. ((λ hit. absurd (ne (hit ∙ sym (same_goal z' seen' g' mid')))), λ _. refl),
-        )
-
-    rests_on : SeatState → SeatState
-    rests_on x = seat_state x.client x.opening (x.seen ++ group x.stage ∷ []) x.lock Resting
-      where
-        group : Stage → List MemberVersions
-        group Idle = []
-        group (Waiting u) = []
-        group (Holding w) = []
-        group (Stored l) = []
-        group (Publishing l) = []
-        group Resting = []
-        group (Handing g ps) = g
-        group (Filling g p ps) = g
-
-    rests : r.mode ≡ still → r.published ≡ seen ++ g ∷ [] → Goes held_by nodes_of (λ _. Stays) z s (now_of held_by nodes_of z s r) k id me (awaited (step slots k 0 0 none) me) found
-    unfolding rests_on
-    rests mode_was same =
-        let h : SeatState = seat_state 0 z seen Free (Handing g []) in
-        let at' : get_elem? s.views id ≡ some (h ∷ []) = at ∙ ap some mid in
-        let h' : SeatState = seat_state 0 z (seen ++ g ∷ []) Free Resting in
-        let done : found ≡ end_of (last_of z.start seen) g = found_is ∙ (ap (last_of z.start) same ∙ last_snoc z.start seen g) in (
-          h' ∷ [],
-          keeps,
-          tt,
-          (
-            now_of held_by nodes_of z s r,
-            same_now held_by nodes_of (now_of held_by nodes_of z s r),
-            loaded held_by nodes_of z (now_of held_by nodes_of z s r) s k s.homes (set s.views id (h' ∷ [])) (moved held_by nodes_of z s r id s.words s.homes h h' r.published r.mode r.place r.lock record {
-              sits = at';
-              same_client = refl;
-              same_opening = refl;
-              wide = refl;
-              many = refl;
-              last_is = r.last_is;
-              runs = r.runs;
-              some_each = r.some_each;
-              shards_are = λ j _ ok. ok;
-              rows = λ i _ _ ok. ok;
-              mode_is = r.mode_is;
-              sound = r.sound;
-              complete = r.complete;
-              stored = r.stored;
-              seen = ([], same ∙ sym (append-nil (seen ++ g ∷ [])));
-              grows = begins_same r.published;
-              knows_lock = tt;
-              knows = (refl, mode_was, same);
-              others_lock = λ _ _ _ ok. ok;
-              others = λ _ _ _ _ ok. ok;
-            }),
-          ),
-          λ z' seen' g' mid'. ((λ _. (ap (one rests_on) (sym mid ∙ mid'), refl)), λ ne. absurd (ne (done ∙ same_goal z' seen' g' mid'))),
-        )
-
-    awaits_all : Goes held_by nodes_of (λ _. Stays) z s (now_of held_by nodes_of z s r) k id me (awaited (step slots k 0 0 none) me) found
-    awaits_all =
-        let fit = (r.seats id (seat_state 0 z seen Free (Handing g []) ∷ []) (at ∙ ap some mid)).0 in
-        ⊎_elim
-        (λ (t : (r.mode ≡ running g) × (r.published ≡ seen)). waits t.1 (subst (InMode z.clients (get_or s.words (z.shards + 1) 0) r.place (last_of z.start r.published)) t.0 r.mode_is).3.1)
-        (λ (t : ((m : ℕ) × (r.mode ≡ ended m g) × (r.published ≡ seen)) ⊎ ((r.mode ≡ still) × (r.published ≡ seen ++ g ∷ []))). ⊎_elim
-        (λ (u : (m : ℕ) × (r.mode ≡ ended m g) × (r.published ≡ seen)). waits u.2 (subst (InMode z.clients (get_or s.words (z.shards + 1) 0) r.place (last_of z.start r.published)) u.1 r.mode_is).2.1)
-        (λ (u : (r.mode ≡ still) × (r.published ≡ seen ++ g ∷ [])). rests u.0 u.1) t)
-        fit.5.1
-
-  pub awaits_is : (slots id : ℕ) (me : SeatNow T N) (k : ℕ) (seen : List (List MemberVersions)) (g : List MemberVersions) → k ≡ z.shards → IsAt 0 z seen Free (Handing g []) me → StepIs held_by nodes_of (λ _. Stays) z slots id me k (λ y. y) (awaited (step slots k 0 0 none) me)
-  awaits_is slots id me k seen g is mid s r long at fits = awaits_all slots id me k seen g is mid s r at
-
-  pub awaits : (slots id : ℕ) (me : SeatNow T N) (k : ℕ) (seen : List (List MemberVersions)) (g : List MemberVersions) → k ≡ z.shards → IsAt 0 z seen Free (Handing g []) me → Allows (Rule held_by nodes_of z) slots id me k (λ y. y) (awaited (step slots k 0 0 none) me)
-  awaits slots id me k seen g is mid = allows held_by nodes_of (λ _. Stays) z slots id me k (λ y. y) (awaited (step slots k 0 0 none) me) (awaits_is slots id me k seen g is mid)

@@ -7,8 +7,12 @@ pub mod Additions
 pub mod Locks
 pub mod Handing
 pub mod Finishing
+pub mod Launching
 pub mod Beginnings
 pub mod Answers
 pub mod Seats
 pub mod Images
+mod Teams
+mod CoreComes
+mod CoreOthers
 mod CoreLaws

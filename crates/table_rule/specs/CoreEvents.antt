@@ -1,49 +1,90 @@
 -- The events of the table as events of the write path's core.
-use Rattle.std.specs.Prelude.{◌≡◌, ◌⊎◌, ℕ, true, false, List, ◌++◌, ◌∷◌, []}
+use Rattle.std.specs.Prelude.{◌≡◌, ◌⊎◌, ℕ, ◌<◌, ◌≤◌, ◌==◌, true, false, List, [], ◌∷◌, ◌++◌, length, count_by, Option, Some, None}
+use Rattle.std.specs.List.{list_all}
+use Rattle.wp_model.specs.Batch.{Record}
+use Rattle.wp_model.specs.Calls.{Command, Reply}
 use Rattle.core_model.specs.declared.event.Event.{Event as CoreEvent}
-use Rattle.core_model.specs.Core.{Options, TablePhase, still as at_rest, launched, published as is_published, State as CoreState, table_group, among}
-use Rattle.core_model.specs.Halves.{TableHalf, TableStep}
-use Rattle.core_model.specs.Step.{is_last, group_last}
+use Rattle.core_model.specs.Core.{Options, Writer, Client, still as at_rest, launched, published as is_published, State as CoreState, client_at, next_call, run_of, table_group, among, runners, read_reply}
+use Rattle.core_model.specs.Step.{step, is_last, group_last}
 use Rattle.table_rule.specs.declared.content.MemberVersions.{MemberVersions}
+use Rattle.table_rule.specs.declared.content.Version.{Version}
+use Rattle.table_rule.specs.Batches.{made, numbered}
 use Rattle.table_rule.specs.Histories.{In, last_of}
 use Rattle.table_rule.specs.Rule.{Mode, still, running, ended}
 use Rattle.table_rule.specs.Events.{Progress, to_insert, to_finish, is_finished, TableNow}
 
--- the core has the member among those that have inserted, and among those that have finished, just as far as it is
+-- Groups
+
+-- the versions that a batch makes, from the first sequence of its run on
+abbrev pub versions_from : Option ℕ → List Record → List Version
+versions_from None records = []
+versions_from (Some first) records = numbered first (made records)
+
+-- the versions of writers, one after another
+abbrev pub versions_by : List Writer → List Version
+versions_by [] = []
+versions_by (w ∷ ws) = versions_from (run_of w.answer) w.records ++ versions_by ws
+
+-- Each part stands for the next few of the writers: it has their versions, and its own member's team are those of them
+-- that have runs.
+abbrev pub StandFor : (ℕ → List ℕ) → List MemberVersions → List Writer → Type 0
+StandFor team [] ws = ws ≡ []
+StandFor team (p ∷ parts) ws = (own others : List Writer) × (ws ≡ own ++ others) × (p.versions ≡ versions_by own)
+    × (team p.member ≡ runners own) × StandFor team parts others
+
+-- The group g, to be published behind `published`, stands in the core as the one for the table.
+pub record IsCoreGroup (start : ℕ) (o : Options) (team : ℕ → List ℕ) (s : CoreState)
+    (published : List (List MemberVersions)) (g : List MemberVersions) : Type 0 where
+  pub some : 0 < length (table_group o s)
+  pub parts : StandFor team g (table_group o s)
+  -- no client has two runs in it, and it ends at the same sequence
+  pub once : (c : ℕ) → count_by (λ n. n == c) (runners (table_group o s)) ≤ 1
+  pub ends : group_last s.last (table_group o s) ≡ last_of start (published ++ g ∷ [])
+
+-- Where the core stands
+
+-- the core has the client among those that have inserted, and among those that have finished, just as far as it is
 abbrev pub IsAsFar : List ℕ → List ℕ → ℕ → Progress → Type 0
-IsAsFar inserted finished m to_insert = (among m inserted ≡ false) × (among m finished ≡ false)
-IsAsFar inserted finished m to_finish = (among m inserted ≡ true) × (among m finished ≡ false)
-IsAsFar inserted finished m is_finished = (among m inserted ≡ true) × (among m finished ≡ true)
+IsAsFar inserted finished c to_insert = (among c inserted ≡ false) × (among c finished ≡ false)
+IsAsFar inserted finished c to_finish = (among c inserted ≡ true) × (among c finished ≡ false)
+IsAsFar inserted finished c is_finished = (among c inserted ≡ true) × (among c finished ≡ true)
 
-abbrev pub AreAsFar : List ℕ → List ℕ → TableNow → Type 0
-AreAsFar inserted finished now = (m : ℕ) → IsAsFar inserted finished m (now.progress m)
+-- each client of a team is as far as its part
+abbrev pub AreAsFar : (ℕ → List ℕ) → List ℕ → List ℕ → List MemberVersions → TableNow → Type 0
+AreAsFar team inserted finished g now = (p : MemberVersions) (c : ℕ) → In p g → among c (team p.member) ≡ true
+    → IsAsFar inserted finished c (now.progress p.member)
 
--- all members of the launched group have finished, this one last
-abbrev pub HasFinishedLast : ℕ → List MemberVersions → List ℕ → Type 0
-HasFinishedLast m g finished = (is_last m finished ≡ true)
-    × ((p : MemberVersions) → In p g → among p.member finished ≡ true)
+-- all the core's members of the group have finished, and the last of the team did last
+abbrev pub HaveFinished : List ℕ → List Writer → List ℕ → Type 0
+HaveFinished team ws finished = (list_all (λ c. among c finished) (runners ws) ≡ true)
+    × ((c : ℕ) → is_last c team ≡ true → is_last c finished ≡ true)
 
 -- A group that is published leaves the table still; the core waits for its leader's exit.
-abbrev pub IsPhase : TableNow → TablePhase → Mode → Type 0
-IsPhase now phase still = (phase ≡ at_rest) ⊎ (phase ≡ is_published)
-IsPhase now phase (running g) = (inserted finished : List ℕ) × (phase ≡ launched inserted finished)
-    × AreAsFar inserted finished now
-IsPhase now phase (ended m g) = (inserted finished : List ℕ) × (phase ≡ launched inserted finished)
-    × AreAsFar inserted finished now × HasFinishedLast m g finished
+abbrev pub IsPhase : ℕ → Options → (ℕ → List ℕ) → TableNow → CoreState → Mode → Type 0
+IsPhase start o team now s still = (s.table ≡ at_rest) ⊎ (s.table ≡ is_published)
+IsPhase start o team now s (running g) = IsCoreGroup start o team s now.published g
+    × ((inserted finished : List ℕ) × (s.table ≡ launched inserted finished)
+    × AreAsFar team inserted finished g now)
+IsPhase start o team now s (ended m g) = IsCoreGroup start o team s now.published g
+    × ((inserted finished : List ℕ) × (s.table ≡ launched inserted finished)
+    × HaveFinished (team m) (table_group o s) finished)
 
--- the core's half of the table is the table, which was opened after the sequence `start`
-abbrev pub IsTableOf : ℕ → TableNow → TableHalf → Type 0
-IsTableOf start now half = (half.last ≡ last_of start now.published) × IsPhase now half.phase now.mode
+-- the core stands where the table does, which was opened after the sequence `start`
+abbrev pub IsCoreOf : ℕ → Options → (ℕ → List ℕ) → TableNow → CoreState → Type 0
+IsCoreOf start o team now s = (s.last ≡ last_of start now.published) × IsPhase start o team now s now.mode
 
--- the event takes the core from this state to what the table is then
-abbrev pub IsEvent : ℕ → Options → CoreEvent → CoreState → TableNow → Type 0
-IsEvent start o event s now = (new : TableHalf) × TableStep o event s new × IsTableOf start now new
+-- Events
 
--- the last sequence of the core's group is that of the launched group, behind what was published
-abbrev pub EndsAs : ℕ → Options → CoreState → List (List MemberVersions) → List MemberVersions → Type 0
-EndsAs start o s published g = group_last s.last (table_group o s) ≡ last_of start (published ++ g ∷ [])
+-- these events come in the core one after another, from one state to another
+abbrev pub Come : Options → List CoreEvent → CoreState → CoreState → Type 0
+Come o [] s t = t ≡ s
+Come o (event ∷ events) s t = (next : CoreState) × (step o s event ≡ Some next) × Come o events next t
 
--- the core's members of the launched group have all finished, and m finished last
-abbrev pub MayPublish : ℕ → List MemberVersions → TablePhase → Type 0
-MayPublish m g phase = (inserted finished : List ℕ) × (phase ≡ launched inserted finished)
-    × HasFinishedLast m g finished
+-- these events may come in the core, which then stands where the table does
+abbrev pub AreTaken : ℕ → Options → (ℕ → List ℕ) → List CoreEvent → CoreState → TableNow → Type 0
+AreTaken start o team events s now = (t : CoreState) × Come o events s t × IsCoreOf start o team now t
+
+-- the client is idle, and its next call is a read
+abbrev pub IsReading : CoreState → ℕ → Type 0
+IsReading s c = (client : Client) × (command : Command) × (reply : Reply) × (client_at s c ≡ Some client)
+    × (client.idle ≡ true) × ((next_call client).call ≡ Some command) × (read_reply s command ≡ Some reply)

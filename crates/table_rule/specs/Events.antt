@@ -1,6 +1,6 @@
 -- What the table is as the write path's core sees it, and what an event makes of it: a group is launched, the part of a
 -- member is inserted, a member finishes, a group is published, a client reads.
-use Rattle.std.specs.Prelude.{◌≡◌, ◌≢◌, ◌⊎◌, ℕ, ◌<◌, List, [], ◌∷◌, ◌++◌, slice_index, length}
+use Rattle.std.specs.Prelude.{◌≡◌, ◌≢◌, ℕ, ◌<◌, Bool, true, false, List, [], ◌∷◌, ◌++◌, slice_index, length, count_by}
 use mathlib.Core.Option.{some}
 use lib.ListN.{get_elem?}
 use Rattle.atomic_table.specs.Table.{State, Act, Valid, stepped, carried_after}
@@ -64,10 +64,20 @@ abbrev pub IsInsert : ℕ → TableNow → TableNow → Type 0
 IsInsert m a b = (g : List MemberVersions) × (a.mode ≡ running g) × IsMember m g × (b.mode ≡ a.mode)
     × OnlyMember m to_insert to_finish a b
 
--- m finishes: it finds 1 where it is the last of the group, and more where others are to finish
+-- how many of the group's members haven't finished
+abbrev pub is_running : Progress → Bool
+is_running to_insert = true
+is_running to_finish = true
+is_running is_finished = false
+
+abbrev pub count_running : (ℕ → Progress) → List MemberVersions → ℕ
+count_running progress g = count_by (λ (p : MemberVersions). is_running (progress p.member)) g
+
+-- m finishes, and finds how many members hadn't: 1 where it is the last of the group, and more where others are to
+-- finish
 abbrev pub IsFinish : ℕ → ℕ → TableNow → TableNow → Type 0
 IsFinish m found a b = (g : List MemberVersions) × (a.mode ≡ running g) × IsMember m g
-    × OnlyMember m to_finish is_finished a b
+    × (found ≡ count_running a.progress g) × OnlyMember m to_finish is_finished a b
     × (found ≡ 1 → (b.mode ≡ ended m g) × ((p : MemberVersions) → In p g → b.progress p.member ≡ is_finished))
     × (found ≢ 1 → b.mode ≡ a.mode)
 

@@ -1,5 +1,6 @@
 -- What each step tells.
-use Rattle.std.specs.Prelude.{◌≡◌, ◌≢◌, ℕ, ◌<◌, ◌≤◌, ◌+◌, ◌⊎◌, zero, suc, List, [], ◌∷◌, ◌++◌, length}
+use Rattle.std.specs.Prelude.{◌≡◌, ◌≢◌, ℕ, ◌<◌, ◌≤◌, ◌+◌, ◌⊎◌, zero, suc, Bool, ◌==◌, if◌then◌else◌, List, [], ◌∷◌, ◌++◌, length}
+use Rattle.std.specs.List.{list_any}
 use Rattle.atomic_table.specs.Table.{Me, Step, rest}
 use Rattle.table_rule.specs.declared.content.Version.{Version}
 use Rattle.table_rule.specs.declared.content.MemberVersions.{MemberVersions}
@@ -25,6 +26,14 @@ work u done more = record { launched = u; done = done; rest = more }
 -- the group, launched behind a history above `start`
 abbrev pub launched_behind : ℕ → List (List MemberVersions) → List MemberVersions → Launched
 launched_behind start before g = record { before = before; group = g; last = end_of (last_of start before) g }
+
+-- a part of the group is the client's
+abbrev pub has_part : ℕ → List MemberVersions → Bool
+has_part c g = list_any (λ (p : MemberVersions). p.member == c) g
+
+-- where the client stands that has launched the group: it is to take its own part of it, if it has one
+abbrev pub after_launch : ℕ → Launched → Stage
+after_launch c u = if has_part c u.group then Waiting u else Idle
 
 -- a member's versions, as a part of a group
 abbrev pub part_of : ℕ → List Version → MemberVersions
@@ -149,11 +158,11 @@ module _ {T N : Type 0} where
       → SeatNow T N → Type 0
   IsWithTurn c z own stage seen turn m = m.0 ≡ seat_state c z own Free stage ∷ seat_state 0 z seen Free turn ∷ []
 
-  -- the store of RUNNING, by a member that has the turn
+  -- the store of RUNNING, by a client that has the turn
   abbrev pub launched : List MemberVersions → Step (Content T N) → SeatNow T N → ℕ → SeatNow T N → Type 0
   launched g st m r m' = (c : ℕ) (z : Opening) (own seen : List (List MemberVersions))
       → IsWithTurn c z own Idle seen Resting m
-      → IsWithTurn c z own (Waiting (launched_behind z.start seen g)) seen (Handing g g) m' × (m'.1 ≡ m.1)
+      → IsWithTurn c z own (after_launch c (launched_behind z.start seen g)) seen (Handing g g) m' × (m'.1 ≡ m.1)
 
   -- the turn's load of RUN_i
   abbrev pub emptied : Step (Content T N) → SeatNow T N → ℕ → SeatNow T N → Type 0
@@ -182,11 +191,11 @@ module _ {T N : Type 0} where
   settled st m r m' = (c : ℕ) (z : Opening) (seen : List (List MemberVersions)) (u : Launched) (done : List Version)
       → IsAt c z seen Free (Holding (work u done [])) m → IsAt c z seen Free (Stored u) m' × (m'.1 ≡ rest m.1)
 
-  -- the fetch-sub of RUNNING: a group's only member finds 1
+  -- the fetch-sub of RUNNING: as many parts aren't finished as are found, the member's own among them
   abbrev pub counted : Step (Content T N) → SeatNow T N → ℕ → SeatNow T N → Type 0
   counted st m r m' = (c : ℕ) (z : Opening) (seen : List (List MemberVersions)) (u : Launched)
       → IsAt c z seen Free (Stored u) m → IsAt c z seen Free (ending u r) m' × (m'.1 ≡ m.1)
-      × (length u.group ≡ 1 → r ≡ 1)
+      × (0 < r) × (r ≤ length u.group)
 
   -- the store of LAST: it has seen the history with the group
   abbrev pub publishes : Step (Content T N) → SeatNow T N → ℕ → SeatNow T N → Type 0

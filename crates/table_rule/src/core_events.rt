@@ -1,33 +1,45 @@
 //! The events of the table are events of the write path's core.
-ghost use Rattle.std.specs.Prelude.{◌≡◌, ℕ, List};
+ghost use Rattle.std.specs.Prelude.{◌≡◌, ℕ, true, false, List, [], ◌∷◌, map, Some};
+ghost use Rattle.core_model.specs.declared.event.Event.{Event};
 ghost use Rattle.core_model.specs.declared.event.Event.TheVariants as core;
-ghost use Rattle.core_model.specs.Core.{Options, State, still as at_rest, published as is_published};
-ghost use Rattle.core_model.specs.Halves.{TableHalf, table_half_of};
+ghost use Rattle.core_model.specs.Core.{Options, State, still as at_rest, published as is_published, leads, table_group};
+ghost use Rattle.core_model.specs.Halves.{moves_table};
+ghost use Rattle.core_model.specs.Step.{step, is_last};
 ghost use Rattle.table_rule.specs.declared.content.MemberVersions.{MemberVersions};
 ghost use Rattle.table_rule.specs.Rule.{still, ended};
 ghost use Rattle.table_rule.specs.Events.{TableNow, Stays, IsRead, IsLaunch, IsInsert, IsFinish, IsPublish};
-ghost use Rattle.table_rule.specs.CoreEvents.{IsTableOf, IsEvent, EndsAs, MayPublish};
+ghost use Rattle.table_rule.specs.CoreEvents.{IsCoreGroup, IsCoreOf, AreTaken, IsReading};
 
-/// Where the core's half of the table is the table, each event of the table is that event of the core, and its half is
-/// the table after it. A read finds the core's published sequence, and a step that moves nothing leaves the half alone.
-/// Where a member publishes, the core has all members of the group among those that have finished, that one last. The
-/// exit of a group moves the core alone.
+/// Where the core stands as the table does, each event of the table may come in the core, and it stands as the table
+/// does after it. A part of the table stands for one or more of the core's writers, one after another: it has their
+/// versions. So the insertion of a part is that of each client of its team, in the team's order, and so is its finish.
+///
+/// A group is launched that stands in the core, by the one that leads it there. Who publishes it finds all the core's
+/// members of the group finished, the last of its team last. A read finds the core's published sequence, and a step
+/// that moves nothing leaves the core where it is. The exit of a group moves the core alone, and the core's other events
+/// leave it standing as the table does.
 pub fn table_and_core()
-    ensures launch { (start : ℕ) (o : Options) (s : State) (a b : TableNow) (g : List MemberVersions) (c : ℕ)
-        → IsTableOf start a (table_half_of s) → s.table ≡ at_rest → IsLaunch g a b
-        → IsEvent start o (core.Launch c) s b }
-    ensures insert { (start : ℕ) (o : Options) (s : State) (a b : TableNow) (m : ℕ)
-        → IsTableOf start a (table_half_of s) → IsInsert m a b → IsEvent start o (core.Insert m) s b }
-    ensures finish { (start : ℕ) (o : Options) (s : State) (a b : TableNow) (m found : ℕ)
-        → IsTableOf start a (table_half_of s) → IsFinish m found a b → IsEvent start o (core.Finish m) s b }
-    ensures publish { (start : ℕ) (o : Options) (s : State) (a b : TableNow) (m : ℕ) (g : List MemberVersions)
-        → IsTableOf start a (table_half_of s) → IsPublish m a b → a.mode ≡ ended m g → EndsAs start o s a.published g
-        → IsEvent start o (core.Publish m) s b × MayPublish m g s.table }
-    ensures exit { (start : ℕ) (o : Options) (s : State) (a : TableNow) (c : ℕ)
-        → IsTableOf start a (table_half_of s) → a.mode ≡ still → s.table ≡ is_published
-        → IsEvent start o (core.Exit c) s a }
-    ensures read { (start : ℕ) (half : TableHalf) (a b : TableNow) (found : ℕ)
-        → IsTableOf start a half → IsRead start found a b → (found ≡ half.last) × IsTableOf start b half }
-    ensures stays { (start : ℕ) (half : TableHalf) (a b : TableNow)
-        → IsTableOf start a half → Stays a b → IsTableOf start b half }
+    ensures launch { (start : ℕ) (o : Options) (team : ℕ → List ℕ) (s : State) (a b : TableNow)
+        (g : List MemberVersions) (c : ℕ)
+        → IsCoreOf start o team a s → s.table ≡ at_rest → leads c (table_group o s) ≡ true
+        → IsCoreGroup start o team s a.published g → IsLaunch g a b
+        → AreTaken start o team (core.Launch c ∷ []) s b }
+    ensures insert { (start : ℕ) (o : Options) (team : ℕ → List ℕ) (s : State) (a b : TableNow) (m : ℕ)
+        → IsCoreOf start o team a s → IsInsert m a b → AreTaken start o team (map core.Insert (team m)) s b }
+    ensures finish { (start : ℕ) (o : Options) (team : ℕ → List ℕ) (s : State) (a b : TableNow) (m found : ℕ)
+        → IsCoreOf start o team a s → IsFinish m found a b → AreTaken start o team (map core.Finish (team m)) s b }
+    ensures publish { (start : ℕ) (o : Options) (team : ℕ → List ℕ) (s : State) (a b : TableNow) (m c : ℕ)
+        → IsCoreOf start o team a s → IsPublish m a b → is_last c (team m) ≡ true
+        → AreTaken start o team (core.Publish c ∷ []) s b }
+    ensures exit { (start : ℕ) (o : Options) (team : ℕ → List ℕ) (s : State) (a : TableNow) (c : ℕ)
+        → IsCoreOf start o team a s → a.mode ≡ still → s.table ≡ is_published → leads c (table_group o s) ≡ true
+        → AreTaken start o team (core.Exit c ∷ []) s a }
+    ensures read { (start : ℕ) (o : Options) (team : ℕ → List ℕ) (s : State) (a b : TableNow) (found c : ℕ)
+        → IsCoreOf start o team a s → IsRead start found a b → IsReading s c
+        → (found ≡ s.last) × AreTaken start o team (core.Read c ∷ []) s b }
+    ensures stays { (start : ℕ) (o : Options) (team : ℕ → List ℕ) (s : State) (a b : TableNow)
+        → IsCoreOf start o team a s → Stays a b → IsCoreOf start o team b s }
+    ensures others { (start : ℕ) (o : Options) (team : ℕ → List ℕ) (s t : State) (a : TableNow) (event : Event)
+        → IsCoreOf start o team a s → moves_table event ≡ false → step o s event ≡ Some t
+        → IsCoreOf start o team a t }
 {}

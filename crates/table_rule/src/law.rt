@@ -17,7 +17,7 @@ ghost use Rattle.table_rule.specs.Histories.{last_of};
 ghost use Rattle.table_rule.specs.Rule.{end_of};
 ghost use Rattle.table_rule.specs.Seats.{closing};
 ghost use Rattle.table_rule.specs.Steps.{SeatNow, AddsAll, AreOfShard, IsAt, IsWithTurn, IsClient, IsNext, MayTake, work, learned, locked, unlocked, added, launched, emptied, given, took, settled, counted, publishes, awaited};
-ghost use Rattle.table_rule.specs.Events.{IsMember, Stays, IsRead, IsLaunch, IsInsert, IsFinish, IsPublish, StepIs};
+ghost use Rattle.table_rule.specs.Events.{Stays, IsRead, IsLaunch, IsInsert, IsFinish, IsPublish, StepIs};
 
 use crate::rule::Versioned;
 
@@ -42,7 +42,7 @@ pub fn steps_and_events<T: Versioned, N: Versioned>()
         (λ _. added new (step slots word 0 0 none) me 0) }
     ensures launch { (z : Opening) (slots id word count c : ℕ) (me : SeatNow T N)
         (own seen : List (List MemberVersions))
-        (g : List MemberVersions) → word ≡ z.shards + 1 → count ≡ length g → 0 < c → IsMember c g
+        (g : List MemberVersions) → word ≡ z.shards + 1 → count ≡ length g → 0 < c
         → IsWithTurn c z own Idle seen Resting me → IsNext z seen g
         → StepIs T.versions N.versions (λ _. IsLaunch g) z slots id me word (λ _. count)
         (λ _. launched g (step slots word count 0 none) me count) }

@@ -22,8 +22,8 @@
 //!
 //! # Steps
 //!
-//! The turn is a seat of its own, of which a table has one. A client that keeps it may launch a group of which it is a
-//! member. A reader's seat is a client's. What each step is of the write path says [`steps_and_events`].
+//! The turn is a seat of its own, of which a table has one. A client that keeps it may launch a group, with a part of
+//! its own or without. A reader's seat is a client's. What each step is of the write path says [`steps_and_events`].
 //!
 //! | Step | Who makes it | What it does | Event of the write path |
 //! |---|---|---|---|
@@ -31,7 +31,7 @@
 //! | compare-exchange of a lock from 0 to 1 ([`LockShard`]) | a client | takes the tree out of its slot | |
 //! | store of 0 to a lock ([`UnlockShard`]) | who locked it | gives the tree back as it was | |
 //! | store of 0 to a lock ([`AddVersions`]) | a member | gives the tree back with versions of its part more | |
-//! | store of RUNNING ([`Launch`]) | a member that has the turn, with both seats as one | begins a group, with the number of its parts | launch |
+//! | store of RUNNING ([`Launch`]) | a client that has the turn, with both seats as one | begins a group, with the number of its parts | launch |
 //! | load of RUN `i` ([`Empty`]) | the turn | takes the empty slot of a member | |
 //! | store of 1 to RUN `i` ([`Give`]) | the turn | gives that slot back with the member's nodes | |
 //! | load of RUN `i` ([`Take`]) | member `i` | takes its nodes out of its slot, where it finds 1 | |

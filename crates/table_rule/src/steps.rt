@@ -63,7 +63,7 @@ impl GroupPlan for Brand {
     ghost group = { [] };
 }
 
-/// The store of RUNNING, by a member that has the turn.
+/// The store of RUNNING, by a client that has the turn.
 pub struct Launch<G> {
     marker: PhantomData<G>,
 }

@@ -1,5 +1,5 @@
 -- From what the calls say of a seat to its account.
-use Rattle.std.proofs.Common.{◌≡◌, ℕ, ◌+◌, ◌<◌, ◌≤◌, List, [], ◌∷◌, ◌++◌, Option, None, Some, refl, sym, ap, ◌∙◌, subst}
+use Rattle.std.proofs.Common.{◌≡◌, ℕ, ◌+◌, ◌<◌, ◌≤◌, List, [], ◌∷◌, ◌++◌, Option, None, Some, Bool, true, false, if◌then◌else◌, refl, sym, ap, ◌∙◌, subst}
 use Rattle.atomic_table.specs.Seated.{TableId}
 use Rattle.table_rule.specs.declared.content.MemberVersions.{MemberVersions}
 use Rattle.table_rule.specs.declared.content.Content.{Content}
@@ -13,11 +13,11 @@ use Rattle.table_steps.specs.declared.launching.Turn.{Turn}
 use Rattle.table_calls.specs.declared.finished.Finished.{Finished}
 use Rattle.table_calls.specs.declared.finished.Finished.TheVariants.{Last, Others}
 use Rattle.table_rule.specs.Histories.{Begins, IsHistory, last_of}
-use Rattle.table_rule.specs.Rule.{seat_state, end_of}
+use Rattle.table_rule.specs.Rule.{seat_state}
 use Rattle.table_rule.proofs.Histories.{last_snoc}
-use Rattle.table_rule.specs.Steps.{SeatNow, IsAt, IsPartOf, IsAwaited, MayTake, launched_behind, work}
+use Rattle.table_rule.specs.Steps.{SeatNow, IsAt, IsPartOf, IsAwaited, MayTake, has_part, after_launch, launched_behind, work}
 use Rattle.table_steps.specs.Seen.{Ended, Published}
-use Rattle.table_calls.specs.Account.{Learns, Steps, Counts, Takes, Publishes}
+use Rattle.table_calls.specs.Account.{Learns, Steps, Counts, Takes, Publishes, after_finish}
 use Rattle.table_steps.specs.Accounts.{launch_at, first_state, account_of, launch_of, Carries, Sits}
 
 module _ {T N : Type 0} where
@@ -32,8 +32,19 @@ module _ {T N : Type 0} where
   account_at c z seen stage m t at = ap (λ l. record { number = c; seen = (first_state l).seen; stage = (first_state l).stage; launched = launch_of t }) at
 
   pub ended_sits : (c : ℕ) (z : Opening) (seen : List (List MemberVersions)) (u : Launched) (last k : ℕ) (m : SeatNow T N) → m.1 ≡ [] → last ≡ u.last → (f : Finished) → Ended c z seen u f m → (now : List (List MemberVersions)) × (stage : Stage) × IsAt c z now Free stage m × Carries {T = T} {N = N} k last stage m.1
-  ended_sits c z seen u last k m nil is Last ok = (seen, Publishing u, ok, (nil, is))
-  ended_sits c z seen u last k m nil is Others ok = (seen, Idle, ok, nil)
+  ended_sits c z seen u last k m nil is f ok = (seen, after_finish u f, ok.3, carries f)
+    where
+      carries : (f : Finished) → Carries {T = T} {N = N} k last (after_finish u f) m.1
+      carries Last = (nil, is)
+      carries Others = nil
+
+  -- who launched carries nothing, with a part of its own or without
+  pub launched_sits : (c k last : ℕ) (u : Launched) (l : List (ℕ × Content T N)) → l ≡ [] → Carries {T = T} {N = N} k last (after_launch c u) l
+  launched_sits c k last u l nil = by (has_part c u.group)
+    where
+      by : (b : Bool) → Carries {T = T} {N = N} k last (if b then Waiting u else Idle) l
+      by true = nil
+      by false = nil
 
   pub steps_to : (c : ℕ) (z : Opening) (seen : List (List MemberVersions)) (old new : Stage) (m m' : SeatNow T N) (t : Option (Turn T N)) → IsAt c z seen Free old m → IsAt c z seen Free new m' → Steps (account_of c m t) new (account_of c m' t)
   steps_to c z seen old new m m' t a b = record {
@@ -42,10 +53,6 @@ module _ {T N : Type 0} where
     stage_is = ap (λ l. (first_state l).stage) b;
     launched = refl;
   }
-
-  pub ended_counts : (c : ℕ) (z : Opening) (seen : List (List MemberVersions)) (u : Launched) (m m' : SeatNow T N) (t : Option (Turn T N)) → IsAt c z seen Free (Stored u) m → (f : Finished) → Ended c z seen u f m' → Counts (account_of c m t) u f (account_of c m' t)
-  ended_counts c z seen u m m' t at Last ok = steps_to c z seen (Stored u) (Publishing u) m m' t at ok
-  ended_counts c z seen u m m' t at Others ok = steps_to c z seen (Stored u) Idle m m' t at ok
 
   pub learns_to : (c : ℕ) (z : Opening) (seen : List (List MemberVersions)) (stage : Stage) (m m' : SeatNow T N) (t : Option (Turn T N)) → IsAt c z seen Free stage m → (now : List (List MemberVersions)) → IsAt c z now Free stage m' → Begins seen now → IsHistory z.start now → Learns z.start (account_of c m t) (account_of c m' t)
   learns_to c z seen stage m m' t a now b begins is_history =
@@ -76,6 +83,9 @@ module _ {T N : Type 0} where
 
   pub steps_on : (c d : ℕ) (z : Opening) (seen : List (List MemberVersions)) (old new : Stage) (m m' : SeatNow T N) (t : Option (Turn T N)) → d ≡ c → IsAt c z seen Free old m → IsAt c z seen Free new m' → Steps (account_of c m t) new (account_of d m' t)
   steps_on c d z seen old new m m' t same a b = subst (λ (j : ℕ). Steps (account_of c m t) new (account_of j m' t)) (sym same) (steps_to c z seen old new m m' t a b)
+
+  pub ended_counts : (c d : ℕ) (z : Opening) (seen : List (List MemberVersions)) (u : Launched) (m m' : SeatNow T N) (t : Option (Turn T N)) → d ≡ c → IsAt c z seen Free (Stored u) m → (f : Finished) → Ended c z seen u f m' → Counts (account_of c m t) u f (account_of d m' t)
+  ended_counts c d z seen u m m' t same at f ok = record { found = ok.0; within = ok.1; told = ok.2; steps = steps_on c d z seen (Stored u) (after_finish u f) m m' t same at ok.3 }
 
   pub publishes_to : (c d : ℕ) (z : Opening) (seen : List (List MemberVersions)) (u : Launched) (m m' : SeatNow T N) (t : Option (Turn T N)) → d ≡ c → IsAt c z seen Free (Publishing u) m → Published c z seen u m' → Publishes z.start (account_of c m t) u (account_of d m' t)
   publishes_to c d z seen u m m' t same a b =

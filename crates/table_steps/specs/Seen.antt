@@ -1,5 +1,5 @@
 -- What the steps say of a seat.
-use Rattle.std.specs.Prelude.{◌≡◌, ℕ, List, [], ◌∷◌, ◌++◌}
+use Rattle.std.specs.Prelude.{◌≡◌, ℕ, ◌≤◌, length, List, [], ◌∷◌, ◌++◌}
 use Rattle.table_rule.specs.declared.content.Version.{Version}
 use Rattle.table_rule.specs.declared.content.MemberVersions.{MemberVersions}
 use Rattle.table_rule.specs.declared.content.Content.TheVariants.{Blank}
@@ -7,11 +7,11 @@ use Rattle.table_rule.specs.declared.view.Opening.{Opening}
 use Rattle.table_rule.specs.declared.view.Launched.{Launched}
 use Rattle.table_rule.specs.declared.view.Lock.TheVariants.{Free, Held}
 use Rattle.table_rule.specs.declared.view.Stage.{Stage}
-use Rattle.table_rule.specs.declared.view.Stage.TheVariants.{Idle, Holding, Publishing}
+use Rattle.table_rule.specs.declared.view.Stage.TheVariants.{Idle, Holding}
 use Rattle.table_rule.specs.Histories.{Begins, IsHistory, last_of}
 use Rattle.table_rule.specs.Steps.{SeatNow, IsAt, IsPartOf, IsAwaited, Shows, IsFresh, work}
 use Rattle.table_calls.specs.declared.finished.Finished.{Finished}
-use Rattle.table_calls.specs.declared.finished.Finished.TheVariants.{Last, Others}
+use Rattle.table_calls.specs.Account.{IsTold, after_finish}
 
 module _ {T N : Type 0} where
   -- the seat has seen the history up to the number found
@@ -30,10 +30,10 @@ module _ {T N : Type 0} where
   Took c z seen stage last vs m = (u : Launched) × IsAt c z seen Free (Holding (work u [] vs)) m × (last ≡ u.last)
       × IsPartOf z c seen u vs × IsAwaited stage u
 
-  -- the last one to finish may publish
+  -- the seat has finished, and found how many members were running; the last one may publish
   abbrev pub Ended : ℕ → Opening → List (List MemberVersions) → Launched → Finished → SeatNow T N → Type 0
-  Ended c z seen u Last m = IsAt c z seen Free (Publishing u) m
-  Ended c z seen u Others m = IsAt c z seen Free Idle m
+  Ended c z seen u finished m = (found : ℕ) × (found ≤ length u.group) × IsTold found finished
+      × IsAt c z seen Free (after_finish u finished) m
 
   -- the seat has seen the group that it published
   abbrev pub Published : ℕ → Opening → List (List MemberVersions) → Launched → SeatNow T N → Type 0

@@ -9,7 +9,6 @@ ghost use Rattle.table_rule.specs.declared.view.Stage.TheVariants.{Idle, Holding
 ghost use Rattle.table_rule.specs.Histories.{In, IsHistory, last_of, versions_of, of_shard, map_of};
 ghost use Rattle.table_rule.specs.Rule.{end_of};
 ghost use Rattle.table_rule.specs.Steps.{AreOfShard, IsNext, MayTake, work};
-ghost use Rattle.table_calls.specs.declared.finished.Finished.TheVariants.{Last};
 ghost use Rattle.table_calls.specs.Account.{Learns, Launches, Takes, Steps, Counts, Publishes, IsReady};
 ghost use Rattle.table_steps.specs.Accounts.{account, history_of, opening_of, IsOurs, MayLaunch};
 
@@ -90,8 +89,7 @@ impl<T: VersionTree<N::Node> + Drop, N: VersionNodes + Drop> TableSeat<T, N> {
         table.find_rows(alloc, rt, &mut self.client, shard, lo, hi, at)
     }
 
-    /// Launches a group of which the client is a member, and hands each member its nodes. The seat keeps the turn until
-    /// `await_published`.
+    /// Launches a group, and hands each member its nodes. The seat keeps the turn until `await_published`.
     pub fn launch<P: GroupParts<N>>(
         &mut self,
         table: &SharedTable<T, N>,
@@ -102,7 +100,6 @@ impl<T: VersionTree<N::Node> + Drop, N: VersionNodes + Drop> TableSeat<T, N> {
         requires ready { IsReady (account self.old) }
         requires next { IsNext (opening_of table.now) (history_of turn) (P.parts parts.old) }
         requires fits { end_of (last_of (opening_of table.now).start (history_of turn)) (P.parts parts.old) < 2 ^ 64 }
-        requires member { (p : MemberVersions) × In p (P.parts parts.old) × (p.member ≡ (account self.old).number) }
         ensures ours { IsOurs table.now self.new }
         ensures launched { Launches (opening_of table.now).start (account self.old) (history_of turn)
             (P.parts parts.old) (account self.new) }
@@ -154,15 +151,13 @@ impl<T: VersionTree<N::Node> + Drop, N: VersionNodes + Drop> TableSeat<T, N> {
         table.settle(&mut self.client);
     }
 
-    /// The client's part is finished. A group's only member is the last to finish.
+    /// The client's part is finished. Just who finds no other member running is the last of the group.
     pub fn finish(&mut self, table: &SharedTable<T, N>) -> Finished
         requires ours { IsOurs table.now self.old }
         requires stored { (u : Launched) × ((account self.old).stage ≡ Stored u) }
         ensures ours { IsOurs table.now self.new }
         ensures counted { (u : Launched) → (account self.old).stage ≡ Stored u
             → Counts (account self.old) u result (account self.new) }
-        ensures only_member { (u : Launched) → (account self.old).stage ≡ Stored u → length u.group ≡ 1
-            → result ≡ Last }
     {
         table.finish(&mut self.client)
     }

@@ -2,10 +2,10 @@
 ghost use Rattle.std.specs.Prelude.{◌≡◌, ◌<◌, ◌≤◌, List, [], ◌∷◌, ◌++◌, length};
 ghost use Rattle.table_rule.specs.declared.content.MemberVersions.{MemberVersions};
 ghost use Rattle.table_rule.specs.declared.view.Lock.TheVariants.{Free};
-ghost use Rattle.table_rule.specs.declared.view.Stage.TheVariants.{Idle, Waiting, Resting, Handing};
+ghost use Rattle.table_rule.specs.declared.view.Stage.TheVariants.{Idle, Resting, Handing};
 ghost use Rattle.table_rule.specs.Histories.{In, last_of};
 ghost use Rattle.table_rule.specs.Rule.{end_of};
-ghost use Rattle.table_rule.specs.Steps.{IsAt, IsNext, launched_behind};
+ghost use Rattle.table_rule.specs.Steps.{IsAt, IsNext, after_launch, launched_behind};
 
 use crate::shared::{Client, SharedTable};
 use atomic_table::Seat;
@@ -38,17 +38,16 @@ impl<T: VersionTree<N::Node>, N: VersionNodes> SharedTable<T, N> {
             × IsAt who.old.number self.now.table.shared.key own Free Idle who.old.seat.me
             × IsAt 0 self.now.table.shared.key seen Free Resting turn.seat.me
             × IsNext self.now.table.shared.key seen G.group }
-        requires member { (p : MemberVersions) × In p G.group × (p.member ≡ who.old.number) }
         requires group { P.parts parts.now ≡ G.group }
         ensures client { (who.new.seat.table_id ≡ who.old.seat.table_id) × (who.new.number ≡ who.old.number)
             × (who.new.seat.me.1 ≡ who.old.seat.me.1) }
         ensures turn { (result.seat.table_id ≡ turn.seat.table_id) × (result.seat.me.1 ≡ [])
             × (result.last ≡ turn.last) }
-        ensures waiting { (own seen : List (List MemberVersions))
+        ensures launched { (own seen : List (List MemberVersions))
             → IsAt who.old.number self.now.table.shared.key own Free Idle who.old.seat.me
             → IsAt 0 self.now.table.shared.key seen Free Resting turn.seat.me
-            → IsAt who.old.number self.now.table.shared.key own Free
-            (Waiting (launched_behind self.now.table.shared.key.start seen G.group)) who.new.seat.me }
+            → IsAt who.old.number self.now.table.shared.key own Free (after_launch who.old.number
+            (launched_behind self.now.table.shared.key.start seen G.group)) who.new.seat.me }
         ensures handing { (own seen : List (List MemberVersions))
             → IsAt who.old.number self.now.table.shared.key own Free Idle who.old.seat.me
             → IsAt 0 self.now.table.shared.key seen Free Resting turn.seat.me
@@ -95,8 +94,7 @@ impl<T: VersionTree<N::Node>, N: VersionNodes> SharedTable<T, N> {
         self.handed.ring(member);
     }
 
-    /// Launches a group whose last sequence is `last`, and of which the client is a member, and hands each member its
-    /// nodes.
+    /// Launches a group whose last sequence is `last`, and hands each member its nodes.
     pub(crate) fn launch<P: GroupParts<N>>(
         &self,
         who: &mut Client<T, N>,
@@ -111,16 +109,15 @@ impl<T: VersionTree<N::Node>, N: VersionNodes> SharedTable<T, N> {
             × IsAt 0 self.now.table.shared.key seen Free Resting turn.seat.me
             × IsNext self.now.table.shared.key seen (P.parts parts.old)
             × (last ≡ end_of (last_of self.now.table.shared.key.start seen) (P.parts parts.old)) }
-        requires member { (p : MemberVersions) × In p (P.parts parts.old) × (p.member ≡ who.old.number) }
         ensures client { (who.new.seat.table_id ≡ who.old.seat.table_id) × (who.new.number ≡ who.old.number)
             × (who.new.seat.me.1 ≡ who.old.seat.me.1) }
         ensures turn { (result.seat.table_id ≡ turn.seat.table_id) × (result.seat.me.1 ≡ [])
             × (result.last ≡ turn.last) }
-        ensures waiting { (own seen : List (List MemberVersions))
+        ensures launched { (own seen : List (List MemberVersions))
             → IsAt who.old.number self.now.table.shared.key own Free Idle who.old.seat.me
             → IsAt 0 self.now.table.shared.key seen Free Resting turn.seat.me
-            → IsAt who.old.number self.now.table.shared.key own Free
-            (Waiting (launched_behind self.now.table.shared.key.start seen (P.parts parts.old))) who.new.seat.me }
+            → IsAt who.old.number self.now.table.shared.key own Free (after_launch who.old.number
+            (launched_behind self.now.table.shared.key.start seen (P.parts parts.old))) who.new.seat.me }
         ensures handed { (own seen : List (List MemberVersions))
             → IsAt who.old.number self.now.table.shared.key own Free Idle who.old.seat.me
             → IsAt 0 self.now.table.shared.key seen Free Resting turn.seat.me

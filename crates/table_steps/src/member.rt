@@ -10,7 +10,6 @@ ghost use Rattle.table_rule.specs.declared.view.Launched.{Launched};
 ghost use Rattle.table_rule.specs.declared.view.Stage.{Stage};
 ghost use Rattle.table_rule.specs.declared.view.Stage.TheVariants.{Holding, Stored, Publishing};
 ghost use Rattle.table_rule.specs.Steps.{AddsAll, AreOfShard, IsAt, MayTake, work};
-ghost use Rattle.table_calls.specs.declared.finished.Finished.TheVariants.{Last};
 ghost use Rattle.table_steps.specs.Seen.{Took, Ended, Published};
 
 use crate::shared::{Client, SharedTable};
@@ -83,9 +82,6 @@ impl<T: VersionTree<N::Node>, N: VersionNodes> SharedTable<T, N> {
             × IsAt who.old.number self.now.table.shared.key seen Free (Stored u) who.old.seat.me }
         ensures seat { (who.new.seat.table_id ≡ who.old.seat.table_id) × (who.new.number ≡ who.old.number)
             × (who.new.seat.me.1 ≡ who.old.seat.me.1) }
-        ensures only_member { (seen : List (List MemberVersions)) (u : Launched)
-            → IsAt who.old.number self.now.table.shared.key seen Free (Stored u) who.old.seat.me → length u.group ≡ 1
-            → result ≡ Last }
         ensures ended { (seen : List (List MemberVersions)) (u : Launched)
             → IsAt who.old.number self.now.table.shared.key seen Free (Stored u) who.old.seat.me
             → Ended who.old.number self.now.table.shared.key seen u result who.new.seat.me }

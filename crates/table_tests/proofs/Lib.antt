@@ -1,4 +1,3 @@
 mod Popped
 mod Numbering
-mod Within
 mod Crossing

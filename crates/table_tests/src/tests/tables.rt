@@ -1,4 +1,4 @@
-// A client publishes groups through a table over the memtable's tree, and another reads after each.
+// A client launches groups through a table over the memtable's tree, and another publishes them, and reads after each.
 
 ghost use Rattle.std.specs.Prelude.{◌≡◌, ◌+◌, ◌<◌, ◌^◌, length, IfOk};
 ghost use Rattle.table_rule.specs.declared.view.Stage.TheVariants.{Idle};
@@ -84,31 +84,35 @@ pub(super) fn complete<R: Wait>(rt: &R, table: &MemoryTable, seat: &mut MemSeat)
     }
 }
 
-// Publishes a group of so many nodes behind the sequence `last`. Its only member is the last to finish: else nobody
-// would publish it, and this wouldn't return.
+// A group of so many nodes behind the sequence `last` is launched by a client that has no part of it, and published. Its
+// only member is the last to finish: else nobody would publish it, and this wouldn't return.
 fn write<R: Wait + Abort>(
     rt: &R,
     alloc: Global,
     table: &MemoryTable,
-    seat: &mut MemSeat,
+    leader: &mut MemSeat,
+    member: &mut MemSeat,
     turn: MemTurn,
     last: u64,
     nodes: Nodes,
     count: u64,
 ) -> MemTurn
-    requires seat { IsIdle table.now seat.old × ((account_of seat.old).number ≡ 1) }
+    requires clients { (opening_of table.now).clients ≡ 2 }
+    requires leader { IsIdle table.now leader.old × ((account_of leader.old).number ≡ 1) }
+    requires member { IsIdle table.now member.old }
     requires turn { MayLaunch table.now turn }
     requires last { (last_of (opening_of table.now).start (history_of turn) ≡ last) × (last + count < 2 ^ 56) }
     requires nodes { Runs last nodes × (length nodes ≡ count) × (0 < count) }
-    ensures seat { IsIdle table.now seat.new × ((account_of seat.new).number ≡ 1) }
+    ensures leader { IsIdle table.now leader.new × ((account_of leader.new).number ≡ 1) }
+    ensures member { IsIdle table.now member.new }
     ensures turn { MayLaunch table.now result
         × (last_of (opening_of table.now).start (history_of result) ≡ last + count) }
 {
-    let mut parts = Parts::new(alloc, 1).expect(rt, "memory");
-    parts.add(1, nodes);
-    Table::<Nodes, Parts>::launch(table, seat, turn, &mut parts);
-    complete(rt, table, seat);
-    Table::<Nodes, Parts>::await_published(table, rt, seat, last + count)
+    let mut parts = Parts::new(alloc, 2).expect(rt, "memory");
+    parts.add(2, nodes);
+    Table::<Nodes, Parts>::launch(table, leader, turn, &mut parts);
+    complete(rt, table, member);
+    Table::<Nodes, Parts>::await_published(table, rt, leader, last + count)
 }
 
 // Takes the last seat out, of seats that have nothing to do.
@@ -127,6 +131,7 @@ fn open_for_two(
     kind: TableKind,
 ) -> Result<(MemoryTable, MemTurn, MemSeat, MemSeat), Fail>
     requires { HasShards kind }
+    ensures clients { IfOk result (λ opened. (opening_of opened.0).clients ≡ 2) }
     ensures turn { IfOk result (λ opened. MayLaunch opened.0 opened.1
         × (last_of (opening_of opened.0).start (history_of opened.1) ≡ 0)) }
     ensures first { IfOk result (λ opened. IsIdle opened.0 opened.2) }
@@ -208,30 +213,31 @@ fn check<R: Wait + Abort>(
     );
 }
 
-// Client 1 publishes the group of each round, and the other one reads after it.
+// Client 1 launches the group of each round, and the other one publishes it, and reads after it.
 fn play<R: Wait + Abort>(
     rt: &R,
     alloc: Global,
     table: &MemoryTable,
-    writer: &mut MemSeat,
-    reader: &mut MemSeat,
+    leader: &mut MemSeat,
+    member: &mut MemSeat,
     mut turn: MemTurn,
     rounds: &[Round],
 ) -> MemTurn
-    requires writer { IsIdle table.now writer.old × ((account_of writer.old).number ≡ 1) }
-    requires reader { IsIdle table.now reader.old }
+    requires clients { (opening_of table.now).clients ≡ 2 }
+    requires leader { IsIdle table.now leader.old × ((account_of leader.old).number ≡ 1) }
+    requires member { IsIdle table.now member.old }
     requires turn { MayLaunch table.now turn × (last_of (opening_of table.now).start (history_of turn) ≡ 0) }
-    ensures writer { IsIdle table.now writer.new }
-    ensures reader { IsIdle table.now reader.new }
+    ensures leader { IsIdle table.now leader.new }
+    ensures member { IsIdle table.now member.new }
     ensures turn { MayLaunch table.now result }
 {
     let mut last = 0u64;
     for i in 0..rounds.len() {
         let round = rounds[i];
         let (nodes, count) = nodes_behind(rt, alloc, last, round.writes);
-        turn = write(rt, alloc, table, writer, turn, last, nodes, count);
+        turn = write(rt, alloc, table, leader, member, turn, last, nodes, count);
         last += count;
-        check(rt, alloc, table, reader, round.rows, last);
+        check(rt, alloc, table, member, round.rows, last);
     }
     turn
 }
@@ -240,11 +246,11 @@ fn play<R: Wait + Abort>(
 fn try_over<R: Wait + Abort>(rt: &R, alloc: Global, kind: TableKind, locks: u64) -> Result<(), Fail>
     requires { HasShards kind }
 {
-    let (table, turn, mut writer, mut reader) = open_for_two(alloc, kind)?;
-    assert!(rt; writer.number() == 1);
+    let (table, turn, mut leader, mut member) = open_for_two(alloc, kind)?;
+    assert!(rt; leader.number() == 1);
     assert_eq!(rt; Table::<Nodes, Parts>::locks(&table), locks);
-    let turn = play(rt, alloc, &table, &mut writer, &mut reader, turn, &ROUNDS);
-    close(alloc, table, turn, writer, reader)
+    let turn = play(rt, alloc, &table, &mut leader, &mut member, turn, &ROUNDS);
+    close(alloc, table, turn, leader, member)
 }
 
 #[test]

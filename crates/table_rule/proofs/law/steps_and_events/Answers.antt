@@ -1,7 +1,8 @@
 use Rattle.std.proofs.Common.{refl}
 use Rattle.table_rule.proofs.Locks.{learns_is, locks_is, unlocks_is, adds_is}
 use Rattle.table_rule.proofs.Handing.{empties_is, gives_nodes_is, takes_nodes_is, settles_is}
-use Rattle.table_rule.proofs.Finishing.{counts_is, publishes_is, launches_is, awaits_is}
+use Rattle.table_rule.proofs.Finishing.{counts_is, publishes_is}
+use Rattle.table_rule.proofs.Launching.{launches_is, awaits_is}
 use Rattle.table_rule.proofs.Seats.{closes_is}
 use Rattle.table_rule.proofs.law.steps_and_events.Goals as goal
 
@@ -18,7 +19,7 @@ pub returns-clause-add_versions : goal.returns-clause-add_versions
 returns-clause-add_versions g a z slots id word c me seen u done new rest vs tree more at slot adds here = adds_is g.T.Versioned.versions g.N.Versioned.versions z slots id me c word seen u done new rest vs tree more at slot adds here
 
 pub returns-clause-launch : goal.returns-clause-launch
-returns-clause-launch g a z slots id word count c me own seen group is count_is low member at next = launches_is g.T.Versioned.versions g.N.Versioned.versions z slots id me c word count own seen group is count_is low member at next.0 next.1 next.2
+returns-clause-launch g a z slots id word count c me own seen group is count_is low at next = launches_is g.T.Versioned.versions g.N.Versioned.versions z slots id me c word count own seen group is count_is low at next.0 next.1 next.2
 
 pub returns-clause-empty : goal.returns-clause-empty
 returns-clause-empty g a z slots id word me seen group p ps is lo hi at = empties_is g.T.Versioned.versions g.N.Versioned.versions z slots id me word seen group p ps is lo hi at

@@ -1,18 +1,10 @@
-use Rattle.std.proofs.Common.{◌≡◌, ℕ, ◌+◌, List, [], ◌∷◌, ◌++◌, Some, refl, sym, ap, ◌∙◌, subst, arith}
-use Rattle.std.proofs.lemmas.Result.{IfOk-weaker}
+use Rattle.std.proofs.Common.{◌≡◌, ℕ, ◌+◌, [], ◌∷◌, ◌++◌, Some, sym, ap, ◌∙◌, subst}
 use Rattle.atomic_table.specs.Seated.{TableId}
-use Rattle.table_rule.specs.declared.content.MemberVersions.{MemberVersions}
-use Rattle.table_rule.specs.declared.content.Version.{Version}
 use Rattle.table_rule.specs.declared.view.Opening.{Opening}
-use Rattle.table_rule.specs.declared.view.Stage.{Stage}
-use Rattle.table_rule.specs.declared.view.Stage.TheVariants.{Idle, Waiting, Holding, Stored, Publishing}
-use Rattle.table_rule.specs.Histories.{last_of, Runs, versions_of}
-use Rattle.table_rule.specs.Rule.{end_of}
+use Rattle.table_rule.specs.declared.view.Stage.TheVariants.{Idle}
 use Rattle.table_rule.proofs.Histories.{last_snoc}
-use Rattle.table_rule.specs.Steps.{MayTake, work, launched_behind, IsNext}
-use Rattle.table_calls.specs.Account.{Counts, Learns, Launches}
-use Rattle.table_steps.specs.Accounts.{first_state, account_of, launch_of, Carries, Sits, Keeps, IsOurs}
-use Rattle.table_steps.proofs.Accounts.{stands, staged, stage_of, carried, steps_on, takes_to, publishes_to, launched_end, learns_to, launched_is, ended_sits, ended_counts}
+use Rattle.table_steps.specs.Accounts.{first_state, Keeps}
+use Rattle.table_steps.proofs.Accounts.{stands, staged, stage_of, carried, launched_end}
 use Rattle.table_steps.proofs.seat.TableSeat.await_published.Goals as goal
 
 pub await_published-requires-clause-launched : goal.await_published-requires-clause-launched

@@ -1,18 +1,13 @@
-use Rattle.std.proofs.Common.{◌≡◌, ℕ, ◌+◌, List, [], ◌∷◌, ◌++◌, Some, refl, sym, ap, ◌∙◌, subst, arith}
+use Rattle.std.proofs.Common.{◌≡◌, ℕ, ◌+◌, List, [], ◌∷◌, sym, ap, ◌∙◌, subst}
 use Rattle.std.proofs.lemmas.Result.{IfOk-weaker}
 use Rattle.atomic_table.specs.Seated.{TableId}
 use Rattle.table_rule.specs.declared.content.MemberVersions.{MemberVersions}
-use Rattle.table_rule.specs.declared.content.Version.{Version}
 use Rattle.table_rule.specs.declared.view.Opening.{Opening}
-use Rattle.table_rule.specs.declared.view.Stage.{Stage}
-use Rattle.table_rule.specs.declared.view.Stage.TheVariants.{Idle, Waiting, Holding, Stored, Publishing}
 use Rattle.table_rule.specs.Histories.{last_of, Runs, versions_of}
 use Rattle.table_rule.specs.declared.view.Lock.TheVariants.{Free}
 use Rattle.table_rule.specs.Rule.{seat_state}
-use Rattle.table_rule.specs.Steps.{MayTake, work, launched_behind, IsNext}
-use Rattle.table_calls.specs.Account.{Counts, Learns, Launches}
-use Rattle.table_steps.specs.Accounts.{first_state, account_of, launch_of, Carries, Sits, Keeps, IsOurs}
-use Rattle.table_steps.proofs.Accounts.{stands, staged, stage_of, carried, steps_on, takes_to, publishes_to, learns_to, launched_is, ended_sits, ended_counts}
+use Rattle.table_steps.specs.Accounts.{first_state, account_of, Carries}
+use Rattle.table_steps.proofs.Accounts.{stands}
 use Rattle.table_steps.proofs.seat.TableSeat.find.Goals as goal
 
 pub find-requires-clause-seen : goal.find-requires-clause-seen

@@ -1,17 +1,8 @@
-use Rattle.std.proofs.Common.{◌≡◌, ℕ, ◌+◌, List, [], ◌∷◌, ◌++◌, Some, refl, sym, ap, ◌∙◌, subst, arith}
-use Rattle.std.proofs.lemmas.Result.{IfOk-weaker}
+use Rattle.std.proofs.Common.{ℕ, ◌+◌, ◌∙◌}
 use Rattle.atomic_table.specs.Seated.{TableId}
-use Rattle.table_rule.specs.declared.content.MemberVersions.{MemberVersions}
-use Rattle.table_rule.specs.declared.content.Version.{Version}
 use Rattle.table_rule.specs.declared.view.Opening.{Opening}
-use Rattle.table_rule.specs.declared.view.Stage.{Stage}
-use Rattle.table_rule.specs.declared.view.Stage.TheVariants.{Idle, Waiting, Holding, Stored, Publishing}
-use Rattle.table_rule.specs.Histories.{last_of, Runs, versions_of}
-use Rattle.table_rule.specs.Rule.{end_of}
-use Rattle.table_rule.specs.Steps.{MayTake, work, launched_behind, IsNext}
-use Rattle.table_calls.specs.Account.{Counts, Learns, Launches}
-use Rattle.table_steps.specs.Accounts.{first_state, account_of, launch_of, Carries, Sits, Keeps, IsOurs}
-use Rattle.table_steps.proofs.Accounts.{stands, staged, stage_of, carried, steps_on, takes_to, publishes_to, learns_to, launched_is, ended_sits, ended_counts}
+use Rattle.table_rule.specs.declared.view.Stage.TheVariants.{Stored}
+use Rattle.table_steps.proofs.Accounts.{stands, staged, stage_of, carried, ended_sits, ended_counts}
 use Rattle.table_steps.proofs.seat.TableSeat.finish.Goals as goal
 
 pub finish-requires-clause-stored : goal.finish-requires-clause-stored
@@ -35,10 +26,4 @@ returns-clause-counted g c u is =
     let z : Opening = c.args.table.now.table.shared.key in let id : TableId = c.args.table.now.table.shared.table_id in let k : ℕ = c.args.self.now.client.number in let o = c.requires.ours.0 in let m = c.args.self.now.client.seat.me in
     let t = c.args.self.now.turn in
     let at = staged k z o.3.0 o.3.1 (Stored u) m o.3.2 is in
-    subst (λ (j : ℕ). Counts (account_of k m t) u c.finish.result (account_of j c.finish.new.who.seat.me t)) (sym c.finish.ensures.seat.1)
-    (ended_counts k z o.3.0 u m c.finish.new.who.seat.me t at c.finish.result (c.finish.ensures.ended o.3.0 u at))
-
-pub returns-clause-only_member : goal.returns-clause-only_member
-returns-clause-only_member g c u is alone =
-    let z : Opening = c.args.table.now.table.shared.key in let id : TableId = c.args.table.now.table.shared.table_id in let k : ℕ = c.args.self.now.client.number in let o = c.requires.ours.0 in let m = c.args.self.now.client.seat.me in
-    c.finish.ensures.only_member o.3.0 u (staged k z o.3.0 o.3.1 (Stored u) m o.3.2 is) alone
+    ended_counts k c.finish.new.who.number z o.3.0 u m c.finish.new.who.seat.me t c.finish.ensures.seat.1 at c.finish.result (c.finish.ensures.ended o.3.0 u at)

@@ -1,17 +1,13 @@
-use Rattle.std.proofs.Common.{◌≡◌, ℕ, ◌+◌, List, [], ◌∷◌, ◌++◌, Some, refl, sym, ap, ◌∙◌, subst, arith}
-use Rattle.std.proofs.lemmas.Result.{IfOk-weaker}
+use Rattle.std.proofs.Common.{◌≡◌, ℕ, ◌+◌, List, [], Some, sym, ap, ◌∙◌, subst}
 use Rattle.atomic_table.specs.Seated.{TableId}
 use Rattle.table_rule.specs.declared.content.MemberVersions.{MemberVersions}
-use Rattle.table_rule.specs.declared.content.Version.{Version}
 use Rattle.table_rule.specs.declared.view.Opening.{Opening}
-use Rattle.table_rule.specs.declared.view.Stage.{Stage}
-use Rattle.table_rule.specs.declared.view.Stage.TheVariants.{Idle, Waiting, Holding, Stored, Publishing}
-use Rattle.table_rule.specs.Histories.{last_of, Runs, versions_of}
-use Rattle.table_rule.specs.Rule.{end_of}
-use Rattle.table_rule.specs.Steps.{MayTake, work, launched_behind, IsNext}
-use Rattle.table_calls.specs.Account.{Counts, Learns, Launches}
-use Rattle.table_steps.specs.Accounts.{first_state, account_of, launch_of, Carries, Sits, Keeps, IsOurs}
-use Rattle.table_steps.proofs.Accounts.{stands, staged, stage_of, carried, steps_on, takes_to, publishes_to, learns_to, launched_is, ended_sits, ended_counts}
+use Rattle.table_rule.specs.declared.view.Stage.TheVariants.{Idle, Waiting}
+use Rattle.table_rule.specs.Steps.{after_launch, launched_behind, IsNext}
+use Rattle.table_steps.specs.Accounts.{first_state}
+use Rattle.table_steps.proofs.Accounts.{stands, staged, stage_of, carried, launched_is, launched_sits}
+use Rattle.table_rule.specs.declared.view.Launched.{Launched}
+use Rattle.table_rule.proofs.Launching.{launched_own, launched_other}
 use Rattle.table_steps.proofs.seat.TableSeat.launch.Goals as goal
 
 pub launch-turn-requires-clause-next : goal.launch-turn-requires-clause-next
@@ -29,8 +25,9 @@ returns-clause-ours g c =
     let nil : m.1 ≡ [] = carried (z.shards + k) c.args.self.now.last m.1 o.3.1 Idle (stage_of k z o.3.0 o.3.1 Idle m o.3.2 c.requires.ready.idle) o.3.3 in
     let s = c.launch-turn.ensures.client in
     let w = c.launch-turn.ensures.turn in
-    let parts : List MemberVersions = g.P.GroupParts.parts c.args.parts.now in (
-      stands id z k c.launch-turn.new.who.number c.launch-turn.new.who.seat.table_id c.args.self.now.last c.launch-turn.new.who.seat.me (s.0 ∙ o.0) s.1 o.1 o.2 o.3.0 (Waiting (launched_behind z.start t.0 parts)) (c.launch-turn.ensures.waiting o.3.0 t.0 at t.1.2) (s.2 ∙ nil),
+    let parts : List MemberVersions = g.P.GroupParts.parts c.args.parts.now in
+    let u : Launched = launched_behind z.start t.0 parts in (
+      stands id z k c.launch-turn.new.who.number c.launch-turn.new.who.seat.table_id c.args.self.now.last c.launch-turn.new.who.seat.me (s.0 ∙ o.0) s.1 o.1 o.2 o.3.0 (after_launch k u) (c.launch-turn.ensures.launched o.3.0 t.0 at t.1.2) (launched_sits k (z.shards + k) c.args.self.now.last u c.launch-turn.new.who.seat.me.1 (s.2 ∙ nil)),
       (w.0 ∙ t.1.0, w.1, (t.0, parts, c.launch-turn.ensures.handed o.3.0 t.0 at t.1.2)),
     )
 
@@ -40,11 +37,12 @@ returns-clause-launched g c =
     let t = c.requires.ours.1 in
     let at = staged k z o.3.0 o.3.1 Idle m o.3.2 c.requires.ready.idle in
     let parts : List MemberVersions = g.P.GroupParts.parts c.args.parts.now in
-    let now = c.launch-turn.ensures.waiting o.3.0 t.0 at t.1.2 in
+    let now = c.launch-turn.ensures.launched o.3.0 t.0 at t.1.2 in
     let behind = ap (λ (b : List (List MemberVersions)). launched_behind z.start b parts) (sym (ap (λ l. (first_state l).seen) t.1.2)) in
     record {
       number = c.launch-turn.ensures.client.1;
       seen = ap (λ l. (first_state l).seen) now ∙ sym (ap (λ l. (first_state l).seen) o.3.2);
-      stage_is = ap (λ l. (first_state l).stage) now ∙ ap Waiting behind;
+      own_part = λ own. ap (λ l. (first_state l).stage) now ∙ (launched_own k (launched_behind z.start t.0 parts) own ∙ ap Waiting behind);
+      no_part = λ none. ap (λ l. (first_state l).stage) now ∙ launched_other k (launched_behind z.start t.0 parts) none;
       launched_is = launched_is z c.launch-turn.result t.0 parts (c.launch-turn.ensures.handed o.3.0 t.0 at t.1.2) ∙ ap Some behind;
     }

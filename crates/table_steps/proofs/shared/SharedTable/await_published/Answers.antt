@@ -1,7 +1,7 @@
 use Rattle.std.proofs.Common.{◌≡◌, ap, ◌∙◌, arith}
 use Rattle.table_rule.specs.declared.view.Opening.{Opening}
 use Rattle.table_steps.proofs.Keyed.{shards_of}
-use Rattle.table_rule.proofs.Finishing.{awaits}
+use Rattle.table_rule.proofs.Launching.{awaits}
 use Rattle.table_steps.proofs.shared.SharedTable.await_published.Goals as goal
 
 pub load-found-requires : goal.load-found-requires

@@ -1,12 +1,10 @@
-use Rattle.std.proofs.Common.{◌≡◌, ℕ, ◌+◌, [], ◌∷◌, ◌++◌, length, ap, ◌∙◌, arith}
+use Rattle.std.proofs.Common.{ℕ, ◌+◌, ◌++◌, length, ap, ◌∙◌, arith}
 use Rattle.table_rule.specs.declared.view.Opening.{Opening}
-use Rattle.table_rule.specs.declared.view.Lock.TheVariants.{Free}
-use Rattle.table_rule.specs.declared.view.Stage.TheVariants.{Idle, Waiting, Resting, Handing}
-use Rattle.table_rule.specs.Rule.{seat_state}
+use Rattle.table_rule.specs.declared.view.Stage.TheVariants.{Idle, Resting}
 use Rattle.table_rule.specs.Seats.{all_but_first, first_only}
-use Rattle.table_rule.specs.Steps.{IsWithTurn, launched_behind}
+use Rattle.table_rule.specs.Steps.{IsWithTurn}
 use Rattle.table_steps.proofs.Keyed.{shards_of}
-use Rattle.table_rule.proofs.Finishing.{launches}
+use Rattle.table_rule.proofs.Launching.{launches}
 use Rattle.table_rule.proofs.Seats.{joins, splits_turn}
 use Rattle.table_steps.proofs.shared.SharedTable.set_running.Goals as goal
 
@@ -22,7 +20,7 @@ pub store-requires : goal.store-requires
 store-requires g c =
     let q = c.args.self.now.sized in let z : Opening = c.args.self.now.table.shared.key in let e = shards_of z c.args.self.now.opening q.2 in let o = c.requires.next in let s = c.requires.seat in let k : ℕ = c.args.who.now.number in
     let both : IsWithTurn k z o.0 Idle o.1 Resting c.join_seat.new.seat.me = ap (λ m. m.0) c.join_seat.ensures.2 ∙ (λ i. o.2 i ++ o.3 i) in
-    (c.join_seat.ensures.0 ∙ s.0, omega arith, launches g.T.Versioned.versions g.N.Versioned.versions z _ _ c.join_seat.new.seat.me k _ _ o.0 o.1 g.G.GroupPlan.group (ap (λ (k : ℕ). k + 1) e) (c.len.ensures ∙ ap length c.requires.group) s.3 c.requires.member both o.4.0 o.4.1 o.4.2)
+    (c.join_seat.ensures.0 ∙ s.0, omega arith, launches g.T.Versioned.versions g.N.Versioned.versions z _ _ c.join_seat.new.seat.me k _ _ o.0 o.1 g.G.GroupPlan.group (ap (λ (k : ℕ). k + 1) e) (c.len.ensures ∙ ap length c.requires.group) s.3 both o.4.0 o.4.1 o.4.2)
 
 pub split_seat-seat-requires : goal.split_seat-seat-requires
 split_seat-seat-requires g c =
@@ -38,8 +36,8 @@ returns-clause-client g c =
     let now = c.store.ensures.2 k z o.0 o.1 both in
     (c.split_seat-seat.ensures.0 ∙ c.store.ensures.0 ∙ c.join_seat.ensures.0, search, ap (λ m. m.1) c.split_seat-seat.ensures.2 ∙ now.1 ∙ ap (λ m. m.1) c.join_seat.ensures.2)
 
-pub returns-clause-waiting : goal.returns-clause-waiting
-returns-clause-waiting g c own seen at turn =
+pub returns-clause-launched : goal.returns-clause-launched
+returns-clause-launched g c own seen at turn =
     let z : Opening = c.args.self.now.table.shared.key in let k : ℕ = c.args.who.now.number in
     let both : IsWithTurn k z own Idle seen Resting c.join_seat.new.seat.me = ap (λ m. m.0) c.join_seat.ensures.2 ∙ (λ i. at i ++ turn i) in
     ap (λ m. m.0) c.split_seat-seat.ensures.2 ∙ ap first_only (c.store.ensures.2 k z own seen both).0

@@ -9,9 +9,6 @@ use Rattle.table_steps.specs.Accounts.{history_of}
 use Rattle.memory_engine.specs.Tables.{opening_of}
 use Rattle.table_tests.proofs.tests.at_once.lead.Goals as goal
 
-pub launch-requires-clause-member : goal.launch-requires-clause-member
-launch-requires-clause-member g c = let first = c.three_parts-parts.ensures.first in (first.0, first.1, first.2 ∙ sym c.requires.seat.1)
-
 pub launch-requires-clause-next : goal.launch-requires-clause-next
 launch-requires-clause-next g c =
     let z : Opening = opening_of c.args.table.now in
@@ -32,7 +29,9 @@ launch-requires-clause-fits g c =
     omega (arith, start, none, three)
 
 pub complete-published-requires-clause-free : goal.complete-published-requires-clause-free
-complete-published-requires-clause-free g c = subst MayTake (sym c.launch.ensures.launched.stage_is) tt
+complete-published-requires-clause-free g c =
+    let first = c.three_parts-parts.ensures.first in
+    subst MayTake (sym (c.launch.ensures.launched.own_part (first.0, first.1, first.2 ∙ sym c.requires.seat.1))) tt
 
 pub await_published-requires-clause-launched : goal.await_published-requires-clause-launched
 await_published-requires-clause-launched g c =

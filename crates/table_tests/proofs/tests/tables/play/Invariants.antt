@@ -8,7 +8,7 @@ use Rattle.table_tests.proofs.tests.tables.play.Given as goal
 
 abbrev pub invariant-loop-i : goal.invariant-loop-i
 invariant-loop-i g l = record {
-  writer : IsIdle l.table l.writer × ((account_of l.writer).number ≡ 1);
-  reader : IsIdle l.table l.reader;
+  leader : IsIdle l.table l.leader × ((account_of l.leader).number ≡ 1);
+  member : IsIdle l.table l.member;
   turn : MayLaunch l.table l.turn × (last_of (opening_of l.table).start (history_of l.turn) ≡ l.last);
 }
