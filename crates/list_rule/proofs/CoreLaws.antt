@@ -1,18 +1,15 @@
--- The events of the list are events of the core.
-use Rattle.std.proofs.Common.{◌≡◌, ℕ, inr, List, [], ◌∷◌, ◌++◌, length, map, reverse, take, drop, refl, sym, ap, ◌∙◌, subst}
+-- A group that is built is the core's.
+use Rattle.std.proofs.Common.{◌≡◌, ℕ, List, [], ◌∷◌, ◌++◌, length, map, reverse, take, drop, refl, sym, ap, ◌∙◌, subst}
 use Rattle.std.proofs.lemmas.List.{reverse-append, map-append, length-map, length-reverse}
 use Rattle.std.proofs.Math.Seq.{take-append_seam, drop-append_seam}
 use Rattle.wp_model.specs.Grouping.{group_len}
-use Rattle.core_model.specs.declared.event.Event.TheVariants as core
-use Rattle.core_model.specs.Core.{Options, Writer, free as nobody, led, built as in_hand, handed, State, item_of as item_of_writer}
-use Rattle.core_model.specs.Halves.{ListHalf, list_half_of}
+use Rattle.core_model.specs.Core.{Options, Writer, State, item_of as item_of_writer}
 use Rattle.core_model.specs.Step.{group_size}
 use Rattle.list_rule.specs.declared.view.Entry.{Entry}
-use Rattle.list_rule.specs.declared.view.Handling.{Handling}
 use Rattle.list_rule.specs.Chain.{AllCoded}
 use Rattle.wp_model.specs.declared.group.Item.{Item}
-use Rattle.list_rule.specs.CoreEvents.{IsSame, HasItems, core_queue, core_log, IsCoreOf, IsEvent}
-use Rattle.list_rule.specs.Events.{Core, comes, elects, builds, exits, after, Enabled}
+use Rattle.list_rule.specs.CoreEvents.{HasItems, core_queue}
+use Rattle.list_rule.specs.Events.{Core, builds, Enabled}
 use Rattle.list_rule.specs.Grouping.{item_of, code_of, code_by, codes, items}
 
 -- a writer made of client and request has its entry's item
@@ -20,20 +17,12 @@ pub coded_items : {Q : Type 0} → ((i : Item) → item_of (code_of i) ≡ i) �
 coded_items back of_request writer is [] coded = tt
 coded_items back of_request writer is (e ∷ es) coded = ((is e.by e.asked).1 ∙ sym (ap item_of coded.0 ∙ back (of_request e.asked)), coded_items back of_request writer is es coded.1)
 
-module _ {Q P : Type 0} (writer_of : Entry Q → Writer) (o : Options) (s : State) (k : Core Q P) (same : IsSame writer_of) (is : IsCoreOf writer_of k (list_half_of s)) where
+module _ {Q P : Type 0} (writer_of : Entry Q → Writer) (o : Options) (s : State) (k : Core Q P) where
   queue_more : (a b : List (Entry Q)) → core_queue writer_of (a ++ b) ≡ core_queue writer_of b ++ core_queue writer_of a
   queue_more a b = ap (map writer_of) (reverse-append a b) ∙ map-append writer_of (reverse b) (reverse a)
 
   length-queue : (a : List (Entry Q)) → length (core_queue writer_of a) ≡ length a
   length-queue a = length-map (reverse a) writer_of ∙ length-reverse a
-
-  pub links_core : (e : Entry Q) → IsEvent writer_of o (core.Link e.by) s (after k (comes e))
-  links_core e =
-      let new : ListHalf = record (list_half_of s) { queue = s.queue ++ writer_of e ∷ [] } in
-      (new, inr (writer_of e, same e, refl), (ap (λ q. q ++ writer_of e ∷ []) is.0 ∙ sym (queue_more (e ∷ []) k.0), is.1), refl)
-
-  pub elects_core : (e : Entry Q) → Enabled k (elects e) → IsEvent writer_of o (core.Elect e.by) s (after k (elects e))
-  elects_core e may = (record (list_half_of s) { log = led e.by }, (is.1 ∙ ap (core_log writer_of) may.0, refl), (is.0, refl), refl)
 
   reverse_codes : (q : List (Entry Q)) → reverse (codes q) ≡ map (λ (e : Entry Q). e.code) (reverse q)
   reverse_codes [] = refl
@@ -55,23 +44,14 @@ module _ {Q P : Type 0} (writer_of : Entry Q → Writer) (o : Options) (s : Stat
   same_items : (q : List (Entry Q)) → HasItems writer_of q → map item_of_writer (core_queue writer_of q) ≡ items q
   same_items q has = items_core (reverse q) (items_back q has) ∙ ap (map item_of) (sym (reverse_codes q))
 
-  pub builds_core : (own : Entry Q) (group left : List (Entry Q)) → HasItems writer_of k.0 → Enabled k (builds o.group_bytes own group left) → IsEvent writer_of o (core.Build own.by) s (after k (builds o.group_bytes own group left))
-  builds_core own group left has may =
+  -- a group is the front of the core's queue, and the others are left
+  pub builds_core : (own : Entry Q) (group left : List (Entry Q)) → s.queue ≡ core_queue writer_of k.0 → HasItems writer_of k.0 → Enabled k (builds o.group_bytes own group left)
+      → (take (group_size o s) s.queue ≡ core_queue writer_of (group ++ own ∷ [])) × (drop (group_size o s) s.queue ≡ core_queue writer_of left)
+  builds_core own group left is has may =
       let whole : List (Entry Q) = group ++ own ∷ [] in
       let size : group_size o s ≡ length (core_queue writer_of whole) =
-      ap (λ q. group_len o.group_bytes (map item_of_writer q)) is.0 ∙ (ap (group_len o.group_bytes) (same_items k.0 has ∙ ap items may.1) ∙ (sym may.2 ∙ sym (length-queue whole))) in
-      let parts : s.queue ≡ core_queue writer_of whole ++ core_queue writer_of left = is.0 ∙ (ap (core_queue writer_of) may.1 ∙ queue_more left whole) in
-      let new : ListHalf = record (list_half_of s) { log = in_hand (take (group_size o s) s.queue); queue = drop (group_size o s) s.queue } in (
-        new,
-        (is.1 ∙ ap (core_log writer_of) may.0, refl),
-        (
-          (λ i. drop (size i) (parts i)) ∙ drop-append_seam (core_queue writer_of whole) (core_queue writer_of left),
-          ap in_hand ((λ i. take (size i) (parts i)) ∙ take-append_seam (core_queue writer_of whole) (core_queue writer_of left)),
-        ),
-        refl,
+      ap (λ q. group_len o.group_bytes (map item_of_writer q)) is ∙ (ap (group_len o.group_bytes) (same_items k.0 has ∙ ap items may.1) ∙ (sym may.2 ∙ sym (length-queue whole))) in
+      let parts : s.queue ≡ core_queue writer_of whole ++ core_queue writer_of left = is ∙ (ap (core_queue writer_of) may.1 ∙ queue_more left whole) in (
+        (λ i. take (size i) (parts i)) ∙ take-append_seam (core_queue writer_of whole) (core_queue writer_of left),
+        (λ i. drop (size i) (parts i)) ∙ drop-append_seam (core_queue writer_of whole) (core_queue writer_of left),
       )
-
-module _ {Q P : Type 0} (writer_of : Entry Q → Writer) (o : Options) (s : State) (k : Core Q P) where
-  -- a group is handed on
-  pub nexts_core : (own : Entry Q) (new : List (Handling Q P)) → s.queue ≡ core_queue writer_of k.0 → s.log ≡ handed own.by → IsEvent writer_of o (core.Next own.by) s (after k (exits new))
-  nexts_core own new queue hand = (record (list_half_of s) { log = nobody }, (hand, refl), (queue, refl), refl)

@@ -7,7 +7,7 @@ use native.Mathlib.Decide.{ℕ_discrete}
 use lib.ListN.{get_elem?}
 use lib.Seq.{set-get_or}
 use prog.Atomic.{either}
-use Rattle.atomic_table.specs.Table.{step, keeps, takes, gives, chain as both_acts, carried_after, stepped, Allows}
+use Rattle.atomic_table.specs.Table.{step, keeps, takes, gives, carried_after, stepped, Allows}
 use Rattle.atomic_table.proofs.Lists.{set_here, set_else, exchanged}
 use Rattle.list_rule.specs.declared.view.Entry.{Entry}
 use Rattle.list_rule.specs.declared.view.Handling.{Handling}
@@ -16,18 +16,18 @@ use Rattle.list_rule.specs.declared.view.Back.TheVariants.{Away}
 use Rattle.list_rule.specs.declared.content.Content.{Content}
 use Rattle.list_rule.specs.declared.content.Content.TheVariants.{Empty, Asked, Told, Log, Right}
 use Rattle.list_rule.specs.declared.view.Stage.{Stage}
-use Rattle.list_rule.specs.declared.view.Stage.TheVariants.{Idle, Preparing, Waiting, Fresh, Leading, Cutting, Marking, Settling, Collecting}
-use Rattle.list_rule.specs.Chain.{state_at, older_at, pack, newest_from, LinksFrom, of}
+use Rattle.list_rule.specs.declared.view.Stage.TheVariants.{Idle, Preparing, Waiting, Helping, Fresh, Leading, Cutting, Marking, Settling, Collecting}
+use Rattle.list_rule.specs.Chain.{state_at, older_at, pack, newest_from, of}
 use Rattle.list_rule.specs.Standing.{Phase, idle, preparing, linked, chosen, leads, taken, completed, collecting, Mode, open_, waits, led, built, cut, marked, base_of, Holds, KnowsBack, Place}
 use Rattle.list_rule.specs.Laws.{Laws}
-use Rattle.list_rule.specs.Rule.{InChain, Waits, Knows, hold, InPhase, LogHome, InMode, Listed, InSecond, untold}
-use Rattle.list_rule.specs.Events.{Core}
+use Rattle.list_rule.specs.Rule.{InChain, Waits, Knows, Recalls, hold, InPhase, LogHome, InMode, Listed, InSecond, untold}
+use Rattle.list_rule.specs.Events.{Event, comes, elects, Core, HasCome}
 use Rattle.list_rule.specs.SecondList.{second_list_of}
-use Rattle.list_rule.specs.Steps.{Lists, Stays, HappensWhere, IsLink, IsElect, now_of, IsNow, StepIs}
-use Rattle.list_rule.specs.Plays.{Sat, entry, At, begun, peeked, aimed, Elected, entered, looked, rested}
-use Rattle.list_rule.proofs.Chains.{put, put_at, put_here, put_else, links_stay, links_same, ends_same, nobody, newest_small, stand_absent, stand_change, linked_change, taken_change}
+use Rattle.list_rule.specs.Steps.{Lists, Stays, IsLink, now_of, IsNow, StepIs}
+use Rattle.list_rule.specs.Plays.{Sat, entry, At, begun, peeked, aimed, Elected, entered, rested}
+use Rattle.list_rule.proofs.Chains.{put, put_at, put_here, links_stay, links_same, ends_same, nobody, newest_small, stand_absent, stand_change, taken_change}
 use Rattle.list_rule.proofs.Exits.{owing_stays, cut_stays, away_now}
-use Rattle.list_rule.proofs.Accounts.{comes_more, comes_first, leads_now}
+use Rattle.list_rule.proofs.Accounts.{comes_more, comes_first}
 use Rattle.list_rule.proofs.Moves.{St, row_stays, mode_stays, knows_else, moved, Goes, allows, unmoved}
 use Rattle.list_rule.proofs.Keeps.{second_row, second_same}
 
@@ -56,7 +56,8 @@ one_asked c c' q q' v x y = ap (asked_of q) (sym x ∙ y)
 abbrev waits_in : {Q P : Type 0} → Q → Stage Q P → Q
 waits_in d Idle = d
 waits_in d (Preparing w) = d
-waits_in d (Waiting q) = q
+waits_in d (Waiting q past) = q
+waits_in d (Helping q) = q
 waits_in d (Fresh o s) = d
 waits_in d (Leading l) = d
 waits_in d (Cutting l e) = d
@@ -64,16 +65,19 @@ waits_in d (Marking l) = d
 waits_in d (Settling b) = d
 waits_in d Collecting = d
 
-one_waits : {Q P : Type 0} (q q' : Q) → Path (Stage Q P) (Waiting q) (Waiting q') → q ≡ q'
-one_waits {P = P} q q' e = ap (waits_in {P = P} q) e
+pub one_waits : {Q P : Type 0} (q q' : Q) (a b : List (Event Q P)) → Path (Stage Q P) (Waiting q a) (Waiting q' b) → q ≡ q'
+one_waits {P = P} q q' a b e = ap (waits_in {P = P} q) e
 
-one_chosen_entry : {Q P : Type 0} (e f : Entry Q) → Path (Phase Q P) (chosen e) (chosen f) → e ≡ f
+pub one_helps : {Q P : Type 0} (q q' : Q) → Path (Stage Q P) (Helping q) (Helping q') → q ≡ q'
+one_helps {P = P} q q' e = ap (waits_in {P = P} q) e
+
+pub one_chosen_entry : {Q P : Type 0} (e f : Entry Q) → Path (Phase Q P) (chosen e) (chosen f) → e ≡ f
 one_chosen_entry e f is = cc
 
-waits_one : {Q : Type 0} (a b : ℕ) → Path (Mode Q) (waits a) (waits b) → a ≡ b
+pub waits_one : {Q : Type 0} (a b : ℕ) → Path (Mode Q) (waits a) (waits b) → a ≡ b
 waits_one a b is = cc
 
-not_snoc : {A : Type 0} (l : List A) (x : A) → [] ≡ l ++ x ∷ [] → ⊥
+pub not_snoc : {A : Type 0} (l : List A) (x : A) → [] ≡ l ++ x ∷ [] → ⊥
 not_snoc [] x e = absurd (cc)
 not_snoc (y ∷ ys) x e = absurd (cc)
 
@@ -110,14 +114,14 @@ out_second place k collecting a b = b
 
 module _ {Q P L M : Type 0} (stands : Laws Q P L M) (n : ℕ) where
   -- a step of a client that is not in the list and does not come into it
-  aside : (s : St stands n) (r : Listed stands n s) (c id : ℕ) (ws : List ℕ) (hs : List (Option (Content Q P L M))) (h : Hold Q P) (st : Stage Q P) (mine : List (Q × P)) (ph ph' : Phase Q P) (due told : ℕ → List (Q × P))
+  pub aside : (s : St stands n) (r : Listed stands n s) (c id : ℕ) (ws : List ℕ) (hs : List (Option (Content Q P L M))) (h : Hold Q P) (st : Stage Q P) (mine : List (Q × P)) (ph ph' : Phase Q P) (due told : ℕ → List (Q × P))
       → get_elem? s.views id ≡ some (h ∷ []) → h.client ≡ c → r.phase c ≡ ph → IsOut ph → IsOut ph'
       → length ws ≡ length s.words → length hs ≡ length s.homes
       → ((j : ℕ) → j ≢ state_at c → j ≢ older_at c → get_or ws j 0 ≡ get_or s.words j 0) → ((j : ℕ) → j ≢ c → get_elem? hs j ≡ get_elem? s.homes j)
       → h.back ≡ Away → (get_or ws (state_at c) 0 ≡ 4 → get_or s.words (state_at c) 0 ≡ 4) → InPhase stands ws hs c (due c) ph' → ((j : ℕ) → j ≢ c → due j ≡ r.due j) → ((j : ℕ) → j ≢ c → told j ≡ r.told j) → r.told c ++ r.due c ≡ told c ++ due c
-      → mine ≡ told c → ((j : ℕ) → r.due j ≡ [] → due j ≡ []) → ((phase : ℕ → Phase Q P) → phase c ≡ ph' → Knows r.line r.hand r.handled r.mode phase due c st) → untold ph' (due c) ≡ untold ph (r.due c)
+      → mine ≡ told c → ((j : ℕ) → r.due j ≡ [] → due j ≡ []) → ((phase : ℕ → Phase Q P) → phase c ≡ ph' → Knows r.line r.hand r.handled r.mode phase due c st) → untold ph' (due c) ≡ untold ph (r.due c) → Recalls r.account.events st
       → IsNow stands n (now_of stands n s r) (record { words = ws; homes = hs; views = set s.views id (hold c st mine ∷ []) })
-  aside s r c id ws hs h st mine ph ph' due told at client now out out' long_w long_h same_w same_h is_away to4 row due_else told_else shares is_mine nil knows owes =
+  aside s r c id ws hs h st mine ph ph' due told at client now out out' long_w long_h same_w same_h is_away to4 row due_else told_else shares is_mine nil knows owes recalls =
       let fit = (r.seats id (h ∷ []) at).0 in
       let lo : 0 < c = subst (λ (k : ℕ). 0 < k) client fit.1 in
       let left : (e : Entry Q) → InChain e (r.phase c) → ⊥ = λ e here. out_chain e ph out (subst (InChain e) now here) in
@@ -143,6 +147,8 @@ module _ {Q P L M : Type 0} (stands : Laws Q P L M) (n : ℕ) where
         log_is = mode_stays stands n s.homes hs r.line r.hand r.handled r.phase r.due due c ph' (same_h 0 (λ e. omega arith)) was_chosen was_leads was_linked (λ l. taken_change r.phase r.due due c ph' l r.hand (was_taken l) due_else) nil r.mode r.log_is;
         one_chosen = λ j e. put_at r.phase c ph' (λ i f. f ≡ chosen e → r.mode ≡ waits i) j (λ _ bad. absurd (no_chosen e bad)) (λ _ ok. r.one_chosen j e ok);
         account = r.account;
+        goes_on = ([], refl);
+        recalls = recalls;
         has_cut = cut_stays r.account.log r.account.log r.hand r.phase c ph' refl r.mode (λ _ e bad. absurd (subst IsOut (sym now ∙ bad) out)) r.has_cut;
         owing_is = owing_stays r.phase r.due r.account.owing r.owing_is r.account.owing due c ph' refl (owes ∙ ap (λ f. untold f (r.due c)) (sym now)) due_else;
         second = second_row stands n s.words ws s.homes hs r.phase c ph' r.mode (stands.given r.handled) r.two (λ there. out_second r.two.place c ph out (subst (InSecond r.two.place c) now there)) (same_w 1 (λ e. omega arith) (λ e. omega arith)) (λ j ne. same_w (older_at j) (λ e. omega arith) (λ e. ne (omega arith))) (λ j ne. same_w (state_at j) (λ e. ne (omega arith)) (λ e. omega arith)) to4 (same_h (n + 1) (λ e. let small = fit.2 in omega (arith, client))) r.second;
@@ -181,7 +187,7 @@ module _ {Q P L M : Type 0} (stands : Laws Q P L M) (n : ℕ) where
               (λ j a b. same j (λ e. a (e ∙ is))) (λ j ne. set_else s.homes c j none ne) refl
               (λ four. let one : get_or ws (state_at c) 0 ≡ 1 = ap (λ (i : ℕ). get_or ws i 0) (sym is) ∙ get_or-set_same s.words k 1 0 (omega arith) in absurd (omega arith))
               (ap (λ (i : ℕ). get_or ws i 0) (sym is) ∙ get_or-set_same s.words k 1 0 (omega arith), same (older_at c) (λ e. omega arith), row.1)
-              (λ _ _. refl) (λ _ _. refl) refl fit.3 (λ _ e. e) (λ phase here. here) refl,
+              (λ _ _. refl) (λ _ _. refl) refl fit.3 (λ _ e. e) (λ phase here. here) refl tt,
         ),
         λ c' mine' mid'. let e = one_hold c c' Idle Idle mine mine' me.0 mid mid' in
             subst (λ (z : ℕ × List (Q × P)). (v : ℕ) × At z.0 (Preparing v) z.1 (h' ∷ [], (c, Empty) ∷ me.1) × ((c, Empty) ∷ me.1 ≡ (z.0, Empty) ∷ [])) (λ i. (e.0 i, e.2 i)) (w, refl, ap (λ l. (c, Empty) ∷ l) empty),
@@ -210,7 +216,7 @@ module _ {Q P L M : Type 0} (stands : Laws Q P L M) (n : ℕ) where
           aside s r c id ws s.homes h (Preparing new) mine (preparing w) (preparing new) r.due r.told at' refl fit.4 tt tt (length-set s.words k new) refl
               (λ j a b. same j (λ e. b (e ∙ is))) (λ j ne. refl) refl (λ four. sym (same (state_at c) (λ e. omega arith)) ∙ four)
               (same (state_at c) (λ e. omega arith) ∙ row.0, ap (λ (i : ℕ). get_or ws i 0) (sym is) ∙ get_or-set_same s.words k new 0 (omega arith), row.2)
-              (λ _ _. refl) (λ _ _. refl) refl fit.3 (λ _ e. e) (λ phase here. here) refl,
+              (λ _ _. refl) (λ _ _. refl) refl fit.3 (λ _ e. e) (λ phase here. here) refl tt,
         ),
         λ c' w' mine' mid'. let e = one_hold c c' (Preparing w) (Preparing w') mine mine' me.0 mid mid' in
             (λ i. hold (e.0 i) (Preparing new) (e.2 i) ∷ [], refl),
@@ -235,7 +241,7 @@ module _ {Q P L M : Type 0} (stands : Laws Q P L M) (n : ℕ) where
       aside s r c id ws hs h Idle mine collecting idle r.due r.told at' refl fit.4 tt tt (length-set s.words k (get_or s.words k 0)) (length-set s.homes c (some Empty))
       (λ j _ _. same j) (λ j ne. set_else s.homes c j (some Empty) ne) refl (λ four. sym (same (state_at c)) ∙ four)
       (set_here s.homes c (some Empty) (omega arith), row)
-      (λ _ _. refl) (λ _ _. refl) refl fit.3 (λ _ e. e) (λ phase here. here) refl in (
+      (λ _ _. refl) (λ _ _. refl) refl fit.3 (λ _ e. e) (λ phase here. here) refl tt in (
         h' ∷ [],
         gives,
         tt,
@@ -310,7 +316,7 @@ module _ {Q P L M : Type 0} (stands : Laws Q P L M) (n : ℕ) where
         let same : (j : ℕ) → j ≢ 0 → get_or ws j 0 ≡ get_or s.words j 0 = λ j ne. get_or-set_other s.words 0 j c 0 (λ e. ne (omega arith)) in
         let ph : Phase Q P = leads e0 in
         let here : put r.phase c ph c ≡ ph = put_here r.phase c ph in
-        let acc = comes_first r.line r.handled r.mode r.account e0 empty opened (r.owing_is c ∙ (ap (λ f. untold f (r.due c)) now ∙ row.2)) in
+        let acc = comes_first stands.bound r.line r.handled r.mode r.account e0 empty opened (r.owing_is c ∙ (ap (λ f. untold f (r.due c)) now ∙ row.2)) in
         let m' : Sat Q P L M = (h' ∷ [], (0, Log l) ∷ me.1) in (
           h' ∷ [],
           takes 0 (Log l),
@@ -338,6 +344,8 @@ module _ {Q P L M : Type 0} (stands : Laws Q P L M) (n : ℕ) where
               kept = r.kept;
               coded = λ e is. subst (λ (z : Entry Q). stands.asks z.asked z.code) is is_asked;
               account = acc.0;
+              goes_on = (elects e0 ∷ comes e0 ∷ [], acc.2);
+              recalls = tt;
               has_cut = tt;
               owing_is = owing_stays r.phase r.due r.account.owing r.owing_is acc.0.owing r.due c ph (ap (λ (x : Core Q P). x.3) acc.1.2.1 ∙ ap (λ (x : Core Q P). x.3) acc.1.1.1) (ap (λ f. untold f (r.due c)) (sym now)) (λ _ _. refl);
               shared_out = r.shared_out;
@@ -370,13 +378,15 @@ module _ {Q P L M : Type 0} (stands : Laws Q P L M) (n : ℕ) where
         let some_one : r.mode ≡ open_ → ⊥ = λ is_open. let none_there = (subst (InMode stands n s.homes r.line r.hand r.handled r.phase r.due) is_open r.log_is).0 in nz (sym hit ∙ (r.newest_is ∙ (λ i. newest_from (base_of (is_open i)) (none_there i)))) in
         let ws : List ℕ = set s.words 0 c in
         let hs = set s.homes c (some (Asked q)) in
-        let h' : Hold Q P = hold c (Waiting q) mine in
+        let past : List (Event Q P) = comes e0 ∷ r.account.events in
+        let h' : Hold Q P = hold c (Waiting q past) mine in
         let same : (j : ℕ) → j ≢ 0 → get_or ws j 0 ≡ get_or s.words j 0 = λ j ne. get_or-set_other s.words 0 j c 0 (λ e. ne (omega arith)) in
         let ph : Phase Q P = linked e0 in
         let here : put r.phase c ph c ≡ ph = put_here r.phase c ph in
         let away : (e : Entry Q) → InChain e (r.phase c) → ⊥ = λ e is. subst (InChain e) now is in
         let out = away_now stands n s.homes r.line r.hand r.account.queue r.account.log r.handled r.phase r.due c w now (stand_absent r.phase c r.line away r.stand) r.mode r.log_is r.account.shows r.has_cut in
-        let acc = comes_more r.line r.handled r.mode r.account e0 some_one (out.0, out.1, r.owing_is c ∙ (ap (λ f. untold f (r.due c)) now ∙ row.2)) in
+        let acc = comes_more stands.bound r.line r.handled r.mode r.account e0 some_one (out.0, out.1, r.owing_is c ∙ (ap (λ f. untold f (r.due c)) now ∙ row.2)) in
+        let came : HasCome c q mine past = (e0, r.account.events, refl, refl, refl, ap (λ (y : Core Q P). of c y.2) r.account.ran ∙ (r.shared_out c ∙ ((λ i. sym fit.3 i ++ row.2 i) ∙ append-nil mine))) in
         let now_is : Lists Q P = ((acc.0.queue, acc.0.log, r.handled, acc.0.owing), second_list_of r.two) in
         let after : IsNow stands n now_is (record { words = ws; homes = hs; views = set s.views id (h' ∷ []) }) =
         moved stands n s r c id ws hs h h' (e0 ∷ r.line) r.hand r.handled r.mode ph r.due r.told r.two record {
@@ -396,6 +406,8 @@ module _ {Q P L M : Type 0} (stands : Laws Q P L M) (n : ℕ) where
           kept = r.kept;
           coded = λ e is. subst (λ (z : Entry Q). stands.asks z.asked z.code) is is_asked;
           account = acc.0;
+          goes_on = (comes e0 ∷ [], acc.2);
+          recalls = ([], acc.2);
           has_cut = cut_stays r.account.log acc.0.log r.hand r.phase c ph (ap (λ (x : Core Q P). x.1) acc.1.1) r.mode (λ _ e bad. absurd (cc)) r.has_cut;
           owing_is = owing_stays r.phase r.due r.account.owing r.owing_is acc.0.owing r.due c ph (ap (λ (x : Core Q P). x.3) acc.1.1) (ap (λ f. untold f (r.due c)) (sym now)) (λ _ _. refl);
           second = second_row stands n s.words ws s.homes hs r.phase c ph r.mode (stands.given r.handled) r.two (λ there. subst (InSecond r.two.place c) now there) (same 1 (λ e. omega arith)) (λ j _. same (older_at j) (λ e. omega arith)) (λ j _. same (state_at j) (λ e. omega arith)) (λ four. sym (same (state_at c) (λ e. omega arith)) ∙ four) (set_else s.homes c (n + 1) (some (Asked q)) (λ e. omega arith)) r.second;
@@ -415,7 +427,7 @@ module _ {Q P L M : Type 0} (stands : Laws Q P L M) (n : ℕ) where
               let e = one_hold c c' (Preparing w) (Preparing w') mine mine' me.0 mid mid' in
               let same_q : q ≡ q' = one_asked c c' q q' me.1 slot slot' in (
                 (λ _ zero_now. absurd (nz (sym hit ∙ zero_now))),
-                (λ _ _. ((λ i. hold (e.0 i) (Waiting (same_q i)) (e.2 i) ∷ []), ap (λ l. carried_after l gives) slot)),
+                (λ _ _. (past, (λ i. hold (e.0 i) (Waiting (same_q i) past) (e.2 i) ∷ []), subst (λ (z : ℕ × Q × List (Q × P)). HasCome z.0 z.1 z.2 past) (λ i. (e.0 i, same_q i, e.2 i)) came, ap (λ l. carried_after l gives) slot)),
                 λ miss. absurd (miss hit),
               ),
         )
@@ -430,147 +442,6 @@ module _ {Q P L M : Type 0} (stands : Laws Q P L M) (n : ℕ) where
       → Allows (Listed stands n) slots id me 0 (λ y. either (eqb y old) c y) (entered stands.logs (step slots 0 old c said) me)
   enters slots id me c w old code q mine said packs mid slot is_asked = allows stands n (IsLink old (entry c code q)) slots id me 0 (λ y. either (eqb y old) c y) (entered stands.logs (step slots 0 old c said) me) (enters_is slots id me c w old code q mine said packs mid slot is_asked)
 
-  module _ (slots id : ℕ) (me : Sat Q P L M) (c k : ℕ) (q : Q) (mine : List (Q × P)) (is : k ≡ state_at c) (mid : At c (Waiting q) mine me) (empty : me.1 ≡ [])
-      (s : St stands n) (r : Listed stands n s) (at : get_elem? s.views id ≡ some me.0) where
-    abbrev saw : ℕ → Sat Q P L M → Type 0
-    saw = looked stands.logs stands.kept (step slots k 0 0 none) me
-
-    abbrev hw : Hold Q P
-    hw = hold c (Waiting q) mine
-
-    abbrev x : ℕ
-    x = get_or s.words k 0
-
-    looks_on : x ≢ 2 → x ≢ 16 → Goes stands n (HappensWhere 2 (IsElect c q)) s r k id me saw x
-    looks_on n2 n16 = (me.0, keeps, tt, unmoved stands n (HappensWhere 2 (IsElect c q) x) s k id me.1 me.0 at r ((λ y. absurd (n2 y)), λ _. refl), λ _ _ _ _. ((λ y. absurd (n2 y)), (λ y. absurd (n16 y)), λ _ _. refl))
-
-    looks_elected : (e : Entry Q) → r.phase c ≡ chosen e → e.asked ≡ q → Goes stands n (HappensWhere 2 (IsElect c q)) s r k id me saw x
-    looks_elected e now asks =
-        let at' : get_elem? s.views id ≡ some (hw ∷ []) = at ∙ ap some mid in
-        let fit = (r.seats id (hw ∷ []) at').0 in
-        let row = subst (InPhase stands s.words s.homes c (r.due c)) now (r.rows c fit.1 fit.2) in
-        let lo : 0 < c = fit.1 in
-        let hi : c ≤ n = fit.2 in
-        let mode_was : r.mode ≡ waits c = r.one_chosen c e now in
-        let log = subst (InMode stands n s.homes r.line r.hand r.handled r.phase r.due) mode_was r.log_is in
-        let l : L = log.2.0 in
-        let e1 : Entry Q = log.0.1 in
-        let e1_now : r.phase c ≡ chosen e1 = log.0.4 in
-        let same_e : e1 ≡ e = one_chosen_entry e1 e (sym e1_now ∙ now) in
-        let parts : r.line ≡ log.0.0 ++ e ∷ [] = log.0.2 ∙ (λ i. log.0.0 ++ same_e i ∷ []) in
-        let ws : List ℕ = set s.words k x in
-        let hs = set (set s.homes c none) 0 none in
-        let h' : Hold Q P = hold c (Fresh e r.handled) mine in
-        let same : (j : ℕ) → get_or ws j 0 ≡ get_or s.words j 0 = λ j. ap (λ (t : List ℕ). get_or t j 0) (set-get_or s.words k 0) in
-        let ph : Phase Q P = leads e in
-        let here : put r.phase c ph c ≡ ph = put_here r.phase c ph in
-        let m' : Sat Q P L M = (h' ∷ [], (0, Log l) ∷ (c, Asked e.asked) ∷ me.1) in
-        let acc = leads_now r.line r.handled r.mode r.account c e log.0.0 mode_was row.0 parts in
-        let two : x ≡ 2 = ap (λ (j : ℕ). get_or s.words j 0) is ∙ row.1 in (
-          h' ∷ [],
-          both_acts (takes c (Asked e.asked)) (takes 0 (Log l)),
-          (row.2, set_else s.homes c 0 none (λ e. omega arith) ∙ log.2.1),
-          (
-            ((acc.0.queue, acc.0.log, r.handled, acc.0.owing), second_list_of r.two),
-            ((λ _. (e, row.0, asks, (acc.1, refl))), λ y. absurd (y two)),
-            moved stands n s r c id ws hs hw h' r.line r.hand r.handled (led c) ph r.due r.told r.two record {
-              at = at';
-              same_client = refl;
-              wide = length-set s.words k x;
-              many = length-set (set s.homes c none) 0 none ∙ length-set s.homes c none;
-              newest_is = same 0 ∙ (r.newest_is ∙ ap (λ b. newest_from b r.line) (ap base_of mode_was));
-              links = links_same 0 s.words ws r.line (λ j. same (older_at j)) (subst (λ b. LinksFrom b s.words r.line) (ap base_of mode_was) r.links);
-              distinct = r.distinct;
-              within = r.within;
-              stand = stand_change r.phase c ph r.line (λ f is_in. subst (InChain f) now is_in) r.stand;
-              other_rows = λ j ne lo' _. row_stays stands n s.words ws s.homes hs j (r.due j) (same (state_at j)) (same (older_at j)) (set_else (set s.homes c none) 0 j none (λ e. omega arith) ∙ set_else s.homes c j none ne) (r.phase j);
-              row = row.0;
-              log_is = ((log.0.0, e, parts, linked_change r.phase c ph log.0.0 (λ f bad. absurd (cc)) log.0.3, here, row.0), log.1, row.3);
-              one_chosen = λ j f. put_at r.phase c ph (λ i g. g ≡ chosen f → Path (Mode Q) (led c) (waits i)) j (λ _ bad. absurd (cc)) (λ ne ok. let was : r.mode ≡ waits j = r.one_chosen j f ok in absurd (ne (waits_one j c (sym was ∙ mode_was))));
-              kept = r.kept;
-              coded = λ f is. r.coded c f (subst (InChain f) (sym now) is);
-              account = acc.0;
-              has_cut = tt;
-              owing_is = owing_stays r.phase r.due r.account.owing r.owing_is acc.0.owing r.due c ph (ap (λ (y : Core Q P). y.3) acc.1.1) (ap (λ f. untold f (r.due c)) (sym now)) (λ _ _. refl);
-              shared_out = r.shared_out;
-              told_else = λ _ _. refl;
-              mine = fit.3;
-              second = second_same stands n s.words ws s.homes hs r.phase c ph r.mode (led c) (stands.given r.handled) (stands.given r.handled) r.two (inr (λ there. subst (InSecond r.two.place c) now there)) (λ j _. same j) (set_else (set s.homes c none) 0 (n + 1) none (λ e. omega arith) ∙ set_else s.homes c (n + 1) none (λ e. omega arith)) (λ k h. inr (ap r.two.place (sym h) ∙ fit.5.0)) (λ k h. inr (λ four. let here2 : get_or s.words (state_at k) 0 ≡ 2 = ap (λ (j : ℕ). get_or s.words (state_at j) 0) (sym h) ∙ row.1 in let four' = sym (same (state_at k)) ∙ four in absurd (omega arith))) (λ k _ h. absurd (subst (Holds k) mode_was h)) (λ v. v) r.second;
-              back = fit.5;
-              else_back = λ _ _ _ ok. ok;
-              knows = (refl, here, refl);
-              others = λ j ne. knows_else stands n r.line r.line r.hand r.handled r.mode (led c) r.phase r.due r.due c ph j ne (ends_same r.line) (λ h. absurd (subst (Holds j) mode_was h)) (λ f bad. absurd (cc)) (λ f bad. absurd (cc)) (λ _ _. refl);
-            },
-          ),
-          λ c' q' mine' mid'.
-              let o = one_hold c c' (Waiting q) (Waiting q') mine mine' me.0 mid mid' in
-              let same_q : q ≡ q' = one_waits q q' o.1 in
-              let told : Elected stands.logs c q mine m' = (e, r.handled, l, refl, row.0, asks, log.2.2, (λ i. (0, Log l) ∷ (c, Asked (asks i)) ∷ empty i), r.shared_out c ∙ ((λ i. sym fit.3 i ++ row.3 i) ∙ append-nil mine)) in (
-                (λ _. subst (λ (t : ℕ × Q × List (Q × P)). Elected stands.logs t.0 t.1 t.2 m') (λ i. (o.0 i, same_q i, o.2 i)) told),
-                (λ y. absurd (omega arith)),
-                λ y. absurd (y two),
-              ),
-        )
-
-    looks_done : (q0 : Q) (p : P) → r.phase c ≡ completed q0 p → q0 ≡ q → Goes stands n (HappensWhere 2 (IsElect c q)) s r k id me saw x
-    looks_done q0 p now asks =
-        let at' : get_elem? s.views id ≡ some (hw ∷ []) = at ∙ ap some mid in
-        let fit = (r.seats id (hw ∷ []) at').0 in
-        let row = subst (InPhase stands s.words s.homes c (r.due c)) now (r.rows c fit.1 fit.2) in
-        let ws : List ℕ = set s.words k x in
-        let hs = set s.homes c none in
-        let got : List (Q × P) = mine ++ (q, p) ∷ [] in
-        let h' : Hold Q P = hold c Collecting got in
-        let same : (j : ℕ) → get_or ws j 0 ≡ get_or s.words j 0 = λ j. ap (λ (t : List ℕ). get_or t j 0) (set-get_or s.words k 0) in
-        let due : ℕ → List (Q × P) = put r.due c [] in
-        let told : ℕ → List (Q × P) = put r.told c got in
-        let none_due : due c ≡ [] = put_here r.due c [] in
-        let told_is : told c ≡ got = put_here r.told c got in
-        let sixteen : x ≡ 16 = ap (λ (j : ℕ). get_or s.words j 0) is ∙ row.0 in
-        let m' : Sat Q P L M = (h' ∷ [], (c, Told p) ∷ me.1) in
-        let shares : r.told c ++ r.due c ≡ told c ++ due c =
-        (λ i. sym fit.3 i ++ row.2 i) ∙ ((λ i. mine ++ (asks i, p) ∷ []) ∙ (sym (append-nil got) ∙ (λ i. sym told_is i ++ sym none_due i))) in (
-          h' ∷ [],
-          takes c (Told p),
-          row.1,
-          (
-            now_of stands n s r,
-            ((λ y. absurd (omega arith)), λ _. refl),
-            aside s r c id ws hs hw Collecting got (completed q0 p) collecting due told at' refl now tt tt (length-set s.words k x) (length-set s.homes c none)
-                (λ j _ _. same j) (λ j ne. set_else s.homes c j none ne) refl (λ four. sym (same (state_at c)) ∙ four) none_due (λ j ne. put_else r.due c [] j ne) (λ j ne. put_else r.told c got j ne) shares (sym told_is) (λ j e. put_at r.due c [] (λ i d. r.due i ≡ [] → d ≡ []) j (λ _ _. refl) (λ _ here. here) e) (λ phase here. here) none_due,
-          ),
-          λ c' q' mine' mid'.
-              let o = one_hold c c' (Waiting q) (Waiting q') mine mine' me.0 mid mid' in
-              let same_q : q ≡ q' = one_waits q q' o.1 in (
-                (λ y. absurd (omega arith)),
-                (λ _. subst (λ (t : ℕ × Q × List (Q × P)). (p' : P) × At t.0 Collecting (t.2 ++ (t.1, p') ∷ []) m' × (m'.1 ≡ (t.0, Told p') ∷ []) × ((handled : List (Handling Q P)) × stands.kept handled × (of t.0 handled ≡ t.2 ++ (t.1, p') ∷ []))) (λ i. (o.0 i, same_q i, o.2 i)) (p, refl, ap (λ t. (c, Told p) ∷ t) empty, (r.handled, r.kept, r.shared_out c ∙ (λ i. sym fit.3 i ++ (row.2 ∙ (λ j. (asks j, p) ∷ [])) i)))),
-                λ _ y. absurd (y sixteen),
-              ),
-        )
-
-    looks_at : (ph : Phase Q P) → r.phase c ≡ ph → Waits q ph → InPhase stands s.words s.homes c (r.due c) ph → Goes stands n (HappensWhere 2 (IsElect c q)) s r k id me saw x
-    looks_at idle now w ok = absurd w
-    looks_at (preparing v) now w ok = absurd w
-    looks_at (linked e) now w ok = let one : x ≡ 1 = ap (λ (j : ℕ). get_or s.words j 0) is ∙ ok.1 in looks_on (λ y. omega arith) (λ y. omega arith)
-    looks_at (chosen e) now w ok = looks_elected e now w
-    looks_at (leads e) now w ok = absurd w
-    looks_at (taken l e) now w ok = let at_c : x ≡ get_or s.words (state_at c) 0 = ap (λ (j : ℕ). get_or s.words j 0) is in looks_on (λ y. ok.1 (sym at_c ∙ y)) (λ y. ok.2 (sym at_c ∙ y))
-    looks_at (completed q0 p) now w ok = looks_done q0 p now w
-    looks_at collecting now w ok = absurd w
-
-    looks_all : Goes stands n (HappensWhere 2 (IsElect c q)) s r k id me saw x
-    looks_all = let fit = (r.seats id (hw ∷ []) (at ∙ ap some mid)).0 in looks_at (r.phase c) refl fit.4 (r.rows c fit.1 fit.2)
-
-  pub looks_is : (slots id : ℕ) (me : Sat Q P L M) (c k : ℕ) (q : Q) (mine : List (Q × P)) → k ≡ state_at c → At c (Waiting q) mine me → me.1 ≡ [] → StepIs stands n (HappensWhere 2 (IsElect c q)) slots id me k (λ y. y) (looked stands.logs stands.kept (step slots k 0 0 none) me)
-  looks_is slots id me c k q mine is mid empty s r long at fits = looks_all slots id me c k q mine is mid empty s r at
-
-  pub looks : (slots id : ℕ) (me : Sat Q P L M) (c k : ℕ) (q : Q) (mine : List (Q × P)) → k ≡ state_at c → At c (Waiting q) mine me → me.1 ≡ [] → Allows (Listed stands n) slots id me k (λ y. y) (looked stands.logs stands.kept (step slots k 0 0 none) me)
-  looks slots id me c k q mine is mid empty = allows stands n (HappensWhere 2 (IsElect c q)) slots id me k (λ y. y) (looked stands.logs stands.kept (step slots k 0 0 none) me) (looks_is slots id me c k q mine is mid empty)
-
   pub enters_as : (stood : L → List (Handling Q P) → Type 0) → stands.logs ≡ stood → (slots id : ℕ) (me : Sat Q P L M) (c w old code : ℕ) (q : Q) (mine : List (Q × P)) (said : Option (Content Q P L M)) → w ≡ pack old code → At c (Preparing w) mine me → me.1 ≡ (c, Asked q) ∷ [] → stands.asks q code
       → Allows (Listed stands n) slots id me 0 (λ y. either (eqb y old) c y) (entered stood (step slots 0 old c said) me)
   enters_as stood is slots id me c w old code q mine said packs mid slot is_asked = subst (λ z. Allows (Listed stands n) slots id me 0 (λ y. either (eqb y old) c y) (entered z (step slots 0 old c said) me)) is (enters slots id me c w old code q mine said packs mid slot is_asked)
-
-  pub looks_as : (stood : L → List (Handling Q P) → Type 0) (kept : List (Handling Q P) → Type 0) → stands.logs ≡ stood → stands.kept ≡ kept → (slots id : ℕ) (me : Sat Q P L M) (c k : ℕ) (q : Q) (mine : List (Q × P)) → k ≡ state_at c → At c (Waiting q) mine me → me.1 ≡ []
-      → Allows (Listed stands n) slots id me k (λ y. y) (looked stood kept (step slots k 0 0 none) me)
-  looks_as stood kept is is_kept slots id me c k q mine at mid empty = subst (λ z. Allows (Listed stands n) slots id me k (λ y. y) (looked z kept (step slots k 0 0 none) me)) is (subst (λ z. Allows (Listed stands n) slots id me k (λ y. y) (looked stands.logs z (step slots k 0 0 none) me)) is_kept (looks slots id me c k q mine at mid empty))

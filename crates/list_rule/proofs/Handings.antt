@@ -1,5 +1,5 @@
 -- What a leader's view shows of the lists, in each state in which the rule holds.
-use Rattle.std.proofs.Common.{◌≤◌, length, arith, ◌≡◌, ◌⊎◌, inl, inr, ℕ, Bool, true, List, [], ◌∷◌, ◌++◌, refl, sym, ap, ◌∙◌, subst}
+use Rattle.std.proofs.Common.{◌≡◌, ◌⊎◌, inl, inr, ℕ, Bool, true, List, [], ◌∷◌, ◌++◌, refl, sym, ap, ◌∙◌, subst}
 use Rattle.atomic_table.specs.Table.{State}
 use Rattle.list_rule.specs.declared.view.Entry.{Entry}
 use Rattle.list_rule.specs.declared.view.Handling.{Handling}
@@ -9,7 +9,7 @@ use Rattle.list_rule.specs.declared.view.Squad.{Squad}
 use Rattle.list_rule.specs.declared.view.Back.{Back}
 use Rattle.list_rule.specs.declared.view.Back.TheVariants.{Away, Parting, Joining, Holding, Queued, Serving, Passing}
 use Rattle.list_rule.specs.declared.view.Stage.{Stage}
-use Rattle.list_rule.specs.declared.view.Stage.TheVariants.{Idle, Preparing, Waiting, Fresh, Leading, Cutting, Marking, Settling, Collecting}
+use Rattle.list_rule.specs.declared.view.Stage.TheVariants.{Idle, Preparing, Waiting, Helping, Fresh, Leading, Cutting, Marking, Settling, Collecting}
 use Rattle.list_rule.specs.declared.content.Content.{Content}
 use Rattle.list_rule.specs.Chain.{AllCoded, Absent, newest, Links}
 use Rattle.list_rule.specs.Events.{Held, grouped, IsNotWith}
@@ -20,9 +20,10 @@ use Rattle.list_rule.specs.Plays.{HandsOn, IsCut, debt}
 use Rattle.list_rule.specs.SecondList.{served_in, last_served}
 use Rattle.list_rule.specs.Steps.{now_of}
 use Rattle.list_rule.specs.Handing.{Sees, IsWalked, IsOwn, IsJoined, IsServed, IsNewestGroup, IsOldestGroup}
+use Rattle.list_rule.proofs.Holding.{few_served}
 use Rattle.list_rule.proofs.Groups.{absent_append, absent_front, absent_back, taken_absent}
 use Rattle.list_rule.proofs.Leads.{one_leads, coded_in}
-use Rattle.list_rule.proofs.Seconds.{in_one, behind_in, flat_snoc, with_absent, absent_groups, member_absent}
+use Rattle.list_rule.proofs.Squads.{in_one, behind_in, flat_snoc, with_absent, absent_groups, member_absent}
 use Rattle.list_rule.proofs.Settles.{handled_out, one_taker}
 
 module _ {Q P : Type 0} where
@@ -39,7 +40,8 @@ module _ {Q P : Type 0} where
   own_cut : (log : Held Q) (line hand : List (Entry Q)) (handled : List (Handling Q P)) (mode : Mode Q) (phase : ℕ → Phase Q P) (due : ℕ → List (Q × P)) (c : ℕ) (lead : Lead Q P) (st : Stage Q P) → IsCut lead st → Knows line hand handled mode phase due c st → HasCut log hand phase mode → log ≡ grouped lead.own lead.taken
   own_cut log line hand handled mode phase due c lead Idle is ok has = absurd is
   own_cut log line hand handled mode phase due c lead (Preparing w) is ok has = absurd is
-  own_cut log line hand handled mode phase due c lead (Waiting q) is ok has = absurd is
+  own_cut log line hand handled mode phase due c lead (Waiting q past) is ok has = absurd is
+  own_cut log line hand handled mode phase due c lead (Helping q) is ok has = absurd is
   own_cut log line hand handled mode phase due c lead (Fresh o n) is ok has = absurd is
   own_cut log line hand handled mode phase due c lead (Leading l) is ok has = absurd is
   own_cut log line hand handled mode phase due c lead (Cutting l e) is ok has =
@@ -81,7 +83,8 @@ module _ {Q P L M : Type 0} (stands : Laws Q P L M) (n : ℕ) (s : State (Conten
       by_stage : (st : Stage Q P) → Knows r.line r.hand r.handled r.mode r.phase r.due c st → ((own : Entry Q) → r.phase c ≡ leads own → own.by ≡ c) → IsOwn c st
       by_stage Idle ok own = tt
       by_stage (Preparing w) ok own = tt
-      by_stage (Waiting q) ok own = tt
+      by_stage (Waiting q past) ok own = tt
+      by_stage (Helping q) ok own = tt
       by_stage (Fresh o seen) ok own = own o ok.1
       by_stage (Leading l) ok own = own l.own ok.1
       by_stage (Cutting l e) ok own = own l.own ok.1
@@ -160,21 +163,7 @@ module _ {Q P L M : Type 0} (stands : Laws Q P L M) (n : ℕ) (s : State (Conten
 
   -- the walk of the second list
   pub walked_is : IsWalked (now_of stands n s r) s.words
-  walked_is = (r.two.groups, last_served r.two.place r.two.turn, refl, few r.two.turn, r.second.newest_is, r.second.links)
-    where
-      one : (p : Place Q P) → length (served_in p) ≤ 1
-      one away = omega arith
-      one (parted f b) = omega arith
-      one (queued f) = omega arith
-      one (called f) = omega arith
-      one (serves f) = omega arith
-      one (served f) = omega arith
-
-      few : (turn : Turn) → length (last_served r.two.place turn) ≤ 1
-      few still = omega arith
-      few (calls k) = omega arith
-      few (held_by k) = omega arith
-      few (passes k w) = one (r.two.place k)
+  walked_is = (r.two.groups, last_served r.two.place r.two.turn, refl, few_served stands n r.two.place r.two.turn, r.second.newest_is, r.second.links)
 
 module _ {Q P L M : Type 0} (stands : Laws Q P L M) (n : ℕ) (s : State (Content Q P L M) (List (Hold Q P))) (r : Listed stands n s) (id c : ℕ) (mine : List (Q × P)) where
   no_place : r.two.place c ≡ away → (g : Squad Q P) → In g (r.two.place c) → ⊥

@@ -1,15 +1,17 @@
 -- What the rule says of the list between two steps.
-use Rattle.std.proofs.Common.{◌≡◌, Bool, true, false, ℕ, List}
+use Rattle.std.proofs.Common.{◌≡◌, Bool, true, false, ℕ, ◌≤◌, List, [], ◌∷◌, length, refl, arith}
 use Rattle.atomic_table.specs.Table.{State}
 use mathlib.Core.Option.{Option}
 use Rattle.list_rule.specs.declared.content.Content.{Content}
 use Rattle.list_rule.specs.declared.view.Entry.{Entry}
 use Rattle.list_rule.specs.declared.view.Handling.{Handling}
 use Rattle.list_rule.specs.declared.view.Hold.{Hold}
-use Rattle.list_rule.specs.Standing.{Phase, Mode, open_, waits, led, built, cut, marked, Two, Turn, still, calls, held_by, passes, flat, InStep}
+use Rattle.list_rule.specs.Standing.{Phase, Mode, open_, waits, led, built, cut, marked, Two, Turn, still, calls, held_by, passes, Place, away, parted, queued, called, serves, served, flat, InStep}
 use Rattle.list_rule.specs.Laws.{Laws}
-use Rattle.list_rule.specs.Rule.{Listed, InMode, InTurn, Level}
-use Rattle.list_rule.specs.Between.{LogAtHome, RightAt, Between}
+use Rattle.list_rule.specs.Rule.{Listed, InMode, InTurn, Level, AllFit}
+use Rattle.list_rule.specs.SecondList.{last_served, served_in}
+use Rattle.list_rule.specs.Steps.{now_of}
+use Rattle.list_rule.specs.Between.{LogAtHome, RightAt, AllRecall, Between, AreLists}
 use Rattle.list_rule.proofs.Groups.{walk_bound}
 
 module _ {Q P L M : Type 0} (stands : Laws Q P L M) (n : ℕ) where
@@ -33,6 +35,24 @@ module _ {Q P L M : Type 0} (stands : Laws Q P L M) (n : ℕ) where
   level_in two last true is ok = ok
   level_in two last false is ok = absurd (cc)
 
+  none_in : (two : Two Q P) (last : List (Handling Q P)) (piped : Bool) → piped ≡ false → Level stands piped two last → two.groups ≡ []
+  none_in two last true is ok = absurd (cc)
+  none_in two last false is ok = ok.0
+
+  pub few_served : (place : ℕ → Place Q P) (turn : Turn) → length (last_served place turn) ≤ 1
+  few_served place still = omega arith
+  few_served place (calls c) = omega arith
+  few_served place (held_by c) = omega arith
+  few_served place (passes c next) = few (place c)
+    where
+      few : (p : Place Q P) → length (served_in p) ≤ 1
+      few away = omega arith
+      few (parted g b) = omega arith
+      few (queued g) = omega arith
+      few (called g) = omega arith
+      few (serves g) = omega arith
+      few (served g) = omega arith
+
   pub between : (s : State (Content Q P L M) (List (Hold Q P))) → Listed stands n s → Between stands n s
   between s r = record {
     walk = r.line;
@@ -48,6 +68,7 @@ module _ {Q P L M : Type 0} (stands : Laws Q P L M) (n : ℕ) where
     distinct = r.distinct;
     within = r.within;
     legal = r.account.legal;
+    recalled = λ id v at. all_recall id v (r.seats id v at);
     ran = r.account.ran;
     shows = r.account.shows;
     home = home_in s.homes r.line r.hand r.handled r.phase r.due r.mode r.log_is;
@@ -62,5 +83,14 @@ module _ {Q P L M : Type 0} (stands : Laws Q P L M) (n : ℕ) where
     second_within = r.second.within;
     right = right_in s.words s.homes r.phase r.two r.two.turn r.second.turn_is;
     handed = r.second.ahead_holds;
+    none_second = λ is. none_in r.two (stands.given r.handled) stands.piped is r.second.in_level;
     in_order = λ is. level_in r.two (stands.given r.handled) stands.piped is r.second.in_level;
   }
+    where
+      all_recall : (id : ℕ) (v : List (Hold Q P)) → AllFit n r.line r.hand r.handled r.mode r.phase r.due r.told r.two r.account.events r.seat id v → AllRecall r.account.events v
+      all_recall id [] ok = tt
+      all_recall id (h ∷ hs) ok = (ok.0.6, all_recall id hs ok.1)
+
+  pub shown : (s : State (Content Q P L M) (List (Hold Q P))) (r : Listed stands n s) → (b : Between stands n s) × AreLists stands b (now_of stands n s r)
+  unfolding between
+  shown s r = (between s r, (refl, refl, (last_served r.two.place r.two.turn, refl, few_served r.two.place r.two.turn)))

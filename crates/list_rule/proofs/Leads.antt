@@ -1,39 +1,36 @@
 -- The steps of a leader: each keeps the rule, and which event it is.
-use Rattle.std.proofs.Common.{true, ◌≡◌, ◌≢◌, ℕ, suc, ◌+◌, ◌*◌, ◌<◌, ◌≤◌, eqb, List, [], ◌∷◌, ◌++◌, length, get_or, set, refl, sym, ap, ◌∙◌, subst, inl, inr, ⊎_elim, arith, length-set, append-nil, append_assoc, get_or-set_other, get_or-set_same}
+use Rattle.std.proofs.Common.{◌≡◌, ◌≢◌, ℕ, suc, ◌+◌, ◌<◌, ◌≤◌, List, [], ◌∷◌, ◌++◌, length, get_or, set, refl, sym, ap, ◌∙◌, subst, inl, inr, arith, length-set, append_assoc}
 use mathlib.Core.Logic.{dite}
 use mathlib.Core.Path.{Path}
-use mathlib.Core.Option.{Option, none, some}
+use mathlib.Core.Option.{none, some}
 use native.Mathlib.Decide.{ℕ_discrete}
 use lib.ListN.{get_elem?}
 use lib.Seq.{set-get_or}
-use prog.Atomic.{either}
-use Rattle.atomic_table.specs.Table.{step, keeps, takes, gives, carried_after, stepped, Allows}
-use Rattle.atomic_table.proofs.Lists.{at_set, set_here, set_else, exchanged}
+use Rattle.atomic_table.specs.Table.{step, keeps, takes, stepped, Allows}
+use Rattle.atomic_table.proofs.Lists.{set_else}
 use Rattle.list_rule.specs.declared.view.Entry.{Entry}
 use Rattle.list_rule.specs.declared.view.Handling.{Handling}
 use Rattle.list_rule.specs.declared.view.Lead.{Lead}
-use Rattle.list_rule.specs.declared.view.Debt.{Debt}
 use Rattle.list_rule.specs.declared.view.Hold.{Hold}
-use Rattle.list_rule.specs.declared.content.Content.{Content}
-use Rattle.list_rule.specs.declared.content.Content.TheVariants.{Empty, Asked, Told, Log, Right}
+use Rattle.list_rule.specs.declared.content.Content.TheVariants.{Asked}
 use Rattle.list_rule.specs.declared.view.Stage.{Stage}
-use Rattle.list_rule.specs.declared.view.Stage.TheVariants.{Idle, Preparing, Waiting, Fresh, Leading, Cutting, Marking, Settling, Collecting}
-use Rattle.list_rule.specs.Chain.{AllCoded, state_at, older_at, newest, newest_from, Links, LinksFrom, Absent, Distinct, Within, of, heads, handling, answers, all_answers}
-use Rattle.list_rule.specs.Standing.{Phase, idle, preparing, linked, chosen, leads, taken, completed, collecting, Mode, open_, waits, led, built, base_of, Holds, ahead}
+use Rattle.list_rule.specs.declared.view.Stage.TheVariants.{Idle, Preparing, Waiting, Helping, Fresh, Leading, Cutting, Marking, Settling, Collecting}
+use Rattle.list_rule.specs.Chain.{AllCoded, state_at, older_at, newest_from, Links, LinksFrom, Absent, Distinct, Within}
+use Rattle.list_rule.specs.Standing.{Phase, idle, preparing, linked, chosen, leads, taken, completed, collecting, Mode, waits, led, built, base_of, Holds}
 use Rattle.list_rule.specs.Laws.{Laws}
-use Rattle.list_rule.specs.Rule.{InChain, Stand, Waits, AllLinked, AllTaken, AllOwed, Knows, AllFit, hold, InPhase, InMode, Listed, InSecond, hold_at, untold}
+use Rattle.list_rule.specs.Rule.{InChain, Stand, Waits, AllLinked, AllTaken, Knows, hold, InPhase, InMode, Listed, InSecond, untold}
 use Rattle.list_rule.proofs.Fitting.{split_group}
-use Rattle.list_rule.specs.Events.{Core, IsOfGroup}
+use Rattle.list_rule.specs.Events.{Event, builds, Core, Legal}
 use Rattle.list_rule.specs.SecondList.{second_list_of}
-use Rattle.list_rule.specs.Steps.{Lists, Stays, HappensWhere, IsBuild, IsExit, now_of, IsNow, Becomes, StepIs}
-use Rattle.list_rule.specs.Plays.{Sat, building, At, walking, taking, in_hand, debt, slots_of, AllBelow, Walks, Builds, read_once, traced, fetched, left}
-use Rattle.list_rule.proofs.Chains.{put, put_at, put_here, put_else, links_same, ends_same, stand_change, linked_change, taken_change, owed_change}
-use Rattle.list_rule.proofs.Exits.{group_handled, owing_stays, owing_grows}
-use Rattle.list_rule.proofs.Accounts.{builds_now, stays_now, leaves_now}
-use Rattle.list_rule.proofs.Moves.{St, row_stays, knows_stays, knows_else, moved, Goes, allows, unmoved}
-use Rattle.list_rule.proofs.Keeps.{second_same, level_same}
+use Rattle.list_rule.specs.Steps.{Stays, IsBuild, now_of, IsNow, Becomes, StepIs}
+use Rattle.list_rule.specs.Plays.{Sat, building, At, walking, taking, in_hand, AllBelow, Walks, Builds, read_once, traced, fetched}
+use Rattle.list_rule.proofs.Chains.{put, put_at, put_here, put_else, links_same, ends_same, stand_change, linked_change, taken_change}
+use Rattle.list_rule.proofs.Exits.{owing_stays}
+use Rattle.list_rule.proofs.Accounts.{builds_now, stays_now}
+use Rattle.list_rule.proofs.Moves.{St, row_stays, knows_stays, knows_else, recalls_more, reviewed, moved, allows, unmoved}
+use Rattle.list_rule.proofs.Keeps.{second_same}
 use Rattle.std.proofs.lemmas.List.{append_cancel_right}
-use Rattle.list_rule.proofs.Groups.{links_at, walk_bound, distinct_apart, distinct_front, distinct_back, within_at, linked_at, linked_front, linked_absent, taken_absent, of-append, of_other, new_none, new_own, owes, none_before_group}
+use Rattle.list_rule.proofs.Groups.{links_at, walk_bound, distinct_apart, distinct_back, within_at, linked_at, linked_front, linked_absent}
 use Rattle.list_rule.proofs.Enters.{one_hold}
 
 last_or : {A : Type 0} → A → List A → A
@@ -70,21 +67,23 @@ module _ {Q P : Type 0} where
   IsQueued collecting = ⊥
 
   pub still_waits : (line line' hand hand' : List (Entry Q)) (handled handled' : List (Handling Q P)) (mode mode' : Mode Q) (phase phase' : ℕ → Phase Q P) (due due' : ℕ → List (Q × P)) (k : ℕ) (ph : Phase Q P) → phase k ≡ ph → IsQueued ph
-      → ((q : Q) → Waits q ph → Waits q (phase' k)) → (st : Stage Q P) → Knows line hand handled mode phase due k st → Knows line' hand' handled' mode' phase' due' k st
-  still_waits line line' hand hand' handled handled' mode mode' phase phase' due due' k ph now queued to Idle ok = absurd (subst IsQueued (sym now ∙ ok) queued)
-  still_waits line line' hand hand' handled handled' mode mode' phase phase' due due' k ph now queued to (Preparing w) ok = absurd (subst IsQueued (sym now ∙ ok) queued)
-  still_waits line line' hand hand' handled handled' mode mode' phase phase' due due' k ph now queued to (Waiting q) ok = to q (subst (Waits q) now ok)
-  still_waits line line' hand hand' handled handled' mode mode' phase phase' due due' k ph now queued to (Fresh o n) ok = absurd (subst IsQueued (sym now ∙ ok.1) queued)
-  still_waits line line' hand hand' handled handled' mode mode' phase phase' due due' k ph now queued to (Leading lead) ok = absurd (subst IsQueued (sym now ∙ ok.1) queued)
-  still_waits line line' hand hand' handled handled' mode mode' phase phase' due due' k ph now queued to (Cutting lead e) ok = absurd (subst IsQueued (sym now ∙ ok.1) queued)
-  still_waits line line' hand hand' handled handled' mode mode' phase phase' due due' k ph now queued to (Marking lead) ok = absurd (subst IsQueued (sym now ∙ ok.1) queued)
-  still_waits line line' hand hand' handled handled' mode mode' phase phase' due due' k ph now queued to (Settling d) ok = absurd (subst IsQueued (sym now ∙ ok.1) queued)
-  still_waits line line' hand hand' handled handled' mode mode' phase phase' due due' k ph now queued to Collecting ok = absurd (subst IsQueued (sym now ∙ ok) queued)
+      → ((q : Q) → Waits q ph → Waits q (phase' k)) → ((x : Q × P) → due k ≡ x ∷ [] → due' k ≡ x ∷ []) → (st : Stage Q P) → Knows line hand handled mode phase due k st → Knows line' hand' handled' mode' phase' due' k st
+  still_waits line line' hand hand' handled handled' mode mode' phase phase' due due' k ph now queued to keep Idle ok = absurd (subst IsQueued (sym now ∙ ok) queued)
+  still_waits line line' hand hand' handled handled' mode mode' phase phase' due due' k ph now queued to keep (Preparing w) ok = absurd (subst IsQueued (sym now ∙ ok) queued)
+  still_waits line line' hand hand' handled handled' mode mode' phase phase' due due' k ph now queued to keep (Waiting q past) ok = to q (subst (Waits q) now ok)
+  still_waits line line' hand hand' handled handled' mode mode' phase phase' due due' k ph now queued to keep (Helping q) ok = (to q (subst (Waits q) now ok.0), (ok.1.0, keep (q, ok.1.0) ok.1.1))
+  still_waits line line' hand hand' handled handled' mode mode' phase phase' due due' k ph now queued to keep (Fresh o n) ok = absurd (subst IsQueued (sym now ∙ ok.1) queued)
+  still_waits line line' hand hand' handled handled' mode mode' phase phase' due due' k ph now queued to keep (Leading lead) ok = absurd (subst IsQueued (sym now ∙ ok.1) queued)
+  still_waits line line' hand hand' handled handled' mode mode' phase phase' due due' k ph now queued to keep (Cutting lead e) ok = absurd (subst IsQueued (sym now ∙ ok.1) queued)
+  still_waits line line' hand hand' handled handled' mode mode' phase phase' due due' k ph now queued to keep (Marking lead) ok = absurd (subst IsQueued (sym now ∙ ok.1) queued)
+  still_waits line line' hand hand' handled handled' mode mode' phase phase' due due' k ph now queued to keep (Settling d) ok = absurd (subst IsQueued (sym now ∙ ok.1) queued)
+  still_waits line line' hand hand' handled handled' mode mode' phase phase' due due' k ph now queued to keep Collecting ok = absurd (subst IsQueued (sym now ∙ ok) queued)
 
   abbrev pub lead_in : Lead Q P → Stage Q P → Lead Q P
   lead_in d Idle = d
   lead_in d (Preparing w) = d
-  lead_in d (Waiting q) = d
+  lead_in d (Waiting q past) = d
+  lead_in d (Helping q) = d
   lead_in d (Fresh o n) = d
   lead_in d (Leading l) = l
   lead_in d (Cutting l e) = l
@@ -99,7 +98,8 @@ module _ {Q P : Type 0} where
   abbrev fresh_entry : Entry Q → Stage Q P → Entry Q
   fresh_entry d Idle = d
   fresh_entry d (Preparing w) = d
-  fresh_entry d (Waiting q) = d
+  fresh_entry d (Waiting q past) = d
+  fresh_entry d (Helping q) = d
   fresh_entry d (Fresh o s) = o
   fresh_entry d (Leading l) = d
   fresh_entry d (Cutting l e) = d
@@ -110,7 +110,8 @@ module _ {Q P : Type 0} where
   abbrev fresh_seen : List (Handling Q P) → Stage Q P → List (Handling Q P)
   fresh_seen d Idle = d
   fresh_seen d (Preparing w) = d
-  fresh_seen d (Waiting q) = d
+  fresh_seen d (Waiting q past) = d
+  fresh_seen d (Helping q) = d
   fresh_seen d (Fresh o s) = s
   fresh_seen d (Leading l) = d
   fresh_seen d (Cutting l e) = d
@@ -146,47 +147,6 @@ module _ {Q P L M : Type 0} (stands : Laws Q P L M) (n : ℕ) where
         own_by = subst (InPhase stands s.words s.homes c (r.due c)) ok.1 (r.rows c lo hi);
       }
 
-  -- the seat alone moves
-  pub reviewed : (s : St stands n) (r : Listed stands n s) (id : ℕ) (h : Hold Q P) (st : Stage Q P) → get_elem? s.views id ≡ some (h ∷ []) → Knows r.line r.hand r.handled r.mode r.phase r.due h.client st
-      → IsNow stands n (now_of stands n s r) (record { words = s.words; homes = s.homes; views = set s.views id (hold_at h.client st h.mine h.back ∷ []) })
-  reviewed s r id h st at knows =
-      let mine = (r.seats id (h ∷ []) at).0 in (
-        record {
-          line = r.line;
-          hand = r.hand;
-          handled = r.handled;
-          mode = r.mode;
-          phase = r.phase;
-          due = r.due;
-          told = r.told;
-          seat = r.seat;
-          few = r.few;
-          wide = r.wide;
-          many = r.many;
-          newest_is = r.newest_is;
-          links = r.links;
-          distinct = r.distinct;
-          within = r.within;
-          stand = r.stand;
-          rows = r.rows;
-          log_is = r.log_is;
-          one_chosen = r.one_chosen;
-          account = r.account;
-          has_cut = r.has_cut;
-          owing_is = r.owing_is;
-          second = r.second;
-          two = r.two;
-          kept = r.kept;
-          coded = r.coded;
-          shared_out = r.shared_out;
-          seats = λ j x e. ⊎_elim
-              (λ (t : (j ≡ id) × (hold_at h.client st h.mine h.back ∷ [] ≡ x)). subst (λ (z : ℕ × List (Hold Q P)). AllFit n r.line r.hand r.handled r.mode r.phase r.due r.told r.two r.seat z.0 z.1) (λ i. (sym t.0 i, t.1 i)) ((mine.0, mine.1, mine.2, mine.3, knows, mine.5), tt))
-              (λ (t : (j ≢ id) × (get_elem? s.views j ≡ some x)). r.seats j x t.1)
-              (at_set s.views id j (hold_at h.client st h.mine h.back ∷ []) x e);
-        },
-        refl,
-      )
-
   pub all_below : (slots : ℕ) (es : List (Entry Q)) → suc n < slots → Within n es → AllBelow slots es
   all_below slots [] h ok = tt
   all_below slots (e ∷ es) h ok = let a = ok.1 in (ok.0, omega arith, all_below slots es h ok.2)
@@ -206,7 +166,7 @@ module _ {Q P L M : Type 0} (stands : Laws Q P L M) (n : ℕ) where
           now_of stands n s r,
           refl,
           subst (λ (z : List ℕ). IsNow stands n (now_of stands n s r) (record { words = z; homes = s.homes; views = set s.views id w })) (sym (set-get_or s.words 0 0))
-              (reviewed s r id h (Leading (walking lead now)) at' (fit.4.0, fit.4.1, ([], k.parts), fit.4.3, fit.4.4)),
+              (reviewed stands n s r id h (Leading (walking lead now)) at' (fit.4.0, fit.4.1, ([], k.parts), fit.4.3, fit.4.4) fit.6),
         ),
         (
           k.queue,
@@ -227,8 +187,8 @@ module _ {Q P L M : Type 0} (stands : Laws Q P L M) (n : ℕ) where
   all_coded s r (f ∷ front) es ok = all_coded s r front es ok.1
 
   -- the leader reads the queue, and so builds its group
-  pub reads_is : (slots id : ℕ) (me : Sat Q P L M) (max c : ℕ) (own0 : Entry Q) (seen : List (Handling Q P)) (mine : List (Q × P)) → At c (Fresh own0 seen) mine me → StepIs stands n (λ _. IsBuild max own0) slots id me 0 (λ y. y) (read_once stands.asks max (step slots 0 0 0 none) me)
-  reads_is slots id me max c o seen mine mid s r long at fits =
+  pub reads_is : (slots id : ℕ) (me : Sat Q P L M) (c : ℕ) (own0 : Entry Q) (seen : List (Handling Q P)) (mine : List (Q × P)) → At c (Fresh own0 seen) mine me → StepIs stands n (λ _. IsBuild stands.bound own0) slots id me 0 (λ y. y) (read_once stands.asks stands.bound (step slots 0 0 0 none) me)
+  reads_is slots id me c o seen mine mid s r long at fits =
       let h : Hold Q P = hold c (Fresh o seen) mine in
       let at' : get_elem? s.views id ≡ some (h ∷ []) = at ∙ ap some mid in
       let fit = (r.seats id (h ∷ []) at').0 in
@@ -236,19 +196,20 @@ module _ {Q P L M : Type 0} (stands : Laws Q P L M) (n : ℕ) where
       let m = subst (InMode stands n s.homes r.line r.hand r.handled r.phase r.due) led_c r.log_is in
       let same_o : m.0.1 ≡ o = one_leads m.0.1 o (sym m.0.4 ∙ fit.4.1) in
       let queue : List (Entry Q) = m.0.0 in
-      let cuts = split_group max o queue in
+      let cuts = split_group stands.bound o queue in
       let left : List (Entry Q) = cuts.0 in
       let group : List (Entry Q) = cuts.1 in
       let now : List (Entry Q) = left ++ (group ++ o ∷ []) in
       let parts : r.line ≡ now = m.0.2 ∙ ((λ i. cuts.2 i ++ same_o i ∷ []) ∙ append_assoc left group (o ∷ [])) in
-      let lead : Lead Q P = building o seen now group in
+      let past : List (Event Q P) = builds stands.bound o group left ∷ r.account.events in
+      let lead : Lead Q P = building o seen past now group in
       let w : List (Hold Q P) = hold c (Leading lead) mine ∷ [] in
       let by_c : o.by ≡ c = ap (λ (e : Entry Q). e.by) (sym same_o) ∙ m.0.5 in
       let base : base_of r.mode ≡ 0 = ap base_of led_c in
       let ph : Phase Q P = leads o in
       let here : put r.phase c ph c ≡ ph = put_here r.phase c ph in
       let ws : List ℕ = set s.words 0 (get_or s.words 0 0) in
-      let acc = builds_now r.line r.handled r.mode r.account max c o group left led_c by_c parts cuts.3 in
+      let acc = builds_now stands.bound r.line r.handled r.mode r.account c o group left led_c by_c parts cuts.3 in
       let same : (j : ℕ) → get_or ws j 0 ≡ get_or s.words j 0 = λ j. ap (λ (l : List ℕ). get_or l j 0) (set-get_or s.words 0 0) in (
         w,
         keeps,
@@ -277,6 +238,8 @@ module _ {Q P L M : Type 0} (stands : Laws Q P L M) (n : ℕ) where
             kept = r.kept;
             coded = λ e is. r.coded c e (subst (InChain e) (sym fit.4.1) is);
             account = acc.0;
+            goes_on = (builds stands.bound o group left ∷ [], acc.2);
+            recalls = ([], acc.2);
             has_cut = tt;
             owing_is = owing_stays r.phase r.due r.account.owing r.owing_is acc.0.owing r.due c ph (ap (λ (y : Core Q P). y.3) acc.1.1) (ap (λ f. untold f (r.due c)) (sym fit.4.1)) (λ _ _. refl);
             second = second_same stands n s.words ws s.homes s.homes r.phase c ph r.mode (built c group) (stands.given r.handled) (stands.given r.handled) r.two (inl fit.4.1) (λ j _. same j) refl (λ k h. inr (ap r.two.place (sym h) ∙ fit.5.0)) (λ k h. inl (subst (Holds k) (sym led_c) h)) (λ k _ h. subst (Holds k) led_c h) (λ v. v) r.second;
@@ -291,23 +254,26 @@ module _ {Q P L M : Type 0} (stands : Laws Q P L M) (n : ℕ) where
         ),
         λ c' o' seen' mine' mid'. let e = one_hold c c' (Fresh o seen) (Fresh o' seen') mine mine' me.0 mid mid' in
             let f = one_fresh o o' seen seen' e.1 in
-            subst (λ (z : ℕ × Entry Q × List (Handling Q P) × List (Q × P)). Builds stands.asks slots max z.0 z.1 z.2 z.3 (get_or s.words 0 0) me (w, me.1)) (λ i. (e.0 i, f.0 i, f.1 i, e.2 i)) (
+            subst (λ (z : ℕ × Entry Q × List (Handling Q P) × List (Q × P)). Builds stands.asks slots stands.bound z.0 z.1 z.2 z.3 (get_or s.words 0 0) me (w, me.1)) (λ i. (e.0 i, f.0 i, f.1 i, e.2 i)) (
               left,
               group,
+              past,
               refl,
               refl,
               (cuts.3, distinct_back left (group ++ o ∷ []) (subst Distinct parts r.distinct), all_coded s r left (group ++ o ∷ []) (subst (Stand r.phase) parts r.stand)),
+              (r.account.events, r.account.owing, refl, subst (Legal stands.bound) acc.2 acc.0.legal, r.account.ran ∙ (λ i. (acc.1.0.1 i, acc.1.0.0 i, sym fit.4.2 i, r.account.owing))),
               r.newest_is ∙ (λ i. newest_from (base i) (parts i)),
               (let b = walk_bound n now (subst (Within n) parts r.within) (subst Distinct parts r.distinct) in let m = r.many in omega arith),
               all_below slots now (let m = r.many in omega arith) (subst (Within n) parts r.within),
             ),
       )
 
-  pub reads : (slots id : ℕ) (me : Sat Q P L M) (max c : ℕ) (own0 : Entry Q) (seen : List (Handling Q P)) (mine : List (Q × P)) → At c (Fresh own0 seen) mine me → Allows (Listed stands n) slots id me 0 (λ y. y) (read_once stands.asks max (step slots 0 0 0 none) me)
-  reads slots id me max c o seen mine mid = allows stands n (λ _. IsBuild max o) slots id me 0 (λ y. y) (read_once stands.asks max (step slots 0 0 0 none) me) (reads_is slots id me max c o seen mine mid)
+  pub reads : (slots id : ℕ) (me : Sat Q P L M) (c : ℕ) (own0 : Entry Q) (seen : List (Handling Q P)) (mine : List (Q × P)) → At c (Fresh own0 seen) mine me → Allows (Listed stands n) slots id me 0 (λ y. y) (read_once stands.asks stands.bound (step slots 0 0 0 none) me)
+  reads slots id me c o seen mine mid = allows stands n (λ _. IsBuild stands.bound o) slots id me 0 (λ y. y) (read_once stands.asks stands.bound (step slots 0 0 0 none) me) (reads_is slots id me c o seen mine mid)
 
-  pub reads_as : (asked : Q → ℕ → Type 0) → stands.asks ≡ asked → (slots id : ℕ) (me : Sat Q P L M) (max c : ℕ) (own0 : Entry Q) (seen : List (Handling Q P)) (mine : List (Q × P)) → At c (Fresh own0 seen) mine me → Allows (Listed stands n) slots id me 0 (λ y. y) (read_once asked max (step slots 0 0 0 none) me)
-  reads_as asked is slots id me max c o seen mine mid = subst (λ z. Allows (Listed stands n) slots id me 0 (λ y. y) (read_once z max (step slots 0 0 0 none) me)) is (reads slots id me max c o seen mine mid)
+  pub reads_as : (asked : Q → ℕ → Type 0) → stands.asks ≡ asked → (max : ℕ) → stands.bound ≡ max → (slots id : ℕ) (me : Sat Q P L M) (c : ℕ) (own0 : Entry Q) (seen : List (Handling Q P)) (mine : List (Q × P)) → At c (Fresh own0 seen) mine me → Allows (Listed stands n) slots id me 0 (λ y. y) (read_once asked max (step slots 0 0 0 none) me)
+  reads_as asked is max is_max slots id me c o seen mine mid =
+      subst (λ z. Allows (Listed stands n) slots id me 0 (λ y. y) (read_once asked z (step slots 0 0 0 none) me)) is_max (subst (λ z. Allows (Listed stands n) slots id me 0 (λ y. y) (read_once z stands.bound (step slots 0 0 0 none) me)) is (reads slots id me c o seen mine mid))
 
   pub traces_is : (slots id : ℕ) (me : Sat Q P L M) (k : ℕ) → StepIs stands n (λ _. Stays) slots id me k (λ y. y) (traced (step slots k 0 0 none) me)
   traces_is slots id me k s r long at fits = (
@@ -357,7 +323,7 @@ module _ {Q P L M : Type 0} (stands : Laws Q P L M) (n : ℕ) where
       let here : put r.phase x.by ph x.by ≡ ph = put_here r.phase x.by ph in
       let h' : Hold Q P = hold c (Leading (taking lead x)) mine in
       let no_taken : (l : ℕ) (e : Entry Q) → r.phase x.by ≡ taken l e → ⊥ = λ l e bad. absurd (cc) in
-      let acc = stays_now r.line r.handled r.mode r.account (built c lead.group) led_c in (
+      let acc = stays_now stands.bound r.line r.handled r.mode r.account (built c lead.group) led_c in (
         h' ∷ [],
         takes x.by (Asked x.asked),
         row.2,
@@ -375,7 +341,7 @@ module _ {Q P L M : Type 0} (stands : Laws Q P L M) (n : ℕ) where
             within = r.within;
             stand = stand_change r.phase x.by ph r.line (λ e is_in. subst (InChain e) now is_in) r.stand;
             other_rows = λ j ne lo' _. row_stays stands n s.words ws s.homes hs j (r.due j) (same (state_at j)) (same (older_at j)) (set_else s.homes x.by j none ne) (r.phase j);
-            row = (row.0, (λ e. let one : get_or s.words (state_at x.by) 0 ≡ 1 = row.1 in let e' = sym (same (state_at x.by)) ∙ e in absurd (omega arith)), (λ e. let one : get_or s.words (state_at x.by) 0 ≡ 1 = row.1 in let e' = sym (same (state_at x.by)) ∙ e in absurd (omega arith)));
+            row = (row.0, (λ e. let one : get_or s.words (state_at x.by) 0 ≡ 1 = row.1 in let e' = sym (same (state_at x.by)) ∙ e in absurd (omega arith)), (λ e. let one : get_or s.words (state_at x.by) 0 ≡ 1 = row.1 in let e' = sym (same (state_at x.by)) ∙ e in absurd (omega arith)), (λ e. let one : get_or s.words (state_at x.by) 0 ≡ 1 = row.1 in let e' = sym (same (state_at x.by)) ∙ e in absurd (omega arith)));
             log_is = (
               (q, lead.own, parts ∙ (λ i. q ++ x ∷ (fit.4.4 i ++ lead.own ∷ [])), linked_absent r.phase x.by ph q apart (linked_front r.phase q (x ∷ []) queued), put_else r.phase x.by ph c other ∙ mine_now, f.own_by),
               (here, row.3, taken_change r.phase r.due r.due x.by ph c r.hand (λ e bad. absurd (no_taken c e bad)) (λ _ _. refl) (subst (AllTaken r.phase r.due c) fit.4.4 f.members)),
@@ -385,6 +351,8 @@ module _ {Q P L M : Type 0} (stands : Laws Q P L M) (n : ℕ) where
             kept = r.kept;
             coded = λ e is. r.coded x.by e (subst (InChain e) (sym now) is);
             account = acc.0;
+            goes_on = ([], acc.2);
+            recalls = recalls_more r.account.events acc.0.events ([], acc.2) (Leading lead) fit.6;
             has_cut = tt;
             owing_is = owing_stays r.phase r.due r.account.owing r.owing_is acc.0.owing r.due x.by ph (ap (λ (y : Core Q P). y.3) acc.1) (ap (λ f. untold f (r.due x.by)) (sym now)) (λ _ _. refl);
             second = second_same stands n s.words ws s.homes hs r.phase x.by ph r.mode (built c lead.group) (stands.given r.handled) (stands.given r.handled) r.two (inr (λ there. subst (InSecond r.two.place x.by) now there)) (λ j _. same j) (set_else s.homes x.by (n + 1) none (λ e. omega arith)) (λ k h. inr (ap r.two.place (sym h) ∙ fit.5.0)) (λ k h. inl (subst (Holds k) (sym led_c) h)) (λ k _ h. subst (Holds k) led_c h) (λ v. v) r.second;
@@ -396,11 +364,11 @@ module _ {Q P L M : Type 0} (stands : Laws Q P L M) (n : ℕ) where
             knows = (refl, put_else r.phase x.by ph c other ∙ mine_now, ends, fit.4.3, ap (λ l. x ∷ l) fit.4.4);
             others = λ j ne. dite (ℕ_discrete j x.by)
                 (λ e. subst (λ (i : ℕ). (st : Stage Q P) → Knows r.line r.hand r.handled r.mode r.phase r.due i st → Knows r.line (x ∷ r.hand) r.handled (built c lead.group) (put r.phase x.by ph) r.due i st) (sym e)
-                (still_waits r.line r.line r.hand (x ∷ r.hand) r.handled r.handled r.mode (built c lead.group) r.phase (put r.phase x.by ph) r.due r.due x.by (linked x) now tt (λ u is. subst (Waits u) (sym here) is)))
+                (still_waits r.line r.line r.hand (x ∷ r.hand) r.handled r.handled r.mode (built c lead.group) r.phase (put r.phase x.by ph) r.due r.due x.by (linked x) now tt (λ u is. subst (Waits u) (sym here) is) (λ _ owed. owed)))
                 (λ away. knows_stays stands n r.line r.line r.hand (x ∷ r.hand) r.handled r.handled r.mode (built c lead.group) r.phase (put r.phase x.by ph) r.due r.due j (put_else r.phase x.by ph j away)
                 (λ h. absurd (ne (sym (subst (Holds j) led_c h))))
                 (λ e y is_taken owed. (put_at r.phase x.by ph (λ i g. r.phase i ≡ taken j e → g ≡ taken j e) e.by (λ is t. absurd (no_taken j e (ap r.phase (sym is) ∙ t))) (λ _ t. t) is_taken, owed))
-                (λ e y _ owed. owed));
+                (λ y owed. owed));
           },
         ),
         λ c' lead' mine' pre' x' mid' is_walk' is_word'.
@@ -414,189 +382,3 @@ module _ {Q P L M : Type 0} (stands : Laws Q P L M) (n : ℕ) where
   pub fetches : (slots id : ℕ) (me : Sat Q P L M) (c k : ℕ) (lead : Lead Q P) (mine : List (Q × P)) (pre : List (Entry Q)) (x : Entry Q) → At c (Leading lead) mine me → lead.walk ≡ pre ++ x ∷ in_hand lead → k ≡ older_at x.by
       → Allows (Listed stands n) slots id me k (λ y. y) (fetched (step slots k 0 0 none) me)
   fetches slots id me c k lead mine pre x mid is_walk is_word = allows stands n (λ _. Stays) slots id me k (λ y. y) (fetched (step slots k 0 0 none) me) (fetches_is slots id me c k lead mine pre x mid is_walk is_word)
-
-abbrev pub told_in : {Q P L M : Type 0} → P → Content Q P L M → P
-told_in d Empty = d
-told_in d (Asked q) = d
-told_in d (Told p) = p
-told_in d (Log l) = d
-told_in d (Right r) = d
-
-abbrev pub told_at : {Q P L M : Type 0} → P → List (ℕ × Content Q P L M) → P
-told_at d [] = d
-told_at d (x ∷ xs) = told_in d x.1
-
-abbrev pub first_or : {A : Type 0} → A → List A → A
-first_or d [] = d
-first_or d (x ∷ xs) = x
-
-abbrev pub others_of : {A : Type 0} → List A → List A
-others_of [] = []
-others_of (x ∷ xs) = xs
-
--- the replies are those in the slots
-pub same_group : {Q P L M : Type 0} (c c' : ℕ) (p p' : P) (gs gs' : List (Entry Q × P)) (t t' : List (ℕ × Content Q P L M)) → heads gs ≡ heads gs' → Path (List (ℕ × Content Q P L M)) (slots_of gs ((c, Told p) ∷ t)) (slots_of gs' ((c', Told p') ∷ t')) → (gs ≡ gs') × (p ≡ p')
-same_group {Q} {P} {L} {M} c c' p p' [] [] t t' hd e = (refl, ap (told_at {Q = Q} {L = L} {M = M} p) e)
-same_group c c' p p' [] (g ∷ gs) t t' hd e = absurd (cc)
-same_group c c' p p' (g ∷ gs) [] t t' hd e = absurd (cc)
-same_group {Q} {P} {L} {M} c c' p p' (g ∷ gs) (h ∷ hs) t t' hd e =
-    let r = same_group c c' p p' gs hs t t' (ap others_of hd) (ap others_of e) in
-    let a : g.0 ≡ h.0 = ap (first_or g.0) hd in
-    let b : g.1 ≡ h.1 = ap (told_at {Q = Q} {L = L} {M = M} g.1) e in
-    ((λ i. (a i, b i) ∷ r.0 i), r.1)
-
-module _ {Q P L M : Type 0} (stands : Laws Q P L M) (n : ℕ) where
-  -- a row whose due grows, which is nobody's in the group
-  pub row_due : (ws : List ℕ) (hs : List (Option (Content Q P L M))) (k : ℕ) (d d' : List (Q × P)) (ph : Phase Q P) → (((c : ℕ) (e : Entry Q) → ph ≡ taken c e → ⊥) → ((e : Entry Q) → ph ≡ leads e → ⊥) → d' ≡ d) → InPhase stands ws hs k d ph → InPhase stands ws hs k d' ph
-  row_due ws hs k d d' idle to ok = (ok.0, to (λ c e b. absurd (cc)) (λ e b. absurd (cc)) ∙ ok.1)
-  row_due ws hs k d d' (preparing w) to ok = (ok.0, ok.1, to (λ c e b. absurd (cc)) (λ e b. absurd (cc)) ∙ ok.2)
-  row_due ws hs k d d' (linked f) to ok = (ok.0, ok.1, ok.2, to (λ c e b. absurd (cc)) (λ e b. absurd (cc)) ∙ ok.3)
-  row_due ws hs k d d' (chosen f) to ok = (ok.0, ok.1, ok.2, to (λ c e b. absurd (cc)) (λ e b. absurd (cc)) ∙ ok.3)
-  row_due ws hs k d d' (leads f) to ok = ok
-  row_due ws hs k d d' (taken l f) to ok = ok
-  row_due ws hs k d d' (completed q p) to ok = (ok.0, ok.1, to (λ c e b. absurd (cc)) (λ e b. absurd (cc)) ∙ ok.2)
-  row_due ws hs k d d' collecting to ok = to (λ c e b. absurd (cc)) (λ e b. absurd (cc)) ∙ ok
-
-  -- what follows where the leader c has handled its group
-  module _ (s : St stands n) (r : Listed stands n s) (c : ℕ) (o : Entry Q) (gs : List (Entry Q × P)) (p : P) (by_c : o.by ≡ c) (now : r.phase c ≡ leads o) (members : AllTaken r.phase r.due c (heads gs)) (own_due : r.due c ≡ []) (apart : Distinct (heads gs)) where
-    abbrev pub new : List (Handling Q P)
-    new = all_answers o p gs
-
-    abbrev pub due' : ℕ → List (Q × P)
-    due' k = r.due k ++ of k new
-
-    pub group_out : (k : ℕ) → ((e : Entry Q) → r.phase k ≡ taken c e → r.due k ≡ [] → ⊥) → Absent k (heads gs)
-    group_out k un = taken_absent r.phase r.due c k (heads gs) un members
-
-    pub due_same : (k : ℕ) → k ≢ c → ((e : Entry Q) → r.phase k ≡ taken c e → r.due k ≡ [] → ⊥) → due' k ≡ r.due k
-    due_same k ne un = ap (λ l. r.due k ++ l) (new_none k o p gs (λ e. ne (sym e ∙ by_c)) (group_out k un)) ∙ append-nil (r.due k)
-
-    pub shared_more : (k : ℕ) → of k (r.handled ++ new) ≡ r.told k ++ due' k
-    shared_more k = of-append k r.handled new ∙ (ap (λ l. l ++ of k new) (r.shared_out k) ∙ append_assoc (r.told k) (r.due k) (of k new))
-
-    pub own_out : Absent o.by (heads gs)
-    own_out = group_out o.by (λ e bad _. let is : r.phase o.by ≡ leads o = ap r.phase by_c ∙ now in absurd (cc))
-
-    pub own_owed : due' c ≡ (o.asked, p) ∷ []
-    own_owed = (λ i. own_due i ++ of (sym by_c i) new) ∙ new_own o p gs own_out
-
-    pub all_owed : AllOwed r.phase due' c gs
-    all_owed = owed_change r.phase r.phase (λ k. r.due k ++ of k ((handling o p ∷ [] ++ answers gs) ++ [])) due' c gs (λ e x here owed. (here, ap (λ l. r.due e.by ++ of e.by l) (sym (append-nil new)) ∙ owed))
-        (owes r.phase r.due c gs (handling o p ∷ []) [] apart (λ k there. (of_other k (handling o p) [] (λ e. there (subst (λ j. Absent j (heads gs)) e own_out)), refl)) members)
-
-    -- what another client knows of its own stays
-    pub else_owed : (j : ℕ) → j ≢ c → (e : Entry Q) (x : Q × P) → r.phase e.by ≡ taken j e → r.due e.by ≡ x ∷ [] → due' e.by ≡ x ∷ []
-    else_owed j ne e x here owed = due_same e.by (λ is. let bad : r.phase e.by ≡ leads o = ap r.phase is ∙ now in absurd (cc)) (λ f _ none_due. absurd (cc)) ∙ owed
-
-    pub else_due : (j : ℕ) → j ≢ c → (e : Entry Q) (x : Q × P) → r.phase j ≡ leads e → r.due j ≡ x ∷ [] → due' j ≡ x ∷ []
-    else_due j ne e x here owed = due_same j ne (λ f bad _. absurd (cc)) ∙ owed
-
-    pub done_none : (k : ℕ) (q : Q) (x : P) → r.phase k ≡ completed q x → of k new ≡ []
-    done_none k q x done = new_none k o p gs (λ e. let bad : r.phase k ≡ leads o = ap r.phase (sym e ∙ by_c) ∙ now in absurd (cc)) (group_out k (λ e bad _. absurd (cc)))
-
-    pub else_row : (ws : List ℕ) (hs : List (Option (Content Q P L M))) (k : ℕ) → k ≢ c → InPhase stands ws hs k (r.due k) (r.phase k) → InPhase stands ws hs k (due' k) (r.phase k)
-    else_row ws hs k ne ok = row_due ws hs k (r.due k) (due' k) (r.phase k) (λ no _. due_same k ne (λ e bad _. no c e bad)) ok
-
-  module _ (slots id : ℕ) (me : Sat Q P L M) (c old : ℕ) (lead : Lead Q P) (mine : List (Q × P)) (gs : List (Entry Q × P)) (p : P) (l : L) (said : Option (Content Q P L M)) (mid : At c (Leading lead) mine me) (group : heads gs ≡ lead.taken)
-      (slot : me.1 ≡ (0, Log l) ∷ slots_of gs ((c, Told p) ∷ [])) (is_old : old ≡ newest (in_hand lead)) (all : lead.taken ≡ lead.group) (stood : stands.logs l (lead.seen ++ all_answers lead.own p gs)) (unnumbered : stands.piped ≡ true → stands.given (lead.seen ++ all_answers lead.own p gs) ≡ stands.given lead.seen)
-      (s : St stands n) (r : Listed stands n s) (at : get_elem? s.views id ≡ some me.0) (hit : get_or s.words 0 0 ≡ old) where
-    leaves_last : Goes stands n (HappensWhere old (IsExit lead.own p gs)) s r 0 id me (left (step slots 0 old 0 said) me) 0
-    leaves_last =
-        let h : Hold Q P = hold c (Leading lead) mine in
-        let at' : get_elem? s.views id ≡ some (h ∷ []) = at ∙ ap some mid in
-        let fit = (r.seats id (h ∷ []) at').0 in
-        let f = leader stands n s r c lead fit.1 fit.2 fit.4 in
-        let lo : 0 < c = fit.1 in
-        let led_c : r.mode ≡ built c lead.group = fit.4.0 in
-        let now : r.phase c ≡ leads lead.own = fit.4.1 in
-        let wide : length s.words ≡ 2 * n + 4 = r.wide in
-        let many : length s.homes ≡ n + 2 = r.many in
-        let whole : Distinct (f.queue ++ in_hand lead) = subst Distinct f.parts r.distinct in
-        let none_newer : f.queue ≡ [] = none_before_group f.queue lead.taken lead.own whole ((λ i. newest_from (sym f.base i) (sym f.parts i)) ∙ (sym r.newest_is ∙ (hit ∙ is_old))) in
-        let members : AllTaken r.phase r.due c (heads gs) = subst (AllTaken r.phase r.due c) (sym group) f.members in
-        let apart : Distinct (heads gs) = subst Distinct (sym group) (distinct_front lead.taken (lead.own ∷ []) (distinct_back f.queue (in_hand lead) whole)) in
-        let ws : List ℕ = set s.words 0 0 in
-        let hs = set s.homes 0 (some (Log l)) in
-        let d : Debt Q P = debt gs lead.own p in
-        let h' : Hold Q P = hold c (Settling d) mine in
-        let same : (j : ℕ) → j ≢ 0 → get_or ws j 0 ≡ get_or s.words j 0 = λ j ne. get_or-set_other s.words 0 j 0 0 (λ e. ne (omega arith)) in
-        let ph : Phase Q P = leads lead.own in
-        let phase' : ℕ → Phase Q P = put r.phase c ph in
-        let here : phase' c ≡ ph = put_here r.phase c ph in
-        let more : List (Handling Q P) = all_answers lead.own p gs in
-        let owe : ℕ → List (Q × P) = λ k. r.due k ++ of k more in
-        let acc = leaves_now r.line r.handled r.mode r.account c lead.group lead.own more led_c (f.parts ∙ (λ i. none_newer i ++ (all i ++ lead.own ∷ []))) (subst (λ (z : List (Entry Q)). IsOfGroup lead.own z more) (group ∙ all) (group_handled lead.own p gs)) in
-        let now_is : Lists Q P = ((acc.0.queue, acc.0.log, r.handled ++ more, acc.0.owing), second_list_of r.two) in
-        let moved_to : IsNow stands n now_is (record { words = ws; homes = hs; views = set s.views id (h' ∷ []) }) =
-        moved stands n s r c id ws hs h h' [] [] (r.handled ++ more) open_ ph owe r.told r.two record {
-          at = at';
-          same_client = refl;
-          wide = length-set s.words 0 0;
-          many = length-set s.homes 0 (some (Log l));
-          newest_is = get_or-set_same s.words 0 0 0 (omega arith);
-          links = tt;
-          distinct = tt;
-          within = tt;
-          stand = tt;
-          other_rows = λ j ne lo' _ ok. row_stays stands n s.words ws s.homes hs j (owe j) (same (state_at j) (λ e. omega arith)) (same (older_at j) (λ e. omega arith)) (set_else s.homes 0 j (some (Log l)) (λ e. omega arith)) (r.phase j)
-              (else_row s r c lead.own gs p f.own_by now members f.own_due apart s.words s.homes j ne ok);
-          row = f.own_by;
-          log_is = (refl, refl, (l, set_here s.homes 0 (some (Log l)) (omega arith), subst (λ z. stands.logs l (z ++ more)) fit.4.3 stood));
-          one_chosen = λ j e. put_at r.phase c ph (λ i g. g ≡ chosen e → Path (Mode Q) (open_) (waits i)) j (λ _ bad. absurd (cc)) (λ _ ok. let was : r.mode ≡ waits j = r.one_chosen j e ok in absurd (cc));
-          kept = stands.keeps l (r.handled ++ more) (subst (λ z. stands.logs l (z ++ more)) fit.4.3 stood);
-          coded = λ e is. r.coded c e (subst (InChain e) (sym now) is);
-          account = acc.0;
-          has_cut = tt;
-          owing_is = owing_grows r.phase r.due r.account.owing r.owing_is acc.0.owing more c ph (ap (λ (y : Core Q P). y.3) acc.1.1) (λ d. ap (λ f. untold f d) (sym now)) (done_none s r c lead.own gs p f.own_by now members f.own_due apart);
-          second = second_same stands n s.words ws s.homes hs r.phase c ph r.mode open_ (stands.given r.handled) (stands.given (r.handled ++ more)) r.two (inl now) same (set_else s.homes 0 (n + 1) (some (Log l)) (λ e. omega arith)) (λ k h. absurd h) (λ k h. absurd h) (λ k is h. absurd (fit.5.1 (is ∙ ap ahead (sym (subst (Holds k) led_c h))))) (level_same stands n stands.piped r.two (stands.given r.handled) (stands.given (r.handled ++ more)) (subst (λ (z : List (Handling Q P)). stands.piped ≡ true → stands.given (z ++ more) ≡ stands.given z) fit.4.3 unnumbered)) r.second;
-          back = fit.5;
-          else_back = λ _ _ _ ok. ok;
-          shared_out = shared_more s r c lead.own gs p f.own_by now members f.own_due apart;
-          told_else = λ _ _. refl;
-          mine = fit.3;
-          knows = (
-            owed_change r.phase phase' owe owe c gs (λ e x is owed. (put_at r.phase c ph (λ i g. r.phase i ≡ taken c e → g ≡ taken c e) e.by (λ w t. let bad : r.phase e.by ≡ leads lead.own = ap r.phase w ∙ now in absurd (cc)) (λ _ t. t) is, owed))
-                (all_owed s r c lead.own gs p f.own_by now members f.own_due apart),
-            here,
-            own_owed s r c lead.own gs p f.own_by now members f.own_due apart,
-            apart,
-          );
-          others = λ j ne. knows_stays stands n r.line [] r.hand [] r.handled (r.handled ++ more) r.mode open_ r.phase phase' r.due owe j (put_else r.phase c ph j ne)
-              (λ h. absurd (ne (sym (subst (Holds j) led_c h))))
-              (λ e x is owed. (put_at r.phase c ph (λ i g. r.phase i ≡ taken j e → g ≡ taken j e) e.by (λ w t. let bad : r.phase e.by ≡ leads lead.own = ap r.phase w ∙ now in absurd (cc)) (λ _ t. t) is, else_owed s r c lead.own gs p f.own_by now members f.own_due apart j ne e x is owed))
-              (λ e x is owed. else_due s r c lead.own gs p f.own_by now members f.own_due apart j ne e x is owed);
-        } in (
-          h' ∷ [],
-          gives,
-          tt,
-          (now_is, ((λ _. (acc.1, refl)), λ miss. absurd (miss hit)), subst (λ (t : List (ℕ × Content Q P L M)). IsNow stands n now_is (stepped s 0 0 id t (h' ∷ []) gives)) (sym slot) moved_to),
-          λ c' lead' mine' gs' p' l' mid' group' slot'.
-              let e = one_hold c c' (Leading lead) (Leading lead') mine mine' me.0 mid mid' in
-              let le : lead ≡ lead' = one_lead lead lead' e.1 in
-              let t = same_group c c' p p' gs gs' [] [] (group ∙ (ap (λ (z : Lead Q P). z.taken) le ∙ sym group')) (ap others_of (sym slot ∙ slot')) in (
-                (λ _. ((λ i. hold (e.0 i) (Settling (debt (t.0 i) (le i).own (t.1 i))) (e.2 i) ∷ []), ap (λ z. carried_after z gives) slot')),
-                λ miss. absurd (miss hit),
-              ),
-        )
-
-  pub leaves_is : (slots id : ℕ) (me : Sat Q P L M) (c old : ℕ) (lead : Lead Q P) (mine : List (Q × P)) (gs : List (Entry Q × P)) (p : P) (l : L) (said : Option (Content Q P L M)) → At c (Leading lead) mine me → heads gs ≡ lead.taken
-      → me.1 ≡ (0, Log l) ∷ slots_of gs ((c, Told p) ∷ []) → old ≡ newest (in_hand lead) → lead.taken ≡ lead.group → stands.logs l (lead.seen ++ all_answers lead.own p gs) → (stands.piped ≡ true → stands.given (lead.seen ++ all_answers lead.own p gs) ≡ stands.given lead.seen)
-      → StepIs stands n (HappensWhere old (IsExit lead.own p gs)) slots id me 0 (λ y. either (eqb y old) 0 y) (left (step slots 0 old 0 said) me)
-  leaves_is slots id me c old lead mine gs p l said mid group slot is_old all stood unnumbered s r long at fits = exchanged (get_or s.words 0 0) old 0 (Goes stands n (HappensWhere old (IsExit lead.own p gs)) s r 0 id me (left (step slots 0 old 0 said) me))
-      (λ hit. leaves_last slots id me c old lead mine gs p l said mid group slot is_old all stood unnumbered s r at hit)
-      (λ miss.
-      let t = walks_now stands n slots id me c lead mine mid s r at long in (
-        t.0,
-        keeps,
-        tt,
-        (t.1.0, ((λ hit. absurd (miss hit)), λ _. t.1.1), t.1.2),
-        λ c' lead' mine' gs' p' l' mid' group' slot'. let e = one_hold c c' (Leading lead) (Leading lead') mine mine' me.0 mid mid' in (
-          (λ hit. absurd (miss hit)),
-          λ _. subst (λ (z : ℕ × Lead Q P × List (Q × P)). Walks slots z.0 z.1 z.2 (get_or s.words 0 0) me (t.0, me.1)) (λ i. (e.0 i, one_lead lead lead' e.1 i, e.2 i)) t.2,
-        ),
-      ))
-
-  pub leaves : (slots id : ℕ) (me : Sat Q P L M) (c old : ℕ) (lead : Lead Q P) (mine : List (Q × P)) (gs : List (Entry Q × P)) (p : P) (l : L) (said : Option (Content Q P L M)) → At c (Leading lead) mine me → heads gs ≡ lead.taken
-      → me.1 ≡ (0, Log l) ∷ slots_of gs ((c, Told p) ∷ []) → old ≡ newest (in_hand lead) → lead.taken ≡ lead.group → stands.logs l (lead.seen ++ all_answers lead.own p gs) → (stands.piped ≡ true → stands.given (lead.seen ++ all_answers lead.own p gs) ≡ stands.given lead.seen)
-      → Allows (Listed stands n) slots id me 0 (λ y. either (eqb y old) 0 y) (left (step slots 0 old 0 said) me)
-  leaves slots id me c old lead mine gs p l said mid group slot is_old all stood unnumbered = allows stands n (HappensWhere old (IsExit lead.own p gs)) slots id me 0 (λ y. either (eqb y old) 0 y) (left (step slots 0 old 0 said) me) (leaves_is slots id me c old lead mine gs p l said mid group slot is_old all stood unnumbered)

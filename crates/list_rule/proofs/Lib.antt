@@ -4,9 +4,12 @@ pub mod Moves
 pub mod Accounts
 pub mod Exits
 pub mod Enters
+pub mod Looks
 pub mod Groups
 pub mod Fitting
 pub mod Leads
+pub mod Leaves
+pub mod Squads
 pub mod Seconds
 pub mod Onward
 pub mod Passes
@@ -17,7 +20,6 @@ pub mod Opens
 pub mod Holding
 pub mod CoreLaws
 pub mod CoreExits
-pub mod PipelinedCore
-pub mod PipelinedEvents
-pub mod PipelinedLog
+pub mod CoreGroups
+pub mod CoreSteps
 pub mod Handings

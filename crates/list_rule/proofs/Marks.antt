@@ -18,7 +18,8 @@ use Rattle.list_rule.specs.declared.view.Hold.{Hold}
 use Rattle.list_rule.specs.declared.view.Back.{Back}
 use Rattle.list_rule.specs.declared.view.Back.TheVariants.{Parting}
 use Rattle.list_rule.proofs.Onward.{one_hold_at, taken_with, links_back, within_back, parts_two, parts_else, Hands, onward_two, second_onward, onward_free, onward_back, onward_else, is_boundary, onward_second, is_ahead}
-use Rattle.list_rule.proofs.Seconds.{second_parts, aim_links}
+use Rattle.list_rule.proofs.Seconds.{second_parts}
+use Rattle.list_rule.proofs.Squads.{aim_links}
 use Rattle.list_rule.specs.declared.content.Content.{Content}
 use Rattle.list_rule.specs.declared.content.Content.TheVariants.{Told, Log}
 use Rattle.list_rule.specs.declared.view.Stage.TheVariants.{Leading, Cutting, Marking, Settling}
@@ -26,18 +27,19 @@ use Rattle.list_rule.specs.Chain.{state_at, older_at, pack, newest, newest_from,
 use Rattle.list_rule.specs.Standing.{Phase, linked, chosen, leads, taken, Mode, open_, waits, built, cut, marked, base_of, Holds, parted, ahead}
 use Rattle.list_rule.specs.Laws.{Laws}
 use Rattle.list_rule.specs.Rule.{InChain, AllLinked, AllTaken, hold, InPhase, InMode, Listed, InSecond, hold_at, HasCut, untold}
-use Rattle.list_rule.specs.Events.{Core, grouped}
+use Rattle.list_rule.specs.Events.{exits, Core, grouped}
 use Rattle.list_rule.specs.SecondList.{second_list_of}
 use Rattle.list_rule.specs.Steps.{Lists, Stays, HappensWhere, IsBoundary, IsNext, now_of, IsNow, StepIs}
 use Rattle.list_rule.specs.Plays.{Sat, At, walking, in_hand, debt, slots_of, Walks, AtWith, parting, onward, marked_off, freed, WalksMarked, traced_marked, cut_marked}
 use Rattle.list_rule.proofs.Chains.{put, put_at, put_here, put_else, links_same, stand_change, linked_change, taken_change, owed_change}
 use Rattle.list_rule.proofs.Exits.{group_handled, owing_stays, owing_grows}
 use Rattle.list_rule.proofs.Accounts.{marks_now, frees_now, recuts_now}
-use Rattle.list_rule.proofs.Moves.{St, row_stays, knows_stays, moved, Goes, allows, unmoved}
+use Rattle.list_rule.proofs.Moves.{St, row_stays, knows_stays, reviewed, moved, Goes, allows, unmoved}
 use Rattle.list_rule.proofs.Keeps.{second_stays, second_same, put_same}
 use Rattle.list_rule.proofs.Groups.{walk_bound, distinct_apart, distinct_front, distinct_back, within_at, linked_at, linked_front, none_before_group}
 use Rattle.list_rule.proofs.Enters.{one_hold}
-use Rattle.list_rule.proofs.Leads.{reviewed, all_below, one_lead, lead_in, leader, walks_now, same_group, others_of, same_last, middle, shared_more, own_owed, all_owed, else_owed, else_due, else_row, one_leads, done_none}
+use Rattle.list_rule.proofs.Leads.{all_below, one_lead, lead_in, leader, walks_now, same_last, middle, one_leads}
+use Rattle.list_rule.proofs.Leaves.{same_group, others_of, shared_more, own_owed, all_owed, else_owed, else_due, else_row, done_none}
 
 module _ {Q P L M : Type 0} (stands : Laws Q P L M) (n : ℕ) where
   module _ (from : List (Handling Q P)) (slots id : ℕ) (me : Sat Q P L M) (c old : ℕ) (lead : Lead Q P) (mine : List (Q × P)) (said : Option (Content Q P L M)) (mid : At c (Leading lead) mine me) (is_old : old ≡ newest (in_hand lead)) (all : lead.taken ≡ lead.group)
@@ -61,7 +63,7 @@ module _ {Q P L M : Type 0} (stands : Laws Q P L M) (n : ℕ) where
         let ph : Phase Q P = leads lead.own in
         let phase' : ℕ → Phase Q P = put r.phase c ph in
         let here : phase' c ≡ ph = put_here r.phase c ph in
-        let acc = marks_now r.line r.handled r.mode r.account c lead.group lead.own led_c (f.parts ∙ (λ i. none_newer i ++ (all i ++ lead.own ∷ []))) in (
+        let acc = marks_now stands.bound r.line r.handled r.mode r.account c lead.group lead.own led_c (f.parts ∙ (λ i. none_newer i ++ (all i ++ lead.own ∷ []))) in (
           h' ∷ [],
           keeps,
           tt,
@@ -86,6 +88,8 @@ module _ {Q P L M : Type 0} (stands : Laws Q P L M) (n : ℕ) where
               kept = r.kept;
               coded = λ e is. r.coded c e (subst (InChain e) (sym now) is);
               account = acc.0;
+              goes_on = ([], acc.3);
+              recalls = tt;
               has_cut = (lead.own, f.own_by, here, acc.2 ∙ ap (grouped lead.own) (sym all ∙ fit.4.4));
               owing_is = owing_stays r.phase r.due r.account.owing r.owing_is acc.0.owing r.due c ph (ap (λ (y : Core Q P). y.3) acc.1) (ap (λ f. untold f (r.due c)) (sym now)) (λ _ _. refl);
               second = second_parts stands n ws s.homes phase' (marked c) (stands.given r.handled) r.two (
@@ -101,7 +105,7 @@ module _ {Q P L M : Type 0} (stands : Laws Q P L M) (n : ℕ) where
               others = λ j ne. knows_stays stands n r.line [] r.hand r.hand r.handled r.handled r.mode (marked c) r.phase phase' r.due r.due j (put_else r.phase c ph j ne)
                   (λ h. absurd (ne (sym (subst (Holds j) led_c h))))
                   (λ e y is owed. (put_at r.phase c ph (λ i g. r.phase i ≡ taken j e → g ≡ taken j e) e.by (λ w t. let bad : r.phase e.by ≡ leads lead.own = ap r.phase w ∙ now in absurd (cc)) (λ _ t. t) is, owed))
-                  (λ e y _ owed. owed);
+                  (λ y owed. owed);
             },
           ),
           λ c' lead' mine' mid'.
@@ -164,7 +168,7 @@ module _ {Q P L M : Type 0} (stands : Laws Q P L M) (n : ℕ) where
       let two' = onward_two stands n b r.two in
       let was_cut = subst (HasCut r.account.log r.hand r.phase) is_marked r.has_cut in
       let same_lead : was_cut.0 ≡ lead.own = one_leads was_cut.0 lead.own (sym was_cut.2 ∙ now) in
-      let acc = frees_now r.line r.handled r.mode r.account c lead.own (heads gs) more is_marked (none_behind n (base_of r.mode) r.line r.few r.within (sym r.newest_is ∙ hit)) (was_cut.3 ∙ (λ i. grouped (same_lead i) (hand_is i))) (group_handled lead.own p gs) in
+      let acc = frees_now stands.bound r.line r.handled r.mode r.account c lead.own (heads gs) more is_marked (none_behind n (base_of r.mode) r.line r.few r.within (sym r.newest_is ∙ hit)) (was_cut.3 ∙ (λ i. grouped (same_lead i) (hand_is i))) (group_handled lead.own p gs) in
       let now_is : Lists Q P = ((acc.0.queue, acc.0.log, r.handled ++ more, acc.0.owing), second_list_of two') in
       let moved_to : IsNow stands n now_is (record { words = ws; homes = hs; views = set s.views id (h' ∷ []) }) =
       moved stands n s r c id ws hs h h' [] [] (r.handled ++ more) open_ ph owe r.told two' record {
@@ -186,6 +190,8 @@ module _ {Q P L M : Type 0} (stands : Laws Q P L M) (n : ℕ) where
         kept = stands.keeps l (r.handled ++ more) (subst (λ z. stands.logs l (z ++ more)) fit.4.3 stood);
         coded = λ e is. r.coded c e (subst (InChain e) (sym now) is);
         account = acc.0;
+        goes_on = (exits more ∷ [], acc.2);
+        recalls = tt;
         has_cut = tt;
         owing_is = owing_grows r.phase r.due r.account.owing r.owing_is acc.0.owing more c ph (ap (λ (y : Core Q P). y.3) acc.1.1) (λ d. ap (λ f. untold f d) (sym now)) (done_none stands n s r c lead.own gs p by_c now members m.3 apart);
         second = second_same stands n s.words ws s.homes hs r.phase c ph r.mode open_ (stands.given (r.handled ++ more)) (stands.given (r.handled ++ more)) two' (inl now) same (set_else s.homes 0 (n + 1) (some (Log l)) (λ e. omega arith)) (λ k h. absurd h) (λ k h. absurd h) (λ k is h. absurd (onward_free stands n b r.two c r.handled (r.handled ++ more) fit.5 hands (is ∙ ap ahead (sym (subst (Holds k) is_marked h))))) (λ v. v) (second_onward stands n b s.words s.homes r.phase r.mode r.two c r.handled (r.handled ++ more) fit.5 hands r.second);
@@ -203,7 +209,7 @@ module _ {Q P L M : Type 0} (stands : Laws Q P L M) (n : ℕ) where
         others = λ j ne. knows_stays stands n r.line [] r.hand [] r.handled (r.handled ++ more) r.mode open_ r.phase phase' r.due owe j (put_else r.phase c ph j ne)
             (λ h. absurd (ne (sym (subst (Holds j) is_marked h))))
             (λ e x is owed. (put_at r.phase c ph (λ i g. r.phase i ≡ taken j e → g ≡ taken j e) e.by (λ w t. let bad : r.phase e.by ≡ leads lead.own = ap r.phase w ∙ now in absurd (cc)) (λ _ t. t) is, else_owed stands n s r c lead.own gs p by_c now members m.3 apart j ne e x is owed))
-            (λ e x is owed. else_due stands n s r c lead.own gs p by_c now members m.3 apart j ne e x is owed);
+            (else_due stands n s r c lead.own gs p by_c now members m.3 apart j ne);
       } in (
         h' ∷ [],
         gives,
@@ -230,7 +236,7 @@ module _ {Q P L M : Type 0} (stands : Laws Q P L M) (n : ℕ) where
           now_of stands n s r,
           ((λ hit. absurd (miss hit)), λ _. refl),
           subst (λ (z : List ℕ). IsNow stands n (now_of stands n s r) (record { words = z; homes = s.homes; views = set s.views id w })) (sym (set-get_or s.words 0 0))
-              (reviewed stands n s r id h (Marking (walking lead r.line)) at' (fit.4.0, fit.4.1, ([], refl), fit.4.3, fit.4.4)),
+              (reviewed stands n s r id h (Marking (walking lead r.line)) at' (fit.4.0, fit.4.1, ([], refl), fit.4.3, fit.4.4) tt),
         ),
         λ c' lead' mine' b' gs' p' l' tail' mid' group' slot'. let e = one_hold_at c c' (Marking lead) (Marking lead') mine mine' b b' me.0 mid mid' in (
           (λ hit. absurd (miss hit)),
@@ -311,7 +317,7 @@ module _ {Q P L M : Type 0} (stands : Laws Q P L M) (n : ℕ) where
       let w = subst (InPhase stands s.words s.homes x.by (r.due x.by)) now_x (r.rows x.by lo hi) in
       subst (InPhase stands ws s.homes x.by (r.due x.by)) (sym now_x) (w.0, same (state_at x.by) (λ e. omega arith) ∙ w.1, w.2, w.3) in
       let was_cut = subst (HasCut r.account.log r.hand r.phase) is_marked r.has_cut in
-      let acc = recuts_now r.line r.handled r.mode r.account c x.by is_marked in (
+      let acc = recuts_now stands.bound r.line r.handled r.mode r.account c x.by is_marked in (
         h' ∷ [],
         keeps,
         tt,
@@ -342,6 +348,8 @@ module _ {Q P L M : Type 0} (stands : Laws Q P L M) (n : ℕ) where
             kept = r.kept;
             coded = λ e is. r.coded c e (subst (InChain e) (sym now) is);
             account = acc.0;
+            goes_on = ([], acc.2);
+            recalls = tt;
             has_cut = (was_cut.0, was_cut.1, here ∙ (sym now ∙ was_cut.2), ap (λ (y : Core Q P). y.1) acc.1 ∙ was_cut.3);
             owing_is = owing_stays r.phase r.due r.account.owing r.owing_is acc.0.owing r.due c ph (ap (λ (y : Core Q P). y.3) acc.1) (ap (λ f. untold f (r.due c)) (sym now)) (λ _ _. refl);
             second = second_stays stands n s.words ws s.homes s.homes r.phase phase' r.mode (cut c x.by) (stands.given r.handled) (stands.given r.handled) r.two (same 1 (λ e. omega arith)) (λ j there. (same_older j (λ e. subst (InSecond r.two.place x.by) now_x (subst (λ (i : ℕ). InSecond r.two.place i (r.phase i)) e there)), (λ _ _. same (state_at j) (λ e. omega arith)), put_same r.phase c ph now j)) (λ j e. sym (same (state_at j) (λ e. omega arith)) ∙ e) refl (λ j h. absurd h) (λ j h. inl (subst (Holds j) (sym is_marked) h)) (λ j _ h. subst (Holds j) is_marked h) (λ v. v) r.second;
@@ -354,7 +362,7 @@ module _ {Q P L M : Type 0} (stands : Laws Q P L M) (n : ℕ) where
             others = λ j ne. knows_stays stands n r.line r.line r.hand r.hand r.handled r.handled r.mode (cut c x.by) r.phase phase' r.due r.due j (put_else r.phase c ph j ne)
                 (λ h. absurd (ne (sym (subst (Holds j) is_marked h))))
                 (λ e y is owed. (put_at r.phase c ph (λ i g. r.phase i ≡ taken j e → g ≡ taken j e) e.by (λ w t. let bad : r.phase e.by ≡ leads lead.own = ap r.phase w ∙ now in absurd (cc)) (λ _ t. t) is, owed))
-                (λ e y _ owed. owed);
+                (λ y owed. owed);
           },
         ),
         λ c' lead' mine' b' pre' x' mid' is_walk' is_word'.

@@ -1,5 +1,5 @@
 -- What stays of the rule when one row and one seat move, and what the list is then.
-use Rattle.std.proofs.Common.{◌≡◌, ◌≢◌, ℕ, ◌<◌, ◌≤◌, List, [], ◌∷◌, ◌++◌, length, get_or, set, refl, sym, ap, ◌∙◌, subst, ⊎_elim}
+use Rattle.std.proofs.Common.{◌≡◌, ◌≢◌, ℕ, ◌<◌, ◌≤◌, List, [], ◌∷◌, ◌++◌, length, get_or, set, refl, sym, ap, ◌∙◌, subst, ⊎_elim, append_assoc}
 use mathlib.Core.Option.{Option, some}
 use lib.ListN.{get_elem?}
 use lib.Seq.{set-get_or}
@@ -11,15 +11,32 @@ use Rattle.list_rule.specs.declared.view.Hold.{Hold}
 use Rattle.list_rule.specs.declared.view.Back.{Back}
 use Rattle.list_rule.specs.declared.content.Content.{Content}
 use Rattle.list_rule.specs.declared.view.Stage.{Stage}
-use Rattle.list_rule.specs.declared.view.Stage.TheVariants.{Idle, Preparing, Waiting, Fresh, Leading, Cutting, Marking, Settling, Collecting}
+use Rattle.list_rule.specs.declared.view.Stage.TheVariants.{Idle, Preparing, Waiting, Helping, Fresh, Leading, Cutting, Marking, Settling, Collecting}
 use Rattle.list_rule.specs.Chain.{state_at, older_at, newest_from, LinksFrom, Distinct, Within, EndsWith, of}
 use Rattle.list_rule.specs.Standing.{Phase, idle, preparing, linked, chosen, leads, taken, completed, collecting, Mode, open_, waits, led, built, cut, marked, base_of, Holds, Two, KnowsBack}
 use Rattle.list_rule.specs.Laws.{Laws}
-use Rattle.list_rule.specs.Rule.{InChain, Stand, Waits, AllTaken, Knows, AllFit, InPhase, InMode, Account, Listed, Second, HasCut, untold}
+use Rattle.list_rule.specs.Events.{Event, GoesOn}
+use Rattle.list_rule.specs.Rule.{InChain, Stand, Waits, AllTaken, Knows, Recalls, AllFit, InPhase, InMode, Account, Listed, Second, HasCut, untold, hold_at}
 use Rattle.list_rule.specs.Plays.{Sat}
 use Rattle.list_rule.specs.Steps.{Lists, now_of, IsNow, Becomes, StepIs}
 use Rattle.list_rule.specs.SecondList.{second_list_of}
 use Rattle.list_rule.proofs.Chains.{put, put_at, put_else, linked_change, owed_change, ends_trans}
+
+module _ {Q P : Type 0} where
+  pub goes_further : (a b c : List (Event Q P)) → GoesOn b a → GoesOn c b → GoesOn c a
+  goes_further a b c x y = (y.0 ++ x.0, y.1 ∙ (ap (λ l. y.0 ++ l) x.1 ∙ sym (append_assoc y.0 x.0 a)))
+
+  pub recalls_more : (was now : List (Event Q P)) → GoesOn now was → (st : Stage Q P) → Recalls was st → Recalls now st
+  recalls_more was now on Idle ok = tt
+  recalls_more was now on (Preparing w) ok = tt
+  recalls_more was now on (Waiting q past) ok = goes_further past was now ok on
+  recalls_more was now on (Helping q) ok = tt
+  recalls_more was now on (Fresh own seen) ok = tt
+  recalls_more was now on (Leading lead) ok = goes_further lead.past was now ok on
+  recalls_more was now on (Cutting lead e) ok = tt
+  recalls_more was now on (Marking lead) ok = tt
+  recalls_more was now on (Settling debt) ok = tt
+  recalls_more was now on Collecting ok = tt
 
 module _ {Q P L M : Type 0} (stands : Laws Q P L M) (n : ℕ) where
   abbrev pub St : Type 0
@@ -35,7 +52,7 @@ module _ {Q P L M : Type 0} (stands : Laws Q P L M) (n : ℕ) where
   row_stays words ws homes hs k due a b c (linked e) ok = (ok.0, a ∙ ok.1, c ∙ ok.2, ok.3)
   row_stays words ws homes hs k due a b c (chosen e) ok = (ok.0, a ∙ ok.1, c ∙ ok.2, ok.3)
   row_stays words ws homes hs k due a b c (leads e) ok = ok
-  row_stays words ws homes hs k due a b c (taken l e) ok = (ok.0, (λ e. ok.1 (sym a ∙ e)), (λ e. ok.2 (sym a ∙ e)))
+  row_stays words ws homes hs k due a b c (taken l e) ok = (ok.0, (λ e. ok.1 (sym a ∙ e)), (λ e. ok.2 (sym a ∙ e)), (λ e. ok.3 (sym a ∙ e)))
   row_stays words ws homes hs k due a b c (completed q p) ok = (a ∙ ok.0, c ∙ ok.1, ok.2)
   row_stays words ws homes hs k due a b c collecting ok = ok
 
@@ -80,17 +97,18 @@ module _ {Q P L M : Type 0} (stands : Laws Q P L M) (n : ℕ) where
   pub knows_stays : (line line' hand hand' : List (Entry Q)) (handled handled' : List (Handling Q P)) (mode mode' : Mode Q) (phase phase' : ℕ → Phase Q P) (due due' : ℕ → List (Q × P)) (k : ℕ) → phase' k ≡ phase k
       → (Holds k mode → (mode' ≡ mode) × EndsWith line' line × (handled' ≡ handled) × (hand' ≡ hand) × ((e : Entry Q) → mode ≡ cut k e.by → phase e.by ≡ linked e → phase' e.by ≡ linked e))
       → ((e : Entry Q) (x : Q × P) → phase e.by ≡ taken k e → due e.by ≡ x ∷ [] → (phase' e.by ≡ taken k e) × (due' e.by ≡ x ∷ []))
-      → ((e : Entry Q) (x : Q × P) → phase k ≡ leads e → due k ≡ x ∷ [] → due' k ≡ x ∷ [])
+      → ((x : Q × P) → due k ≡ x ∷ [] → due' k ≡ x ∷ [])
       → (st : Stage Q P) → Knows line hand handled mode phase due k st → Knows line' hand' handled' mode' phase' due' k st
   knows_stays line line' hand hand' handled handled' mode mode' phase phase' due due' k same to_h to_o to_d Idle ok = same ∙ ok
   knows_stays line line' hand hand' handled handled' mode mode' phase phase' due due' k same to_h to_o to_d (Preparing w) ok = same ∙ ok
-  knows_stays line line' hand hand' handled handled' mode mode' phase phase' due due' k same to_h to_o to_d (Waiting q) ok = subst (Waits q) (sym same) ok
+  knows_stays line line' hand hand' handled handled' mode mode' phase phase' due due' k same to_h to_o to_d (Waiting q past) ok = subst (Waits q) (sym same) ok
+  knows_stays line line' hand hand' handled handled' mode mode' phase phase' due due' k same to_h to_o to_d (Helping q) ok = (subst (Waits q) (sym same) ok.0, (ok.1.0, to_d (q, ok.1.0) ok.1.1))
   knows_stays line line' hand hand' handled handled' mode mode' phase phase' due due' k same to_h to_o to_d (Fresh own seen) ok = let t = to_h (holds_by k mode (led k) ok.0 refl) in (t.0 ∙ ok.0, same ∙ ok.1, ok.2 ∙ sym t.2)
   knows_stays line line' hand hand' handled handled' mode mode' phase phase' due due' k same to_h to_o to_d (Leading lead) ok = let t = to_h (holds_by k mode (built k lead.group) ok.0 refl) in (t.0 ∙ ok.0, same ∙ ok.1, ends_trans line' line lead.walk t.1 ok.2, ok.3 ∙ sym t.2, ok.4 ∙ sym t.3)
   knows_stays line line' hand hand' handled handled' mode mode' phase phase' due due' k same to_h to_o to_d (Cutting lead e) ok = let t = to_h (holds_by k mode (cut k e.by) ok.0 refl) in (t.0 ∙ ok.0, same ∙ ok.1, t.4 e ok.0 ok.2, ok.3 ∙ sym t.2, ok.4 ∙ sym t.3)
   knows_stays line line' hand hand' handled handled' mode mode' phase phase' due due' k same to_h to_o to_d (Marking lead) ok = let t = to_h (holds_by k mode (marked k) ok.0 refl) in (t.0 ∙ ok.0, same ∙ ok.1, ends_trans line' line lead.walk t.1 ok.2, ok.3 ∙ sym t.2, ok.4 ∙ sym t.3)
   knows_stays line line' hand hand' handled handled' mode mode' phase phase' due due' k same to_h to_o to_d (Settling debt) ok =
-      (owed_change phase phase' due due' k debt.rest to_o ok.0, same ∙ ok.1, to_d debt.own (debt.own.asked, debt.reply) ok.1 ok.2, ok.3)
+      (owed_change phase phase' due due' k debt.rest to_o ok.0, same ∙ ok.1, to_d (debt.own.asked, debt.reply) ok.2, ok.3)
   knows_stays line line' hand hand' handled handled' mode mode' phase phase' due due' k same to_h to_o to_d Collecting ok = same ∙ ok
 
   -- the same where the row m alone changes, and the list only grows at its newer end
@@ -102,7 +120,7 @@ module _ {Q P L M : Type 0} (stands : Laws Q P L M) (n : ℕ) where
       (λ h. (to_h h, ends, refl, refl, λ e cu here. put_at phase m ph (λ j f. phase j ≡ linked e → f ≡ linked e) e.by (λ is now. to_k e (ap phase (sym is) ∙ now)) (λ _ now. now) here))
       (λ e x here owed. put_at phase m ph (λ j f. phase j ≡ taken k e → due j ≡ x ∷ [] → (f ≡ taken k e) × (due' j ≡ x ∷ [])) e.by
       (λ is now d. let t = to_t e (ap phase (sym is) ∙ now) in (t.0, ap due' is ∙ (t.1 ∙ (ap due (sym is) ∙ d)))) (λ ne now d. (now, due_else e.by ne ∙ d)) here owed)
-      (λ e x here owed. due_else k ne ∙ owed)
+      (λ x owed. due_else k ne ∙ owed)
 
   -- the row m becomes ph, and the seat id goes from h to h'
   pub record Move (s : St) (r : Listed stands n s) (m id : ℕ) (ws : List ℕ) (hs : Homes) (h h' : Hold Q P) (line hand : List (Entry Q)) (handled : List (Handling Q P)) (mode : Mode Q) (ph : Phase Q P) (due told : ℕ → List (Q × P)) (two : Two Q P) : Type 0 where
@@ -120,7 +138,9 @@ module _ {Q P L M : Type 0} (stands : Laws Q P L M) (n : ℕ) where
     pub log_is : InMode stands n hs line hand handled (put r.phase m ph) due mode
     pub one_chosen : (k : ℕ) (e : Entry Q) → put r.phase m ph k ≡ chosen e → mode ≡ waits k
     pub shared_out : (k : ℕ) → of k handled ≡ told k ++ due k
-    pub account : Account line handled mode
+    pub account : Account stands.bound line handled mode
+    pub goes_on : GoesOn account.events r.account.events
+    pub recalls : Recalls account.events h'.stage
     pub has_cut : HasCut account.log hand (put r.phase m ph) mode
     pub owing_is : (k : ℕ) → of k account.owing ≡ untold (put r.phase m ph k) (due k)
     pub second : Second stands n ws hs (put r.phase m ph) mode (stands.given handled) two
@@ -134,12 +154,12 @@ module _ {Q P L M : Type 0} (stands : Laws Q P L M) (n : ℕ) where
     pub others : (k : ℕ) → k ≢ h.client → (st : Stage Q P) → Knows r.line r.hand r.handled r.mode r.phase r.due k st → Knows line hand handled mode (put r.phase m ph) due k st
 
   module _ (s : St) (r : Listed stands n s) (m id : ℕ) (ws : List ℕ) (hs : Homes) (h h' : Hold Q P) (line hand : List (Entry Q)) (handled : List (Handling Q P)) (mode : Mode Q) (ph : Phase Q P) (due told : ℕ → List (Q × P)) (two : Two Q P) where
-    fit_stays : (v : Move s r m id ws hs h h' line hand handled mode ph due told two) (j : ℕ) → j ≢ id → (xs : List (Hold Q P)) → AllFit n r.line r.hand r.handled r.mode r.phase r.due r.told r.two r.seat j xs → AllFit n line hand handled mode (put r.phase m ph) due told two r.seat j xs
+    fit_stays : (v : Move s r m id ws hs h h' line hand handled mode ph due told two) (j : ℕ) → j ≢ id → (xs : List (Hold Q P)) → AllFit n r.line r.hand r.handled r.mode r.phase r.due r.told r.two r.account.events r.seat j xs → AllFit n line hand handled mode (put r.phase m ph) due told two v.account.events r.seat j xs
     fit_stays v j other [] ok = tt
     fit_stays v j other (x ∷ xs) ok =
         let mine = (r.seats id (h ∷ []) v.at).0 in
         let ne : x.client ≢ h.client = λ e. other (sym ok.0.0 ∙ (ap r.seat e ∙ mine.0)) in (
-          (ok.0.0, ok.0.1, ok.0.2, ok.0.3 ∙ sym (v.told_else x.client ne), v.others x.client ne x.stage ok.0.4, v.else_back x.client ne x.back ok.0.5),
+          (ok.0.0, ok.0.1, ok.0.2, ok.0.3 ∙ sym (v.told_else x.client ne), v.others x.client ne x.stage ok.0.4, v.else_back x.client ne x.back ok.0.5, recalls_more r.account.events v.account.events v.goes_on x.stage ok.0.6),
           fit_stays v j other xs ok.1,
         )
 
@@ -175,8 +195,8 @@ module _ {Q P L M : Type 0} (stands : Laws Q P L M) (n : ℕ) where
           kept = v.kept;
           coded = λ i e. put_at r.phase m ph (λ k f. InChain e f → stands.asks e.asked e.code) i (λ _ is. v.coded e is) (λ _ is. r.coded i e is);
           seats = λ j x e. ⊎_elim
-              (λ (t : (j ≡ id) × (h' ∷ [] ≡ x)). subst (λ (z : ℕ × List (Hold Q P)). AllFit n line hand handled mode (put r.phase m ph) due told two r.seat z.0 z.1) (λ i. (sym t.0 i, t.1 i)) (
-                (ap r.seat v.same_client ∙ mine.0, subst (λ (k : ℕ). 0 < k) (sym v.same_client) mine.1, subst (λ (k : ℕ). k ≤ n) (sym v.same_client) mine.2, v.mine ∙ ap told (sym v.same_client), subst (λ (k : ℕ). Knows line hand handled mode (put r.phase m ph) due k h'.stage) (sym v.same_client) v.knows, subst (λ (k : ℕ). KnowsBack two k h'.back) (sym v.same_client) v.back),
+              (λ (t : (j ≡ id) × (h' ∷ [] ≡ x)). subst (λ (z : ℕ × List (Hold Q P)). AllFit n line hand handled mode (put r.phase m ph) due told two v.account.events r.seat z.0 z.1) (λ i. (sym t.0 i, t.1 i)) (
+                (ap r.seat v.same_client ∙ mine.0, subst (λ (k : ℕ). 0 < k) (sym v.same_client) mine.1, subst (λ (k : ℕ). k ≤ n) (sym v.same_client) mine.2, v.mine ∙ ap told (sym v.same_client), subst (λ (k : ℕ). Knows line hand handled mode (put r.phase m ph) due k h'.stage) (sym v.same_client) v.knows, subst (λ (k : ℕ). KnowsBack two k h'.back) (sym v.same_client) v.back, v.recalls),
                 tt,
               ))
               (λ (t : (j ≢ id) × (get_elem? s.views j ≡ some x)). fit_stays v j t.0 x (r.seats j x t.1))
@@ -203,3 +223,44 @@ module _ {Q P L M : Type 0} (stands : Laws Q P L M) (n : ℕ) where
     none_moved,
     subst (λ (z : List ℕ × List (List (Hold Q P))). IsNow stands n (now_of stands n s r) (record { words = z.0; homes = s.homes; views = z.1 })) (λ i. (sym (set-get_or s.words k 0) i, sym (set_again s.views id v at) i)) (r, refl),
   )
+
+  -- the seat alone moves
+  pub reviewed : (s : St) (r : Listed stands n s) (id : ℕ) (h : Hold Q P) (st : Stage Q P) → get_elem? s.views id ≡ some (h ∷ []) → Knows r.line r.hand r.handled r.mode r.phase r.due h.client st → Recalls r.account.events st
+      → IsNow stands n (now_of stands n s r) (record { words = s.words; homes = s.homes; views = set s.views id (hold_at h.client st h.mine h.back ∷ []) })
+  reviewed s r id h st at knows recalls =
+      let mine = (r.seats id (h ∷ []) at).0 in (
+        record {
+          line = r.line;
+          hand = r.hand;
+          handled = r.handled;
+          mode = r.mode;
+          phase = r.phase;
+          due = r.due;
+          told = r.told;
+          seat = r.seat;
+          few = r.few;
+          wide = r.wide;
+          many = r.many;
+          newest_is = r.newest_is;
+          links = r.links;
+          distinct = r.distinct;
+          within = r.within;
+          stand = r.stand;
+          rows = r.rows;
+          log_is = r.log_is;
+          one_chosen = r.one_chosen;
+          account = r.account;
+          has_cut = r.has_cut;
+          owing_is = r.owing_is;
+          second = r.second;
+          two = r.two;
+          kept = r.kept;
+          coded = r.coded;
+          shared_out = r.shared_out;
+          seats = λ j x e. ⊎_elim
+              (λ (t : (j ≡ id) × (hold_at h.client st h.mine h.back ∷ [] ≡ x)). subst (λ (z : ℕ × List (Hold Q P)). AllFit n r.line r.hand r.handled r.mode r.phase r.due r.told r.two r.account.events r.seat z.0 z.1) (λ i. (sym t.0 i, t.1 i)) ((mine.0, mine.1, mine.2, mine.3, knows, mine.5, recalls), tt))
+              (λ (t : (j ≢ id) × (get_elem? s.views j ≡ some x)). r.seats j x t.1)
+              (at_set s.views id j (hold_at h.client st h.mine h.back ∷ []) x e);
+        },
+        refl,
+      )

@@ -21,7 +21,8 @@ use Rattle.list_rule.specs.Steps.{IsBoundary, IsCutAs}
 use Rattle.list_rule.proofs.Chains.{put, put_at, put_here, put_else, ends_trans}
 use Rattle.list_rule.proofs.Enters.{own}
 use Rattle.list_rule.proofs.Keeps.{second_stays, level_same}
-use Rattle.list_rule.proofs.Seconds.{second_parts, second_hands, behind_in, one_ahead}
+use Rattle.list_rule.proofs.Seconds.{second_parts, second_hands}
+use Rattle.list_rule.proofs.Squads.{behind_in, one_ahead}
 
 module _ {Q P : Type 0} where
   -- what a client knows stays, where its place and its turn stay

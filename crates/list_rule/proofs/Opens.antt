@@ -54,13 +54,13 @@ module _ {Q P L M : Type 0} (stands : Laws Q P L M) (n : ℕ) where
   abbrev fresh_two : List (Handling Q P) → Two Q P
   fresh_two k = record { groups = []; place = λ _. away; turn = still; lead = level; done = k }
 
-  new_fit : (m : ℕ) (k : List (Handling Q P)) → m ≤ n → AllFit {Q = Q} {P = P} n [] [] [] open_ (λ _. idle) (λ _. []) (λ _. []) (fresh_two k) (λ _. 0) 0 (newcomers m)
+  new_fit : (m : ℕ) (k : List (Handling Q P)) → m ≤ n → AllFit {Q = Q} {P = P} n [] [] [] open_ (λ _. idle) (λ _. []) (λ _. []) (fresh_two k) [] (λ _. 0) 0 (newcomers m)
   new_fit zero k h = tt
-  new_fit (suc m) k h = ((refl, omega arith, h, refl, refl, (refl, (λ e. absurd (cc)))), new_fit m k (omega arith))
+  new_fit (suc m) k h = ((refl, omega arith, h, refl, refl, (refl, (λ e. absurd (cc))), tt), new_fit m k (omega arith))
 
   even_level : (piped : Bool) → (piped ≡ true → stands.opened ≡ stands.given []) → Level stands piped (fresh_two stands.opened) (stands.given [])
   even_level true even = even refl
-  even_level false even = refl
+  even_level false even = (refl, refl)
 
   pub opens : (words : List ℕ) (slots : List (Content Q P L M)) (l : L) (rt : M) → n < 255 → length words ≡ 2 * n + 4 → (get_or words 0 0 ≡ 0) × (get_or words 1 0 ≡ 0) → slots ≡ Log l ∷ (replicate n Empty ++ Right rt ∷ []) → stands.logs l [] → stands.rights rt stands.opened → (stands.piped ≡ true → stands.opened ≡ stands.given []) → Listed stands n (opening words slots (newcomers n))
   opens words slots l rt few wide zero_first are stood right_stood even =
@@ -85,7 +85,7 @@ module _ {Q P L M : Type 0} (stands : Laws Q P L M) (n : ℕ) where
         rows = λ i lo hi. (at_slot i lo hi, refl);
         log_is = (refl, refl, (l, ap (λ z. get_elem? (map some z) 0) are, stood));
         one_chosen = λ i e bad. absurd (cc);
-        account = opens_now;
+        account = opens_now stands.bound;
         has_cut = tt;
         owing_is = λ _. refl;
         two = fresh_two stands.opened;
@@ -115,8 +115,8 @@ module _ {Q P L M : Type 0} (stands : Laws Q P L M) (n : ℕ) where
       past zero lo hi = absurd (omega arith)
       past (suc i) lo hi = replicate_to n i Empty (Right rt) (omega arith)
 
-      first : (j : ℕ) (v : List (Hold Q P)) → get_elem? (newcomers n ∷ []) j ≡ some v → AllFit n [] [] [] open_ (λ _. idle) (λ _. []) (λ _. []) (fresh_two stands.opened) (λ _. 0) j v
-      first zero v e = subst (AllFit n [] [] [] open_ (λ _. idle) (λ _. []) (λ _. []) (fresh_two stands.opened) (λ _. 0) 0) (some-injective (newcomers n) v e) (new_fit n stands.opened (omega arith))
+      first : (j : ℕ) (v : List (Hold Q P)) → get_elem? (newcomers n ∷ []) j ≡ some v → AllFit n [] [] [] open_ (λ _. idle) (λ _. []) (λ _. []) (fresh_two stands.opened) [] (λ _. 0) j v
+      first zero v e = subst (AllFit n [] [] [] open_ (λ _. idle) (λ _. []) (λ _. []) (fresh_two stands.opened) [] (λ _. 0) 0) (some-injective (newcomers n) v e) (new_fit n stands.opened (omega arith))
       first (suc j) v e = absurd (some-ne-none v (sym e))
 
   -- nobody has come yet
@@ -129,14 +129,14 @@ module _ {Q P L M : Type 0} (stands : Laws Q P L M) (n : ℕ) where
     seat' = put r.seat c k
 
     -- those of other clients keep their seats
-    seats_stay : (j : ℕ) (v : List (Hold Q P)) → ((h : Hold Q P) → r.seat h.client ≡ j → h.client ≤ n → h.client ≢ c) → AllFit n r.line r.hand r.handled r.mode r.phase r.due r.told r.two r.seat j v → AllFit n r.line r.hand r.handled r.mode r.phase r.due r.told r.two (put r.seat c k) j v
+    seats_stay : (j : ℕ) (v : List (Hold Q P)) → ((h : Hold Q P) → r.seat h.client ≡ j → h.client ≤ n → h.client ≢ c) → AllFit n r.line r.hand r.handled r.mode r.phase r.due r.told r.two r.account.events r.seat j v → AllFit n r.line r.hand r.handled r.mode r.phase r.due r.told r.two r.account.events (put r.seat c k) j v
     seats_stay j [] elsewhere ok = tt
-    seats_stay j (h ∷ hs) elsewhere ok = ((put_else r.seat c k h.client (elsewhere h ok.0.0 ok.0.2) ∙ ok.0.0, ok.0.1, ok.0.2, ok.0.3, ok.0.4, ok.0.5), seats_stay j hs elsewhere ok.1)
+    seats_stay j (h ∷ hs) elsewhere ok = ((put_else r.seat c k h.client (elsewhere h ok.0.0 ok.0.2) ∙ ok.0.0, ok.0.1, ok.0.2, ok.0.3, ok.0.4, ok.0.5, ok.0.6), seats_stay j hs elsewhere ok.1)
 
     -- so do the newcomers below c
-    below_stay : (j m : ℕ) → m < c → AllFit n r.line r.hand r.handled r.mode r.phase r.due r.told r.two r.seat j (newcomers m) → AllFit n r.line r.hand r.handled r.mode r.phase r.due r.told r.two (put r.seat c k) j (newcomers m)
+    below_stay : (j m : ℕ) → m < c → AllFit n r.line r.hand r.handled r.mode r.phase r.due r.told r.two r.account.events r.seat j (newcomers m) → AllFit n r.line r.hand r.handled r.mode r.phase r.due r.told r.two r.account.events (put r.seat c k) j (newcomers m)
     below_stay j zero h ok = tt
-    below_stay j (suc m) h ok = ((put_else r.seat c k (suc m) (λ e. omega arith) ∙ ok.0.0, ok.0.1, ok.0.2, ok.0.3, ok.0.4, ok.0.5), below_stay j m (omega arith) ok.1)
+    below_stay j (suc m) h ok = ((put_else r.seat c k (suc m) (λ e. omega arith) ∙ ok.0.0, ok.0.1, ok.0.2, ok.0.3, ok.0.4, ok.0.5, ok.0.6), below_stay j m (omega arith) ok.1)
 
   pub splits : (id m : ℕ) → Splits (Listed stands n) id (newcomers (suc m)) (newcomers m) (hold (suc m) Idle [] ∷ [])
   splits id m s r at =
@@ -174,11 +174,11 @@ module _ {Q P L M : Type 0} (stands : Laws Q P L M) (n : ℕ) where
         shared_out = r.shared_out;
         seats = λ j v e. ⊎_elim
             (λ (t : get_elem? (set s.views id (newcomers m)) j ≡ some v). ⊎_elim
-            (λ (u : (j ≡ id) × (newcomers m ≡ v)). subst (λ (z : ℕ × List (Hold Q P)). AllFit n r.line r.hand r.handled r.mode r.phase r.due r.told r.two (put r.seat c k) z.0 z.1) (λ i. (sym u.0 i, u.1 i)) (below_stay s r c k id m (omega arith) ok.1))
+            (λ (u : (j ≡ id) × (newcomers m ≡ v)). subst (λ (z : ℕ × List (Hold Q P)). AllFit n r.line r.hand r.handled r.mode r.phase r.due r.told r.two r.account.events (put r.seat c k) z.0 z.1) (λ i. (sym u.0 i, u.1 i)) (below_stay s r c k id m (omega arith) ok.1))
             (λ (u : (j ≢ id) × (get_elem? s.views j ≡ some v)). seats_stay s r c k j v (λ h there _ e. u.0 (sym there ∙ (ap r.seat e ∙ ok.0.0))) (r.seats j v u.1))
             (at_set s.views id j (newcomers m) v t))
-            (λ (t : (j ≡ k) × (hold c Idle [] ∷ [] ≡ v)). subst (λ (z : ℕ × List (Hold Q P)). AllFit n r.line r.hand r.handled r.mode r.phase r.due r.told r.two (put r.seat c k) z.0 z.1) (λ i. (sym t.0 i, t.1 i))
-            ((put_here r.seat c k, ok.0.1, ok.0.2, ok.0.3, ok.0.4, ok.0.5), tt))
+            (λ (t : (j ≡ k) × (hold c Idle [] ∷ [] ≡ v)). subst (λ (z : ℕ × List (Hold Q P)). AllFit n r.line r.hand r.handled r.mode r.phase r.due r.told r.two r.account.events (put r.seat c k) z.0 z.1) (λ i. (sym t.0 i, t.1 i))
+            ((put_here r.seat c k, ok.0.1, ok.0.2, ok.0.3, ok.0.4, ok.0.5, ok.0.6), tt))
             (at_end (set s.views id (newcomers m)) (hold c Idle [] ∷ []) v j e);
       }
 
@@ -206,11 +206,11 @@ reseat_at f a b c F here other = go (ℕ_discrete (f c) a)
 
 module _ {Q P L M : Type 0} (stands : Laws Q P L M) (n : ℕ) where
   module _ (s : St stands n) (r : Listed stands n s) (f : ℕ → ℕ) where
-    fit_at : (j j' : ℕ) (v : List (Hold Q P)) → ((c : ℕ) → r.seat c ≡ j → f c ≡ j') → AllFit n r.line r.hand r.handled r.mode r.phase r.due r.told r.two r.seat j v → AllFit n r.line r.hand r.handled r.mode r.phase r.due r.told r.two f j' v
+    fit_at : (j j' : ℕ) (v : List (Hold Q P)) → ((c : ℕ) → r.seat c ≡ j → f c ≡ j') → AllFit n r.line r.hand r.handled r.mode r.phase r.due r.told r.two r.account.events r.seat j v → AllFit n r.line r.hand r.handled r.mode r.phase r.due r.told r.two r.account.events f j' v
     fit_at j j' [] to ok = tt
-    fit_at j j' (h ∷ hs) to ok = ((to h.client ok.0.0, ok.0.1, ok.0.2, ok.0.3, ok.0.4, ok.0.5), fit_at j j' hs to ok.1)
+    fit_at j j' (h ∷ hs) to ok = ((to h.client ok.0.0, ok.0.1, ok.0.2, ok.0.3, ok.0.4, ok.0.5, ok.0.6), fit_at j j' hs to ok.1)
 
-    fit_both : (j : ℕ) (v w : List (Hold Q P)) → AllFit n r.line r.hand r.handled r.mode r.phase r.due r.told r.two f j v → AllFit n r.line r.hand r.handled r.mode r.phase r.due r.told r.two f j w → AllFit n r.line r.hand r.handled r.mode r.phase r.due r.told r.two f j (v ++ w)
+    fit_both : (j : ℕ) (v w : List (Hold Q P)) → AllFit n r.line r.hand r.handled r.mode r.phase r.due r.told r.two r.account.events f j v → AllFit n r.line r.hand r.handled r.mode r.phase r.due r.told r.two r.account.events f j w → AllFit n r.line r.hand r.handled r.mode r.phase r.due r.told r.two r.account.events f j (v ++ w)
     fit_both j [] w a b = b
     fit_both j (h ∷ hs) w a b = (a.0, fit_both j hs w a.1 b)
 
@@ -247,9 +247,9 @@ module _ {Q P L M : Type 0} (stands : Laws Q P L M) (n : ℕ) where
         coded = r.coded;
         shared_out = r.shared_out;
         seats = λ j x e. ⊎_elim
-            (λ (t : (j ≡ other) × ([] ≡ x)). subst (AllFit n r.line r.hand r.handled r.mode r.phase r.due r.told r.two f j) t.1 tt)
+            (λ (t : (j ≡ other) × ([] ≡ x)). subst (AllFit n r.line r.hand r.handled r.mode r.phase r.due r.told r.two r.account.events f j) t.1 tt)
             (λ (t : (j ≢ other) × (get_elem? (set s.views id (v ++ w)) j ≡ some x)). ⊎_elim
-            (λ (u : (j ≡ id) × (v ++ w ≡ x)). subst (λ (z : ℕ × List (Hold Q P)). AllFit n r.line r.hand r.handled r.mode r.phase r.due r.told r.two f z.0 z.1) (λ i. (sym u.0 i, u.1 i))
+            (λ (u : (j ≡ id) × (v ++ w ≡ x)). subst (λ (z : ℕ × List (Hold Q P)). AllFit n r.line r.hand r.handled r.mode r.phase r.due r.told r.two r.account.events f z.0 z.1) (λ i. (sym u.0 i, u.1 i))
             (fit_both s r f id v w (fit_at s r f id id v (λ c e. reseat_at r.seat other id c (λ z. z ≡ id) (λ _. refl) (λ _. e)) (r.seats id v at))
             (fit_at s r f other id w (λ c e. reseat_at r.seat other id c (λ z. z ≡ id) (λ _. refl) (λ ne. absurd (ne e))) (r.seats other w was_other))))
             (λ (u : (j ≢ id) × (get_elem? s.views j ≡ some x)). fit_at s r f j j x (λ c e. reseat_at r.seat other id c (λ z. z ≡ j) (λ here. absurd (t.0 (sym e ∙ here))) (λ _. e)) (r.seats j x u.1))
@@ -262,9 +262,9 @@ module _ {Q P L M : Type 0} (stands : Laws Q P L M) (n : ℕ) where
   unfolding joins
   joins_is now id other v w s is at apart at_other = (joins id other v w s is.0 at apart at_other, is.1)
 
-  fit_has : (s : St stands n) (r : Listed stands n s) (id : ℕ) (h : Hold Q P) (v : List (Hold Q P)) → Has h v → AllFit n r.line r.hand r.handled r.mode r.phase r.due r.told r.two r.seat id v → Fits n r.line r.hand r.handled r.mode r.phase r.due r.told r.two r.seat id h
+  fit_has : (s : St stands n) (r : Listed stands n s) (id : ℕ) (h : Hold Q P) (v : List (Hold Q P)) → Has h v → AllFit n r.line r.hand r.handled r.mode r.phase r.due r.told r.two r.account.events r.seat id v → Fits n r.line r.hand r.handled r.mode r.phase r.due r.told r.two r.account.events r.seat id h
   fit_has s r id h [] has ok = absurd has
-  fit_has s r id h (x ∷ xs) has ok = ⊎_elim (λ (e : x ≡ h). subst (Fits n r.line r.hand r.handled r.mode r.phase r.due r.told r.two r.seat id) e ok.0) (λ (t : Has h xs). fit_has s r id h xs t ok.1) has
+  fit_has s r id h (x ∷ xs) has ok = ⊎_elim (λ (e : x ≡ h). subst (Fits n r.line r.hand r.handled r.mode r.phase r.due r.told r.two r.account.events r.seat id) e ok.0) (λ (t : Has h xs). fit_has s r id h xs t ok.1) has
 
   all_home : (homes : List (Option (Content Q P L M))) (line hand : List (Entry Q)) (handled : List (Handling Q P)) (phase : ℕ → Phase Q P) (due : ℕ → List (Q × P)) → Within n line → ((i : ℕ) → 0 < i → i ≤ n → phase i ≡ idle)
       → (mode : Mode Q) → InMode stands n homes line hand handled phase due mode → LogHome stands homes handled
@@ -320,7 +320,7 @@ module _ {Q P L M : Type 0} (stands : Laws Q P L M) (n : ℕ) where
 
   level_ends : (piped : Bool) (two : Two Q P) (last : List (Handling Q P)) → two.groups ≡ [] → ((c : ℕ) → two.lead ≢ ahead c) → Level stands piped two last → (piped ≡ false → two.done ≡ stands.opened) × (piped ≡ true → two.done ≡ last)
   level_ends true two last nil un v = ((λ e. absurd (cc)), (λ _. chain_ends two.lead two.done last two.groups nil un v))
-  level_ends false two last nil un v = ((λ _. v), (λ e. absurd (cc)))
+  level_ends false two last nil un v = ((λ _. v.1), (λ e. absurd (cc)))
 
   -- where all clients are idle, the log and the right are at home, the other slots are empty, and the log stands for all that the clients were told
   pub record Closes (s : St stands n) (v : List (Hold Q P)) : Type 0 where

@@ -20,7 +20,7 @@ use Rattle.list_rule.specs.declared.view.Back.TheVariants.{Away, Parting, Joinin
 use Rattle.list_rule.specs.declared.content.Content.{Content}
 use Rattle.list_rule.specs.declared.content.Content.TheVariants.{Right}
 use Rattle.list_rule.specs.declared.view.Stage.{Stage}
-use Rattle.list_rule.specs.declared.view.Stage.TheVariants.{Idle, Preparing, Waiting, Fresh, Leading, Cutting, Marking, Settling, Collecting}
+use Rattle.list_rule.specs.declared.view.Stage.TheVariants.{Idle, Preparing, Waiting, Helping, Fresh, Leading, Cutting, Marking, Settling, Collecting}
 use Rattle.list_rule.specs.Chain.{state_at, older_at, pack, newest, LinksFrom, Absent}
 use Rattle.list_rule.specs.Standing.{Phase, linked, chosen, leads, Mode, open_, waits, led, built, cut, marked, base_of, Holds, InFront, Place, away, parted, queued, called, serves, served, calls, held_by, passes, ahead, Two, line_of, flat, Behind, KnowsBack}
 use Rattle.list_rule.specs.Laws.{Laws}
@@ -31,7 +31,8 @@ use Rattle.list_rule.specs.Plays.{Sat, AtWith, ending, aimed_second, joined, sum
 use Rattle.list_rule.proofs.Chains.{put, put_here, put_else, links_stay, links_same, newest_small}
 use Rattle.list_rule.proofs.Groups.{absent_append, linked_out, taken_absent}
 use Rattle.list_rule.proofs.Moves.{St, Homes, row_stays, Goes, allows, unmoved}
-use Rattle.list_rule.proofs.Seconds.{is_level, one_ahead, one_holder, second_aims, second_behind, second_alone, second_serves, snoc_some, none_first}
+use Rattle.list_rule.proofs.Seconds.{second_aims, second_behind, second_alone, second_serves, none_first}
+use Rattle.list_rule.proofs.Squads.{is_level, one_ahead, one_holder, snoc_some}
 use Rattle.list_rule.proofs.Onward.{back_map, parts_two, parts_else, one_hold_at, second_put, served_put, none_served, apart_put, behind_apart}
 
 module _ {Q P : Type 0} where
@@ -48,7 +49,8 @@ module _ {Q P : Type 0} where
   cut_knows : (line hand : List (Entry Q)) (handled : List (Handling Q P)) (mode : Mode Q) (phase : ℕ → Phase Q P) (due : ℕ → List (Q × P)) (c : ℕ) (lead : Lead Q P) (st : Stage Q P) → IsCut lead st → Knows line hand handled mode phase due c st → Holds c mode × (lead.seen ≡ handled)
   cut_knows line hand handled mode phase due c lead Idle is ok = absurd is
   cut_knows line hand handled mode phase due c lead (Preparing w) is ok = absurd is
-  cut_knows line hand handled mode phase due c lead (Waiting q) is ok = absurd is
+  cut_knows line hand handled mode phase due c lead (Waiting q past) is ok = absurd is
+  cut_knows line hand handled mode phase due c lead (Helping q) is ok = absurd is
   cut_knows line hand handled mode phase due c lead (Fresh o n) is ok = absurd is
   cut_knows line hand handled mode phase due c lead (Leading l) is ok = absurd is
   cut_knows line hand handled mode phase due c lead (Cutting l e) is ok = (subst (Holds c) (sym ok.0) refl, ap (λ (z : Lead Q P). z.seen) (sym is) ∙ ok.3)
@@ -104,12 +106,12 @@ module _ {Q P L M : Type 0} (stands : Laws Q P L M) (n : ℕ) where
     pub else_back : (k : ℕ) → k ≢ c → (y : Back Q P) → KnowsBack r.two k y → KnowsBack two k y
 
   module _ (s : St stands n) (r : Listed stands n s) (id : ℕ) (ws : List ℕ) (hs : Homes stands n) (c : ℕ) (st : Stage Q P) (mine : List (Q × P)) (b z : Back Q P) (two : Two Q P) where
-    pass_fit : (v : Pass s r id ws hs c st mine b z two) (j : ℕ) → j ≢ id → (xs : List (Hold Q P)) → AllFit n r.line r.hand r.handled r.mode r.phase r.due r.told r.two r.seat j xs → AllFit n r.line r.hand r.handled r.mode r.phase r.due r.told two r.seat j xs
+    pass_fit : (v : Pass s r id ws hs c st mine b z two) (j : ℕ) → j ≢ id → (xs : List (Hold Q P)) → AllFit n r.line r.hand r.handled r.mode r.phase r.due r.told r.two r.account.events r.seat j xs → AllFit n r.line r.hand r.handled r.mode r.phase r.due r.told two r.account.events r.seat j xs
     pass_fit v j other [] ok = tt
     pass_fit v j other (x ∷ xs) ok =
         let fit = (r.seats id (hold_at c st mine b ∷ []) v.at).0 in
         let ne : x.client ≢ c = λ e. other (sym ok.0.0 ∙ (ap r.seat e ∙ fit.0)) in
-        ((ok.0.0, ok.0.1, ok.0.2, ok.0.3, ok.0.4, v.else_back x.client ne x.back ok.0.5), pass_fit v j other xs ok.1)
+        ((ok.0.0, ok.0.1, ok.0.2, ok.0.3, ok.0.4, v.else_back x.client ne x.back ok.0.5, ok.0.6), pass_fit v j other xs ok.1)
 
     pub passed_to : Pass s r id ws hs c st mine b z two → IsNow stands n ((now_of stands n s r).0, second_list_of two) (record { words = ws; homes = hs; views = set s.views id (hold_at c st mine z ∷ []) })
     passed_to v =
@@ -143,7 +145,7 @@ module _ {Q P L M : Type 0} (stands : Laws Q P L M) (n : ℕ) where
             coded = r.coded;
             second = v.second;
             seats = λ j x e. ⊎_elim
-                (λ (t : (j ≡ id) × (hold_at c st mine z ∷ [] ≡ x)). subst (λ (y : ℕ × List (Hold Q P)). AllFit n r.line r.hand r.handled r.mode r.phase r.due r.told two r.seat y.0 y.1) (λ i. (sym t.0 i, t.1 i)) ((fit.0, fit.1, fit.2, fit.3, fit.4, v.back), tt))
+                (λ (t : (j ≡ id) × (hold_at c st mine z ∷ [] ≡ x)). subst (λ (y : ℕ × List (Hold Q P)). AllFit n r.line r.hand r.handled r.mode r.phase r.due r.told two r.account.events r.seat y.0 y.1) (λ i. (sym t.0 i, t.1 i)) ((fit.0, fit.1, fit.2, fit.3, fit.4, v.back, fit.6), tt))
                 (λ (t : (j ≢ id) × (get_elem? s.views j ≡ some x)). pass_fit v j t.0 x (r.seats j x t.1))
                 (at_set s.views id j (hold_at c st mine z ∷ []) x e);
           },

@@ -1,5 +1,5 @@
 -- The steps of a leader in the second list, most with the right, keep the rule.
-use Rattle.std.proofs.Common.{true, ◌≡◌, ◌≢◌, ℕ, ◌+◌, ◌*◌, ◌<◌, ◌≤◌, eqb, List, [], ◌∷◌, ◌++◌, length, get_or, set, refl, sym, ap, ◌∙◌, subst, inl, arith, length-set, get_or-set_other, get_or-set_same}
+use Rattle.std.proofs.Common.{Bool, true, false, ◌≡◌, ◌≢◌, ℕ, ◌+◌, ◌*◌, ◌<◌, ◌≤◌, eqb, List, [], ◌∷◌, ◌++◌, length, get_or, set, refl, sym, ap, ◌∙◌, subst, inl, arith, length-set, get_or-set_other, get_or-set_same}
 use mathlib.Core.Logic.{dite}
 use mathlib.Core.Option.{Option, none, some}
 use native.Mathlib.Decide.{ℕ_discrete}
@@ -21,7 +21,9 @@ use Rattle.list_rule.specs.declared.view.Stage.TheVariants.{Settling}
 use Rattle.list_rule.specs.Chain.{state_at, older_at, pack, newest, Links, Absent, Distinct, Within}
 use Rattle.list_rule.specs.Standing.{Phase, leads, taken, base_of, away, called, Turn, still, calls, serves, served, held_by, passes, Two, line_of, flat, In, Behind, KnowsBack}
 use Rattle.list_rule.specs.Laws.{Laws}
-use Rattle.list_rule.specs.Rule.{AllOwed, hold_at, InPhase, Listed, InTurn, Second}
+use Rattle.list_rule.specs.Rule.{AllOwed, hold_at, InPhase, Level, Listed, InTurn, Second}
+use Rattle.list_rule.specs.declared.view.Handling.{Handling}
+use Rattle.list_rule.proofs.Enters.{not_snoc}
 use Rattle.list_rule.specs.Steps.{Lists, Stays, HappensWhere, IsServedOut, now_of, IsNow, StepIs}
 use Rattle.list_rule.specs.SecondList.{SecondList, apart_in, served_in, last_served, second_list_of}
 use Rattle.list_rule.specs.Plays.{Sat, AtWith, debt, WalksSecond, left_second, traced_second, cleared_second, called_next, kept}
@@ -30,7 +32,8 @@ use Rattle.list_rule.proofs.Groups.{links_at, walk_bound}
 use Rattle.list_rule.proofs.Leads.{all_below, middle, same_last, snoc}
 use Rattle.std.proofs.lemmas.List.{append_cancel_right, append-nil}
 use Rattle.list_rule.proofs.Moves.{St, row_stays, Goes, allows, unmoved}
-use Rattle.list_rule.proofs.Seconds.{one_serves, flat_snoc, in_one, behind_in, second_stops, second_clears, second_ends, second_calls, one_group}
+use Rattle.list_rule.proofs.Seconds.{second_stops, second_clears, second_ends, second_calls, one_group}
+use Rattle.list_rule.proofs.Squads.{one_serves, flat_snoc, in_one, behind_in}
 use Rattle.list_rule.proofs.Keeps.{in_not_away, second_stays}
 use Rattle.list_rule.proofs.Onward.{back_map, one_hold_at, apart_same, in_apart}
 use Rattle.list_rule.proofs.Settles.{debt_in, no_log}
@@ -69,8 +72,8 @@ same_pass : (a b v w : ℕ) → passes a v ≡ passes b w → a ≡ b
 same_pass a b v w e = ap (passes_of a) e
 
 module _ {Q P : Type 0} where
-  owed_at : (phase : ℕ → Phase Q P) (due : ℕ → List (Q × P)) (c : ℕ) (pre : List (Entry Q × P)) (y : Entry Q × P) (post : List (Entry Q × P)) → AllOwed phase due c (pre ++ y ∷ post) → phase y.0.by ≡ taken c y.0
-  owed_at phase due c [] y post ok = ok.0
+  owed_at : (phase : ℕ → Phase Q P) (due : ℕ → List (Q × P)) (c : ℕ) (pre : List (Entry Q × P)) (y : Entry Q × P) (post : List (Entry Q × P)) → AllOwed phase due c (pre ++ y ∷ post) → (phase y.0.by ≡ taken c y.0) × (due y.0.by ≡ (y.0.asked, y.1) ∷ [])
+  owed_at phase due c [] y post ok = (ok.0, ok.1)
   owed_at phase due c (g ∷ gs) y post ok = owed_at phase due c gs y post ok.2
 
 module _ {Q P L M : Type 0} (stands : Laws Q P L M) (n : ℕ) where
@@ -296,14 +299,26 @@ module _ {Q P L M : Type 0} (stands : Laws Q P L M) (n : ℕ) where
   calls_next slots id me c k j0 st mine g x right t mid slot is_last is_word stood = allows stands n (λ _. IsServedOut c g) slots id me k (λ _. 4) (λ _. called_next (step slots k 4 0 none) me 4) (calls_next_is slots id me c k j0 st mine g x right t mid slot is_last is_word stood)
 
   -- a member is told to work beside its leader
-  pub parallels_is : (slots id : ℕ) (me : Sat Q P L M) (c k : ℕ) (pre post : List (Entry Q × P)) (y : Entry Q × P) (o : Entry Q) (p : P) (mine : List (Q × P)) (b : Back Q P) → AtWith c (Settling (debt (pre ++ y ∷ post) o p)) mine b me → k ≡ state_at y.0.by → y.0.by ≤ n
+  -- only a list with a second one has somebody who serves
+  only_piped : (piped : Bool) (two : Two Q P) (last : List (Handling Q P)) (newer : List (Squad Q P)) (g : Squad Q P) → two.groups ≡ newer ++ g ∷ [] → Level stands piped two last → piped ≡ true
+  only_piped true two last newer g is ok = refl
+  only_piped false two last newer g is ok = absurd (not_snoc newer g (sym ok.0 ∙ is))
+
+  serving_piped : (s : St stands n) (r : Listed stands n s) (c : ℕ) → r.two.turn ≡ held_by c → stands.piped ≡ true
+  serving_piped s r c turn =
+      let t = subst (InTurn stands n s.words s.homes r.phase r.two) turn r.second.turn_is in only_piped stands.piped r.two (stands.given r.handled) t.0 t.1 t.2 r.second.in_level
+
+  pub parallels_is : (slots id : ℕ) (me : Sat Q P L M) (c k : ℕ) (pre post : List (Entry Q × P)) (y : Entry Q × P) (o : Entry Q) (p : P) (mine : List (Q × P)) (g : Squad Q P) (walk : List (Entry Q)) → AtWith c (Settling (debt (pre ++ y ∷ post) o p)) mine (Serving g walk) me → k ≡ state_at y.0.by → y.0.by ≤ n
       → StepIs stands n (λ _. Stays) slots id me k (λ _. 8) (λ _. kept (step slots k 8 0 none) me 8)
-  parallels_is slots id me c k pre post y o p mine b mid is_word small s r long at fits =
+  parallels_is slots id me c k pre post y o p mine g walk mid is_word small s r long at fits =
       let st : Stage Q P = Settling (debt (pre ++ y ∷ post) o p) in
+      let b : Back Q P = Serving g walk in
       let at' : get_elem? s.views id ≡ some (hold_at c st mine b ∷ []) = at ∙ ap some mid in
       let fit = (r.seats id (hold_at c st mine b ∷ []) at').0 in
       let m : ℕ = y.0.by in
-      let now : r.phase m ≡ taken c y.0 = owed_at r.phase r.due c pre y post fit.4.0 in
+      let owed = owed_at r.phase r.due c pre y post fit.4.0 in
+      let piped : stands.piped ≡ true = serving_piped s r c fit.5.0 in
+      let now : r.phase m ≡ taken c y.0 = owed.0 in
       let wide : length s.words ≡ 2 * n + 4 = r.wide in
       let ws : List ℕ = set s.words k 8 in
       let same : (j : ℕ) → j ≢ k → get_or ws j 0 ≡ get_or s.words j 0 = λ j ne. get_or-set_other s.words k j 8 0 (λ e. ne (omega arith)) in
@@ -319,7 +334,7 @@ module _ {Q P L M : Type 0} (stands : Laws Q P L M) (n : ℕ) where
         links = links_same (base_of r.mode) s.words ws r.line older r.links;
         rows = λ j lo hi. dite (ℕ_discrete j m)
             (λ e. let here : r.phase j ≡ taken c y.0 = ap r.phase e ∙ now in let at8 : get_or ws (state_at j) 0 ≡ 8 = ap (λ (i : ℕ). get_or ws (state_at i) 0) e ∙ is8 in
-            subst (InPhase stands ws s.homes j (r.due j)) (sym here) ((subst (InPhase stands s.words s.homes j (r.due j)) here (r.rows j lo hi)).0, (λ two_. absurd (omega arith)), (λ sixteen. absurd (omega arith))))
+            subst (InPhase stands ws s.homes j (r.due j)) (sym here) ((subst (InPhase stands s.words s.homes j (r.due j)) here (r.rows j lo hi)).0, (λ two_. absurd (omega arith)), (λ sixteen. absurd (omega arith)), (λ _. (piped, (y.1, ap r.due e ∙ owed.1)))))
             (λ ne. row_stays stands n s.words ws s.homes s.homes j (r.due j) (state j ne) (older j) refl (r.phase j) (r.rows j lo hi));
         home = refl;
         second = second_stays stands n s.words ws s.homes s.homes r.phase r.phase r.mode r.mode (stands.given r.handled) (stands.given r.handled) r.two (same 1 (λ e. omega arith))
@@ -335,6 +350,6 @@ module _ {Q P L M : Type 0} (stands : Laws Q P L M) (n : ℕ) where
         refl,
       )
 
-  pub parallels : (slots id : ℕ) (me : Sat Q P L M) (c k : ℕ) (pre post : List (Entry Q × P)) (y : Entry Q × P) (o : Entry Q) (p : P) (mine : List (Q × P)) (b : Back Q P) → AtWith c (Settling (debt (pre ++ y ∷ post) o p)) mine b me → k ≡ state_at y.0.by → y.0.by ≤ n
+  pub parallels : (slots id : ℕ) (me : Sat Q P L M) (c k : ℕ) (pre post : List (Entry Q × P)) (y : Entry Q × P) (o : Entry Q) (p : P) (mine : List (Q × P)) (g : Squad Q P) (walk : List (Entry Q)) → AtWith c (Settling (debt (pre ++ y ∷ post) o p)) mine (Serving g walk) me → k ≡ state_at y.0.by → y.0.by ≤ n
       → Allows (Listed stands n) slots id me k (λ _. 8) (λ _. kept (step slots k 8 0 none) me 8)
-  parallels slots id me c k pre post y o p mine b mid is_word small = allows stands n (λ _. Stays) slots id me k (λ _. 8) (λ _. kept (step slots k 8 0 none) me 8) (parallels_is slots id me c k pre post y o p mine b mid is_word small)
+  parallels slots id me c k pre post y o p mine g walk mid is_word small = allows stands n (λ _. Stays) slots id me k (λ _. 8) (λ _. kept (step slots k 8 0 none) me 8) (parallels_is slots id me c k pre post y o p mine g walk mid is_word small)

@@ -18,12 +18,12 @@ use Rattle.list_rule.proofs.Onward.{one_hold_at, taken_with, links_back, within_
 use Rattle.list_rule.specs.declared.content.Content.{Content}
 use Rattle.list_rule.specs.declared.content.Content.TheVariants.{Empty, Told, Log}
 use Rattle.list_rule.specs.declared.view.Stage.{Stage}
-use Rattle.list_rule.specs.declared.view.Stage.TheVariants.{Idle, Preparing, Waiting, Fresh, Leading, Cutting, Marking, Settling, Collecting}
+use Rattle.list_rule.specs.declared.view.Stage.TheVariants.{Idle, Preparing, Waiting, Helping, Fresh, Leading, Cutting, Marking, Settling, Collecting}
 use Rattle.list_rule.specs.Chain.{state_at, older_at, pack, newest_from, Links, LinksFrom, Absent, Distinct, Within, of, heads, all_answers, handling}
 use Rattle.list_rule.specs.Standing.{Phase, idle, linked, chosen, leads, taken, completed, Mode, open_, waits, led, built, cut, marked, base_of, Holds, ahead}
 use Rattle.list_rule.specs.Laws.{Laws}
 use Rattle.list_rule.specs.Rule.{InChain, Stand, Waits, AllLinked, AllTaken, AllOwed, Knows, hold, InPhase, InMode, Listed, InSecond, hold_at, HasCut, untold}
-use Rattle.list_rule.specs.Events.{Core, grouped, without}
+use Rattle.list_rule.specs.Events.{exits, completes, Core, grouped, without}
 use Rattle.list_rule.specs.SecondList.{second_list_of}
 use Rattle.list_rule.specs.Steps.{Lists, Stays, IsExit, IsNext, IsCutAs, IsNow, StepIs, IsComplete}
 use Rattle.list_rule.specs.Plays.{Sat, At, in_hand, debt, slots_of, told_one, retired, cut_as, cut_off, woken_on, AtWith, after_cut, onward}
@@ -35,7 +35,8 @@ use Rattle.list_rule.proofs.Keeps.{second_stays, second_row, put_same, kept_else
 use Rattle.std.proofs.lemmas.List.{append_cancel_right}
 use Rattle.list_rule.proofs.Groups.{distinct_apart, distinct_front, distinct_back, within_front, within_at, linked_at, linked_front, linked_absent, taken_absent, linked_out, absent_append, stand_front, stand_apart, links_cut, newest_cut}
 use Rattle.list_rule.proofs.Enters.{one_hold}
-use Rattle.list_rule.proofs.Leads.{still_waits, one_lead, lead_in, leader, same_group, others_of, same_last, middle, snoc, due_same, shared_more, own_owed, all_owed, else_owed, else_due, else_row, one_leads, done_none}
+use Rattle.list_rule.proofs.Leads.{still_waits, one_lead, lead_in, leader, same_last, middle, snoc, one_leads}
+use Rattle.list_rule.proofs.Leaves.{same_group, others_of, due_same, shared_more, own_owed, all_owed, else_owed, else_due, else_row, done_none}
 
 one_linked : {Q P : Type 0} (e f : Entry Q) → Path (Phase Q P) (linked e) (linked f) → e ≡ f
 one_linked e f is = cc
@@ -47,7 +48,8 @@ module _ {Q P : Type 0} where
   abbrev pub debt_in : Debt Q P → Stage Q P → Debt Q P
   debt_in d Idle = d
   debt_in d (Preparing w) = d
-  debt_in d (Waiting q) = d
+  debt_in d (Waiting q past) = d
+  debt_in d (Helping q) = d
   debt_in d (Fresh o n) = d
   debt_in d (Leading l) = d
   debt_in d (Cutting l e) = d
@@ -110,7 +112,7 @@ module _ {Q P L M : Type 0} (stands : Laws Q P L M) (n : ℕ) where
       let here : phase' m ≡ ph = put_here r.phase m ph in
       let out : Absent m r.line = handled_out s.homes r.line r.hand r.handled r.phase r.due m (g.0.asked, g.1) owed (λ e bad. absurd (cc)) (λ e bad. absurd (cc)) r.mode r.log_is in
       let other : c ≢ m = λ e. let bad : r.phase m ≡ leads o = ap r.phase (sym e) ∙ leads_c in absurd (cc) in
-      let acc = completes_now r.line r.handled r.mode r.account (handling g.0 g.1) (r.owing_is m ∙ (ap (λ f. untold f (r.due m)) now ∙ owed)) in
+      let acc = completes_now stands.bound r.line r.handled r.mode r.account (handling g.0 g.1) (r.owing_is m ∙ (ap (λ f. untold f (r.due m)) now ∙ owed)) in
       let now_is : Lists Q P = ((acc.0.queue, acc.0.log, r.handled, acc.0.owing), second_list_of r.two) in
       let after : IsNow stands n now_is (record { words = ws; homes = hs; views = set s.views id (h' ∷ []) }) =
       moved stands n s r m id ws hs h h' r.line r.hand r.handled r.mode ph r.due r.told r.two record {
@@ -131,6 +133,8 @@ module _ {Q P L M : Type 0} (stands : Laws Q P L M) (n : ℕ) where
         kept = r.kept;
         coded = λ e is. absurd is;
         account = acc.0;
+        goes_on = (completes (handling g.0 g.1) ∷ [], acc.2);
+        recalls = tt;
         has_cut = cut_stays r.account.log acc.0.log r.hand r.phase m ph (ap (λ (y : Core Q P). y.1) acc.1.1) r.mode (λ _ e bad. absurd (cc)) r.has_cut;
         owing_is = owing_told r.phase r.due r.account.owing r.owing_is acc.0.owing r.due m ph (ap (λ (y : Core Q P). y.3) acc.1.1) refl (λ _ _. refl);
         second = second_row stands n s.words ws s.homes hs r.phase m ph r.mode (stands.given r.handled) r.two (λ there. subst (InSecond r.two.place m) now there fit.5.0) (same 1 (λ e. omega arith)) (λ j _. same (older_at j) (λ e. omega arith)) (λ j ne. same (state_at j) (λ e. ne (omega arith))) (λ four. let told16 : get_or ws (state_at m) 0 ≡ 16 = ap (λ (i : ℕ). get_or ws i 0) (sym is) ∙ get_or-set_same s.words k 16 0 (omega arith) in absurd (omega arith)) (set_else s.homes m (n + 1) (some (Told g.1)) (λ e. omega arith)) r.second;
@@ -142,7 +146,7 @@ module _ {Q P L M : Type 0} (stands : Laws Q P L M) (n : ℕ) where
         knows = (owed_apart r.phase r.due m ph c gs fit.4.3.0 fit.4.0.2, put_else r.phase m ph c other ∙ leads_c, fit.4.2, fit.4.3.1);
         others = λ j ne. dite (ℕ_discrete j m)
             (λ e. subst (λ (i : ℕ). (st : Stage Q P) → Knows r.line r.hand r.handled r.mode r.phase r.due i st → Knows r.line r.hand r.handled r.mode phase' r.due i st) (sym e)
-            (still_waits r.line r.line r.hand r.hand r.handled r.handled r.mode r.mode r.phase phase' r.due r.due m (taken c g.0) now tt (λ u w. subst (Waits u) (sym here) w)))
+            (still_waits r.line r.line r.hand r.hand r.handled r.handled r.mode r.mode r.phase phase' r.due r.due m (taken c g.0) now tt (λ u w. subst (Waits u) (sym here) w) (λ _ o. o)))
             (λ away. knows_else stands n r.line r.line r.hand r.handled r.mode r.mode r.phase r.due r.due m ph j away (ends_same r.line) (λ _. refl) (λ e bad. absurd (cc))
             (λ e bad. let two : Path (Phase Q P) (taken j e) (taken c g.0) = sym bad ∙ now in absurd (ne (one_taker j c e g.0 two))) (λ _ _. refl));
       } in (
@@ -188,7 +192,7 @@ module _ {Q P L M : Type 0} (stands : Laws Q P L M) (n : ℕ) where
       let out : Absent c r.line = handled_out s.homes r.line r.hand r.handled r.phase r.due c (o.asked, p) owed (λ e bad. absurd (cc)) (λ e bad. absurd (cc)) r.mode r.log_is in
       let shares : r.told c ++ r.due c ≡ told c ++ due c = (λ i. sym fit.3 i ++ owed i) ∙ (sym (append-nil got) ∙ (λ i. sym told_is i ++ sym none_due i)) in
       let by_c : o.by ≡ c = subst (InPhase stands s.words s.homes c (r.due c)) now (r.rows c lo hi) in
-      let acc = completes_now r.line r.handled r.mode r.account (handling o p) (ap (λ (j : ℕ). of j r.account.owing) by_c ∙ (r.owing_is c ∙ (ap (λ f. untold f (r.due c)) now ∙ owed))) in
+      let acc = completes_now stands.bound r.line r.handled r.mode r.account (handling o p) (ap (λ (j : ℕ). of j r.account.owing) by_c ∙ (r.owing_is c ∙ (ap (λ f. untold f (r.due c)) now ∙ owed))) in
       let now_is : Lists Q P = ((acc.0.queue, acc.0.log, r.handled, acc.0.owing), second_list_of r.two) in
       let after : IsNow stands n now_is (record { words = ws; homes = hs; views = set s.views id (h' ∷ []) }) =
       moved stands n s r c id ws hs h h' r.line r.hand r.handled r.mode ph due told r.two record {
@@ -211,6 +215,8 @@ module _ {Q P L M : Type 0} (stands : Laws Q P L M) (n : ℕ) where
         kept = r.kept;
         coded = λ e is. absurd is;
         account = acc.0;
+        goes_on = (completes (handling o p) ∷ [], acc.2);
+        recalls = tt;
         has_cut = cut_stays r.account.log acc.0.log r.hand r.phase c ph (ap (λ (y : Core Q P). y.1) acc.1.1) r.mode (λ held e bad. absurd (no_log s.homes r.line r.hand r.handled r.phase r.due c (o.asked, p) owed r.mode r.log_is held)) r.has_cut;
         owing_is = owing_told r.phase r.due r.account.owing r.owing_is acc.0.owing due c ph (ap (λ (y : Core Q P). y.3) acc.1.1 ∙ ap (λ (j : ℕ). without j r.account.owing) by_c) none_due due_else;
         second = second_row stands n s.words ws s.homes hs r.phase c ph r.mode (stands.given r.handled) r.two (λ there. subst (InSecond r.two.place c) now there fit.5.0) (same 1 (λ e. omega arith)) (λ j _. same (older_at j) (λ e. omega arith)) (λ j ne. same (state_at j) (λ e. ne (omega arith))) (λ four. let told16 : get_or ws (state_at c) 0 ≡ 16 = ap (λ (i : ℕ). get_or ws i 0) (sym is) ∙ get_or-set_same s.words k 16 0 (omega arith) in absurd (omega arith)) (set_else s.homes c (n + 1) (some Empty) (λ e. omega arith)) r.second;
@@ -275,7 +281,7 @@ module _ {Q P L M : Type 0} (stands : Laws Q P L M) (n : ℕ) where
       let row_x : InPhase stands ws s.homes x.by (r.due x.by) (r.phase x.by) =
       let w = subst (InPhase stands s.words s.homes x.by (r.due x.by)) now_x (r.rows x.by lo hi) in
       subst (InPhase stands ws s.homes x.by (r.due x.by)) (sym now_x) (w.0, same (state_at x.by) (λ e. omega arith) ∙ w.1, w.2, w.3) in
-      let acc = cuts_now r.line r.handled r.mode r.account c x.by lead.group lead.own (q ++ x ∷ []) led_c (split ∙ (λ i. (q ++ x ∷ []) ++ (all i ++ lead.own ∷ []))) in (
+      let acc = cuts_now stands.bound r.line r.handled r.mode r.account c x.by lead.group lead.own (q ++ x ∷ []) led_c (split ∙ (λ i. (q ++ x ∷ []) ++ (all i ++ lead.own ∷ []))) in (
         h' ∷ [],
         keeps,
         tt,
@@ -306,6 +312,8 @@ module _ {Q P L M : Type 0} (stands : Laws Q P L M) (n : ℕ) where
             kept = r.kept;
             coded = λ e is. r.coded c e (subst (InChain e) (sym now) is);
             account = acc.0;
+            goes_on = ([], acc.3);
+            recalls = tt;
             has_cut = (lead.own, f.own_by, here, acc.2 ∙ ap (grouped lead.own) (sym all ∙ fit.4.4));
             owing_is = owing_stays r.phase r.due r.account.owing r.owing_is acc.0.owing r.due c ph (ap (λ (y : Core Q P). y.3) acc.1) (ap (λ f. untold f (r.due c)) (sym now)) (λ _ _. refl);
             second = cut_second stands n ch ws s.homes phase' (cut c x.by) (stands.given r.handled) r.two c lead (
@@ -322,7 +330,7 @@ module _ {Q P L M : Type 0} (stands : Laws Q P L M) (n : ℕ) where
             others = λ j ne. knows_stays stands n r.line line r.hand r.hand r.handled r.handled r.mode (cut c x.by) r.phase phase' r.due r.due j (put_else r.phase c ph j ne)
                 (λ h. absurd (ne (sym (subst (Holds j) led_c h))))
                 (λ e y is owed. (put_at r.phase c ph (λ i g. r.phase i ≡ taken j e → g ≡ taken j e) e.by (λ w t. let bad : r.phase e.by ≡ leads lead.own = ap r.phase w ∙ now in absurd (cc)) (λ _ t. t) is, owed))
-                (λ e y _ owed. owed);
+                (λ y owed. owed);
           },
         ),
         λ c' lead' mine' pre' x' mid' is_walk' is_word'.
@@ -380,7 +388,7 @@ module _ {Q P L M : Type 0} (stands : Laws Q P L M) (n : ℕ) where
       let out_x : Absent x.by m.0.0 = distinct_apart m.0.0 x [] (subst Distinct (m.0.2 ∙ (λ i. m.0.0 ++ same_e i ∷ [])) r.distinct) in
       let was_cut = subst (HasCut r.account.log r.hand r.phase) cut_c r.has_cut in
       let same_lead : was_cut.0 ≡ lead.own = one_leads was_cut.0 lead.own (sym was_cut.2 ∙ now) in
-      let acc = wakes_now r.line r.handled r.mode r.account c x.by lead.own (heads gs) more cut_c (was_cut.3 ∙ (λ i. grouped (same_lead i) (hand_is i))) (group_handled lead.own p gs) in
+      let acc = wakes_now stands.bound r.line r.handled r.mode r.account c x.by lead.own (heads gs) more cut_c (was_cut.3 ∙ (λ i. grouped (same_lead i) (hand_is i))) (group_handled lead.own p gs) in
       let now_is : Lists Q P = ((acc.0.queue, acc.0.log, r.handled ++ more, acc.0.owing), second_list_of two') in
       let after : IsNow stands n now_is (record { words = ws; homes = hs; views = set s.views id (h' ∷ []) }) =
       moved stands n s r x.by id ws hs h h' r.line [] (r.handled ++ more) (waits x.by) ph owe r.told two' record {
@@ -407,6 +415,8 @@ module _ {Q P L M : Type 0} (stands : Laws Q P L M) (n : ℕ) where
         kept = stands.keeps l (r.handled ++ more) (subst (λ z. stands.logs l (z ++ more)) fit.4.3 stood);
         coded = λ e is. r.coded x.by e (subst (InChain e) (sym now_x) is);
         account = acc.0;
+        goes_on = (exits more ∷ [], acc.2);
+        recalls = tt;
         has_cut = tt;
         owing_is = owing_grows r.phase r.due r.account.owing r.owing_is acc.0.owing more x.by ph (ap (λ (y : Core Q P). y.3) acc.1.1) (λ d. ap (λ f. untold f d) (sym now_x)) (done_none stands n s r c lead.own gs p by_c now members m.2 apart);
         second = second_stays stands n s.words ws s.homes hs r.phase phase' r.mode (waits x.by) (stands.given (r.handled ++ more)) (stands.given (r.handled ++ more)) two' (same 1 (λ e. omega arith)) (kept_else r.phase two'.place x.by ph s.words ws (λ there. subst (InSecond two'.place x.by) now_x there) (λ j _. same (older_at j) (λ e. omega arith)) (λ j ne. same (state_at j) (λ e. ne (omega arith)))) (λ j four. dite (ℕ_discrete j x.by) (λ e. let two2 : get_or ws (state_at x.by) 0 ≡ 2 = ap (λ (i : ℕ). get_or ws i 0) (sym is_word) ∙ get_or-set_same s.words k 2 0 (omega arith) in let two3 : get_or ws (state_at j) 0 ≡ 2 = ap (λ (i : ℕ). get_or ws (state_at i) 0) e ∙ two2 in absurd (omega arith)) (λ ne. sym (same (state_at j) (λ e. ne (omega arith))) ∙ four)) (set_else s.homes 0 (n + 1) (some (Log l)) (λ e. omega arith)) (λ j h. absurd h) (λ j h. absurd h) (λ j is h. absurd (onward_free stands n b r.two c r.handled (r.handled ++ more) fit.5 hands (is ∙ ap ahead (sym (subst (Holds j) cut_c h))))) (λ v. v) (second_onward stands n b s.words s.homes r.phase r.mode r.two c r.handled (r.handled ++ more) fit.5 hands r.second);
@@ -424,11 +434,11 @@ module _ {Q P L M : Type 0} (stands : Laws Q P L M) (n : ℕ) where
         );
         others = λ j ne. dite (ℕ_discrete j x.by)
             (λ e. subst (λ (i : ℕ). (st : Stage Q P) → Knows r.line r.hand r.handled r.mode r.phase r.due i st → Knows r.line [] (r.handled ++ more) (waits x.by) phase' owe i st) (sym e)
-            (still_waits r.line r.line r.hand [] r.handled (r.handled ++ more) r.mode (waits x.by) r.phase phase' r.due owe x.by (linked x) now_x tt (λ u w. subst (Waits u) (sym here) w)))
+            (still_waits r.line r.line r.hand [] r.handled (r.handled ++ more) r.mode (waits x.by) r.phase phase' r.due owe x.by (linked x) now_x tt (λ u w. subst (Waits u) (sym here) w) (else_due stands n s r c lead.own gs p by_c now members m.2 apart x.by (λ z. other (sym z)))))
             (λ away. knows_stays stands n r.line r.line r.hand [] r.handled (r.handled ++ more) r.mode (waits x.by) r.phase phase' r.due owe j (put_else r.phase x.by ph j away)
             (λ h. absurd (ne (sym (subst (Holds j) cut_c h))))
             (λ e y is owed. (put_at r.phase x.by ph (λ i g. i ≡ e.by → r.phase i ≡ taken j e → g ≡ taken j e) e.by (λ w _ t. absurd (no_x j e w t)) (λ _ _ t. t) refl is, else_owed stands n s r c lead.own gs p by_c now members m.2 apart j ne e y is owed))
-            (λ e y is owed. else_due stands n s r c lead.own gs p by_c now members m.2 apart j ne e y is owed));
+            (else_due stands n s r c lead.own gs p by_c now members m.2 apart j ne));
       } in (
         h' ∷ [],
         gives,

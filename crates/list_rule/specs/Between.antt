@@ -1,6 +1,7 @@
 -- What the words and slots show between any two steps.
-use Rattle.std.specs.Prelude.{◌≡◌, true, ℕ, ◌≤◌, List, [], ◌∷◌, ◌++◌, length, slice_index}
-use mathlib.Core.Option.{Option}
+use Rattle.std.specs.Prelude.{◌≡◌, true, false, ℕ, ◌≤◌, List, [], ◌∷◌, ◌++◌, length, slice_index}
+use mathlib.Core.Option.{Option, some}
+use lib.ListN.{get_elem?}
 use Rattle.atomic_table.specs.Table.{State}
 use Rattle.list_rule.specs.declared.view.Entry.{Entry}
 use Rattle.list_rule.specs.declared.view.Handling.{Handling}
@@ -11,7 +12,13 @@ use Rattle.list_rule.specs.Chain.{newest_from, Links, LinksFrom, Distinct, Withi
 use Rattle.list_rule.specs.Events.{Event, Held, Legal, core_of}
 use Rattle.list_rule.specs.Standing.{Mode, open_, waits, led, built, cut, marked, base_of, Holds, Turn, still, calls, held_by, passes, Lead2, ahead, flat, InStep}
 use Rattle.list_rule.specs.Laws.{Laws}
-use Rattle.list_rule.specs.Rule.{LogHome, RightHome, Shows}
+use Rattle.list_rule.specs.Rule.{LogHome, RightHome, Shows, Recalls}
+use Rattle.list_rule.specs.Steps.{Lists}
+
+-- the events go on from what each of these clients knows of them
+abbrev pub AllRecall : {Q P : Type 0} → List (Event Q P) → List (Hold Q P) → Type 0
+AllRecall events [] = Unit {0}
+AllRecall events (h ∷ hs) = Recalls events h.stage × AllRecall events hs
 
 -- the client leads the oldest group
 abbrev pub IsOldest : {Q P : Type 0} → ℕ → List (Squad Q P) → Type 0
@@ -55,8 +62,10 @@ module _ {Q P L M : Type 0} (stands : Laws Q P L M) where
     pub short : length walk ≤ n
     pub distinct : Distinct walk
     pub within : Within n walk
-    pub legal : Legal events
+    pub legal : Legal stands.bound events
     pub ran : core_of events ≡ (queue, log, handled, owing)
+    -- nobody's past is another: a writer that waits came among these events, and a leader built its group there
+    pub recalled : (id : ℕ) (v : List (Hold Q P)) → get_elem? s.views id ≡ some v → AllRecall events v
     -- the walk is the group in hand and then the queue, until the leader cuts its group off, and then the queue
     pub shows : Shows walk queue log mode
     pub home : LogAtHome stands s.homes handled mode
@@ -73,6 +82,12 @@ module _ {Q P L M : Type 0} (stands : Laws Q P L M) where
     pub right : RightAt stands n s.homes groups done turn
     -- a group is ahead of the log while its leader, whose group is the newest one, has yet to give the log on
     pub handed : (c : ℕ) → lead ≡ ahead c → Holds c mode
+    pub none_second : stands.piped ≡ false → groups ≡ []
     -- each group begins with what the one before it ends with, from what the right stands for to all that was given
     -- runs
     pub in_order : stands.piped ≡ true → InStep done groups (stands.given handled) lead
+
+  -- the lists are these, but for an oldest group of the second one, whose leader has cut it off and has the right still
+  abbrev pub AreLists : {n : ℕ} {s : State (Content Q P L M) (List (Hold Q P))} → Between n s → Lists Q P → Type 0
+  AreLists b l = (l.0 ≡ (b.queue, b.log, b.handled, b.owing)) × (l.1.1 ≡ b.lead)
+      × ((cut : List (Squad Q P)) × (l.1.0 ≡ b.groups ++ cut) × (length cut ≤ 1))

@@ -1,18 +1,12 @@
 -- The events of the list, and the state after them, as plain lists.
 use Rattle.std.specs.Prelude.{◌≡◌, ◌≢◌, ℕ, ◌==◌, not, List, [], ◌∷◌, ◌++◌, map, filter, reverse}
+-- cited with the words below
+pub use Rattle.list_rule.specs.declared.view.Event.{Event}
+pub use Rattle.list_rule.specs.declared.view.Event.TheVariants.{Comes as comes, Elects as elects, Builds as builds, Exits as exits, Completes as completes}
 use Rattle.list_rule.specs.declared.view.Entry.{Entry}
 use Rattle.list_rule.specs.declared.view.Handling.{Handling}
 use Rattle.list_rule.specs.Chain.{Absent, of}
 use Rattle.list_rule.specs.Grouping.{IsGroup}
-
--- a writer comes; the oldest one leads; it builds its group, under this bound, and these are left; the log is given
--- back or on, and the group leaves with what was handled; the client of a handling is told its reply
-pub data Event (Q P : Type 0) : Type 0 where
-  comes : Entry Q → Event Q P
-  elects : Entry Q → Event Q P
-  builds : ℕ → Entry Q → List (Entry Q) → List (Entry Q) → Event Q P
-  exits : List (Handling Q P) → Event Q P
-  completes : Handling Q P → Event Q P
 
 -- nobody has the log, or this client leads, or this writer leads and has this group besides itself
 pub data Held (Q : Type 0) : Type 0 where
@@ -72,6 +66,31 @@ module _ {Q P : Type 0} where
   core_of [] = ([], free, [], [])
   core_of (v ∷ vs) = after (core_of vs) v
 
-  abbrev pub Legal : List (Event Q P) → Type 0
-  Legal [] = Unit {0}
-  Legal (v ∷ vs) = Enabled (core_of vs) v × Legal vs
+  -- each group is built under the list's bound
+  abbrev pub IsBounded : ℕ → Event Q P → Type 0
+  IsBounded bound (comes e) = Unit {0}
+  IsBounded bound (elects e) = Unit {0}
+  IsBounded bound (builds max own group left) = max ≡ bound
+  IsBounded bound (exits new) = Unit {0}
+  IsBounded bound (completes h) = Unit {0}
+
+  -- each event may happen after those before it
+  abbrev pub Legal : ℕ → List (Event Q P) → Type 0
+  Legal bound [] = Unit {0}
+  Legal bound (v ∷ vs) = IsBounded bound v × Enabled (core_of vs) v × Legal bound vs
+
+  -- the events are these, and then later ones
+  abbrev pub GoesOn : List (Event Q P) → List (Event Q P) → Type 0
+  GoesOn events past = (later : List (Event Q P)) × (events ≡ later ++ past)
+
+  -- the last event is that the client comes with q, when it had been told all that was handled for it, which is this
+  abbrev pub HasCome : ℕ → Q → List (Q × P) → List (Event Q P) → Type 0
+  HasCome c q mine past = (e : Entry Q) × (before : List (Event Q P)) × (past ≡ comes e ∷ before) × (e.by ≡ c)
+      × (e.asked ≡ q) × (of c (core_of before).2 ≡ mine)
+
+  -- The last event is that own builds its group under this bound, and these are left. The queue was these and the group
+  -- then, own's being the oldest writer of it; it led, and this was all that was handled.
+  abbrev pub HasBuilt : ℕ → Entry Q → List (Entry Q) → List (Entry Q) → List (Handling Q P) → List (Event Q P) → Type 0
+  HasBuilt bound own group left seen past = (before : List (Event Q P)) × (owing : List (Handling Q P))
+      × (past ≡ builds bound own group left ∷ before) × Legal bound past
+      × (core_of before ≡ (left ++ (group ++ own ∷ []), elected own.by, seen, owing))

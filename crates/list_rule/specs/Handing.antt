@@ -8,7 +8,7 @@ use Rattle.list_rule.specs.declared.view.Squad.{Squad}
 use Rattle.list_rule.specs.declared.view.Back.{Back}
 use Rattle.list_rule.specs.declared.view.Back.TheVariants.{Away, Parting, Joining, Holding, Queued, Serving, Passing}
 use Rattle.list_rule.specs.declared.view.Stage.{Stage}
-use Rattle.list_rule.specs.declared.view.Stage.TheVariants.{Idle, Preparing, Waiting, Fresh, Leading, Cutting, Marking, Settling, Collecting}
+use Rattle.list_rule.specs.declared.view.Stage.TheVariants.{Idle, Preparing, Waiting, Helping, Fresh, Leading, Cutting, Marking, Settling, Collecting}
 use Rattle.list_rule.specs.declared.content.Content.{Content}
 use Rattle.list_rule.specs.Chain.{Absent, newest, Links}
 use Rattle.list_rule.specs.Events.{IsNotWith}
@@ -24,7 +24,8 @@ module _ {Q P : Type 0} where
   abbrev pub IsOwn : ℕ → Stage Q P → Type 0
   IsOwn c Idle = Unit {0}
   IsOwn c (Preparing w) = Unit {0}
-  IsOwn c (Waiting q) = Unit {0}
+  IsOwn c (Waiting q past) = Unit {0}
+  IsOwn c (Helping q) = Unit {0}
   IsOwn c (Fresh own seen) = own.by ≡ c
   IsOwn c (Leading lead) = lead.own.by ≡ c
   IsOwn c (Cutting lead next) = lead.own.by ≡ c

@@ -19,6 +19,8 @@ pub record Laws (Q P L M : Type 0) : Type 1 where
   pub given : List (Handling Q P) → List (Handling Q P)
   pub opened : List (Handling Q P)
   pub piped : Bool
+  -- the bound under which each group is built
+  pub bound : ℕ
   -- what holds of what was handled, wherever the log is
   pub kept : List (Handling Q P) → Type 0
   pub keeps : (l : L) (hs : List (Handling Q P)) → logs l hs → kept hs
@@ -67,13 +69,14 @@ kept_picked kept (Some about) = kept about
 
 abbrev pub laws : {Q P L M : Type 0} → (Q → ℕ → Type 0) → (L → List (Handling Q P) → Type 0)
     → (List (Handling Q P) → Type 0) → (L → ℕ) → (P → ℕ × ℕ) → (M → List (Handling Q P) → Type 0) → ℕ → Bool
-    → Laws Q P L M
-laws asks stands kept number run serves start piped = record {
+    → ℕ → Laws Q P L M
+laws asks stands kept number run serves start piped bound = record {
   logs = logs_from stands kept number run start;
   rights = serves;
   given = given_runs run;
   opened = [];
   piped = piped;
+  bound = bound;
   kept = kept;
   keeps = λ l hs h. h.1;
   asks = asks;
@@ -85,4 +88,4 @@ abbrev pub laws_for : {Q P L M K : Type 0} → (Q → Item) → (K → Q → Typ
     → (L → ℕ) → (P → ℕ × ℕ) → (K → M → List (Handling Q P) → Type 0) → Start K → Laws Q P L M
 laws_for item_of lawful stands kept number run serves k =
     laws (asks_for item_of lawful k.about) (stands k.about) (kept k.about) number run (serves k.about) k.log
-    k.pipelined
+    k.pipelined k.group_bytes

@@ -8,6 +8,5 @@ pub mod Plays
 pub mod Steps
 pub mod Between
 pub mod CoreEvents
-pub mod PipelinedCoreEvents
 pub mod Handing
 pub mod SecondList

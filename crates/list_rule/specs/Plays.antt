@@ -8,10 +8,11 @@ use Rattle.list_rule.specs.declared.view.Hold.{Hold}
 use Rattle.list_rule.specs.declared.content.Content.{Content}
 use Rattle.list_rule.specs.declared.content.Content.TheVariants.{Empty, Asked, Told, Log, Right}
 use Rattle.list_rule.specs.declared.view.Stage.{Stage}
-use Rattle.list_rule.specs.declared.view.Stage.TheVariants.{Idle, Preparing, Waiting, Fresh, Leading, Cutting, Marking, Settling, Collecting}
+use Rattle.list_rule.specs.declared.view.Stage.TheVariants.{Idle, Preparing, Waiting, Helping, Fresh, Leading, Cutting, Marking, Settling, Collecting}
 use Rattle.list_rule.specs.declared.view.Debt.{Debt}
 use Rattle.list_rule.specs.Chain.{older_at, pack, newest, newest_from, heads, of}
 use Rattle.list_rule.specs.Grouping.{IsWhole}
+use Rattle.list_rule.specs.Events.{Event, HasCome, HasBuilt}
 use Rattle.list_rule.specs.declared.view.Squad.{Squad}
 use Rattle.list_rule.specs.declared.view.Back.{Back}
 use Rattle.list_rule.specs.declared.view.Back.TheVariants.{Away, Parting, Joining, Holding, Queued, Serving, Passing}
@@ -23,15 +24,23 @@ abbrev pub Sat : Type 0 → Type 0 → Type 0 → Type 0 → Type 0
 Sat Q P L M = Me (Content Q P L M) (List (Hold Q P))
 
 -- a leader that has read the queue, and built its group
-abbrev pub building : {Q P : Type 0} → Entry Q → List (Handling Q P) → List (Entry Q) → List (Entry Q) → Lead Q P
-building own seen w g = record { own = own; walk = w; group = g; taken = []; seen = seen }
+abbrev pub building : {Q P : Type 0} → Entry Q → List (Handling Q P) → List (Event Q P) → List (Entry Q)
+    → List (Entry Q) → Lead Q P
+building own seen past w g = record { own = own; walk = w; group = g; taken = []; seen = seen; past = past }
 
 abbrev pub entry : {Q : Type 0} → ℕ → ℕ → Q → Entry Q
 entry c code q = record { by = c; code = code; asked = q }
 
 -- the leader has read the list from another newest writer
 abbrev pub walking : {Q P : Type 0} → Lead Q P → List (Entry Q) → Lead Q P
-walking lead w = record { own = lead.own; walk = w; group = lead.group; taken = lead.taken; seen = lead.seen }
+walking lead w = record {
+  own = lead.own;
+  walk = w;
+  group = lead.group;
+  taken = lead.taken;
+  seen = lead.seen;
+  past = lead.past;
+}
 
 -- and has taken one request more
 abbrev pub taking : {Q P : Type 0} → Lead Q P → Entry Q → Lead Q P
@@ -41,6 +50,7 @@ taking lead e = record {
   group = lead.group;
   taken = e ∷ lead.taken;
   seen = lead.seen;
+  past = lead.past;
 }
 
 -- the writers whose requests the leader has, newest first
@@ -85,7 +95,8 @@ HandsOn piped last (Passing g x) seen now = ⊥
 abbrev pub IsCut : {Q P : Type 0} → Lead Q P → Stage Q P → Type 0
 IsCut lead Idle = ⊥
 IsCut lead (Preparing w) = ⊥
-IsCut lead (Waiting q) = ⊥
+IsCut lead (Waiting q past) = ⊥
+IsCut lead (Helping q) = ⊥
 IsCut lead (Fresh o n) = ⊥
 IsCut lead (Leading l) = ⊥
 IsCut lead (Cutting l e) = l ≡ lead
@@ -138,16 +149,27 @@ module _ {Q P L M : Type 0} where
   entered stood st m r m' = (c w : ℕ) (q : Q) (mine : List (Q × P)) → At c (Preparing w) mine m
       → m.1 ≡ (c, Asked q) ∷ []
       → (r ≡ st.first → r ≡ 0 → Elected stood c q mine m')
-      × (r ≡ st.first → r ≢ 0 → At c (Waiting q) mine m' × (m'.1 ≡ [])) × (r ≢ st.first → m' ≡ m)
+      × (r ≡ st.first → r ≢ 0 → (past : List (Event Q P)) × At c (Waiting q past) mine m' × HasCome c q mine past
+      × (m'.1 ≡ [])) × (r ≢ st.first → m' ≡ m)
 
-  -- a load of the client's own state
+  -- the client has its reply, and its own slot
+  abbrev pub Replied : (List (Handling Q P) → Type 0) → ℕ → Q → List (Q × P) → Sat Q P L M → Type 0
+  Replied kept c q mine m' = (p : P) × At c Collecting (mine ++ (q, p) ∷ []) m' × (m'.1 ≡ (c, Told p) ∷ [])
+      × ((handled : List (Handling Q P)) × kept handled × (of c handled ≡ mine ++ (q, p) ∷ []))
+
+  -- a load of the client's own state: at 8 it is to work beside its leader
   abbrev pub looked : (L → List (Handling Q P) → Type 0) → (List (Handling Q P) → Type 0) → Step (Content Q P L M)
       → Sat Q P L M → ℕ → Sat Q P L M → Type 0
-  looked stood kept st m r m' = (c : ℕ) (q : Q) (mine : List (Q × P)) → At c (Waiting q) mine m
-      → (r ≡ 2 → Elected stood c q mine m')
-      × (r ≡ 16 → (p : P) × At c Collecting (mine ++ (q, p) ∷ []) m' × (m'.1 ≡ (c, Told p) ∷ [])
-      × ((handled : List (Handling Q P)) × kept handled × (of c handled ≡ mine ++ (q, p) ∷ [])))
-      × (r ≢ 2 → r ≢ 16 → m' ≡ m)
+  looked stood kept st m r m' = (c : ℕ) (q : Q) (past : List (Event Q P)) (mine : List (Q × P))
+      → At c (Waiting q past) mine m
+      → (r ≡ 2 → Elected stood c q mine m') × (r ≡ 16 → Replied kept c q mine m')
+      × (r ≡ 8 → At c (Helping q) mine m' × (m'.1 ≡ m.1)) × (r ≢ 2 → r ≢ 16 → r ≢ 8 → m' ≡ m)
+
+  -- the same of one that works beside its leader
+  abbrev pub looked_beside : (List (Handling Q P) → Type 0) → Step (Content Q P L M) → Sat Q P L M → ℕ → Sat Q P L M
+      → Type 0
+  looked_beside kept st m r m' = (c : ℕ) (q : Q) (mine : List (Q × P)) → At c (Helping q) mine m
+      → (r ≡ 16 → Replied kept c q mine m') × (r ≢ 16 → m' ≡ m)
 
   -- the client gives its empty slot back
   abbrev pub rested : Step (Content Q P L M) → Sat Q P L M → ℕ → Sat Q P L M → Type 0
@@ -163,9 +185,9 @@ module _ {Q P L M : Type 0} where
   -- the leader has read the queue: it has built its group, and these are left
   abbrev pub Builds : (Q → ℕ → Type 0) → ℕ → ℕ → ℕ → Entry Q → List (Handling Q P) → List (Q × P) → ℕ → Sat Q P L M
       → Sat Q P L M → Type 0
-  Builds asks slots max c own seen mine r m m' = (left group : List (Entry Q))
-      × At c (Leading (building own seen (left ++ (group ++ own ∷ [])) group)) mine m' × (m'.1 ≡ m.1)
-      × IsWhole asks max own group left
+  Builds asks slots max c own seen mine r m m' = (left group : List (Entry Q)) × (past : List (Event Q P))
+      × At c (Leading (building own seen past (left ++ (group ++ own ∷ [])) group)) mine m' × (m'.1 ≡ m.1)
+      × IsWhole asks max own group left × HasBuilt max own group left seen past
       × (r ≡ newest (left ++ (group ++ own ∷ []))) × (length (left ++ (group ++ own ∷ [])) + 1 < slots)
       × AllBelow slots (left ++ (group ++ own ∷ []))
 

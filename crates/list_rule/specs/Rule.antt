@@ -14,8 +14,8 @@ use Rattle.list_rule.specs.declared.view.Back.TheVariants.{Away}
 use Rattle.list_rule.specs.declared.content.Content.{Content}
 use Rattle.list_rule.specs.declared.content.Content.TheVariants.{Empty, Asked, Told, Log, Right}
 use Rattle.list_rule.specs.declared.view.Stage.{Stage}
-use Rattle.list_rule.specs.declared.view.Stage.TheVariants.{Idle, Preparing, Waiting, Fresh, Leading, Cutting, Marking, Settling, Collecting}
-use Rattle.list_rule.specs.Events.{Event, Held, free, elected, grouped, core_of, Legal}
+use Rattle.list_rule.specs.declared.view.Stage.TheVariants.{Idle, Preparing, Waiting, Helping, Fresh, Leading, Cutting, Marking, Settling, Collecting}
+use Rattle.list_rule.specs.Events.{Event, Held, free, elected, grouped, core_of, Legal, GoesOn}
 use Rattle.list_rule.specs.Chain.{state_at, older_at, newest, newest_from, Links, LinksFrom, Distinct, Within, EndsWith, of, heads}
 use Rattle.list_rule.specs.Standing.{Phase, idle, preparing, linked, chosen, leads, taken, completed, collecting, Mode, open_, waits, led, built, cut, marked, base_of, Holds, InFront, Place, away, parted, queued, called, serves, served, Turn, still, calls, held_by, passes, ahead, Two, line_of, flat, In, Apart, InStep, KnowsBack}
 use Rattle.list_rule.specs.Laws.{Laws}
@@ -105,7 +105,8 @@ module _ {Q P : Type 0} where
     abbrev pub Knows : Stage Q P → Type 0
     Knows Idle = phase c ≡ idle
     Knows (Preparing w) = phase c ≡ preparing w
-    Knows (Waiting q) = Waits q (phase c)
+    Knows (Waiting q past) = Waits q (phase c)
+    Knows (Helping q) = Waits q (phase c) × ((p : P) × (due c ≡ (q, p) ∷ []))
     Knows (Fresh own seen) = (mode ≡ led c) × (phase c ≡ leads own) × (seen ≡ handled)
     Knows (Leading lead) = (mode ≡ built c lead.group) × (phase c ≡ leads lead.own) × EndsWith line lead.walk
         × (lead.seen ≡ handled) × (lead.taken ≡ hand)
@@ -117,11 +118,27 @@ module _ {Q P : Type 0} where
         × (due c ≡ (debt.own.asked, debt.reply) ∷ []) × Distinct (heads debt.rest)
     Knows Collecting = phase c ≡ collecting
 
+  -- What a client knows of the events that led here. So these only go on: nobody can put another past behind what
+  -- somebody knows.
+  abbrev pub Recalls : List (Event Q P) → Stage Q P → Type 0
+  Recalls events Idle = Unit {0}
+  Recalls events (Preparing w) = Unit {0}
+  Recalls events (Waiting q past) = GoesOn events past
+  Recalls events (Helping q) = Unit {0}
+  Recalls events (Fresh own seen) = Unit {0}
+  Recalls events (Leading lead) = GoesOn events lead.past
+  Recalls events (Cutting lead e) = Unit {0}
+  Recalls events (Marking lead) = Unit {0}
+  Recalls events (Settling debt) = Unit {0}
+  Recalls events Collecting = Unit {0}
+
   module _ (n : ℕ) (line hand : List (Entry Q)) (handled : List (Handling Q P)) (mode : Mode Q) (phase : ℕ
-      → Phase Q P) (due told : ℕ → List (Q × P)) (two : Two Q P) (seat : ℕ → ℕ) (j : ℕ) where
+      → Phase Q P) (due told : ℕ → List (Q × P)) (two : Two Q P) (events : List (Event Q P)) (seat : ℕ → ℕ)
+      (j : ℕ) where
     abbrev pub Fits : Hold Q P → Type 0
     Fits h = (seat h.client ≡ j) × (0 < h.client) × (h.client ≤ n) × (h.mine ≡ told h.client)
         × Knows line hand handled mode phase due h.client h.stage × KnowsBack two h.client h.back
+        × Recalls events h.stage
 
     abbrev pub AllFit : List (Hold Q P) → Type 0
     AllFit [] = Unit {0}
@@ -158,12 +175,12 @@ module _ {Q : Type 0} (line queue : List (Entry Q)) (log : Held Q) where
   Shows (cut c w) = (line ≡ queue) × ((own : Entry Q) × (g : List (Entry Q)) × (log ≡ grouped own g))
   Shows (marked c) = (line ≡ queue) × ((own : Entry Q) × (g : List (Entry Q)) × (log ≡ grouped own g))
 
-pub record Account {Q P : Type 0} (line : List (Entry Q)) (handled : List (Handling Q P)) (mode : Mode Q) : Type 0 where
+pub record Account {Q P : Type 0} (bound : ℕ) (line : List (Entry Q)) (handled : List (Handling Q P)) (mode : Mode Q) : Type 0 where
   pub events : List (Event Q P)
   pub queue : List (Entry Q)
   pub log : Held Q
   pub owing : List (Handling Q P)
-  pub legal : Legal events
+  pub legal : Legal bound events
   pub ran : core_of events ≡ (queue, log, handled, owing)
   pub shows : Shows line queue log mode
 
@@ -178,6 +195,7 @@ module _ {Q P L M : Type 0} (stands : Laws Q P L M) where
         × (get_elem? homes i ≡ some (some (Asked e.asked))) × (due ≡ [])
     InPhase (leads e) = e.by ≡ i
     InPhase (taken c e) = (e.by ≡ i) × (slice_index words (state_at i) ≢ 2) × (slice_index words (state_at i) ≢ 16)
+        × (slice_index words (state_at i) ≡ 8 → (stands.piped ≡ true) × ((p : P) × (due ≡ (e.asked, p) ∷ [])))
     InPhase (completed q p) = (slice_index words (state_at i) ≡ 16) × (get_elem? homes i ≡ some (some (Told p)))
         × (due ≡ (q, p) ∷ [])
     InPhase collecting = due ≡ []
@@ -189,11 +207,11 @@ module _ {Q P L M : Type 0} (stands : Laws Q P L M) where
   abbrev pub RightHome : ℕ → List (Option (Content Q P L M)) → List (Handling Q P) → Type 0
   RightHome n homes hs = (r : M) × (get_elem? homes (n + 1) ≡ some (some (Right r))) × stands.rights r hs
 
-  -- what the right stands for and what the log does go together in a list with a second one, and the right stands for
-  -- what it did at opening in others
+  -- what the right stands for and what the log does go together in a list with a second one; others have no groups
+  -- there, and the right stands for what it did at opening
   abbrev pub Level : Bool → Two Q P → List (Handling Q P) → Type 0
   Level true two last = InStep two.done two.groups last two.lead
-  Level false two last = two.done ≡ stands.opened
+  Level false two last = (two.groups ≡ []) × (two.done ≡ stands.opened)
 
   module _ (n : ℕ) (words : List ℕ) (homes : List (Option (Content Q P L M))) (phase : ℕ → Phase Q P) where
     abbrev pub InTurn : Two Q P → Turn → Type 0
@@ -267,14 +285,14 @@ module _ {Q P L M : Type 0} (stands : Laws Q P L M) where
     pub log_is : InMode n s.homes line hand handled phase due mode
     pub one_chosen : (i : ℕ) (e : Entry Q) → phase i ≡ chosen e → mode ≡ waits i
     pub shared_out : (i : ℕ) → of i handled ≡ told i ++ due i
-    pub account : Account line handled mode
+    pub account : Account stands.bound line handled mode
     pub has_cut : HasCut account.log hand phase mode
     pub owing_is : (i : ℕ) → of i account.owing ≡ untold (phase i) (due i)
     pub second : Second n s.words s.homes phase mode (stands.given handled) two
     pub kept : stands.kept handled
     pub coded : (i : ℕ) (e : Entry Q) → InChain e (phase i) → stands.asks e.asked e.code
     pub seats : (j : ℕ) (v : List (Hold Q P)) → get_elem? s.views j ≡ some v
-        → AllFit n line hand handled mode phase due told two seat j v
+        → AllFit n line hand handled mode phase due told two account.events seat j v
 
 abbrev pub all_but_first : {A : Type 0} → List A → List A
 all_but_first [] = []

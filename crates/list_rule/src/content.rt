@@ -11,11 +11,12 @@ pub enum Content<Q, P, L, M> {
 }
 
 /// What a list of writers is made for: how many clients, the log's number at opening, whether it has the second list,
-/// and what else the law of log and right is about.
+/// the bound in bytes under which each group is built, and what else the law of log and right is about.
 #[derive(Drop)]
 pub struct Start<K> {
     pub clients: u32,
     pub log: u64,
     pub pipelined: bool,
+    pub group_bytes: u64,
     pub about: K,
 }

@@ -10,30 +10,33 @@ ghost use Rattle.list_rule.specs.declared.view.Entry.{Entry};
 ghost use Rattle.list_rule.specs.declared.view.Handling.{Handling};
 ghost use Rattle.list_rule.specs.declared.view.Hold.{Hold};
 ghost use Rattle.list_rule.specs.declared.view.Lead.{Lead};
-ghost use Rattle.list_rule.specs.declared.view.Stage.TheVariants.{Idle, Preparing, Waiting, Fresh, Leading, Cutting, Settling, Collecting};
+ghost use Rattle.list_rule.specs.declared.view.Stage.TheVariants.{Idle, Preparing, Waiting, Helping, Fresh, Leading, Cutting, Settling, Collecting};
 ghost use Rattle.list_rule.specs.Chain.{state_at, older_at, pack, newest, heads, all_answers};
-ghost use Rattle.list_rule.specs.Events.{free};
+ghost use Rattle.list_rule.specs.Events.{Event, free};
 ghost use Rattle.list_rule.specs.Laws.{laws_for, asks_for, logs_picked, kept_picked, given_runs, Unnumbered};
 ghost use Rattle.list_rule.specs.Standing.{level};
 ghost use Rattle.list_rule.specs.Rule.{Listed, newcomers, all_but_first, first_only};
-ghost use Rattle.list_rule.specs.Plays.{Sat, At, entry, in_hand, debt, slots_of, begun, peeked, aimed, entered, looked, rested, read_once, traced, fetched, left, cut_off, woken_on, told_one, retired};
-ghost use Rattle.list_rule.specs.Steps.{Lists, IsNow, Stays, HappensWhere, IsLink, IsElect, IsBuild, IsExit, IsComplete, StepIs};
-ghost use Rattle.list_rule.specs.Between.{Between};
+ghost use Rattle.list_rule.specs.Plays.{Sat, At, entry, in_hand, debt, slots_of, begun, peeked, aimed, entered, looked, looked_beside, rested, read_once, traced, fetched, left, cut_off, woken_on, told_one, retired};
+ghost use Rattle.list_rule.specs.Steps.{Lists, now_of, IsNow, Stays, HappensWhere, IsLink, IsElect, IsBuild, IsExit, IsComplete, StepIs};
+ghost use Rattle.list_rule.specs.Between.{Between, AreLists};
 
 use crate::rule::{Given, Itemized, Ledger};
 
 /// Between any two steps the walk from the newest writer is the group in hand and then the queue, with no more writers
 /// than clients, and the log is at home, or with the one who leads. The queue, the log's place, what was handled and
 /// what of it its clients haven't been told are those after a list of legal events: somebody links, the oldest writer
-/// is elected, a leader builds its group, a group leaves, and a client is told its reply.
+/// is elected, a leader builds its group, under the list's bound, a group leaves, and a client is told its reply. These
+/// events only go on: whoever waits knows those up to its coming, and a leader those up to the building of its group.
 ///
 /// The walk from the second list's newest writer is its groups, and the leader of the oldest one has the right, or is
 /// to have it. What the groups were given runs for goes on from what the right stands for to all that was, but for the
 /// group of a leader that has yet to give the log on. So groups are served in the order in which the log was written.
 pub fn between_steps<Q: Itemized, P: Given, L: Ledger<Q, P, M>, M>()
     ensures { (k : Start L.About) (s : State (Content Q P L M) (List (Hold Q P)))
-        → Listed (laws_for Q.item_of L.lawful L.stands L.kept L.number_of P.run_of L.serves k) k.clients s
-        → Between (laws_for Q.item_of L.lawful L.stands L.kept L.number_of P.run_of L.serves k) k.clients s }
+        (r : Listed (laws_for Q.item_of L.lawful L.stands L.kept L.number_of P.run_of L.serves k) k.clients s)
+        → (between : Between (laws_for Q.item_of L.lawful L.stands L.kept L.number_of P.run_of L.serves k) k.clients s)
+        × AreLists (laws_for Q.item_of L.lawful L.stands L.kept L.number_of P.run_of L.serves k) between
+        (now_of (laws_for Q.item_of L.lawful L.stands L.kept L.number_of P.run_of L.serves k) k.clients s r) }
 {}
 
 /// At opening nobody has come, the log is free, nothing was handled, and no group is in the second list, or on the way
@@ -77,22 +80,27 @@ pub fn steps_and_events<Q: Itemized, P: Given, L: Ledger<Q, P, M>, M>()
         → StepIs (laws_for Q.item_of L.lawful L.stands L.kept L.number_of P.run_of L.serves z) z.clients
         (IsLink saw (entry c code q)) slots id me 0 (λ x. either (x == saw) c x)
         (entered (logs_picked L.stands L.kept L.number_of P.run_of z.log (Some z.about)) (step slots 0 saw c none) me) }
-    ensures read_state { (z : Start L.About) (slots id word c : ℕ) (me : Sat Q P L M) (q : Q) (mine : List (Q × P))
-        → word ≡ state_at c → At c (Waiting q) mine me → me.1 ≡ []
+    ensures read_state { (z : Start L.About) (slots id word c : ℕ) (me : Sat Q P L M) (q : Q)
+        (past : List (Event Q P)) (mine : List (Q × P))
+        → word ≡ state_at c → At c (Waiting q past) mine me → me.1 ≡ []
         → StepIs (laws_for Q.item_of L.lawful L.stands L.kept L.number_of P.run_of L.serves z) z.clients
         (HappensWhere 2 (IsElect c q)) slots id me word (λ x. x)
         (looked (logs_picked L.stands L.kept L.number_of P.run_of z.log (Some z.about))
         (kept_picked L.kept (Some z.about)) (step slots word 0 0 none) me) }
+    ensures read_reply { (z : Start L.About) (slots id word c : ℕ) (me : Sat Q P L M) (q : Q) (mine : List (Q × P))
+        → word ≡ state_at c → At c (Helping q) mine me → me.1 ≡ []
+        → StepIs (laws_for Q.item_of L.lawful L.stands L.kept L.number_of P.run_of L.serves z) z.clients (λ _. Stays)
+        slots id me word (λ x. x) (looked_beside (kept_picked L.kept (Some z.about)) (step slots word 0 0 none) me) }
     ensures rest { (z : Start L.About) (slots id word c : ℕ) (me : Sat Q P L M) (mine : List (Q × P))
         → At c Collecting mine me → me.1 ≡ (c, Empty) ∷ []
         → StepIs (laws_for Q.item_of L.lawful L.stands L.kept L.number_of P.run_of L.serves z) z.clients (λ _. Stays)
         slots id me word (λ x. x) (rested (step slots word 0 0 none) me) }
-    ensures build { (z : Start L.About) (slots id max c : ℕ) (me : Sat Q P L M) (own : Entry Q)
+    ensures build { (z : Start L.About) (slots id c : ℕ) (me : Sat Q P L M) (own : Entry Q)
         (seen : List (Handling Q P)) (mine : List (Q × P))
         → At c (Fresh own seen) mine me
         → StepIs (laws_for Q.item_of L.lawful L.stands L.kept L.number_of P.run_of L.serves z) z.clients
-        (λ _. IsBuild max own) slots id me 0 (λ x. x)
-        (read_once (asks_for Q.item_of L.lawful z.about) max (step slots 0 0 0 none) me) }
+        (λ _. IsBuild z.group_bytes own) slots id me 0 (λ x. x)
+        (read_once (asks_for Q.item_of L.lawful z.about) z.group_bytes (step slots 0 0 0 none) me) }
     ensures read_older { (z : Start L.About) (slots id word : ℕ) (me : Sat Q P L M)
         → StepIs (laws_for Q.item_of L.lawful L.stands L.kept L.number_of P.run_of L.serves z) z.clients (λ _. Stays)
         slots id me word (λ x. x) (traced (step slots word 0 0 none) me) }

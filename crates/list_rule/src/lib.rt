@@ -26,7 +26,7 @@
 //!
 //! A seat is a client's. Who leads has the log, and the slots of its group. Which event of the list each step is, or
 //! that it is none, say [`steps_and_events`] and [`second_steps_and_events`], and which event of the write path's core
-//! an event of the list is [`list_and_core`], and [`pipelined_list_and_core`] where groups go on to the second list.
+//! an event of the lists is [`list_and_core`].
 //!
 //! Each request in the list is lawful for what the list's law is about (`lawful` of [`Ledger`]): who links it shows so,
 //! and its leader knows it.
@@ -37,7 +37,8 @@
 //! | load of NEWEST ([`ReadNewest`]) | anybody | sees a client's number | |
 //! | store of OLDER `i` ([`NameOlder`]) | client `i` | names the writer that it saw, and its own code | |
 //! | compare-exchange of NEWEST from that writer to `i` ([`Link`]) | client `i` | gives its slot with the request; where it replaced 0 it takes the log, and leads | link, and elect where it replaced 0 |
-//! | load of STATE `i` ([`ReadState`]) | client `i` | where it finds 2 it takes the log and its own slot, and leads; where it finds 16 it takes its slot with the reply | elect, where it finds 2 |
+//! | load of STATE `i` ([`ReadState`]) | client `i` | where it finds 2 it takes the log and its own slot, and leads; where it finds 8 it works beside its leader; where it finds 16 it takes its slot with the reply | elect, where it finds 2 |
+//! | load of STATE `i` ([`ReadReply`]) | client `i`, beside its leader | where it finds 16 it takes its slot with the reply | |
 //! | load of STATE `i` ([`Rest`]) | client `i` | gives its empty slot back | |
 //! | load of NEWEST ([`Build`]) | the leader | its group is the grouping rule's of the walk from there | build |
 //! | load of OLDER `k` ([`ReadOlder`]) | the leader | sees a link of its walk | |
@@ -54,7 +55,7 @@
 //! | load of OLDER `k` ([`ReadOlderMarked`]) | who put the mark | sees a link of its walk | |
 //! | store of OLDER `k` ([`CutBehindMark`]) | who put the mark | clears the link of the oldest writer after the mark | |
 //! | load of STATE `i` ([`Summon`]) | a leader in the second list | takes the right, where it finds 4 | |
-//! | store of 8 to STATE `k` ([`MakeParallel`]) | a leader in the second list | a member may work beside it | |
+//! | store of 8 to STATE `k` ([`MakeParallel`]) | who has the right | a member of its group may work beside it | |
 //! | compare-exchange of the second NEWEST to 0 ([`LeaveSecond`]) | who has the right | gives the right back | exit of the pipelined stage |
 //! | load of OLDER `k` ([`ReadOlderSecond`]) | who has the right | sees a link of the second list | |
 //! | store of OLDER `k` ([`ClearSecond`]) | who has the right | clears the link of the next group's oldest writer | |
@@ -68,7 +69,6 @@ mod code;
 mod content;
 mod core_events;
 mod law;
-mod pipelined_core_events;
 mod rule;
 mod second_law;
 mod steps;
@@ -78,7 +78,6 @@ pub use code::{code_of, codes_stand_for_items, item_of};
 pub use content::{Content, Start};
 pub use core_events::list_and_core;
 pub use law::{between_steps, opening_and_seats, steps_and_events};
-pub use pipelined_core_events::pipelined_list_and_core;
 pub use rule::{
     Both, First, Given, Itemized, Ledger, Order, PickedAbout, PickedGiven, PickedRight,
 };
@@ -86,6 +85,6 @@ pub use second_law::{handing_on, second_steps_and_events};
 pub use steps::{
     AimSecond, Begin, Build, CallNext, ClearSecond, Complete, CutAway, CutBehindMark, CutOff,
     Fetch, Free, JoinSecond, Leave, LeaveSecond, Link, MakeParallel, Mark, NameOlder, ReadNewest,
-    ReadOlder, ReadOlderMarked, ReadOlderSecond, ReadState, Rest, Retire, Summon, Wake,
+    ReadOlder, ReadOlderMarked, ReadOlderSecond, ReadReply, ReadState, Rest, Retire, Summon, Wake,
 };
-pub use view::{Back, Debt, Entry, Handling, Hold, Lead, Squad, Stage, View};
+pub use view::{Back, Debt, Entry, Event, Handling, Hold, Lead, Squad, Stage, View};

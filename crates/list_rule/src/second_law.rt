@@ -99,8 +99,10 @@ pub fn second_steps_and_events<Q: Itemized, P: Given, L: Ledger<Q, P, M>, M>()
         → StepIs (laws_for Q.item_of L.lawful L.stands L.kept L.number_of P.run_of L.serves z) z.clients (λ _. Stays)
         slots id me word (λ x. x) (summoned (L.serves z.about) (step slots word 0 0 none) me) }
     ensures make_parallel { (z : Start L.About) (slots id word c : ℕ) (me : Sat Q P L M) (member : Entry Q × P)
-        (newer older : List (Entry Q × P)) (own : Entry Q) (p : P) (mine : List (Q × P)) (back : Back Q P)
-        → AtWith c (Settling (debt (newer ++ member ∷ older) own p)) mine back me
+        (newer older : List (Entry Q × P)) (own : Entry Q) (p : P) (mine : List (Q × P)) (g : Squad Q P)
+        (walk : List (Entry Q))
+        → AtWith c (Settling (debt (newer ++ member ∷ older) own p)) mine (Serving g walk) me
+        → g.rest ≡ heads (newer ++ member ∷ older)
         → word ≡ state_at member.0.by → member.0.by ≤ z.clients
         → StepIs (laws_for Q.item_of L.lawful L.stands L.kept L.number_of P.run_of L.serves z) z.clients (λ _. Stays)
         slots id me word (λ _. 8) (λ _. kept (step slots word 8 0 none) me 8) }

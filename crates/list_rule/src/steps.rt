@@ -1,7 +1,7 @@
 // The steps of the list: which words and slots each may move, and what its seat knows then.
 ghost use Rattle.std.specs.Prelude.{◌≡◌};
 ghost use Rattle.list_rule.specs.Laws.{logs_picked, serves_picked, kept_picked, asks_picked};
-ghost use Rattle.list_rule.specs.Plays.{begun, peeked, aimed, entered, looked, rested, read_once, traced, fetched, left, told_one, retired, cut_as, cut_off, woken_on, marked_off, freed, aimed_second, joined, summoned, left_second, traced_second, cleared_second, called_next, kept, traced_marked, cut_marked};
+ghost use Rattle.list_rule.specs.Plays.{begun, peeked, aimed, entered, looked, looked_beside, rested, read_once, traced, fetched, left, told_one, retired, cut_as, cut_off, woken_on, marked_off, freed, aimed_second, joined, summoned, left_second, traced_second, cleared_second, called_next, kept, traced_marked, cut_marked};
 ghost use mathlib.Core.Option.{some};
 
 use crate::content::Content;
@@ -41,7 +41,8 @@ impl<Q, P: Given, L: Ledger<Q, P, M>, M, B: PickedAbout<L::About>> Play<
     ghost then = { entered (logs_picked L.stands L.kept L.number_of P.run_of B.number B.about) };
 }
 
-/// A writer in the list reads its state: it leads from here on, or it has its reply, or neither.
+/// A writer in the list reads its state: it leads from here on, or works beside its leader, or it has its reply, or none
+/// of these.
 pub struct ReadState<B>(PhantomData<B>);
 
 impl<Q, P: Given, L: Ledger<Q, P, M>, M, B: PickedAbout<L::About>> Play<
@@ -50,6 +51,14 @@ impl<Q, P: Given, L: Ledger<Q, P, M>, M, B: PickedAbout<L::About>> Play<
 > for ReadState<B> {
     ghost then = { looked (logs_picked L.stands L.kept L.number_of P.run_of B.number B.about)
         (kept_picked L.kept B.about) };
+}
+
+/// A writer that works beside its leader reads its state: it has its reply, or not yet.
+pub struct ReadReply<B>(PhantomData<B>);
+
+impl<Q, P, L: Ledger<Q, P, M>, M, B: PickedAbout<L::About>> Play<Content<Q, P, L, M>, View<Q, P>>
+    for ReadReply<B> {
+    ghost then = { looked_beside (kept_picked L.kept B.about) };
 }
 
 /// A writer that took its reply gives its empty slot back.

@@ -17,13 +17,26 @@ pub struct Handling<Q, P> {
     pub reply: P,
 }
 
-/// What a leader knows. No value of it is made.
+/// What happens to the list: a writer comes; the oldest one leads; it builds its group, under this bound, and these are
+/// left; the log is given back or on, and the group leaves with what was handled; the client of a handling is told its
+/// reply. No value of it is made.
+pub enum Event<Q, P> {
+    Comes(Entry<Q>),
+    Elects(Entry<Q>),
+    Builds(u64, Entry<Q>, LinkedList<Entry<Q>>, LinkedList<Entry<Q>>),
+    Exits(LinkedList<Handling<Q, P>>),
+    Completes(Handling<Q, P>),
+}
+
+/// What a leader knows, with the events of the list up to the building of its group, the latest first. No value of it
+/// is made.
 pub struct Lead<Q, P> {
     pub own: Entry<Q>,
     pub walk: LinkedList<Entry<Q>>,
     pub group: LinkedList<Entry<Q>>,
     pub taken: LinkedList<Entry<Q>>,
     pub seen: LinkedList<Handling<Q, P>>,
+    pub past: LinkedList<Event<Q, P>>,
 }
 
 /// What a leader knows that has given the log back: the members that are to have their replies, newest first. No value
@@ -34,11 +47,13 @@ pub struct Debt<Q, P> {
     pub reply: P,
 }
 
-/// Where a client stands. No value of it is made.
+/// Where a client stands. One that waits knows the events of the list up to its own coming, the latest first. No value
+/// of it is made.
 pub enum Stage<Q, P> {
     Idle,
     Preparing(u64),
-    Waiting(Q),
+    Waiting(Q, LinkedList<Event<Q, P>>),
+    Helping(Q),
     Fresh(Entry<Q>, LinkedList<Handling<Q, P>>),
     Leading(Lead<Q, P>),
     Cutting(Lead<Q, P>, Entry<Q>),

@@ -70,7 +70,7 @@ module _ (list : Counted) where
   linked q mine w is = (q, subst (λ told. IsIn (law list) q told w) (sym (known w.task is)) is)
     where
       known : (task : Task) → IsLinked (law list) w.client task q mine w.seat.me → told w ≡ mine
-      known Awaits l = ap told_in_first l.0
+      known Awaits l = ap told_in_first l.1
       known Leads_ l = ap told_in_first l.3
       known Helps l = ap told_in_first l.0
       known Queues l = absurd l

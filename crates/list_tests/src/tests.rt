@@ -59,71 +59,64 @@ const PAST_REST: Item = Item {
     ..PLAIN
 };
 
-/// What three writers ask in turn under a bound, and the sizes of the groups that they lead then; none where another
+/// What three writers ask in turn, and the sizes of the groups that they lead then; none where another
 /// leads.
 #[derive(Clone, Copy)]
 struct Row {
-    max: u64,
     items: [Item; 3],
     led: [usize; 3],
 }
 
-const ROWS: [Row; 9] = [
+const ROWS: [Row; 8] = [
     // All alike.
     Row {
-        max: MAX,
         items: [PLAIN, PLAIN, PLAIN],
         led: [3, 0, 0],
     },
     // A small leader's cap, its 100 and an eighth, is reached.
     Row {
-        max: MAX,
         items: [PLAIN, EIGHTH, ONE],
         led: [2, 0, 1],
     },
     // A small leader's cap is passed by one.
     Row {
-        max: MAX,
         items: [PLAIN, PAST_EIGHTH, ONE],
         led: [1, 2, 0],
     },
     // A larger leader's cap, the bound, is reached.
     Row {
-        max: MAX,
         items: [PAST_EIGHTH, REST, ONE],
         led: [2, 0, 1],
     },
     // A larger leader's cap is passed by one.
     Row {
-        max: MAX,
         items: [PAST_EIGHTH, PAST_REST, ONE],
         led: [1, 2, 0],
     },
     // A sync doesn't go with a leader without one, and goes before one without.
     Row {
-        max: MAX,
         items: [PLAIN, SYNCED, PLAIN],
         led: [1, 2, 0],
     },
     // Out of the log, and none that may be slowed down, alone.
     Row {
-        max: MAX,
         items: [PLAIN, UNLOGGED, HASTY],
         led: [1, 1, 1],
     },
     // The flags alike.
     Row {
-        max: MAX,
         items: [UNLOGGED, UNLOGGED, PLAIN],
         led: [2, 0, 1],
     },
-    // Another bound cuts the group.
-    Row {
-        max: 250,
-        items: [PLAIN, PLAIN, PLAIN],
-        led: [2, 0, 1],
-    },
 ];
+
+/// Another bound, under which the group is cut.
+const SMALL_BOUND: u64 = 250;
+
+const CUT: Row = Row {
+    items: [PLAIN, PLAIN, PLAIN],
+    led: [2, 0, 1],
+};
 
 // The size of the group that a client led last, and the number and the size that it was told last.
 fn told_last(player: &Player) -> Option<(usize, u64, u64)> {
@@ -153,21 +146,30 @@ fn play_row<R: Wait + Abort>(rt: &R, list: &Counted, players: &mut [Player], row
     ensures { AllMayWrite list.now players.new × (length players.new ≡ length players.old) }
 {
     ask_all(rt, list, players, &row.items);
-    finish_all(rt, list, players, row.max);
+    finish_all(rt, list, players);
     check_row(rt, players, row, from);
 }
 
 #[test]
 fn groups_of_three(rt: HostRuntime) {
     let alloc = rt.alloc();
-    let (list, mut players) = opened(&rt, alloc, 3, ROWS.len());
+    let (list, mut players) = opened(&rt, alloc, 3, MAX, ROWS.len());
     let mut from = 0u64;
     for row in &ROWS {
         play_row(&rt, &list, players.as_mut_slice(), row, from);
         from = from.wrapping_add(3);
     }
     let (log, right) = closed(&rt, alloc, list, players);
-    assert_eq!(rt; (log.count, log.sum, right.mark), (27, 2361002, 7));
+    assert_eq!(rt; (log.count, log.sum, right.mark), (24, 2360702, 7));
+}
+
+#[test]
+fn a_smaller_bound_cuts_the_group(rt: HostRuntime) {
+    let alloc = rt.alloc();
+    let (list, mut players) = opened(&rt, alloc, 3, SMALL_BOUND, 1);
+    play_row(&rt, &list, players.as_mut_slice(), &CUT, 0);
+    let (log, right) = closed(&rt, alloc, list, players);
+    assert_eq!(rt; (log.count, log.sum, right.mark), (3, 300, 7));
 }
 
 // The first leads, and the newcomer links itself when the group is made.
@@ -181,7 +183,7 @@ fn lead_beside<R: Wait + Abort>(rt: &R, list: &Counted, first: &mut Player, newc
     match list.await_role(rt, &mut first.writer) {
         Role::Done(_) => panic!(rt; "the first leads"),
         Role::LogLeader(counter) => {
-            grouped(list, &mut first.writer, &mut first.lists, MAX);
+            grouped(list, &mut first.writer, &mut first.lists);
             ask(rt, list, &mut newcomer.writer, sized(3));
             let (answer, led) = left(list, &mut first.writer, &mut first.lists, counter);
             first.led = led;
@@ -191,7 +193,6 @@ fn lead_beside<R: Wait + Abort>(rt: &R, list: &Counted, first: &mut Player, newc
 }
 
 const NEWCOMER: Row = Row {
-    max: MAX,
     items: [
         Item { size: 1, ..PLAIN },
         Item { size: 2, ..PLAIN },
@@ -202,15 +203,15 @@ const NEWCOMER: Row = Row {
 
 #[test]
 fn a_newcomer_leads_the_next_group(rt: HostRuntime) {
-    let (list, mut players) = opened(&rt, rt.alloc(), 3, 1);
+    let (list, mut players) = opened(&rt, rt.alloc(), 3, MAX, 1);
     let mut third = taken(&rt, &list, &mut players);
     let mut second = taken(&rt, &list, &mut players);
     let mut first = taken(&rt, &list, &mut players);
     ask(&rt, &list, &mut first.writer, sized(1));
     ask(&rt, &list, &mut second.writer, sized(2));
     lead_beside(&rt, &list, &mut first, &mut third);
-    finish(&rt, &list, &mut third, MAX);
-    finish(&rt, &list, &mut second, MAX);
+    finish(&rt, &list, &mut third);
+    finish(&rt, &list, &mut second);
     check_row(&rt, &[first, second, third], &NEWCOMER, 0);
 }
 
@@ -248,7 +249,7 @@ fn check_told(rt: &impl Abort, alloc: Global, players: &[Player], times: usize) 
 #[test]
 fn two_link_at_once(rt: HostRuntime) {
     let alloc = rt.alloc();
-    let (list, mut players) = opened(&rt, alloc, 2, 1);
+    let (list, mut players) = opened(&rt, alloc, 2, MAX, 1);
     let linked = Some(Barrier::new(2));
     write_at_once(&rt, &list, players.as_mut_slice(), 1, &linked);
     check_told(&rt, alloc, players.as_slice(), 1);
@@ -263,7 +264,7 @@ fn two_link_at_once(rt: HostRuntime) {
 #[test]
 fn four_write_at_once(rt: HostRuntime) {
     let alloc = rt.alloc();
-    let (list, mut players) = opened(&rt, alloc, 4, 1000);
+    let (list, mut players) = opened(&rt, alloc, 4, MAX, 1000);
     write_at_once(&rt, &list, players.as_mut_slice(), 1000, &None);
     check_told(&rt, alloc, players.as_slice(), 1000);
     let (log, right) = closed(&rt, alloc, list, players);
@@ -276,6 +277,7 @@ fn open_three(alloc: Global) -> Result<(usize, usize), (u64, u64, u64)> {
         clients: 3,
         log: 0,
         pipelined: false,
+        group_bytes: MAX,
         about: 0,
     };
     let counter = Counter { count: 5, sum: 6 };

@@ -8,6 +8,7 @@ mod threads;
 use crate::client::Client;
 use crate::counter::{Answer, Counter, Right};
 use clients::{Counted, closed, opened};
+use leading::MAX;
 use list_rule::Start;
 use schedule::{Call, Seen, Turn, play};
 use std::alloc::Global;
@@ -147,6 +148,7 @@ fn open_three(alloc: Global) -> Result<(usize, usize), (u64, u64, u64)> {
         clients: 3,
         log: 0,
         pipelined: true,
+        group_bytes: MAX,
         about: 0,
     };
     let counter = Counter { count: 5, sum: 6 };

@@ -6,6 +6,8 @@ use Rattle.list_rule.specs.declared.view.Handling.{Handling}
 use Rattle.list_rule.specs.declared.view.Lead.{Lead}
 use Rattle.list_rule.specs.declared.content.Content.TheVariants.{Empty}
 use Rattle.list_rule.specs.declared.view.Stage.TheVariants.{Leading}
+use Rattle.list_rule.specs.declared.view.Event.{Event}
+use Rattle.list_rule.specs.Events.{HasBuilt}
 use Rattle.list_rule.specs.Chain.{newest, pairs, Within}
 use Rattle.wp_model.specs.declared.group.Item.{Item}
 use Rattle.wp_model.specs.Grouping.{cap}
@@ -17,7 +19,7 @@ use Rattle.list_rule.specs.Plays.{Sat, At, AllBelow, building, taking, blanks}
 use Rattle.list_rule.proofs.Groups.{within_at}
 use Rattle.list_rule.proofs.Enters.{one_hold}
 use Rattle.list_rule.proofs.Leads.{one_lead, same_last}
-use Rattle.writer_list.specs.Roles.{bys, asks, NextIs, Gathering, Grouped}
+use Rattle.writer_list.specs.Roles.{bys, asks, grouped, past_in, NextIs, Gathering, Grouped}
 
 heads_of : {A : Type 0} → A → List A → A
 heads_of d [] = d
@@ -77,25 +79,27 @@ fits_small max leader sum code is =
     let within : sum + code / 8 ≤ cap max (item_of leader) = grind (arith, nat_tests) in let k = cap_small max (item_of leader) in omega arith
 
 module _ {Q P L M : Type 0} (law : Q → ℕ → Type 0) (n max leader c : ℕ) (was : Sat Q P L M) where
-  abbrev pub gathering : Entry Q → List (Handling Q P) → List (Entry Q) → List (Entry Q) → List (Entry Q) → Lead Q P
-  gathering own seen w group tk = record { own = own; walk = w; group = group; taken = tk; seen = seen }
+  abbrev pub gathering : Entry Q → List (Handling Q P) → List (Event Q P) → List (Entry Q) → List (Entry Q) → List (Entry Q) → Lead Q P
+  gathering own seen past w group tk = record { own = own; walk = w; group = group; taken = tk; seen = seen; past = past }
 
   abbrev pub full : Lead Q P → Lead Q P
-  full l = record { own = l.own; walk = l.walk; group = l.group; taken = l.group; seen = l.seen }
+  full l = record { own = l.own; walk = l.walk; group = l.group; taken = l.group; seen = l.seen; past = l.past }
 
   pub record Gathered (now : Sat Q P L M) (walk : List (ℕ × ℕ)) (asked : List (ℕ × Q)) (sum : ℕ) : Type 0 where
     pub own : Entry Q
     pub group : List (Entry Q)
     pub left : List (Entry Q)
     pub seen : List (Handling Q P)
+    pub past : List (Event Q P)
     pub mine : List (Q × P)
     pub pre : List (Entry Q)
     pub tk : List (Entry Q)
-    pub began : At c (Leading (building own seen (left ++ (group ++ own ∷ [])) group)) mine was
-    pub reads : At c (Leading (gathering own seen (left ++ (group ++ own ∷ [])) group tk)) mine now
+    pub began : At c (Leading (building own seen past (left ++ (group ++ own ∷ [])) group)) mine was
+    pub reads : At c (Leading (gathering own seen past (left ++ (group ++ own ∷ [])) group tk)) mine now
     pub by : own.by ≡ c
     pub lead_code : own.code ≡ leader
     pub is_group : IsWhole law max own group left
+    pub built : HasBuilt max own group left seen past
     pub queue : left ++ group ≡ pre ++ tk
     pub within : Within n (left ++ group)
     pub holds : now.1 ≡ blanks (bys tk) ((c, Empty) ∷ (0, Empty) ∷ [])
@@ -112,37 +116,42 @@ module _ {Q P L M : Type 0} (law : Q → ℕ → Type 0) (n max leader c : ℕ) 
     mine = h.4;
     pre = h.2 ++ h.1;
     tk = [];
-    began = h.5;
-    reads = h.5;
-    by = h.6;
-    lead_code = h.7;
-    is_group = h.8;
+    past = h.5;
+    began = h.6;
+    reads = h.6;
+    by = h.7;
+    lead_code = h.8;
+    is_group = h.9;
+    built = h.14;
     queue = sym (append-nil (h.2 ++ h.1));
-    within = h.9;
-    holds = h.12;
-    walk_is = h.10;
-    asked_is = h.11 ∙ (λ i. (sym h.6 i, h.0.asked) ∷ []);
+    within = h.10;
+    holds = h.13;
+    walk_is = h.11;
+    asked_is = h.12 ∙ (λ i. (sym h.7 i, h.0.asked) ∷ []);
     fit = omega arith;
   }
 
   module _ (now : Sat Q P L M) (walk : List (ℕ × ℕ)) (asked : List (ℕ × Q)) (sum : ℕ) (v : Gathered now walk asked sum) where
     -- where no more is taken, the group is whole
-    pub stops : length v.group ≡ length v.tk → (own : Entry Q) (group left : List (Entry Q)) (seen : List (Handling Q P)) (mine : List (Q × P)) → At c (Leading (building own seen (left ++ (group ++ own ∷ [])) group)) mine was → IsWhole law max own group left → 0 < c
+    pub stops : length v.group ≡ length v.tk → (own : Entry Q) (group left : List (Entry Q)) (seen : List (Handling Q P)) (past : List (Event Q P)) (mine : List (Q × P)) → At c (Leading (building own seen past (left ++ (group ++ own ∷ [])) group)) mine was → HasBuilt max own group left seen past → IsWhole law max own group left → 0 < c
         → Grouped law n max c own group left seen mine now × (asked ≡ asks own group)
-    stops len own group left seen mine at whole lo =
+    stops len own group left seen past mine at built whole lo =
         let W : List (Entry Q) = v.left ++ (v.group ++ v.own ∷ []) in
-        let e = one_hold c c (Leading (building v.own v.seen W v.group)) (Leading (building own seen (left ++ (group ++ own ∷ [])) group)) v.mine mine was.0 v.began at in
-        let l = one_lead (building v.own v.seen W v.group) (building own seen (left ++ (group ++ own ∷ [])) group) e.1 in
+        let e = one_hold c c (Leading (building v.own v.seen v.past W v.group)) (Leading (building own seen past (left ++ (group ++ own ∷ [])) group)) v.mine mine was.0 v.began at in
+        let l = one_lead (building v.own v.seen v.past W v.group) (building own seen past (left ++ (group ++ own ∷ [])) group) e.1 in
         let tk : v.group ≡ v.tk = same_tail v.left v.group v.pre v.tk v.queue len in
         let own_is : v.own ≡ own = ap (λ (z : Lead Q P). z.own) l in
-        let group_is : v.tk ≡ group = sym tk ∙ ap (λ (z : Lead Q P). z.group) l in (
+        let group_is : v.tk ≡ group = sym tk ∙ ap (λ (z : Lead Q P). z.group) l in
+        let here : At c (Leading (grouped own seen past left group)) mine now = v.reads ∙ ((λ i. hold c (Leading (gathering v.own v.seen v.past W v.group (sym tk i))) v.mine ∷ []) ∙ (λ i. hold c (Leading (full (l i))) (e.2 i) ∷ [])) in
+        let known : past_in now.0 ≡ past = ap past_in here in (
           (
-            v.reads ∙ ((λ i. hold c (Leading (gathering v.own v.seen W v.group (sym tk i))) v.mine ∷ []) ∙ (λ i. hold c (Leading (full (l i))) (e.2 i) ∷ [])),
+            subst (λ z. At c (Leading (grouped own seen z left group)) mine now) (sym known) here,
             ap (λ (z : Entry Q). z.by) (sym own_is) ∙ v.by,
             lo,
             subst (Within n) (tk ∙ group_is) (within_back n v.left v.group v.within),
             whole,
             v.holds ∙ ap (λ z. blanks (bys z) ((c, Empty) ∷ (0, Empty) ∷ [])) group_is,
+            subst (HasBuilt max own group left seen) (sym known) built,
           ),
           v.asked_is ∙ (λ i. asks (own_is i) (group_is i)),
         )
@@ -166,19 +175,20 @@ module _ {Q P L M : Type 0} (law : Q → ℕ → Type 0) (n max leader c : ℕ) 
       walk_parts : v.left ++ (v.group ++ v.own ∷ []) ≡ top.0 ++ top.1 ∷ (v.tk ++ v.own ∷ [])
       walk_parts = sym (append_assoc v.left v.group (v.own ∷ [])) ∙ (ap (λ z. z ++ v.own ∷ []) (v.queue ∙ ap (λ z. z ++ v.tk) top.2) ∙ (append_assoc (top.0 ++ top.1 ∷ []) v.tk (v.own ∷ []) ∙ append_assoc top.0 (top.1 ∷ []) (v.tk ++ v.own ∷ [])))
 
-      pub next_is : NextIs c (gathering v.own v.seen (v.left ++ (v.group ++ v.own ∷ [])) v.group v.tk) v.mine top.0 top.1 now
+      pub next_is : NextIs c (gathering v.own v.seen v.past (v.left ++ (v.group ++ v.own ∷ [])) v.group v.tk) v.mine top.0 top.1 now
       next_is = (v.reads, walk_parts)
 
       pub next_range : (0 < b) × (b ≤ n)
       next_range = let w = within_at n top.0 top.1 v.tk (subst (Within n) (v.queue ∙ (ap (λ z. z ++ v.tk) top.2 ∙ append_assoc top.0 (top.1 ∷ []) v.tk)) v.within) in subst (λ (j : ℕ). (0 < j) × (j ≤ n)) top.4 w
 
-      pub goes_on : (now' : Sat Q P L M) (q : Q) → fits_next max leader sum k ≡ true → At c (Leading (taking (gathering v.own v.seen (v.left ++ (v.group ++ v.own ∷ [])) v.group v.tk) top.1)) v.mine now' → now'.1 ≡ (top.1.by, Empty) ∷ now.1 → q ≡ top.1.asked
+      pub goes_on : (now' : Sat Q P L M) (q : Q) → fits_next max leader sum k ≡ true → At c (Leading (taking (gathering v.own v.seen v.past (v.left ++ (v.group ++ v.own ∷ [])) v.group v.tk) top.1)) v.mine now' → now'.1 ≡ (top.1.by, Empty) ∷ now.1 → q ≡ top.1.asked
           → Gathered now' rest (asked ++ (b, q) ∷ []) (sum + k / 8)
       goes_on now' q more at slots is = record {
         own = v.own;
         group = v.group;
         left = v.left;
         seen = v.seen;
+        past = v.past;
         mine = v.mine;
         pre = top.0;
         tk = top.1 ∷ v.tk;
@@ -187,6 +197,7 @@ module _ {Q P L M : Type 0} (law : Q → ℕ → Type 0) (n max leader c : ℕ) 
         by = v.by;
         lead_code = v.lead_code;
         is_group = v.is_group;
+        built = v.built;
         queue = v.queue ∙ (ap (λ z. z ++ v.tk) top.2 ∙ append_assoc top.0 (top.1 ∷ []) v.tk);
         within = v.within;
         holds = slots ∙ ap (λ z. (top.1.by, Empty) ∷ z) v.holds;

@@ -3,15 +3,18 @@ use Rattle.std.specs.Prelude.{◌≡◌, ◌≢◌, ℕ, ◌+◌, ◌-◌, ◌^�
 use Rattle.atomic_table.specs.Seated.{TableId}
 use Rattle.list_rule.specs.declared.view.Entry.{Entry}
 use Rattle.list_rule.specs.declared.view.Handling.{Handling}
+use Rattle.list_rule.specs.declared.view.Hold.{Hold}
 use Rattle.list_rule.specs.declared.view.Lead.{Lead}
 use Rattle.list_rule.specs.declared.content.Content.{Content}
 use Rattle.list_rule.specs.declared.content.Content.TheVariants.{Empty, Asked, Told, Log, Right}
 use Rattle.list_rule.specs.declared.view.Stage.{Stage}
-use Rattle.list_rule.specs.declared.view.Stage.TheVariants.{Idle, Waiting, Fresh, Leading, Cutting, Marking, Settling}
+use Rattle.list_rule.specs.declared.view.Stage.TheVariants.{Idle, Preparing, Waiting, Helping, Fresh, Leading, Cutting, Marking, Settling, Collecting}
 use Rattle.list_rule.specs.declared.view.Debt.{Debt}
 use Rattle.list_rule.specs.declared.view.Squad.{Squad}
 use Rattle.list_rule.specs.declared.view.Back.{Back}
 use Rattle.list_rule.specs.declared.view.Back.TheVariants.{Joining, Holding, Queued, Serving}
+use Rattle.list_rule.specs.declared.view.Event.{Event}
+use Rattle.list_rule.specs.Events.{HasCome, HasBuilt}
 use Rattle.list_rule.specs.Chain.{newest, pairs, Within, heads, of, all_answers}
 use Rattle.list_rule.specs.Grouping.{IsWhole}
 use Rattle.list_rule.specs.Rule.{hold}
@@ -38,13 +41,15 @@ module _ {Q : Type 0} where
   pays own p [] = (own.by, p) ∷ []
   pays own p (g ∷ gs) = pays own p gs ++ (g.0.by, g.1) ∷ []
 
-  abbrev pub grouped : {P : Type 0} → Entry Q → List (Handling Q P) → List (Entry Q) → List (Entry Q) → Lead Q P
-  grouped own seen left group = record {
+  abbrev pub grouped : {P : Type 0} → Entry Q → List (Handling Q P) → List (Event Q P) → List (Entry Q) → List (Entry Q)
+      → Lead Q P
+  grouped own seen past left group = record {
     own = own;
     walk = left ++ (group ++ own ∷ []);
     group = group;
     taken = group;
     seen = seen;
+    past = past;
   }
 
 -- each code has room above an older writer's number
@@ -52,12 +57,33 @@ abbrev pub CodesFit : List (ℕ × ℕ) → Type 0
 CodesFit [] = Unit {0}
 CodesFit (x ∷ xs) = (x.1 < 2 ^ 56) × CodesFit xs
 
+-- the events of the list, the latest first, up to the client's coming, where it waits, or up to the building of its group,
+-- where it leads one
+module _ {Q P : Type 0} where
+  abbrev pub past_at : Stage Q P → List (Event Q P)
+  past_at Idle = []
+  past_at (Preparing w) = []
+  past_at (Waiting q past) = past
+  past_at (Helping q) = []
+  past_at (Fresh own seen) = []
+  past_at (Leading lead) = lead.past
+  past_at (Cutting lead next) = []
+  past_at (Marking lead) = []
+  past_at (Settling d) = []
+  past_at Collecting = []
+
+  abbrev pub past_in : List (Hold Q P) → List (Event Q P)
+  past_in [] = []
+  past_in (h ∷ hs) = past_at h.stage
+
 module _ {Q P L M : Type 0} where
-  -- the client is in the list with q, and has the log where it leads
+  -- the client is in the list with q: it waits, and came when it had been told all that was handled for it; or it leads,
+  -- and has the log; or it works beside its leader
   abbrev pub IsLinked : (L → List (Handling Q P) → Type 0) → ℕ → Task → Q → List (Q × P) → Sat Q P L M → Type 0
-  IsLinked stood c Awaits q mine m = At c (Waiting q) mine m × (m.1 ≡ [])
+  IsLinked stood c Awaits q mine m = (past : List (Event Q P)) × At c (Waiting q past) mine m × (m.1 ≡ [])
+      × HasCome c q mine past
   IsLinked stood c Leads q mine m = Elected stood c q mine m
-  IsLinked stood c Helps q mine m = At c (Waiting q) mine m × (m.1 ≡ [])
+  IsLinked stood c Helps q mine m = At c (Helping q) mine m × (m.1 ≡ [])
   IsLinked stood c Queues q mine m = ⊥
   IsLinked stood c Serves q mine m = ⊥
 
@@ -66,14 +92,17 @@ module _ {Q P L M : Type 0} where
   Chosen c own seen mine m = At c (Fresh own seen) mine m × (own.by ≡ c)
       × (m.1 ≡ (c, Asked own.asked) ∷ (0, Empty) ∷ [])
 
-  -- a leader has the log, which stands for all that was handled before; one that is done has its reply behind those
-  -- before
+  -- the client is in no list, and has its reply behind those before
+  abbrev pub HasReply : (List (Handling Q P) → Type 0) → ℕ → Q → List (Q × P) → P → Sat Q P L M → Type 0
+  HasReply kept c q mine p m = At c Idle (mine ++ (q, p) ∷ []) m × (m.1 ≡ [])
+      × ((handled : List (Handling Q P)) × kept handled × (of c handled ≡ mine ++ (q, p) ∷ []))
+
+  -- a leader has the log, which stands for all that was handled before; one that is done has its reply
   abbrev pub Becomes : (L → List (Handling Q P) → Type 0) → (List (Handling Q P) → Type 0) → ℕ → Q → List (Q × P)
       → Role L P → Sat Q P L M → Type 0
   Becomes stood kept c q mine (Role.LogLeader l) m = (own : Entry Q) × (seen : List (Handling Q P))
       × Chosen c own seen mine m × (own.asked ≡ q) × stood l seen × (of c seen ≡ mine)
-  Becomes stood kept c q mine (Role.Done p) m = At c Idle (mine ++ (q, p) ∷ []) m × (m.1 ≡ [])
-      × ((handled : List (Handling Q P)) × kept handled × (of c handled ≡ mine ++ (q, p) ∷ []))
+  Becomes stood kept c q mine (Role.Done p) m = HasReply kept c q mine p m
 
   -- and one that works beside its leader is in the list still
   abbrev pub Turns : (L → List (Handling Q P) → Type 0) → (List (Handling Q P) → Type 0) → ℕ → Task → Q
@@ -82,8 +111,7 @@ module _ {Q P L M : Type 0} where
       × Chosen c own seen mine m × (own.asked ≡ q) × stood l seen × (of c seen ≡ mine)
   Turns stood kept c task q mine (MemLeader right) m = ⊥
   Turns stood kept c task q mine Parallel m = IsLinked stood c task q mine m
-  Turns stood kept c task q mine (Done p) m = At c Idle (mine ++ (q, p) ∷ []) m × (m.1 ≡ [])
-      × ((handled : List (Handling Q P)) × kept handled × (of c handled ≡ mine ++ (q, p) ∷ []))
+  Turns stood kept c task q mine (Done p) m = HasReply kept c q mine p m
 
   -- the leader has read the list, from this number on
   abbrev pub HasRead : ℕ → ℕ → ℕ → Sat Q P L M → Type 0
@@ -95,22 +123,24 @@ module _ {Q P L M : Type 0} where
   abbrev pub NextIs : ℕ → Lead Q P → List (Q × P) → List (Entry Q) → Entry Q → Sat Q P L M → Type 0
   NextIs c lead mine pre x m = At c (Leading lead) mine m × (lead.walk ≡ pre ++ x ∷ in_hand lead)
 
-  -- the leader has its group, which the bound gives it, and the requests, of which the law holds; these were left when
-  -- it read the list
+  -- the leader has its group, and the requests, of which the law holds; the list's events, as far as the leader knows
+  -- them, end with the building of the group, of the whole queue, under the bound, and these were left then
   abbrev pub Grouped : (Q → ℕ → Type 0) → ℕ → ℕ → ℕ → Entry Q → List (Entry Q) → List (Entry Q) → List (Handling Q P)
       → List (Q × P) → Sat Q P L M → Type 0
-  Grouped law n max c own group left seen mine m = At c (Leading (grouped own seen left group)) mine m
+  Grouped law n max c own group left seen mine m =
+      At c (Leading (grouped own seen (past_in m.0) left group)) mine m
       × (own.by ≡ c) × (0 < c) × Within n group × IsWhole law max own group left
-      × (m.1 ≡ blanks (bys group) ((c, Empty) ∷ (0, Empty) ∷ []))
+      × (m.1 ≡ blanks (bys group) ((c, Empty) ∷ (0, Empty) ∷ [])) × HasBuilt max own group left seen (past_in m.0)
 
   -- the leader has its own request alone, and knows its group
   abbrev pub Gathering : (Q → ℕ → Type 0) → ℕ → ℕ → ℕ → ℕ → Sat Q P L M → List (ℕ × ℕ) → List (ℕ × Q) → Type 0
   Gathering law n max leader c m walk asked = (own : Entry Q) × (group left : List (Entry Q))
-      × (seen : List (Handling Q P)) × (mine : List (Q × P))
-      × At c (Leading (building own seen (left ++ (group ++ own ∷ [])) group)) mine m × (own.by ≡ c)
+      × (seen : List (Handling Q P)) × (mine : List (Q × P)) × (past : List (Event Q P))
+      × At c (Leading (building own seen past (left ++ (group ++ own ∷ [])) group)) mine m × (own.by ≡ c)
       × (own.code ≡ leader)
       × IsWhole law max own group left × Within n (left ++ group) × (walk ≡ pairs (left ++ group))
       × (asked ≡ (c, own.asked) ∷ []) × (m.1 ≡ (c, Empty) ∷ (0, Empty) ∷ [])
+      × HasBuilt max own group left seen past
 
   -- the log's slot on top, and then those of the group with its replies; the log stands for what was seen and for
   -- these, which give no numbers where there is a second list

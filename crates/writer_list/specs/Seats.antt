@@ -11,6 +11,7 @@ use Rattle.list_rule.specs.Rule.{hold, logs_from, asks_for, given_runs, Unnumber
 use Rattle.list_rule.specs.Plays.{At}
 use Rattle.wp_model.specs.declared.group.Item.{Item}
 use Rattle.writer_list.specs.declared.writer.Writer.{Writer}
+use Rattle.writer_list.specs.declared.writer.Task.TheVariants.{Awaits, Helps}
 use Rattle.writer_list.specs.declared.writer_list.WriterList.{WriterList}
 use Rattle.writer_list.specs.declared.writer.Role.{Role}
 use Rattle.writer_list.specs.Roles.{IsLinked, Becomes, Chosen, Grouped, AreNew}
@@ -62,6 +63,10 @@ module _ {Q P L M K : Type 0} where
   law_of stands kept number run list =
       logs_from (stands (about_of list)) (kept (about_of list)) number run (start_of list)
 
+  -- the bound in bytes under which each of its groups is built
+  abbrev pub bound_of : WriterList Q P L M K → ℕ
+  bound_of list = list.group_bytes
+
   -- what holds of each request that is in this list, and of its code
   abbrev pub asks_of : (Q → Item) → (K → Q → Type 0) → WriterList Q P L M K → Q → ℕ → Type 0
   asks_of item_of lawful list = asks_for item_of lawful (about_of list)
@@ -81,7 +86,7 @@ module _ {Q P L M K : Type 0} where
   abbrev pub HasOpened : Start K → WriterList Q P L M K → List (Writer Q P L M) → Type 0
   HasOpened start list ws = (clients_of list ≡ start.clients) × (start_of list ≡ start.log)
       × (about_of list ≡ start.about)
-      × (piped_of list ≡ start.pipelined) × AllNew list ws
+      × (piped_of list ≡ start.pipelined) × AllNew list ws × (bound_of list ≡ start.group_bytes)
 
   -- it is a writer of this list
   abbrev pub Belongs : WriterList Q P L M K → Writer Q P L M → Type 0
@@ -96,6 +101,14 @@ module _ {Q P L M : Type 0} where
   abbrev pub IsIn : (L → List (Handling Q P) → Type 0) → Q → List (Q × P) → Writer Q P L M → Type 0
   IsIn stood q mine w = IsLinked stood w.client w.task q mine w.seat.me
 
+  -- it waits for its role
+  abbrev pub AwaitsRole : Writer Q P L M → Type 0
+  AwaitsRole w = w.task ≡ Awaits
+
+  -- it was told to work beside its leader
+  abbrev pub IsHelping : Writer Q P L M → Type 0
+  IsHelping w = w.task ≡ Helps
+
   abbrev pub HasRole : (L → List (Handling Q P) → Type 0) → (List (Handling Q P) → Type 0) → Q → List (Q × P)
       → Role L P → Writer Q P L M → Type 0
   HasRole stood kept q mine role w = Becomes stood kept w.client q mine role w.seat.me
@@ -104,7 +117,8 @@ module _ {Q P L M : Type 0} where
   abbrev pub IsChosen : Entry Q → List (Handling Q P) → List (Q × P) → Writer Q P L M → Type 0
   IsChosen own seen mine w = Chosen w.client own seen mine w.seat.me
 
-  -- it has the group that the bound gives it, and the requests, of which the law holds; these writers were left
+  -- it has a group and its requests, of which the law holds; the group is the grouping rule's of the whole queue, under
+  -- this bound, as the queue stood after the events that the leader knows, and these writers were left
   abbrev pub HasGroup : (Q → ℕ → Type 0) → ℕ → ℕ → Entry Q → List (Entry Q) → List (Entry Q) → List (Handling Q P)
       → List (Q × P)
       → Writer Q P L M → Type 0

@@ -41,6 +41,7 @@ impl<Q: Itemized, P: Given, L: Ledger<Q, P, M>, M> WriterList<Q, P, L, M> {
         let WriterList {
             table,
             clients,
+            group_bytes: _,
             bells: _,
         } = self;
         take_all(table.close_with(seat), clients)

@@ -9,12 +9,14 @@ ghost use Rattle.list_rule.specs.declared.view.Handling.{Handling};
 ghost use Rattle.list_rule.specs.declared.view.Lead.{Lead};
 ghost use Rattle.list_rule.specs.declared.view.Stage.TheVariants.{Fresh, Leading};
 ghost use Rattle.list_rule.specs.Chain.{pairs};
+ghost use Rattle.list_rule.specs.declared.view.Event.{Event};
+ghost use Rattle.list_rule.specs.Events.{HasBuilt};
 ghost use Rattle.list_rule.specs.Grouping.{item_of, IsWhole};
 ghost use Rattle.list_rule.specs.Rule.{asks_for, asks_picked};
 ghost use Rattle.list_rule.specs.Plays.{At, building, Builds, taking};
 ghost use Rattle.writer_list.specs.Roles.{Chosen, HasRead, CodesFit, NextIs, Grouped, Gathering, asks};
 ghost use Rattle.writer_list.specs.Rooms.{HasRoom, TakesRequests};
-ghost use Rattle.writer_list.specs.Seats.{about_of, asks_of, client_of, clients_of, Belongs, IsChosen, HasGroup, Stays, told};
+ghost use Rattle.writer_list.specs.Seats.{about_of, asks_of, bound_of, client_of, clients_of, Belongs, IsChosen, HasGroup, Stays, told};
 
 use crate::room::{Requests, Room};
 use crate::writer::Writer;
@@ -23,13 +25,13 @@ use list_rule::{Build, Content, Fetch, Given, Itemized, Ledger, PickedAbout, Rea
 use std::marker::Brand;
 
 impl<Q: Itemized, P: Given, L: Ledger<Q, P, M>, M> WriterList<Q, P, L, M> {
-    /// Takes the requests of the leader's group in link order, its own first. The group is the grouping rule's of the
-    /// queue as it stands at one moment of this call; who links later doesn't change it. Each request is lawful for
-    /// this list.
+    /// Takes the requests of the leader's group in link order, its own first. The group is the grouping rule's, under
+    /// the list's bound, of the whole queue as it stands at one moment of this call: after the events that the leader
+    /// knows from here on, of which this is the last. Who links later doesn't change it. Each request is lawful for this
+    /// list.
     pub fn group(
         &self,
         writer: &mut Writer<Q, P, L, M>,
-        max: u64,
         requests: &mut Requests<Q>,
         room: &mut Room,
     )
@@ -42,13 +44,13 @@ impl<Q: Itemized, P: Given, L: Ledger<Q, P, M>, M> WriterList<Q, P, L, M> {
         ensures group { Belongs self.now writer.new × ((own : Entry Q) (seen : List (Handling Q P))
             → IsChosen own seen (told writer.old) writer.old
             → (group left : List (Entry Q))
-            × HasGroup (asks_of Q.item_of L.lawful self.now) (clients_of self.now) max own group left seen
-            (told writer.old) writer.new
+            × HasGroup (asks_of Q.item_of L.lawful self.now) (clients_of self.now) (bound_of self.now) own group left
+            seen (told writer.old) writer.new
             × (requests.new.list.items ≡ asks own group)) }
         ensures lawful { AllByRecursion (λ (x : ℕ × Q). L.lawful (about_of self.now) x.1) requests.new.list.items }
         ensures few { length requests.new.list.items ≤ clients_of self.now }
     {
-        self.group_from::<Brand>(writer, max, &mut requests.list, room);
+        self.group_from::<Brand>(writer, self.group_bytes, &mut requests.list, room);
     }
 
     // The bound and what the law is about are picked, since a load knows neither.
@@ -59,7 +61,7 @@ impl<Q: Itemized, P: Given, L: Ledger<Q, P, M>, M> WriterList<Q, P, L, M> {
         requests: &mut Vec<(u32, Q)>,
         room: &mut Room,
     )
-        requires max { B.number ≡ max }
+        requires max { (B.number ≡ max) × (max ≡ self.now.table.shared.key.group_bytes) }
         requires about { B.about ≡ Some self.now.table.shared.key.about }
         requires seat { (writer.old.seat.table_id ≡ self.now.table.shared.table_id)
             × (0 < writer.old.client) × (writer.old.client ≤ self.now.clients) }
@@ -90,6 +92,7 @@ impl<Q: Itemized, P: Given, L: Ledger<Q, P, M>, M> WriterList<Q, P, L, M> {
 
     // Reads the newest writer, and so builds the group.
     fn build<B: PickedAbout<L::About>>(&self, writer: &mut Writer<Q, P, L, M>) -> u64
+        requires bound { self.now.table.shared.key.group_bytes ≡ B.number }
         requires about { B.about ≡ Some self.now.table.shared.key.about }
         requires seat { writer.old.seat.table_id ≡ self.now.table.shared.table_id }
         requires leads { (own : Entry Q) × (seen : List (Handling Q P)) × (mine : List (Q × P))
@@ -174,9 +177,9 @@ impl<Q: Itemized, P: Given, L: Ledger<Q, P, M>, M> WriterList<Q, P, L, M> {
             × (writer.new.client ≡ writer.old.client) × (vec_capacity asked.new ≡ vec_capacity asked.old)
             × (vec_capacity walk.new ≡ vec_capacity walk.old) }
         ensures gathered { (own : Entry Q) (group left : List (Entry Q)) (seen : List (Handling Q P))
-            (mine : List (Q × P))
-            → At writer.old.client (Leading (building own seen (left ++ (group ++ own ∷ [])) group)) mine
-            writer.old.seat.me
+            (past : List (Event Q P)) (mine : List (Q × P))
+            → At writer.old.client (Leading (building own seen past (left ++ (group ++ own ∷ [])) group)) mine
+            writer.old.seat.me → HasBuilt max own group left seen past
             → IsWhole (asks_for Q.item_of L.lawful self.now.table.shared.key.about) max own group left
             → Grouped (asks_for Q.item_of L.lawful self.now.table.shared.key.about) self.now.clients max
             writer.old.client own group left seen mine writer.new.seat.me

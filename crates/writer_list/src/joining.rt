@@ -13,7 +13,7 @@ ghost use Rattle.list_rule.specs.Chain.{newest, heads, all_answers};
 ghost use Rattle.list_rule.specs.Standing.{line_of};
 ghost use Rattle.list_rule.specs.Laws.{given_runs};
 ghost use Rattle.list_rule.specs.Plays.{At, AtWith, in_hand, debt, slots_of, parting, ending, IsCut};
-ghost use Rattle.writer_list.specs.Roles.{HasJoined, HasSent, grouped, pays, bys};
+ghost use Rattle.writer_list.specs.Roles.{HasJoined, HasSent, grouped, past_in, pays, bys};
 ghost use Rattle.writer_list.specs.Rooms.{HasRoom};
 ghost use Rattle.writer_list.specs.Seats.{about_of, asks_of, client_of, clients_of, law_of, piped_of, Belongs, HasGroup, Stays, told};
 ghost use Rattle.writer_list.specs.Second.{IsSent, ListsMembers};
@@ -98,7 +98,7 @@ impl<Q: Itemized, P: Given, L: Ledger<Q, P, M>, M> WriterList<Q, P, L, M> {
             writer.old) writer.old → heads gs ≡ group → replies.old.items ≡ pays own p gs
             → HasSent (L.serves (about_of self.now)) self.now.clients writer.old.client result (debt gs own p)
             (told writer.old)
-            (ending (parting (grouped own seen left group) B.given) D.given) writer.new.seat.me
+            (ending (parting (grouped own seen (past_in writer.old.seat.me.0) left group) B.given) D.given) writer.new.seat.me
             × (room.new.members.items ≡ bys (heads gs ++ own ∷ [])) }
     {
         let code = self.own_code(writer);

@@ -2,22 +2,23 @@
 ghost use Rattle.std.specs.Prelude.{◌≡◌, ℕ, ◌+◌, ◌*◌, ◌^◌, ◌<◌, ◌≤◌, ◌≢◌, true, List, [], ◌∷◌, Some};
 ghost use Rattle.list_rule.specs.declared.content.Content.{Content};
 ghost use Rattle.list_rule.specs.declared.content.Content.TheVariants.{Empty, Asked, Told, Log};
-ghost use Rattle.list_rule.specs.declared.view.Stage.TheVariants.{Idle, Waiting, Collecting};
+ghost use Rattle.list_rule.specs.declared.view.Stage.TheVariants.{Idle, Waiting, Helping, Collecting};
+ghost use Rattle.list_rule.specs.declared.view.Event.{Event};
 ghost use Rattle.list_rule.specs.Grouping.{code_by};
 ghost use Rattle.list_rule.specs.Rule.{logs_picked, kept_picked};
 ghost use Rattle.list_rule.specs.Plays.{At, Elected};
-ghost use Rattle.writer_list.specs.Roles.{IsLinked, Becomes, Turns};
+ghost use Rattle.writer_list.specs.Roles.{IsLinked, Becomes, Turns, HasReply};
 ghost use Rattle.writer_list.specs.Seats.{client_of, about_of, law_of, kept_of, Belongs, IsOut, IsIn, HasRole, Stays, told};
 ghost use Rattle.writer_list.specs.declared.second.PipelinedRole.TheVariants.{Parallel};
-ghost use Rattle.writer_list.specs.declared.writer.Task.TheVariants.{Awaits, Leads};
+ghost use Rattle.writer_list.specs.declared.writer.Task.TheVariants.{Awaits, Leads, Helps};
 
 use crate::second::PipelinedRole;
 use crate::writer::{Role, Task, Writer};
 use crate::writer_list::WriterList;
 use crossbeam_utils::Backoff;
 use list_rule::{
-    Begin, Content, Given, Itemized, Ledger, Link, NameOlder, PickedAbout, ReadNewest, ReadState,
-    Rest, code_of,
+    Begin, Content, Given, Itemized, Ledger, Link, NameOlder, PickedAbout, ReadNewest, ReadReply,
+    ReadState, Rest, code_of,
 };
 use std::marker::Brand;
 use std::sync::Wait;
@@ -50,7 +51,7 @@ impl<Q: Itemized, P: Given, L: Ledger<Q, P, M>, M> WriterList<Q, P, L, M> {
         match writer.task {
             Task::Awaits => self.await_alone::<Brand, R>(rt, writer),
             Task::Leads => Role::LogLeader(self.claim::<Brand>(writer)),
-            Task::Helps => self.await_alone::<Brand, R>(rt, writer),
+            Task::Helps => Role::Done(self.await_reply::<Brand, R>(rt, writer)),
             Task::Queues => unreachable!(),
             Task::Serves => unreachable!(),
         }
@@ -98,7 +99,7 @@ impl<Q: Itemized, P: Given, L: Ledger<Q, P, M>, M> WriterList<Q, P, L, M> {
         unreachable!()
     }
 
-    // A member works with nobody.
+    // A member that is told to work beside its leader waits for its reply.
     fn await_alone<B: PickedAbout<L::About>, R: Wait>(
         &self,
         rt: &R,
@@ -108,40 +109,40 @@ impl<Q: Itemized, P: Given, L: Ledger<Q, P, M>, M> WriterList<Q, P, L, M> {
         requires about { B.about ≡ Some self.now.table.shared.key.about }
         requires seat { (writer.old.seat.table_id ≡ self.now.table.shared.table_id)
             × (0 < writer.old.client) × (writer.old.client ≤ self.now.clients) }
-        requires waits { (q : Q) × (mine : List (Q × P))
-            × At writer.old.client (Waiting q) mine writer.old.seat.me × (writer.old.seat.me.1 ≡ []) }
+        requires waits { (q : Q) × (past : List (Event Q P)) × (mine : List (Q × P))
+            × At writer.old.client (Waiting q past) mine writer.old.seat.me × (writer.old.seat.me.1 ≡ []) }
         ensures seat { Stays writer.new writer.old }
-        ensures role { (q : Q) (mine : List (Q × P))
-            → At writer.old.client (Waiting q) mine writer.old.seat.me → writer.old.seat.me.1 ≡ []
+        ensures role { (q : Q) (past : List (Event Q P)) (mine : List (Q × P))
+            → At writer.old.client (Waiting q past) mine writer.old.seat.me → writer.old.seat.me.1 ≡ []
             → Becomes (logs_picked L.stands L.kept L.number_of P.run_of B.number B.about)
             (kept_picked L.kept B.about) writer.old.client q mine result writer.new.seat.me }
     {
-        match self.await_from::<B, R>(rt, writer, false) {
+        match self.await_from::<B, R>(rt, writer) {
             PipelinedRole::LogLeader(log) => Role::LogLeader(log),
+            PipelinedRole::Parallel => Role::Done(self.await_reply::<B, R>(rt, writer)),
             PipelinedRole::Done(reply) => Role::Done(reply),
             _ => unreachable!(),
         }
     }
 
-    // A member is answered Parallel where it may help.
+    // Waits for the writer's role.
     pub(crate) fn await_from<B: PickedAbout<L::About>, R: Wait>(
         &self,
         rt: &R,
         writer: &mut Writer<Q, P, L, M>,
-        may_help: bool,
     ) -> PipelinedRole<L, M, P>
         requires start { B.number ≡ self.now.table.shared.key.log }
         requires about { B.about ≡ Some self.now.table.shared.key.about }
         requires seat { (writer.old.seat.table_id ≡ self.now.table.shared.table_id)
             × (0 < writer.old.client) × (writer.old.client ≤ self.now.clients) }
-        requires waits { (q : Q) × (mine : List (Q × P))
-            × At writer.old.client (Waiting q) mine writer.old.seat.me × (writer.old.seat.me.1 ≡ []) }
+        requires waits { (q : Q) × (past : List (Event Q P)) × (mine : List (Q × P))
+            × At writer.old.client (Waiting q past) mine writer.old.seat.me × (writer.old.seat.me.1 ≡ []) }
         ensures seat { Stays writer.new writer.old }
-        ensures role { (q : Q) (mine : List (Q × P))
-            → At writer.old.client (Waiting q) mine writer.old.seat.me → writer.old.seat.me.1 ≡ []
+        ensures role { (q : Q) (past : List (Event Q P)) (mine : List (Q × P))
+            → At writer.old.client (Waiting q past) mine writer.old.seat.me → writer.old.seat.me.1 ≡ []
             → Turns (logs_picked L.stands L.kept L.number_of P.run_of B.number B.about)
             (kept_picked L.kept B.about) writer.old.client writer.new.task q mine result writer.new.seat.me }
-        ensures parallel { result ≡ Parallel → may_help ≡ true }
+        ensures parallel { result ≡ Parallel → writer.new.task ≡ Helps }
     {
         let c = writer.client;
         let backoff = Backoff::new();
@@ -156,9 +157,40 @@ impl<Q: Itemized, P: Given, L: Ledger<Q, P, M>, M> WriterList<Q, P, L, M> {
             if state == 2 {
                 return PipelinedRole::LogLeader(self.claim::<B>(writer));
             }
-            if may_help && state == 8 {
+            if state == 8 {
                 writer.task = Task::Helps;
                 return PipelinedRole::Parallel;
+            }
+            self.bells.pause(rt, &backoff, c as u64);
+        }
+        unreachable!()
+    }
+
+    // Waits for the reply of a writer that was told to work beside its leader.
+    pub(crate) fn await_reply<B: PickedAbout<L::About>, R: Wait>(
+        &self,
+        rt: &R,
+        writer: &mut Writer<Q, P, L, M>,
+    ) -> P
+        requires about { B.about ≡ Some self.now.table.shared.key.about }
+        requires seat { (writer.old.seat.table_id ≡ self.now.table.shared.table_id)
+            × (0 < writer.old.client) × (writer.old.client ≤ self.now.clients) }
+        requires helps { (q : Q) × (mine : List (Q × P))
+            × At writer.old.client (Helping q) mine writer.old.seat.me × (writer.old.seat.me.1 ≡ []) }
+        ensures seat { Stays writer.new writer.old }
+        ensures reply { (q : Q) (mine : List (Q × P))
+            → At writer.old.client (Helping q) mine writer.old.seat.me → writer.old.seat.me.1 ≡ []
+            → HasReply (kept_picked L.kept B.about) writer.old.client q mine result writer.new.seat.me }
+    {
+        let c = writer.client;
+        let backoff = Backoff::new();
+        for _ in rt.forever() {
+            let state = self
+                .table
+                .shared
+                .load::<ReadReply<B>>(&mut writer.seat, 2 * c as usize + 2);
+            if state == 16 {
+                return self.collect(writer);
             }
             self.bells.pause(rt, &backoff, c as u64);
         }

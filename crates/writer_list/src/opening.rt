@@ -61,6 +61,7 @@ impl<Q: Itemized + Drop, P: Given + Drop, L: Ledger<Q, P, M>, M> WriterList<Q, P
                 let list = WriterList {
                     table,
                     clients,
+                    group_bytes: start.group_bytes,
                     bells,
                 };
                 list.seat_all(seat, &mut writers);

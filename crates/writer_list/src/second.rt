@@ -2,7 +2,8 @@
 ghost use Rattle.std.specs.Prelude.{◌≡◌, ◌⊎◌, ℕ, true, List};
 ghost use Rattle.list_rule.specs.declared.view.Debt.{Debt};
 ghost use Rattle.list_rule.specs.declared.view.Handling.{Handling};
-ghost use Rattle.writer_list.specs.Seats.{client_of, clients_of, about_of, piped_of, law_of, kept_of, Belongs, IsIn, StandsStill, told};
+ghost use Rattle.writer_list.specs.Seats.{client_of, clients_of, about_of, piped_of, law_of, kept_of, AwaitsRole, Belongs, IsHelping, IsIn, StandsStill, told};
+ghost use Rattle.writer_list.specs.declared.second.PipelinedRole.TheVariants.{Parallel, Done};
 ghost use Rattle.writer_list.specs.Second.{IsSent, GetsRight, HasPipelinedRole};
 
 use crate::writer::{Task, Writer};
@@ -24,8 +25,9 @@ pub enum PipelinedRole<L, M, P> {
 }
 
 impl<Q: Itemized, P: Given, L: Ledger<Q, P, M>, M> WriterList<Q, P, L, M> {
-    /// Waits until the writer leads, or works beside its leader, or its request is done, or its group, which is in the
-    /// second list, is the first there.
+    /// Waits until the writer leads, or is told to work beside its leader, or its request is done, or its group, which
+    /// is in the second list, is the first there. A writer is told once to work beside its leader, and only its reply
+    /// comes then.
     pub fn await_pipelined_role<R: Wait>(
         &self,
         rt: &R,
@@ -40,14 +42,16 @@ impl<Q: Itemized, P: Given, L: Ledger<Q, P, M>, M> WriterList<Q, P, L, M> {
             → IsIn (law_of L.stands L.kept L.number_of P.run_of self.now) q (told writer.old) writer.old
             → HasPipelinedRole (law_of L.stands L.kept L.number_of P.run_of self.now) (kept_of L.kept self.now)
             q (told writer.old) result writer.new }
+        ensures parallel { result ≡ Parallel → AwaitsRole writer.old × IsHelping writer.new }
+        ensures helping { IsHelping writer.old → (p : P) × (result ≡ Done p) }
         ensures right { (d : Debt Q P) (from to : List (Handling Q P)) (mine : List (Q × P))
             → IsSent (L.serves (about_of self.now)) (clients_of self.now) d from to mine writer.old
             → GetsRight (L.serves (about_of self.now)) (clients_of self.now) d from to mine result writer.new }
     {
         match writer.task {
-            Task::Awaits => self.await_from::<Brand, R>(rt, writer, true),
+            Task::Awaits => self.await_from::<Brand, R>(rt, writer),
             Task::Leads => PipelinedRole::LogLeader(self.claim::<Brand>(writer)),
-            Task::Helps => self.await_from::<Brand, R>(rt, writer, false),
+            Task::Helps => PipelinedRole::Done(self.await_reply::<Brand, R>(rt, writer)),
             Task::Queues => PipelinedRole::MemLeader(self.await_right::<Brand, R>(rt, writer)),
             Task::Serves => PipelinedRole::MemLeader(self.take_right(writer)),
         }

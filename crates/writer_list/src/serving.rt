@@ -77,9 +77,9 @@ impl<Q: Itemized, P: Given, L: Ledger<Q, P, M>, M> WriterList<Q, P, L, M> {
         requires seat { (writer.old.seat.table_id ≡ self.now.table.shared.table_id) × (0 < member)
             × (member ≤ self.now.clients) }
         requires member { (pre : List (Entry Q × P)) × (post : List (Entry Q × P)) × (y : Entry Q × P)
-            × (own : Entry Q) × (p : P) × (mine : List (Q × P)) × (b : Back Q P)
-            × AtWith writer.old.client (Settling (debt (pre ++ y ∷ post) own p)) mine b writer.old.seat.me
-            × (y.0.by ≡ member) }
+            × (own : Entry Q) × (p : P) × (mine : List (Q × P)) × (g : Squad Q P) × (walk : List (Entry Q))
+            × AtWith writer.old.client (Settling (debt (pre ++ y ∷ post) own p)) mine (Serving g walk)
+            writer.old.seat.me × (y.0.by ≡ member) }
         ensures seat { Stays writer.new writer.old }
         ensures same { writer.new.seat.me ≡ writer.old.seat.me }
     {

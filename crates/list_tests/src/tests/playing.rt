@@ -64,13 +64,13 @@ pub(super) fn answer_all(
 }
 
 // Takes the requests of the group.
-pub(super) fn grouped(list: &Counted, writer: &mut Seat, lists: &mut Lists<Ask, Answer>, max: u64)
+pub(super) fn grouped(list: &Counted, writer: &mut Seat, lists: &mut Lists<Ask, Answer>)
     requires leads { Leads list.now writer.old }
     requires ready { AreReady (clients_of list.now) lists.old }
     ensures client { writer.new.client ≡ writer.old.client }
     ensures group { HasRequests list.now writer.new lists.new }
 {
-    list.group(writer, max, &mut lists.requests, &mut lists.room);
+    list.group(writer, &mut lists.requests, &mut lists.room);
 }
 
 // Answers the group and leaves: the writer's own answer, and the group's size.
@@ -97,7 +97,6 @@ pub(super) fn lead(
     writer: &mut Seat,
     lists: &mut Lists<Ask, Answer>,
     counter: Counter,
-    max: u64,
 ) -> (Answer, usize)
     requires leads { Leads list.now writer.old }
     requires ready { AreReady (clients_of list.now) lists.old }
@@ -105,7 +104,7 @@ pub(super) fn lead(
     ensures out { IsSat list.now writer.old.client writer.new }
     ensures ready { AreReady (clients_of list.now) lists.new }
 {
-    grouped(list, writer, lists, max);
+    grouped(list, writer, lists);
     left(list, writer, lists, counter)
 }
 
@@ -124,7 +123,6 @@ pub(super) fn served<R: Wait>(
     list: &Counted,
     writer: &mut Seat,
     lists: &mut Lists<Ask, Answer>,
-    max: u64,
 ) -> (Answer, usize)
     requires linked { Belongs list.now writer.old × IsAsking list.now writer.old }
     requires ready { AreReady (clients_of list.now) lists.old }
@@ -134,17 +132,17 @@ pub(super) fn served<R: Wait>(
 {
     match list.await_role(rt, writer) {
         Role::Done(answer) => (answer, 0),
-        Role::LogLeader(counter) => lead(list, writer, lists, counter, max),
+        Role::LogLeader(counter) => lead(list, writer, lists, counter),
     }
 }
 
 // Waits for the role, leads where it is to, and notes what it was told.
-pub(super) fn finish<R: Wait>(rt: &R, list: &Counted, player: &mut Player, max: u64)
+pub(super) fn finish<R: Wait>(rt: &R, list: &Counted, player: &mut Player)
     requires asked { HasAsked list.now player.old.writer.client player.old }
     requires plain { IsPlain list.now }
     ensures { MayWrite list.now player.old.writer.client player.new }
 {
-    let (answer, led) = served(rt, list, &mut player.writer, &mut player.lists, max);
+    let (answer, led) = served(rt, list, &mut player.writer, &mut player.lists);
     player.led = led;
     note(&mut player.told, answer);
 }
@@ -174,13 +172,13 @@ pub(super) fn ask_all<R: Wait + Abort>(
 }
 
 // Each waits for its role, one after the other.
-pub(super) fn finish_all<R: Wait>(rt: &R, list: &Counted, players: &mut [Player], max: u64)
+pub(super) fn finish_all<R: Wait>(rt: &R, list: &Counted, players: &mut [Player])
     requires asked { AllHaveAsked list.now players.old }
     requires plain { IsPlain list.now }
     ensures { AllMayWrite list.now players.new × (length players.new ≡ length players.old) }
 {
     for i in 0..players.len() {
-        finish(rt, list, &mut players[i], max);
+        finish(rt, list, &mut players[i]);
     }
 }
 
@@ -208,7 +206,7 @@ pub(super) fn write_often<R: Wait>(
     for time in 0..times {
         ask(rt, list, &mut player.writer, item);
         meet(rt, linked);
-        finish(rt, list, player, MAX);
+        finish(rt, list, player);
     }
 }
 
@@ -239,11 +237,13 @@ pub(super) fn sized(size: u64) -> Item
     Item { size, ..PLAIN }
 }
 
-// A list over a counter at 0, and its clients in their order, each with room for so many answers.
+// A list over a counter at 0, whose groups are built under this bound, and its clients in their order, each with room
+// for so many answers.
 pub(super) fn opened(
     rt: &impl Abort,
     alloc: Global,
     clients: u32,
+    group_bytes: u64,
     room: usize,
 ) -> (Counted, Vec<Player>)
     requires { (0 < clients) × (clients < 255) }
@@ -254,6 +254,7 @@ pub(super) fn opened(
         clients,
         log: 0,
         pipelined: false,
+        group_bytes,
         about: 0,
     };
     let Ok((list, writers, lists)) = WriterList::open(

@@ -5,6 +5,7 @@ ghost use Rattle.writer_list.specs.Rooms.{AllReady};
 ghost use Rattle.writer_list.specs.Seats.{clients_of, AllNew, Belongs, IsOut};
 ghost use Rattle.second_list_tests.specs.Clients.{IsPipelined, IsAsking, AllMayWrite, AllStand, AreIdle};
 
+use super::leading::MAX;
 use crate::client::{Client, Stage};
 use crate::counter::{Answer, Ask, Counter, Right};
 use list_rule::Start;
@@ -41,6 +42,7 @@ pub(super) fn opened(
         clients: count,
         log: 0,
         pipelined: true,
+        group_bytes: MAX,
         about: 0,
     };
     let counter = Counter { count: 0, sum: 0 };

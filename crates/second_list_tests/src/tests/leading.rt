@@ -15,7 +15,7 @@ use std::sync::Wait;
 use writer_list::{Lists, PipelinedRole, Replies, Requests, members_in_order, replies_in_order};
 
 /// The bound that the grouping rule's worked examples take.
-const MAX: u64 = 1048576;
+pub(super) const MAX: u64 = 1048576;
 
 // Answers each request with the counter's next number and its own size.
 fn answer_all(counter: &mut Counter, requests: &mut Requests<Ask>, replies: &mut Replies<Answer>)
@@ -51,7 +51,7 @@ pub(super) fn grouped(list: &Counted, writer: &mut Seat, lists: &mut Lists<Ask, 
     ensures client { writer.new.client ≡ writer.old.client }
     ensures group { HasRequests list.now writer.new lists.new }
 {
-    list.group(writer, MAX, &mut lists.requests, &mut lists.room);
+    list.group(writer, &mut lists.requests, &mut lists.room);
 }
 
 // Notes the members of a group beside its leader.

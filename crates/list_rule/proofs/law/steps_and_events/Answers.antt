@@ -1,5 +1,7 @@
-use Rattle.list_rule.proofs.Enters.{begins_is, aims_is, peeks_is, enters_is, looks_is, rests_is}
-use Rattle.list_rule.proofs.Leads.{reads_is, traces_is, fetches_is, leaves_is}
+use Rattle.list_rule.proofs.Enters.{begins_is, aims_is, peeks_is, enters_is, rests_is}
+use Rattle.list_rule.proofs.Looks.{looks_is, looks_beside_is}
+use Rattle.list_rule.proofs.Leads.{reads_is, traces_is, fetches_is}
+use Rattle.list_rule.proofs.Leaves.{leaves_is}
 use Rattle.list_rule.proofs.Settles.{cuts_is, wakes_is, tells_is, retires_is}
 use mathlib.Core.Option.{none}
 use Rattle.list_rule.proofs.law.steps_and_events.Goals as goal
@@ -17,13 +19,16 @@ pub returns-clause-link : goal.returns-clause-link
 returns-clause-link g a z slots id c w saw code me q mine packs at slot asked = enters_is _ z.clients slots id me c w saw code q mine none packs at slot asked
 
 pub returns-clause-read_state : goal.returns-clause-read_state
-returns-clause-read_state g a z slots id word c me q mine is at nil = looks_is _ z.clients slots id me c word q mine is at nil
+returns-clause-read_state g a z slots id word c me q past mine is at nil = looks_is _ z.clients slots id me c word q past mine is at nil
+
+pub returns-clause-read_reply : goal.returns-clause-read_reply
+returns-clause-read_reply g a z slots id word c me q mine is at nil = looks_beside_is _ z.clients slots id me c word q mine is at nil
 
 pub returns-clause-rest : goal.returns-clause-rest
 returns-clause-rest g a z slots id word c me mine at slot = rests_is _ z.clients slots id me c word mine at slot
 
 pub returns-clause-build : goal.returns-clause-build
-returns-clause-build g a z slots id max c me own seen mine at = reads_is _ z.clients slots id me max c own seen mine at
+returns-clause-build g a z slots id c me own seen mine at = reads_is _ z.clients slots id me c own seen mine at
 
 pub returns-clause-read_older : goal.returns-clause-read_older
 returns-clause-read_older g a z slots id word me = traces_is _ z.clients slots id me word

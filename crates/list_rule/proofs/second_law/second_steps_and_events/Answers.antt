@@ -36,7 +36,7 @@ pub returns-clause-summon : goal.returns-clause-summon
 returns-clause-summon g a z slots id word c me d mine squad piped at is = summons_is _ z.clients slots id me c word d mine squad piped at is
 
 pub returns-clause-make_parallel : goal.returns-clause-make_parallel
-returns-clause-make_parallel g a z slots id word c me member newer older own p mine back at is small = parallels_is _ z.clients slots id me c word newer older member own p mine back at is small
+returns-clause-make_parallel g a z slots id word c me member newer older own p mine squad walk at _ is small = parallels_is _ z.clients slots id me c word newer older member own p mine squad walk at is small
 
 pub returns-clause-leave_second : goal.returns-clause-leave_second
 returns-clause-leave_second g a z slots id c member k me d mine squad walk right more piped at slot is_last is stood = leaves_second_is _ z.clients slots id me c member k d mine squad walk right more none piped at slot is_last is stood

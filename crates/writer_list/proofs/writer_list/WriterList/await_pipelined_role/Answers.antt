@@ -2,7 +2,7 @@ use Rattle.std.proofs.Common.{⊎_elim, ℕ, ◌+◌, ◌∷◌, sym, ap, ◌∙
 use Rattle.list_rule.specs.declared.content.Content.TheVariants.{Empty}
 use Rattle.list_rule.specs.Rule.{logs_from}
 use Rattle.writer_list.specs.declared.second.PipelinedRole.TheVariants.{LogLeader}
-use Rattle.writer_list.specs.Roles.{IsLinked, Turns}
+use Rattle.writer_list.specs.Roles.{IsLinked, Turns, HasReply}
 use Rattle.writer_list.specs.Seats.{told}
 use Rattle.writer_list.specs.Second.{Sent, Served, squad}
 use Rattle.writer_list.proofs.writer_list.WriterList.await_pipelined_role.Goals as goal
@@ -36,3 +36,10 @@ returns-in-Queues-clause-right g c d from to mine sent =
     let s = subst (λ task. Sent (g.L.Ledger.serves key.about) n w.client task d mine (squad d from to) w.seat.me) c.in-Queues.is sent in
     let r = f.right d mine (squad d from to) s.0 in
     (r.2, subst (λ (j : ℕ). Served n j d mine (squad d from to) c.await_right.new.writer.seat.me) (sym f.seat.1) (r.0, r.1 ∙ ap (λ l. (n + 1, Empty) ∷ l) s.1))
+
+pub returns-in-Helps-clause-role : goal.returns-in-Helps-clause-role
+returns-in-Helps-clause-role g c q link =
+    let key = c.args.self.now.table.shared.key in let law = logs_from (g.L.Ledger.stands key.about) (g.L.Ledger.kept key.about) g.L.Ledger.number_of g.P.Given.run_of key.log in
+    let w = c.args.writer.now in let f = c.await_reply.ensures in
+    let h = subst (λ task. IsLinked law w.client task q (told w) w.seat.me) c.in-Helps.is link in
+    subst (λ (j : ℕ). HasReply (g.L.Ledger.kept key.about) j q (told w) c.await_reply.result c.await_reply.new.writer.seat.me) (sym f.seat.1) (f.reply q (told w) h.0 h.1)

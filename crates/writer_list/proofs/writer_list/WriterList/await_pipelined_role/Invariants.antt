@@ -9,3 +9,6 @@ ghosts-claim g a = record { number = a.self.now.table.shared.key.log; about = So
 
 abbrev pub ghosts-await_right : goal.ghosts-await_right
 ghosts-await_right g a = record { number = a.self.now.table.shared.key.log; about = Some a.self.now.table.shared.key.about }
+
+abbrev pub ghosts-await_reply : goal.ghosts-await_reply
+ghosts-await_reply g a = record { number = a.self.now.table.shared.key.log; about = Some a.self.now.table.shared.key.about }

@@ -6,3 +6,6 @@ ghosts-await_alone g a = record { number = a.self.now.table.shared.key.log; abou
 
 abbrev pub ghosts-claim : goal.ghosts-claim
 ghosts-claim g a = record { number = a.self.now.table.shared.key.log; about = Some a.self.now.table.shared.key.about }
+
+abbrev pub ghosts-await_reply : goal.ghosts-await_reply
+ghosts-await_reply g a = record { number = a.self.now.table.shared.key.log; about = Some a.self.now.table.shared.key.about }

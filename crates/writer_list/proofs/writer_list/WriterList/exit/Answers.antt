@@ -10,7 +10,7 @@ use Rattle.list_rule.proofs.Enters.{one_hold}
 use Rattle.list_rule.proofs.Leads.{one_lead}
 use Rattle.writer_list.proofs.Gathers.{newest_is}
 use Rattle.writer_list.proofs.Tells.{some_by, length-bys}
-use Rattle.writer_list.specs.Roles.{firsts, fills, bys, grouped}
+use Rattle.writer_list.specs.Roles.{firsts, fills, bys, grouped, past_in}
 use Rattle.writer_list.proofs.Fills.{same_reply, pays_back, members_of, blanks_of, fills_of}
 use Rattle.writer_list.proofs.writer_list.WriterList.exit.Goals as goal
 
@@ -27,7 +27,7 @@ pub index-requires : goal.index-requires
 index-requires g c =
     let o = c.requires.group.1 in let k : ℕ = c.args.writer.now.client in
     let rev = ap reverse o.9 ∙ pays_back o.1 o.6 o.5 in
-    let lead : Lead g.row.Q.Denot g.row.P.Denot = grouped o.1 o.4 o.3 o.2 in let mine = told c.args.writer.now in
+    let lead : Lead g.row.Q.Denot g.row.P.Denot = grouped o.1 o.4 (past_in c.args.writer.now.seat.me.0) o.3 o.2 in let mine = told c.args.writer.now in
     let e1 : c.fill.new.writer.client ≡ k = c.fill.ensures.seat.1 in
     let filled = c.fill.ensures.filled in
     let slots1 : c.fill.new.writer.seat.me.1 ≡ (0, Empty) ∷ slots_of o.5 ((k, Told o.6) ∷ []) = filled.0 ∙ ap (λ l. (0, Empty) ∷ fills l) rev ∙ ap (λ l. (0, Empty) ∷ l) (fills_of o.1 o.6 o.5) ∙ (λ i. (0, Empty) ∷ slots_of o.5 ((o.7.1 i, Told o.6) ∷ [])) in
@@ -43,7 +43,7 @@ pub hand_on-requires-clause-ready : goal.hand_on-requires-clause-ready
 hand_on-requires-clause-ready g c =
     let o = c.requires.group.1 in let k : ℕ = c.args.writer.now.client in
     let rev = ap reverse o.9 ∙ pays_back o.1 o.6 o.5 in
-    let lead : Lead g.row.Q.Denot g.row.P.Denot = grouped o.1 o.4 o.3 o.2 in let mine = told c.args.writer.now in
+    let lead : Lead g.row.Q.Denot g.row.P.Denot = grouped o.1 o.4 (past_in c.args.writer.now.seat.me.0) o.3 o.2 in let mine = told c.args.writer.now in
     let e1 : c.fill.new.writer.client ≡ k = c.fill.ensures.seat.1 in
     let filled = c.fill.ensures.filled in
     let slots1 : c.fill.new.writer.seat.me.1 ≡ (0, Empty) ∷ slots_of o.5 ((k, Told o.6) ∷ []) = filled.0 ∙ ap (λ l. (0, Empty) ∷ fills l) rev ∙ ap (λ l. (0, Empty) ∷ l) (fills_of o.1 o.6 o.5) ∙ (λ i. (0, Empty) ∷ slots_of o.5 ((o.7.1 i, Told o.6) ∷ [])) in
@@ -62,7 +62,7 @@ pub tell_all-requires-clause-owed : goal.tell_all-requires-clause-owed
 tell_all-requires-clause-owed g c =
     let o = c.requires.group.1 in let k : ℕ = c.args.writer.now.client in
     let rev = ap reverse o.9 ∙ pays_back o.1 o.6 o.5 in
-    let lead : Lead g.row.Q.Denot g.row.P.Denot = grouped o.1 o.4 o.3 o.2 in let mine = told c.args.writer.now in
+    let lead : Lead g.row.Q.Denot g.row.P.Denot = grouped o.1 o.4 (past_in c.args.writer.now.seat.me.0) o.3 o.2 in let mine = told c.args.writer.now in
     let e1 : c.fill.new.writer.client ≡ k = c.fill.ensures.seat.1 in
     let filled = c.fill.ensures.filled in
     let slots1 : c.fill.new.writer.seat.me.1 ≡ (0, Empty) ∷ slots_of o.5 ((k, Told o.6) ∷ []) = filled.0 ∙ ap (λ l. (0, Empty) ∷ fills l) rev ∙ ap (λ l. (0, Empty) ∷ l) (fills_of o.1 o.6 o.5) ∙ (λ i. (0, Empty) ∷ slots_of o.5 ((o.7.1 i, Told o.6) ∷ [])) in
@@ -82,7 +82,7 @@ pub retire-requires-clause-owed : goal.retire-requires-clause-owed
 retire-requires-clause-owed g c =
     let o = c.requires.group.1 in let k : ℕ = c.args.writer.now.client in
     let rev = ap reverse o.9 ∙ pays_back o.1 o.6 o.5 in
-    let lead : Lead g.row.Q.Denot g.row.P.Denot = grouped o.1 o.4 o.3 o.2 in let mine = told c.args.writer.now in
+    let lead : Lead g.row.Q.Denot g.row.P.Denot = grouped o.1 o.4 (past_in c.args.writer.now.seat.me.0) o.3 o.2 in let mine = told c.args.writer.now in
     let e1 : c.fill.new.writer.client ≡ k = c.fill.ensures.seat.1 in
     let filled = c.fill.ensures.filled in
     let slots1 : c.fill.new.writer.seat.me.1 ≡ (0, Empty) ∷ slots_of o.5 ((k, Told o.6) ∷ []) = filled.0 ∙ ap (λ l. (0, Empty) ∷ fills l) rev ∙ ap (λ l. (0, Empty) ∷ l) (fills_of o.1 o.6 o.5) ∙ (λ i. (0, Empty) ∷ slots_of o.5 ((o.7.1 i, Told o.6) ∷ [])) in
@@ -111,7 +111,7 @@ pub returns-clause-out : goal.returns-clause-out
 returns-clause-out g c =
     let o = c.requires.group.1 in let k : ℕ = c.args.writer.now.client in
     let rev = ap reverse o.9 ∙ pays_back o.1 o.6 o.5 in
-    let lead : Lead g.row.Q.Denot g.row.P.Denot = grouped o.1 o.4 o.3 o.2 in let mine = told c.args.writer.now in
+    let lead : Lead g.row.Q.Denot g.row.P.Denot = grouped o.1 o.4 (past_in c.args.writer.now.seat.me.0) o.3 o.2 in let mine = told c.args.writer.now in
     let e1 : c.fill.new.writer.client ≡ k = c.fill.ensures.seat.1 in
     let filled = c.fill.ensures.filled in
     let slots1 : c.fill.new.writer.seat.me.1 ≡ (0, Empty) ∷ slots_of o.5 ((k, Told o.6) ∷ []) = filled.0 ∙ ap (λ l. (0, Empty) ∷ fills l) rev ∙ ap (λ l. (0, Empty) ∷ l) (fills_of o.1 o.6 o.5) ∙ (λ i. (0, Empty) ∷ slots_of o.5 ((o.7.1 i, Told o.6) ∷ [])) in
@@ -136,7 +136,7 @@ returns-clause-out g c =
       (table, subst (λ (j : ℕ). 0 < j) (sym e5) c.requires.group.0.1, subst (λ (j : ℕ). j ≤ c.args.self.now.clients) (sym e5) c.requires.group.0.2),
       (r.0 ∙ (λ i. hold (sym c.retire.ensures.seat.1 i) Idle (sym told_is i) ∷ []), r.1),
       λ max own group left seen gs p has heads_are replies.
-          let same = one_lead lead (grouped own seen left group) (one_hold k k (Leading lead) (Leading (grouped own seen left group)) mine mine c.args.writer.now.seat.me.0 o.7.0 has.0).1 in
+          let same = one_lead lead (grouped own seen (past_in c.args.writer.now.seat.me.0) left group) (one_hold k k (Leading lead) (Leading (grouped own seen (past_in c.args.writer.now.seat.me.0) left group)) mine mine c.args.writer.now.seat.me.0 o.7.0 has.0).1 in
           let p_is : o.6 ≡ p = same_reply o.1 own o.6 p o.5 gs (sym o.9 ∙ replies) in
           (told_is ∙ (λ i. mine ++ ((same i).own.asked, p_is i) ∷ []), r.2 ∙ p_is),
     )

@@ -8,7 +8,7 @@ use Rattle.writer_list.specs.Roles.{HasSent}
 use Rattle.writer_list.specs.Seats.{told}
 use Rattle.writer_list.proofs.Gathers.{newest_is}
 use Rattle.writer_list.proofs.Tells.{some_by, length-bys}
-use Rattle.writer_list.specs.Roles.{firsts, fills, bys, grouped}
+use Rattle.writer_list.specs.Roles.{firsts, fills, bys, grouped, past_in}
 use Rattle.writer_list.proofs.Fills.{pays_back, members_of, blanks_of, fills_of}
 use Rattle.writer_list.proofs.writer_list.WriterList.exit_from.Goals as goal
 
@@ -25,7 +25,7 @@ pub index-requires : goal.index-requires
 index-requires g c =
     let o = c.requires.group.1 in let k : ℕ = c.args.writer.now.client in
     let rev = ap reverse o.9 ∙ pays_back o.1 o.6 o.5 in
-    let lead : Lead g.row.Q.Denot g.row.P.Denot = grouped o.1 o.4 o.3 o.2 in let mine = told c.args.writer.now in
+    let lead : Lead g.row.Q.Denot g.row.P.Denot = grouped o.1 o.4 (past_in c.args.writer.now.seat.me.0) o.3 o.2 in let mine = told c.args.writer.now in
     let e1 : c.fill.new.writer.client ≡ k = c.fill.ensures.seat.1 ∙ c.own_code-code.ensures.seat.1 in
     let filled = c.fill.ensures.filled in
     let slots1 : c.fill.new.writer.seat.me.1 ≡ (0, Empty) ∷ slots_of o.5 ((k, Told o.6) ∷ []) = filled.0 ∙ ap (λ l. (0, Empty) ∷ fills l) rev ∙ ap (λ l. (0, Empty) ∷ l) (fills_of o.1 o.6 o.5) ∙ (λ i. (0, Empty) ∷ slots_of o.5 ((o.7.1 i, Told o.6) ∷ [])) in
@@ -46,7 +46,7 @@ pub send_on-requires-clause-ready : goal.send_on-requires-clause-ready
 send_on-requires-clause-ready g c =
     let o = c.requires.group.1 in let k : ℕ = c.args.writer.now.client in
     let rev = ap reverse o.9 ∙ pays_back o.1 o.6 o.5 in
-    let lead : Lead g.row.Q.Denot g.row.P.Denot = grouped o.1 o.4 o.3 o.2 in let mine = told c.args.writer.now in
+    let lead : Lead g.row.Q.Denot g.row.P.Denot = grouped o.1 o.4 (past_in c.args.writer.now.seat.me.0) o.3 o.2 in let mine = told c.args.writer.now in
     let e1 : c.fill.new.writer.client ≡ k = c.fill.ensures.seat.1 ∙ c.own_code-code.ensures.seat.1 in
     let filled = c.fill.ensures.filled in
     let slots1 : c.fill.new.writer.seat.me.1 ≡ (0, Empty) ∷ slots_of o.5 ((k, Told o.6) ∷ []) = filled.0 ∙ ap (λ l. (0, Empty) ∷ fills l) rev ∙ ap (λ l. (0, Empty) ∷ l) (fills_of o.1 o.6 o.5) ∙ (λ i. (0, Empty) ∷ slots_of o.5 ((o.7.1 i, Told o.6) ∷ [])) in
@@ -68,7 +68,7 @@ pub returns-clause-sent : goal.returns-clause-sent
 returns-clause-sent g c max own group left seen gs p has heads_are replies =
     let k : ℕ = c.args.writer.now.client in
     let rev = ap reverse replies ∙ pays_back own p gs in
-    let lead : Lead g.row.Q.Denot g.row.P.Denot = grouped own seen left group in let mine = told c.args.writer.now in
+    let lead : Lead g.row.Q.Denot g.row.P.Denot = grouped own seen (past_in c.args.writer.now.seat.me.0) left group in let mine = told c.args.writer.now in
     let e1 : c.fill.new.writer.client ≡ k = c.fill.ensures.seat.1 ∙ c.own_code-code.ensures.seat.1 in
     let filled = c.fill.ensures.filled in
     let slots1 : c.fill.new.writer.seat.me.1 ≡ (0, Empty) ∷ slots_of gs ((k, Told p) ∷ []) = filled.0 ∙ ap (λ l. (0, Empty) ∷ fills l) rev ∙ ap (λ l. (0, Empty) ∷ l) (fills_of own p gs) ∙ (λ i. (0, Empty) ∷ slots_of gs ((has.1 i, Told p) ∷ [])) in

@@ -19,18 +19,18 @@ loop-step-init g c = record {
 }
 
 pub returns-then-not-is_next-clause-gathered : goal.returns-then-not-is_next-clause-gathered
-returns-then-not-is_next-clause-gathered g c own group left seen mine at whole =
+returns-then-not-is_next-clause-gathered g c own group left seen past mine at built whole =
     let v = c.loop-step.invariant.so_far in let n : ℕ = c.args.self.now.clients in let k : ℕ = c.args.writer.now.client in let was = c.args.writer.now.seat.me in
     stops (asks_for g.Q.Itemized.item_of g.L.Ledger.lawful c.args.self.now.table.shared.key.about) n c.args.max c.args.leader k was c.loop-step.writer.seat.me c.loop-step.walk.items c.loop-step.asked.items c.loop-step.sum v
     (stops_full (asks_for g.Q.Itemized.item_of g.L.Ledger.lawful c.args.self.now.table.shared.key.about) n c.args.max c.args.leader k was c.loop-step.writer.seat.me c.loop-step.walk.items c.loop-step.asked.items c.loop-step.sum v c.pop.new.self.items c.in-Some.by c.in-Some.code c.in-Some.ensures.items (sym c.is_next.ensures ∙ c.if-not-is_next.true))
-    own group left seen mine at whole c.requires.seat.1
+    own group left seen past mine at built whole c.requires.seat.1
 
 pub returns-clause-gathered : goal.returns-clause-gathered
-returns-clause-gathered g c own group left seen mine at whole =
+returns-clause-gathered g c own group left seen past mine at built whole =
     let v = c.loop-step.invariant.so_far in let n : ℕ = c.args.self.now.clients in let k : ℕ = c.args.writer.now.client in let was = c.args.writer.now.seat.me in let e = c.loop-step.invariant.count in let test = c.loop-step-test.false in let room = c.requires.room.0 in
     stops (asks_for g.Q.Itemized.item_of g.L.Ledger.lawful c.args.self.now.table.shared.key.about) n c.args.max c.args.leader k was c.loop-step.writer.seat.me c.loop-step.walk.items c.loop-step.asked.items c.loop-step.sum v
     (stops_empty (asks_for g.Q.Itemized.item_of g.L.Ledger.lawful c.args.self.now.table.shared.key.about) n c.args.max c.args.leader k was c.loop-step.writer.seat.me c.loop-step.walk.items c.loop-step.asked.items c.loop-step.sum v (no_items c.loop-step.walk.items (omega arith)))
-    own group left seen mine at whole c.requires.seat.1
+    own group left seen past mine at built whole c.requires.seat.1
 
 pub fetch-request-requires-clause-seat : goal.fetch-request-requires-clause-seat
 fetch-request-requires-clause-seat g c =
@@ -39,7 +39,7 @@ fetch-request-requires-clause-seat g c =
 
 pub fetch-request-requires-clause-next : goal.fetch-request-requires-clause-next
 fetch-request-requires-clause-next g c =
-    let v = c.loop-step.invariant in let s = v.so_far in let ld : Lead g.row.Q.Denot g.row.P.Denot = record { own = s.own; walk = s.left ++ (s.group ++ s.own ∷ []); group = s.group; taken = s.tk; seen = s.seen } in let n : ℕ = c.args.self.now.clients in let k : ℕ = c.args.writer.now.client in
+    let v = c.loop-step.invariant in let s = v.so_far in let ld : Lead g.row.Q.Denot g.row.P.Denot = record { own = s.own; walk = s.left ++ (s.group ++ s.own ∷ []); group = s.group; taken = s.tk; seen = s.seen; past = s.past } in let n : ℕ = c.args.self.now.clients in let k : ℕ = c.args.writer.now.client in
     let x = top (asks_for g.Q.Itemized.item_of g.L.Ledger.lawful c.args.self.now.table.shared.key.about) n c.args.max c.args.leader k c.args.writer.now.seat.me c.loop-step.writer.seat.me c.loop-step.walk.items c.loop-step.asked.items c.loop-step.sum s c.pop.new.self.items c.in-Some.by c.in-Some.code c.in-Some.ensures.items in
     let is = next_is (asks_for g.Q.Itemized.item_of g.L.Ledger.lawful c.args.self.now.table.shared.key.about) n c.args.max c.args.leader k c.args.writer.now.seat.me c.loop-step.writer.seat.me c.loop-step.walk.items c.loop-step.asked.items c.loop-step.sum s c.pop.new.self.items c.in-Some.by c.in-Some.code c.in-Some.ensures.items in
     (ld, s.mine, x.0, x.1, subst (λ (j : ℕ). NextIs j ld s.mine x.0 x.1 c.loop-step.writer.seat.me) (sym v.client) is, x.4)
@@ -56,7 +56,7 @@ overflow_add-sum g c =
 
 pub loop-step-preserved : goal.loop-step-preserved
 loop-step-preserved g c =
-    let v = c.loop-step.invariant in let s = v.so_far in let ld : Lead g.row.Q.Denot g.row.P.Denot = record { own = s.own; walk = s.left ++ (s.group ++ s.own ∷ []); group = s.group; taken = s.tk; seen = s.seen } in let n : ℕ = c.args.self.now.clients in let k : ℕ = c.args.writer.now.client in
+    let v = c.loop-step.invariant in let s = v.so_far in let ld : Lead g.row.Q.Denot g.row.P.Denot = record { own = s.own; walk = s.left ++ (s.group ++ s.own ∷ []); group = s.group; taken = s.tk; seen = s.seen; past = s.past } in let n : ℕ = c.args.self.now.clients in let k : ℕ = c.args.writer.now.client in
     let x = top (asks_for g.Q.Itemized.item_of g.L.Ledger.lawful c.args.self.now.table.shared.key.about) n c.args.max c.args.leader k c.args.writer.now.seat.me c.loop-step.writer.seat.me c.loop-step.walk.items c.loop-step.asked.items c.loop-step.sum s c.pop.new.self.items c.in-Some.by c.in-Some.code c.in-Some.ensures.items in
     let is = next_is (asks_for g.Q.Itemized.item_of g.L.Ledger.lawful c.args.self.now.table.shared.key.about) n c.args.max c.args.leader k c.args.writer.now.seat.me c.loop-step.writer.seat.me c.loop-step.walk.items c.loop-step.asked.items c.loop-step.sum s c.pop.new.self.items c.in-Some.by c.in-Some.code c.in-Some.ensures.items in
     let f = c.fetch-request.ensures in

@@ -11,7 +11,7 @@ returns-clause-group g c =
     let f = c.group_from.ensures in let b = c.requires.leads.0 in let n : ℕ = c.args.self.now.clients in (
       (f.seat.0 ∙ b.0, subst (λ (j : ℕ). 0 < j) (sym f.seat.1) b.1, subst (λ (j : ℕ). j ≤ n) (sym f.seat.1) b.2),
       λ own seen ch. let t = f.group own seen (told c.args.writer.now) ch in
-          (t.0, t.1, subst (λ (j : ℕ). Grouped (asks_for g.Q.Itemized.item_of g.L.Ledger.lawful c.args.self.now.table.shared.key.about) n c.args.max j own t.0 t.1 seen (told c.args.writer.now) c.group_from.new.writer.seat.me) (sym f.seat.1) t.2, t.3),
+          (t.0, t.1, subst (λ (j : ℕ). Grouped (asks_for g.Q.Itemized.item_of g.L.Ledger.lawful c.args.self.now.table.shared.key.about) n c.args.self.now.group_bytes j own t.0 t.1 seen (told c.args.writer.now) c.group_from.new.writer.seat.me) (sym f.seat.1) t.2, t.3),
     )
 
 pub returns-clause-few : goal.returns-clause-few

@@ -16,7 +16,7 @@ pub make_parallel-requires-clause-member : goal.make_parallel-requires-clause-me
 make_parallel-requires-clause-member g c =
     let o = c.requires.leads.1 in let v = c.loop-i.invariant in let m = member_at c.args.self.now.clients c.args.members.now o.0.rest c.loop-i.i _ o.5 c.loop-i-test.true in
     let back = Serving (squad o.0 o.1 o.2) [] in
-    (m.0, m.2, m.1, o.0.own, o.0.reply, o.3, back, ap (λ (x : _ × _). x.0) v.me ∙ o.4.0 ∙ (λ i. hold_at (sym v.client i) (Settling (debt (m.3 i) o.0.own o.0.reply)) o.3 back ∷ []), m.4)
+    (m.0, m.2, m.1, o.0.own, o.0.reply, o.3, squad o.0 o.1 o.2, [], ap (λ (x : _ × _). x.0) v.me ∙ o.4.0 ∙ (λ i. hold_at (sym v.client i) (Settling (debt (m.3 i) o.0.own o.0.reply)) o.3 back ∷ []), m.4)
 
 pub returns-clause-client : goal.returns-clause-client
 returns-clause-client g c =

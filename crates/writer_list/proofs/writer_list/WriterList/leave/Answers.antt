@@ -1,6 +1,6 @@
 use Rattle.std.proofs.Common.{arith}
 use mathlib.Core.Option.{none}
-use Rattle.list_rule.proofs.Leads.{leaves}
+use Rattle.list_rule.proofs.Leaves.{leaves}
 use Rattle.writer_list.proofs.writer_list.WriterList.leave.Goals as goal
 
 pub compare_exchange-requires : goal.compare_exchange-requires

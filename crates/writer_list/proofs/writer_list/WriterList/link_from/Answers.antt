@@ -63,7 +63,7 @@ returns-then-found-newest-clause-linked g c mine idle =
     subst (λ (x : List (g.row.Q.Denot × g.row.P.Denot)). IsLinked stood k c.task_of-writer.result c.args.request x m') same.2
     (dite (ℕ_discrete newest 0)
     (λ z. subst (λ b. IsLinked stood k b c.args.request i.1 m') (sym (c.task_of-writer.ensures.first z)) (t.0 hit (hit ∙ z)))
-    (λ nz. subst (λ b. IsLinked stood k b c.args.request i.1 m') (sym (c.task_of-writer.ensures.behind nz)) (t.1 hit (λ f. nz (sym hit ∙ f)))))
+    (λ nz. subst (λ b. IsLinked stood k b c.args.request i.1 m') (sym (c.task_of-writer.ensures.behind nz)) (let e = t.1 hit (λ f. nz (sym hit ∙ f)) in (e.0, e.1, e.3, e.2))))
 
 pub loop-preserved : goal.loop-preserved
 loop-preserved g c =

@@ -2,7 +2,7 @@ use Rattle.std.proofs.Common.{ℕ, ◌+◌, ◌*◌, ◌∷◌, sym, ap, ◌∙�
 use Rattle.atomic_table.specs.Table.{rest}
 use Rattle.list_rule.specs.declared.content.Content.TheVariants.{Empty, Told}
 use Rattle.list_rule.proofs.Chains.{fronted}
-use Rattle.list_rule.proofs.Leads.{told_in, told_at}
+use Rattle.list_rule.proofs.Leaves.{told_in, told_at}
 use Rattle.list_rule.proofs.Settles.{retires}
 use Rattle.writer_list.proofs.writer_list.WriterList.retire.Goals as goal
 

@@ -1,4 +1,4 @@
--- What the events of a list with a second one share: a group's writers, and what is owed.
+-- What the events of the lists share: a group's writers, and what is owed.
 use Rattle.std.proofs.Common.{◌≡◌, ◌≢◌, ℕ, ◌+◌, eqb, eq-eqb, ne_eqb, Bool, true, false, not, cond, ◌⊎◌, inl, inr, List, [], ◌∷◌, ◌++◌, map, filter, reverse, drop, if◌then◌else◌, Option as Answer, Some, refl, sym, ap, ◌∙◌, subst, append-nil, append_assoc, eqb-true}
 use Rattle.std.specs.List.{AllZip}
 use Rattle.std.specs.Prelude.{nat_le, find}
@@ -17,8 +17,7 @@ use Rattle.list_rule.specs.declared.view.Entry.{Entry}
 use Rattle.list_rule.specs.declared.view.Handling.{Handling}
 use Rattle.list_rule.specs.declared.view.Squad.{Squad}
 use Rattle.list_rule.specs.Chain.{Absent, of}
-use Rattle.list_rule.specs.CoreEvents.{IsSame, core_queue, answer_of, answer_in}
-use Rattle.list_rule.specs.PipelinedCoreEvents.{IsRearranged, unanswered, IsGroupOf, HasGroups}
+use Rattle.list_rule.specs.CoreEvents.{IsSame, core_queue, answer_of, answer_in, IsRearranged, unanswered, IsGroupOf, HasGroups}
 use Rattle.list_rule.specs.SecondList.{IsPut}
 use Rattle.list_rule.specs.Standing.{line_of, flat}
 use Rattle.list_rule.proofs.Groups.{absent_append, absent_front, absent_back}
