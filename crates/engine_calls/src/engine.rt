@@ -11,7 +11,7 @@ ghost use Rattle.wp_model.specs.Trace.{Trace};
 ghost use Rattle.wp_coding.specs.Answers.{found_value};
 ghost use Rattle.account_model.specs.Accounts.{Keeps, Wrote, Refuses, Reads as ReadsAt, Asks, GivesBack};
 ghost use Rattle.account_model.specs.Closing.{AreOurs, all_attempts, IsClosing};
-ghost use Rattle.account_model.specs.Written.{WritesLog, HaveSynced};
+ghost use Rattle.run_model.specs.Written.{WritesLog, IsSyncedBy};
 
 use crate::answers::{Closed, Receipt, Refused};
 use std::sync::Wait;
@@ -79,7 +79,7 @@ pub trait Engine {
             × (r.count ≡ model.count_of batch.records)) }
         // a batch that was to be synced was written by a call of the log writer that synced
         ensures synced { IfOk result (λ r. options.sync ≡ true → (calls : List GroupCall) × (log : Self.Log)
-            × wrote self.now calls log × HaveSynced r.first batch.records calls) }
+            × wrote self.now calls log × IsSyncedBy r.first batch.records calls) }
         ensures err { IfErr result (λ e. Refuses (settings self.now) (account client.old) batch.records options e.why
             (account client.new)) }
         ensures unchanged { IfErr result (λ e. e.batch ≡ batch) };
@@ -171,6 +171,6 @@ pub trait Engine {
         ensures { let accounts = map account clients.clients.items in
             (trace : Trace) × (groups : List Group)
             × IsClosing (settings self) (faults result.log) trace groups accounts result.last (fault result.log)
-            × WritesLog (settings self).group_bytes (wrote self) trace (all_attempts accounts) (fault result.log)
-            result.log };
+            × WritesLog (settings self).group_bytes (λ calls. wrote self calls result.log) trace (all_attempts accounts)
+            (fault result.log) };
 }

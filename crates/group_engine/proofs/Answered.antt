@@ -1,5 +1,5 @@
 -- What a client concludes of its answer.
-use Rattle.std.proofs.Common.{◌≡◌, inr, ℕ, ◌-◌, ◌≤◌, Bool, true, false, not, cond, ◌==◌, ◌&&◌, map, List, [], ◌∷◌, ◌++◌, Option, Some, None, MatchOption, IfSome, Result, Ok, Err, IfOk, IfErr, length, refl, ap, sym, ◌∙◌, subst, append_assoc, append-nil}
+use Rattle.std.proofs.Common.{◌≡◌, inr, ℕ, ◌-◌, ◌<◌, ◌≤◌, Bool, true, false, not, cond, ◌==◌, ◌&&◌, map, List, [], ◌∷◌, ◌++◌, Option, Some, None, MatchOption, IfSome, Result, Ok, Err, IfOk, IfErr, length, refl, ap, sym, ◌∙◌, subst, arith, append_assoc, append-nil, length-append}
 use Rattle.std.specs.Prelude.{if◌then◌else◌, nat_lt}
 use Rattle.std.specs.List.{AllByRecursion}
 use mathlib.Core.List.{IsPrefix}
@@ -23,7 +23,8 @@ use Rattle.log_writer.specs.declared.writer.LogWriter.{LogWriter}
 use Rattle.log_writer.specs.Written.{Wrote as LogWrote}
 use Rattle.write_batch.specs.Contents.{Contents}
 use Rattle.table_rule.specs.declared.content.MemberVersions.{MemberVersions}
-use Rattle.table_rule.specs.Histories.{Begins, last_of}
+use Rattle.table_rule.specs.Histories.{Begins, last_of, versions_of}
+use Rattle.table_rule.proofs.Histories.{versions_append}
 use Rattle.list_rule.specs.declared.view.Handling.{Handling}
 use Rattle.list_rule.specs.Chain.{of}
 use Rattle.write_controller.specs.declared.controller.Controller.{Controller}
@@ -34,9 +35,10 @@ use Rattle.engine_calls.specs.declared.answers.Receipt.{Receipt}
 use Rattle.engine_calls.specs.declared.answers.Refused.{Refused}
 use Rattle.group_engine.specs.declared.requests.Reply.{Reply}
 use Rattle.account_model.specs.Accounts.{Account, IsRefused, IsRefusedLate, Keeps, Refuses, Wrote}
-use Rattle.account_model.specs.Written.{HaveSynced}
+use Rattle.run_model.specs.Written.{IsSyncedBy}
 use Rattle.group_engine.specs.Clients.{own_commits}
 use Rattle.group_engine.specs.Handled.{AreHandled, ComesBack, HandsBack, IsLate, ShowsDelay, answer_in, answer_of_refusal, commit_of, noted_in, seen_for}
+use Rattle.group_engine.specs.Runs.{IsAbove}
 use Rattle.group_rule.specs.Commits.{Commit, commits_of, held_up}
 use Rattle.group_rule.specs.Entries.{account_of, SeesMore}
 use Rattle.group_rule.proofs.Own.{refused_failed, refused_full, refused_held_up, wrote}
@@ -127,13 +129,13 @@ refuses_late settings v records how why w passed late =
 pub record Concludes {D : Type 0} {ghosts : Ghosts D} (opened : LogWriter D ghosts) (settings : Settings) (v : Account) (batch : Contents) (how : WriteOptions) (answer : Result Receipt Refused) (w : Account) : Type 0 where
   pub accepted : IfOk answer (λ (r : Receipt). Wrote settings v batch.records how r.first r.group_last w)
   pub back : IfOk answer (λ (r : Receipt). (r.batch ≡ record batch { sequence = r.first }) × (r.count ≡ count_of batch.records))
-  pub synced : IfOk answer (λ (r : Receipt). how.sync ≡ true → (calls : List GroupCall) × (log : LogWriter D ghosts) × LogWrote opened calls log × HaveSynced r.first batch.records calls)
+  pub synced : IfOk answer (λ (r : Receipt). how.sync ≡ true → (calls : List GroupCall) × (log : LogWriter D ghosts) × LogWrote opened calls log × IsSyncedBy r.first batch.records calls)
   pub refused : IfErr answer (λ (e : Refused). Refuses settings v batch.records how e.why w)
   pub unchanged : IfErr answer (λ (e : Refused). e.batch ≡ batch)
 
 module _ {C D : Type 0} {ghosts : Ghosts D} (controller : Controller C) (opened : LogWriter D ghosts) (start k : ℕ) (settings : Settings) (q : Request) (p : Reply) (mine : List (Request × Reply)) (handled : List (Handling Request Reply)) (kept : AreHandled controller opened start handled) (own : of k handled ≡ mine ++ (q, p) ∷ []) (seen now : List (List MemberVersions)) (sees : Begins seen now)
     (known after : List ControllerCall) (more : SeesMore k known after) (noted_known : noted_in q.note ≡ known) (sees_note : IfSome p.note (λ (n : Note). IsPrefix (noted n) after))
-    (passed : early_refusal settings.batch_bytes (holds_stop (tokens_of k known)) q.batch.records q.options ≡ None) where
+    (passed : early_refusal settings.batch_bytes (holds_stop (tokens_of k known)) q.batch.records q.options ≡ None) (above : IsAbove (last_of start seen) p.answer) where
   is : commits_of k (map commit_of handled) ≡ own_commits k mine ++ commit k q p ∷ []
   is = commits_told k handled ∙ (ap (own_commits k) own ∙ own_more k mine q p)
 
@@ -148,7 +150,7 @@ module _ {C D : Type 0} {ghosts : Ghosts D} (controller : Controller C) (opened 
 
   pub answered_ok : (r : Receipt) → p.answer ≡ Ok r → r.group_last ≤ last_of start now → Wrote settings old q.batch.records q.options r.first r.group_last new
   answered_ok r ok reached = subst (Wrote settings old q.batch.records q.options r.first r.group_last) new_is
-      (wrote start k (own_commits k mine) (commit k q p) seen now sees known after more (map commit_of handled) kept.answered is settings r.first r.group_last (ap answer_in ok) passed reached)
+      (wrote start k (own_commits k mine) (commit k q p) seen now sees known after more (map commit_of handled) kept.answered is settings r.first r.group_last (ap answer_in ok) passed (subst (IsAbove (last_of start seen)) ok above) reached)
 
   -- the note of a reply is seen, and so is the delay that it shows
   noted_after : (note : Option Note) → IfSome note (λ (n : Note). IsNoteOf controller n × (noted n ≡ seen_for p)) → IfSome note (λ (n : Note). IsPrefix (noted n) after) → (n : Note) → note ≡ Some n → IsPrefix (seen_for p) after
@@ -159,7 +161,7 @@ module _ {C D : Type 0} {ghosts : Ghosts D} (controller : Controller C) (opened 
   refused_by (LogFault n) e is_why err late = subst (IsRefused old q.batch.records q.options (LogFault n)) new_is
       (refused_failed start k (own_commits k mine) (commit k q p) seen now sees known after more n (ap answer_in err ∙ ap answer_of_refusal is_why))
   refused_by (SequenceFull l) e is_why err late = subst (IsRefused old q.batch.records q.options (SequenceFull l)) new_is
-      (refused_full start k (own_commits k mine) (commit k q p) seen now sees known after more (map commit_of handled) kept.answered is l (ap answer_in err ∙ ap answer_of_refusal is_why))
+      (refused_full start k (own_commits k mine) (commit k q p) seen now sees known after more (map commit_of handled) kept.answered is l (ap answer_in err ∙ ap answer_of_refusal is_why) (subst (IsAbove (last_of start seen)) err above l is_why))
   refused_by (Incomplete s d w) e is_why err late =
       let numbers : Look = record { stops = s; delays = d; wait = w } in
       let told : answer_in p.answer ≡ held_up numbers = ap answer_in err ∙ ap answer_of_refusal is_why in
@@ -184,7 +186,7 @@ module _ {C D : Type 0} {ghosts : Ghosts D} (controller : Controller C) (opened 
   answered_err e err = refuses_late settings old q.batch.records q.options e.why new passed (inr (refused_by e.why e refl err (subst (ComesBack q.batch) err back).1))
 
   -- a batch that was to be synced was, by one of the calls that wrote the log
-  pub answered_synced : (r : Receipt) → p.answer ≡ Ok r → q.options.sync ≡ true → (calls : List GroupCall) × (log : LogWriter D ghosts) × LogWrote opened calls log × HaveSynced r.first q.batch.records calls
+  pub answered_synced : (r : Receipt) → p.answer ≡ Ok r → q.options.sync ≡ true → (calls : List GroupCall) × (log : LogWriter D ghosts) × LogWrote opened calls log × IsSyncedBy r.first q.batch.records calls
   answered_synced r ok sync =
       let w = kept.written in
       let h = have_synced start k (map commit_of handled) (own_commits k mine) (commit k q p) w.worked r.first r.group_last kept.answered w.parts is (ap answer_in ok) sync (logged_if settings.batch_bytes (holds_stop (tokens_of k known)) q.batch.records q.options passed sync) in
@@ -207,3 +209,16 @@ sees_on k a b c f g = record { begins = prefix_trans a b c f.begins g.begins; to
 
 pub begins_on : {A : Type 0} (xs ys zs : List A) → Begins xs ys → Begins ys zs → Begins xs zs
 begins_on xs ys zs a b = (a.0 ++ b.0, b.1 ∙ (ap (λ l. l ++ b.0) a.1 ∙ append_assoc xs a.0 b.0))
+
+-- who has seen no less of what is published has seen it up to no lower sequence
+last_later : (start : ℕ) (xs ys : List (List MemberVersions)) → Begins xs ys → last_of start xs ≤ last_of start ys
+last_later start xs ys b = let e = ap (λ l. length (versions_of l)) b.1 ∙ (ap length (versions_append xs b.0) ∙ length-append (versions_of xs) (versions_of b.0)) in omega (arith, e)
+
+above_all : (m n : ℕ) (answer : Result Receipt Refused) → m ≤ n → IsAbove n answer → IsAbove m answer
+above_all m n (Ok r) low above = let a : n < r.first = above in omega (arith, low, a)
+above_all m n (Err e) low above = λ last is. let a : n ≤ last = above last is in omega (arith, low, a)
+
+-- an answer above what a client was shown is above all that it had seen before
+pub above_seen : (start start' shown : ℕ) (before loaded : List (List MemberVersions)) (answer : Result Receipt Refused) → start ≡ start' → Begins before loaded → shown ≡ last_of start' loaded → IsAbove shown answer → IsAbove (last_of start before) answer
+above_seen start start' shown before loaded answer same more is above =
+    above_all (last_of start before) shown answer (let l = last_later start before loaded more in let e = ap (λ (n : ℕ). last_of n loaded) same in omega (arith, l, e, is)) above

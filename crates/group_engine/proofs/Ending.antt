@@ -5,7 +5,6 @@ use Rattle.std.specs.List.{AllByRecursion}
 use Rattle.std.proofs.lemmas.Option.{slice_get-map, slice_get_cases}
 use Rattle.std.proofs.lemmas.List.{length-map}
 use Rattle.wp_edge.specs.declared.disk.Disk.{Ghosts}
-use Rattle.std.specs.Prelude.{⊤}
 use Rattle.wp_model.specs.Attempts.{Attempt}
 use Rattle.wp_model.specs.Controller.{ControllerCall}
 use Rattle.wp_model.specs.LogContents.{GroupCall}
@@ -16,14 +15,14 @@ use Rattle.table_rule.specs.Histories.{In}
 use Rattle.table_calls.specs.Account.{Account as TableAccount, IsReady, IsClosing as IsTableClosing}
 use Rattle.list_rule.specs.declared.view.Handling.{Handling}
 use Rattle.list_rule.specs.Chain.{of}
-use Rattle.writer_list.specs.Seats.{table_of, clients_of, about_of, told, AllOut, HasClient, AllThere, Merged}
+use Rattle.writer_list.specs.Seats.{bound_of, table_of, clients_of, about_of, told, AllOut, HasClient, AllThere, Merged}
 use Rattle.group_engine.specs.declared.requests.Request.{Request}
 use Rattle.group_engine.specs.declared.requests.Reply.{Reply}
 use Rattle.group_engine.specs.declared.engine.GroupEngine.{GroupEngine}
 use Rattle.group_engine.specs.declared.engine.Client.{Client}
 use Rattle.account_model.specs.Accounts.{Account}
 use Rattle.account_model.specs.Closing.{AreOurs}
-use Rattle.account_model.specs.Written.{WritesLog}
+use Rattle.run_model.specs.Written.{WritesLog}
 use Rattle.write_controller.specs.declared.pass.Pass.{Pass}
 use Rattle.write_controller.specs.declared.pass.Passes.{Passes}
 use Rattle.write_controller.specs.Passes.{seen_by, AreAll, IsHistoryOf, IsOthersOf, IsPassOf, client_of as pass_client}
@@ -113,7 +112,7 @@ module _ {D T C G S U P : Type 0} {ghosts : Ghosts D} (opening : T → Opening) 
   -- the engine's numbers are those that the list's law is about
   pub stands_here : (our_turn : T → U → Type 0) (history : U → List (List MemberVersions)) (asked : List ControllerCall) (log : LogWriter D ghosts) (turn : U) (last : ℕ) (handled : List (Handling Request Reply))
       → StandsFor our_turn history (about_of e.list).table.value (opened_log e) (about_of e.list).start (about_of e.list).clients (about_of e.list).group_bytes asked log turn last handled
-      → StandsFor our_turn history e.table (opened_log e) (opening e.table).start (clients_of e.list) e.group_bytes asked log turn last handled
+      → StandsFor our_turn history e.table (opened_log e) (opening e.table).start (clients_of e.list) (bound_of e.list) asked log turn last handled
   stands_here our_turn history asked log turn last handled s =
       let set = is_engine in
       subst (λ (z : T × ℕ × ℕ × ℕ). StandsFor our_turn history z.0 (opened_log e) z.1 z.2 z.3 asked log turn last handled) (λ i. (set.table i, set.start i, set.about_clients i, set.group_bytes i)) s
@@ -158,9 +157,9 @@ module _ {D T C G S U P : Type 0} {ghosts : Ghosts D} (opening : T → Opening) 
       ]
 
 -- the law of the log speaks of these calls, of which more is known
-pub written_by : {L : Type 0} (group_bytes : ℕ) (wrote : List GroupCall → L → Type 0) (calls : List GroupCall) (log : L) (trace : Trace) (attempts : List (List Attempt)) (fault : Option ℕ)
-    → wrote calls log → WritesLog group_bytes (λ (ws : List GroupCall) (l : ⊤). ws ≡ calls) trace attempts fault tt → WritesLog group_bytes wrote trace attempts fault log
-written_by group_bytes wrote calls log trace attempts fault by w = record {
+pub written_by : (group_bytes : ℕ) (wrote : List GroupCall → Type 0) (calls : List GroupCall) (trace : Trace) (attempts : List (List Attempt)) (fault : Option ℕ)
+    → wrote calls → WritesLog group_bytes (λ (made : List GroupCall). made ≡ calls) trace attempts fault → WritesLog group_bytes wrote trace attempts fault
+written_by group_bytes wrote calls trace attempts fault by w = record {
   parts = w.parts;
   calls = w.calls;
   lost = w.lost;
@@ -168,5 +167,5 @@ written_by group_bytes wrote calls log trace attempts fault by w = record {
   runs = w.runs;
   each = w.each;
   none_else = w.none_else;
-  by = subst (λ (ws : List GroupCall). wrote ws log) (sym w.by) by;
+  by = subst wrote (sym w.by) by;
 }

@@ -201,7 +201,7 @@ module _ {L M : Type 0} where
 -- Where a writer stands
 module _ {Q P L M : Type 0} where
   pub linked_told : (stood : L → List (Handling Q P) → Type 0) (c : ℕ) (task : Task) (q : Q) (mine : List (Q × P)) (m : Sat Q P L M) → IsLinked stood c task q mine m → told_in_first m.0 ≡ mine
-  linked_told stood c Awaits q mine m h = ap told_in_first h.0
+  linked_told stood c Awaits q mine m h = ap told_in_first h.1
   linked_told stood c Leads_ q mine m h = ap told_in_first h.3
   linked_told stood c Helps q mine m h = ap told_in_first h.0
   linked_told stood c Queues q mine m h = absurd h

@@ -1,11 +1,11 @@
 -- What a leader that has asked for its group comes to, once its group is refused or written.
-use Rattle.std.proofs.Common.{◌≡◌, ℕ, ◌+◌, ◌-◌, true, get_or, take, drop, map, slice_get, Option, Some, IfSome, List, [], ◌∷◌, ◌++◌, length, refl, sym, ap, ◌∙◌, subst, arith, append-nil, length-append}
+use Rattle.std.proofs.Common.{◌≡◌, ℕ, ◌+◌, ◌-◌, Bool, true, get_or, take, drop, map, slice_get, Option, Some, IfSome, List, [], ◌∷◌, ◌++◌, length, refl, sym, ap, ◌∙◌, subst, arith, append-nil, length-append}
 use Rattle.std.specs.List.{AllByRecursion, AllZip}
 use Rattle.std.proofs.lemmas.List.{map-append, length-map, drop_all, take_all}
+use mathlib.Core.List.{IsPrefix}
 use Rattle.wp_edge.specs.declared.disk.Disk.{Ghosts}
-use Rattle.wp_model.specs.Controller.{ControllerCall, Look, delay}
+use Rattle.wp_model.specs.Controller.{ControllerCall, Look, HoldUp, delay}
 use Rattle.wp_model.specs.Grouping.{size_of}
-use Rattle.wp_model.specs.Replies.{HoldUp}
 use Rattle.wp_model.specs.Tokens.{tokens_of}
 use Rattle.log_writer.specs.declared.writer.LogWriter.{LogWriter}
 use Rattle.log_writer.specs.Words.{fault_of}
@@ -22,7 +22,7 @@ use Rattle.group_rule.specs.Commits.{Commit, held_up}
 use Rattle.group_rule.specs.Consistent.{AreConsistent}
 use Rattle.group_rule.specs.Entries.{SeesMore}
 use Rattle.group_rule.specs.LogCalls.{SyncsFor}
-use Rattle.group_rule.specs.Plans.{item_of_request, all_held_up, AreLawful, AreLogged, AreUnlogged, ComesAfter, IsAskedFor, IsWholeGroup, MayNotWait}
+use Rattle.group_rule.specs.Plans.{CommitRequest, item_of_request, all_held_up, AreLawful, AreLogged, AreUnlogged, ComesAfter, IsAskedFor, IsWholeGroup, LetsProceed, MayNotWait, ProceedsWith}
 use Rattle.group_rule.proofs.OneGroup.{prefix_trans}
 use Rattle.group_rule.proofs.Steps.{consistent_held_up}
 use Rattle.group_engine.specs.declared.requests.Delay.{Delay}
@@ -31,7 +31,7 @@ use Rattle.group_engine.specs.declared.requests.Reply.{Reply}
 use Rattle.group_engine.specs.Asking.{HasAskedFor, OnlyLooks, all_seen}
 use Rattle.group_engine.specs.Handled.{ComesBack, HandsBack, InOrder, IsDelayed, IsHeldUp, IsNotHeldUp, IsReplyOf, ShowsDelay, answer_in, commit_of, commit_request_of, commit_requests_of, handled_with, noted_in, seen_at, seen_for}
 use Rattle.group_engine.specs.Law.{StandsFor}
-use Rattle.group_engine.specs.Led.{IsLedGroup, LeadsBy}
+use Rattle.group_engine.specs.Led.{AreAlike, IsLedGroup, LeadsBy}
 use Rattle.group_engine.specs.Serving.{IsReplyAt}
 use Rattle.group_engine.proofs.Views.{Saw, unnoted, unseen_commits}
 
@@ -99,6 +99,26 @@ module _ (k : ℕ) (seen asked after : List ControllerCall) (requests : List (�
 pub looks_sees : (k : ℕ) (seen middle after : List ControllerCall) → SeesMore k seen middle → OnlyLooks k middle after → SeesMore k seen after
 looks_sees k seen middle after s o = record { begins = prefix_trans seen middle after s.begins o.begins; tokens = o.tokens ∙ s.tokens }
 
+-- What lets the leader go on
+
+lets_all : (k : ℕ) (numbers : Look) (known went : List ControllerCall) (b : Bool) (asks : List CommitRequest) → LetsProceed k numbers known went b → AreAlike b asks
+    → AllByRecursion (λ (a : CommitRequest). LetsProceed k numbers known went a.options.no_slowdown) asks
+lets_all k numbers known went b [] lets same = tt
+lets_all k numbers known went b (a ∷ asks) lets same = (subst (LetsProceed k numbers known went) (sym same.0) lets, lets_all k numbers known went b asks lets same.1)
+
+-- lets all of its group
+pub proceeds : (k : ℕ) (numbers : Look) (known went : List ControllerCall) (group_bytes clients : ℕ) (requests : List (ℕ × Request)) (led : IsLedGroup group_bytes clients requests) → LeadsBy k requests → IsPrefix known went
+    → LetsProceed k numbers known went led.first.1.options.no_slowdown → ProceedsWith (commit_requests_of requests) numbers known went
+proceeds k numbers known went group_bytes clients requests led leads begins lets =
+    let own : led.first.0 ≡ k = subst (LeadsBy k) led.leads leads in
+    record {
+      leader = commit_request_of led.first;
+      rest = commit_requests_of led.rest;
+      leads = ap commit_requests_of led.leads;
+      begins = begins;
+      each = lets_all led.first.0 numbers known went led.first.1.options.no_slowdown (commit_requests_of requests) (subst (λ (j : ℕ). LetsProceed j numbers known went led.first.1.options.no_slowdown) (sym own) lets) led.slowdown;
+    }
+
 -- Requests whose notes were taken
 
 pub led_unnoted : (group_bytes clients : ℕ) (requests : List (ℕ × Request)) → IsLedGroup group_bytes clients requests → IsLedGroup group_bytes clients (all_seen requests)
@@ -113,7 +133,7 @@ led_unnoted group_bytes clients requests led =
       logged = λ e. subst AreLogged same (led.logged e);
       unlogged = λ e. subst AreUnlogged same (led.unlogged e);
       syncs = subst (λ cs. SyncsFor cs led.first.1.options.sync) same led.syncs;
-      slowdown = λ e. subst MayNotWait same (led.slowdown e);
+      slowdown = subst (AreAlike led.first.1.options.no_slowdown) same led.slowdown;
     }
 
 -- the first, as it is read

@@ -21,7 +21,7 @@ use Rattle.group_rule.specs.Commits.{Commit}
 use Rattle.group_rule.specs.Consistent.{AreConsistent, Publishes}
 use Rattle.group_rule.specs.Entries.{versions_made}
 use Rattle.group_rule.specs.LogCalls.{SyncsFor, WritesBatches}
-use Rattle.group_rule.specs.Plans.{AreLawful, AreUnlogged, ComesAfter, CommitRequest, IsAskedFor, IsWholeGroup, batches_from, last_with_all, versions_from}
+use Rattle.group_rule.specs.Plans.{AreLawful, AreUnlogged, ComesAfter, CommitRequest, IsAskedFor, IsWholeGroup, ProceedsWith, batches_from, last_with_all, versions_from}
 use Rattle.group_engine.proofs.Replies.{commits_failed, commits_planned, map_append}
 use Rattle.group_rule.proofs.Reaching.{last_bound, versions_length}
 use Rattle.group_rule.proofs.Steps.{consistent_accepted, consistent_after_fault, consistent_with_fault}
@@ -42,39 +42,39 @@ module _ {D : Type 0} {ghosts : Ghosts D} {T U : Type 0} (our_turn : T → U →
     pub history_end : last_of start (history turn) ≡ last
     history_end = ap (λ vs. start + length vs) (sym (images_versions versions_made (map commit_of hs) (history turn) s.consistent.images)) ∙ (versions_length start None (map commit_of hs) s.consistent.answered ∙ sym s.consistent.last_is)
 
-    -- a whole group, for which the delay was asked after those before
+    -- a whole group, for which the delay was asked after those before, and which goes on with what the leader has seen
     module _ (xs : List (ℕ × Request)) (lawful : AreLawful clients (commit_requests_of xs)) (whole : IsWholeGroup group_bytes (commit_requests_of xs)) (delay : Delay) (numbers : Look)
-        (is_asked : IsAskedFor (commit_requests_of xs) numbers (seen_at delay)) (comes : ComesAfter asked (seen_at delay)) where
-      pub stands_dead : (n : ℕ) → fault_of log ≡ Some n → Stands (seen_at delay) log turn last (hs ++ handled_with xs (failures delay n xs))
+        (is_asked : IsAskedFor (commit_requests_of xs) numbers (seen_at delay)) (comes : ComesAfter asked (seen_at delay)) (went : List ControllerCall) (proceeds : ProceedsWith (commit_requests_of xs) numbers (seen_at delay) went) where
+      pub stands_dead : (n : ℕ) → fault_of log ≡ Some n → Stands went log turn last (hs ++ handled_with xs (failures delay n xs))
       stands_dead n dead =
           let old = subst (λ f. AreConsistent start clients group_bytes asked (map commit_of hs) last f (history turn) s.calls) dead s.consistent in
-          let new = consistent_after_fault start clients group_bytes (map commit_of hs) last (history turn) s.calls (commit_requests_of xs) asked (seen_at delay) numbers lawful whole is_asked comes n old in
+          let new = consistent_after_fault start clients group_bytes (map commit_of hs) last (history turn) s.calls (commit_requests_of xs) asked (seen_at delay) numbers lawful whole is_asked comes went proceeds n old in
           let commits = map_append commit_of hs (handled_with xs (failures delay n xs)) ∙ ap (λ l. map commit_of hs ++ l) (commits_failed delay n xs) in
-          record { our = s.our; calls = s.calls; wrote = s.wrote; consistent = subst (λ (z : List Commit × Option ℕ). AreConsistent start clients group_bytes (seen_at delay) z.0 last z.1 (history turn) s.calls) (λ i. (sym commits i, sym dead i)) new }
+          record { our = s.our; calls = s.calls; wrote = s.wrote; consistent = subst (λ (z : List Commit × Option ℕ). AreConsistent start clients group_bytes went z.0 last z.1 (history turn) s.calls) (λ i. (sym commits i, sym dead i)) new }
 
-      pub stands_failed : fault_of log ≡ None → (n : ℕ) (c : GroupCall) (log' : LogWriter D ghosts) → Adds c log log' → WritesBatches last (commit_requests_of xs) c → c.failed ≡ Some n → Stands (seen_at delay) log' turn last (hs ++ handled_with xs (failures delay n xs))
+      pub stands_failed : fault_of log ≡ None → (n : ℕ) (c : GroupCall) (log' : LogWriter D ghosts) → Adds c log log' → WritesBatches last (commit_requests_of xs) c → c.failed ≡ Some n → Stands went log' turn last (hs ++ handled_with xs (failures delay n xs))
       stands_failed alive n c log' adds writes failed_is =
           let old = subst (λ f. AreConsistent start clients group_bytes asked (map commit_of hs) last f (history turn) s.calls) alive s.consistent in
-          let new = consistent_with_fault start clients group_bytes (map commit_of hs) last (history turn) s.calls (commit_requests_of xs) asked (seen_at delay) numbers lawful whole is_asked comes n old c writes failed_is in
+          let new = consistent_with_fault start clients group_bytes (map commit_of hs) last (history turn) s.calls (commit_requests_of xs) asked (seen_at delay) numbers lawful whole is_asked comes went proceeds n old c writes failed_is in
           let commits = map_append commit_of hs (handled_with xs (failures delay n xs)) ∙ ap (λ l. map commit_of hs ++ l) (commits_failed delay n xs) in
           let stops = subst (λ f. MatchOption f (Grows (record_text None (len_of log) (record_of_call c)) log log') (Stops log log')) failed_is (adds.kept alive) in
-          record { our = s.our; calls = s.calls ++ c ∷ []; wrote = one_more c s.wrote adds; consistent = subst (λ (z : List Commit × Option ℕ). AreConsistent start clients group_bytes (seen_at delay) z.0 last z.1 (history turn) (s.calls ++ c ∷ [])) (λ i. (sym commits i, sym stops.fault i)) new }
+          record { our = s.our; calls = s.calls ++ c ∷ []; wrote = one_more c s.wrote adds; consistent = subst (λ (z : List Commit × Option ℕ). AreConsistent start clients group_bytes went z.0 last z.1 (history turn) (s.calls ++ c ∷ [])) (λ i. (sym commits i, sym stops.fault i)) new }
 
       pub stands_written : fault_of log ≡ None → (log' : LogWriter D ghosts) (turn' : U) → our_turn table turn' → LogsOn last (commit_requests_of xs) log log' → Publishes (versions_from last (commit_requests_of xs)) (history turn) (history turn')
-          → Stands (seen_at delay) log' turn' (last_with_all last (commit_requests_of xs)) (hs ++ handled_with xs (replies_of delay last (last_with_all last (commit_requests_of xs)) xs))
+          → Stands went log' turn' (last_with_all last (commit_requests_of xs)) (hs ++ handled_with xs (replies_of delay last (last_with_all last (commit_requests_of xs)) xs))
       stands_written alive log' turn' our logs published =
           let old = subst (λ f. AreConsistent start clients group_bytes asked (map commit_of hs) last f (history turn) s.calls) alive s.consistent in
           let end = last_with_all last (commit_requests_of xs) in
           let commits = map_append commit_of hs (handled_with xs (replies_of delay last end xs)) ∙ ap (λ l. map commit_of hs ++ l) (commits_planned delay last end xs) in
           ⊎_elim
           (λ (t : (log' ≡ log) × (AreUnlogged (commit_requests_of xs) ⊎ (batches_from last (commit_requests_of xs) ≡ []))).
-          let new = consistent_accepted start clients group_bytes asked (seen_at delay) (map commit_of hs) last (history turn) s.calls old (commit_requests_of xs) lawful numbers whole is_asked comes (history turn') s.calls published (inl (refl, t.1)) in
-          record { our = our; calls = s.calls; wrote = subst (Wrote opened s.calls) (sym t.0) s.wrote; consistent = subst (λ (z : List Commit × Option ℕ). AreConsistent start clients group_bytes (seen_at delay) z.0 end z.1 (history turn') s.calls) (λ i. (sym commits i, sym (ap fault_of t.0 ∙ alive) i)) new })
+          let new = consistent_accepted start clients group_bytes asked (seen_at delay) went (map commit_of hs) last (history turn) s.calls old (commit_requests_of xs) lawful numbers whole is_asked comes proceeds (history turn') s.calls published (inl (refl, t.1)) in
+          record { our = our; calls = s.calls; wrote = subst (Wrote opened s.calls) (sym t.0) s.wrote; consistent = subst (λ (z : List Commit × Option ℕ). AreConsistent start clients group_bytes went z.0 end z.1 (history turn') s.calls) (λ i. (sym commits i, sym (ap fault_of t.0 ∙ alive) i)) new })
           (λ (t : (c : GroupCall) × Adds c log log' × WritesBatches last (commit_requests_of xs) c × SyncsFor (commit_requests_of xs) c.sync × (c.failed ≡ None)).
           let c = t.0 in
           let grows = subst (λ f. MatchOption f (Grows (record_text None (len_of log) (record_of_call c)) log log') (Stops log log')) t.4 (t.1.kept alive) in
-          let new = consistent_accepted start clients group_bytes asked (seen_at delay) (map commit_of hs) last (history turn) s.calls old (commit_requests_of xs) lawful numbers whole is_asked comes (history turn') (s.calls ++ c ∷ []) published (inr (c, refl, t.2, t.3, t.4)) in
-          record { our = our; calls = s.calls ++ c ∷ []; wrote = one_more c s.wrote t.1; consistent = subst (λ (z : List Commit × Option ℕ). AreConsistent start clients group_bytes (seen_at delay) z.0 end z.1 (history turn') (s.calls ++ c ∷ [])) (λ i. (sym commits i, sym grows.fault i)) new })
+          let new = consistent_accepted start clients group_bytes asked (seen_at delay) went (map commit_of hs) last (history turn) s.calls old (commit_requests_of xs) lawful numbers whole is_asked comes proceeds (history turn') (s.calls ++ c ∷ []) published (inr (c, refl, t.2, t.3, t.4)) in
+          record { our = our; calls = s.calls ++ c ∷ []; wrote = one_more c s.wrote t.1; consistent = subst (λ (z : List Commit × Option ℕ). AreConsistent start clients group_bytes went z.0 end z.1 (history turn') (s.calls ++ c ∷ [])) (λ i. (sym commits i, sym grows.fault i)) new })
           logs
 
 pub none_of : {A B : Type 0} (f : A → B) (xs : List A) → map f xs ≡ [] → xs ≡ []

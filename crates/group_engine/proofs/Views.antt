@@ -1,5 +1,5 @@
 -- What a leader's view of the write controller comes to while it asks for its group.
-use Rattle.std.proofs.Common.{◌≡◌, ◌≢◌, ℕ, zero, suc, ◌<◌, ◌≤◌, List, [], ◌∷◌, ◌++◌, map, take, drop, get_or, Option, Some, None, IfSome, length, refl, sym, ap, ◌∙◌, subst, arith, append_assoc, append-nil}
+use Rattle.std.proofs.Common.{◌≡◌, ◌≢◌, inr, ℕ, zero, suc, ◌<◌, ◌≤◌, false, List, [], ◌∷◌, ◌++◌, map, take, drop, get_or, Option, Some, None, IfSome, length, refl, sym, ap, ◌∙◌, subst, arith, append_assoc, append-nil, length-append}
 use Rattle.std.specs.List.{AllByRecursion, AllZip}
 use Rattle.std.proofs.Props.{props}
 use mathlib.Core.List.{IsPrefix}
@@ -17,10 +17,10 @@ use Rattle.write_controller.specs.declared.pass.Note.{Note}
 use Rattle.write_controller.specs.declared.pass.Pass.{Pass}
 use Rattle.write_controller.specs.Rule.{seen_in}
 use Rattle.crossbeam_utils.specs.Seq.{cell_view}
-use Rattle.write_controller.proofs.Account.{ends_begins, ends_tokens}
+use Rattle.write_controller.proofs.Account.{ends_begins, ends_last, ends_tokens}
 use Rattle.write_controller.proofs.Places.{ends_delays}
 use Rattle.write_controller.proofs.Histories.{legal_from}
-use Rattle.group_rule.specs.Plans.{CommitRequest, item_of_request}
+use Rattle.group_rule.specs.Plans.{CommitRequest, item_of_request, LetsProceed}
 use Rattle.group_rule.proofs.OneGroup.{all_append, prefix_trans}
 use Rattle.group_engine.specs.declared.requests.Delay.{Delay}
 use Rattle.group_engine.specs.declared.requests.Request.{Request}
@@ -159,6 +159,17 @@ only_more client seen middle after told o e = record {
   tokens = ends_tokens client middle look told after e ∙ (append-nil (tokens_of client middle) ∙ o.tokens);
   delays = ends_delays client middle look told after e ∙ (append-nil (delays_of client middle) ∙ o.delays);
 }
+
+-- a look that tells of no stop lets a group that may wait go on
+pub looked_free : (client : ℕ) (known middle after : List ControllerCall) (first numbers : Look) → IsPrefix known middle → EndsWith client middle look (Some numbers) after → numbers.stops ≡ 0 → LetsProceed client first known after false
+looked_free client known middle after first numbers p e free =
+    let last = ends_last client middle look (Some numbers) after e in
+    inr record {
+      place = last.place;
+      numbers = numbers;
+      is_later = record { later = (let l = ap length p.1 in let n = length-append known p.0 in let m = last.is_later.later in omega (arith, l, n, m)); there = last.is_later.there };
+      free = free;
+    }
 
 -- Lists
 

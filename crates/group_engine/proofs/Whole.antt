@@ -165,5 +165,5 @@ led_of law coded max n own group left whole low high within =
       logged = λ e. (e, weaker (λ (a : CommitRequest). (a.options.no_log ≡ own.asked.options.no_log) × (a.options.sync ≡ true → own.asked.options.sync ≡ true) × (a.options.no_slowdown ≡ own.asked.options.no_slowdown)) (λ (a : CommitRequest). a.options.no_log ≡ false) (λ a t. t.0 ∙ e) (commit_requests_of ts) flags);
       unlogged = λ e. (e, weaker (λ (a : CommitRequest). (a.options.no_log ≡ own.asked.options.no_log) × (a.options.sync ≡ true → own.asked.options.sync ≡ true) × (a.options.no_slowdown ≡ own.asked.options.no_slowdown)) (λ (a : CommitRequest). a.options.no_log ≡ true) (λ a t. t.0 ∙ e) (commit_requests_of ts) flags);
       syncs = ((λ e. e), weaker (λ (a : CommitRequest). (a.options.no_log ≡ own.asked.options.no_log) × (a.options.sync ≡ true → own.asked.options.sync ≡ true) × (a.options.no_slowdown ≡ own.asked.options.no_slowdown)) (λ (a : CommitRequest). a.options.sync ≡ true → own.asked.options.sync ≡ true) (λ a t. t.1) (commit_requests_of ts) flags);
-      slowdown = λ e. (e, weaker (λ (a : CommitRequest). (a.options.no_log ≡ own.asked.options.no_log) × (a.options.sync ≡ true → own.asked.options.sync ≡ true) × (a.options.no_slowdown ≡ own.asked.options.no_slowdown)) (λ (a : CommitRequest). a.options.no_slowdown ≡ true) (λ a t. t.2 ∙ e) (commit_requests_of ts) flags);
+      slowdown = (refl, weaker (λ (a : CommitRequest). (a.options.no_log ≡ own.asked.options.no_log) × (a.options.sync ≡ true → own.asked.options.sync ≡ true) × (a.options.no_slowdown ≡ own.asked.options.no_slowdown)) (λ (a : CommitRequest). a.options.no_slowdown ≡ own.asked.options.no_slowdown) (λ a t. t.2) (commit_requests_of ts) flags);
     }

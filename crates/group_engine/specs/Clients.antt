@@ -15,7 +15,7 @@ use Rattle.write_controller.specs.declared.controller.Controller.{Controller}
 use Rattle.write_controller.specs.declared.pass.Pass.{Pass}
 use Rattle.write_controller.specs.Passes.{seen_by, IsPassOf, IsOthersOf, clients_of as controller_clients, client_of as pass_client}
 use Rattle.writer_list.specs.Rooms.{AreReady}
-use Rattle.writer_list.specs.Seats.{client_of, clients_of, about_of, start_of, piped_of, Belongs, IsOut, told}
+use Rattle.writer_list.specs.Seats.{bound_of, client_of, clients_of, about_of, start_of, piped_of, Belongs, IsOut, told}
 use Rattle.account_model.specs.Accounts.{Account}
 use Rattle.group_rule.specs.Commits.{Commit}
 use Rattle.group_rule.specs.Asked.{HasAsked}
@@ -58,7 +58,7 @@ module _ {D T C S U P : Type 0} {ghosts : Ghosts D} where
       pub start : (about_of e.list).start ≡ (opening e.table).start
       pub start_number : start_of e.list ≡ (opening e.table).start
       pub about_clients : (about_of e.list).clients ≡ clients_of e.list
-      pub group_bytes : (about_of e.list).group_bytes ≡ e.group_bytes
+      pub group_bytes : (about_of e.list).group_bytes ≡ bound_of e.list
       pub pipelined : (about_of e.list).pipelined ≡ piped_of e.list
       pub low : (opening e.table).start ≤ max_sequence
       pub few : clients_of e.list < 255
@@ -94,7 +94,7 @@ module _ {D T C S U P : Type 0} {ghosts : Ghosts D} where
     settings_of e = record {
       start = (opening e.table).start;
       clients = clients_of e.list;
-      group_bytes = e.group_bytes;
+      group_bytes = bound_of e.list;
       batch_bytes = e.batch_bytes;
       opened = ghosts.faults (disk_of (opened_log e));
     }

@@ -14,8 +14,8 @@ use Rattle.group_rule.specs.LogCalls.{WroteParts}
 use Rattle.write_batch.specs.Contents.{Contents}
 use Rattle.list_rule.specs.declared.view.Handling.{Handling}
 use Rattle.wp_model.specs.Controller as calls
-use Rattle.wp_model.specs.Controller.{ControllerCall, Look}
-use Rattle.wp_model.specs.Replies.{HoldUp, IsLater}
+use Rattle.wp_model.specs.Controller.{ControllerCall, Look, HoldUp}
+use Rattle.wp_model.specs.Replies.{IsLater}
 use Rattle.std.specs.declared.snapshot.Snapshot.{Snapshot}
 use Rattle.write_controller.specs.declared.controller.Controller.{Controller}
 use Rattle.write_controller.specs.declared.pass.Note.{Note}

@@ -25,8 +25,8 @@ use Rattle.group_engine.specs.Handled.{AreHandled, commit_of}
 use Rattle.group_engine.specs.Staged.{published_with}
 
 -- The right to launch is the table's, calls have written the log since it was opened, and log, table and the last
--- sequence given are what the requests that were handled made. `asked` is the controller's history up to the delay of
--- the last group.
+-- sequence given are what the requests that were handled made. `asked` is the controller's history as the last leader
+-- had seen it when its group went on or was refused.
 pub record StandsFor {D : Type 0} {ghosts : Ghosts D} {T U : Type 0} (our_turn : T → U → Type 0)
     (history : U → List (List MemberVersions)) (table : T) (opened : LogWriter D ghosts)
     (start clients group_bytes : ℕ) (asked : List ControllerCall) (log : LogWriter D ghosts) (turn : U) (last : ℕ)

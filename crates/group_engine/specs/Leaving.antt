@@ -13,7 +13,7 @@ use Rattle.list_rule.specs.Chain.{heads, all_answers, of}
 use Rattle.list_rule.specs.Laws.{asks_for, last_run}
 use Rattle.writer_list.specs.Roles.{AreMembers, pays}
 use Rattle.writer_list.specs.Rooms.{HasRoom, TakesRequests}
-use Rattle.writer_list.specs.Seats.{about_of, client_of, clients_of, flat_of, start_of, told, Belongs, HasGroup}
+use Rattle.writer_list.specs.Seats.{bound_of, about_of, client_of, clients_of, flat_of, start_of, told, Belongs, HasGroup}
 use Rattle.write_controller.specs.declared.controller.Controller.{Controller}
 use Rattle.write_controller.specs.Passes.{seen_by}
 use Rattle.group_rule.specs.Asked.{HasAsked}
@@ -55,7 +55,7 @@ module _ {D T C G S U P : Type 0} {ghosts : Ghosts D} (opening : T → Opening) 
       pub p : Reply
       pub has : HasGroup (asks_for (λ (q : Request). item_with q.batch.records q.options)
           (λ (a : About D T C ghosts) (q : Request). IsNoted a.controller.value q) (about_of e.list))
-          (clients_of e.list) e.group_bytes own group left seen (told w.writer) w.writer
+          (clients_of e.list) (bound_of e.list) own group left seen (told w.writer) w.writer
       pub told_is : told w.writer ≡ mine
       pub heads_are : heads gs ≡ group
       pub pays_are : w.lists.replies.list.items ≡ pays own p gs

@@ -4,7 +4,7 @@ use Rattle.std.specs.List.{AllByRecursion}
 use Rattle.wp_edge.specs.declared.disk.Disk.{Ghosts}
 use Rattle.table_rule.specs.declared.view.Opening.{Opening}
 use Rattle.table_calls.specs.Account.{Account as TableAccount, IsReady}
-use Rattle.writer_list.specs.Seats.{clients_of}
+use Rattle.writer_list.specs.Seats.{bound_of, clients_of}
 use Rattle.write_controller.specs.Delays.{delays_of}
 use Rattle.write_controller.specs.Passes.{seen_by, IsPassOf, client_of as pass_client}
 use Rattle.group_rule.specs.Entries.{SeesMore}
@@ -38,7 +38,7 @@ module _ {D T C G S U P : Type 0} {ghosts : Ghosts D} (opening : T → Opening) 
   pub record IsToServe (c : Client D T C S U P ghosts) : Type 0 where
     pub seats : HasSeats c
     pub layout : IsRoomy (clients_of e.list) c.layout
-    pub led : IsLedGroup e.group_bytes (clients_of e.list) c.lists.requests.list.items
+    pub led : IsLedGroup (bound_of e.list) (clients_of e.list) c.lists.requests.list.items
     pub leads : LeadsBy c.number c.lists.requests.list.items
     pub notes : AllByRecursion (λ (x : ℕ × Request). IsNoted e.controller x.1) c.lists.requests.list.items
     pub few : length c.lists.requests.list.items ≤ clients_of e.list

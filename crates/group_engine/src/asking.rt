@@ -1,12 +1,12 @@
 //! What a leader asks of the write controller, and how its group waits or is refused.
 
-ghost use Rattle.std.specs.Prelude.{◌≡◌, ◌≤◌, ◌<◌, ℕ, List, [], true, length, map, vec_capacity};
+ghost use Rattle.std.specs.Prelude.{◌≡◌, ◌≤◌, ◌<◌, ℕ, List, [], false, true, length, map, vec_capacity};
 ghost use Rattle.std.specs.List.{AllByRecursion, AllZip};
+ghost use Rattle.wp_model.specs.Controller.{HoldUp};
 ghost use Rattle.wp_model.specs.Grouping.{size_of};
-ghost use Rattle.wp_model.specs.Replies.{HoldUp};
 ghost use Rattle.write_controller.specs.Looks.{look_of};
 ghost use Rattle.write_controller.specs.Passes.{client_of, seen_by, noted, IsPassOf, IsNoteOf, GoesOn};
-ghost use Rattle.group_rule.specs.Plans.{item_of_request};
+ghost use Rattle.group_rule.specs.Plans.{item_of_request, LetsProceed};
 ghost use Rattle.group_engine.specs.Handled.{commit_requests_of, seen_at, held_up_with, IsNoted, IsHeldUp};
 ghost use Rattle.group_engine.specs.Asking.{HasAskedFor, HasLearned, OnlyLooks, all_seen};
 
@@ -24,7 +24,7 @@ use write_controller::{Controller, Look, Note, Pass};
 const PAUSE: u64 = 1000;
 
 /// Asks for the delay of a group, of the sum of its sizes. Before that the leader's pass sees what the leaders before
-/// it and the members had seen. What it has seen then is noted for the next leader.
+/// it and the members had seen.
 pub(crate) fn ask<C: Clock, R: Wait>(
     rt: &R,
     controller: &Controller<C>,
@@ -32,22 +32,20 @@ pub(crate) fn ask<C: Clock, R: Wait>(
     clock: &mut C,
     before: Note,
     requests: &mut [(u32, Request)],
-) -> (Look, Note)
+) -> Look
     requires pass { IsPassOf controller.now pass.old }
     requires notes { IsNoteOf controller.now before
         × AllByRecursion (λ (x : ℕ × _). IsNoted controller.now x.1) requests.old }
     requires few { length requests.old < 255 }
     ensures pass { IsPassOf controller.now pass.new × (client_of pass.new ≡ client_of pass.old) }
-    ensures asked { HasAskedFor (client_of pass.old) (seen_by pass.old) (noted before) requests.old (look_of result.0)
+    ensures asked { HasAskedFor (client_of pass.old) (seen_by pass.old) (noted before) requests.old (look_of result)
         (seen_by pass.new) }
-    ensures note { IsNoteOf controller.now result.1 × (noted result.1 ≡ seen_by pass.new) }
     ensures requests { requests.new ≡ all_seen requests.old }
 {
     controller.learn(rt, pass, before);
     learn_all(rt, controller, pass, requests);
     let bytes = bytes_of(requests);
-    let look = controller.delay(rt, pass, clock, bytes);
-    (look, controller.note(pass))
+    controller.delay(rt, pass, clock, bytes)
 }
 
 /// Lets the leader's pass see what the members had seen.
@@ -84,15 +82,40 @@ fn bytes_of(requests: &[(u32, Request)]) -> u64
 }
 
 /// Whether writes are held up.
-pub(crate) fn holds_up(look: Look) -> bool
+fn holds_up(look: Look) -> bool
     ensures held_up { result ≡ true → HoldUp (look_of look) }
     ensures free { HoldUp (look_of look) → result ≡ true }
 {
     look.stops() > 0 || (look.delays() > 0 && look.wait() > 0)
 }
 
+/// Whether a group goes on. One that may wait waits first, and always does. One that may not does where writes aren't
+/// held up.
+pub(crate) fn may_proceed<C: Clock, R: Wait>(
+    rt: &R,
+    controller: &Controller<C>,
+    pass: &mut Pass,
+    clock: &mut C,
+    look: Look,
+    no_slowdown: bool,
+) -> bool
+    requires pass { IsPassOf controller.now pass.old }
+    ensures pass { IsPassOf controller.now pass.new × (client_of pass.new ≡ client_of pass.old) }
+    ensures looks { OnlyLooks (client_of pass.old) (seen_by pass.old) (seen_by pass.new) }
+    ensures proceeds { result ≡ true
+        → LetsProceed (client_of pass.old) (look_of look) (seen_by pass.old) (seen_by pass.new) no_slowdown }
+    ensures refused { result ≡ false
+        → (no_slowdown ≡ true) × HoldUp (look_of look) × (seen_by pass.new ≡ seen_by pass.old) }
+{
+    if no_slowdown {
+        return !holds_up(look);
+    }
+    wait_out(rt, controller, pass, clock, look);
+    true
+}
+
 /// Waits as long as the group was told, and then while writes are stopped.
-pub(crate) fn wait_out<C: Clock, R: Wait>(
+fn wait_out<C: Clock, R: Wait>(
     rt: &R,
     controller: &Controller<C>,
     pass: &mut Pass,
@@ -102,11 +125,13 @@ pub(crate) fn wait_out<C: Clock, R: Wait>(
     requires pass { IsPassOf controller.now pass.old }
     ensures pass { IsPassOf controller.now pass.new × (client_of pass.new ≡ client_of pass.old) }
     ensures looks { OnlyLooks (client_of pass.old) (seen_by pass.old) (seen_by pass.new) }
+    ensures proceeds { LetsProceed (client_of pass.old) (look_of look) (seen_by pass.old) (seen_by pass.new) false }
 {
     if look.wait() > 0 {
         clock.pause(look.wait());
     }
     let mut stops = look.stops();
+    // `stops` is what the delay told, or the newest look behind it.
     for _ in rt.forever() {
         if stops == 0 {
             return;

@@ -24,10 +24,10 @@ impl<D: Disk, T: Table<Nodes, Parts>, C: Clock + Drop, G: Gate + Drop> Engine
     ghost use Rattle.wp_model.specs.Trace.{Trace};
     ghost use Rattle.wp_model.specs.Groups.{Group};
     ghost use Rattle.account_model.specs.Closing.{AreOurs, all_attempts, IsClosing};
-    ghost use Rattle.account_model.specs.Written.{WritesLog};
+    ghost use Rattle.run_model.specs.Written.{WritesLog};
     ghost use Rattle.log_writer.specs.Words.{fault_of, disk_of};
     ghost use Rattle.log_writer.specs.Written.{Wrote};
-    ghost use Rattle.writer_list.specs.Seats.{clients_of};
+    ghost use Rattle.writer_list.specs.Seats.{bound_of, clients_of};
     ghost use Rattle.group_engine.specs.Clients.{IsClientOf, HasRoomToClose, account_in, settings_of, opened_log};
 
     ghost settings = { λ e. settings_of T.opening T.ours T.account e };
@@ -114,8 +114,8 @@ impl<D: Disk, T: Table<Nodes, Parts>, C: Clock + Drop, G: Gate + Drop> Engine
             (trace : Trace) × (groups : List Group)
             × IsClosing (settings_of T.opening T.ours T.account self) (D.faults (disk_of result.log)) trace groups
             accounts result.last (fault_of result.log)
-            × WritesLog self.group_bytes (Wrote (opened_log self)) trace (all_attempts accounts) (fault_of result.log)
-            result.log }
+            × WritesLog (bound_of self.list) (λ calls. Wrote (opened_log self) calls result.log) trace (all_attempts accounts)
+            (fault_of result.log) }
     {
         self.close(rt, clients)
     }

@@ -78,8 +78,8 @@ impl<D: Disk, T: Table<Nodes, Parts>, C: Clock + Drop, G: Gate + Drop> GroupEngi
     ghost use Rattle.log_writer.specs.Words.{fault_of, disk_of};
     ghost use Rattle.log_writer.specs.Written.{Wrote};
     ghost use Rattle.account_model.specs.Closing.{AreOurs, all_attempts, IsClosing};
-    ghost use Rattle.account_model.specs.Written.{WritesLog};
-    ghost use Rattle.writer_list.specs.Seats.{clients_of};
+    ghost use Rattle.run_model.specs.Written.{WritesLog};
+    ghost use Rattle.writer_list.specs.Seats.{bound_of, clients_of};
     ghost use Rattle.group_engine.specs.Clients.{IsClientOf, account_in, settings_of, opened_log, HasRoomToClose};
 
     /// Gives the log up. All clients are handed in. Of all that they wrote and read there is one trace, and the log was
@@ -96,8 +96,8 @@ impl<D: Disk, T: Table<Nodes, Parts>, C: Clock + Drop, G: Gate + Drop> GroupEngi
             (trace : Trace) × (groups : List Group)
             × IsClosing (settings_of T.opening T.ours T.account self) (D.faults (disk_of result.log)) trace groups
             accounts result.last (fault_of result.log)
-            × WritesLog self.group_bytes (Wrote (opened_log self)) trace (all_attempts accounts) (fault_of result.log)
-            result.log }
+            × WritesLog (bound_of self.list) (λ calls. Wrote (opened_log self) calls result.log) trace (all_attempts accounts)
+            (fault_of result.log) }
     {
         let GroupEngine {
             list,
@@ -105,7 +105,6 @@ impl<D: Disk, T: Table<Nodes, Parts>, C: Clock + Drop, G: Gate + Drop> GroupEngi
             controller,
             gate: _,
             alloc: _,
-            group_bytes: _,
             batch_bytes: _,
         } = self;
         let Clients {

@@ -17,7 +17,6 @@ pub struct GroupEngine<D: Disk, T: Table<Nodes, Parts>, C, G> {
     pub(crate) controller: Controller<C>,
     pub(crate) gate: G,
     pub(crate) alloc: Global,
-    pub(crate) group_bytes: u64,
     pub(crate) batch_bytes: u64,
 }
 

@@ -31,6 +31,7 @@ mod numbering;
 mod opening;
 mod reading;
 mod requests;
+mod seeing;
 mod tokens;
 mod writing;
 

@@ -13,7 +13,7 @@ ghost use Rattle.list_rule.specs.declared.view.Handling.{Handling};
 ghost use Rattle.group_engine.specs.declared.requests.Request.{Request as Asked};
 ghost use Rattle.group_engine.specs.declared.requests.Reply.{Reply as Told};
 ghost use Rattle.group_engine.specs.Handled.{HandsBack, IsReplyOf, commit_requests_of, seen_at, handled_with, InOrder};
-ghost use Rattle.group_rule.specs.Plans.{ComesAfter, IsAskedFor};
+ghost use Rattle.group_rule.specs.Plans.{ComesAfter, IsAskedFor, ProceedsWith};
 ghost use Rattle.group_engine.specs.Numbering.{AreBeside, AreEnough, answers, others_in};
 ghost use Rattle.group_engine.specs.Layout.{IsClear};
 ghost use Rattle.group_engine.specs.Law.{LogStandsFor};
@@ -70,13 +70,14 @@ pub(crate) fn log_phase<D: Disk>(
         × (length requests.old.items ≤ vec_capacity layout.old.batches)
         × (length requests.old.items ≤ vec_capacity layout.old.members) }
     requires replies { (replies.old.items ≡ []) × (length requests.old.items ≤ vec_capacity replies.old) }
-    ensures path { (opened : Log D ⟦<D as Disk>⟧) (start group_bytes : ℕ) (asked : List ControllerCall)
+    ensures path { (opened : Log D ⟦<D as Disk>⟧) (start group_bytes : ℕ) (asked went : List ControllerCall)
         (published : List (List MemberVersions)) (handled : List (Handling Asked Told)) (numbers : Numbers)
         → IsLedGroup group_bytes layout.old.parts.clients requests.old.items
         → ComesAfter asked (seen_at delay.now)
         → IsAskedFor (commit_requests_of requests.old.items) numbers (seen_at delay.now)
+        → ProceedsWith (commit_requests_of requests.old.items) numbers (seen_at delay.now) went
         → LogStandsFor opened start layout.old.parts.clients group_bytes asked path.log published path.last handled
-        → LogStandsFor opened start layout.old.parts.clients group_bytes (seen_at delay.now) result.0.log
+        → LogStandsFor opened start layout.old.parts.clients group_bytes went result.0.log
         (published_with result.1 layout.new.parts.parts published) result.0.last
         (handled ++ handled_with requests.old.items replies.new.items) }
     ensures staged { IsStaged leader layout.old.parts.clients path.last result.0.last result.1 layout.new.members.items

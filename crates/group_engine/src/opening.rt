@@ -204,6 +204,7 @@ impl<D: Disk, T: Table<Nodes, Parts>, C: Clock + Drop, G: Gate + Drop> GroupEngi
             clients: count,
             log: options.last,
             pipelined,
+            group_bytes: options.group_bytes,
             about: About {
                 table: Snapshot::of(&table),
                 controller: Snapshot::of(&controller),
@@ -233,7 +234,6 @@ impl<D: Disk, T: Table<Nodes, Parts>, C: Clock + Drop, G: Gate + Drop> GroupEngi
                     controller,
                     gate,
                     alloc,
-                    group_bytes: options.group_bytes,
                     batch_bytes: options.batch_bytes,
                 };
                 engine.gate.opened(engine.table.locks());

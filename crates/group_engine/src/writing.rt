@@ -1,14 +1,13 @@
 //! A client's write.
 
-ghost use Rattle.std.specs.Prelude.{◌≡◌, true, false, ◌≤◌, ℕ, List, [], ◌∷◌, ◌++◌, Ok, Err, IfOk, IfErr, IfSome, is_none};
-ghost use Rattle.table_rule.specs.Histories.{Begins, last_of};
+ghost use Rattle.std.specs.Prelude.{◌≡◌, true, false, ℕ, List, [], ◌∷◌, ◌++◌, Ok, Err, IfOk, IfErr, IfSome, is_none};
+ghost use Rattle.table_rule.specs.Histories.{Begins};
 ghost use Rattle.list_rule.specs.declared.view.Entry.{Entry};
 ghost use Rattle.list_rule.specs.declared.view.Handling.{Handling};
 ghost use Rattle.list_rule.specs.Chain.{of};
-ghost use mathlib.Core.List.{IsPrefix};
 ghost use Rattle.writer_list.specs.Seats.{Belongs, HasRole, IsChosen, IsIn, StandsStill, about_of, client_of, clients_of, told};
 ghost use Rattle.wp_model.specs.Tokens.{holds_stop};
-ghost use Rattle.write_controller.specs.Passes.{seen_by, asked_by, noted, IsNoteOf};
+ghost use Rattle.write_controller.specs.Passes.{seen_by, asked_by};
 ghost use Rattle.group_rule.specs.Asked.{HasAsked};
 ghost use Rattle.group_rule.specs.Entries.{SeesMore};
 ghost use Rattle.group_engine.specs.declared.requests.Request.{Request as Asked};
@@ -21,12 +20,13 @@ ghost use Rattle.group_engine.specs.Handled.{AreHandled, IsNoted, handled_with};
 ghost use Rattle.group_engine.specs.Clients.{IsClientOf, IsSeated, IsAnswered, told_of, own_commits, opened_log};
 ghost use Rattle.group_engine.specs.Serving.{IsToServe, IsServed};
 
-use crate::asking::{ask, holds_up, refuse_held_up, refused_by, wait_out};
+use crate::asking::{ask, may_proceed, refuse_held_up, refused_by};
 use crate::engine::{Client, GroupEngine};
 use crate::held::{Held, Right};
 use crate::leading::publish_alone;
 use crate::logging::log_phase;
 use crate::requests::{Delay, Reply, Request};
+use crate::seeing::await_above;
 use client_calls::{Measure, refusal_at_once};
 use crossbeam_utils::Backoff;
 use engine_calls::{Gate, Receipt, Refused};
@@ -39,7 +39,6 @@ use table_calls::Table;
 use wp_edge::{Clock, Disk};
 use wp_model::{Item, Refusal, WriteOptions};
 use write_batch::Batch;
-use write_controller::Note;
 use writer_list::{PipelinedRole, Role, Writer};
 
 impl<D: Disk, T: Table<Nodes, Parts>, C: Clock + Drop, G: Gate + Drop> GroupEngine<D, T, C, G> {
@@ -64,7 +63,6 @@ impl<D: Disk, T: Table<Nodes, Parts>, C: Clock + Drop, G: Gate + Drop> GroupEngi
         codes_stand_for_items();
         self.list.group(
             &mut client.writer,
-            self.group_bytes,
             &mut client.lists.requests,
             &mut client.lists.room,
         );
@@ -142,7 +140,7 @@ impl<D: Disk, T: Table<Nodes, Parts>, C: Clock + Drop, G: Gate + Drop> GroupEngi
         } = held;
         let requests = &mut client.lists.requests.list;
         let replies = &mut client.lists.replies.list;
-        let (look, asked) = ask(
+        let look = ask(
             rt,
             &self.controller,
             &mut client.pass,
@@ -153,9 +151,16 @@ impl<D: Disk, T: Table<Nodes, Parts>, C: Clock + Drop, G: Gate + Drop> GroupEngi
         let delay = Delay {
             pass: Snapshot::of(&client.pass),
         };
-        if !requests[0].1.options.no_slowdown {
-            wait_out(rt, &self.controller, &mut client.pass, &mut clock, look);
-        } else if holds_up(look) {
+        let proceeds = may_proceed(
+            rt,
+            &self.controller,
+            &mut client.pass,
+            &mut clock,
+            look,
+            requests[0].1.options.no_slowdown,
+        );
+        let asked = self.controller.note(&mut client.pass);
+        if !proceeds {
             refuse_held_up(
                 &self.controller,
                 &mut client.pass,
@@ -318,7 +323,7 @@ fn pause_for_sync() {
 impl<D: Disk, T: Table<Nodes, Parts>, C: Clock + Drop, G: Gate + Drop> GroupEngine<D, T, C, G> {
     ghost use Rattle.wp_model.specs.Batch as model;
     ghost use Rattle.account_model.specs.Accounts.{Wrote, Refuses};
-    ghost use Rattle.account_model.specs.Written.{HaveSynced};
+    ghost use Rattle.run_model.specs.Written.{IsSyncedBy};
     ghost use Rattle.log_writer.specs.declared.writer.LogWriter.{LogWriter as Log};
     ghost use Rattle.log_writer.specs.Written.{Wrote as WroteLog};
     ghost use Rattle.wp_model.specs.LogContents.{GroupCall};
@@ -341,7 +346,7 @@ impl<D: Disk, T: Table<Nodes, Parts>, C: Clock + Drop, G: Gate + Drop> GroupEngi
             × (r.count ≡ model.count_of batch.records)) }
         // a batch that was to be synced was written by a call of the log writer that synced
         ensures synced { IfOk result (λ r. options.sync ≡ true → (calls : List GroupCall) × (log : Log D ⟦<D as Disk>⟧)
-            × WroteLog (opened_log self.now) calls log × HaveSynced r.first batch.records calls) }
+            × WroteLog (opened_log self.now) calls log × IsSyncedBy r.first batch.records calls) }
         ensures err { IfErr result (λ e. Refuses (settings_of T.opening T.ours T.account self.now)
             (account_in T.opening T.ours T.account client.old) batch.records options e.why
             (account_in T.opening T.ours T.account client.new)) }
@@ -363,6 +368,7 @@ impl<D: Disk, T: Table<Nodes, Parts>, C: Clock + Drop, G: Gate + Drop> GroupEngi
             let look = self.controller.look(rt, &mut client.pass);
             return Err(refused_by(look, batch));
         }
+        let shown = self.table.last(&mut client.seat);
         let request = Request {
             batch,
             nodes,
@@ -374,71 +380,8 @@ impl<D: Disk, T: Table<Nodes, Parts>, C: Clock + Drop, G: Gate + Drop> GroupEngi
             delay: _,
             note,
         } = self.submit(rt, client, request);
+        await_above(rt, shown, &answer);
         self.see(rt, client, &answer, note);
         answer
-    }
-
-    /// Lets the client see what its answer speaks of: its group published, or the delay that it was refused by.
-    fn see<R: Wait>(
-        &self,
-        rt: &R,
-        client: &mut Client<D, T, C>,
-        answer: &Result<Receipt, Refused>,
-        note: Option<Note>,
-    )
-        requires client { IsClientOf T.opening T.ours T.account self.now client.old }
-        requires note { IfSome note (IsNoteOf self.now.controller) }
-        ensures fits { IsClientOf T.opening T.ours T.account self.now client.new }
-        ensures same { (client.new.number ≡ client.old.number) × (client.new.start ≡ client.old.start)
-            × (client.new.writer ≡ client.old.writer) }
-        ensures seen { Begins (T.account client.old.seat).seen (T.account client.new.seat).seen
-            × SeesMore client.old.number (seen_by client.old.pass) (seen_by client.new.pass) }
-        ensures published { IfOk answer.now (λ r. r.group_last
-            ≤ last_of (T.opening self.now.table).start (T.account client.new.seat).seen) }
-        ensures noted { IfSome note (λ n. IsPrefix (noted n) (seen_by client.new.pass)) }
-    {
-        self.await_answer(rt, client, answer);
-        if let Some(note) = note {
-            self.controller.learn(rt, &mut client.pass, note);
-        }
-    }
-
-    /// Waits until the client has seen its group published, if its batch was accepted.
-    fn await_answer<R: Wait>(
-        &self,
-        rt: &R,
-        client: &mut Client<D, T, C>,
-        answer: &Result<Receipt, Refused>,
-    )
-        requires { IsClientOf T.opening T.ours T.account self.now client.old }
-        ensures fits { IsClientOf T.opening T.ours T.account self.now client.new }
-        ensures same { (client.new.number ≡ client.old.number) × (client.new.start ≡ client.old.start)
-            × (client.new.writer ≡ client.old.writer) × (client.new.pass ≡ client.old.pass) }
-        ensures seen { Begins (T.account client.old.seat).seen (T.account client.new.seat).seen }
-        ensures published { IfOk answer.now (λ r. r.group_last
-            ≤ last_of (T.opening self.now.table).start (T.account client.new.seat).seen) }
-    {
-        if let Ok(receipt) = answer {
-            self.await_seen(rt, client, receipt.group_last);
-        }
-    }
-
-    /// Waits until the client has seen what is published up to a sequence.
-    fn await_seen<R: Wait>(&self, rt: &R, client: &mut Client<D, T, C>, last: u64)
-        requires { IsClientOf T.opening T.ours T.account self.now client.old }
-        ensures fits { IsClientOf T.opening T.ours T.account self.now client.new }
-        ensures same { (client.new.number ≡ client.old.number) × (client.new.start ≡ client.old.start)
-            × (client.new.writer ≡ client.old.writer) × (client.new.pass ≡ client.old.pass) }
-        ensures seen { Begins (T.account client.old.seat).seen (T.account client.new.seat).seen }
-        ensures reached { last ≤ last_of (T.opening self.now.table).start (T.account client.new.seat).seen }
-    {
-        let backoff = Backoff::new();
-        for _ in rt.forever() {
-            if last <= self.table.last(&mut client.seat) {
-                return;
-            }
-            backoff.snooze();
-        }
-        unreachable!()
     }
 }

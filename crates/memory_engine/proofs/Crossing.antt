@@ -122,5 +122,5 @@ module _ (D C G : RattleType) (ghosts : Ghosts (RattleType.Denot D)) (disk_send 
   pub engine_sync : IsSync G → IsSync (engine.the_row D table.the_row C G S U nodes.the_row ghosts table_ghosts.ghosts)
   engine_sync gate_sync =
       let K = engine.the_type D table.the_row C G S U nodes.the_row ghosts table_ghosts.ghosts in
-      let all : AllSync (fields K) = (list.the_field_sync request.the_row reply_row.the_row H M (about_row.the_row D table.the_row C ghosts) itemized.ghosts given.ghosts (ledger.ghosts D table.the_row C S U nodes.the_row ghosts ledger.no_dict table_ghosts.ghosts ledger.no_dict) request_send reply_send held_send right_send, (table_sync, (controller.the_field_sync C, (gate_sync, (heap.the_field_sync, (search sendable, (search sendable, tt))))))) in
+      let all : AllSync (fields K) = (list.the_field_sync request.the_row reply_row.the_row H M (about_row.the_row D table.the_row C ghosts) itemized.ghosts given.ghosts (ledger.ghosts D table.the_row C S U nodes.the_row ghosts ledger.no_dict table_ghosts.ghosts ledger.no_dict) request_send reply_send held_send right_send, (table_sync, (controller.the_field_sync C, (gate_sync, (heap.the_field_sync, (search sendable, tt)))))) in
       recorded_sync (engine.the_field D table.the_row C G S U nodes.the_row ghosts table_ghosts.ghosts).row K.D K.to K.to_one (struct_sync (shape K) all)

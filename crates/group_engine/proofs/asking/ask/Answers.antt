@@ -1,18 +1,17 @@
-use Rattle.std.proofs.Common.{◌≡◌, ◌∙◌, ℕ, Some, sym, subst}
+use Rattle.std.proofs.Common.{◌≡◌, ◌∙◌, ℕ, Some, subst}
 use Rattle.wp_model.specs.Controller.{delay}
 use Rattle.write_controller.specs.Looks.{look_of}
 use Rattle.write_controller.specs.Passes.{client_of, seen_by, noted, EndsWith}
-use Rattle.group_engine.specs.Asking.{HasAskedFor, HasLearned}
+use Rattle.group_engine.specs.Asking.{HasLearned}
 use Rattle.group_engine.proofs.Views.{asked_for}
 use Rattle.group_engine.proofs.asking.ask.Goals as goal
 
 pub returns-clause-asked : goal.returns-clause-asked
 returns-clause-asked g c =
     let was = c.args.pass.now in let k : ℕ = client_of was in let xs = c.args.requests.now in
-    let a = c.learn.ensures in let l = c.learn_all.ensures in let d = c.delay-look.ensures.asked in
+    let a = c.learn.ensures in let l = c.learn_all.ensures in let d = c.delay.ensures.asked in
     let first : client_of c.learn.new.pass ≡ k = a.own.1 in
     let second : client_of c.learn_all.new.pass ≡ k = l.pass.1 ∙ first in
-    subst (HasAskedFor k (seen_by was) (noted c.args.before) xs (look_of c.delay-look.result)) (sym c.note.ensures.seen)
-    (asked_for k (seen_by was) (seen_by c.learn.new.pass) (seen_by c.learn_all.new.pass) (seen_by c.delay-look.new.pass) (noted c.args.before) xs c.learn_all.new.requests (look_of c.delay-look.result) d.0 c.bytes_of-bytes.result a.seen a.noted
+    asked_for k (seen_by was) (seen_by c.learn.new.pass) (seen_by c.learn_all.new.pass) (seen_by c.delay.new.pass) (noted c.args.before) xs c.learn_all.new.requests (look_of c.delay.result) d.0 c.bytes_of-bytes.result a.seen a.noted
     (subst (λ j. HasLearned j (seen_by c.learn.new.pass) xs (seen_by c.learn_all.new.pass)) first l.learned) l.requests c.bytes_of-bytes.ensures
-    (subst (λ j. EndsWith j (seen_by c.learn_all.new.pass) (delay d.0 c.bytes_of-bytes.result) (Some (look_of c.delay-look.result)) (seen_by c.delay-look.new.pass)) second d.2))
+    (subst (λ j. EndsWith j (seen_by c.learn_all.new.pass) (delay d.0 c.bytes_of-bytes.result) (Some (look_of c.delay.result)) (seen_by c.delay.new.pass)) second d.2)

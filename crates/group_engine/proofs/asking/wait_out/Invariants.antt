@@ -1,6 +1,8 @@
--- So far the client only looked.
-use Rattle.std.proofs.Common.{◌≡◌}
+-- So far the client only looked, and where the newest look told of no stop its group may go on.
+use Rattle.std.proofs.Common.{◌≡◌, false}
+use Rattle.write_controller.specs.Looks.{look_of}
 use Rattle.write_controller.specs.Passes.{client_of, seen_by, IsPassOf}
+use Rattle.group_rule.specs.Plans.{LetsProceed}
 use Rattle.group_engine.specs.Asking.{OnlyLooks}
 use Rattle.group_engine.proofs.asking.wait_out.Given as goal
 
@@ -11,4 +13,5 @@ invariant-loop g l = record {
   pass : IsPassOf l.controller l.pass;
   client : client_of l.pass ≡ client_of l.fn.pass;
   looks : OnlyLooks (client_of l.fn.pass) (seen_by l.fn.pass) (seen_by l.pass);
+  proceeds : l.stops ≡ 0 → LetsProceed (client_of l.fn.pass) (look_of l.fn.look) (seen_by l.fn.pass) (seen_by l.pass) false;
 }

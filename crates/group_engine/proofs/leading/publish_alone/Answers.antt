@@ -1,24 +1,26 @@
-use Rattle.std.proofs.Common.{[]}
+use Rattle.std.proofs.Common.{[], List}
+use Rattle.table_rule.specs.declared.content.MemberVersions.{MemberVersions}
+use Rattle.table_calls.specs.Account.{Account}
 use Rattle.mem_table.specs.Parts.{group_of}
 use Rattle.mem_table.specs.declared.parts.MemberNodes.{MemberNodes}
 use Rattle.group_engine.proofs.Standing.{none_of}
-use Rattle.memtable_stage.proofs.Own.{own_part}
+use Rattle.memtable_stage.proofs.Own.{own_part, has_launched}
 use Rattle.group_engine.proofs.leading.publish_alone.Goals as goal
 
-pub launch-requires-clause-member : goal.launch-requires-clause-member
-launch-requires-clause-member g c = own_part (g.T.Table.account c.args.seat.now).number [] (group_of c.args.parts.now.parts) c.requires.may.each
+pub await_group-requires-clause-launched : goal.await_group-requires-clause-launched
+await_group-requires-clause-launched g c =
+    let a : Account = g.T.Table.account c.args.seat.now in let parts : List MemberVersions = group_of c.args.parts.now.parts in
+    (a.number, a.seen, g.T.Table.history c.args.turn, parts, has_launched _ _ _ _ _ c.launch.ensures.launched (own_part a.number [] parts c.requires.may.each), c.requires.may.ends)
 
 pub returns-clause-history : goal.returns-clause-history
 returns-clause-history g c =
-    let l = c.launch.ensures.launched in let a = g.T.Table.account c.args.seat.now in
-    (c.await_group.ensures.published a.number a.seen (g.T.Table.history c.args.turn) (group_of c.args.parts.now.parts)
-    (record { number_is = l.number; seen_is = l.seen; stage_is = l.stage_is; launched_is = l.launched_is })).0
+    let a : Account = g.T.Table.account c.args.seat.now in let parts : List MemberVersions = group_of c.args.parts.now.parts in
+    (c.await_group.ensures.published a.number a.seen (g.T.Table.history c.args.turn) parts (has_launched _ _ _ _ _ c.launch.ensures.launched (own_part a.number [] parts c.requires.may.each))).0
 
 pub returns-clause-seen : goal.returns-clause-seen
 returns-clause-seen g c =
-    let l = c.launch.ensures.launched in let a = g.T.Table.account c.args.seat.now in
-    let p = c.await_group.ensures.published a.number a.seen (g.T.Table.history c.args.turn) (group_of c.args.parts.now.parts)
-    (record { number_is = l.number; seen_is = l.seen; stage_is = l.stage_is; launched_is = l.launched_is }) in
+    let a : Account = g.T.Table.account c.args.seat.now in let parts : List MemberVersions = group_of c.args.parts.now.parts in
+    let p = c.await_group.ensures.published a.number a.seen (g.T.Table.history c.args.turn) parts (has_launched _ _ _ _ _ c.launch.ensures.launched (own_part a.number [] parts c.requires.may.each)) in
     (p.1, p.2)
 
 pub returns-clause-emptied : goal.returns-clause-emptied

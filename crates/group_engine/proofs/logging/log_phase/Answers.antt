@@ -6,7 +6,7 @@ use Rattle.log_writer.specs.Groups.{counts_of, body_lens_of}
 use Rattle.table_rule.specs.declared.content.MemberVersions.{MemberVersions}
 use Rattle.mem_table.specs.Parts.{Members, group_of}
 use Rattle.group_engine.proofs.logging.log_phase.Goals as goal
-use Rattle.group_engine.specs.Handled.{commit_requests_of, handled_with, replies_of, seen_at}
+use Rattle.group_engine.specs.Handled.{commit_requests_of, handled_with, replies_of}
 use Rattle.group_engine.specs.Numbering.{AreBeside, batches_of, others_in}
 use Rattle.group_engine.specs.Staged.{MayLaunch}
 use Rattle.group_rule.specs.Plans.{batches_from, versions_from}
@@ -24,10 +24,10 @@ abbrev as_is : List (List MemberVersions) → List (List MemberVersions)
 as_is u = u
 
 pub returns-in-Some-clause-path : goal.returns-in-Some-clause-path
-returns-in-Some-clause-path g c opened start gb asked published hs numbers led comes is_asked s =
+returns-in-Some-clause-path g c opened start gb asked went published hs numbers led comes is_asked proceeds s =
     let xs = c.args.requests.now.items in let h = c.args.path in let clients = c.args.layout.now.parts.clients in
-    subst (λ ys. Stands our_log as_is tt opened start clients gb (seen_at c.args.delay.now) h.log published h.last (hs ++ handled_with xs ys)) (sym c.refuse_all.ensures.replies)
-    (stands_dead our_log as_is tt opened start clients gb asked h.log published h.last hs s xs led.lawful led.whole c.args.delay.now numbers is_asked comes c.in-Some.count (sym c.fault.ensures ∙ c.in-Some.is))
+    subst (λ ys. Stands our_log as_is tt opened start clients gb went h.log published h.last (hs ++ handled_with xs ys)) (sym c.refuse_all.ensures.replies)
+    (stands_dead our_log as_is tt opened start clients gb asked h.log published h.last hs s xs led.lawful led.whole c.args.delay.now numbers is_asked comes went proceeds c.in-Some.count (sym c.fault.ensures ∙ c.in-Some.is))
 
 pub returns-in-Some-clause-replies : goal.returns-in-Some-clause-replies
 returns-in-Some-clause-replies g c = pays_faulted c.args.delay.now c.in-Some.count c.args.requests.now.items c.refuse_all.new.replies.items c.refuse_all.ensures.replies
@@ -43,15 +43,15 @@ answer_layout-requires-clause-room g c =
     layout_room c.args.path.last (vec_capacity c.args.replies.now) c.args.requests.now.items c.drop_parts.new.self.plans.items (ap (λ v. v.items) d.0 ∙ n.plans) c.requires.replies.1
 
 pub returns-then-is_empty-clause-path : goal.returns-then-is_empty-clause-path
-returns-then-is_empty-clause-path g c opened start gb asked published hs numbers led comes is_asked s =
+returns-then-is_empty-clause-path g c opened start gb asked went published hs numbers led comes is_asked proceeds s =
     let xs = c.args.requests.now.items in let h = c.args.path in let clients = c.args.layout.now.parts.clients in let n = c.lay_out-end.ensures in
     let d = c.drop_parts.ensures.others in
     let none : c.lay_out-end.new.batches.items ≡ [] = empty_list c.lay_out-end.new.batches.items (sym c.lay_out-end.new.batches.ok.0 ∙ none_left _ (sym c.is_empty.ensures ∙ c.if-is_empty.true)) in
     let no_batches : batches_from h.last (commit_requests_of xs) ≡ [] = sym (batches_are h.last xs) ∙ ap (map (λ (b : Contents). b.records)) (sym n.batches ∙ none) in
     let alive : fault_of h.log ≡ None = sym c.fault.ensures ∙ none_is c.fault.result c.in_default.not-Some in
     let replies = c.answer_layout.ensures.replies ∙ layout_written c.args.delay.now h.last c.lay_out-end.result xs c.drop_parts.new.self.plans.items c.drop_parts.new.self.batches.items (ap (λ v. v.items) d.0 ∙ n.plans) (ap (λ v. v.items) d.1 ∙ n.batches) in
-    subst (λ (z : ℕ × List _). Stands our_log as_is tt opened start clients gb (seen_at c.args.delay.now) h.log published z.0 (hs ++ handled_with xs z.1)) (λ i. (sym n.reached i, sym (replies ∙ ap (λ m. replies_of c.args.delay.now h.last m xs) n.reached) i))
-    (stands_written our_log as_is tt opened start clients gb asked h.log published h.last hs s xs led.lawful led.whole c.args.delay.now numbers is_asked comes alive h.log published s.our (inl (refl, inr no_batches)) (inl (no_versions h.last (commit_requests_of xs) no_batches, refl)))
+    subst (λ (z : ℕ × List _). Stands our_log as_is tt opened start clients gb went h.log published z.0 (hs ++ handled_with xs z.1)) (λ i. (sym n.reached i, sym (replies ∙ ap (λ m. replies_of c.args.delay.now h.last m xs) n.reached) i))
+    (stands_written our_log as_is tt opened start clients gb asked h.log published h.last hs s xs led.lawful led.whole c.args.delay.now numbers is_asked comes went proceeds alive h.log published s.our (inl (refl, inr no_batches)) (inl (no_versions h.last (commit_requests_of xs) no_batches, refl)))
 
 pub returns-then-is_empty-clause-replies : goal.returns-then-is_empty-clause-replies
 returns-then-is_empty-clause-replies g c =
@@ -85,7 +85,7 @@ answer_layout-requires-in-Err-clause-room g c =
     layout_room c.args.path.last (vec_capacity c.args.replies.now) c.args.requests.now.items c.drop_parts-in-Err.new.self.plans.items (ap (λ v. v.items) d.0 ∙ n.plans) c.requires.replies.1
 
 pub returns-in-Err-clause-path : goal.returns-in-Err-clause-path
-returns-in-Err-clause-path g c opened start gb asked published hs numbers led comes is_asked s =
+returns-in-Err-clause-path g c opened start gb asked went published hs numbers led comes is_asked proceeds s =
     let xs = c.args.requests.now.items in let h = c.args.path in let clients = c.args.layout.now.parts.clients in let n = c.lay_out-end.ensures in
     let d = c.drop_parts-in-Err.ensures.others in
     let alive : fault_of h.log ≡ None = sym c.fault.ensures ∙ none_is c.fault.result c.in_default.not-Some in
@@ -96,8 +96,8 @@ returns-in-Err-clause-path g c opened start gb asked published hs numbers led co
     let off = log c.in-Err.field-0 c.in-Err.is in
     let w = writes gb clients h.last xs led c.index.result.now.1.options same c.as_slice.result.now are some h.log c.log_group.new.log c.log_group.result c.log_group.ensures.skipped c.log_group.ensures.adds off in
     let replies = c.answer_layout-in-Err.ensures.replies ∙ layout_faulted c.args.delay.now h.last c.in-Err.field-0.count xs c.drop_parts-in-Err.new.self.plans.items c.drop_parts-in-Err.new.self.batches.items (ap (λ v. v.items) d.0 ∙ n.plans) (ap (λ v. v.items) d.1 ∙ n.batches) in
-    subst (λ ys. Stands our_log as_is tt opened start clients gb (seen_at c.args.delay.now) c.log_group.new.log published h.last (hs ++ handled_with xs ys)) (sym replies)
-    (stands_failed our_log as_is tt opened start clients gb asked h.log published h.last hs s xs led.lawful led.whole c.args.delay.now numbers is_asked comes alive c.in-Err.field-0.count (call_of (h.last + 1) c.as_slice.result.now c.index.result.now.1.options.sync c.log_group.result) c.log_group.new.log (c.log_group.ensures.adds off) w (ap count_of_fault c.in-Err.is ∙ search rules))
+    subst (λ ys. Stands our_log as_is tt opened start clients gb went c.log_group.new.log published h.last (hs ++ handled_with xs ys)) (sym replies)
+    (stands_failed our_log as_is tt opened start clients gb asked h.log published h.last hs s xs led.lawful led.whole c.args.delay.now numbers is_asked comes went proceeds alive c.in-Err.field-0.count (call_of (h.last + 1) c.as_slice.result.now c.index.result.now.1.options.sync c.log_group.result) c.log_group.new.log (c.log_group.ensures.adds off) w (ap count_of_fault c.in-Err.is ∙ search rules))
 
 pub returns-in-Err-clause-replies : goal.returns-in-Err-clause-replies
 returns-in-Err-clause-replies g c =
@@ -113,7 +113,7 @@ pub answer_layout-requires-2-clause-room : goal.answer_layout-requires-2-clause-
 answer_layout-requires-2-clause-room g c = layout_room c.args.path.last (vec_capacity c.args.replies.now) c.args.requests.now.items c.lay_out-end.new.plans.items c.lay_out-end.ensures.plans c.requires.replies.1
 
 pub returns-clause-path : goal.returns-clause-path
-returns-clause-path g c opened start gb asked published hs numbers led comes is_asked s =
+returns-clause-path g c opened start gb asked went published hs numbers led comes is_asked proceeds s =
     let xs = c.args.requests.now.items in let h = c.args.path in let clients = c.args.layout.now.parts.clients in let n = c.lay_out-end.ensures in
     let alive : fault_of h.log ≡ None = sym c.fault.ensures ∙ none_is c.fault.result c.in_default.not-Some in
     let are : c.as_slice.result.now ≡ batches_of h.last xs = c.as_slice.ensures.value ∙ n.batches in
@@ -127,8 +127,8 @@ returns-clause-path g c opened start gb asked published hs numbers led comes is_
     let some_vs : 0 < length vs = some_versions clients h.last (commit_requests_of xs) led.lawful some_batches in
     let are_parts = n.parts.0 in let same_parts = c.answer_layout-2.ensures.taken.2 in
     let replies = c.answer_layout-2.ensures.replies ∙ layout_written c.args.delay.now h.last c.lay_out-end.result xs c.lay_out-end.new.plans.items c.lay_out-end.new.batches.items n.plans n.batches in
-    subst (λ (z : ℕ × List _ × Members). Stands our_log as_is tt opened start clients gb (seen_at c.args.delay.now) c.log_group.new.log (published ++ group_of z.2.parts ∷ []) z.0 (hs ++ handled_with xs z.1)) (λ i. (sym n.reached i, sym (replies ∙ ap (λ m. replies_of c.args.delay.now h.last m xs) n.reached) i, sym same_parts i))
-    (stands_written our_log as_is tt opened start clients gb asked h.log published h.last hs s xs led.lawful led.whole c.args.delay.now numbers is_asked comes alive c.log_group.new.log (published ++ group_of c.lay_out-end.new.parts.parts ∷ []) tt on (inr (group_of c.lay_out-end.new.parts.parts, refl, are_parts.versions_are)))
+    subst (λ (z : ℕ × List _ × Members). Stands our_log as_is tt opened start clients gb went c.log_group.new.log (published ++ group_of z.2.parts ∷ []) z.0 (hs ++ handled_with xs z.1)) (λ i. (sym n.reached i, sym (replies ∙ ap (λ m. replies_of c.args.delay.now h.last m xs) n.reached) i, sym same_parts i))
+    (stands_written our_log as_is tt opened start clients gb asked h.log published h.last hs s xs led.lawful led.whole c.args.delay.now numbers is_asked comes went proceeds alive c.log_group.new.log (published ++ group_of c.lay_out-end.new.parts.parts ∷ []) tt on (inr (group_of c.lay_out-end.new.parts.parts, refl, are_parts.versions_are)))
 
 pub returns-clause-replies : goal.returns-clause-replies
 returns-clause-replies g c =

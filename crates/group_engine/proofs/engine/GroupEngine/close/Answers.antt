@@ -4,7 +4,7 @@ use Rattle.log_writer.specs.Words.{fault_of, disk_of}
 use Rattle.log_writer.specs.Written.{Wrote}
 use Rattle.table_rule.specs.Histories.{In}
 use Rattle.table_calls.specs.Account.{IsReady, IsClosing as IsTableClosing}
-use Rattle.writer_list.specs.Seats.{about_of, piped_of, table_of, clients_of, AllOut, AllThere, Merged}
+use Rattle.writer_list.specs.Seats.{bound_of, about_of, piped_of, table_of, clients_of, AllOut, AllThere, Merged}
 use Rattle.write_controller.specs.Passes.{noted, IsHistoryOf, IsNoteOf}
 use Rattle.account_model.specs.Closing.{all_attempts}
 use Rattle.group_rule.specs.Entries.{trace_of}
@@ -84,7 +84,7 @@ returns g c =
     let commits = map commit_of L.0 in let published = g.T.Table.history c.one_turn-turn.result in let right = c.close-held.result.1 in let about = about_of e.list in
     let ends = ends_with g.T.Table.our_turn g.T.Table.history about held L.0 right (piped_of e.list) set.pipelined L.1.0 L.1.1 L.2 L.3 in
     let at = ends_at g.T.Table.our_turn g.T.Table.history about held L.0 held.turn right.turn c.one_turn-turn.result ends c.one_turn-turn.ensures in
-    let stands = stands_by our_log as_is about.opened.value held.path.log published held.path.last tt tt about.start start about.clients (clients_of e.list) about.group_bytes e.group_bytes asked asked L.0 refl set.start set.about_clients set.group_bytes refl at.1 in
+    let stands = stands_by our_log as_is about.opened.value held.path.log published held.path.last tt tt about.start start about.clients (clients_of e.list) about.group_bytes (bound_of e.list) asked asked L.0 refl set.start set.about_clients set.group_bytes refl at.1 in
     let merged = subst (Merged L.0) c.part_all.ensures.writers L.4 in
     let seen = subst (λ (ss : List _). IsTableClosing start published (map account ss)) c.part_all.ensures.seats c.close.ensures in
     let ended = c.end_controller.ensures in let calls = ended.0 in
@@ -99,5 +99,5 @@ returns g c =
       trace_of start commits calls,
       closed.0,
       closed.1,
-      written_by e.group_bytes (Wrote (opened_log e)) stands.calls held.path.log (trace_of start commits calls) (all_attempts accounts) fault stands.wrote wrote,
+      written_by (bound_of e.list) (λ made. Wrote (opened_log e) made held.path.log) stands.calls (trace_of start commits calls) (all_attempts accounts) fault stands.wrote wrote,
     )

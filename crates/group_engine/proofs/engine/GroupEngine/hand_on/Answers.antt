@@ -7,7 +7,7 @@ use Rattle.list_rule.specs.Chain.{all_answers}
 use Rattle.list_rule.specs.Laws.{given_runs}
 use Rattle.list_rule.specs.Plays.{debt}
 use Rattle.writer_list.specs.Roles.{AreMembers}
-use Rattle.writer_list.specs.Seats.{about_of, clients_of, told}
+use Rattle.writer_list.specs.Seats.{bound_of, about_of, clients_of, told}
 use Rattle.group_rule.specs.Commits.{AreAnswered, last_after_all}
 use Rattle.stage_laws.specs.Served.{AreServed}
 use Rattle.group_engine.specs.Handled.{commit_of}
@@ -22,7 +22,7 @@ await_pipelined_role-requires g c =
     let r = c.requires.leaves in let e = c.args.self.now in let w = c.args.client.now in let n : ℕ = clients_of e.list in let about = about_of e.list in
     let own = r.3 in let seen = r.4 in let h = r.5 in let l = h.leaves in
     let all = all_answers own l.p l.gs in let d = debt l.gs own l.p in let from = given_runs run_of seen in let to = given_runs run_of (seen ++ all) in
-    let sent = c.exit_pipelined.ensures.sent e.group_bytes own l.group l.left seen l.gs l.p l.has l.heads_are l.pays_are in
+    let sent = c.exit_pipelined.ensures.sent (bound_of e.list) own l.group l.left seen l.gs l.p l.has l.heads_are l.pays_are in
     (c.exit_pipelined.ensures.client.1, inr (c.requires.piped, (d, from, to, told w.writer, sent.0)))
 
 pub turn_in-turn-requires : goal.turn_in-turn-requires
@@ -30,7 +30,7 @@ turn_in-turn-requires g c =
     let r = c.requires.leaves in let e = c.args.self.now in let w = c.args.client.now in let n : ℕ = clients_of e.list in let about = about_of e.list in
     let own = r.3 in let seen = r.4 in let h = r.5 in let l = h.leaves in
     let all = all_answers own l.p l.gs in let d = debt l.gs own l.p in let from = given_runs run_of seen in let to = given_runs run_of (seen ++ all) in
-    let sent = c.exit_pipelined.ensures.sent e.group_bytes own l.group l.left seen l.gs l.p l.has l.heads_are l.pays_are in
+    let sent = c.exit_pipelined.ensures.sent (bound_of e.list) own l.group l.left seen l.gs l.p l.has l.heads_are l.pays_are in
     let piped = l.seats.is_engine.pipelined ∙ c.requires.piped in
     let R = c.await_pipelined_role.ensures.right d from to (told w.writer) sent.0 in
     let H = has_turn g.T.Table.our_turn g.T.Table.history about n d from to (told w.writer) c.await_pipelined_role.new.writer piped c.await_pipelined_role.result R in
@@ -41,7 +41,7 @@ lead-turn-requires-clause-leads g c =
     let r = c.requires.leaves in let e = c.args.self.now in let w = c.args.client.now in let n : ℕ = clients_of e.list in let about = about_of e.list in
     let own = r.3 in let seen = r.4 in let h = r.5 in let l = h.leaves in
     let all = all_answers own l.p l.gs in let d = debt l.gs own l.p in let from = given_runs run_of seen in let to = given_runs run_of (seen ++ all) in
-    let sent = c.exit_pipelined.ensures.sent e.group_bytes own l.group l.left seen l.gs l.p l.has l.heads_are l.pays_are in
+    let sent = c.exit_pipelined.ensures.sent (bound_of e.list) own l.group l.left seen l.gs l.p l.has l.heads_are l.pays_are in
     let piped = l.seats.is_engine.pipelined ∙ c.requires.piped in
     let R = c.await_pipelined_role.ensures.right d from to (told w.writer) sent.0 in
     let H = has_turn g.T.Table.our_turn g.T.Table.history about n d from to (told w.writer) c.await_pipelined_role.new.writer piped c.await_pipelined_role.result R in
@@ -53,7 +53,7 @@ lead-turn-requires-clause-ours g c =
     let r = c.requires.leaves in let e = c.args.self.now in let w = c.args.client.now in let n : ℕ = clients_of e.list in let about = about_of e.list in
     let own = r.3 in let seen = r.4 in let h = r.5 in let l = h.leaves in
     let all = all_answers own l.p l.gs in let d = debt l.gs own l.p in let from = given_runs run_of seen in let to = given_runs run_of (seen ++ all) in
-    let sent = c.exit_pipelined.ensures.sent e.group_bytes own l.group l.left seen l.gs l.p l.has l.heads_are l.pays_are in
+    let sent = c.exit_pipelined.ensures.sent (bound_of e.list) own l.group l.left seen l.gs l.p l.has l.heads_are l.pays_are in
     let piped = l.seats.is_engine.pipelined ∙ c.requires.piped in
     let R = c.await_pipelined_role.ensures.right d from to (told w.writer) sent.0 in
     let H = has_turn g.T.Table.our_turn g.T.Table.history about n d from to (told w.writer) c.await_pipelined_role.new.writer piped c.await_pipelined_role.result R in
@@ -69,7 +69,7 @@ lead-turn-requires-clause-next g c =
     let r = c.requires.leaves in let e = c.args.self.now in let w = c.args.client.now in let n : ℕ = clients_of e.list in let about = about_of e.list in
     let own = r.3 in let seen = r.4 in let h = r.5 in let l = h.leaves in
     let all = all_answers own l.p l.gs in let d = debt l.gs own l.p in let from = given_runs run_of seen in let to = given_runs run_of (seen ++ all) in
-    let sent = c.exit_pipelined.ensures.sent e.group_bytes own l.group l.left seen l.gs l.p l.has l.heads_are l.pays_are in
+    let sent = c.exit_pipelined.ensures.sent (bound_of e.list) own l.group l.left seen l.gs l.p l.has l.heads_are l.pays_are in
     let piped = l.seats.is_engine.pipelined ∙ c.requires.piped in
     let R = c.await_pipelined_role.ensures.right d from to (told w.writer) sent.0 in
     let H = has_turn g.T.Table.our_turn g.T.Table.history about n d from to (told w.writer) c.await_pipelined_role.new.writer piped c.await_pipelined_role.result R in
@@ -90,7 +90,7 @@ lead-turn-requires-clause-end g c =
     let r = c.requires.leaves in let e = c.args.self.now in let w = c.args.client.now in let n : ℕ = clients_of e.list in let about = about_of e.list in
     let own = r.3 in let seen = r.4 in let h = r.5 in let l = h.leaves in
     let all = all_answers own l.p l.gs in let d = debt l.gs own l.p in let from = given_runs run_of seen in let to = given_runs run_of (seen ++ all) in
-    let sent = c.exit_pipelined.ensures.sent e.group_bytes own l.group l.left seen l.gs l.p l.has l.heads_are l.pays_are in
+    let sent = c.exit_pipelined.ensures.sent (bound_of e.list) own l.group l.left seen l.gs l.p l.has l.heads_are l.pays_are in
     let piped = l.seats.is_engine.pipelined ∙ c.requires.piped in
     let R = c.await_pipelined_role.ensures.right d from to (told w.writer) sent.0 in
     let H = has_turn g.T.Table.our_turn g.T.Table.history about n d from to (told w.writer) c.await_pipelined_role.new.writer piped c.await_pipelined_role.result R in
@@ -106,7 +106,7 @@ exit_memtable-requires-clause-serves g c =
     let r = c.requires.leaves in let e = c.args.self.now in let w = c.args.client.now in let n : ℕ = clients_of e.list in let about = about_of e.list in
     let own = r.3 in let seen = r.4 in let h = r.5 in let l = h.leaves in
     let all = all_answers own l.p l.gs in let d = debt l.gs own l.p in let from = given_runs run_of seen in let to = given_runs run_of (seen ++ all) in
-    let sent = c.exit_pipelined.ensures.sent e.group_bytes own l.group l.left seen l.gs l.p l.has l.heads_are l.pays_are in
+    let sent = c.exit_pipelined.ensures.sent (bound_of e.list) own l.group l.left seen l.gs l.p l.has l.heads_are l.pays_are in
     let piped = l.seats.is_engine.pipelined ∙ c.requires.piped in
     let R = c.await_pipelined_role.ensures.right d from to (told w.writer) sent.0 in
     let H = has_turn g.T.Table.our_turn g.T.Table.history about n d from to (told w.writer) c.await_pipelined_role.new.writer piped c.await_pipelined_role.result R in
@@ -135,7 +135,7 @@ returns-clause-fits g c =
     let r = c.requires.leaves in let e = c.args.self.now in let w = c.args.client.now in let n : ℕ = clients_of e.list in let about = about_of e.list in
     let own = r.3 in let seen = r.4 in let h = r.5 in let l = h.leaves in
     let all = all_answers own l.p l.gs in let d = debt l.gs own l.p in let from = given_runs run_of seen in let to = given_runs run_of (seen ++ all) in
-    let sent = c.exit_pipelined.ensures.sent e.group_bytes own l.group l.left seen l.gs l.p l.has l.heads_are l.pays_are in
+    let sent = c.exit_pipelined.ensures.sent (bound_of e.list) own l.group l.left seen l.gs l.p l.has l.heads_are l.pays_are in
     let piped = l.seats.is_engine.pipelined ∙ c.requires.piped in
     let R = c.await_pipelined_role.ensures.right d from to (told w.writer) sent.0 in
     let H = has_turn g.T.Table.our_turn g.T.Table.history about n d from to (told w.writer) c.await_pipelined_role.new.writer piped c.await_pipelined_role.result R in
@@ -155,7 +155,7 @@ returns-clause-answered g c number start mine own seen h =
     let e = c.args.self.now in let w = c.args.client.now in let n : ℕ = clients_of e.list in let about = about_of e.list in
     let l = h.leaves in
     let all = all_answers own l.p l.gs in let d = debt l.gs own l.p in let from = given_runs run_of seen in let to = given_runs run_of (seen ++ all) in
-    let sent = c.exit_pipelined.ensures.sent e.group_bytes own l.group l.left seen l.gs l.p l.has l.heads_are l.pays_are in
+    let sent = c.exit_pipelined.ensures.sent (bound_of e.list) own l.group l.left seen l.gs l.p l.has l.heads_are l.pays_are in
     let piped = l.seats.is_engine.pipelined ∙ c.requires.piped in
     let R = c.await_pipelined_role.ensures.right d from to (told w.writer) sent.0 in
     let H = has_turn g.T.Table.our_turn g.T.Table.history about n d from to (told w.writer) c.await_pipelined_role.new.writer piped c.await_pipelined_role.result R in

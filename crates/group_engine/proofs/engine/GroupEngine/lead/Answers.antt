@@ -4,7 +4,7 @@ use Rattle.std.proofs.lemmas.Bool.{false≢true}
 use Rattle.list_rule.specs.declared.view.Entry.{Entry}
 use Rattle.list_rule.specs.Chain.{Within, all_answers}
 use Rattle.list_rule.specs.Rule.{last_run}
-use Rattle.writer_list.specs.Seats.{about_of, client_of, clients_of, told, told_in_first}
+use Rattle.writer_list.specs.Seats.{bound_of, about_of, client_of, clients_of, told, told_in_first}
 use Rattle.writer_list.specs.Rooms.{HasRoom}
 use Rattle.write_controller.specs.Passes.{seen_by}
 use Rattle.group_engine.specs.declared.requests.Request.{Request}
@@ -60,7 +60,7 @@ serve-held-requires-clause-served g c =
         number = (subst (λ (k : ℕ). 0 < k) by_number low, subst (λ (k : ℕ). k ≤ n) by_number high);
       };
       layout = S.can_lead.layout;
-      led = subst (IsLedGroup e.group_bytes n) (sym G.3) (led_of c.codes_stand_for_items.ensures (λ q code h. h.0) e.group_bytes n own G.0 G.1 G.2.4 low high G.2.3);
+      led = subst (IsLedGroup (bound_of e.list) n) (sym G.3) (led_of c.codes_stand_for_items.ensures (λ q code h. h.0) (bound_of e.list) n own G.0 G.1 G.2.4 low high G.2.3);
       leads = subst (λ (z : ℕ × List (ℕ × Request)). LeadsBy z.0 z.1) (λ i. (by_number i, sym G.3 i)) (leads_by own G.0);
       notes = noted_as (about_of e.list).controller.value e.controller c.group.new.requests.list.items S.is_engine.controller c.group.ensures.lawful;
       few = few;
@@ -81,7 +81,7 @@ leave-requires-clause-leaves g c =
     hs.path (of_list g.T.Table.opening e E.controller E.start L.1 L.4) served.handed_back (shown_as e.controller about.controller.value (handled_with c.group.new.requests.list.items w.lists.replies.list.items) (sym E.controller) served.shown) in
     let t = led.is_paid in let all = all_answers own t.own_reply t.gs in
     let mine : told c.group.new.writer ≡ told v.writer = ap told_in_first G.2.0 in
-    let has = has_as (wanted_in e.list) n e.group_bytes own G.0 G.1 L.1 (told v.writer) c.group.new.writer w.writer served.writer mine G.2 in
+    let has = has_as (wanted_in e.list) n (bound_of e.list) own G.0 G.1 L.1 (told v.writer) c.group.new.writer w.writer served.writer mine G.2 in
     let told1 : told w.writer ≡ told v.writer = ap told served.writer ∙ mine in
     let start_is = E.start ∙ sym E.start_number in
     let few = c.group.ensures.few in
@@ -132,7 +132,7 @@ returns-in_default-clause-answered g c own' seen' chosen =
     hs.path (of_list g.T.Table.opening e E.controller E.start L.1 L.4) served.handed_back (shown_as e.controller about.controller.value (handled_with c.group.new.requests.list.items w.lists.replies.list.items) (sym E.controller) served.shown) in
     let t = led.is_paid in let all = all_answers own t.own_reply t.gs in
     let mine : told c.group.new.writer ≡ told v.writer = ap told_in_first G.2.0 in
-    let has = has_as (wanted_in e.list) n e.group_bytes own G.0 G.1 L.1 (told v.writer) c.group.new.writer w.writer served.writer mine G.2 in
+    let has = has_as (wanted_in e.list) n (bound_of e.list) own G.0 G.1 L.1 (told v.writer) c.group.new.writer w.writer served.writer mine G.2 in
     let told1 : told w.writer ≡ told v.writer = ap told served.writer ∙ mine in
     let start_is = E.start ∙ sym E.start_number in
     let few = c.group.ensures.few in
@@ -198,7 +198,7 @@ hand_on-requires-clause-leaves g c =
     hs.path (of_list g.T.Table.opening e E.controller E.start L.1 L.4) served.handed_back (shown_as e.controller about.controller.value (handled_with c.group.new.requests.list.items w.lists.replies.list.items) (sym E.controller) served.shown) in
     let t = led.is_paid in let all = all_answers own t.own_reply t.gs in
     let mine : told c.group.new.writer ≡ told v.writer = ap told_in_first G.2.0 in
-    let has = has_as (wanted_in e.list) n e.group_bytes own G.0 G.1 L.1 (told v.writer) c.group.new.writer w.writer served.writer mine G.2 in
+    let has = has_as (wanted_in e.list) n (bound_of e.list) own G.0 G.1 L.1 (told v.writer) c.group.new.writer w.writer served.writer mine G.2 in
     let told1 : told w.writer ≡ told v.writer = ap told served.writer ∙ mine in
     let start_is = E.start ∙ sym E.start_number in
     let few = c.group.ensures.few in
@@ -261,7 +261,7 @@ publish_alone-turn-requires-clause-may g c =
     hs.path (of_list g.T.Table.opening e E.controller E.start L.1 L.4) served.handed_back (shown_as e.controller about.controller.value (handled_with c.group.new.requests.list.items w.lists.replies.list.items) (sym E.controller) served.shown) in
     let t = led.is_paid in let all = all_answers own t.own_reply t.gs in
     let mine : told c.group.new.writer ≡ told v.writer = ap told_in_first G.2.0 in
-    let has = has_as (wanted_in e.list) n e.group_bytes own G.0 G.1 L.1 (told v.writer) c.group.new.writer w.writer served.writer mine G.2 in
+    let has = has_as (wanted_in e.list) n (bound_of e.list) own G.0 G.1 L.1 (told v.writer) c.group.new.writer w.writer served.writer mine G.2 in
     let told1 : told w.writer ≡ told v.writer = ap told served.writer ∙ mine in
     let start_is = E.start ∙ sym E.start_number in
     let few = c.group.ensures.few in
@@ -293,7 +293,7 @@ leave-requires-in-Some-turn-clause-leaves g c =
     hs.path (of_list g.T.Table.opening e E.controller E.start L.1 L.4) served.handed_back (shown_as e.controller about.controller.value (handled_with c.group.new.requests.list.items w.lists.replies.list.items) (sym E.controller) served.shown) in
     let t = led.is_paid in let all = all_answers own t.own_reply t.gs in
     let mine : told c.group.new.writer ≡ told v.writer = ap told_in_first G.2.0 in
-    let has = has_as (wanted_in e.list) n e.group_bytes own G.0 G.1 L.1 (told v.writer) c.group.new.writer w.writer served.writer mine G.2 in
+    let has = has_as (wanted_in e.list) n (bound_of e.list) own G.0 G.1 L.1 (told v.writer) c.group.new.writer w.writer served.writer mine G.2 in
     let told1 : told w.writer ≡ told v.writer = ap told served.writer ∙ mine in
     let start_is = E.start ∙ sym E.start_number in
     let few = c.group.ensures.few in
@@ -347,7 +347,7 @@ returns-in-None-clause-answered g c own' seen' chosen =
     hs.path (of_list g.T.Table.opening e E.controller E.start L.1 L.4) served.handed_back (shown_as e.controller about.controller.value (handled_with c.group.new.requests.list.items w.lists.replies.list.items) (sym E.controller) served.shown) in
     let t = led.is_paid in let all = all_answers own t.own_reply t.gs in
     let mine : told c.group.new.writer ≡ told v.writer = ap told_in_first G.2.0 in
-    let has = has_as (wanted_in e.list) n e.group_bytes own G.0 G.1 L.1 (told v.writer) c.group.new.writer w.writer served.writer mine G.2 in
+    let has = has_as (wanted_in e.list) n (bound_of e.list) own G.0 G.1 L.1 (told v.writer) c.group.new.writer w.writer served.writer mine G.2 in
     let told1 : told w.writer ≡ told v.writer = ap told served.writer ∙ mine in
     let start_is = E.start ∙ sym E.start_number in
     let few = c.group.ensures.few in
@@ -420,7 +420,7 @@ returns-in-Some-turn-clause-answered g c own' seen' chosen =
     hs.path (of_list g.T.Table.opening e E.controller E.start L.1 L.4) served.handed_back (shown_as e.controller about.controller.value (handled_with c.group.new.requests.list.items w.lists.replies.list.items) (sym E.controller) served.shown) in
     let t = led.is_paid in let all = all_answers own t.own_reply t.gs in
     let mine : told c.group.new.writer ≡ told v.writer = ap told_in_first G.2.0 in
-    let has = has_as (wanted_in e.list) n e.group_bytes own G.0 G.1 L.1 (told v.writer) c.group.new.writer w.writer served.writer mine G.2 in
+    let has = has_as (wanted_in e.list) n (bound_of e.list) own G.0 G.1 L.1 (told v.writer) c.group.new.writer w.writer served.writer mine G.2 in
     let told1 : told w.writer ≡ told v.writer = ap told served.writer ∙ mine in
     let start_is = E.start ∙ sym E.start_number in
     let few = c.group.ensures.few in

@@ -77,7 +77,7 @@ seat_all-requires-clause-engine g c =
         start = ap (λ a. a.start) about ∙ options.0;
         start_number = ok.1 ∙ options.0;
         about_clients = ap (λ a. a.clients) about ∙ (c.from.ensures ∙ sym ok.0);
-        group_bytes = ap (λ a. a.group_bytes) about;
+        group_bytes = ap (λ a. a.group_bytes) about ∙ sym ok.5;
         pipelined = ap (λ a. a.pipelined) about ∙ sym ok.3;
         low = subst (λ k. k ≤ max_sequence) options.0 options.1;
         few = (let small : (g.T.Table.opening given.table).clients < 255 = omega (arith, few) in subst (λ k. k < 255) (sym count) small);
@@ -161,7 +161,7 @@ returns-in-Ok-clause-engine g c =
       (λ i. record {
         start = sym options.0 i;
         clients = count i;
-        group_bytes = c.args.options.group_bytes;
+        group_bytes = ok.5 i;
         batch_bytes = c.args.options.batch_bytes;
         opened = g.D.Disk.faults (disk_of (opened i));
       }),

@@ -14,8 +14,8 @@ use Rattle.group_rule.specs.Entries.{account_of, SeesMore}
 use Rattle.group_rule.proofs.Own.{refused_looked}
 use Rattle.group_engine.specs.Clients.{account_in, opened_log, own_commits, settings_of}
 use Rattle.group_engine.specs.Handled.{AreHandled, ShowsDelay}
-use Rattle.group_engine.proofs.Answered.{Concludes, begins_on, begins_self, concludes, impatient_if, newest, none_is, note_of, refuses_late, sees_on}
-use Rattle.group_engine.proofs.ClientMoves.{no_delays, pass_moved, same_tokens}
+use Rattle.group_engine.proofs.Answered.{Concludes, above_seen, begins_on, begins_self, concludes, impatient_if, newest, none_is, note_of, refuses_late, sees_on}
+use Rattle.group_engine.proofs.ClientMoves.{no_delays, pass_moved, same_tokens, seat_moved}
 use Rattle.group_engine.proofs.engine.GroupEngine.write.Goals as goal
 
 pub returns-then-stopping-clause-belongs : goal.returns-then-stopping-clause-belongs
@@ -44,8 +44,9 @@ returns-then-stopping-clause-err g c =
 
 pub submit-answer-requires-clause-client : goal.submit-answer-requires-clause-client
 submit-answer-requires-clause-client g c =
-    let v = c.args.client.now in let N = c.note.ensures in
-    pass_moved g.T.Table.opening g.T.Table.ours g.T.Table.account c.args.self.now v c.requires c.note.new.pass N.own.0 N.own.1 (ap (delays_of v.number) N.seen)
+    let v = c.args.client.now in let N = c.note.ensures in let L = c.last-shown in
+    let loaded = seat_moved g.T.Table.opening g.T.Table.ours g.T.Table.account c.args.self.now v c.requires L.new.seat L.ensures.ours L.ensures.seen in
+    pass_moved g.T.Table.opening g.T.Table.ours g.T.Table.account c.args.self.now (record v { seat = L.new.seat }) loaded c.note.new.pass N.own.0 N.own.1 (ap (delays_of v.number) N.seen)
 
 pub see-requires-clause-note : goal.see-requires-clause-note
 see-requires-clause-note g c =
@@ -62,14 +63,16 @@ returns g c =
     let passed = at_once ∙ none_is c.refusal_at_once.result c.in_default.not-Some in
     let N = c.note.ensures in let A = c.submit-answer.ensures.answered in let p = c.submit-answer.result in let w1 = c.submit-answer.new.client in
     let w2 = c.see.new.client in let E = c.see.ensures in
+    let L = c.last-shown in let loaded = (g.T.Table.account L.new.seat).seen in
     let before = (g.T.Table.account v.seat).seen in let between = (g.T.Table.account w1.seat).seen in let now = (g.T.Table.account w2.seat).seen in
-    let sees = begins_on before between now c.submit-answer.ensures.seen.0 E.seen.0 in
+    let sees = begins_on before between now (begins_on before loaded between L.ensures.seen.seen c.submit-answer.ensures.seen.0) E.seen.0 in
+    let above = above_seen v.start (g.T.Table.opening e.table).start L.result before loaded p.answer S.start L.ensures.seen.seen L.ensures.value c.await_above.ensures in
     let first = subst (λ (l : List ControllerCall). SeesMore v.number l (seen_by w1.pass)) N.seen c.submit-answer.ensures.seen.1 in
     let second = subst (λ (k : ℕ). SeesMore k (seen_by w1.pass) (seen_by w2.pass)) A.number E.seen.1 in
     let more = sees_on v.number (seen_by v.pass) (seen_by w1.pass) (seen_by w2.pass) first second in
     let kept = subst (λ (n : ℕ). AreHandled e.controller (opened_log e) n A.handled) (sym S.start) A.are_handled in
     let reached = subst (λ (n : ℕ). IfOk p.answer (λ (r : Receipt). r.group_last ≤ last_of n now)) (sym S.start) E.published in
-    let done = concludes e.controller (opened_log e) v.start v.number settings _ p (told v.writer) A.handled kept A.own before now sees (seen_by v.pass) (seen_by w2.pass) more N.note.1 E.noted passed p.answer refl reached in
+    let done = concludes e.controller (opened_log e) v.start v.number settings _ p (told v.writer) A.handled kept A.own before now sees (seen_by v.pass) (seen_by w2.pass) more N.note.1 E.noted passed above p.answer refl reached in
     let st : v.start ≡ w2.start = sym (E.same.1 ∙ A.start_same) in
     let nu : v.number ≡ w2.number = sym (E.same.0 ∙ A.number) in
     let told2 = sym A.told_now ∙ ap told (sym E.same.2) in
