@@ -1,8 +1,7 @@
 //! The commands of each client, run over any write path that clients share, each client in a thread of its own.
 //!
 //! - [`run_clients`] runs all clients, and says of each that its replies are a transcript of its commands as far as the
-//!   client itself can tell (`HasRun` of `account_model`). [`finish`] closes the write path, and makes of these a legal
-//!   outcome.
+//!   client itself can tell (`HasRun` of `account_model`).
 //! - All room for the replies is made before the first call of a client, and some for the accepted batches, whose list
 //!   asks for more where they are long. An accepted batch goes into its client's list as the next one is begun, which
 //!   may find no memory; until then it stays at hand ([`Batches`]).
@@ -14,7 +13,6 @@ mod adding;
 mod answer;
 mod batches;
 mod client;
-mod closing;
 mod committing;
 mod jobs;
 mod reading;
@@ -23,5 +21,4 @@ mod tokens;
 
 pub use batches::{AtHand, Batches};
 pub use client::run_client;
-pub use closing::finish;
 pub use run::{Transcripts, run_clients};

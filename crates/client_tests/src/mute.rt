@@ -37,7 +37,7 @@ impl Engine for Mute {
     ghost use Rattle.wp_model.specs.Groups.{Group};
     ghost use Rattle.account_model.specs.Accounts.{newcomer};
     ghost use Rattle.account_model.specs.Closing.{AreOurs, all_attempts, IsClosing};
-    ghost use Rattle.account_model.specs.Written.{WritesLog};
+    ghost use Rattle.run_model.specs.Written.{WritesLog};
 
     ghost settings = { λ e. record {
       start = 0;
@@ -145,7 +145,7 @@ impl Engine for Mute {
               batch_bytes = self.batch_bytes;
               opened = 0;
             }) 0 trace groups accounts result.last None
-            × WritesLog 0 (λ calls log. ⊤) trace (all_attempts accounts) None result.log }
+            × WritesLog 0 (λ calls. ⊤) trace (all_attempts accounts) None }
     {
         let Clients {
             clients: _,

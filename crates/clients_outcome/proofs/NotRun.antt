@@ -13,7 +13,7 @@ use Rattle.wp_model.specs.Outcomes.{entries_of_client}
 use Rattle.run_model.specs.Lost.{IsLost}
 use Rattle.account_model.specs.Accounts.{Account, newcomer}
 use Rattle.account_model.specs.Closing.{IsClosing, all_attempts}
-use Rattle.account_model.specs.Written.{WroteEntries, AreLost, WritesLog}
+use Rattle.run_model.specs.Written.{WroteEntries, AreLost, WritesLog}
 use Rattle.client_run.specs.Jobs.{AreNew}
 use Rattle.clients_outcome.proofs.Fibres.{same}
 
@@ -93,10 +93,10 @@ module _ (settings : Settings) (ended : ℕ) (trace : Trace) (groups : List Grou
         | inr w ↦ (let over = w.0 in absurd (omega (arith, count)))
       ])
 
-  pub log_by_no_call : {L : Type 0} (wrote : List GroupCall → L → Type 0) (log : L) → WritesLog settings.group_bytes wrote trace (all_attempts accounts) fault log → wrote [] log
-  log_by_no_call wrote log writes =
+  pub log_by_no_call : (wrote : List GroupCall → Type 0) → WritesLog settings.group_bytes wrote trace (all_attempts accounts) fault → wrote []
+  log_by_no_call wrote writes =
       let cut : flat_map (λ part. part) writes.parts ≡ [] = writes.cut ∙ ap logged none_written in
       let calls : writes.calls ≡ [] = no_calls writes.parts writes.calls cut writes.each in
       let lost : writes.lost ≡ [] = no_lost settings.group_bytes (all_attempts accounts) fault _ writes.lost (all_idle start accounts new) writes.none_else in
       let both : writes.calls ++ writes.lost ≡ [] = ap (λ (cs : List GroupCall). cs ++ writes.lost) calls ∙ lost in
-      subst (λ (cs : List GroupCall). wrote cs log) both writes.by
+      subst wrote both writes.by

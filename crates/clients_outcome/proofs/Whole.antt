@@ -17,7 +17,7 @@ use Rattle.run_outcome.specs.Shows.{ShowsReplies}
 use Rattle.account_model.specs.Accounts.{Account}
 use Rattle.account_model.specs.Closing.{AreOurs, IsClosing, all_attempts}
 use Rattle.account_model.specs.ClientRuns as clients
-use Rattle.account_model.specs.Written.{WritesLog}
+use Rattle.run_model.specs.Written.{WritesLog}
 use Rattle.client_run.specs.declared.batches.Batches.{Batches}
 use Rattle.client_run.specs.Answers.{kept_in, ShowsEntries, ShowsKept}
 use Rattle.client_run.specs.Jobs.{HaveTold, HaveEntries}
@@ -84,7 +84,7 @@ module _ {L : Type 0} (settings : Settings) (wrote : List GroupCall → L → Ty
   module _ (script : List (List calls.Command)) (replies : Vec (Vec Reply Global) Global) (told : HaveTold settings script replies.items accounts)
       (legal : (transcripts : List (List calls.Call)) (log_len : ℕ) → clients.HaveRun settings script transcripts accounts
       → IsLegalIn settings (faults log) script trace (all_attempts accounts) (outcome_of trace transcripts last log_len (fault log)))
-      (writes : WritesLog settings.group_bytes wrote trace (all_attempts accounts) (fault log) log) where
+      (writes : WritesLog settings.group_bytes (λ calls. wrote calls log) trace (all_attempts accounts) (fault log)) where
     pub with_parts : (parts : Parts) → parts.transcripts ≡ replies → ShowsEntries parts.history trace.entries → parts.state ≡ history.map_of trace.entries
         → HaveRun settings script wrote fault faults log last (Some parts)
     with_parts parts same shown state = record {

@@ -8,7 +8,7 @@ use Rattle.wp_model.specs.Outcomes.{IsLegalIn, outcome_of}
 use Rattle.wp_model.specs.Map.{Pairs}
 use Rattle.run_outcome.specs.declared.outcome.Outcome.{Outcome}
 use Rattle.run_outcome.specs.Shows.{ShowsOutcome}
-use Rattle.account_model.specs.Written.{WritesLog}
+use Rattle.run_model.specs.Written.{WritesLog}
 use Rattle.clients_outcome.specs.declared.run.Parts.{Parts}
 use Rattle.clients_outcome.specs.declared.run.Lacks.{Lacks}
 use Rattle.clients_outcome.specs.declared.run.Lacks.TheVariants as lacks
@@ -34,7 +34,7 @@ module _ {L : Type 0} (settings : Settings) (script : List (List Command)) (wrot
     pub trace : Trace
     pub attempts : List (List Attempt)
     pub transcripts : List (List Call)
-    pub writes : WritesLog settings.group_bytes wrote trace attempts (fault log) log
+    pub writes : WritesLog settings.group_bytes (λ calls. wrote calls log) trace attempts (fault log)
     pub legal : (log_len : ℕ)
         → IsLegalIn settings (faults log) script trace attempts (outcome_of trace transcripts last log_len (fault log))
     pub shows : IfSome parts (λ p. (log_len : ℕ) → ShowsOutcome (outcome_with p last log_len (fault log))

@@ -25,6 +25,11 @@ pub record IsWritten {D : Type 0} {ghosts : Ghosts D} (disk : D) (calls : List G
   pub has_opened : HasOpened disk opened
   pub wrote : Wrote opened calls log
 
+-- the log that was opened on one disk was written by these calls, and then the other disk was handed back
+abbrev pub IsWrittenFrom : {D : Type 0} (ghosts : Ghosts D) → D → D → List GroupCall → Type 0
+IsWrittenFrom {D} ghosts opened ended calls =
+    (log : LogWriter D ghosts) × IsWritten opened calls log × (disk_of log ≡ ended)
+
 -- one or the other, as a call worked or failed
 abbrev pub if_worked : {A : Type 0} → Option ℕ → A → A → A
 if_worked None worked failed = worked

@@ -14,8 +14,8 @@ use Rattle.log_writer.specs.Written.{if_worked, written_by, begun_by, HaveSynced
 use Rattle.log_writer.proofs.Calls.{begun_front}
 use Rattle.log_writer.proofs.Keeping.{text_append, text_front}
 use Rattle.run_model.specs.Lost.{IsLostGroup}
-use Rattle.run_model.specs.Crashes.{IsRest, HasSync, HaveSynced, HoldsSynced, IsFailedWrite}
-use Rattle.account_model.specs.Written.{WroteEntries, AreLost}
+use Rattle.run_model.specs.Crashes.{IsRest, HasSync, HaveSynced, HoldsSynced, tried, IsFailedWrite}
+use Rattle.run_model.specs.Written.{WroteEntries, AreLost}
 use Rattle.account_model.proofs.Logs.{same_records, has_synced}
 
 -- Each call worked, and whatever calls come after them
@@ -121,7 +121,7 @@ module _ (group_bytes : ℕ) (attempts : List (List Attempt)) (last : ℕ) (grou
 
   -- a failed write left some of the record that it was to put
   pub failed_write : (d : Disk) (safe : ℕ) → HoldsCalls d (calls ++ lost) safe → (o : Outcome) → o.last ≡ last → (fault : Option ℕ) → o.fault ≡ fault → AreLost group_bytes attempts fault last lost
-      → MatchOption fault (d.content ≡ text None records) (λ count. (x : List ℕ) × IsFailedWrite group_bytes attempts o groups d.content x)
+      → MatchOption fault (d.content ≡ text None records) (λ count. (x : List ℕ) × (tried lost ≡ Some x) × IsFailedWrite group_bytes attempts o groups d.content x)
   failed_write d safe holds o end None e are =
       let written : written_by (calls ++ lost) ≡ records = written_is None are in
       let all : begun_by (calls ++ lost) ≡ records = begun_for groups calls lost each ∙ ap (λ l. map record_of_call calls ++ begun_by l) are ∙ append-nil (map record_of_call calls) ∙ same_records groups calls each in
@@ -134,6 +134,7 @@ module _ (group_bytes : ℕ) (attempts : List (List Attempt)) (last : ℕ) (grou
       let all : begun_by (calls ++ lost) ≡ records ++ x ∷ [] =
       begun_for groups calls lost each ∙ ap (λ l. map record_of_call calls ++ l) (ap begun_by are.1 ∙ one_begun c (Some count) call.failed) ∙ ap (λ l. l ++ x ∷ []) (same_records groups calls each) in (
         x,
+        ap tried are.1,
         record {
           count = count;
           fault = e;

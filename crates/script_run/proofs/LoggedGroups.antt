@@ -12,7 +12,7 @@ use Rattle.wp_model.specs.History.{Entry, max_sequence, last_of, IsHistory, Runs
 use Rattle.wp_model.specs.LogContents.{GroupCall, record_of_entries, records_of}
 use Rattle.wp_model.specs.Recovery.{Logged, logged_bytes, last_after, AreInOrder}
 use Rattle.log_writer.specs.Crashes.{AreRisingBatches}
-use Rattle.account_model.specs.Written.{AreOfOwnClients, WroteEntries}
+use Rattle.run_model.specs.Written.{AreOfOwnClients, WroteEntries}
 
 -- A small batch is read
 

@@ -10,9 +10,9 @@ use Rattle.client_calls.specs.Settings.{settings_of}
 use Rattle.log_writer.specs.declared.writer.LogWriter.{LogWriter}
 use Rattle.log_writer.specs.Words.{disk_of, len_of, fault_of}
 use Rattle.log_writer.specs.Opening.{HasOpened}
-use Rattle.log_writer.specs.Written.{Wrote, no_call, one_more, IsWritten, HoldsSynced, Stands, HasCauseSince}
+use Rattle.log_writer.specs.Written.{Wrote, no_call, one_more, IsWritten, IsWrittenFrom, HoldsSynced, Stands, HasCauseSince}
 use Rattle.run_model.specs.Crashes.{IsImageSince}
-use Rattle.run_outcome.specs.Running.{Execution, execution_of, GoesOn}
+use Rattle.run_outcome.specs.Running.{Execution, execution_of, IsRunOf, GoesOn}
 use Rattle.wp_edge.specs.Disk.{LeavesOnly}
 use Rattle.clients_outcome.specs.declared.run.Parts.{Parts}
 use Rattle.clients_outcome.specs.declared.run.Lacks.{Lacks}
@@ -20,7 +20,7 @@ use Rattle.clients_outcome.specs.declared.run.Lacks.TheVariants as lacks
 use Rattle.clients_outcome.specs.Runs.{HaveRun, ComesTo}
 use Rattle.script_run.specs.Ends.{HasOutcome, IsEnd, end_with}
 use Rattle.script_run.proofs.LegalRuns.{small_entries, refused_for_themselves}
-use Rattle.script_run.proofs.SafeLogs.{safe_log, held_images, is_written, goes_on, later}
+use Rattle.script_run.proofs.SafeLogs.{len_is, safe_log, held_images, is_written, goes_on, later}
 
 -- the same of what is equal
 pub comes_to : {L : Type 0} (fault : L → Option ℕ) (faults : L → ℕ) (log : L) (last : ℕ) (parts : Result Parts Lacks) (s t : Settings) (xs ys : List (List Command)) (v w : List GroupCall → L → Type 0)
@@ -43,8 +43,11 @@ module _ {D : Type 0} {ghosts : Ghosts D} where
     abbrev images : List ℕ → Type 0
     images = IsImageSince ghosts.moment ghosts.from ghosts.since disk (disk_of log)
 
+    abbrev by_calls : List GroupCall → Type 0
+    by_calls = IsWrittenFrom ghosts disk (disk_of log)
+
     abbrev execution : Execution
-    execution = execution_of options script (ghosts.faults disk) (ghosts.faults (disk_of log)) images
+    execution = execution_of options script (ghosts.faults disk) (ghosts.faults (disk_of log)) images by_calls
 
     abbrev Ran : Option Parts → Type 0
     Ran parts = HaveRun (settings_of options (length script) (ghosts.faults disk)) script (Wrote opened) fault_of (λ l. ghosts.faults (disk_of l)) log last parts
@@ -58,17 +61,32 @@ module _ {D : Type 0} {ghosts : Ghosts D} where
         let legal = ran.legal (len_of log) in
         let calls = ran.writes.calls ++ ran.writes.lost in
         let written = is_written disk opened log calls has_opened ran.writes.by in
-        let small = small_entries settings ended script ran.trace ran.attempts o legal bounded in
+        let run : IsRunOf execution o = record {
+          trace = ran.trace;
+          attempts = ran.attempts;
+          legal = legal;
+          writes = record {
+            parts = ran.writes.parts;
+            calls = ran.writes.calls;
+            lost = ran.writes.lost;
+            cut = ran.writes.cut;
+            runs = ran.writes.runs;
+            each = ran.writes.each;
+            none_else = ran.writes.none_else;
+            by = (log, written, refl);
+          };
+          length_is = len_is ran.trace ran.attempts settings.group_bytes (λ cs. Wrote opened cs log) log ran.writes (stands calls written);
+        } in
         record {
           outcome = o;
-          legal = record { trace = ran.trace; attempts = ran.attempts; legal = legal };
+          run = run;
           refusals = refused_for_themselves settings ended script ran.trace ran.attempts o legal;
-          log = safe_log disk opened log execution o ran.trace ran.attempts legal few small has_opened ran.writes (stands calls written)
-              (held_images ghosts.moment ghosts.from ghosts.since (ghosts.told disk) disk (disk_of log) calls (held calls written)) refl refl;
+          log = safe_log disk opened log execution o run few (small_entries settings ended script ran.trace ran.attempts o legal bounded) has_opened ran.writes.by (stands calls written)
+              (held_images ghosts.moment ghosts.from ghosts.since (ghosts.told disk) disk (disk_of log) calls (held calls written));
         }
 
     -- and the values show it, where they are at hand
-    has_run : (parts : Parts) → Ran (Some parts) → IsEnd options script (ghosts.told disk) (ghosts.told (disk_of log)) (ghosts.faults disk) (ghosts.faults (disk_of log)) images (end_with last (len_of log) (fault_of log) (Ok parts))
+    has_run : (parts : Parts) → Ran (Some parts) → IsEnd options script (ghosts.told disk) (ghosts.told (disk_of log)) (ghosts.faults disk) (ghosts.faults (disk_of log)) images by_calls (end_with last (len_of log) (fault_of log) (Ok parts))
     unfolding has_outcome
     has_run parts ran =
         let there = has_outcome (Some parts) ran in
@@ -76,14 +94,14 @@ module _ {D : Type 0} {ghosts : Ghosts D} where
         record {
           outcome = there.outcome;
           shows = ran.shows (len_of log);
-          legal = there.legal;
+          run = there.run;
           refusals = there.refusals;
           counted = (cause calls (is_written disk opened log calls has_opened ran.writes.by)).no_fault;
           log = there.log;
         }
 
     pub is_end : (parts : Result Parts Lacks) → ComesTo (settings_of options (length script) (ghosts.faults disk)) script (Wrote opened) fault_of (λ l. ghosts.faults (disk_of l)) log last parts
-        → IsEnd options script (ghosts.told disk) (ghosts.told (disk_of log)) (ghosts.faults disk) (ghosts.faults (disk_of log)) images (end_with last (len_of log) (fault_of log) parts)
+        → IsEnd options script (ghosts.told disk) (ghosts.told (disk_of log)) (ghosts.faults disk) (ghosts.faults (disk_of log)) images by_calls (end_with last (len_of log) (fault_of log) parts)
     is_end (Ok parts) ran = has_run parts ran
     is_end (Err lacks.Outcome) ran = has_outcome None ran
     is_end (Err lacks.Run) wrote = ap (λ (l : LogWriter D ghosts). ghosts.told (disk_of l)) (not_written opened [] log wrote refl) ∙ has_opened.looked_at.same

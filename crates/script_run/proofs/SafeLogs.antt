@@ -26,8 +26,8 @@ use Rattle.log_writer.specs.Written.{Wrote, no_call, one_more, IsWritten, writte
 use Rattle.log_writer.proofs.Calls.{synced_later}
 use Rattle.log_writer.proofs.Keeping.{keeps_prefix}
 use Rattle.run_model.specs.Crashes.{IsImageSince, begun, HaveSynced, IsFailedWrite, LeavesPrefix, IsCrashSafe}
-use Rattle.run_outcome.specs.Running.{Execution, LeavesSafeLog, GoesOn}
-use Rattle.account_model.specs.Written.{WroteEntries, AreLost, WritesLog}
+use Rattle.run_outcome.specs.Running.{Execution, IsRunOf, LeavesSafeLog, GoesOn}
+use Rattle.run_model.specs.Written.{WroteEntries, AreLost, WritesLog}
 use Rattle.script_run.proofs.LoggedGroups.{Suits, each_has_entries, rising_groups}
 use Rattle.script_run.proofs.GroupCalls.{written_front, safe_front, written_is, synced_is, held_is, failed_write}
 
@@ -44,9 +44,9 @@ begins_with records None = ([], sym (append-nil records))
 begins_with records (Some x) = (x ∷ [], refl)
 
 -- The calls that wrote the groups of a trace, and perhaps one that failed
-module _ (trace : Trace) (attempts : List (List Attempt)) (group_bytes : ℕ) (fault : Option ℕ) (is_history : IsHistory trace.start trace.entries) (suit : AllByRecursion Suits trace.entries)
+module _ (trace : Trace) (attempts : List (List Attempt)) (group_bytes : ℕ) (o : Outcome) (history : o.history ≡ trace.entries) (end : o.last ≡ last_sequence trace.start trace.entries) (is_history : IsHistory trace.start trace.entries) (suit : AllByRecursion Suits trace.entries)
     (groups : List (List Entry)) (calls lost : List GroupCall) (cut : flat_map (λ group. group) groups ≡ logged trace.entries) (runs : AllByRecursion RunsFollow groups)
-    (each : AllZip WroteEntries groups calls) (are : AreLost group_bytes attempts fault (last_sequence trace.start trace.entries) lost) where
+    (each : AllZip WroteEntries groups calls) (are : AreLost group_bytes attempts o.fault (last_sequence trace.start trace.entries) lost) where
   abbrev records : List (List ℕ)
   records = records_of groups
 
@@ -57,9 +57,9 @@ module _ (trace : Trace) (attempts : List (List Attempt)) (group_bytes : ℕ) (f
   all = calls ++ lost
 
   written : written_by all ≡ records
-  written = written_is group_bytes attempts last groups calls lost each fault are
+  written = written_is group_bytes attempts last groups calls lost each o.fault are
 
-  module _ (d : Disk) (safe : ℕ) (holds : HoldsCalls d all safe) (o : Outcome) (history : o.history ≡ trace.entries) (end : o.last ≡ last) (fault_is : o.fault ≡ fault) where
+  module _ (d : Disk) (safe : ℕ) (holds : HoldsCalls d all safe) where
     -- all that was to be synced is recovered
     at_end : LeavesPrefix group_bytes attempts o groups d.content (IsImage d) (HaveSynced groups)
     at_end x may image is none r recovered =
@@ -78,23 +78,22 @@ module _ (trace : Trace) (attempts : List (List Attempt)) (group_bytes : ℕ) (f
           enough = synced_is group_bytes attempts last groups calls lost each prefix.many (synced_later all safe prefix.many holds.have_synced prefix.enough);
         }
 
-    crash_safe : (reached : ℕ) (any : List ℕ → Type 0) → ((image : List ℕ) → any image → HoldsCallsSynced reached all image) → IsCrashSafe group_bytes attempts o groups d.content reached any (IsImage d)
+    crash_safe : (reached : ℕ) (any : List ℕ → Type 0) → ((image : List ℕ) → any image → HoldsCallsSynced reached all image) → IsCrashSafe group_bytes attempts o groups d.content lost reached any (IsImage d)
     crash_safe reached any held = record {
-      failed = subst (λ (f : Option ℕ). MatchOption f (d.content ≡ text None records) (λ count. (x : List ℕ) × IsFailedWrite group_bytes attempts o groups d.content x)) (sym fault_is)
-          (failed_write group_bytes attempts last groups calls lost each d safe holds o end fault fault_is are);
+      failed = failed_write group_bytes attempts last groups calls lost each d safe holds o end o.fault refl are;
       any_moment = λ x may image left none. any_prefix (begun records x) image none;
-      held = λ image left. held_is group_bytes attempts last groups calls lost each fault are reached image (held image left);
+      held = λ image left. held_is group_bytes attempts last groups calls lost each o.fault are reached image (held image left);
       at_end = at_end;
     }
 
     -- and the content up to the log's length is the groups' text
-    log_left : o.log_len ≡ length (text None (written_by all)) → IsLogOf o d.content groups
+    log_left : o.log_len ≡ length (text None records) → IsLogOf o d.content groups
     log_left len =
         let same : text None (written_by all) ≡ text None records = ap (text None) written in
         record {
           of_history = record { cut = ap logged history ∙ sym cut; none_empty = each_has_entries groups calls each; runs = runs };
-          content_is = ap (λ (n : ℕ). take n d.content) len ∙ written_front d all safe holds ∙ same;
-          length_is = len ∙ ap length same;
+          content_is = ap (λ (n : ℕ). take n d.content) (len ∙ ap length (sym same)) ∙ written_front d all safe holds ∙ same;
+          length_is = len;
         }
 
 -- A disk tells its content throughout
@@ -176,34 +175,34 @@ module _ {D : Type 0} {ghosts : Ghosts D} where
   pub later : (opened log : LogWriter D ghosts) (calls : List GroupCall) → Wrote opened calls log → ghosts.faults (disk_of opened) ≤ ghosts.faults (disk_of log)
   later opened log calls wrote = (calls_go_on opened calls log wrote).faults
 
-  -- What the closed log holds, and what a crash leaves of it, where its calls wrote the groups of the outcome's trace.
-  pub safe_log : (disk : D) (opened log : LogWriter D ghosts) (execution : Execution) (o : Outcome) (trace : Trace) (attempts : List (List Attempt))
-      → IsLegalIn execution.settings execution.ended execution.script trace attempts o → length execution.script ≤ 16
-      → AllByRecursion (λ (e : Entry). size_of_batch e.records ≤ 16777216) trace.entries → HasOpened disk opened
-      → (writes : WritesLog execution.settings.group_bytes (λ calls l. Wrote opened calls l) trace attempts (fault_of log) log)
-      → Stands (writes.calls ++ writes.lost) log → IfSome (ghosts.told disk) (λ d. (image : List ℕ) → execution.images image → HoldsCallsSynced d.reach (writes.calls ++ writes.lost) image)
-      → o.fault ≡ fault_of log → o.log_len ≡ len_of log
-      → Told (ghosts.told disk) (ghosts.told (disk_of log)) (LeavesSafeLog execution o)
-  safe_log disk opened log execution o trace attempts legal clients small has_opened writes stands held fault len =
-      by_told (ghosts.told disk) (ghosts.told (disk_of log)) has_opened.empty held
-      (subst (λ (a : Option Disk). Told a (ghosts.told (disk_of log)) (λ x y. ⊤)) (has_opened.looked_at).same (calls_go_on opened (writes.calls ++ writes.lost) log writes.by).told) stands.told
-    where
-      suit : AllByRecursion Suits trace.entries
-      suit = all_suit execution.settings (let many = legal.clients in omega (arith, many, clients)) trace.entries (legal.is_trace).clients small
+  -- the length of the closed log, where its calls wrote the groups of an outcome's trace
+  pub len_is : (trace : Trace) (attempts : List (List Attempt)) (group_bytes : ℕ) (wrote : List GroupCall → Type 0) (log : LogWriter D ghosts) (writes : WritesLog group_bytes wrote trace attempts (fault_of log))
+      → Stands (writes.calls ++ writes.lost) log → len_of log ≡ length (text None (records_of writes.parts))
+  len_is trace attempts group_bytes wrote log writes stands =
+      stands.len ∙ ap (λ (l : List (List ℕ)). length (text None l)) (written_is group_bytes attempts (last_sequence trace.start trace.entries) writes.parts writes.calls writes.lost writes.each (fault_of log) writes.none_else)
 
-      by_told : (a b : Option Disk) → IfSome a (λ d. d.content ≡ []) → IfSome a (λ d. (image : List ℕ) → execution.images image → HoldsCallsSynced d.reach (writes.calls ++ writes.lost) image)
-          → Told a b (λ x y. ⊤) → IfSome b (λ d. (safe : ℕ) × HoldsCalls d (writes.calls ++ writes.lost) safe) → Told a b (LeavesSafeLog execution o)
+  -- what it holds, and what a crash leaves of it
+  pub safe_log : (disk : D) (opened log : LogWriter D ghosts) (execution : Execution) (o : Outcome) (run : IsRunOf execution o) → length execution.script ≤ 16
+      → AllByRecursion (λ (e : Entry). size_of_batch e.records ≤ 16777216) run.trace.entries → HasOpened disk opened
+      → Wrote opened (run.writes.calls ++ run.writes.lost) log → Stands (run.writes.calls ++ run.writes.lost) log
+      → IfSome (ghosts.told disk) (λ d. (image : List ℕ) → execution.images image → HoldsCallsSynced d.reach (run.writes.calls ++ run.writes.lost) image)
+      → Told (ghosts.told disk) (ghosts.told (disk_of log)) (LeavesSafeLog execution o run)
+  safe_log disk opened log execution o run few small has_opened wrote stands held =
+      by_told (ghosts.told disk) (ghosts.told (disk_of log)) has_opened.empty held
+      (subst (λ (a : Option Disk). Told a (ghosts.told (disk_of log)) (λ x y. ⊤)) (has_opened.looked_at).same (calls_go_on opened (run.writes.calls ++ run.writes.lost) log wrote).told) stands.told
+    where
+      suit : AllByRecursion Suits run.trace.entries
+      suit = all_suit execution.settings (let legal = run.legal in let many = legal.clients in omega (arith, many, few)) run.trace.entries (run.legal.is_trace).clients small
+
+      by_told : (a b : Option Disk) → IfSome a (λ d. d.content ≡ []) → IfSome a (λ d. (image : List ℕ) → execution.images image → HoldsCallsSynced d.reach (run.writes.calls ++ run.writes.lost) image)
+          → Told a b (λ x y. ⊤) → IfSome b (λ d. (safe : ℕ) × HoldsCalls d (run.writes.calls ++ run.writes.lost) safe) → Told a b (LeavesSafeLog execution o run)
       by_told None None empty held told holds = tt
       by_told None (Some y) empty held told holds = told
       by_told (Some x) None empty held told holds = told
       by_told (Some x) (Some y) empty held told holds = record {
         found_empty = empty;
         safe = record {
-          trace = trace;
-          attempts = attempts;
-          legal = legal;
-          groups = writes.parts;
-          log = log_left trace attempts execution.settings.group_bytes (fault_of log) (legal.is_trace).entries suit writes.parts writes.calls writes.lost writes.cut writes.runs writes.each writes.none_else y holds.0 holds.1 o legal.history legal.last fault (len ∙ stands.len);
-          crash = crash_safe trace attempts execution.settings.group_bytes (fault_of log) (legal.is_trace).entries suit writes.parts writes.calls writes.lost writes.cut writes.runs writes.each writes.none_else y holds.0 holds.1 o legal.history legal.last fault x.reach execution.images held;
+          log = log_left run.trace run.attempts execution.settings.group_bytes o run.legal.history run.legal.last (run.legal.is_trace).entries suit run.writes.parts run.writes.calls run.writes.lost run.writes.cut run.writes.runs run.writes.each run.writes.none_else y holds.0 holds.1 run.length_is;
+          crash = crash_safe run.trace run.attempts execution.settings.group_bytes o run.legal.history run.legal.last (run.legal.is_trace).entries suit run.writes.parts run.writes.calls run.writes.lost run.writes.cut run.writes.runs run.writes.each run.writes.none_else y holds.0 holds.1 x.reach execution.images held;
         };
       }

@@ -4,9 +4,10 @@ use Rattle.std.specs.List.{AllByRecursion}
 use Rattle.wp_edge.specs.Disk.{Disk, Told}
 use Rattle.wp_edge.specs.declared.disk.Disk.{Ghosts}
 use Rattle.wp_model.specs.Calls as calls
+use Rattle.wp_model.specs.LogContents.{GroupCall}
 use Rattle.client_calls.specs.declared.options.Options.{Options}
 use Rattle.run_model.specs.Refusals.{AreRefusedForThemselves}
-use Rattle.run_outcome.specs.Running.{Execution, execution_of, IsLegalOf, LeavesSafeLog, HasRun, IsReached}
+use Rattle.run_outcome.specs.Running.{Execution, execution_of, IsRunOf, LeavesSafeLog, HasRun, IsReached}
 use Rattle.log_writer.specs.declared.errors.OpenError.{OpenError}
 use Rattle.log_writer.specs.declared.errors.OpenError.TheVariants as why
 use Rattle.log_writer.specs.declared.writer.LogWriter.{LogWriter}
@@ -38,18 +39,18 @@ end_of_run ran = end_with ran.last (len_of ran.log) (fault_of ran.log) ran.parts
 -- commits were refused for themselves alone.
 pub record HasOutcome (execution : Execution) (old new : Option Disk) : Type 0 where
   pub outcome : calls.Outcome
-  pub legal : IsLegalOf execution outcome
+  pub run : IsRunOf execution outcome
   pub refusals : outcome.fault ≡ None → AllByRecursion AreRefusedForThemselves outcome.transcripts
-  pub log : Told old new (LeavesSafeLog execution outcome)
+  pub log : Told old new (LeavesSafeLog execution outcome run)
 
 -- A refusal leaves the disk as it was, and so does a run that never began. Else there is an outcome.
-abbrev pub IsEnd : Options → List (List calls.Command) → Option Disk → Option Disk → ℕ → ℕ → (List ℕ → Type 0) → End
-    → Type 0
-IsEnd options script old new opened ended images (end.DiskFault count) = (new ≡ old) × IsReached opened count ended
-IsEnd options script old new opened ended images (end.NotEmpty len) = (new ≡ old) × (0 < len)
+abbrev pub IsEnd : Options → List (List calls.Command) → Option Disk → Option Disk → ℕ → ℕ → (List ℕ → Type 0)
+    → (List GroupCall → Type 0) → End → Type 0
+IsEnd options script old new opened ended images wrote (end.DiskFault count) = (new ≡ old) × IsReached opened count ended
+IsEnd options script old new opened ended images wrote (end.NotEmpty len) = (new ≡ old) × (0 < len)
     × IfSome old (λ d. length d.content ≡ len)
-IsEnd options script old new opened ended images end.NoMemory = new ≡ old
-IsEnd options script old new opened ended images end.NoOutcome =
-    HasOutcome (execution_of options script opened ended images) old new
-IsEnd options script old new opened ended images (end.Ran shown) =
-    HasRun (execution_of options script opened ended images) old new shown
+IsEnd options script old new opened ended images wrote end.NoMemory = new ≡ old
+IsEnd options script old new opened ended images wrote end.NoOutcome =
+    HasOutcome (execution_of options script opened ended images wrote) old new
+IsEnd options script old new opened ended images wrote (end.Ran shown) =
+    HasRun (execution_of options script opened ended images wrote) old new shown

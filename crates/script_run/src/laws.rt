@@ -7,7 +7,7 @@ ghost use Rattle.client_calls.specs.Settings.{settings_of};
 ghost use Rattle.log_writer.specs.declared.writer.LogWriter.{LogWriter as Log};
 ghost use Rattle.log_writer.specs.Words.{disk_of, len_of, fault_of};
 ghost use Rattle.log_writer.specs.Opening.{HasOpened};
-ghost use Rattle.log_writer.specs.Written.{Wrote};
+ghost use Rattle.log_writer.specs.Written.{IsWrittenFrom, Wrote};
 ghost use Rattle.run_model.specs.Crashes.{IsImageSince};
 ghost use Rattle.run_outcome.specs.Running.{GoesOn};
 ghost use Rattle.clients_outcome.specs.declared.run.Parts.{Parts as PartsOf};
@@ -27,7 +27,8 @@ pub fn runs_leave_safe_logs<D: Disk>()
         → ComesTo (settings_of options (length script) (D.faults disk)) script (Wrote opened) fault_of
         (λ l. D.faults (disk_of l)) log last parts
         → IsEnd options script (D.told disk) (D.told (disk_of log)) (D.faults disk) (D.faults (disk_of log))
-        (IsImageSince D.moment D.from D.since disk (disk_of log)) (end_with last (len_of log) (fault_of log) parts) }
+        (IsImageSince D.moment D.from D.since disk (disk_of log))
+        (IsWrittenFrom ⟦<D as Disk>⟧ disk (disk_of log)) (end_with last (len_of log) (fault_of log) parts) }
     // The disk's time has gone on, and its count of faults hasn't fallen.
     ensures time { (opened log : Log D ⟦<D as Disk>⟧) (options : RunOptions) (script : List (List Command))
         (counted last : _) (parts : Result PartsOf LacksOf)

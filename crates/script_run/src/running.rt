@@ -5,6 +5,7 @@ ghost use Rattle.wp_model.specs.History.{max_sequence};
 ghost use Rattle.client_script.specs.Scripts.{commands_of, FitsBatches};
 ghost use Rattle.log_writer.specs.Words.{disk_of};
 ghost use Rattle.log_writer.specs.Opening.{HasOpened};
+ghost use Rattle.log_writer.specs.Written.{IsWrittenFrom};
 ghost use Rattle.run_model.specs.Crashes.{IsImageSince};
 ghost use Rattle.run_outcome.specs.Running.{GoesOn};
 ghost use Rattle.memory_engine.specs.Tables.{HasShards};
@@ -43,7 +44,8 @@ pub fn execute<D: Disk + Send, C: Clock + Send + Drop, G: Gate + Sync, R: Thread
     requires options { (options.last ≤ max_sequence) × (options.batch_bytes ≤ 16777216) }
     requires kind { HasShards kind }
     ensures end { IsEnd options (commands_of script.now) (D.told disk) (D.told result.disk) (D.faults disk)
-        (D.faults result.disk) (IsImageSince D.moment D.from D.since disk result.disk) result.end }
+        (D.faults result.disk) (IsImageSince D.moment D.from D.since disk result.disk)
+        (IsWrittenFrom ⟦<D as Disk>⟧ disk result.disk) result.end }
     ensures later { D.faults disk ≤ D.faults result.disk }
     ensures time { GoesOn D.moment D.from disk result.disk }
 {
@@ -93,7 +95,8 @@ fn run_over<
     requires opened { (disk : D) × HasOpened disk log }
     ensures end { (disk : D) → HasOpened disk log → IsEnd options (commands_of script.now) (D.told disk)
         (D.told result.disk) (D.faults disk) (D.faults result.disk)
-        (IsImageSince D.moment D.from D.since disk result.disk) result.end }
+        (IsImageSince D.moment D.from D.since disk result.disk)
+        (IsWrittenFrom ⟦<D as Disk>⟧ disk result.disk) result.end }
     ensures later { D.faults (disk_of log) ≤ D.faults result.disk }
     ensures time { GoesOn D.moment D.from (disk_of log) result.disk }
 {

@@ -4,12 +4,13 @@ use Rattle.std.specs.Prelude.{IsSome, ⊤}
 use Rattle.wp_edge.specs.Disk.{Disk, Told}
 use Rattle.wp_model.specs.Counts.{Rose}
 use Rattle.wp_model.specs.Calls as calls
+use Rattle.wp_model.specs.LogContents.{GroupCall}
 use Rattle.wp_model.specs.History.{IsHistory}
 use Rattle.wp_model.specs.Map.{Pairs}
 use Rattle.wp_model.specs.Script.{Script}
 use Rattle.run_outcome.specs.declared.outcome.Outcome.{Outcome}
 use Rattle.client_calls.specs.declared.options.Options.{Options}
-use Rattle.run_outcome.specs.Running.{Execution, execution_of, HasRun, LeavesSafeLog, IsReached}
+use Rattle.run_outcome.specs.Running.{Execution, execution_of, IsRunOf, HasRun, LeavesSafeLog, IsReached}
 use Rattle.script_run.specs.declared.end.End.{End}
 use Rattle.script_run.specs.declared.end.End.TheVariants as end
 use Rattle.script_run.specs.Ends.{IsEnd}
@@ -46,7 +47,10 @@ module _ (seen : Observed) (failed fails kf kfs : ℕ) where
     pub rose : Rose kf kfs
 
   pub record AtNotEmpty : Type 0 where
-    pub says : IfSome seen.opened (λ d. (0 < length d.content) × SaysTo seen.before seen.after (not_empty (length d.content)) kf kfs)
+    pub len : ℕ
+    pub some : 0 < len
+    pub of_disk : IfSome seen.opened (λ d. length d.content ≡ len)
+    pub says : SaysTo seen.before seen.after (not_empty len) kf kfs
     pub as_before : seen.ended ≡ seen.opened
 
   -- of a status that no run has nothing is said
@@ -68,12 +72,12 @@ module _ (seen : Observed) (failed fails kf kfs : ℕ) where
   unread read.NoMemory given same tells = nothing given tells.0 same tells.1
 
 -- A script was to be run: `here` is what the devices tell.
-module _ (options : Options) (script : Script) (form : Form) (failed fails : ℕ) (images : List ℕ → Type 0) (kf kfs : ℕ) (sold snew : Option (List ℕ)) (old new : Option Disk) where
+module _ (options : Options) (script : Script) (form : Form) (failed fails : ℕ) (images : List ℕ → Type 0) (wrote : List GroupCall → Type 0) (kf kfs : ℕ) (sold snew : Option (List ℕ)) (old new : Option Disk) where
   abbrev here : Observed
-  here = record { says = IsScript script; form = form; before = sold; after = snew; opened = old; ended = new; execution = λ s. execution_of options s failed fails images }
+  here = record { says = IsScript script; form = form; before = sold; after = snew; opened = old; ended = new; execution = λ s. execution_of options s failed fails images wrote }
 
   abbrev execution : Execution
-  execution = execution_of options script failed fails images
+  execution = execution_of options script failed fails images wrote
 
   abbrev At : ℕ → Type 0
   At n = AtStatus here failed fails kf kfs n
@@ -87,21 +91,16 @@ module _ (options : Options) (script : Script) (form : Form) (failed fails : ℕ
       subst (λ s. At (code s)) (sym said.0) there
   disk_refused count given same reached (inr none) = nothing here failed fails kf kfs given none.0 same none.1
 
-  by_disk : (d : Option Disk) (len : ℕ) → 0 < len → IfSome d (λ x. length x.content ≡ len) → SaysTo sold snew (not_empty len) kf kfs
-      → IfSome d (λ x. (0 < length x.content) × SaysTo sold snew (not_empty (length x.content)) kf kfs)
-  by_disk (Some x) len some same so = (subst (λ m. 0 < m) (sym same) some, subst (λ m. SaysTo sold snew (not_empty m) kf kfs) (sym same) so)
-  by_disk None len some same so = tt
-
   has_bytes : (len : ℕ) (given : Status) → new ≡ old → 0 < len → IfSome old (λ d. length d.content ≡ len) → Refuses sold snew kf kfs (not_empty len) status.NotEmpty given → At (code given)
   has_bytes len given same some is (inl said) =
-      let there : AtNotEmpty here failed fails kf kfs = record { says = by_disk old len some is said.1; as_before = same } in
+      let there : AtNotEmpty here failed fails kf kfs = record { len = len; some = some; of_disk = is; says = said.1; as_before = same } in
       subst (λ s. At (code s)) (sym said.0) there
   has_bytes len given same some is (inr none) = nothing here failed fails kf kfs given none.0 same none.1
 
-  found_empty : (was is : Option Disk) (o : calls.Outcome) → Told was is (LeavesSafeLog execution o) → IfSome was (λ d. d.content ≡ [])
-  found_empty None is o log = tt
-  found_empty (Some d) (Some e) o log = log.found_empty
-  found_empty (Some d) None o log = absurd log
+  found_empty : (was is : Option Disk) (o : calls.Outcome) (run : IsRunOf execution o) → Told was is (LeavesSafeLog execution o run) → IfSome was (λ d. d.content ≡ [])
+  found_empty None is o run log = tt
+  found_empty (Some d) (Some e) o run log = log.found_empty
+  found_empty (Some d) None o run log = absurd log
 
   rose_so : (fault : Option ℕ) → IsSome fault → IfSome fault (λ count. Rose failed count × (count ≤ fails)) → Rose failed fails
   rose_so (Some count) some both = le_trans both.0 both.1
@@ -111,7 +110,7 @@ module _ (options : Options) (script : Script) (form : Form) (failed fails : ℕ
   ran_script shown ran = record {
     script = script;
     said = refl;
-    is_outcome = record { legal = ran.legal; log = ran.log };
+    is_outcome = record { run = ran.run; log = ran.log };
     refusals = λ alive. ran.refusals (sym ran.shows.fault ∙ alive);
   }
 
@@ -124,7 +123,7 @@ module _ (options : Options) (script : Script) (form : Form) (failed fails : ℕ
       no_fault = ran.shows.fault ∙ so.1;
       whole = all_whole shown.transcripts.items ran.outcome.transcripts ran.shows.transcripts so.2;
     };
-    empty = found_empty old new ran.outcome ran.log;
+    empty = found_empty old new ran.outcome ran.run ran.log;
     disk = ran.counted so.1;
     sink = so.3;
   }
@@ -132,11 +131,11 @@ module _ (options : Options) (script : Script) (form : Form) (failed fails : ℕ
       let fault : IsSome ran.outcome.fault = subst IsSome (sym ran.shows.fault) so.1 in
       record {
         told = inr (record { outcome = ran.outcome; ran = ran_script shown ran; printed = so.0; fault = fault });
-        rose = rose_so ran.outcome.fault fault ran.legal.legal.fault;
+        rose = rose_so ran.outcome.fault fault ran.run.legal.fault;
       }
   ran_so shown ran status.Sink so = record {
     front = record { outcome = ran.outcome; ran = ran_script shown ran; printed = (so.1, so.2) };
-    empty = found_empty old new ran.outcome ran.log;
+    empty = found_empty old new ran.outcome ran.run ran.log;
     rose = so.0;
   }
   ran_so shown ran status.Memory (inl none) = inr (inl (record { outcome = ran.outcome; ran = ran_script shown ran; silent = none }))
@@ -149,14 +148,15 @@ module _ (options : Options) (script : Script) (form : Form) (failed fails : ℕ
   }))
   ran_so shown ran other so = absurd so
 
-  pub ended_so : (e : End) (given : Status) → IsEnd options script old new failed fails images e → TellsEnd form sold snew kf kfs e given → At (code given)
+  pub ended_so : (e : End) (given : Status) → IsEnd options script old new failed fails images wrote e → TellsEnd form sold snew kf kfs e given → At (code given)
   ended_so (end.DiskFault count) given ends tells = disk_refused count given ends.0 ends.1 tells
   ended_so (end.NotEmpty len) given ends tells = has_bytes len given ends.0 ends.1 ends.2 tells
   ended_so end.NoMemory given ends tells = nothing here failed fails kf kfs given tells.0 ends tells.1
   ended_so end.NoOutcome given ends tells =
-      let ran : RanScript here ends.outcome = record { script = script; said = refl; is_outcome = record { legal = ends.legal; log = ends.log }; refusals = ends.refusals } in
+      let ran : RanScript here ends.outcome = record { script = script; said = refl; is_outcome = record { run = ends.run; log = ends.log }; refusals = ends.refusals } in
       subst (λ s. At (code s)) (sym tells.0) (inr (inl (record { outcome = ends.outcome; ran = ran; silent = tells.1 })))
   ended_so (end.Ran shown) given ran tells =
-      let legal = ran.legal.legal in
-      let history : IsHistory ran.legal.trace.start ran.outcome.history = subst (λ entries. IsHistory ran.legal.trace.start entries) (sym legal.history) legal.is_trace.entries in
-      ran_so shown ran given (tells ran.outcome ran.legal.trace.start history ran.shows)
+      let legal = ran.run.legal in
+      let start = ran.run.trace.start in
+      let history : IsHistory start ran.outcome.history = subst (λ entries. IsHistory start entries) (sym legal.history) legal.is_trace.entries in
+      ran_so shown ran given (tells ran.outcome start history ran.shows)

@@ -11,8 +11,7 @@ use Rattle.writepath_top.specs.declared.telling.Form.{Form}
 use Rattle.writepath_top.specs.declared.telling.Form.TheVariants as form
 use Rattle.writepath_top.specs.Asking.{usual_options}
 use Rattle.writepath_top.specs.Outcomes.{observed, SaysScript, IsGenerated}
-use Rattle.writepath_top.specs.Recovers.{TellsDisk, Recovers, RecoversFront, RecoveryRefused}
-use Rattle.writepath_top.specs.Replays.{TellsText, Replays, ReplaysFront}
+use Rattle.writepath_top.specs.Recovers.{TellsDisk, Recovers, RecoversFront}
 use Rattle.writepath_top.specs.Answers.{RunsScript, AnswersRun, AnswersGenerate, AnswersRecover, AnswersReplay}
 use Rattle.writepath_top.proofs.Endings.{AtStatus}
 use Rattle.writepath_top.proofs.Runs.{runs_script}
@@ -24,15 +23,6 @@ if_some P (Some x) all = all x
 tells_disk : (s t : Option (List ℕ)) (d : Option Disk) (P : List ℕ → List ℕ → Disk → Type 0) → ((x y : List ℕ) (e : Disk) → P x y e) → TellsDisk s t d P
 tells_disk (Some x) (Some y) (Some e) P all = all x y e
 tells_disk s t d P all = tt
-
-same_disk : (s : Option (List ℕ)) (d : Option Disk) (n : ℕ) → TellsDisk s s d (λ x y e. n ≡ 6 → y ≡ x)
-same_disk (Some x) (Some e) n = λ six. refl
-same_disk (Some x) None n = tt
-same_disk None d n = tt
-
-pub tells_text : (l s t : Option (List ℕ)) (P : List ℕ → List ℕ → List ℕ → Type 0) → ((x y z : List ℕ) → P x y z) → TellsText l s t P
-tells_text (Some x) (Some y) (Some z) P all = all x y z
-tells_text l s t P all = tt
 
 no_device : (n : ℕ) → n ≡ 6 → (n ≡ 0) ⊎ (n ≡ 3) ⊎ (n ≡ 5) ⊎ (n ≡ 7) → ⊥
 no_device n six (inl e) = omega (arith, six, e)
@@ -83,8 +73,8 @@ module _ {S D K : Type 0} (source : source.Ghosts S) (disk : disk.Ghosts D) (sin
     sink_failed = λ e. absurd (omega (arith, six, e));
     recovered = tells_disk (sink.taken before) (sink.taken before) (disk.told opened) (λ x y d. n ≡ 0 → Recovers x y d.content) (λ x y d e. absurd (omega (arith, six, e)));
     recovered_prefix = tells_disk (sink.taken before) (sink.taken before) (disk.told opened) (λ x y d. n ≡ 5 → RecoversFront x y d.content) (λ x y d e. absurd (omega (arith, six, e)));
-    refused = tells_disk (sink.taken before) (sink.taken before) (disk.told opened) (λ x y d. n ≡ 3 → RecoveryRefused x y (disk.faults opened) (disk.faults opened) (sink.faults before) (sink.faults before)) (λ x y d e. absurd (omega (arith, six, e)));
-    silent = same_disk (sink.taken before) (disk.told opened) n;
+    refused = λ e. absurd (omega (arith, six, e));
+    silent = λ e. refl;
     completes = λ a b. inr six;
   }
 
@@ -98,8 +88,8 @@ module _ {S D K : Type 0} (source : source.Ghosts S) (disk : disk.Ghosts D) (sin
     source_failed = λ e. absurd (omega (arith, six, e));
     sink_failed = λ e. absurd (omega (arith, six, e));
     read_to_end = λ e. absurd (no_text n six e);
-    replayed = tells_text (source.left had) (sink.taken before) (sink.taken before) (λ x y z. n ≡ 0 → Replays options y z x) (λ x y z e. absurd (omega (arith, six, e)));
-    replayed_prefix = tells_text (source.left had) (sink.taken before) (sink.taken before) (λ x y z. n ≡ 5 → ReplaysFront options y z x) (λ x y z e. absurd (omega (arith, six, e)));
+    replayed = λ e. absurd (omega (arith, six, e));
+    replayed_prefix = λ e. absurd (omega (arith, six, e));
     silent = λ e. refl;
     completes = λ a b. if_some _ (source.left had) (λ text schedule said. inr six);
   }

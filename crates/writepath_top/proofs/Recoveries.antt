@@ -8,20 +8,22 @@ use Rattle.wal_recover.specs.declared.recovery.RecoverError.TheVariants as none
 use Rattle.writepath_top.specs.declared.telling.Status.{Status}
 use Rattle.writepath_top.specs.declared.telling.Status.TheVariants as status
 use Rattle.wal_recover.specs.Recovering.{HasRecovered, IsRecoverError}
-use Rattle.writepath_top.specs.Recovers.{TellsDisk, Recovers, RecoversFront, RecoveryRefused}
+use Rattle.run_outcome.specs.Running.{IsReached}
+use Rattle.printed_text.specs.Refusals.{disk_fault}
+use Rattle.writepath_top.specs.Texts.{SaysTo}
+use Rattle.writepath_top.specs.Recovers.{TellsDisk, Recovers, RecoversFront}
 use Rattle.writepath_top.specs.Telling.{code, TellsRecovery}
 use Rattle.writepath_top.proofs.Refusing.{refused_as}
 
-pub recovery_refused : (failed fails kf kfs n : ℕ) (sold snew : Option (List ℕ)) (told : Option Disk) (found : Result Recovered RecoverError) (given : Status) → n ≡ code given
-    → IfErr found (IsRecoverError failed fails) → TellsRecovery sold snew kf kfs found given → TellsDisk sold snew told (λ before after d. n ≡ 3 → RecoveryRefused before after failed fails kf kfs)
-recovery_refused failed fails kf kfs n (Some before) (Some after) (Some d) (Ok shown) status.Done is error tells = λ three. absurd (omega (arith, is, three))
-recovery_refused failed fails kf kfs n (Some before) (Some after) (Some d) (Ok shown) status.Sink is error tells = λ three. absurd (omega (arith, is, three))
-recovery_refused failed fails kf kfs n (Some before) (Some after) (Some d) (Ok shown) status.Memory is error tells = λ three. absurd (omega (arith, is, three))
-recovery_refused failed fails kf kfs n (Some before) (Some after) (Some d) (Ok shown) other is error tells = absurd tells
-recovery_refused failed fails kf kfs n (Some before) (Some after) (Some d) (Err (none.Fault count)) given is error tells =
-    λ three. ⊎_elim (λ said. record { count = count; reached = error; said = said.1 }) (λ lacks. absurd (let a = lacks.0 in omega (arith, a, three))) (refused_as (Some before) (Some after) kf kfs _ _ given n is tells)
-recovery_refused failed fails kf kfs n (Some before) (Some after) (Some d) (Err none.NoMemory) given is error tells = λ three. absurd (let a : n ≡ 6 = is ∙ ap code tells.0 in omega (arith, a, three))
-recovery_refused failed fails kf kfs n sold snew told found given is error tells = tt
+pub recovery_refused : (failed fails kf kfs n : ℕ) (sold snew : Option (List ℕ)) (found : Result Recovered RecoverError) (given : Status) → n ≡ code given
+    → IfErr found (IsRecoverError failed fails) → TellsRecovery sold snew kf kfs found given → n ≡ 3 → (count : ℕ) × IsReached failed count fails × SaysTo sold snew (disk_fault count) kf kfs
+recovery_refused failed fails kf kfs n sold snew (Ok shown) status.Done is error tells three = absurd (omega (arith, is, three))
+recovery_refused failed fails kf kfs n sold snew (Ok shown) status.Sink is error tells three = absurd (omega (arith, is, three))
+recovery_refused failed fails kf kfs n sold snew (Ok shown) status.Memory is error tells three = absurd (omega (arith, is, three))
+recovery_refused failed fails kf kfs n sold snew (Ok shown) other is error tells three = absurd tells
+recovery_refused failed fails kf kfs n sold snew (Err (none.Fault count)) given is error tells three =
+    ⊎_elim (λ said. (count, error, said.1)) (λ lacks. absurd (let a = lacks.0 in omega (arith, a, three))) (refused_as sold snew kf kfs _ _ given n is tells)
+recovery_refused failed fails kf kfs n sold snew (Err none.NoMemory) given is error tells three = absurd (let a : n ≡ 6 = is ∙ ap code tells.0 in omega (arith, a, three))
 
 -- no device of the recovery counted a fault
 pub none_counted : (failed fails kf kfs n : ℕ) (sold snew : Option (List ℕ)) (found : Result Recovered RecoverError) (given : Status) → n ≡ code given

@@ -46,7 +46,7 @@ runs_script disk sink says form options opened ended before after n at =
       no_fault = λ e. let whole = at_whole disk sink seen opened ended before after n at e in (whole.disk, whole.sink);
       disk_failed = λ e. (at_fault disk sink seen opened ended before after n at e).rose;
       sink_failed = λ e. (at_sink_fault disk sink seen opened ended before after n at e).rose;
-      not_empty = λ e. (at_not_empty disk sink seen opened ended before after n at e).says;
+      not_empty = λ e. let told = at_not_empty disk sink seen opened ended before after n at e in (told.len, told.some, told.of_disk, told.says);
       as_before = λ e. (at_not_empty disk sink seen opened ended before after n at e).as_before;
       empty = empty_so (disk.told opened) n (λ e. (at_whole disk sink seen opened ended before after n at e).empty) (λ e. (at_sink_fault disk sink seen opened ended before after n at e).empty);
       ran = λ e. (at_whole disk sink seen opened ended before after n at e).whole;
@@ -56,14 +56,14 @@ runs_script disk sink says form options opened ended before after n at =
     }
 
 -- where no device fails a run over an empty log ends well, lack of memory aside
-completes_so : (told : Option Disk) (n : ℕ) (Says : Disk → Type 0) → (n ≡ 0) ⊎ (n ≡ 3) ⊎ (n ≡ 5) ⊎ (n ≡ 6) ⊎ (n ≡ 7) → (n ≡ 3 → ⊥) → (n ≡ 5 → ⊥)
-    → (n ≡ 7 → IfSome told (λ d. (0 < length d.content) × Says d)) → IfSome told (λ d. length d.content ≡ 0 → (n ≡ 0) ⊎ (n ≡ 6))
+completes_so : (told : Option Disk) (n : ℕ) (Says : ℕ → Type 0) → (n ≡ 0) ⊎ (n ≡ 3) ⊎ (n ≡ 5) ⊎ (n ≡ 6) ⊎ (n ≡ 7) → (n ≡ 3 → ⊥) → (n ≡ 5 → ⊥)
+    → (n ≡ 7 → (len : ℕ) × (0 < len) × IfSome told (λ d. length d.content ≡ len) × Says len) → IfSome told (λ d. length d.content ≡ 0 → (n ≡ 0) ⊎ (n ≡ 6))
 completes_so None n Says one not_3 not_5 at_7 = tt
 completes_so (Some d) n Says (inl e) not_3 not_5 at_7 = λ none. inl e
 completes_so (Some d) n Says (inr (inl e)) not_3 not_5 at_7 = λ none. absurd (not_3 e)
 completes_so (Some d) n Says (inr (inr (inl e))) not_3 not_5 at_7 = λ none. absurd (not_5 e)
 completes_so (Some d) n Says (inr (inr (inr (inl e)))) not_3 not_5 at_7 = λ none. inr e
-completes_so (Some d) n Says (inr (inr (inr (inr e)))) not_3 not_5 at_7 = λ none. absurd (let some = (at_7 e).0 in omega (arith, some, none))
+completes_so (Some d) n Says (inr (inr (inr (inr e)))) not_3 not_5 at_7 = λ none. absurd (let seven = at_7 e in omega (arith, seven.1, seven.2, none))
 
 pub completes : {D K : Type 0} (disk : disk.Ghosts D) (sink : sink.Ghosts K) (seen : Observed) (opened ended : D) (before after : K) (n : ℕ) → RunsScript disk sink seen opened ended before after n
     → (n ≡ 0) ⊎ (n ≡ 3) ⊎ (n ≡ 5) ⊎ (n ≡ 6) ⊎ (n ≡ 7) → Stood (sink.faults before) (sink.faults after) → Stood (disk.faults opened) (disk.faults ended)

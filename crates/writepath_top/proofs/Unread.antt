@@ -2,9 +2,10 @@
 use Rattle.std.proofs.Common.{◌≡◌, ◌⊎◌, inl, inr, ⊎_elim, ℕ, List, length, Option, Some, None, Ok, IfSome, le_trans, ap, ◌∙◌, arith}
 use Rattle.wp_edge.specs.Disk.{Disk}
 use Rattle.wp_model.specs.Counts.{Rose}
-use Rattle.wp_model.specs.Script.{Script, script_of, whole_grammar}
+use Rattle.wp_model.specs.Script.{Script, Fault, script_of, whole_grammar}
+use Rattle.wp_model.specs.declared.script.ScriptFault.{ScriptFault}
 use Rattle.run_outcome.specs.Running.{IsReached}
-use Rattle.printed_text.specs.Refusals.{source_fault}
+use Rattle.printed_text.specs.Refusals.{source_fault, script_fault}
 use Rattle.writepath_top.specs.declared.reading.ReadError.{ReadError}
 use Rattle.writepath_top.specs.declared.reading.ReadError.TheVariants as read
 use Rattle.writepath_top.specs.declared.telling.Status.{Status}
@@ -25,6 +26,16 @@ source_failed Why failed fails reached sold snew kf kfs n given is (read.Fault c
 source_failed Why failed fails reached sold snew kf kfs n given is (read.Script line kind) error tells four =
     ⊎_elim (λ said. absurd (let a = said.0 in omega (arith, a, four))) (λ none. absurd (let a = none.0 in omega (arith, a, four))) (refused_as sold snew kf kfs _ _ given n is tells)
 source_failed Why failed fails reached sold snew kf kfs n given is read.NoMemory error tells four = absurd (let a : n ≡ 6 = is ∙ ap code tells.0 in omega (arith, a, four))
+
+-- and if the text isn't one, its fault was said
+pub fault_said : (Why : ReadError → Type 0) (Is : Fault → Type 0) → ((line : ℕ) (kind : ScriptFault) → Why (read.Script line kind) → Is (record { line = line; kind = kind }))
+    → (sold snew : Option (List ℕ)) (kf kfs n : ℕ) (given : Status) → n ≡ code given → (why : ReadError) → Why why → TellsReadError sold snew kf kfs why given
+    → n ≡ 2 → (f : Fault) × Is f × SaysTo sold snew (script_fault f) kf kfs
+fault_said Why Is first sold snew kf kfs n given is (read.Fault count) error tells two =
+    ⊎_elim (λ said. absurd (let a = said.0 in omega (arith, a, two))) (λ none. absurd (let a = none.0 in omega (arith, a, two))) (refused_as sold snew kf kfs _ _ given n is tells)
+fault_said Why Is first sold snew kf kfs n given is (read.Script line kind) error tells two =
+    ⊎_elim (λ said. (record { line = line; kind = kind }, first line kind error, said.1)) (λ none. absurd (let a = none.0 in omega (arith, a, two))) (refused_as sold snew kf kfs _ _ given n is tells)
+fault_said Why Is first sold snew kf kfs n given is read.NoMemory error tells two = absurd (let a : n ≡ 6 = is ∙ ap code tells.0 in omega (arith, a, two))
 
 -- where no device failed, no script was read for lack of memory alone, if the text is one
 pub unread_completes : (left : Option (List ℕ)) (told : Option Disk) (failed fails kf kfs n : ℕ) (sold snew : Option (List ℕ)) (given : Status) → n ≡ code given → (why : ReadError)

@@ -11,14 +11,14 @@ use Rattle.core_model.specs.Schedule.{Schedule, schedule_of}
 use Rattle.client_script.specs.ReplayLanguage.{replay_grammar, event_words}
 use Rattle.client_calls.specs.declared.options.Options.{Options}
 use Rattle.write_core.specs.declared.state.CoreOptions.{CoreOptions}
-use Rattle.printed_text.specs.Refusals.{usage, script_fault, source_fault, not_empty}
+use Rattle.printed_text.specs.Refusals.{usage, script_fault, source_fault, disk_fault, not_empty}
 use Rattle.run_outcome.specs.Running.{IsReached}
 use Rattle.summary_laws.specs.Summaries.{summary_of}
 use Rattle.writepath_top.specs.declared.telling.Form.TheVariants as form
 use Rattle.writepath_top.specs.Asking.{usual_options}
 use Rattle.writepath_top.specs.Outcomes.{Observed, observed, SaysScript, IsGenerated, RanWhole, DiskFailed, RanToSinkFault, RanOutOfMemory}
-use Rattle.writepath_top.specs.Recovers.{TellsDisk, Recovers, RecoversFront, RecoveryRefused}
-use Rattle.writepath_top.specs.Replays.{TellsText, Replays, ReplaysFront}
+use Rattle.writepath_top.specs.Recovers.{TellsDisk, Recovers, RecoversFront}
+use Rattle.writepath_top.specs.Replays.{Replays, ReplaysFront}
 use Rattle.writepath_top.specs.Texts.{Stood, SaysTo}
 
 -- A script was run over the log of a disk, or would have been.
@@ -31,9 +31,8 @@ module _ {D K : Type 0} (disk : disk.Ghosts D) (sink : sink.Ghosts K) (seen : Ob
     pub sink_failed : status ≡ 5 → Rose (sink.faults before) (sink.faults after)
     -- 7: The log isn't empty, and stays as it was. Then no other status comes, but of a fault of the disk or for lack
     -- of memory.
-    pub not_empty : status ≡ 7 → IfSome (disk.told opened) (λ d. (0 < length d.content)
-        × SaysTo (sink.taken before) (sink.taken after) (not_empty (length d.content)) (sink.faults before)
-        (sink.faults after))
+    pub not_empty : status ≡ 7 → (len : ℕ) × (0 < len) × IfSome (disk.told opened) (λ d. length d.content ≡ len)
+        × SaysTo (sink.taken before) (sink.taken after) (not_empty len) (sink.faults before) (sink.faults after)
     pub as_before : status ≡ 7 → disk.told ended ≡ disk.told opened
     pub empty : IfSome (disk.told opened) (λ d. 0 < length d.content → (status ≢ 0) × (status ≢ 5))
     -- However the clients' threads interleave, every reply in the output is that of a plain map at its point of one
@@ -71,8 +70,8 @@ module _ {S D K : Type 0} (source : source.Ghosts S) (disk : disk.Ghosts D) (sin
   pub record AnswersRun (options : Options) (status : ℕ) : Type 0 where
     pub other : (status < 8) × (status ≢ 1)
     -- 2: the text isn't a script, and its first fault is told
-    pub script : status ≡ 2 → IfSome (source.left had)
-        (λ text. (f : Fault) × (script_of whole_grammar text ≡ Err f) × Says (script_fault f))
+    pub script : status ≡ 2 → (f : Fault)
+        × IfSome (source.left had) (λ text. script_of whole_grammar text ≡ Err f) × Says (script_fault f)
     pub other_script : status ≢ 6 → Stood (source.faults had) (source.faults has)
         → IfSome (source.left had) (λ text. (f : Fault) → script_of whole_grammar text ≡ Err f → status ≡ 2)
     -- 4: the source failed
@@ -116,10 +115,9 @@ module _ {S D K : Type 0} (source : source.Ghosts S) (disk : disk.Ghosts D) (sin
         (λ x y d. status ≡ 0 → Recovers x y d.content)
     pub recovered_prefix : TellsDisk (sink.taken before) (sink.taken after) (disk.told opened)
         (λ x y d. status ≡ 5 → RecoversFront x y d.content)
-    pub refused : TellsDisk (sink.taken before) (sink.taken after) (disk.told opened)
-        (λ x y d. status ≡ 3 → RecoveryRefused x y (disk.faults opened) (disk.faults ended) (sink.faults before)
-        (sink.faults after))
-    pub silent : TellsDisk (sink.taken before) (sink.taken after) (disk.told opened) (λ x y d. status ≡ 6 → y ≡ x)
+    pub refused : status ≡ 3 → (count : ℕ) × IsReached (disk.faults opened) count (disk.faults ended)
+        × Says (disk_fault count)
+    pub silent : status ≡ 6 → sink.taken after ≡ sink.taken before
     -- where no device fails it ends well, lack of memory aside
     pub completes : Stood (sink.faults before) (sink.faults after) → Stood (disk.faults opened) (disk.faults ended)
         → (status ≡ 0) ⊎ (status ≡ 6)
@@ -128,18 +126,16 @@ module _ {S D K : Type 0} (source : source.Ghosts S) (disk : disk.Ghosts D) (sin
   pub record AnswersReplay (options : CoreOptions) (status : ℕ) : Type 0 where
     pub one : (status ≡ 0) ⊎ (status ≡ 2) ⊎ (status ≡ 4) ⊎ (status ≡ 5) ⊎ (status ≡ 6)
     pub disk_untouched : ended ≡ opened
-    pub schedule : status ≡ 2 → IfSome (source.left had)
-        (λ text. (f : Fault) × (schedule_of replay_grammar event_words text ≡ Err f) × Says (script_fault f))
+    pub schedule : status ≡ 2 → (f : Fault)
+        × IfSome (source.left had) (λ text. schedule_of replay_grammar event_words text ≡ Err f) × Says (script_fault f)
     pub other_schedule : status ≢ 6 → Stood (source.faults had) (source.faults has) → IfSome (source.left had)
         (λ text. (f : Fault) → schedule_of replay_grammar event_words text ≡ Err f → status ≡ 2)
     pub no_fault : status ≡ 0 → (source.faults has ≡ source.faults had) × (sink.faults after ≡ sink.faults before)
     pub source_failed : status ≡ 4 → SourceFailed
     pub sink_failed : status ≡ 5 → Rose (sink.faults before) (sink.faults after)
     pub read_to_end : (status ≡ 0) ⊎ (status ≡ 5) → IfSome (source.left has) (λ left. left ≡ [])
-    pub replayed : TellsText (source.left had) (sink.taken before) (sink.taken after)
-        (λ text x y. status ≡ 0 → Replays options x y text)
-    pub replayed_prefix : TellsText (source.left had) (sink.taken before) (sink.taken after)
-        (λ text x y. status ≡ 5 → ReplaysFront options x y text)
+    pub replayed : status ≡ 0 → Replays options (source.left had) (sink.taken before) (sink.taken after)
+    pub replayed_prefix : status ≡ 5 → ReplaysFront options (source.left had) (sink.taken before) (sink.taken after)
     pub silent : status ≡ 6 → sink.taken after ≡ sink.taken before
     -- where no device fails a schedule ends well, lack of memory aside
     pub completes : Stood (source.faults had) (source.faults has) → Stood (sink.faults before) (sink.faults after)

@@ -1,7 +1,7 @@
 -- What the commands that run a script promise: every reply that is printed is that of a plain map at its point of one
 -- printed history. Each device tells its bytes, or it doesn't (`None`). What is said of one stands whatever the others
 -- tell.
-use Rattle.std.specs.Prelude.{◌≡◌, ◌⊎◌, ℕ, List, Option, Some, None, Ok, IfSome, IsSome, take, slice_get}
+use Rattle.std.specs.Prelude.{◌≡◌, ◌⊎◌, ℕ, List, Option, Some, None, Ok, IfSome, IsSome, slice_get}
 use Rattle.std.specs.List.{AllByRecursion}
 use Rattle.std.specs.Io.KnownBytes.{Appends}
 use Rattle.wp_edge.specs.Disk.{Disk, Told}
@@ -13,22 +13,20 @@ use Rattle.wp_model.specs.Generator.{generated}
 use Rattle.wp_model.specs.Runs.{NoneWithoutMemory}
 use Rattle.client_calls.specs.declared.options.Options.{Options}
 use Rattle.run_model.specs.Crashes.{IsImageSince}
-use Rattle.run_outcome.specs.Running.{Execution, execution_of, IsLegalOf, LeavesSafeLog, IsReached}
+use Rattle.run_outcome.specs.Running.{Execution, execution_of, IsRunOf, LeavesSafeLog, IsReached}
 use Rattle.run_model.specs.Refusals.{AreRefusedForThemselves}
+use Rattle.log_writer.specs.Written.{IsWrittenFrom}
 use Rattle.printed_text.specs.Refusals.{disk_fault}
 use Rattle.writepath_top.specs.declared.telling.Form.{Form}
 use Rattle.writepath_top.specs.Telling.{text_of}
-use Rattle.writepath_top.specs.Texts.{SaysTo}
+use Rattle.writepath_top.specs.Texts.{SaysTo, TakesPrefix}
 
--- A legal outcome of a run. Where the disk tells its bytes the run found the log empty and left the batches of this
--- outcome there, and a crash at any moment of it leaves a prefix of them to recover.
+-- The outcome of a run: it is legal, and the log was written by just the calls that wrote its history's groups. Where the
+-- disk tells its bytes the run found the log empty and left the batches of this outcome there, and a crash at any moment
+-- of it leaves a prefix of them to recover.
 pub record IsOutcome (execution : Execution) (opened ended : Option Disk) (o : calls.Outcome) : Type 0 where
-  pub legal : IsLegalOf execution o
-  pub log : Told opened ended (LeavesSafeLog execution o)
-
--- a prefix of the text was taken
-abbrev pub TakesPrefix : Option (List ℕ) → Option (List ℕ) → List ℕ → Type 0
-TakesPrefix before after text = (n : ℕ) × Appends before after (take n text)
+  pub run : IsRunOf execution o
+  pub log : Told opened ended (LeavesSafeLog execution o run)
 
 -- where the log has no fault commits were refused for themselves alone
 abbrev pub RefusesForThemselves : calls.Outcome → Type 0
@@ -57,7 +55,7 @@ observed disk sink says form options opened ended before after = record {
   opened = disk.told opened;
   ended = disk.told ended;
   execution = λ script. execution_of options script (disk.faults opened) (disk.faults ended)
-      (IsImageSince disk.moment disk.from disk.since opened ended);
+      (IsImageSince disk.moment disk.from disk.since opened ended) (IsWrittenFrom disk opened ended);
 }
 
 -- the script of a text, where it is told

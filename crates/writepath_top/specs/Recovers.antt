@@ -3,9 +3,7 @@ use Rattle.std.specs.Prelude.{ℕ, List, Option, Some, None, ⊤}
 use Rattle.wp_edge.specs.Disk.{Disk}
 use Rattle.wp_model.specs.Recovery.{Recovered, IsRecovered}
 use Rattle.wp_model.specs.Text.{recovered_text}
-use Rattle.writepath_top.specs.Texts.{Prints, PrintsFront, Says}
-use Rattle.printed_text.specs.Refusals.{disk_fault}
-use Rattle.run_outcome.specs.Running.{IsReached}
+use Rattle.writepath_top.specs.Texts.{Prints, PrintsFront}
 
 -- the sink's bytes before and after a call, and the disk, where they are told
 abbrev pub TellsDisk : Option (List ℕ) → Option (List ℕ) → Option Disk → (List ℕ → List ℕ → Disk → Type 0) → Type 0
@@ -23,9 +21,3 @@ pub record RecoversFront (before after file : List ℕ) : Type 0 where
   pub recovered : Recovered
   pub is_recovered : IsRecovered None file recovered
   pub printed : PrintsFront before after (recovered_text recovered)
-
--- status 3: the disk failed
-pub record RecoveryRefused (before after : List ℕ) (failed fails sink_failed sink_fails : ℕ) : Type 0 where
-  pub count : ℕ
-  pub reached : IsReached failed count fails
-  pub said : Says before after (disk_fault count) sink_failed sink_fails

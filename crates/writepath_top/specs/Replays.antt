@@ -1,26 +1,25 @@
 -- What the command `replay` promises.
-use Rattle.std.specs.Prelude.{◌≡◌, ℕ, List, Option, Some, Ok, ⊤}
+use Rattle.std.specs.Prelude.{◌≡◌, ℕ, List, Option, Ok, IfSome}
+use Rattle.std.specs.Io.KnownBytes.{Appends}
 use Rattle.core_model.specs.Schedule.{Schedule, schedule_of}
 use Rattle.core_model.specs.ReplayText.{replay_text}
 use Rattle.write_core.specs.declared.state.CoreOptions.{CoreOptions}
 use Rattle.schedule_run.specs.Replayed.{replayed_of}
-use Rattle.writepath_top.specs.Texts.{Prints, PrintsFront}
+use Rattle.writepath_top.specs.Texts.{TakesPrefix}
 use Rattle.client_script.specs.ReplayLanguage.{replay_grammar, event_words}
 
+-- the schedule of a text, where it is told
+abbrev pub SaysSchedule : Option (List ℕ) → Schedule → Type 0
+SaysSchedule text schedule = IfSome text (λ t. schedule_of replay_grammar event_words t ≡ Ok schedule)
+
 -- status 0: the text of what the schedule came to was printed
-pub record Replays (options : CoreOptions) (before after text : List ℕ) : Type 0 where
+pub record Replays (options : CoreOptions) (text before after : Option (List ℕ)) : Type 0 where
   pub schedule : Schedule
-  pub said : schedule_of replay_grammar event_words text ≡ Ok schedule
-  pub printed : Prints before after (replay_text (replayed_of options schedule))
+  pub said : SaysSchedule text schedule
+  pub printed : Appends before after (replay_text (replayed_of options schedule))
 
--- status 5: a front of it was taken
-pub record ReplaysFront (options : CoreOptions) (before after text : List ℕ) : Type 0 where
+-- status 5: a prefix of it was taken
+pub record ReplaysFront (options : CoreOptions) (text before after : Option (List ℕ)) : Type 0 where
   pub schedule : Schedule
-  pub said : schedule_of replay_grammar event_words text ≡ Ok schedule
-  pub printed : PrintsFront before after (replay_text (replayed_of options schedule))
-
--- the source's bytes, and the sink's before and after a call, where they are told
-abbrev pub TellsText : Option (List ℕ) → Option (List ℕ) → Option (List ℕ) → (List ℕ → List ℕ → List ℕ → Type 0)
-    → Type 0
-TellsText (Some text) (Some before) (Some after) P = P text before after
-TellsText text before after P = ⊤
+  pub said : SaysSchedule text schedule
+  pub printed : TakesPrefix before after (replay_text (replayed_of options schedule))

@@ -1,9 +1,11 @@
 //! The command `recover`: what a log recovers is printed.
 
-ghost use Rattle.std.specs.Prelude.{◌≡◌, ◌⊎◌};
+ghost use Rattle.std.specs.Prelude.{◌≡◌, ◌⊎◌, ℕ};
 ghost use Rattle.wp_model.specs.Counts.{Rose};
-ghost use Rattle.writepath_top.specs.Recovers.{TellsDisk, Recovers, RecoversFront, RecoveryRefused};
-ghost use Rattle.writepath_top.specs.Texts.{Stood};
+ghost use Rattle.printed_text.specs.Refusals.{disk_fault};
+ghost use Rattle.run_outcome.specs.Running.{IsReached};
+ghost use Rattle.writepath_top.specs.Recovers.{TellsDisk, Recovers, RecoversFront};
+ghost use Rattle.writepath_top.specs.Texts.{Stood, SaysTo};
 
 use crate::ended::{Ended, end_with};
 use crate::telling::tell_recovery;
@@ -23,11 +25,9 @@ pub fn recover_log<D: Disk, K: Sink>(alloc: Global, mut disk: D, sink: &mut K) -
         (λ before after d. result.status ≡ 0 → Recovers before after d.content) }
     ensures recovered_prefix { TellsDisk (K.taken sink.old) (K.taken sink.new) (D.told disk)
         (λ before after d. result.status ≡ 5 → RecoversFront before after d.content) }
-    ensures refused { TellsDisk (K.taken sink.old) (K.taken sink.new) (D.told disk)
-        (λ before after d. result.status ≡ 3 → RecoveryRefused before after
-        (D.faults disk) (D.faults result.disk) (K.faults sink.old) (K.faults sink.new)) }
-    ensures silent { TellsDisk (K.taken sink.old) (K.taken sink.new) (D.told disk)
-        (λ before after d. result.status ≡ 6 → after ≡ before) }
+    ensures refused { result.status ≡ 3 → (count : ℕ) × IsReached (D.faults disk) count (D.faults result.disk)
+        × SaysTo (K.taken sink.old) (K.taken sink.new) (disk_fault count) (K.faults sink.old) (K.faults sink.new) }
+    ensures silent { result.status ≡ 6 → K.taken sink.new ≡ K.taken sink.old }
     ensures completes { Stood (K.faults sink.old) (K.faults sink.new)
         → Stood (D.faults disk) (D.faults result.disk) → (result.status ≡ 0) ⊎ (result.status ≡ 6) }
 {

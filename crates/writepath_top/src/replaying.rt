@@ -8,7 +8,7 @@ ghost use Rattle.core_model.specs.Schedule.{Schedule, schedule_of};
 ghost use Rattle.client_script.specs.ReplayLanguage.{replay_grammar, event_words};
 ghost use Rattle.printed_text.specs.Refusals.{script_fault, source_fault};
 ghost use Rattle.run_outcome.specs.Running.{IsReached};
-ghost use Rattle.writepath_top.specs.Replays.{TellsText, Replays, ReplaysFront};
+ghost use Rattle.writepath_top.specs.Replays.{Replays, ReplaysFront};
 ghost use Rattle.writepath_top.specs.Texts.{Stood, SaysTo};
 
 use crate::ended::{Ended, end_with};
@@ -31,9 +31,9 @@ pub fn replay<S: Source, D, K: Sink>(
     ensures status { (result.status ≡ 0) ⊎ (result.status ≡ 2) ⊎ (result.status ≡ 4) ⊎ (result.status ≡ 5)
         ⊎ (result.status ≡ 6) }
     ensures disk { result.disk ≡ disk }
-    ensures schedule { result.status ≡ 2 → IfSome (S.left source.old) (λ text. (f : Fault)
-        × (schedule_of replay_grammar event_words text ≡ Err f)
-        × SaysTo (K.taken sink.old) (K.taken sink.new) (script_fault f) (K.faults sink.old) (K.faults sink.new)) }
+    ensures schedule { result.status ≡ 2 → (f : Fault)
+        × IfSome (S.left source.old) (λ text. schedule_of replay_grammar event_words text ≡ Err f)
+        × SaysTo (K.taken sink.old) (K.taken sink.new) (script_fault f) (K.faults sink.old) (K.faults sink.new) }
     ensures other_schedule { result.status ≢ 6 → Stood (S.faults source.old) (S.faults source.new)
         → IfSome (S.left source.old) (λ text. (f : Fault) → schedule_of replay_grammar event_words text ≡ Err f
         → result.status ≡ 2) }
@@ -45,10 +45,10 @@ pub fn replay<S: Source, D, K: Sink>(
     ensures sink_failed { result.status ≡ 5 → Rose (K.faults sink.old) (K.faults sink.new) }
     ensures read_to_end { (result.status ≡ 0) ⊎ (result.status ≡ 5)
         → IfSome (S.left source.new) (λ left. left ≡ []) }
-    ensures replayed { TellsText (S.left source.old) (K.taken sink.old) (K.taken sink.new)
-        (λ text before after. result.status ≡ 0 → Replays options before after text) }
-    ensures replayed_prefix { TellsText (S.left source.old) (K.taken sink.old) (K.taken sink.new)
-        (λ text before after. result.status ≡ 5 → ReplaysFront options before after text) }
+    ensures replayed { result.status ≡ 0
+        → Replays options (S.left source.old) (K.taken sink.old) (K.taken sink.new) }
+    ensures replayed_prefix { result.status ≡ 5
+        → ReplaysFront options (S.left source.old) (K.taken sink.old) (K.taken sink.new) }
     ensures silent { result.status ≡ 6 → K.taken sink.new ≡ K.taken sink.old }
     ensures completes { Stood (S.faults source.old) (S.faults source.new)
         → Stood (K.faults sink.old) (K.faults sink.new)

@@ -49,9 +49,9 @@ pub fn run_script<
     requires options { (options.last ≤ max_sequence) × (options.batch_bytes ≤ 16777216) }
     requires kind { HasShards kind }
     ensures other { (result.status < 8) × (result.status ≢ 1) }
-    ensures script { result.status ≡ 2 → IfSome (S.left source.old) (λ text. (f : Fault)
-        × (script_of whole_grammar text ≡ Err f)
-        × SaysTo (K.taken sink.old) (K.taken sink.new) (script_fault f) (K.faults sink.old) (K.faults sink.new)) }
+    ensures script { result.status ≡ 2 → (f : Fault)
+        × IfSome (S.left source.old) (λ text. script_of whole_grammar text ≡ Err f)
+        × SaysTo (K.taken sink.old) (K.taken sink.new) (script_fault f) (K.faults sink.old) (K.faults sink.new) }
     ensures other_script { result.status ≢ 6 → Stood (S.faults source.old) (S.faults source.new)
         → IfSome (S.left source.old) (λ text. (f : Fault) → script_of whole_grammar text ≡ Err f
         → result.status ≡ 2) }

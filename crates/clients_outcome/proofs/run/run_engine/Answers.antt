@@ -58,4 +58,4 @@ returns-in-Err g c =
     let closed = c.close-log-in-Err.ensures in
     let log = c.close-log-in-Err.result.log in
     log_by_no_call settings (E.faults log) closed.0 closed.1 (map E.account clients.items) c.close-log-in-Err.result.last (E.fault log) closed.2
-    settings.start (length-map clients.items E.account ∙ ours.number_of) (newcomers E.account settings.start clients.items new) (E.wrote engine) log closed.3
+    settings.start (length-map clients.items E.account ∙ ours.number_of) (newcomers E.account settings.start clients.items new) (λ calls. E.wrote engine calls log) closed.3

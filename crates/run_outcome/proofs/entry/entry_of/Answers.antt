@@ -2,7 +2,6 @@ use Rattle.std.specs.Prelude.{Some}
 use Rattle.std.proofs.Common.{◌≡◌, ℕ, ◌+◌, ◌-◌, ◌^◌, min, ap, sym, ◌∙◌}
 use Rattle.wp_model.specs.Batch.{count_of}
 use Rattle.write_batch.specs.Contents.{Contents}
-use Rattle.client_calls.specs.declared.entry.Entry.{Entry}
 use Rattle.batch_list.specs.declared.kept.Kept.{Kept}
 use Rattle.run_outcome.specs.Histories.{last_in, entry_of}
 use Rattle.run_outcome.proofs.Entries.{entries_of-at}

@@ -42,7 +42,8 @@ returns-clause-one_summary g c = λ zero.
     let opened = g.D.Disk.faults c.args.disk in
     let ended = g.D.Disk.faults c.run_and_tell.result.disk in
     let same : whole.ran.script ≡ generated seed clients batches = whole.ran.said ∙ c.in-Ok.ensures.ok in
-    let legal = subst (λ s. IsLegal (settings_of usual_options (length s) opened) ended s o) same whole.ran.is_outcome.legal in
+    let run = whole.ran.is_outcome.run in
+    let legal = subst (λ s. IsLegal (settings_of usual_options (length s) opened) ended s o) same (record { trace = run.trace; attempts = run.attempts; legal = run.legal }) in
     let one = c.summaries_are_one.ensures.one_summary seed clients batches ended (settings_of usual_options (length (generated seed clients batches)) opened) o
     (omega arith) (omega arith) refl refl legal whole.no_fault whole.whole in
     subst (λ text. Appends (g.K.Sink.taken c.args.sink.now) (g.K.Sink.taken c.run_and_tell.new.sink) text) one whole.printed

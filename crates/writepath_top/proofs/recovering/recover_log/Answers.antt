@@ -7,7 +7,7 @@ pub returns-clause-refused : goal.returns-clause-refused
 returns-clause-refused g c =
     let disk = c.recover-found.new.disk in
     rw c.end_with.ensures.disk (recovery_refused (g.D.Disk.faults c.args.disk) (g.D.Disk.faults disk) (g.K.Sink.faults c.args.sink.now) (g.K.Sink.faults c.tell_recovery.new.sink)
-    c.end_with.result.status (g.K.Sink.taken c.args.sink.now) (g.K.Sink.taken c.tell_recovery.new.sink) (g.D.Disk.told c.args.disk) c.recover-found.result c.tell_recovery.result
+    c.end_with.result.status (g.K.Sink.taken c.args.sink.now) (g.K.Sink.taken c.tell_recovery.new.sink) c.recover-found.result c.tell_recovery.result
     c.end_with.ensures.status c.recover-found.ensures.error c.tell_recovery.ensures)
 
 pub returns-clause-no_fault : goal.returns-clause-no_fault

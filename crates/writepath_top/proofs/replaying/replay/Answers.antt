@@ -1,10 +1,11 @@
 -- What stands printed of a schedule, and where none was read.
-use Rattle.std.proofs.Common.{inl, inr}
+use Rattle.std.proofs.Common.{◌≡◌, inl, inr, Err, IfSome}
+use Rattle.core_model.specs.Schedule as model
 use Rattle.client_script.specs.Schedules.{schedule_of}
+use Rattle.client_script.specs.ReplayLanguage.{replay_grammar, event_words}
 use Rattle.writepath_top.specs.Reading.{IsScheduleError}
 use Rattle.writepath_top.proofs.ReplayEndings.{replays_front, replays_whole, replay_counted, replay_completes}
-use Rattle.writepath_top.proofs.Unread.{source_failed, unread_schedule_completes, unread_is_not_run}
-use Rattle.writepath_top.proofs.NoMemory.{tells_text}
+use Rattle.writepath_top.proofs.Unread.{source_failed, fault_said, unread_schedule_completes, unread_is_not_run}
 use Rattle.writepath_top.proofs.replaying.replay.Goals as goal
 
 pub returns-in-Ok-clause-replayed_prefix : goal.returns-in-Ok-clause-replayed_prefix
@@ -35,6 +36,15 @@ returns-in-Err-clause-source g c =
     (g.K.Sink.faults c.args.sink.now) (g.K.Sink.faults c.tell_read_error.new.sink) c.end_with-in-Err.result.status c.tell_read_error.result c.end_with-in-Err.ensures.status c.in-Err.error
     c.in-Err.ensures.error c.tell_read_error.ensures
 
+pub returns-in-Err-clause-schedule : goal.returns-in-Err-clause-schedule
+returns-in-Err-clause-schedule g c =
+    let left = g.S.Source.left c.args.source.now in
+    let failed = g.S.Source.faults c.args.source.now in
+    let fails = g.S.Source.faults c.read_schedule.new.source in
+    fault_said (IsScheduleError left failed fails) (λ f. IfSome left (λ text. model.schedule_of replay_grammar event_words text ≡ Err f)) (λ line kind error. error) (g.K.Sink.taken c.args.sink.now) (g.K.Sink.taken c.tell_read_error.new.sink)
+    (g.K.Sink.faults c.args.sink.now) (g.K.Sink.faults c.tell_read_error.new.sink) c.end_with-in-Err.result.status c.tell_read_error.result c.end_with-in-Err.ensures.status c.in-Err.error
+    c.in-Err.ensures.error c.tell_read_error.ensures
+
 pub returns-in-Ok-clause-completes : goal.returns-in-Ok-clause-completes
 returns-in-Ok-clause-completes g c = λ source_stood sink_stood.
     replay_completes (g.S.Source.left c.args.source.now) c.replay_schedule-replayed.result (g.K.Sink.faults c.args.sink.now) (g.K.Sink.faults c.tell_replay.new.sink) c.end_with.result.status c.tell_replay.result
@@ -46,13 +56,11 @@ returns-in-Err-clause-completes g c = λ source_stood sink_stood.
     c.end_with-in-Err.result.status (g.K.Sink.taken c.args.sink.now) (g.K.Sink.taken c.tell_read_error.new.sink) c.tell_read_error.result c.end_with-in-Err.ensures.status c.in-Err.error c.in-Err.ensures.error c.tell_read_error.ensures source_stood
 
 pub returns-in-Err-clause-replayed : goal.returns-in-Err-clause-replayed
-returns-in-Err-clause-replayed g c =
-    let not_run = unread_is_not_run (g.K.Sink.faults c.args.sink.now) (g.K.Sink.faults c.tell_read_error.new.sink) c.end_with-in-Err.result.status (g.K.Sink.taken c.args.sink.now) (g.K.Sink.taken c.tell_read_error.new.sink)
-    c.tell_read_error.result c.end_with-in-Err.ensures.status c.in-Err.error c.tell_read_error.ensures in
-    tells_text (g.S.Source.left c.args.source.now) (g.K.Sink.taken c.args.sink.now) (g.K.Sink.taken c.tell_read_error.new.sink) _ (λ text before after zero. absurd (not_run (inl zero)))
+returns-in-Err-clause-replayed g c = λ zero.
+    absurd (unread_is_not_run (g.K.Sink.faults c.args.sink.now) (g.K.Sink.faults c.tell_read_error.new.sink) c.end_with-in-Err.result.status (g.K.Sink.taken c.args.sink.now) (g.K.Sink.taken c.tell_read_error.new.sink)
+    c.tell_read_error.result c.end_with-in-Err.ensures.status c.in-Err.error c.tell_read_error.ensures (inl zero))
 
 pub returns-in-Err-clause-replayed_prefix : goal.returns-in-Err-clause-replayed_prefix
-returns-in-Err-clause-replayed_prefix g c =
-    let not_run = unread_is_not_run (g.K.Sink.faults c.args.sink.now) (g.K.Sink.faults c.tell_read_error.new.sink) c.end_with-in-Err.result.status (g.K.Sink.taken c.args.sink.now) (g.K.Sink.taken c.tell_read_error.new.sink)
-    c.tell_read_error.result c.end_with-in-Err.ensures.status c.in-Err.error c.tell_read_error.ensures in
-    tells_text (g.S.Source.left c.args.source.now) (g.K.Sink.taken c.args.sink.now) (g.K.Sink.taken c.tell_read_error.new.sink) _ (λ text before after five. absurd (not_run (inr five)))
+returns-in-Err-clause-replayed_prefix g c = λ five.
+    absurd (unread_is_not_run (g.K.Sink.faults c.args.sink.now) (g.K.Sink.faults c.tell_read_error.new.sink) c.end_with-in-Err.result.status (g.K.Sink.taken c.args.sink.now) (g.K.Sink.taken c.tell_read_error.new.sink)
+    c.tell_read_error.result c.end_with-in-Err.ensures.status c.in-Err.error c.tell_read_error.ensures (inr five))

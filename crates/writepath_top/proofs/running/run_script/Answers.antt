@@ -1,5 +1,5 @@
 -- The run's promises, of what the source says; and where no script was read, what stands then.
-use Rattle.std.proofs.Common.{◌≡◌, ℕ, List, length, Option, Some, None, Ok, IfSome, refl, sym, subst}
+use Rattle.std.proofs.Common.{◌≡◌, ℕ, List, length, Option, Some, None, Ok, Err, IfSome, refl, sym, subst}
 use Rattle.wp_edge.specs.Disk.{Disk}
 use Rattle.wp_model.specs.Script.{Script, script_of, whole_grammar}
 use Rattle.client_script.specs.Scripts.{commands_of}
@@ -8,7 +8,7 @@ use Rattle.writepath_top.specs.Reading.{IsScriptError}
 use Rattle.writepath_top.specs.Outcomes.{IsScript, SaysScript, observed}
 use Rattle.writepath_top.proofs.Endings.{unread}
 use Rattle.writepath_top.proofs.Runs.{runs_script, runs_retold, completes}
-use Rattle.writepath_top.proofs.Unread.{source_failed, unread_completes}
+use Rattle.writepath_top.proofs.Unread.{source_failed, fault_said, unread_completes}
 use Rattle.writepath_top.proofs.running.run_script.Goals as goal
 
 says_it : (left : Option (List ℕ)) (this s : Script) → IfSome left (λ text. script_of whole_grammar text ≡ Ok this) → IsScript this s → SaysScript left s
@@ -36,6 +36,15 @@ returns-in-Err-clause-source g c =
     let failed = g.S.Source.faults c.args.source.now in
     let fails = g.S.Source.faults c.read_script.new.source in
     source_failed (IsScriptError left failed fails) failed fails (λ count error. error) (g.K.Sink.taken c.args.sink.now) (g.K.Sink.taken c.tell_read_error.new.sink)
+    (g.K.Sink.faults c.args.sink.now) (g.K.Sink.faults c.tell_read_error.new.sink) c.end_with.result.status c.tell_read_error.result c.end_with.ensures.status c.in-Err.why
+    c.in-Err.ensures.error c.tell_read_error.ensures
+
+pub returns-in-Err-clause-script : goal.returns-in-Err-clause-script
+returns-in-Err-clause-script g c =
+    let left = g.S.Source.left c.args.source.now in
+    let failed = g.S.Source.faults c.args.source.now in
+    let fails = g.S.Source.faults c.read_script.new.source in
+    fault_said (IsScriptError left failed fails) (λ f. IfSome left (λ text. script_of whole_grammar text ≡ Err f)) (λ line kind error. error) (g.K.Sink.taken c.args.sink.now) (g.K.Sink.taken c.tell_read_error.new.sink)
     (g.K.Sink.faults c.args.sink.now) (g.K.Sink.faults c.tell_read_error.new.sink) c.end_with.result.status c.tell_read_error.result c.end_with.ensures.status c.in-Err.why
     c.in-Err.ensures.error c.tell_read_error.ensures
 
