@@ -1,4 +1,3 @@
-pub mod Commands
 pub mod Entries
 pub mod Measures
 pub mod Settings

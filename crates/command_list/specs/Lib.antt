@@ -1,3 +1,4 @@
+pub mod Kinds
 pub mod Layout
 pub mod Contents
 pub mod Reading

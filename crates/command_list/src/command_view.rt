@@ -4,8 +4,9 @@ ghost use Rattle.std.specs.Prelude.{◌≡◌, [], ◌∷◌};
 ghost use Rattle.command_list.specs.Contents.{commits_in};
 ghost use Rattle.command_list.specs.Views.{command_of};
 
-use crate::Words;
+use crate::{CommandKind, Words};
 use wp_model::WriteOptions;
+use write_batch::RecordView;
 
 /// A command of a client, whose words are borrowed. Contracts see it by `command_of`.
 #[derive(Drop)]
@@ -36,6 +37,54 @@ pub enum CommandView<'a> {
     Slow { rate: u64 },
     /// Gives the delay token back.
     Unslow,
+}
+
+impl<'a> CommandView<'a> {
+    ghost use Rattle.std.specs.Prelude.{option_map};
+    ghost use Rattle.write_batch.specs.View.{record_of};
+    ghost use Rattle.command_list.specs.Kinds.{kind_of, record_added};
+
+    /// What it is for.
+    pub fn kind(&self) -> CommandKind
+        ensures { result ≡ kind_of (command_of self.now) }
+    {
+        match self {
+            CommandView::Put { .. }
+            | CommandView::Delete { .. }
+            | CommandView::SingleDelete { .. }
+            | CommandView::Note { .. } => CommandKind::Addition,
+            CommandView::Clear => CommandKind::Clear,
+            CommandView::Commit { .. } => CommandKind::Commit,
+            CommandView::Get { .. } | CommandView::Many { .. } | CommandView::Scan { .. } => {
+                CommandKind::Read
+            }
+            CommandView::Stop
+            | CommandView::Unstop
+            | CommandView::Slow { .. }
+            | CommandView::Unslow => CommandKind::Token,
+        }
+    }
+
+    /// The record that it adds to the client's batch, if it adds one.
+    pub fn record(&self) -> Option<RecordView<'a>>
+        ensures { option_map record_of result ≡ record_added (command_of self.now) }
+    {
+        match self {
+            CommandView::Put { key, value } => Some(RecordView::Value { key, value }),
+            CommandView::Delete { key } => Some(RecordView::Deletion { key }),
+            CommandView::SingleDelete { key } => Some(RecordView::SingleDeletion { key }),
+            CommandView::Note { text } => Some(RecordView::LogData { blob: text }),
+            CommandView::Clear
+            | CommandView::Commit { .. }
+            | CommandView::Get { .. }
+            | CommandView::Many { .. }
+            | CommandView::Scan { .. }
+            | CommandView::Stop
+            | CommandView::Unstop
+            | CommandView::Slow { .. }
+            | CommandView::Unslow => None,
+        }
+    }
 }
 
 /// How many commits a command is: one or none.

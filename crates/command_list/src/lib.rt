@@ -20,6 +20,7 @@
 //! | 13 | unslow | nothing |
 #![tactic(auto)]
 
+mod command_kind;
 mod command_view;
 mod commands;
 mod layout;
@@ -27,6 +28,7 @@ mod list;
 mod reading;
 mod words;
 
+pub use command_kind::CommandKind;
 pub use command_view::CommandView;
 pub use commands::Commands;
 pub use list::CommandList;

@@ -56,6 +56,16 @@ impl<'a> Words<'a> {
         self.count as usize
     }
 
+    /// The same words from the same place on.
+    pub fn again(&self) -> Words<'a>
+        ensures { result ≡ self.now }
+    {
+        Words {
+            bytes: self.bytes,
+            count: self.count,
+        }
+    }
+
     /// The words as strings of their own.
     pub fn copies(self, alloc: Global) -> Result<Vec<Bytes>, NoMemory>
         ensures { IfOk result (λ copies. copies.items ≡ self.entry) }

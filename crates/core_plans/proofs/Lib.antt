@@ -1,3 +1,4 @@
 pub mod AheadLemmas
+pub mod LineLemmas
 pub mod SizeLemmas
 pub mod SmallLemmas

@@ -1,40 +1,44 @@
 //! The batches that lines of a plan make.
 
 ghost use Rattle.std.specs.Prelude.{◌≡◌, ◌<◌, ◌≤◌, ◌+◌, ◌-◌, ◌^◌, length, min};
-ghost use Rattle.wp_model.specs.Batch.{size_of_batch};
-ghost use Rattle.client_calls.specs.Measures.{measure_of};
+ghost use Rattle.wp_model.specs.Batch.{record_bytes, size_of_batch};
 ghost use Rattle.wp_model.specs.Varint.{varint};
-ghost use Rattle.client_calls.specs.Commands.{record_added};
+ghost use Rattle.write_batch.specs.View.{record_of};
+ghost use Rattle.client_calls.specs.Measures.{measure_of};
+ghost use Rattle.command_list.specs.Kinds.{record_added};
+ghost use Rattle.command_list.specs.Views.{command_of};
 ghost use Rattle.core_plans.specs.Small.{record_size, record_count};
-ghost use Rattle.core_plans.specs.Ahead.{added_between};
+ghost use Rattle.core_plans.specs.Plans.{added_between};
 
-use crate::plan::Lines;
-use client_calls::{BATCH_HEADER_LEN, Command, Measure};
+use crate::plan::{ClientPlan, Lines};
+use client_calls::{BATCH_HEADER_LEN, Measure};
+use command_list::CommandView;
 use wp_coding::varint32_len;
+use write_batch::RecordView;
 
 /// Measures the batch of some lines. A size that passes `u64::MAX` stays there.
-pub fn measure_batch(lines: &[Command], batch: Lines) -> Measure
-    ensures { batch.from ≤ batch.to → batch.to ≤ length lines.now
-        → size_of_batch (added_between batch.from batch.to lines.now) < 2 ^ 64
-        → result ≡ measure_of (added_between batch.from batch.to lines.now) }
+pub fn measure_batch(plan: &ClientPlan<'_>, batch: Lines) -> Measure
+    ensures { batch.from ≤ batch.to → batch.to ≤ length plan.now
+        → size_of_batch (added_between batch.from batch.to plan.now) < 2 ^ 64
+        → result ≡ measure_of (added_between batch.from batch.to plan.now) }
 {
     let mut measure = Measure {
         size: BATCH_HEADER_LEN,
         count: 0,
     };
-    let end = batch.to.min(lines.len());
+    let end = batch.to.min(plan.len());
     for place in batch.from..end {
-        measure = with_line(measure, &lines[place]);
+        measure = with_line(measure, plan.line(place));
     }
     measure
 }
 
 /// The measure of a batch and the record that a line adds.
-fn with_line(measure: Measure, line: &Command) -> Measure
-    ensures size { measure.size + record_size (record_added line.now) < 2 ^ 64
-        → result.size ≡ measure.size + record_size (record_added line.now) }
-    ensures count { measure.count + record_count (record_added line.now) < 2 ^ 64
-        → result.count ≡ measure.count + record_count (record_added line.now) }
+fn with_line(measure: Measure, line: &CommandView<'_>) -> Measure
+    ensures size { measure.size + record_size (record_added (command_of line.now)) < 2 ^ 64
+        → result.size ≡ measure.size + record_size (record_added (command_of line.now)) }
+    ensures count { measure.count + record_count (record_added (command_of line.now)) < 2 ^ 64
+        → result.count ≡ measure.count + record_count (record_added (command_of line.now)) }
 {
     Measure {
         size: measure.size.saturating_add(line_size(line)),
@@ -43,26 +47,27 @@ fn with_line(measure: Measure, line: &Command) -> Measure
 }
 
 /// The bytes of the record that a line adds. A size that passes `u64::MAX` stays there.
-pub(crate) fn line_size(line: &Command) -> u64
-    ensures { result ≡ min (record_size (record_added line.now)) (2 ^ 64 - 1) }
+pub(crate) fn line_size(line: &CommandView<'_>) -> u64
+    ensures { result ≡ min (record_size (record_added (command_of line.now))) (2 ^ 64 - 1) }
 {
-    match line {
-        Command::Put { key, value } => string_size(key.len())
+    match line.record() {
+        Some(view) => size_of(view),
+        None => 0,
+    }
+}
+
+/// The bytes of a record.
+fn size_of(view: RecordView<'_>) -> u64
+    ensures { result ≡ min (length (record_bytes (record_of view.entry))) (2 ^ 64 - 1) }
+{
+    match view {
+        RecordView::Value { key, value } => string_size(key.len())
             .saturating_add(string_size(value.len()))
             .saturating_add(1),
-        Command::Delete { key } | Command::SingleDelete { key } => {
+        RecordView::Deletion { key } | RecordView::SingleDeletion { key } => {
             string_size(key.len()).saturating_add(1)
         }
-        Command::Note { text } => string_size(text.len()).saturating_add(1),
-        Command::Clear
-        | Command::Commit { .. }
-        | Command::Get { .. }
-        | Command::Many { .. }
-        | Command::Scan { .. }
-        | Command::Stop
-        | Command::Unstop
-        | Command::Slow { .. }
-        | Command::Unslow => 0,
+        RecordView::LogData { blob } => string_size(blob.len()).saturating_add(1),
     }
 }
 
@@ -74,20 +79,15 @@ fn string_size(len: usize) -> u64
 }
 
 /// How many sequences the record that a line adds takes.
-fn line_count(line: &Command) -> u64
-    ensures { result ≡ record_count (record_added line.now) }
+fn line_count(line: &CommandView<'_>) -> u64
+    ensures { result ≡ record_count (record_added (command_of line.now)) }
 {
-    match line {
-        Command::Put { .. } | Command::Delete { .. } | Command::SingleDelete { .. } => 1,
-        Command::Note { .. }
-        | Command::Clear
-        | Command::Commit { .. }
-        | Command::Get { .. }
-        | Command::Many { .. }
-        | Command::Scan { .. }
-        | Command::Stop
-        | Command::Unstop
-        | Command::Slow { .. }
-        | Command::Unslow => 0,
+    match line.record() {
+        Some(
+            RecordView::Value { .. }
+            | RecordView::Deletion { .. }
+            | RecordView::SingleDeletion { .. },
+        ) => 1,
+        Some(RecordView::LogData { .. }) | None => 0,
     }
 }

@@ -1,36 +1,38 @@
 //! Plans whose batches aren't too large.
 
-ghost use Rattle.std.specs.Prelude.{◌≡◌, ◌↔◌, [], map, true};
+ghost use Rattle.std.specs.Prelude.{◌≡◌, ◌↔◌, [], true};
 ghost use Rattle.std.specs.List.{AllByRecursion};
-ghost use Rattle.client_calls.specs.Commands.{command_of};
+ghost use Rattle.command_list.specs.Views.{command_of};
 ghost use Rattle.core_plans.specs.Small.{AreSmall, IsSmallPlan, fits, size_after};
 
 use crate::measure::line_size;
 use crate::plan::ClientPlan;
-use client_calls::{BATCH_HEADER_LEN, Command};
+use client_calls::BATCH_HEADER_LEN;
+use command_list::{CommandKind, CommandView};
 
 /// The most bytes of a batch that a commit may come to: 16 MiB.
 const MOST_BYTES: u64 = 16777216;
 
 /// Whether no commit of these plans comes to a batch of more than 16 MiB, even if none before it is accepted.
 /// The core requires it of its clients' plans.
-pub fn are_small(plans: &[ClientPlan]) -> bool
+pub fn are_small(plans: &[ClientPlan<'_>]) -> bool
     ensures { result ≡ true ↔ AllByRecursion IsSmallPlan plans.now }
 {
     for plan in plans {
-        if !is_small(&plan.lines) {
+        if !is_small(plan) {
             return false;
         }
     }
     true
 }
 
-/// Whether no commit of these lines comes to a batch that is too large.
-fn is_small(lines: &[Command]) -> bool
-    ensures { result ≡ true ↔ AreSmall [] (map command_of lines.now) }
+/// Whether no commit of a plan comes to a batch that is too large.
+fn is_small(plan: &ClientPlan<'_>) -> bool
+    ensures { result ≡ true ↔ AreSmall [] plan.now }
 {
     let mut size = BATCH_HEADER_LEN;
-    for line in lines {
+    for place in 0..plan.len() {
+        let line = plan.line(place);
         if !fits(line, size) {
             return false;
         }
@@ -40,43 +42,21 @@ fn is_small(lines: &[Command]) -> bool
 }
 
 /// Whether a line may come to a batch of this size.
-fn fits(line: &Command, size: u64) -> bool
-    ensures { result ≡ fits line.now size }
+fn fits(line: &CommandView<'_>, size: u64) -> bool
+    ensures { result ≡ fits (command_of line.now) size }
 {
-    match line {
-        Command::Commit { .. } => size <= MOST_BYTES,
-        Command::Put { .. }
-        | Command::Delete { .. }
-        | Command::SingleDelete { .. }
-        | Command::Note { .. }
-        | Command::Clear
-        | Command::Get { .. }
-        | Command::Many { .. }
-        | Command::Scan { .. }
-        | Command::Stop
-        | Command::Unstop
-        | Command::Slow { .. }
-        | Command::Unslow => true,
+    match line.kind() {
+        CommandKind::Commit => size <= MOST_BYTES,
+        _ => true,
     }
 }
 
 /// The size of the batch after a line.
-fn size_after(line: &Command, size: u64) -> u64
-    ensures { result ≡ size_after line.now size }
+fn size_after(line: &CommandView<'_>, size: u64) -> u64
+    ensures { result ≡ size_after (command_of line.now) size }
 {
-    match line {
-        Command::Clear => BATCH_HEADER_LEN,
-        Command::Put { .. }
-        | Command::Delete { .. }
-        | Command::SingleDelete { .. }
-        | Command::Note { .. }
-        | Command::Commit { .. }
-        | Command::Get { .. }
-        | Command::Many { .. }
-        | Command::Scan { .. }
-        | Command::Stop
-        | Command::Unstop
-        | Command::Slow { .. }
-        | Command::Unslow => size.saturating_add(line_size(line)),
+    match line.kind() {
+        CommandKind::Clear => BATCH_HEADER_LEN,
+        _ => size.saturating_add(line_size(line)),
     }
 }

@@ -1,13 +1,13 @@
 //! Schedules of two clients, which write one batch each.
 
-use crate::opening::opened;
+use crate::opening::{clients_of, opened};
 use core_model::Event;
 use core_model::Event::*;
 use std::alloc::Global;
 use std::process::Abort;
 use std::test::Fail;
 use wp_model::Refusal;
-use write_core::{CoreReply, Counts, replay};
+use write_core::{CoreReply, Counts, State, replay};
 
 /// What is replayed, and what comes of it.
 #[derive(Clone, Copy)]
@@ -142,13 +142,19 @@ const ROWS: [Row; 3] = [
     },
 ];
 
-fn check_row(rt: &impl Abort, alloc: Global, row: &Row) -> Result<(), Fail> {
-    let mut state = opened(rt, alloc, row.last, &row.batches)?;
-    let counts = replay(&mut state, row.events);
-    let sums = (counts, state.entries().len(), state.last());
-    assert_eq!(rt; sums, (row.counts, row.entries, row.published));
+fn check_state(rt: &impl Abort, state: &State<'_>, row: &Row) {
+    let sums = (state.entries().len(), state.last());
+    assert_eq!(rt; sums, (row.entries, row.published));
     let lists = (state.replies(1), state.replies(2), state.logged());
     assert_eq!(rt; lists, (row.first, row.second, row.logged));
+}
+
+fn check_row(rt: &impl Abort, alloc: Global, row: &Row) -> Result<(), Fail> {
+    let clients = clients_of(rt, alloc, &row.batches)?;
+    let mut state = opened(rt, alloc, row.last, &clients)?;
+    let counts = replay(&mut state, row.events);
+    assert_eq!(rt; counts, row.counts);
+    check_state(rt, &state, row);
     Ok(())
 }
 

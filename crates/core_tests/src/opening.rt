@@ -1,11 +1,11 @@
-//! Plans of clients, and a core that is opened for them.
+//! Clients' commands, and a core that is opened for them.
 
-use client_calls::{Command, MAX_SEQUENCE};
+use client_calls::MAX_SEQUENCE;
+use command_list::{CommandList, CommandView};
 use std::alloc::Global;
 use std::process::Abort;
 use std::test::Fail;
-use wp_coding::Bytes;
-use wp_model::{NoMemory, WriteOptions};
+use wp_model::WriteOptions;
 use write_core::{ClientPlan, CoreOptions, State, are_small};
 
 pub(crate) const PLAIN: WriteOptions = WriteOptions {
@@ -14,37 +14,41 @@ pub(crate) const PLAIN: WriteOptions = WriteOptions {
     no_slowdown: false,
 };
 
-/// Puts 1 at a key.
-pub(crate) fn put(alloc: Global, key: &[u8]) -> Result<Command, NoMemory> {
-    Ok(Command::Put {
-        key: Bytes::copy(alloc, key)?,
-        value: Bytes::copy(alloc, b"1")?,
-    })
-}
-
 /// A client that puts 1 at each of these keys, commits that batch, and reads `a`.
-fn plan_of(alloc: Global, keys: &[&[u8]]) -> Result<ClientPlan, NoMemory> {
-    let mut lines = Vec::new(alloc);
+fn commands_of(rt: &impl Abort, alloc: Global, keys: &[&[u8]]) -> Result<CommandList, Fail> {
+    let mut commands = CommandList::new(alloc);
     for key in keys {
-        lines.push(put(alloc, key)?)?;
+        assert!(rt; key.len() <= 8);
+        commands.push(CommandView::Put { key, value: b"1" })?;
     }
-    lines.push(Command::Commit { options: PLAIN })?;
-    lines.push(Command::Get {
-        key: Bytes::copy(alloc, b"a")?,
-    })?;
-    Ok(ClientPlan { lines })
+    commands.push(CommandView::Commit { options: PLAIN })?;
+    commands.push(CommandView::Get { key: b"a" })?;
+    Ok(commands)
 }
 
-/// A core of a single stage for such clients, of whose batches each has the keys of one of these lists.
-pub(crate) fn opened(
+/// Such clients, of whose batches each has the keys of one of these lists.
+pub(crate) fn clients_of(
+    rt: &impl Abort,
+    alloc: Global,
+    batches: &[&[&[u8]]],
+) -> Result<Vec<CommandList>, Fail> {
+    let mut clients = Vec::new(alloc);
+    for keys in batches {
+        clients.push(commands_of(rt, alloc, keys)?)?;
+    }
+    Ok(clients)
+}
+
+/// A core of a single stage for clients with these commands.
+pub(crate) fn opened<'a>(
     rt: &impl Abort,
     alloc: Global,
     last: u64,
-    batches: &[&[&[u8]]],
-) -> Result<State, Fail> {
+    clients: &'a [CommandList],
+) -> Result<State<'a>, Fail> {
     let mut plans = Vec::new(alloc);
-    for keys in batches {
-        plans.push(plan_of(alloc, keys)?)?;
+    for commands in clients {
+        plans.push(ClientPlan::of(alloc, commands)?)?;
     }
     let options = CoreOptions {
         pipelined: false,

@@ -1,7 +1,8 @@
 //! A client's write, and what is shown of it.
 
-use crate::opening::opened;
+use crate::opening::{clients_of, opened};
 use client_calls::Entry;
+use command_list::CommandList;
 use core_model::Event;
 use core_model::Event::*;
 use core_plans::Lines;
@@ -34,8 +35,14 @@ const EVENTS: [Event; 8] = [
     Publish(1),
 ];
 
-fn written(rt: &impl Abort, alloc: Global) -> Result<State, Fail> {
-    let mut state = opened(rt, alloc, 0, &[&[b"a"]])?;
+const KEYS: [&[&[u8]]; 1] = [&[b"a"]];
+
+fn written<'a>(
+    rt: &impl Abort,
+    alloc: Global,
+    clients: &'a [CommandList],
+) -> Result<State<'a>, Fail> {
+    let mut state = opened(rt, alloc, 0, clients)?;
     replay(&mut state, &EVENTS);
     Ok(state)
 }
@@ -52,7 +59,8 @@ const READS: [(u64, Option<&[u8]>); 2] = [(1, Some(b"1")), (0, None)];
 
 #[test]
 fn a_write_is_read_from_its_sequence_on(rt: HostRuntime) -> Result<(), Fail> {
-    let state = written(&rt, rt.alloc())?;
+    let clients = clients_of(&rt, rt.alloc(), &KEYS)?;
+    let state = written(&rt, rt.alloc(), &clients)?;
     let mut read = MapUpTo::new(rt.alloc());
     for (at, want) in READS {
         let found = read.value(&state, b"a", at)?;
@@ -63,13 +71,17 @@ fn a_write_is_read_from_its_sequence_on(rt: HostRuntime) -> Result<(), Fail> {
 
 #[test]
 fn a_write_is_an_entry_and_in_the_map(rt: HostRuntime) -> Result<(), Fail> {
-    let state = written(&rt, rt.alloc())?;
+    let clients = clients_of(&rt, rt.alloc(), &KEYS)?;
+    let state = written(&rt, rt.alloc(), &clients)?;
     let maps = (map(&state, rt.alloc())?, map_at(&state, rt.alloc(), 0)?);
     let sizes = (
         maps.0.len(),
         maps.1.len(),
-        batch_lines(&state, &ENTRY).len(),
+        batch_lines(&state, &ENTRY).map(|lines| lines.len()),
     );
-    assert_eq!(rt; (state.entries(), sizes), ([ENTRY].as_slice(), (1, 0, 1)));
+    assert_eq!(rt;
+        (state.entries(), sizes),
+        ([ENTRY].as_slice(), (1, 0, Some(1)))
+    );
     Ok(())
 }

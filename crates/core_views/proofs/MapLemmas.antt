@@ -1,38 +1,48 @@
 -- The maps that commands and entries make.
-use Rattle.std.proofs.Common.{◌≡◌, ℕ, zero, suc, ◌+◌, ◌-◌, ◌≤◌, Bool, true, false, nat_le, cond, List, [], ◌∷◌, length, min, take, drop, take_while, map, fold, refl, sym, ap, ◌∙◌, subst, arith}
-use Rattle.std.specs.Prelude.{filter_map}
-use Rattle.std.specs.List.{AllByRecursion, prefix_len, take-map}
+use Rattle.std.proofs.Common.{◌≡◌, ℕ, zero, suc, ◌+◌, ◌-◌, ◌<◌, ◌≤◌, Bool, true, false, nat_le, cond, List, [], ◌∷◌, length, min, take, drop, take_while, map, fold, get_or, Some, refl, sym, ap, ◌∙◌, subst, arith}
+use Rattle.std.specs.Prelude.{filter_map, slice_get}
+use Rattle.std.specs.List.{AllByRecursion, prefix_len, take-map, drop-map}
+use Rattle.std.specs.Option.{option_map_or}
+use Rattle.std.proofs.lemmas.Option.{slice_get_read}
 use Rattle.std.proofs.lemmas.Bool.{le-leb, leb-true}
 use Rattle.std.proofs.lemmas.List.Folds.{fold-map, length-prefix_len}
 use Rattle.std.proofs.lemmas.List.Sums.{fold-append, prefix_len-le-length}
 use Rattle.std.proofs.Math.Seq.{take-add}
 use Rattle.wp_model.specs.Map.{Pairs, after_records}
 use Rattle.wp_model.specs.History.{Entry, last_of, map_of, map_over}
-use Rattle.client_calls.specs.declared.command.Command.{Command}
-use Rattle.client_calls.specs.declared.command.Command.TheVariants.{Put, Delete, SingleDelete, Note, Clear, Commit, Get, Many, Scan, Stop, Unstop, Slow, Unslow}
-use Rattle.client_calls.specs.Commands.{record_added}
+use Rattle.wp_model.specs.Calls.{Command, add}
+use Rattle.command_list.specs.declared.command_view.CommandView.{CommandView}
+use Rattle.command_list.specs.Kinds.{record_added}
+use Rattle.command_list.specs.Views.{command_of}
 use Rattle.core_plans.specs.declared.plan.ClientPlan.{ClientPlan}
 use Rattle.write_core.specs.Within.{IsWithinPlans}
-use Rattle.core_plans.specs.Plans.{records_of}
+use Rattle.core_plans.specs.declared.plan.Lines.{Lines}
+use Rattle.core_plans.specs.Plans.{between, records_in, records_of}
 use Rattle.write_core.specs.Shown.{CoreEntry, shown_entry}
-use Rattle.core_views.specs.Maps.{IsMapOf, after_entries, after_line, map_up_to}
+use Rattle.core_views.specs.Maps.{added_by, IsMapOf, after_entries, after_line, map_up_to}
 use Rattle.core_views.specs.declared.reading.MapUpTo.{MapUpTo}
 
-pub lines_written : (m : Pairs) (lines : List Command) → fold after_line m lines ≡ after_records m (filter_map record_added lines)
-lines_written m [] = refl
-lines_written m (Put key v ∷ lines) = lines_written (after_line m (Put key v)) lines
-lines_written m (Delete key ∷ lines) = lines_written (after_line m (Delete key)) lines
-lines_written m (SingleDelete key ∷ lines) = lines_written (after_line m (SingleDelete key)) lines
-lines_written m (Note text ∷ lines) = lines_written m lines
-lines_written m (Clear ∷ lines) = lines_written m lines
-lines_written m (Commit options ∷ lines) = lines_written m lines
-lines_written m (Get key ∷ lines) = lines_written m lines
-lines_written m (Many keys ∷ lines) = lines_written m lines
-lines_written m (Scan lo hi ∷ lines) = lines_written m lines
-lines_written m (Stop ∷ lines) = lines_written m lines
-lines_written m (Unstop ∷ lines) = lines_written m lines
-lines_written m (Slow rate ∷ lines) = lines_written m lines
-lines_written m (Unslow ∷ lines) = lines_written m lines
+commands_written : (m : Pairs) (commands : List Command) → fold after_line m commands ≡ after_records m (filter_map record_added commands)
+commands_written m [] = refl
+commands_written m (add r ∷ commands) = commands_written (after_line m (add r)) commands
+commands_written m (other ∷ commands) = commands_written m commands
+
+pub lines_written : (m : Pairs) (lines : List CommandView) → fold (λ (p : Pairs) (v : CommandView). after_line p (command_of v)) m lines ≡ after_records m (added_by lines)
+lines_written m lines = sym (fold-map after_line command_of m lines) ∙ commands_written m (map command_of lines)
+
+-- the part of a plan that some of its lines are
+part_of : (lines : List CommandView) (plan : ClientPlan) (from to : ℕ) → map command_of lines ≡ plan → map command_of (between from to lines) ≡ between from to plan
+part_of lines plan from to are =
+    sym (take-map command_of (to - from) (drop from lines)) ∙ ap (take (to - from)) (sym (drop-map command_of from lines)) ∙ ap (between from to) are
+
+-- what they add is the batch
+pub batch_of : (plans : List ClientPlan) (client place : ℕ) (plan : ClientPlan) (lines : List CommandView) (batch : Lines) → client ≡ place + 1 → place < length plans → plan ≡ get_or plans place plan
+    → map command_of lines ≡ plan → added_by (between batch.from batch.to lines) ≡ records_of plans client batch
+batch_of plans client place plan lines batch number there is are =
+    let k : client ≡ suc place = omega (arith, number) in
+    let found : slice_get plans place ≡ Some plan = slice_get_read plans (length plans) place plan refl there is in
+    ap (filter_map record_added) (part_of lines plan batch.from batch.to are)
+    ∙ sym (ap (λ n. records_of plans n batch) k ∙ ap (λ o. option_map_or (λ p. records_in p batch) o []) found)
 
 -- The entries up to a sequence
 

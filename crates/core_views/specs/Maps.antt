@@ -1,11 +1,14 @@
 -- The maps that entries of the history make.
-use Rattle.std.specs.Prelude.{◌≡◌, ℕ, ◌≤◌, List, take, take_while, fold, nat_le}
+use Rattle.std.specs.Prelude.{◌≡◌, ℕ, ◌≤◌, List, take, take_while, map, filter_map, fold, nat_le}
 use Rattle.std.specs.List.{prefix_len}
 use Rattle.std.specs.Option.{option_map_or}
+use Rattle.wp_model.specs.Batch.{Record}
 use Rattle.wp_model.specs.Map.{Pairs, after_record, after_records}
 use Rattle.wp_model.specs.History.{Entry, last_of, map_of}
-use Rattle.client_calls.specs.declared.command.Command.{Command}
-use Rattle.client_calls.specs.Commands.{record_added}
+use Rattle.wp_model.specs.Calls.{Command}
+use Rattle.command_list.specs.declared.command_view.CommandView.{CommandView}
+use Rattle.command_list.specs.Kinds.{record_added}
+use Rattle.command_list.specs.Views.{command_of}
 use Rattle.core_plans.specs.declared.plan.ClientPlan.{ClientPlan}
 use Rattle.core_plans.specs.Plans.{records_of}
 use Rattle.write_core.specs.Shown.{CoreEntry}
@@ -14,6 +17,10 @@ use Rattle.core_views.specs.declared.reading.MapUpTo.{MapUpTo}
 -- the map after the entries, from the first on, whose runs end at a sequence or before
 abbrev pub map_up_to : ℕ → List Entry → Pairs
 map_up_to at entries = map_of (take_while (λ (x : Entry). nat_le (last_of x) at) entries)
+
+-- the records that commands add
+abbrev pub added_by : List CommandView → List Record
+added_by lines = filter_map record_added (map command_of lines)
 
 -- a map after the record that a command adds, if it adds one
 abbrev pub after_line : Pairs → Command → Pairs

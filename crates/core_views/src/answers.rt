@@ -5,6 +5,7 @@ ghost use Rattle.std.specs.Ordering.{is_lt};
 ghost use Rattle.wp_model.specs.Map.{byte_order, rows_within, value_at};
 ghost use Rattle.wp_coding.specs.Answers.{found_value};
 
+use command_list::Words;
 use std::alloc::Global;
 use wp_coding::{Bytes, Found, FoundList, PairList, PairMap};
 use wp_model::NoMemory;
@@ -23,13 +24,13 @@ pub(crate) fn value_in(alloc: Global, pairs: &PairMap, key: &[u8]) -> Result<Fou
 pub(crate) fn values_in(
     alloc: Global,
     pairs: &PairMap,
-    keys: &[Bytes],
+    keys: Words<'_>,
 ) -> Result<FoundList, NoMemory>
-    ensures { IfOk result (λ values. values ≡ map (value_at pairs.now) keys.now) }
+    ensures { IfOk result (λ values. values ≡ map (value_at pairs.now) keys.entry) }
 {
     let mut values = FoundList::new(alloc);
     for key in keys {
-        values.push(value_in(alloc, pairs, key.as_slice())?)?;
+        values.push(value_in(alloc, pairs, key)?)?;
     }
     Ok(values)
 }

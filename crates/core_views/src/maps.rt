@@ -1,25 +1,29 @@
 //! The maps that entries of the history make.
 
-ghost use Rattle.std.specs.Prelude.{◌≡◌, filter_map, IfOk, OnOk};
-ghost use Rattle.wp_model.specs.Map.{after_records};
+ghost use Rattle.std.specs.Prelude.{◌≡◌, [], IfOk, OnOk};
+ghost use Rattle.std.specs.Option.{option_map_or};
+ghost use Rattle.wp_model.specs.Map.{after_record, after_records};
 ghost use Rattle.core_model.specs.Core as core;
 ghost use Rattle.core_model.specs.CoreLaw.{IsCore};
-ghost use Rattle.client_calls.specs.Commands.{record_added};
+ghost use Rattle.write_batch.specs.View.{record_of};
+ghost use Rattle.command_list.specs.Views.{command_of};
 ghost use Rattle.core_plans.specs.Plans.{between, records_of};
 ghost use Rattle.write_core.specs.Shown.{plans_in};
 ghost use Rattle.write_core.specs.Shows.{Shows};
-ghost use Rattle.core_views.specs.Maps.{after_entries, after_line, map_up_to};
+ghost use Rattle.core_views.specs.Maps.{added_by, after_entries, after_line, map_up_to};
 
 use crate::reading::MapUpTo;
-use client_calls::{Command, Entry};
+use client_calls::Entry;
+use command_list::CommandView;
 use core_plans::Lines;
 use std::alloc::Global;
 use wp_coding::PairMap;
 use wp_model::NoMemory;
+use write_batch::RecordView;
 use write_core::State;
 
 /// The map at the sequence that was published last.
-pub fn map(state: &State, alloc: Global) -> Result<PairMap, NoMemory>
+pub fn map(state: &State<'_>, alloc: Global) -> Result<PairMap, NoMemory>
     ensures { (o : core.Options) (s : core.State) → IsCore o s → Shows state.now o s
         → IfOk result (λ m. m ≡ core.published_map s) }
 {
@@ -27,7 +31,7 @@ pub fn map(state: &State, alloc: Global) -> Result<PairMap, NoMemory>
 }
 
 /// The map after the entries whose runs end at a sequence or before, as a read at that sequence sees it.
-pub fn map_at(state: &State, alloc: Global, at: u64) -> Result<PairMap, NoMemory>
+pub fn map_at(state: &State<'_>, alloc: Global, at: u64) -> Result<PairMap, NoMemory>
     ensures { (o : core.Options) (s : core.State) → IsCore o s → Shows state.now o s
         → IfOk result (λ m. m ≡ map_up_to at s.entries) }
 {
@@ -39,32 +43,44 @@ pub fn map_at(state: &State, alloc: Global, at: u64) -> Result<PairMap, NoMemory
 /// Writes entries into a map, in order.
 pub(crate) fn write_entries(
     map: &mut PairMap,
-    state: &State,
+    state: &State<'_>,
     entries: &[Entry<Lines>],
 ) -> Result<(), NoMemory>
     ensures { OnOk result (map.new ≡ after_entries (plans_in state.now) map.old entries.now) }
 {
     for entry in entries {
-        write_lines(map, batch_lines(state, entry))?;
+        write_entry(map, state, entry)?;
     }
     Ok(())
 }
 
-/// The commands of its client's plan that an entry's batch stands in. What they add are its records.
-pub fn batch_lines<'a>(state: &'a State, entry: &Entry<Lines>) -> &'a [Command]
-    ensures { filter_map record_added result.now ≡ records_of (plans_in state.now) entry.now.client entry.now.batch }
+/// Writes the records of an entry into a map.
+fn write_entry(map: &mut PairMap, state: &State<'_>, entry: &Entry<Lines>) -> Result<(), NoMemory>
+    ensures { OnOk result
+        (map.new ≡ after_records map.old (records_of (plans_in state.now) entry.now.client entry.now.batch)) }
 {
-    let Some(place) = (entry.client as usize).checked_sub(1) else {
-        return &[];
-    };
-    match state.plans().get(place) {
-        Some(plan) => lines_between(&plan.lines, entry.batch),
-        None => &[],
+    match batch_lines(state, entry) {
+        Some(lines) => write_lines(map, lines),
+        None => Ok(()),
     }
 }
 
+/// The commands of its client's plan that an entry's batch stands in, if there is that client. What they add are its
+/// records.
+pub fn batch_lines<'a, 'b>(
+    state: &'a State<'b>,
+    entry: &Entry<Lines>,
+) -> Option<&'a [CommandView<'b>]>
+    ensures { option_map_or (λ lines. added_by lines.now) result []
+        ≡ records_of (plans_in state.now) entry.now.client entry.now.batch }
+{
+    let place = (entry.client as usize).checked_sub(1)?;
+    let plan = state.plans().get(place)?;
+    Some(lines_between(plan.lines(), entry.batch))
+}
+
 /// The commands from one place on and before another, as far as there are any.
-fn lines_between(lines: &[Command], batch: Lines) -> &[Command]
+fn lines_between<'a, 'b>(lines: &'a [CommandView<'b>], batch: Lines) -> &'a [CommandView<'b>]
     ensures { result.now ≡ between batch.from batch.to lines.now }
 {
     let to = batch.to.min(lines.len());
@@ -76,8 +92,8 @@ fn lines_between(lines: &[Command], batch: Lines) -> &[Command]
 }
 
 /// Writes the records that commands add into a map.
-fn write_lines(map: &mut PairMap, lines: &[Command]) -> Result<(), NoMemory>
-    ensures { OnOk result (map.new ≡ after_records map.old (filter_map record_added lines.now)) }
+fn write_lines(map: &mut PairMap, lines: &[CommandView<'_>]) -> Result<(), NoMemory>
+    ensures { OnOk result (map.new ≡ after_records map.old (added_by lines.now)) }
 {
     for line in lines {
         write_line(map, line)?;
@@ -86,24 +102,25 @@ fn write_lines(map: &mut PairMap, lines: &[Command]) -> Result<(), NoMemory>
 }
 
 /// Does to a map what the record that a command adds says.
-fn write_line(map: &mut PairMap, line: &Command) -> Result<(), NoMemory>
-    ensures { OnOk result (map.new ≡ after_line map.old line.now) }
+fn write_line(map: &mut PairMap, line: &CommandView<'_>) -> Result<(), NoMemory>
+    ensures { OnOk result (map.new ≡ after_line map.old (command_of line.now)) }
 {
-    match line {
-        Command::Put { key, value } => map.insert(key.as_slice(), value.as_slice()),
-        Command::Delete { key } | Command::SingleDelete { key } => {
-            map.remove(key.as_slice());
+    match line.record() {
+        Some(view) => write_record(map, view),
+        None => Ok(()),
+    }
+}
+
+/// Does to a map what a record says.
+fn write_record(map: &mut PairMap, view: RecordView<'_>) -> Result<(), NoMemory>
+    ensures { OnOk result (map.new ≡ after_record map.old (record_of view.entry)) }
+{
+    match view {
+        RecordView::Value { key, value } => map.insert(key, value),
+        RecordView::Deletion { key } | RecordView::SingleDeletion { key } => {
+            map.remove(key);
             Ok(())
         }
-        Command::Note { .. }
-        | Command::Clear
-        | Command::Commit { .. }
-        | Command::Get { .. }
-        | Command::Many { .. }
-        | Command::Scan { .. }
-        | Command::Stop
-        | Command::Unstop
-        | Command::Slow { .. }
-        | Command::Unslow => Ok(()),
+        RecordView::LogData { .. } => Ok(()),
     }
 }

@@ -14,9 +14,10 @@ ghost use Rattle.core_views.specs.Maps.{IsMapOf, map_up_to};
 use crate::answers::{rows_in, value_in, values_in};
 use crate::maps::write_entries;
 use client_calls::Entry;
+use command_list::Words;
 use core_plans::Lines;
 use std::alloc::Global;
-use wp_coding::{Bytes, Found, FoundList, PairList, PairMap};
+use wp_coding::{Found, FoundList, PairList, PairMap};
 use wp_model::NoMemory;
 use write_core::State;
 
@@ -46,7 +47,7 @@ impl MapUpTo {
 
     /// The value of a key after the entries whose runs end at a sequence or before. The map moves there. Without memory
     /// it begins anew before the first entry.
-    pub fn value(&mut self, state: &State, key: &[u8], at: u64) -> Result<Found, NoMemory>
+    pub fn value(&mut self, state: &State<'_>, key: &[u8], at: u64) -> Result<Found, NoMemory>
         ensures value { (o : core.Options) (s : core.State) → IsCore o s → Shows state.now o s
             → IsMapOf s.entries self.old
             → IfOk result (λ found. found_value found ≡ value_at (map_up_to at s.entries) key.now) }
@@ -60,10 +61,15 @@ impl MapUpTo {
 
     /// The values of several keys there, in the order of the keys, all at that one sequence. The map moves there as for
     /// one key.
-    pub fn values(&mut self, state: &State, keys: &[Bytes], at: u64) -> Result<FoundList, NoMemory>
+    pub fn values(
+        &mut self,
+        state: &State<'_>,
+        keys: Words<'_>,
+        at: u64,
+    ) -> Result<FoundList, NoMemory>
         ensures values { (o : core.Options) (s : core.State) → IsCore o s → Shows state.now o s
             → IsMapOf s.entries self.old
-            → IfOk result (λ values. values ≡ map (value_at (map_up_to at s.entries)) keys.now) }
+            → IfOk result (λ values. values ≡ map (value_at (map_up_to at s.entries)) keys.entry) }
         ensures kept { (o : core.Options) (s : core.State) → IsCore o s → Shows state.now o s
             → IsMapOf s.entries self.old
             → IsMapOf s.entries self.new }
@@ -76,7 +82,7 @@ impl MapUpTo {
     /// as for one key.
     pub fn rows(
         &mut self,
-        state: &State,
+        state: &State<'_>,
         lo: &[u8],
         hi: &[u8],
         at: u64,
@@ -100,7 +106,7 @@ impl MapUpTo {
     }
 
     /// Moves the map to a sequence. Without memory it begins anew.
-    pub(crate) fn move_to(&mut self, state: &State, at: u64) -> Result<(), NoMemory>
+    pub(crate) fn move_to(&mut self, state: &State<'_>, at: u64) -> Result<(), NoMemory>
         ensures map { (o : core.Options) (s : core.State) → IsCore o s → Shows state.now o s
             → IsMapOf s.entries self.old
             → OnOk result (self.new.map ≡ map_up_to at s.entries) }
@@ -129,7 +135,7 @@ impl MapUpTo {
     }
 
     /// Moves the map on to a sequence, which isn't before its own. After an error it isn't used.
-    fn move_on(&mut self, state: &State, at: u64) -> Result<(), NoMemory>
+    fn move_on(&mut self, state: &State<'_>, at: u64) -> Result<(), NoMemory>
         ensures map { (o : core.Options) (s : core.State) → IsCore o s → Shows state.now o s
             → IsMapOf s.entries self.old → self.old.at ≤ at
             → OnOk result (self.new.map ≡ map_up_to at s.entries) }

@@ -3,17 +3,19 @@ use Rattle.std.proofs.Common.{◌≡◌, ℕ, ◌+◌, ◌-◌, ◌<◌, ◌≤�
 use Rattle.std.specs.Prelude.{filter_map}
 use Rattle.std.specs.List.{AllByRecursion, AllZip}
 use Rattle.std.specs.Option.{option_map_or}
-use Rattle.std.proofs.lemmas.List.{take_more}
+use Rattle.std.proofs.lemmas.List.{take_more, map-append}
 use Rattle.std.proofs.lemmas.List.Elements.{filter_map-append}
 use Rattle.wp_model.specs.Batch.{Record}
 use Rattle.wp_model.specs.History as history
 use Rattle.write_batch.specs.Contents.{Contents, added}
-use Rattle.client_calls.specs.declared.command.Command.{Command}
-use Rattle.client_calls.specs.declared.command.Command.TheVariants.{Put, Delete, SingleDelete, Note, Clear, Commit, Get, Many, Scan, Stop, Unstop, Slow, Unslow}
-use Rattle.client_calls.specs.Commands.{record_added}
+use Rattle.wp_model.specs.Calls.{Command, add}
+use Rattle.command_list.specs.declared.command_view.CommandView.{CommandView}
+use Rattle.command_list.specs.Kinds.{record_added}
+use Rattle.command_list.specs.Views.{command_of}
 use Rattle.core_plans.specs.declared.plan.ClientPlan.{ClientPlan}
 use Rattle.write_core.specs.Shown.{CoreEntry, shown_entry}
 use Rattle.write_core.specs.Within.{IsWithinPlans}
+use Rattle.core_views.specs.Maps.{added_by}
 use Rattle.run_outcome.specs.Shows.{ShowsEntry}
 use Rattle.schedule_run.specs.Replaying.{entry_by}
 
@@ -31,24 +33,14 @@ history_shown plans es entries within are = subst (AllZip ShowsEntry (map (entry
 
 -- what a line adds stands after the others
 line_added : (old : Contents) (x : Command) → (option_map_or (added old) (record_added x) old).records ≡ old.records ++ filter_map record_added (x ∷ [])
-line_added old (Put key v) = refl
-line_added old (Delete key) = refl
-line_added old (SingleDelete key) = refl
-line_added old (Note text) = refl
-line_added old Clear = sym (append-nil old.records)
-line_added old (Commit options) = sym (append-nil old.records)
-line_added old (Get key) = sym (append-nil old.records)
-line_added old (Many keys) = sym (append-nil old.records)
-line_added old (Scan lo hi) = sym (append-nil old.records)
-line_added old Stop = sym (append-nil old.records)
-line_added old Unstop = sym (append-nil old.records)
-line_added old (Slow rate) = sym (append-nil old.records)
-line_added old Unslow = sym (append-nil old.records)
+line_added old (add r) = refl
+line_added old other = sym (append-nil old.records)
 
 -- a line more
-pub line_more : (lines : List Command) (i : ℕ) (x : Command) (old new : Contents) → i < length lines → x ≡ get_or lines i x → old.records ≡ filter_map record_added (take i lines)
-    → new ≡ option_map_or (added old) (record_added x) old → new.records ≡ filter_map record_added (take (i + 1) lines)
+pub line_more : (lines : List CommandView) (i : ℕ) (x : CommandView) (old new : Contents) → i < length lines → x ≡ get_or lines i x → old.records ≡ added_by (take i lines)
+    → new ≡ option_map_or (added old) (record_added (command_of x)) old → new.records ≡ added_by (take (i + 1) lines)
 line_more lines i x old new here is so_far e =
-    let more : filter_map record_added (take (i + 1) lines) ≡ filter_map record_added (take i lines) ++ filter_map record_added (x ∷ []) =
-    ap (filter_map record_added) (take_more lines i x here ∙ ap (λ y. take i lines ++ y ∷ []) (sym is)) ∙ filter_map-append record_added (take i lines) (x ∷ []) in
-    ap (λ (b : Contents). b.records) e ∙ line_added old x ∙ ap (λ (rs : List Record). rs ++ filter_map record_added (x ∷ [])) so_far ∙ sym more
+    let more : added_by (take (i + 1) lines) ≡ added_by (take i lines) ++ filter_map record_added (command_of x ∷ []) =
+    ap added_by (take_more lines i x here ∙ ap (λ y. take i lines ++ y ∷ []) (sym is)) ∙ ap (filter_map record_added) (map-append command_of (take i lines) (x ∷ []))
+    ∙ filter_map-append record_added (map command_of (take i lines)) (command_of x ∷ []) in
+    ap (λ (b : Contents). b.records) e ∙ line_added old (command_of x) ∙ ap (λ (rs : List Record). rs ++ filter_map record_added (command_of x ∷ [])) so_far ∙ sym more

@@ -8,7 +8,6 @@ use Rattle.client_script.specs.declared.script.Script.{Script}
 use Rattle.client_script.specs.Scripts as scripts
 use Rattle.client_script.specs.Scripts.{additions_of, FitsBatches}
 use Rattle.core_plans.specs.declared.plan.ClientPlan.{ClientPlan}
-use Rattle.core_plans.specs.Plans.{commands_of, plans_of}
 use Rattle.core_plans.specs.Small.{AreSmall, IsSmallPlan}
 
 size_is : (records : List Record) → size_of_batch records ≡ 12 + length (body records)
@@ -41,10 +40,10 @@ Fit cs = size_of_batch (additions_of cs) ≤ 16777216
 one_small : (cs : List Command) → Fit cs → AreSmall [] cs
 one_small cs fits = small_commands cs [] (omega (arith, fits, size_is (additions_of cs), size_is []))
 
-all_small : (plans : List ClientPlan) → AllByRecursion Fit (plans_of plans) → AllByRecursion IsSmallPlan plans
+all_small : (plans : List ClientPlan) → AllByRecursion Fit plans → AllByRecursion IsSmallPlan plans
 all_small [] fit = tt
-all_small (p ∷ plans) fit = (one_small (commands_of p) fit.0, all_small plans fit.1)
+all_small (p ∷ plans) fit = (one_small p fit.0, all_small plans fit.1)
 
 -- the plans of a script's clients
-pub small_plans : (plans : List ClientPlan) (script : Script) → plans_of plans ≡ scripts.commands_of script → FitsBatches script → AllByRecursion IsSmallPlan plans
+pub small_plans : (plans : List ClientPlan) (script : Script) → plans ≡ scripts.commands_of script → FitsBatches script → AllByRecursion IsSmallPlan plans
 small_plans plans script same fit = all_small plans (subst (AllByRecursion Fit) (sym same) fit)

@@ -7,8 +7,7 @@ use Rattle.wp_model.specs.History as history
 use Rattle.core_model.specs.Core as machine
 use Rattle.core_model.specs.Core.{client_at}
 use Rattle.core_model.specs.CoreLaw.{IsCore}
-use Rattle.client_calls.specs.declared.command.Command.{Command}
-use Rattle.client_calls.specs.declared.command.Command.TheVariants.{Commit, Get, Many, Scan}
+use Rattle.wp_model.specs.Calls.{Command, commit, get, many, scan}
 use Rattle.run_outcome.specs.declared.reply.Reply.{Reply}
 use Rattle.run_outcome.specs.declared.reply.Reply.TheVariants as reply
 use Rattle.client_calls.specs.declared.entry.Entry.{Entry}
@@ -32,9 +31,9 @@ InEachShown core is = (o : machine.Options) (s : machine.State) → IsCore o s �
 
 -- a read is answered by the map at its sequence, also one of several keys; no other command is read
 abbrev pub read_by : List history.Entry → ℕ → Command → Option Reply
-read_by entries at (Get key) = Some (reply.Found at (value_at (map_up_to at entries) key))
-read_by entries at (Many keys) = Some (reply.FoundEach at (map (value_at (map_up_to at entries)) keys.items))
-read_by entries at (Scan lo hi) = Some (reply.Rows at (rows_within lo hi (map_up_to at entries)))
+read_by entries at (get key) = Some (reply.Found at (value_at (map_up_to at entries) key))
+read_by entries at (many keys) = Some (reply.FoundEach at (map (value_at (map_up_to at entries)) keys))
+read_by entries at (scan lo hi) = Some (reply.Rows at (rows_within lo hi (map_up_to at entries)))
 read_by entries at other = None
 
 abbrev pub reply_by : List history.Entry → Command → CoreReply → Option Reply
@@ -49,10 +48,10 @@ first_reply entries command (r ∷ rs) = option_map_or (λ (said : Reply). said 
 -- the reply to the next command, if that has one by now: commits and reads alone have one, the first of those that are
 -- left
 abbrev pub next_reply : List history.Entry → List CoreReply → Command → List Reply
-next_reply entries told (Commit options) = first_reply entries (Commit options) told
-next_reply entries told (Get key) = first_reply entries (Get key) told
-next_reply entries told (Many keys) = first_reply entries (Many keys) told
-next_reply entries told (Scan lo hi) = first_reply entries (Scan lo hi) told
+next_reply entries told (commit options) = first_reply entries (commit options) told
+next_reply entries told (get key) = first_reply entries (get key) told
+next_reply entries told (many keys) = first_reply entries (many keys) told
+next_reply entries told (scan lo hi) = first_reply entries (scan lo hi) told
 next_reply entries told other = []
 
 -- commits and reads have these replies, in order
@@ -73,7 +72,7 @@ pub record AreTranscripts (s : machine.State) (plans : List ClientPlan) (count :
   pub each : length transcripts ≡ count
   pub right : (i : ℕ) (plan : ClientPlan) (replies : Vec Reply Global) → slice_get plans i ≡ Some plan
       → slice_get transcripts i ≡ Some replies
-      → IsTranscript s (suc i) plan.lines.items replies.items
+      → IsTranscript s (suc i) plan replies.items
 
 -- The history
 

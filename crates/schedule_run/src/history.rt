@@ -1,24 +1,28 @@
 //! The history of batches on the core.
 
-ghost use Rattle.std.specs.Prelude.{◌≡◌, filter_map, IfOk, OnOk};
+ghost use Rattle.std.specs.Prelude.{◌≡◌, IfOk, OnOk};
 ghost use Rattle.std.specs.List.{AllZip};
 ghost use Rattle.std.specs.Option.{option_map_or};
-ghost use Rattle.client_calls.specs.Commands.{record_added};
 ghost use Rattle.run_outcome.specs.Shows.{ShowsEntry};
 ghost use Rattle.write_batch.specs.Contents.{Contents, added};
+ghost use Rattle.write_batch.specs.View.{record_of};
+ghost use Rattle.command_list.specs.Kinds.{record_added};
+ghost use Rattle.command_list.specs.Views.{command_of};
 ghost use Rattle.write_core.specs.Shown.{plans_in};
+ghost use Rattle.core_views.specs.Maps.{added_by};
 ghost use Rattle.schedule_run.specs.Replaying.{InEachShown, entry_by};
 
-use client_calls::{Command, Entry};
+use client_calls::Entry;
+use command_list::CommandView;
 use core_plans::Lines;
 use core_views::batch_lines;
 use std::alloc::Global;
 use wp_model::NoMemory;
-use write_batch::{AddError, Batch};
+use write_batch::{AddError, Batch, RecordView};
 use write_core::State;
 
 /// The history of the core's entries, each with its batch.
-pub fn history_of(alloc: Global, core: &State) -> Result<Vec<Entry<Batch>>, NoMemory>
+pub fn history_of(alloc: Global, core: &State<'_>) -> Result<Vec<Entry<Batch>>, NoMemory>
     ensures { InEachShown core.now (λ s. IfOk result (λ history. AllZip ShowsEntry history.items s.entries)) }
 {
     let entries = core.entries();
@@ -30,10 +34,13 @@ pub fn history_of(alloc: Global, core: &State) -> Result<Vec<Entry<Batch>>, NoMe
 }
 
 /// An entry of the history, with its batch.
-fn entry_of(alloc: Global, core: &State, entry: &Entry<Lines>) -> Result<Entry<Batch>, NoMemory>
+fn entry_of(alloc: Global, core: &State<'_>, entry: &Entry<Lines>) -> Result<Entry<Batch>, NoMemory>
     ensures { IfOk result (λ shown. shown ≡ entry_by (plans_in core.now) entry.now) }
 {
-    let mut batch = batch_of(alloc, batch_lines(core, entry))?;
+    let mut batch = match batch_lines(core, entry) {
+        Some(lines) => batch_of(alloc, lines)?,
+        None => Batch::new(alloc)?,
+    };
     batch.set_sequence(entry.first);
     Ok(Entry {
         client: entry.client,
@@ -46,8 +53,8 @@ fn entry_of(alloc: Global, core: &State, entry: &Entry<Lines>) -> Result<Entry<B
 }
 
 /// The batch of what lines add.
-fn batch_of(alloc: Global, lines: &[Command]) -> Result<Batch, NoMemory>
-    ensures { IfOk result (λ batch. batch.records ≡ filter_map record_added lines.now) }
+fn batch_of(alloc: Global, lines: &[CommandView<'_>]) -> Result<Batch, NoMemory>
+    ensures { IfOk result (λ batch. batch.records ≡ added_by lines.now) }
 {
     let mut batch = Batch::new(alloc)?;
     for line in lines {
@@ -57,26 +64,26 @@ fn batch_of(alloc: Global, lines: &[Command]) -> Result<Batch, NoMemory>
 }
 
 /// Adds what a line adds. A batch that would be too large is one for which there is no memory.
-fn add_line(batch: &mut Batch, line: &Command) -> Result<(), NoMemory>
-    ensures { OnOk result (batch.new ≡ option_map_or (added batch.old) (record_added line.now) batch.old) }
+fn add_line(batch: &mut Batch, line: &CommandView<'_>) -> Result<(), NoMemory>
+    ensures { OnOk result (batch.new ≡ option_map_or (added batch.old) (record_added (command_of line.now)) batch.old) }
 {
-    let done = match line {
-        Command::Put { key, value } => batch.put(key.as_slice(), value.as_slice()),
-        Command::Delete { key } => batch.delete(key.as_slice()),
-        Command::SingleDelete { key } => batch.single_delete(key.as_slice()),
-        Command::Note { text } => batch.log_data(text.as_slice()),
-        Command::Clear
-        | Command::Commit { .. }
-        | Command::Get { .. }
-        | Command::Many { .. }
-        | Command::Scan { .. }
-        | Command::Stop
-        | Command::Unstop
-        | Command::Slow { .. }
-        | Command::Unslow => Ok(()),
+    let Some(view) = line.record() else {
+        return Ok(());
     };
-    match done {
+    match add_record(batch, view) {
         Ok(()) => Ok(()),
         Err(AddError::NoMemory | AddError::TooLarge { .. }) => Err(NoMemory),
+    }
+}
+
+/// Adds a record of any kind.
+fn add_record(batch: &mut Batch, view: RecordView<'_>) -> Result<(), AddError>
+    ensures { OnOk result (batch.new ≡ added batch.old (record_of view.entry)) }
+{
+    match view {
+        RecordView::Value { key, value } => batch.put(key, value),
+        RecordView::Deletion { key } => batch.delete(key),
+        RecordView::SingleDeletion { key } => batch.single_delete(key),
+        RecordView::LogData { blob } => batch.log_data(blob),
     }
 }

@@ -3,7 +3,6 @@
 #![tactic(auto)]
 
 mod history;
-mod owned;
 mod plans;
 mod replaying;
 mod replies;

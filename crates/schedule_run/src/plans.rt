@@ -2,23 +2,19 @@
 
 ghost use Rattle.std.specs.Prelude.{◌≡◌, IfOk};
 ghost use Rattle.client_script.specs.Scripts.{commands_of};
-ghost use Rattle.core_plans.specs.Plans.{plans_of};
 
-use crate::owned::lines_of;
 use client_script::Script;
 use core_plans::ClientPlan;
 use std::alloc::Global;
 use wp_model::NoMemory;
 
-/// The plan of each client of a script: its commands, as values of their own. Once a plan is made, the list that it
-/// was made of is dropped, so no more than one client's commands are in memory twice.
-pub fn plans_of(alloc: Global, script: Script) -> Result<Vec<ClientPlan>, NoMemory>
-    ensures { IfOk result (λ plans. plans_of plans.items ≡ commands_of script) }
+/// The plan of each client of a script. The words of its commands are parts of the script's lists.
+pub fn plans_of(alloc: Global, script: &Script) -> Result<Vec<ClientPlan<'_>>, NoMemory>
+    ensures { IfOk result (λ plans. plans.items ≡ commands_of script.now) }
 {
     let mut plans = Vec::with_capacity(alloc, script.clients.len())?;
-    for commands in script.clients {
-        let lines = lines_of(alloc, &commands)?;
-        plans.push(ClientPlan { lines })?;
+    for commands in &script.clients {
+        plans.push(ClientPlan::of(alloc, commands)?)?;
     }
     Ok(plans)
 }

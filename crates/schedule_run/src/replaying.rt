@@ -49,7 +49,7 @@ pub fn replay_schedule(
     ensures { IfOk result (λ shown. ShowsReplayed shown (replayed_of options (schedule_of schedule))) }
 {
     let Schedule { script, events } = schedule;
-    let plans = plans_of(alloc, script)?;
+    let plans = plans_of(alloc, &script)?;
     let mut core = State::new(alloc, plans, options)?;
     let counts = replay(&mut core, &events);
     Ok(Replayed {

@@ -2,11 +2,13 @@
 
 ghost use Rattle.std.specs.Prelude.{◌≡◌, ◌++◌, ◌≤◌, length, drop, slice_get, IfOk, OnOk};
 ghost use Rattle.wp_coding.specs.Answers.{found_value};
+ghost use Rattle.command_list.specs.Views.{command_of};
 ghost use Rattle.write_core.specs.Shown.{plans_in};
 ghost use Rattle.core_views.specs.Maps.{IsMapOf};
 ghost use Rattle.schedule_run.specs.Replaying.{InEachShown, read_by, reply_by, first_reply, next_reply, replies_by, AreTranscripts};
 
-use client_calls::Command;
+use command_list::{CommandKind, CommandView};
+use core_plans::ClientPlan;
 use core_views::MapUpTo;
 use run_outcome::Reply;
 use std::alloc::Global;
@@ -15,7 +17,7 @@ use wp_model::NoMemory;
 use write_core::{CoreReply, State};
 
 /// What each client was told.
-pub fn transcripts_of(alloc: Global, core: &State) -> Result<Vec<Vec<Reply>>, NoMemory>
+pub fn transcripts_of(alloc: Global, core: &State<'_>) -> Result<Vec<Vec<Reply>>, NoMemory>
     requires { length (plans_in core.now) ≤ 16 }
     ensures { InEachShown core.now (λ s. IfOk result (λ t.
         AreTranscripts s (plans_in core.now) (length (plans_in core.now)) t.items)) }
@@ -24,7 +26,7 @@ pub fn transcripts_of(alloc: Global, core: &State) -> Result<Vec<Vec<Reply>>, No
     let mut transcripts = Vec::with_capacity(alloc, plans.len())?;
     for (before, plan) in plans.iter().enumerate() {
         let told = core.replies(before as u32 + 1);
-        transcripts.push(replies_of(alloc, &plan.lines, told, core)?)?;
+        transcripts.push(replies_of(alloc, plan, told, core)?)?;
     }
     Ok(transcripts)
 }
@@ -32,17 +34,17 @@ pub fn transcripts_of(alloc: Global, core: &State) -> Result<Vec<Vec<Reply>>, No
 /// What a client was told of its commands: these replies to its commits and reads, in order.
 fn replies_of(
     alloc: Global,
-    commands: &[Command],
+    plan: &ClientPlan<'_>,
     told: &[CoreReply],
-    core: &State,
+    core: &State<'_>,
 ) -> Result<Vec<Reply>, NoMemory>
     ensures { InEachShown core.now (λ s. IfOk result (λ replies.
-        replies.items ≡ replies_by s.entries commands.now told.now)) }
+        replies.items ≡ replies_by s.entries plan.now told.now)) }
 {
     let mut reads = MapUpTo::new(alloc);
     let mut replies = Vec::with_capacity(alloc, told.len())?;
-    for command in commands {
-        add_reply(&mut replies, &mut reads, command, told, core)?;
+    for place in 0..plan.len() {
+        add_reply(&mut replies, &mut reads, plan.line(place), told, core)?;
     }
     Ok(replies)
 }
@@ -51,26 +53,20 @@ fn replies_of(
 fn add_reply(
     replies: &mut Vec<Reply>,
     reads: &mut MapUpTo,
-    command: &Command,
+    command: &CommandView<'_>,
     told: &[CoreReply],
-    core: &State,
+    core: &State<'_>,
 ) -> Result<(), NoMemory>
     ensures reads { InEachShown core.now (λ s. IsMapOf s.entries reads.old → IsMapOf s.entries reads.new) }
     ensures replies { InEachShown core.now (λ s. IsMapOf s.entries reads.old → OnOk result (replies.new.items
-        ≡ replies.old.items ++ next_reply s.entries (drop (length replies.old.items) told.now) command.now)) }
+        ≡ replies.old.items ++ next_reply s.entries (drop (length replies.old.items) told.now)
+        (command_of command.now))) }
 {
-    match command {
-        Command::Put { .. }
-        | Command::Delete { .. }
-        | Command::SingleDelete { .. }
-        | Command::Note { .. }
-        | Command::Clear => Ok(()),
-        // The core knows no write controller, so no script with a schedule says these.
-        Command::Stop | Command::Unstop | Command::Slow { .. } | Command::Unslow => Ok(()),
-        Command::Commit { .. }
-        | Command::Get { .. }
-        | Command::Many { .. }
-        | Command::Scan { .. } => add_next(replies, reads, command, told, core),
+    match command.kind() {
+        CommandKind::Commit | CommandKind::Read => add_next(replies, reads, command, told, core),
+        CommandKind::Addition | CommandKind::Clear => Ok(()),
+        // The core knows no write controller, so no script with a schedule says this.
+        CommandKind::Token => Ok(()),
     }
 }
 
@@ -78,13 +74,14 @@ fn add_reply(
 fn add_next(
     replies: &mut Vec<Reply>,
     reads: &mut MapUpTo,
-    command: &Command,
+    command: &CommandView<'_>,
     told: &[CoreReply],
-    core: &State,
+    core: &State<'_>,
 ) -> Result<(), NoMemory>
     ensures reads { InEachShown core.now (λ s. IsMapOf s.entries reads.old → IsMapOf s.entries reads.new) }
     ensures replies { InEachShown core.now (λ s. IsMapOf s.entries reads.old → OnOk result (replies.new.items
-        ≡ replies.old.items ++ first_reply s.entries command.now (drop (length replies.old.items) told.now))) }
+        ≡ replies.old.items ++ first_reply s.entries (command_of command.now)
+        (drop (length replies.old.items) told.now))) }
 {
     let Some(next) = reply_at(told, replies.len()) else {
         return Ok(());
@@ -109,13 +106,13 @@ fn reply_at(told: &[CoreReply], at: usize) -> Option<CoreReply>
 /// is said to have been read, which the core never says.
 fn reply_of(
     reads: &mut MapUpTo,
-    command: &Command,
+    command: &CommandView<'_>,
     told: CoreReply,
-    core: &State,
+    core: &State<'_>,
 ) -> Result<Option<Reply>, NoMemory>
     ensures reads { InEachShown core.now (λ s. IsMapOf s.entries reads.old → IsMapOf s.entries reads.new) }
     ensures reply { InEachShown core.now (λ s. IsMapOf s.entries reads.old
-        → IfOk result (λ reply. reply ≡ reply_by s.entries command.now told)) }
+        → IfOk result (λ reply. reply ≡ reply_by s.entries (command_of command.now) told)) }
 {
     match told {
         CoreReply::Accepted { first, last } => Ok(Some(Reply::Accepted { first, last })),
@@ -127,37 +124,28 @@ fn reply_of(
 /// The reply to a command that was read at a sequence, if it is one that reads.
 fn read_of(
     reads: &mut MapUpTo,
-    command: &Command,
+    command: &CommandView<'_>,
     at: u64,
-    core: &State,
+    core: &State<'_>,
 ) -> Result<Option<Reply>, NoMemory>
     ensures reads { InEachShown core.now (λ s. IsMapOf s.entries reads.old → IsMapOf s.entries reads.new) }
     ensures reply { InEachShown core.now (λ s. IsMapOf s.entries reads.old
-        → IfOk result (λ reply. reply ≡ read_by s.entries at command.now)) }
+        → IfOk result (λ reply. reply ≡ read_by s.entries at (command_of command.now))) }
 {
     match command {
-        Command::Get { key } => Ok(Some(Reply::Found {
+        CommandView::Get { key } => Ok(Some(Reply::Found {
             at,
-            value: found(reads.value(core, key.as_slice(), at)?),
+            value: found(reads.value(core, key, at)?),
         })),
-        Command::Many { keys } => Ok(Some(Reply::FoundEach {
+        CommandView::Many { keys } => Ok(Some(Reply::FoundEach {
             at,
-            values: reads.values(core, keys, at)?,
+            values: reads.values(core, keys.again(), at)?,
         })),
-        Command::Scan { lo, hi } => Ok(Some(Reply::Rows {
+        CommandView::Scan { lo, hi } => Ok(Some(Reply::Rows {
             at,
-            rows: reads.rows(core, lo.as_slice(), hi.as_slice(), at)?,
+            rows: reads.rows(core, lo, hi, at)?,
         })),
-        Command::Put { .. }
-        | Command::Delete { .. }
-        | Command::SingleDelete { .. }
-        | Command::Note { .. }
-        | Command::Clear
-        | Command::Commit { .. }
-        | Command::Stop
-        | Command::Unstop
-        | Command::Slow { .. }
-        | Command::Unslow => Ok(None),
+        _ => Ok(None),
     }
 }
 

@@ -1,6 +1,6 @@
 -- Clients, their seats and their replies.
-use Rattle.std.proofs.Common.{◌≡◌, ◌≢◌, ◌⊎◌, inl, inr, ℕ, zero, suc, ◌+◌, ◌-◌, ◌<◌, ◌≤◌, Bool, true, false, ◌==◌, List, [], ◌∷◌, ◌++◌, length, take, drop, map, get_or, slice_get, slice_set, Option, Some, None, refl, sym, ap, ◌∙◌, subst, arith}
-use Rattle.std.specs.Prelude.{if◌then◌else◌, not, find, filter, filter_map, count_by, option_map}
+use Rattle.std.proofs.Common.{◌≡◌, ◌≢◌, ◌⊎◌, inl, inr, ℕ, zero, suc, ◌+◌, ◌-◌, ◌<◌, ◌≤◌, Bool, true, false, ◌==◌, List, [], ◌∷◌, ◌++◌, length, map, get_or, slice_get, slice_set, Option, Some, None, refl, sym, ap, ◌∙◌, subst, arith}
+use Rattle.std.specs.Prelude.{if◌then◌else◌, not, find, filter, count_by, option_map}
 use Rattle.std.proofs.lemmas.Bool.Decides.{nat_tests}
 use Rattle.std.proofs.lemmas.List.{length-set, get_or_past}
 use Rattle.std.proofs.lemmas.Option.{get_or_from_slice_get, slice_get_past}
@@ -13,7 +13,6 @@ use Rattle.write_core.specs.declared.writer.CoreReply.{CoreReply}
 use Rattle.write_core.specs.declared.state.Seat.{Seat}
 use Rattle.core_plans.specs.Plans.{records_in}
 use Rattle.write_core.specs.Shown.{shown_writer}
-use Rattle.client_calls.specs.Commands.{record_added}
 use Rattle.write_core.specs.declared.writer.Writer.{Writer}
 use Rattle.write_core.specs.Mirrors.{IsClient, AreClients, AreDone, done_of, lines_left}
 use Rattle.core_plans.specs.Answers.{is_answer, answers_of}
@@ -117,7 +116,7 @@ leaving_is_busy o s c client w is there found = by_idle client.idle (is.once c c
     by_idle false e = refl
 
 pub empty_lines : (plan : ClientPlan) (n : ℕ) → records_in plan (record { from = n; to = n }) ≡ []
-empty_lines plan n = let none : n - n ≡ 0 = omega arith in ap (λ k. filter_map record_added (take k (drop n plan.lines.items))) none
+empty_lines plan n = let none : n - n ≡ 0 = omega arith in rw none refl
 
 -- who is told leaves no other trace
 pub find_filter : (m c : ℕ) (leaving : List core.Writer) → find (λ (w : core.Writer). w.client == c) (filter (λ (w : core.Writer). not (w.client == m)) leaving)

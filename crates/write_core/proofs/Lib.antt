@@ -13,6 +13,7 @@ pub mod Removing
 pub mod ReplayLemmas
 pub mod ReplyLemmas
 pub mod RunLemmas
+pub mod SameState
 pub mod ShowsLemmas
 pub mod SmallLemmas
 pub mod TableEvents

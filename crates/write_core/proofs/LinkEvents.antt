@@ -1,6 +1,6 @@
 -- A batch that goes to the end of the queue.
 use Rattle.std.proofs.Common.{◌≡◌, ℕ, zero, suc, ◌+◌, ◌<◌, ◌≤◌, false, List, [], ◌∷◌, ◌++◌, length, take, drop, map, slice_get, slice_set, Option, Some, None, refl, sym, ap, ◌∙◌, arith}
-use Rattle.std.specs.Prelude.{option_map, if◌then◌else◌}
+use Rattle.std.specs.Prelude.{if◌then◌else◌}
 use Rattle.std.specs.List.{AllByRecursion}
 use Rattle.std.specs.Option.{option_map_or, option_and_then}
 use Rattle.std.proofs.lemmas.List.{length-drop, drop-append-le, take-append-le}
@@ -8,57 +8,32 @@ use Rattle.std.proofs.lemmas.List.Sums.{sum_by-cons}
 use Rattle.wp_model.specs.declared.group.Item.{Item}
 use Rattle.wp_model.specs.declared.write.WriteOptions.{WriteOptions}
 use Rattle.wp_model.specs.Batch.{count_of}
-use Rattle.wp_model.specs.Calls.{commit}
+use Rattle.wp_model.specs.Calls.{Command, commit}
 use Rattle.core_model.specs.Core as core
 use Rattle.core_model.specs.Step as event
-use Rattle.client_calls.specs.declared.command.Command.{Command as Line}
-use Rattle.client_calls.specs.declared.command.Command.TheVariants.{Put, Delete, SingleDelete, Note, Clear, Commit, Get, Many, Scan, Stop, Unstop, Slow, Unslow}
 use Rattle.core_plans.specs.declared.plan.ClientPlan.{ClientPlan}
 use Rattle.write_core.specs.declared.phases.LogPhase.{LogPhase}
 use Rattle.core_plans.specs.declared.plan.Lines.{Lines}
 use Rattle.write_core.specs.declared.writer.Writer.{Writer}
 use Rattle.core_plans.specs.Plans.{records_in, records_of}
 use Rattle.write_core.specs.Shown.{shown_writer, shown_log, cut, total}
-use Rattle.client_calls.specs.Commands.{command_of}
 use Rattle.write_core.specs.Mirrors.{IsLine, IsClientOf, AreWriters, lines_left}
 use Rattle.core_plans.specs.Ahead.{commit_of}
 
-pub commit_is : (o : Option Line) (how : WriteOptions) → option_and_then commit_of o ≡ Some how → option_map command_of o ≡ Some (commit how)
+pub commit_is : (o : Option Command) (how : WriteOptions) → option_and_then commit_of o ≡ Some how → o ≡ Some (commit how)
 commit_is None how e = cc
-commit_is (Some (Put key v)) how e = cc
-commit_is (Some (Delete key)) how e = cc
-commit_is (Some (SingleDelete key)) how e = cc
-commit_is (Some (Note text)) how e = cc
-commit_is (Some Clear) how e = cc
-commit_is (Some (Commit options)) how e = let same : options ≡ how = cc in ap (λ x. Some (commit x)) same
-commit_is (Some (Get key)) how e = cc
-commit_is (Some (Many keys)) how e = cc
-commit_is (Some (Scan lo hi)) how e = cc
-commit_is (Some Stop) how e = cc
-commit_is (Some Unstop) how e = cc
-commit_is (Some (Slow rate)) how e = cc
-commit_is (Some Unslow) how e = cc
+commit_is (Some (commit options)) how e = let same : options ≡ how = cc in ap (λ x. Some (commit x)) same
+commit_is (Some other) how e = absurd (cc e)
 
 -- a client that waits links nothing
 pub link_waits : (o : core.Options) (s : core.State) (c : ℕ) (client : core.Client) → core.client_at s c ≡ Some client → client.idle ≡ false → event.link o s c (core.client_at s c) ≡ None
 link_waits o s c client there busy =
     ap (event.link o s c) there ∙ ap (λ b. if b then event.link_call o s c (core.next_call client).client (core.next_call client).call else None) busy
 
-pub not_commit : (o : core.Options) (s : core.State) (c : ℕ) (client : core.Client) (line : Option Line) → option_and_then commit_of line ≡ None → event.link_call o s c client (option_map command_of line) ≡ None
+pub not_commit : (o : core.Options) (s : core.State) (c : ℕ) (client : core.Client) (line : Option Command) → option_and_then commit_of line ≡ None → event.link_call o s c client line ≡ None
 not_commit o s c client None e = refl
-not_commit o s c client (Some (Put key v)) e = refl
-not_commit o s c client (Some (Delete key)) e = refl
-not_commit o s c client (Some (SingleDelete key)) e = refl
-not_commit o s c client (Some (Note text)) e = refl
-not_commit o s c client (Some Clear) e = refl
-not_commit o s c client (Some (Commit options)) e = cc
-not_commit o s c client (Some (Get key)) e = refl
-not_commit o s c client (Some (Many keys)) e = refl
-not_commit o s c client (Some (Scan lo hi)) e = refl
-not_commit o s c client (Some Stop) e = refl
-not_commit o s c client (Some Unstop) e = refl
-not_commit o s c client (Some (Slow rate)) e = refl
-not_commit o s c client (Some Unslow) e = refl
+not_commit o s c client (Some (commit options)) e = absurd (cc e)
+not_commit o s c client (Some other) e = refl
 
 pub records_at : (plans : List ClientPlan) (c place : ℕ) (plan : ClientPlan) (lines : Lines) → c ≡ place + 1 → slice_get plans place ≡ Some plan → records_of plans c lines ≡ records_in plan lines
 records_at plans c place plan lines e there =

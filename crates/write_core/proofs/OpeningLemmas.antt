@@ -10,9 +10,8 @@ use Rattle.write_core.specs.declared.writer.CoreReply.{CoreReply}
 use Rattle.write_core.specs.declared.writer.Writer.{Writer}
 use Rattle.write_core.specs.declared.state.Seat.{Seat}
 use Rattle.write_core.specs.Fresh.{IsFresh}
-use Rattle.core_plans.specs.Plans.{commands_of, plans_of, records_in}
+use Rattle.core_plans.specs.Plans.{records_in}
 use Rattle.write_core.specs.Shown.{shown_writer}
-use Rattle.client_calls.specs.Commands.{command_of}
 use Rattle.core_plans.specs.Small.{IsSmallPlan}
 use Rattle.write_core.specs.Mirrors.{IsClient, AreClients, AreDone, done_of, lines_left}
 use Rattle.core_plans.specs.Answers.{answers_of}
@@ -39,37 +38,37 @@ zip_length R (x ∷ xs) (y ∷ ys) z = omega (arith, zip_length R xs ys z.1)
 
 -- Clients
 
-fresh_client : (plan : ClientPlan) (seat : Seat) → IsSmallPlan plan → IsFresh plan seat → IsClient plan seat (core.idle_client (commands_of plan))
+fresh_client : (plan : ClientPlan) (seat : Seat) → IsSmallPlan plan → IsFresh plan seat → IsClient plan seat (core.idle_client plan)
 fresh_client plan seat small f =
     let P : List CoreReply → Type 0 = λ xs. AreReplies xs (answers_of []) in
     record {
-      left = sym (ap (λ n. drop n (commands_of plan)) f.next);
+      left = sym (ap (λ n. drop n plan) f.next);
       begun = omega (arith, f.from);
       within = omega (arith, f.next);
       added = sym (ap (λ n. records_in plan (record { from = seat.from; to = n })) f.next ∙ ap (λ n. records_in plan (record { from = n; to = 0 })) f.from);
       small = small;
       idle = sym f.idle;
       replies = subst P (sym f.replies) tt;
-      room = omega (arith, f.room, ap length f.replies, length-map plan.lines.items command_of);
+      room = omega (arith, f.room, ap length f.replies);
     }
 
 each_fresh : (plans : List ClientPlan) (seats : List Seat) → AllByRecursion IsSmallPlan plans → AllZip IsFresh plans seats → (i : ℕ) (plan : ClientPlan) (seat : Seat) (client : core.Client)
-    → slice_get plans i ≡ Some plan → slice_get seats i ≡ Some seat → slice_get (map core.idle_client (plans_of plans)) i ≡ Some client → IsClient plan seat client
+    → slice_get plans i ≡ Some plan → slice_get seats i ≡ Some seat → slice_get (map core.idle_client plans) i ≡ Some client → IsClient plan seat client
 each_fresh [] seats small z i plan seat client p q r = cc
 each_fresh (x ∷ plans) [] small z i plan seat client p q r = absurd z
 each_fresh (x ∷ plans) (y ∷ seats) small z zero plan seat client p q r =
     let same_plan : x ≡ plan = cc in
     let same_seat : y ≡ seat = cc in
-    let same_client : core.idle_client (commands_of x) ≡ client = cc in
-    let P : ClientPlan → Type 0 = λ v. IsClient v y (core.idle_client (commands_of x)) in
-    let Q : Seat → Type 0 = λ v. IsClient plan v (core.idle_client (commands_of x)) in
+    let same_client : core.idle_client x ≡ client = cc in
+    let P : ClientPlan → Type 0 = λ v. IsClient v y (core.idle_client x) in
+    let Q : Seat → Type 0 = λ v. IsClient plan v (core.idle_client x) in
     subst (IsClient plan seat) same_client (subst Q same_seat (subst P same_plan (fresh_client x y small.0 z.0)))
 each_fresh (x ∷ plans) (y ∷ seats) small z (suc i) plan seat client p q r = each_fresh plans seats small.1 z.1 i plan seat client p q r
 
-clients_length : (plans : List ClientPlan) → length (map core.idle_client (plans_of plans)) ≡ length plans
-clients_length plans = length-map (plans_of plans) core.idle_client ∙ length-map plans commands_of
+clients_length : (plans : List ClientPlan) → length (map core.idle_client plans) ≡ length plans
+clients_length plans = length-map plans core.idle_client
 
-pub fresh_clients : (plans : List ClientPlan) (seats : List Seat) → AllByRecursion IsSmallPlan plans → AllZip IsFresh plans seats → AreClients plans seats (map core.idle_client (plans_of plans))
+pub fresh_clients : (plans : List ClientPlan) (seats : List Seat) → AllByRecursion IsSmallPlan plans → AllZip IsFresh plans seats → AreClients plans seats (map core.idle_client plans)
 fresh_clients plans seats small z = record {
   plan_each = sym (clients_length plans);
   seat_each = zip_length IsFresh plans seats z ∙ sym (clients_length plans);
@@ -77,13 +76,12 @@ fresh_clients plans seats small z = record {
 }
 
 -- no line is passed
-pub all_left : (plans : List ClientPlan) → lines_left (map core.idle_client (plans_of plans)) ≡ sum_by (λ (p : ClientPlan). length p.lines.items) plans
+pub all_left : (plans : List ClientPlan) → lines_left (map core.idle_client plans) ≡ sum_by (λ (p : ClientPlan). length p) plans
 all_left [] = refl
 all_left (p ∷ plans) =
-    sum_by-cons (λ (c : core.Client). length c.left) (core.idle_client (commands_of p)) (map core.idle_client (plans_of plans))
-    ∙ ap (λ n. n + lines_left (map core.idle_client (plans_of plans))) (length-map p.lines.items command_of)
-    ∙ ap (λ n. length p.lines.items + n) (all_left plans)
-    ∙ sym (sum_by-cons (λ (p : ClientPlan). length p.lines.items) p plans)
+    sum_by-cons (λ (c : core.Client). length c.left) (core.idle_client p) (map core.idle_client plans)
+    ∙ ap (λ n. length p + n) (all_left plans)
+    ∙ sym (sum_by-cons (λ (p : ClientPlan). length p) p plans)
 
 -- nobody has left
 abbrev no_writer : Option Writer

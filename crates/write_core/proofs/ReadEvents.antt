@@ -1,17 +1,13 @@
 -- Which lines are reads, and what they are answered.
-use Rattle.std.proofs.Common.{◌≡◌, ◌⊎◌, inl, inr, ℕ, zero, suc, ◌+◌, ◌-◌, ◌<◌, ◌≤◌, true, false, List, [], ◌∷◌, length, slice_get, slice_set, Option, Some, None, refl, sym, ap, ◌∙◌, subst, arith}
-use Rattle.std.proofs.lemmas.List.{length-drop, length-map}
-use Rattle.std.specs.Prelude.{option_map, if◌then◌else◌}
+use Rattle.std.proofs.Common.{◌≡◌, ◌⊎◌, inl, inr, ℕ, zero, suc, ◌+◌, ◌-◌, ◌<◌, ◌≤◌, true, false, List, length, slice_get, slice_set, Option, Some, None, refl, sym, ap, ◌∙◌, subst, arith}
+use Rattle.std.proofs.lemmas.List.{length-drop}
+use Rattle.std.specs.Prelude.{if◌then◌else◌}
 use Rattle.std.proofs.lemmas.Option.{slice_get_past}
 use Rattle.std.specs.Option.{option_map_or}
-use Rattle.wp_model.specs.Calls.{Command, Reply}
+use Rattle.wp_model.specs.Calls.{Command, get, many, scan, Reply}
 use Rattle.core_model.specs.Core as core
 use Rattle.core_model.specs.Step as event
-use Rattle.client_calls.specs.declared.command.Command.{Command as Line}
-use Rattle.client_calls.specs.declared.command.Command.TheVariants.{Put, Delete, SingleDelete, Note, Clear, Commit, Get, Many, Scan, Stop, Unstop, Slow, Unslow}
 use Rattle.write_core.specs.declared.writer.CoreReply.TheVariants.{ReadAt}
-use Rattle.core_plans.specs.Plans.{commands_of}
-use Rattle.client_calls.specs.Commands.{command_of}
 use Rattle.core_plans.specs.declared.plan.ClientPlan.{ClientPlan}
 use Rattle.write_core.specs.declared.state.Seat.{Seat}
 use Rattle.core_plans.specs.declared.ahead.Ahead.{Ahead}
@@ -19,62 +15,38 @@ use Rattle.write_core.proofs.ClientLemmas.{lines_fewer}
 use Rattle.write_core.specs.Mirrors.{IsClient, lines_left}
 use Rattle.core_plans.specs.Answers.{is_answer}
 use Rattle.write_core.specs.Replies.{IsReply}
-use Rattle.core_plans.specs.Ahead.{is_read_line, IsAhead}
+use Rattle.core_plans.specs.Ahead.{is_read, IsAhead}
 
-pub not_read : (s : core.State) (c : ℕ) (client : core.Client) (o : Option Line) → option_map_or is_read_line o false ≡ false → event.read_call s c client (option_map command_of o) ≡ None
+pub not_read : (s : core.State) (c : ℕ) (client : core.Client) (o : Option Command) → option_map_or is_read o false ≡ false → event.read_call s c client o ≡ None
 not_read s c client None e = refl
-not_read s c client (Some (Put key v)) e = refl
-not_read s c client (Some (Delete key)) e = refl
-not_read s c client (Some (SingleDelete key)) e = refl
-not_read s c client (Some (Note text)) e = refl
-not_read s c client (Some Clear) e = refl
-not_read s c client (Some (Commit options)) e = refl
-not_read s c client (Some (Get key)) e = cc
-not_read s c client (Some (Many keys)) e = cc
-not_read s c client (Some (Scan lo hi)) e = cc
-not_read s c client (Some Stop) e = refl
-not_read s c client (Some Unstop) e = refl
-not_read s c client (Some (Slow rate)) e = refl
-not_read s c client (Some Unslow) e = refl
+not_read s c client (Some (get key)) e = absurd (cc e)
+not_read s c client (Some (many keys)) e = absurd (cc e)
+not_read s c client (Some (scan lo hi)) e = absurd (cc e)
+not_read s c client (Some other) e = refl
 
 -- a read and its answer
-pub record IsRead (s : core.State) (o : Option Line) : Type 0 where
+pub record IsRead (s : core.State) (o : Option Command) : Type 0 where
   pub command : Command
   pub reply : Reply
-  pub line : option_map command_of o ≡ Some command
+  pub line : o ≡ Some command
   pub answered : core.read_reply s command ≡ Some reply
   pub loud : is_answer reply ≡ Some reply
   pub at : IsReply (ReadAt s.last) reply
 
-pub read_is : (s : core.State) (o : Option Line) → option_map_or is_read_line o false ≡ true → IsRead s o
+pub read_is : (s : core.State) (o : Option Command) → option_map_or is_read o false ≡ true → IsRead s o
 read_is s None e = cc
-read_is s (Some (Put key v)) e = cc
-read_is s (Some (Delete key)) e = cc
-read_is s (Some (SingleDelete key)) e = cc
-read_is s (Some (Note text)) e = cc
-read_is s (Some Clear) e = cc
-read_is s (Some (Commit options)) e = cc
-read_is s (Some (Get key)) e = record { command = command_of (Get key); reply = _; line = refl; answered = refl; loud = refl; at = refl }
-read_is s (Some (Many keys)) e = record { command = command_of (Many keys); reply = _; line = refl; answered = refl; loud = refl; at = refl }
-read_is s (Some (Scan lo hi)) e = record { command = command_of (Scan lo hi); reply = _; line = refl; answered = refl; loud = refl; at = refl }
-read_is s (Some Stop) e = cc
-read_is s (Some Unstop) e = cc
-read_is s (Some (Slow rate)) e = cc
-read_is s (Some Unslow) e = cc
-
-pub line_within : (lines : List Line) (i : ℕ) (command : Command) → option_map command_of (slice_get lines i) ≡ Some command → i < length lines
-line_within [] i command e = cc
-line_within (x ∷ lines) zero command e = omega arith
-line_within (x ∷ lines) (suc i) command e = let h = line_within lines i command e in omega (arith, h)
+read_is s (Some (get key)) e = record { command = get key; reply = _; line = refl; answered = refl; loud = refl; at = refl }
+read_is s (Some (many keys)) e = record { command = many keys; reply = _; line = refl; answered = refl; loud = refl; at = refl }
+read_is s (Some (scan lo hi)) e = record { command = scan lo hi; reply = _; line = refl; answered = refl; loud = refl; at = refl }
+read_is s (Some other) e = absurd (cc e)
 
 -- behind its call a client has fewer lines left
-pub fewer_left : (plan : ClientPlan) (seat : Seat) (client : core.Client) (a : Ahead) (v : core.Ahead) → IsClient plan seat client → IsAhead plan.lines.items seat.next a client.calls client v → a.call < length plan.lines.items
+pub fewer_left : (plan : ClientPlan) (seat : Seat) (client : core.Client) (a : Ahead) (v : core.Ahead) → IsClient plan seat client → IsAhead plan seat.next a client.calls client v → a.call < length plan
     → length v.client.left + 1 ≤ length client.left
 fewer_left plan seat client a v is ahead there =
-    let all : length (commands_of plan) ≡ length plan.lines.items = length-map plan.lines.items command_of in
-    let old : length client.left ≡ length (commands_of plan) - seat.next = ap length is.left ∙ length-drop seat.next (commands_of plan) in
-    let new : length v.client.left ≡ length (commands_of plan) - a.next = ap length ahead.left ∙ length-drop a.next (commands_of plan) in
-    omega (arith, all, old, new, ahead.goes_on there, ahead.onward)
+    let old : length client.left ≡ length plan - seat.next = ap length is.left ∙ length-drop seat.next plan in
+    let new : length v.client.left ≡ length plan - a.next = ap length ahead.left ∙ length-drop a.next plan in
+    omega (arith, old, new, ahead.goes_on there, ahead.onward)
 
 pub lines_after : (clients : List core.Client) (i j : ℕ) (old new : core.Client) → j ≡ i → i < length clients → slice_get clients i ≡ Some old → length new.left + 1 ≤ length old.left → lines_left (slice_set clients j new) ≤ lines_left clients
 lines_after clients i j old new e h there fewer =
@@ -96,17 +68,17 @@ read_waits s c client there busy =
     ap (event.read s c) there ∙ ap (λ b. if b then event.read_call s c (core.next_call client).client (core.next_call client).call else None) busy
 
 -- the client after its read, with this seat
-pub record Answered (s : core.State) (c : ℕ) (client : core.Client) (plan : ClientPlan) (seat : Seat) (line : Option Line) : Type 0 where
+pub record Answered (s : core.State) (c : ℕ) (client : core.Client) (plan : ClientPlan) (seat : Seat) (line : Option Command) : Type 0 where
   pub new : core.Client
   pub comes : event.read s c (core.client_at s c) ≡ Some (core.with_client s c new)
   pub is : IsClient plan seat new
   pub left : new.left ≡ (core.next_call client).client.left
   pub command : Command
-  pub there : option_map command_of line ≡ Some command
+  pub there : line ≡ Some command
 
-pub read_answered : (s : core.State) (c n : ℕ) (client : core.Client) (plan : ClientPlan) (seat : Seat) (line : Option Line) → option_map_or is_read_line line false ≡ true → s.last ≡ n
-    → core.client_at s c ≡ Some client → client.idle ≡ true → (core.next_call client).call ≡ option_map command_of line
-    → ((command : Command) (reply : Reply) → option_map command_of line ≡ Some command → IsReply (ReadAt n) reply → is_answer reply ≡ Some reply → IsClient plan seat (core.told (core.next_call client).client command reply))
+pub read_answered : (s : core.State) (c n : ℕ) (client : core.Client) (plan : ClientPlan) (seat : Seat) (line : Option Command) → option_map_or is_read line false ≡ true → s.last ≡ n
+    → core.client_at s c ≡ Some client → client.idle ≡ true → (core.next_call client).call ≡ line
+    → ((command : Command) (reply : Reply) → line ≡ Some command → IsReply (ReadAt n) reply → is_answer reply ≡ Some reply → IsClient plan seat (core.told (core.next_call client).client command reply))
     → Answered s c client plan seat line
 read_answered s c n client plan seat line reads last there idle call told =
     let read : IsRead s line = read_is s line reads in
@@ -123,8 +95,8 @@ read_answered s c n client plan seat line reads last there idle call told =
     }
 
 -- a client whose next call is no read
-pub read_passed : (s : core.State) (c : ℕ) (client : core.Client) (line : Option Line) → core.client_at s c ≡ Some client → client.idle ≡ true → (core.next_call client).call ≡ option_map command_of line
-    → option_map_or is_read_line line false ≡ false → event.read s c (core.client_at s c) ≡ None
+pub read_passed : (s : core.State) (c : ℕ) (client : core.Client) (line : Option Command) → core.client_at s c ≡ Some client → client.idle ≡ true → (core.next_call client).call ≡ line
+    → option_map_or is_read line false ≡ false → event.read s c (core.client_at s c) ≡ None
 read_passed s c client line there idle call e =
     ap (event.read s c) there ∙ ap (λ b. if b then event.read_call s c (core.next_call client).client (core.next_call client).call else None) idle
     ∙ ap (event.read_call s c (core.next_call client).client) call ∙ not_read s c (core.next_call client).client line e

@@ -1,11 +1,9 @@
 -- The entries of a history are of clients that there are.
-use Rattle.std.proofs.Common.{◌≡◌, ℕ, zero, suc, ◌-◌, ◌<◌, ◌≤◌, List, [], ◌∷◌, length, take, drop, map, slice_get, Option, Some, None, refl, ap, arith}
-use Rattle.std.specs.Prelude.{filter_map}
+use Rattle.std.proofs.Common.{◌≡◌, ℕ, zero, suc, ◌-◌, ◌<◌, ◌≤◌, List, [], ◌∷◌, length, map, slice_get, Option, Some, None, refl, arith}
 use Rattle.std.specs.Option.{option_map_or}
 use Rattle.std.specs.List.{AllByRecursion}
 use Rattle.wp_model.specs.Batch.{count_of}
 use Rattle.wp_model.specs.History.{Follows, IsHistory, last_of}
-use Rattle.client_calls.specs.Commands.{record_added}
 use Rattle.core_plans.specs.declared.plan.ClientPlan.{ClientPlan}
 use Rattle.core_plans.specs.declared.plan.Lines.{Lines}
 use Rattle.core_plans.specs.Plans.{records_in, records_of}
@@ -21,7 +19,7 @@ some_lines : (plan : ClientPlan) (batch : Lines) → 1 ≤ count_of (records_in 
 some_lines plan batch h = by_len (batch.to - batch.from) refl
   where
     by_len : (n : ℕ) → batch.to - batch.from ≡ n → batch.from < batch.to
-    by_len zero e = absurd (omega (arith, h, ap (λ n. count_of (filter_map record_added (take n (drop batch.from plan.lines.items)))) e))
+    by_len zero e = let none = rw e at h in absurd (omega (arith, none))
     by_len (suc n) e = omega arith
 
 client_known : (plans : List ClientPlan) (c : ℕ) (batch : Lines) → 1 ≤ count_of (records_of plans c batch) → (1 ≤ c) × (c ≤ length plans) × (batch.from < batch.to)

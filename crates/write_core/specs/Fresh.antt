@@ -9,4 +9,4 @@ pub record IsFresh (plan : ClientPlan) (seat : Seat) : Type 0 where
   pub from : seat.from ≡ 0
   pub idle : seat.idle ≡ true
   pub replies : seat.replies.items ≡ []
-  pub room : length plan.lines.items ≤ vec_capacity seat.replies
+  pub room : length plan ≤ vec_capacity seat.replies

@@ -15,7 +15,7 @@ use Rattle.write_core.specs.declared.phases.Mark.TheVariants.{Out}
 use Rattle.write_core.specs.declared.writer.Writer.{Writer}
 use Rattle.core_plans.specs.Answers.{answers_of}
 use Rattle.write_core.specs.Replies.{AreReplies}
-use Rattle.core_plans.specs.Plans.{commands_of, records_in, records_of}
+use Rattle.core_plans.specs.Plans.{records_in, records_of}
 use Rattle.write_core.specs.Shown.{options_of, shown_writer, shown_entry, shown_log, cut, total}
 use Rattle.write_core.specs.declared.state.Seat.{Seat}
 use Rattle.write_core.specs.declared.state.State.{State}
@@ -27,9 +27,9 @@ use Rattle.core_plans.specs.Small.{AreSmall}
 
 -- a client's seat, by its plan
 pub record IsClient (plan : ClientPlan) (seat : Seat) (client : core.Client) : Type 0 where
-  pub left : client.left ≡ drop seat.next (commands_of plan)
+  pub left : client.left ≡ drop seat.next plan
   pub begun : seat.from ≤ seat.next
-  pub within : seat.next ≤ length plan.lines.items
+  pub within : seat.next ≤ length plan
   pub added : client.added ≡ records_in plan (record { from = seat.from; to = seat.next })
   pub small : AreSmall client.added client.left
   pub idle : client.idle ≡ seat.idle

@@ -8,7 +8,7 @@ use crate::writer::CoreReply;
 use client_calls::Entry;
 use core_plans::{ClientPlan, Lines};
 
-impl State {
+impl<'a> State<'a> {
     ghost use Rattle.core_model.specs.Core as core;
     ghost use Rattle.core_model.specs.CoreLaw.{IsCore};
     ghost use Rattle.write_core.specs.Within.{IsWithinPlans};
@@ -18,7 +18,7 @@ impl State {
     ghost use Rattle.write_core.specs.Replies.{AreReplies};
 
     /// The clients' plans, the first that of client 1.
-    pub fn plans(&self) -> &[ClientPlan]
+    pub fn plans(&self) -> &[ClientPlan<'a>]
         ensures { result.now ≡ plans_in self.now }
     {
         &self.plans

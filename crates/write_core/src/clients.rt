@@ -11,7 +11,7 @@ use client_calls::refusal_at_once;
 use core_plans::{Lines, commit_at, is_read, measure_batch};
 use wp_model::{Item, WriteOptions};
 
-impl State {
+impl State<'_> {
     ghost use Rattle.std.specs.Prelude.{find, ◌==◌, ◌<◌, vec_len};
     ghost use Rattle.core_model.specs.Core as core;
     ghost use Rattle.core_model.specs.Step as event;
@@ -38,7 +38,7 @@ impl State {
             from: ahead.from,
             to: ahead.call,
         };
-        let measured = measure_batch(&self.plans[place].lines, batch);
+        let measured = measure_batch(&self.plans[place], batch);
         match refusal_at_once(measured, options, self.options.batch_bytes, false) {
             Some(why) => answer(&mut self.seats[place], ahead, CoreReply::Refused { why }),
             None => {

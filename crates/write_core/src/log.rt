@@ -12,7 +12,7 @@ use crate::writer::Writer;
 use group_build::group_len;
 use wp_model::Refusal;
 
-impl State {
+impl State<'_> {
     ghost use Rattle.core_model.specs.Core as core;
     ghost use Rattle.core_model.specs.Step as event;
     ghost use Rattle.std.specs.Prelude.{◌==◌, ◌&&◌, nat_lt, false, slice_get, take, length, drop, map, slice_index_or};

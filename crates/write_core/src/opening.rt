@@ -11,10 +11,9 @@ use core_plans::ClientPlan;
 use std::alloc::Global;
 use wp_model::NoMemory;
 
-impl State {
+impl<'a> State<'a> {
     ghost use Rattle.core_model.specs.Core as core;
     ghost use Rattle.write_core.specs.Shows.{Shows};
-    ghost use Rattle.core_plans.specs.Plans.{plans_of};
     ghost use Rattle.write_core.specs.Shown.{options_of, plans_in};
     ghost use Rattle.std.specs.List.{AllByRecursion};
     ghost use Rattle.core_plans.specs.Small.{IsSmallPlan};
@@ -24,16 +23,16 @@ impl State {
     /// is accepted.
     pub fn new(
         alloc: Global,
-        plans: Vec<ClientPlan>,
+        plans: Vec<ClientPlan<'a>>,
         options: CoreOptions,
-    ) -> Result<State, NoMemory>
+    ) -> Result<State<'a>, NoMemory>
         requires some { 1 ≤ vec_len plans }
         requires few { vec_len plans ≤ 16 }
         requires small { AllByRecursion IsSmallPlan plans.items }
         requires last_fits { options.last ≤ 2 ^ 56 - 1 }
         ensures shows { IfOk result (λ r. Shows r (options_of options)
-            (core.opened (options_of options) (plans_of plans.items))) }
-        ensures plans { IfOk result (λ r. plans_in r ≡ plans.items) }
+            (core.opened (options_of options) plans.entry.items)) }
+        ensures plans { IfOk result (λ r. plans_in r ≡ plans.entry.items) }
     {
         let room = total_lines(&plans)?;
         let seats = new_seats(alloc, &plans)?;
@@ -72,7 +71,7 @@ impl State {
 impl Seat {
     /// A client before its first line, with room for so many replies.
     fn new(alloc: Global, replies: usize) -> Result<Seat, NoMemory>
-        ensures { IfOk result (λ seat. (plan : ClientPlan) → length plan.lines.items ≡ replies → IsFresh plan seat) }
+        ensures { IfOk result (λ seat. (plan : ClientPlan) → length plan ≡ replies → IsFresh plan seat) }
     {
         Ok(Seat {
             next: 0,
@@ -84,24 +83,24 @@ impl Seat {
 }
 
 /// How many lines the plans have. More than a machine's memory can have are refused.
-fn total_lines(plans: &[ClientPlan]) -> Result<usize, NoMemory>
-    ensures { IfOk result (λ count. count ≡ sum_by (λ (p : ClientPlan). length p.lines.items) plans.now) }
+fn total_lines(plans: &[ClientPlan<'_>]) -> Result<usize, NoMemory>
+    ensures { IfOk result (λ count. count ≡ sum_by (λ (p : ClientPlan). length p) plans.now) }
 {
     let mut count = 0usize;
     for plan in plans {
-        count = count.checked_add(plan.lines.len()).ok_or(NoMemory)?;
+        count = count.checked_add(plan.len()).ok_or(NoMemory)?;
     }
     Ok(count)
 }
 
 /// A seat for each client, with room for a reply to each of its lines.
-fn new_seats(alloc: Global, plans: &[ClientPlan]) -> Result<Vec<Seat>, NoMemory>
+fn new_seats(alloc: Global, plans: &[ClientPlan<'_>]) -> Result<Vec<Seat>, NoMemory>
     ensures fresh { IfOk result (λ seats. AllZip IsFresh plans.now seats.items) }
     ensures len { IfOk result (λ seats. vec_len seats ≡ length plans.now) }
 {
     let mut seats = Vec::new(alloc);
     for plan in plans {
-        seats.push(Seat::new(alloc, plan.lines.len())?)?;
+        seats.push(Seat::new(alloc, plan.len())?)?;
     }
     Ok(seats)
 }

@@ -51,23 +51,23 @@ pub(crate) fn settle(seat: &mut Seat, answer: Answer)
 }
 
 /// Where the next call of a client is, if the client is idle.
-pub(crate) fn next_call(plan: &ClientPlan, seat: &Seat) -> Option<Ahead>
+pub(crate) fn next_call(plan: &ClientPlan<'_>, seat: &Seat) -> Option<Ahead>
     ensures { (client : core.Client) → IsClient plan.now seat.now client
         → MatchOption result (client.idle ≡ false) (λ a. (client.idle ≡ true)
-        × IsAhead plan.now.lines.items seat.now.next a client.calls client (core.next_call client)) }
+        × IsAhead plan.now seat.now.next a client.calls client (core.next_call client)) }
 {
     if !seat.idle {
         return None;
     }
-    Some(look_ahead(&plan.lines, seat.next, seat.from))
+    Some(look_ahead(plan, seat.next, seat.from))
 }
 
 /// An idle client comes to a call and is told its reply at once.
 pub(crate) fn answer(seat: &mut Seat, ahead: Ahead, reply: CoreReply)
     ensures { (plan : ClientPlan) (client : core.Client) (command : calls.Command) (r : calls.Reply)
         → IsClient plan seat.old client → client.idle ≡ true
-        → IsAhead plan.lines.items seat.old.next ahead client.calls client (core.next_call client)
-        → ahead.call < length plan.lines.items → IsReply reply r → is_answer r ≡ Some r
+        → IsAhead plan seat.old.next ahead client.calls client (core.next_call client)
+        → ahead.call < length plan → IsReply reply r → is_answer r ≡ Some r
         → IsClient plan seat.new (core.told (core.next_call client).client command r) }
 {
     seat.next = ahead.next;
@@ -79,8 +79,8 @@ pub(crate) fn answer(seat: &mut Seat, ahead: Ahead, reply: CoreReply)
 /// An idle client comes to a commit, and waits for its answer.
 pub(crate) fn wait(seat: &mut Seat, ahead: Ahead)
     ensures { (plan : ClientPlan) (client : core.Client) → IsClient plan seat.old client → client.idle ≡ true
-        → IsAhead plan.lines.items seat.old.next ahead client.calls client (core.next_call client)
-        → ahead.call < length plan.lines.items
+        → IsAhead plan seat.old.next ahead client.calls client (core.next_call client)
+        → ahead.call < length plan
         → IsClient plan seat.new (record (core.next_call client).client { idle = false }) }
 {
     seat.next = ahead.next;

@@ -37,9 +37,9 @@ pub(crate) struct Seat {
 
 /// The write path's state. [`State::new`] reserves all memory that events need.
 #[derive(Drop)]
-pub struct State {
+pub struct State<'a> {
     pub(crate) options: CoreOptions,
-    pub(crate) plans: Vec<ClientPlan>,
+    pub(crate) plans: Vec<ClientPlan<'a>>,
     pub(crate) seats: Vec<Seat>,
     /// How far each client is with the launched group.
     pub(crate) marks: Vec<Mark>,
@@ -79,7 +79,7 @@ pub struct State {
     ghost entries_counted: { AreCounts accepted.items entries.items },
 }
 
-impl State {
+impl State<'_> {
     /// Where the plan and the seat of a client are.
     pub(crate) fn place_of(&self, client: u32) -> Option<usize>
         ensures { MatchOption result ((client ≡ 0) ⊎ (vec_len self.now.plans < client)) (λ place. (client ≡ place + 1)

@@ -16,7 +16,7 @@ pub struct Counts {
     pub skipped: u64,
 }
 
-impl State {
+impl State<'_> {
     /// Takes an event, if it may come. Where it may not nothing changes, and the answer is false. The plans stay as
     /// they are. This takes no memory.
     pub fn step(&mut self, event: Event) -> bool
@@ -81,7 +81,7 @@ impl Counts {
 }
 
 /// Takes events in order. Those that may not come are passed over.
-pub fn replay(state: &mut State, events: &[Event]) -> Counts
+pub fn replay(state: &mut State<'_>, events: &[Event]) -> Counts
     ensures replays { Replays events.now state.old result state.new }
     ensures unchanged { result.taken ≡ 0 → state.new ≡ state.old }
     ensures plans { plans_in state.new ≡ plans_in state.old }

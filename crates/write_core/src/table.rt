@@ -9,7 +9,7 @@ use crate::phases::{LogPhase, Mark, TablePhase};
 use crate::state::State;
 use crate::writer::Answer;
 
-impl State {
+impl State<'_> {
     ghost use Rattle.core_model.specs.Core as core;
     ghost use Rattle.core_model.specs.Step as event;
     ghost use Rattle.std.specs.Prelude.{◌==◌, ◌&&◌, ◌||◌, not, fold, drop, length, ◌<◌};

@@ -1,26 +1,39 @@
-use Rattle.std.proofs.Common.{◌≡◌, ℕ, ◌+◌, subst, true, false, refl, sym, ap, ◌∙◌, arith, get_or}
-use Rattle.std.proofs.lemmas.List.{get_or_read}
-use Rattle.core_plans.specs.Ahead.{is_call, begin_after}
-use Rattle.core_plans.proofs.AheadLemmas.{Reached, reached_more, at_call, at_end}
+use Rattle.std.proofs.Common.{◌≢◌, ℕ, ◌+◌, drop, subst, refl, sym, ◌∙◌, arith}
+use Rattle.core_model.specs.Core as core
+use Rattle.command_list.specs.declared.command_kind.CommandKind.TheVariants.{Addition, Clear}
+use Rattle.command_list.specs.Kinds.{kind_of}
+use Rattle.command_list.specs.Views.{command_of}
+use Rattle.core_plans.specs.Ahead.{IsAhead}
+use Rattle.core_plans.specs.Plans.{added_between}
+use Rattle.core_plans.proofs.AheadLemmas.{Reached, past_addition, past_clear, calls_alone, at_call, at_end}
+use Rattle.core_plans.proofs.ahead.look_ahead.Goals.{in-Addition, in-Clear}
 use Rattle.core_plans.proofs.ahead.look_ahead.Goals as goal
 
 pub loop-place-init : goal.loop-place-init
 loop-place-init c = λ calls client begun within. record { now = calls; answers = refl; same = refl; begun = begun; onward = omega arith }
 
-pub returns-then-is_call : goal.returns-then-is_call
-returns-then-is_call c = λ calls client begun within.
-    let line : is_call (get_or c.args.lines.now c.loop-place.place c.index-lines-place.result) ≡ true = ap is_call (sym c.index-lines-place.is) ∙ sym c.is_call.ensures ∙ c.if-is_call.true in
-    at_call c.args.lines.now c.args.at c.args.from c.loop-place.place c.loop-place.begin calls client c.index-lines-place.result (omega arith) line (c.loop-place.invariant calls client begun within)
+pub returns-in-Commit : goal.returns-in-Commit
+returns-in-Commit c = λ calls client begun within.
+    let x = command_of c.line.result.now in
+    let alone : (kind_of x ≢ Addition) × (kind_of x ≢ Clear) = rw c.kind.ensures at (calls_alone c.kind.result c.in-Commit.is) in
+    at_call c.args.plan.now c.args.at c.args.from c.loop-place.place c.loop-place.begin calls client x c.line.ensures alone (c.loop-place.invariant calls client begun within)
 
 pub loop-place-preserved : goal.loop-place-preserved
 loop-place-preserved c = λ calls client begun within.
-    let line : is_call (get_or c.args.lines.now c.loop-place.place c.index-lines-place.result) ≡ false = ap is_call (sym c.index-lines-place.is) ∙ sym c.is_call.ensures ∙ c.if-is_call.false in
-    let more = reached_more c.args.lines.now c.args.at c.args.from c.loop-place.place c.loop-place.begin calls client c.index-lines-place.result (omega arith) line (c.loop-place.invariant calls client begun within) in
-    let begin : c.begin_after-begin.result ≡ begin_after (get_or c.args.lines.now c.loop-place.place c.index-lines-place.result) c.loop-place.place c.loop-place.begin =
-    c.begin_after-begin.ensures ∙ ap (λ x. begin_after x c.loop-place.place c.loop-place.begin) (get_or_read c.args.lines.now c.loop-place.place _ (omega arith) c.index-lines-place-in-loop-place.is c.index-lines-place.result) in
-    let P : ℕ → Type 0 = λ b. Reached c.args.lines.now c.args.at c.args.from (c.loop-place.place + 1) b calls client in
-    subst P (sym begin) more
+    let plan = c.args.plan.now in
+    let x = command_of c.line.result.now in
+    let reached = c.loop-place.invariant calls client begun within in
+    let P : ℕ → Type 0 = λ b. Reached plan c.args.at c.args.from (c.loop-place.place + 1) b calls client in
+    elim c.match-kind.branch [
+      | in-Addition w ↦
+          subst P (sym w.begin-is) (past_addition plan c.args.at c.args.from c.loop-place.place c.loop-place.begin calls client x c.line.ensures (sym c.kind.ensures ∙ w.in-Addition.is) reached)
+      | in-Clear w ↦
+          subst P (sym w.begin-is) (past_clear plan c.args.at c.args.from c.loop-place.place c.loop-place.begin calls client x c.line.ensures (sym c.kind.ensures ∙ w.in-Clear.is) reached)
+    ]
 
 pub returns : goal.returns
 returns c = λ calls client begun within.
-    at_end c.args.lines.now c.args.at c.args.from c.loop-place.place c.loop-place.begin calls client (omega (arith, within)) (c.loop-place.invariant calls client begun within)
+    let plan = c.args.plan.now in
+    let P : ℕ → Type 0 = λ n. IsAhead plan c.args.at (record { call = n; next = n; from = c.loop-place.begin }) calls client
+    (core.ahead calls (added_between c.args.from c.args.at plan) (drop c.args.at plan) client) in
+    subst P (sym c.len-end.ensures) (at_end plan c.args.at c.args.from c.loop-place.place c.loop-place.begin calls client (omega (arith, within)) (c.loop-place.invariant calls client begun within))

@@ -6,4 +6,4 @@ use Rattle.core_plans.proofs.ahead.look_ahead.Given as goal
 
 -- the lines so far are passed
 abbrev pub invariant-loop-place : goal.invariant-loop-place
-invariant-loop-place l = (calls : List Call) (client : core.Client) → l.from ≤ l.at → l.at ≤ length l.lines → Reached l.lines l.at l.from l.place l.begin calls client
+invariant-loop-place l = (calls : List Call) (client : core.Client) → l.from ≤ l.at → l.at ≤ length l.plan → Reached l.plan l.at l.from l.place l.begin calls client

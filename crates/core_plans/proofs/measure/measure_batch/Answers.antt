@@ -1,24 +1,23 @@
-use Rattle.std.proofs.Common.{◌≡◌, ℕ, ◌+◌, ◌<◌, ◌≤◌, ◌^◌, [], ◌++◌, sym, ap, ◌∙◌, arith}
+use Rattle.std.proofs.Common.{◌≡◌, ℕ, ◌+◌, ◌<◌, ◌≤◌, ◌^◌, [], ◌++◌, ap, ◌∙◌, arith}
 use Rattle.std.specs.List.{cons_option}
 use Rattle.wp_model.specs.Batch.{count_of, size_of_batch}
-use Rattle.client_calls.specs.Commands.{record_added}
+use Rattle.command_list.specs.Kinds.{record_added}
+use Rattle.command_list.specs.Views.{command_of}
 use Rattle.core_plans.specs.Small.{record_size, record_count}
-use Rattle.core_plans.specs.Ahead.{added_between}
-use Rattle.core_plans.proofs.AheadLemmas.{between_more}
+use Rattle.core_plans.specs.Plans.{added_between}
+use Rattle.core_plans.proofs.LineLemmas.{added_more}
 use Rattle.core_plans.proofs.SizeLemmas.{size_more, count_more, count_below}
 use Rattle.core_plans.proofs.measure.measure_batch.Goals as goal
 
 pub loop-place-preserved : goal.loop-place-preserved
 loop-place-preserved c = λ begun within fits.
-    let lines = c.args.lines.now in
+    let plan = c.args.plan.now in
     let from : ℕ = c.args.batch.from in
     let place : ℕ = c.loop-place.place in
-    let line = c.index-lines-place.result in
-    let o = record_added line in
-    let more : added_between from (place + 1) lines ≡ added_between from place lines ++ cons_option o [] =
-    between_more from place lines line (omega arith) (omega arith) ∙ ap (λ l. added_between from place lines ++ cons_option (record_added l) []) (sym c.index-lines-place.is) in
-    let size : size_of_batch (added_between from (place + 1) lines) ≡ size_of_batch (added_between from place lines) + record_size o = ap size_of_batch more ∙ size_more (added_between from place lines) o in
-    let count : count_of (added_between from (place + 1) lines) ≡ count_of (added_between from place lines) + record_count o = ap count_of more ∙ count_more (added_between from place lines) o in
+    let o = record_added (command_of c.line.result.now) in
+    let more : added_between from (place + 1) plan ≡ added_between from place plan ++ cons_option o [] = added_more from place plan (command_of c.line.result.now) (omega arith) c.line.ensures in
+    let size : size_of_batch (added_between from (place + 1) plan) ≡ size_of_batch (added_between from place plan) + record_size o = ap size_of_batch more ∙ size_more (added_between from place plan) o in
+    let count : count_of (added_between from (place + 1) plan) ≡ count_of (added_between from place plan) + record_count o = ap count_of more ∙ count_more (added_between from place plan) o in
     let old = c.loop-place.invariant begun within (omega (arith, size, fits)) in
     let below : record_count o ≤ record_size o = count_below o in
     let room : c.loop-place.measure.size + record_size o < 2 ^ 64 = omega (arith, old.0, size, fits) in

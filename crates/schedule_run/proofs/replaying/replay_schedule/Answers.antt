@@ -4,7 +4,6 @@ use Rattle.std.specs.List.{AllByRecursion}
 use Rattle.client_script.specs.Schedules.{schedule_of}
 use Rattle.core_plans.specs.declared.plan.ClientPlan.{ClientPlan}
 use Rattle.write_core.specs.Replay.{IsReplay}
-use Rattle.core_plans.specs.Plans.{plans_of}
 use Rattle.write_core.specs.Shown.{options_of, plans_in}
 use Rattle.client_script.specs.Scripts.{commands_of}
 use Rattle.schedule_run.specs.Replayed.{replayed_of}
@@ -25,14 +24,14 @@ returns c =
     let core = c.replay-counts.new.state in
     let given : List ClientPlan = c.in_ok-plans.plans.items in
     let kept : plans_in core ≡ given = c.replay-counts.ensures.plans ∙ c.in_ok-core.ensures.plans in
-    let same : plans_of given ≡ commands_of s.script = c.in_ok-plans.ensures in
+    let same : given ≡ commands_of s.script = c.in_ok-plans.ensures in
     let is : IsReplay (options_of o) c.replay-counts.result core (replayed_of o (schedule_of s)) =
     is_replay o s given c.in_ok-core.core core c.replay-counts.result same c.in_ok-core.ensures.shows (rw c.deref.ensures.value at c.replay-counts.ensures.replays) in
     let said : AllByRecursion AreSaid (plans_in core) = subst (AllByRecursion AreSaid) (sym kept) (are_said given s.script same c.requires.commands) in
     record {
       taken = sym is.taken;
       skipped = sym is.skipped;
-      transcripts = transcripts_shown (options_of o) m (plans_in core) c.in_ok-transcripts_of.field-0.items said (has_replies o s (plans_in core) (ap plans_of kept ∙ same))
+      transcripts = transcripts_shown (options_of o) m (plans_in core) c.in_ok-transcripts_of.field-0.items said (has_replies o s (plans_in core) (kept ∙ same))
           (c.in_ok-transcripts_of.ensures (options_of o) m (is_core o s) is.state);
       history = c.in_ok-history_of.ensures (options_of o) m (is_core o s) is.state;
       last = sym (c.last.ensures (options_of o) m is.state);

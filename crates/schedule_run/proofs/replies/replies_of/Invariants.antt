@@ -4,9 +4,9 @@ use Rattle.schedule_run.specs.Replaying.{InEachShown, replies_by}
 use Rattle.schedule_run.proofs.replies.replies_of.Given as goal
 
 -- with the replies to the commands that are left they are those to all
-abbrev pub invariant-loop-command : goal.invariant-loop-command
-invariant-loop-command l = record {
+abbrev pub invariant-loop-place : goal.invariant-loop-place
+invariant-loop-place l = record {
   reads : InEachShown l.core (λ s. IsMapOf s.entries l.reads);
   so_far : InEachShown l.core (λ s.
-      l.replies.items ++ replies_by s.entries (drop l.command-index l.commands) (drop (length l.replies.items) l.told) ≡ replies_by s.entries l.commands l.told);
+      l.replies.items ++ replies_by s.entries (drop l.place l.plan) (drop (length l.replies.items) l.told) ≡ replies_by s.entries l.plan l.told);
 }

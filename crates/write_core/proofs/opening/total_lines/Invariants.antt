@@ -3,4 +3,4 @@ use Rattle.core_plans.specs.declared.plan.ClientPlan.{ClientPlan}
 use Rattle.write_core.proofs.opening.total_lines.Given as goal
 
 abbrev pub invariant-loop-plan : goal.invariant-loop-plan
-invariant-loop-plan l = l.count ≡ sum_by (λ (p : ClientPlan). length p.lines.items) (take l.plan-index l.plans)
+invariant-loop-plan l = l.count ≡ sum_by (λ (p : ClientPlan). length p) (take l.plan-index l.plans)

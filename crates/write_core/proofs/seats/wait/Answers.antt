@@ -1,10 +1,8 @@
 use Rattle.std.proofs.Common.{◌≡◌, ℕ, ◌+◌, ◌-◌, List, length, refl, sym, ap, ◌∙◌, subst, arith}
 use Rattle.std.specs.Prelude.{if◌then◌else◌}
-use Rattle.std.proofs.lemmas.List.{length-drop, length-map}
+use Rattle.std.proofs.lemmas.List.{length-drop}
 use Rattle.wp_model.specs.Calls.{Reply}
 use Rattle.core_model.specs.Core as core
-use Rattle.core_plans.specs.Plans.{commands_of}
-use Rattle.client_calls.specs.Commands.{command_of}
 use Rattle.write_core.specs.Replies.{AreReplies}
 use Rattle.write_core.proofs.SmallLemmas.{small_ahead}
 use Rattle.write_core.proofs.seats.wait.Goals as goal
@@ -15,9 +13,8 @@ returns c = λ plan client is idle ahead there.
     let a = c.args.ahead in
     let next = core.next_call client in
     let none : ◌≡◌ {A = ℕ} (if client.idle then 0 else 1) 0 = ap (λ b. if b then 0 else 1) idle in
-    let all : length (commands_of plan) ≡ length plan.lines.items = length-map plan.lines.items command_of in
-    let old_left : length client.left ≡ length (commands_of plan) - seat.next = ap length is.left ∙ length-drop seat.next (commands_of plan) in
-    let new_left : length (next.client.left) ≡ length (commands_of plan) - a.next = ap length ahead.left ∙ length-drop a.next (commands_of plan) in
+    let old_left : length client.left ≡ length plan - seat.next = ap length is.left ∙ length-drop seat.next plan in
+    let new_left : length (next.client.left) ≡ length plan - a.next = ap length ahead.left ∙ length-drop a.next plan in
     let on : a.next ≡ a.call + 1 = ahead.goes_on there in
     let Q : List Reply → Type 0 = λ rs. AreReplies seat.replies.items rs in
     record {
@@ -28,5 +25,5 @@ returns c = λ plan client is idle ahead there.
       small = small_ahead client.calls client.added client.left client is.small;
       idle = refl;
       replies = subst Q (sym ahead.answers) is.replies;
-      room = omega (arith, is.room, none, old_left, new_left, all, there, on, ahead.onward);
+      room = omega (arith, is.room, none, old_left, new_left, there, on, ahead.onward);
     }

@@ -1,7 +1,7 @@
 use Rattle.std.proofs.Common.{◌≡◌, ℕ, ◌+◌, ◌-◌, ◌<◌, ◌≤◌, ◌^◌, false, Some, None, List, [], ◌∷◌, ◌++◌, length, map, vec_len, slice_get, slice_set, refl, sym, ap, ◌∙◌, subst, arith}
-use Rattle.std.specs.Prelude.{option_map, if◌then◌else◌, vec_capacity}
+use Rattle.std.specs.Prelude.{if◌then◌else◌, vec_capacity}
 use Rattle.std.specs.Option.{option_and_then}
-use Rattle.std.proofs.lemmas.Option.{slice_get_read}
+use Rattle.std.proofs.lemmas.Option.{slice_get_read, slice_get_within}
 use Rattle.std.proofs.lemmas.List.{length-map}
 use Rattle.wp_model.specs.declared.group.Item.{Item}
 use Rattle.wp_model.specs.declared.write.WriteOptions.{WriteOptions}
@@ -13,20 +13,19 @@ use Rattle.client_calls.specs.Measures.{measure_of}
 use Rattle.core_model.specs.Core as core
 use Rattle.core_model.specs.Step as event
 use Rattle.core_plans.specs.declared.plan.ClientPlan.{ClientPlan}
-use Rattle.client_calls.specs.declared.command.Command.{Command as Line}
 use Rattle.write_core.specs.declared.state.Seat.{Seat}
 use Rattle.core_plans.specs.declared.plan.Lines.{Lines}
 use Rattle.write_core.specs.declared.writer.Writer.{Writer}
-use Rattle.core_plans.specs.Plans.{records_of}
+use Rattle.core_plans.specs.Plans.{added_between, records_of}
 use Rattle.write_core.specs.Shown.{shown_writer}
-use Rattle.client_calls.specs.Commands.{command_of}
 use Rattle.write_core.specs.Mirrors.{IsClient, AreClients, AreWriters, IsLine, IsClientOf, lines_left}
-use Rattle.core_plans.specs.Ahead.{IsAhead, added_between, commit_of}
+use Rattle.core_plans.specs.Ahead.{IsAhead, commit_of}
 use Rattle.write_core.proofs.Events.{cannot_come, has_come}
 use Rattle.write_core.proofs.ClientLemmas.{clients_set, get_some, client_of}
-use Rattle.write_core.proofs.ReadEvents.{nobody_at, line_within, fewer_left, lines_after, more_room}
+use Rattle.write_core.proofs.ReadEvents.{nobody_at, fewer_left, lines_after, more_room}
 use Rattle.write_core.proofs.SmallLemmas.{commit_small}
 use Rattle.write_core.proofs.LinkEvents.{link_waits, commit_is, not_commit, records_at, lines_less, map_push, line_push, writers_push}
+use Rattle.write_core.proofs.SameState.{same_state}
 use Rattle.write_core.proofs.state.State.link.Goals as goal
 
 -- a writer of these records without an answer, and an item of this size
@@ -71,8 +70,14 @@ returns-in_default-next_call-clause-steps c = λ o s is_core m.
     let busy : at.0.idle ≡ false = c.in_default-next_call.ensures at.0 (m.clients.each place plan seat at.0 plan_there seat_there at.1) in
     cannot_come _ o s _ (link_waits o s d at.0 there busy) (record { options = m.options; clients = m.clients; line = m.line; writers = m.writers; table = m.table; leaving = m.leaving; entries = m.entries; groups = m.groups; assigned = m.assigned; log_failed = m.log_failed; last = m.last; room = record { linked = m.room.linked; items = m.room.items; second = m.room.second; entries = m.room.entries; groups = m.room.groups; group_room = m.room.group_room } })
 
+pub returns-in_default-next_call-clause-unchanged : goal.returns-in_default-next_call-clause-unchanged
+returns-in_default-next_call-clause-unchanged c = λ e. same_state c.args.self.now _ _ _ _ _ _ _
+
 pub returns-in_default-next_call-clause-plans : goal.returns-in_default-next_call-clause-plans
 returns-in_default-next_call-clause-plans c = refl
+
+pub returns-in_default-commit_at-clause-unchanged : goal.returns-in_default-commit_at-clause-unchanged
+returns-in_default-commit_at-clause-unchanged c = λ e. same_state c.args.self.now _ _ _ _ _ _ _
 
 pub returns-in_default-commit_at-clause-plans : goal.returns-in_default-commit_at-clause-plans
 returns-in_default-commit_at-clause-plans c = refl
@@ -105,12 +110,12 @@ returns-in_default-commit_at-clause-steps c = λ o s is_core m.
     let plan3 = c.index-3.result.now in
     let plan3_there : slice_get plans place ≡ Some plan3 = slice_get_read plans (vec_len r.plans) place plan3 r.plans.ok.0 (omega (arith, c.in-Some.ensures)) c.index-3.ensures in
     let same_plan : plan3 ≡ plan = cc (plan_there, plan3_there) in
-    let none : option_and_then commit_of (slice_get plan.lines.items a.call) ≡ None =
-    ap (λ (p : ClientPlan). option_and_then commit_of (slice_get p.lines.items a.call)) (sym same_plan) ∙ sym c.in_default-commit_at.ensures in
+    let none : option_and_then commit_of (slice_get plan a.call) ≡ None =
+    ap (λ (p : ClientPlan). option_and_then commit_of (slice_get p a.call)) (sym same_plan) ∙ sym c.in_default-commit_at.ensures in
     let ahead : core.Ahead = core.next_call client in
     let stays : event.link o s d (core.client_at s d) ≡ None =
     ap (event.link o s d) there ∙ ap (λ b. if b then event.link_call o s d ahead.client ahead.call else None) next.0
-    ∙ ap (event.link_call o s d ahead.client) next.1.call ∙ not_commit o s d ahead.client (slice_get plan.lines.items a.call) none in
+    ∙ ap (event.link_call o s d ahead.client) next.1.call ∙ not_commit o s d ahead.client (slice_get plan a.call) none in
     cannot_come _ o s _ stays (record {
       options = m.options;
       clients = m.clients;
@@ -152,18 +157,17 @@ returns-in-Some-refusal_at_once-clause-steps c = λ o s is_core m.
     let plan4_there : slice_get plans place ≡ Some plan4 = slice_get_read plans (vec_len r.plans) place plan4 r.plans.ok.0 (omega (arith, c.in-Some.ensures)) c.index-4.ensures in
     let again_plan : plan4 ≡ plan = cc (plan_there, plan4_there) in
     let how : WriteOptions = c.in-Some-commit_at.options in
-    let commits : option_and_then commit_of (slice_get plan.lines.items a.call) ≡ Some how = ap (λ (p : ClientPlan). option_and_then commit_of (slice_get p.lines.items a.call)) (sym same_plan) ∙ sym c.commit_at.ensures ∙ c.in-Some-commit_at.is in
-    let line : option_map command_of (slice_get plan.lines.items a.call) ≡ Some (commit how) = commit_is (slice_get plan.lines.items a.call) how commits in
-    let line_there : a.call < length plan.lines.items = line_within plan.lines.items a.call (commit how) line in
+    let commits : option_and_then commit_of (slice_get plan a.call) ≡ Some how = ap (λ (p : ClientPlan). option_and_then commit_of (slice_get p a.call)) (sym same_plan) ∙ sym c.commit_at.ensures ∙ c.in-Some-commit_at.is in
+    let line : slice_get plan a.call ≡ Some (commit how) = commit_is (slice_get plan a.call) how commits in
+    let line_there : a.call < length plan = slice_get_within plan a.call (commit how) line in
     let ahead : core.Ahead = core.next_call client in
     let added : List Record = ahead.client.added in
     let call : ahead.call ≡ Some (commit how) = next.1.call ∙ line in
     let small : size_of_batch added ≤ 16777216 = commit_small client.calls client.added client.left client how is.small call in
-    let lines_are : c.deref.result.now ≡ plan.lines.items = c.deref.ensures.value ∙ ap (λ (p : ClientPlan). p.lines.items) again_plan in
-    let records_are : added_between a.from a.call c.deref.result.now ≡ added = ap (λ (ls : List Line). added_between a.from a.call ls) lines_are ∙ sym next.1.added in
-    let within : a.call ≤ length c.deref.result.now = omega (arith, next.1.within, ap length lines_are) in
-    let same_size : size_of_batch (added_between a.from a.call c.deref.result.now) ≡ size_of_batch added = ap size_of_batch records_are in
-    let fits : size_of_batch (added_between a.from a.call c.deref.result.now) < 2 ^ 64 = omega (arith, same_size, small) in
+    let records_are : added_between a.from a.call plan4 ≡ added = ap (λ (p : ClientPlan). added_between a.from a.call p) again_plan ∙ sym next.1.added in
+    let within : a.call ≤ length plan4 = omega (arith, next.1.within, ap length again_plan) in
+    let same_size : size_of_batch (added_between a.from a.call plan4) ≡ size_of_batch added = ap size_of_batch records_are in
+    let fits : size_of_batch (added_between a.from a.call plan4) < 2 ^ 64 = omega (arith, same_size, small) in
     let measured : c.measure_batch-measured.result ≡ measure_of added = c.measure_batch-measured.ensures next.1.begun within fits ∙ ap measure_of records_are in
     let size : c.measure_batch-measured.result.size ≡ size_of_batch added = ap (λ (k : Measure). k.size) measured in
     let count : c.measure_batch-measured.result.count ≡ count_of added = ap (λ (k : Measure). k.count) measured in
@@ -175,7 +179,7 @@ returns-in-Some-refusal_at_once-clause-steps c = λ o s is_core m.
     let seat_again : slice_get r.seats.items place ≡ Some c.index_mut.result.now = slice_get_read r.seats.items (vec_len r.seats) place c.index_mut.result.now r.seats.ok.0 (omega (arith, c.in-Some.ensures, r.one_seat_each)) c.index_mut.ensures.value in
     let same_seat : seat ≡ c.index_mut.result.now = cc (seat_there, seat_again) in
     let Q : Seat → Type 0 = λ x. IsClient plan x client in
-    let R : Seat → Type 0 = λ x. IsAhead plan.lines.items x.next a client.calls client (core.next_call client) in
+    let R : Seat → Type 0 = λ x. IsAhead plan x.next a client.calls client (core.next_call client) in
     let fewer : length ahead.client.left + 1 ≤ length client.left = fewer_left plan seat client a ahead is next.1 line_there in
     let why = c.in-Some-refusal_at_once.why in
     let new : core.Client = core.told ahead.client (commit how) (refused why) in
@@ -233,18 +237,17 @@ returns-in-None-clause-steps c = λ o s is_core m.
     let plan4_there : slice_get plans place ≡ Some plan4 = slice_get_read plans (vec_len r.plans) place plan4 r.plans.ok.0 (omega (arith, c.in-Some.ensures)) c.index-4.ensures in
     let again_plan : plan4 ≡ plan = cc (plan_there, plan4_there) in
     let how : WriteOptions = c.in-Some-commit_at.options in
-    let commits : option_and_then commit_of (slice_get plan.lines.items a.call) ≡ Some how = ap (λ (p : ClientPlan). option_and_then commit_of (slice_get p.lines.items a.call)) (sym same_plan) ∙ sym c.commit_at.ensures ∙ c.in-Some-commit_at.is in
-    let line : option_map command_of (slice_get plan.lines.items a.call) ≡ Some (commit how) = commit_is (slice_get plan.lines.items a.call) how commits in
-    let line_there : a.call < length plan.lines.items = line_within plan.lines.items a.call (commit how) line in
+    let commits : option_and_then commit_of (slice_get plan a.call) ≡ Some how = ap (λ (p : ClientPlan). option_and_then commit_of (slice_get p a.call)) (sym same_plan) ∙ sym c.commit_at.ensures ∙ c.in-Some-commit_at.is in
+    let line : slice_get plan a.call ≡ Some (commit how) = commit_is (slice_get plan a.call) how commits in
+    let line_there : a.call < length plan = slice_get_within plan a.call (commit how) line in
     let ahead : core.Ahead = core.next_call client in
     let added : List Record = ahead.client.added in
     let call : ahead.call ≡ Some (commit how) = next.1.call ∙ line in
     let small : size_of_batch added ≤ 16777216 = commit_small client.calls client.added client.left client how is.small call in
-    let lines_are : c.deref.result.now ≡ plan.lines.items = c.deref.ensures.value ∙ ap (λ (p : ClientPlan). p.lines.items) again_plan in
-    let records_are : added_between a.from a.call c.deref.result.now ≡ added = ap (λ (ls : List Line). added_between a.from a.call ls) lines_are ∙ sym next.1.added in
-    let within : a.call ≤ length c.deref.result.now = omega (arith, next.1.within, ap length lines_are) in
-    let same_size : size_of_batch (added_between a.from a.call c.deref.result.now) ≡ size_of_batch added = ap size_of_batch records_are in
-    let fits : size_of_batch (added_between a.from a.call c.deref.result.now) < 2 ^ 64 = omega (arith, same_size, small) in
+    let records_are : added_between a.from a.call plan4 ≡ added = ap (λ (p : ClientPlan). added_between a.from a.call p) again_plan ∙ sym next.1.added in
+    let within : a.call ≤ length plan4 = omega (arith, next.1.within, ap length again_plan) in
+    let same_size : size_of_batch (added_between a.from a.call plan4) ≡ size_of_batch added = ap size_of_batch records_are in
+    let fits : size_of_batch (added_between a.from a.call plan4) < 2 ^ 64 = omega (arith, same_size, small) in
     let measured : c.measure_batch-measured.result ≡ measure_of added = c.measure_batch-measured.ensures next.1.begun within fits ∙ ap measure_of records_are in
     let size : c.measure_batch-measured.result.size ≡ size_of_batch added = ap (λ (k : Measure). k.size) measured in
     let count : c.measure_batch-measured.result.count ≡ count_of added = ap (λ (k : Measure). k.count) measured in
@@ -256,7 +259,7 @@ returns-in-None-clause-steps c = λ o s is_core m.
     let seat_again : slice_get r.seats.items place ≡ Some c.index_mut-in-None.result.now = slice_get_read r.seats.items (vec_len r.seats) place c.index_mut-in-None.result.now r.seats.ok.0 (omega (arith, c.in-Some.ensures, r.one_seat_each)) c.index_mut-in-None.ensures.value in
     let same_seat : seat ≡ c.index_mut-in-None.result.now = cc (seat_there, seat_again) in
     let Q : Seat → Type 0 = λ x. IsClient plan x client in
-    let R : Seat → Type 0 = λ x. IsAhead plan.lines.items x.next a client.calls client (core.next_call client) in
+    let R : Seat → Type 0 = λ x. IsAhead plan x.next a client.calls client (core.next_call client) in
     let fewer : length ahead.client.left + 1 ≤ length client.left = fewer_left plan seat client a ahead is next.1 line_there in
     let new : core.Client = record ahead.client { idle = false } in
     let batch : Lines = record { from = a.from; to = a.call } in

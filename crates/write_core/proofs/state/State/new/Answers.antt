@@ -5,7 +5,7 @@ use Rattle.wp_model.specs.Batch.{count_of}
 use Rattle.core_model.specs.Core as core
 use Rattle.core_plans.specs.declared.plan.ClientPlan.{ClientPlan}
 use Rattle.write_core.specs.declared.writer.Writer.{Writer}
-use Rattle.core_plans.specs.Plans.{plans_of, records_of}
+use Rattle.core_plans.specs.Plans.{records_of}
 use Rattle.write_core.specs.Shown.{shown_writer, shown_entry, cut, total}
 use Rattle.write_core.specs.Mirrors.{IsClientOf, lines_left}
 use Rattle.write_core.proofs.OpeningLemmas.{fresh_clients, all_left, nobody_done}
@@ -33,9 +33,9 @@ returns-clause-shows c =
     let entries : c.in_ok-entries.entries.items ≡ [] = c.in_ok-entries.ensures.items in
     let groups : c.in_ok-groups.groups.items ≡ [] = c.in_ok-groups.ensures.items in
     let Known : List Writer → Type 0 = λ ws. AllByRecursion (IsClientOf (length plans)) ws in
-    let left : lines_left (map core.idle_client (plans_of plans)) ≡ sum_by (λ (p : ClientPlan). length p.lines.items) plans = all_left plans in
-    let lines : sum_by (λ (p : ClientPlan). length p.lines.items) c.deref.result.now ≡ sum_by (λ (p : ClientPlan). length p.lines.items) plans = ap (sum_by (λ (p : ClientPlan). length p.lines.items)) c.deref.ensures.value in
-    let room : c.in_ok-room.room ≡ lines_left (map core.idle_client (plans_of plans)) = c.in_ok-room.ensures ∙ lines ∙ sym left in
+    let left : lines_left (map core.idle_client plans) ≡ sum_by (λ (p : ClientPlan). length p) plans = all_left plans in
+    let lines : sum_by (λ (p : ClientPlan). length p) c.deref.result.now ≡ sum_by (λ (p : ClientPlan). length p) plans = ap (sum_by (λ (p : ClientPlan). length p)) c.deref.ensures.value in
+    let room : c.in_ok-room.room ≡ lines_left (map core.idle_client plans) = c.in_ok-room.ensures ∙ lines ∙ sym left in
     shows _ _ _ (record {
       options = refl;
       clients = fresh_clients plans c.in_ok-seats.seats.items c.requires.small (let P : List ClientPlan → Type 0 = λ xs. AllZip IsFresh xs c.in_ok-seats.seats.items in subst P c.deref-2.ensures.value c.in_ok-seats.ensures.fresh);

@@ -1,15 +1,16 @@
 use Rattle.std.proofs.Common.{◌≡◌, ℕ, ◌+◌, ◌-◌, ◌<◌, ◌≤◌, false, Some, None, length, vec_len, slice_get, slice_set, refl, sym, ap, ◌∙◌, subst, arith}
 use Rattle.std.specs.Option.{option_map_or}
-use Rattle.std.proofs.lemmas.Option.{slice_get_read}
+use Rattle.std.proofs.lemmas.Option.{slice_get_read, slice_get_within}
 use Rattle.core_model.specs.Core as core
 use Rattle.core_model.specs.Step as event
 use Rattle.core_plans.specs.declared.plan.ClientPlan.{ClientPlan}
 use Rattle.write_core.specs.declared.state.Seat.{Seat}
 use Rattle.write_core.specs.Mirrors.{IsClient, AreClients, lines_left}
-use Rattle.core_plans.specs.Ahead.{IsAhead, is_read_line}
+use Rattle.core_plans.specs.Ahead.{IsAhead, is_read}
 use Rattle.write_core.proofs.Events.{cannot_come, has_come}
 use Rattle.write_core.proofs.ClientLemmas.{clients_set, get_some, client_of}
-use Rattle.write_core.proofs.ReadEvents.{from_any, nobody_at, read_waits, read_passed, read_answered, line_within, fewer_left, lines_after, more_room}
+use Rattle.write_core.proofs.ReadEvents.{from_any, nobody_at, read_waits, read_passed, read_answered, fewer_left, lines_after, more_room}
+use Rattle.write_core.proofs.SameState.{same_state}
 use Rattle.write_core.proofs.state.State.read.Goals as goal
 
 pub returns-in_default-clause-steps : goal.returns-in_default-clause-steps
@@ -88,8 +89,8 @@ returns-then-not-is_read-clause-steps c = λ o s is_core m.
     let plan3 = c.index-3.result.now in
     let plan3_there : slice_get plans place ≡ Some plan3 = slice_get_read plans (vec_len r.plans) place plan3 r.plans.ok.0 (omega (arith, c.in-Some.ensures)) c.index-3.ensures in
     let same_plan : plan3 ≡ plan = cc (plan_there, plan3_there) in
-    let test : option_map_or is_read_line (slice_get plan.lines.items a.call) false ≡ c.is_read.result = ap (λ (p : ClientPlan). option_map_or is_read_line (slice_get p.lines.items a.call) false) (sym same_plan) ∙ sym c.is_read.ensures in
-    cannot_come _ o s _ (read_passed s d client (slice_get plan.lines.items a.call) there next.0 next.1.call (test ∙ c.if-not-is_read.true)) (record {
+    let test : option_map_or is_read (slice_get plan a.call) false ≡ c.is_read.result = ap (λ (p : ClientPlan). option_map_or is_read (slice_get p a.call) false) (sym same_plan) ∙ sym c.is_read.ensures in
+    cannot_come _ o s _ (read_passed s d client (slice_get plan a.call) there next.0 next.1.call (test ∙ c.if-not-is_read.true)) (record {
       options = m.options;
       clients = m.clients;
       line = m.line;
@@ -103,6 +104,12 @@ returns-then-not-is_read-clause-steps c = λ o s is_core m.
       last = m.last;
       room = record { linked = m.room.linked; items = m.room.items; second = m.room.second; entries = m.room.entries; groups = m.room.groups; group_room = m.room.group_room };
     })
+
+pub returns-in_default-next_call-clause-unchanged : goal.returns-in_default-next_call-clause-unchanged
+returns-in_default-next_call-clause-unchanged c = λ e. same_state c.args.self.now _ _ _ _ _ _ _
+
+pub returns-then-not-is_read-clause-unchanged : goal.returns-then-not-is_read-clause-unchanged
+returns-then-not-is_read-clause-unchanged c = λ e. same_state c.args.self.now _ _ _ _ _ _ _
 
 pub returns-clause-steps : goal.returns-clause-steps
 returns-clause-steps c = λ o s is_core m.
@@ -126,17 +133,17 @@ returns-clause-steps c = λ o s is_core m.
     let plan3 = c.index-3.result.now in
     let plan3_there : slice_get plans place ≡ Some plan3 = slice_get_read plans (vec_len r.plans) place plan3 r.plans.ok.0 (omega (arith, c.in-Some.ensures)) c.index-3.ensures in
     let same_plan : plan3 ≡ plan = cc (plan_there, plan3_there) in
-    let test : option_map_or is_read_line (slice_get plan.lines.items a.call) false ≡ c.is_read.result = ap (λ (p : ClientPlan). option_map_or is_read_line (slice_get p.lines.items a.call) false) (sym same_plan) ∙ sym c.is_read.ensures in
+    let test : option_map_or is_read (slice_get plan a.call) false ≡ c.is_read.result = ap (λ (p : ClientPlan). option_map_or is_read (slice_get p a.call) false) (sym same_plan) ∙ sym c.is_read.ensures in
     let seat_again : slice_get r.seats.items place ≡ Some c.index_mut.result.now = slice_get_read r.seats.items (vec_len r.seats) place c.index_mut.result.now r.seats.ok.0 (omega (arith, c.in-Some.ensures, r.one_seat_each)) c.index_mut.ensures.value in
     let same_seat : seat ≡ c.index_mut.result.now = cc (seat_there, seat_again) in
     let Q : Seat → Type 0 = λ x. IsClient plan x client in
-    let R : Seat → Type 0 = λ x. IsAhead plan.lines.items x.next a client.calls client (core.next_call client) in
+    let R : Seat → Type 0 = λ x. IsAhead plan x.next a client.calls client (core.next_call client) in
     let back : d - 1 ≡ place = omega (arith, number) in
-    from_any (read_answered s d r.last client plan c.answer.new.seat (slice_get plan.lines.items a.call) (test ∙ c.if-not-is_read.false) m.last there next.0 next.1.call
-    (λ command reply line at loud. c.answer.ensures plan client command reply (subst Q same_seat is) next.0 (subst R same_seat next.1) (line_within plan.lines.items a.call command line) at loud)) (λ did.
+    from_any (read_answered s d r.last client plan c.answer.new.seat (slice_get plan a.call) (test ∙ c.if-not-is_read.false) m.last there next.0 next.1.call
+    (λ command reply line at loud. c.answer.ensures plan client command reply (subst Q same_seat is) next.0 (subst R same_seat next.1) (slice_get_within plan a.call command line) at loud)) (λ did.
     let all : AreClients plans (slice_set r.seats.items place c.answer.new.seat) (slice_set s.clients place did.new) = clients_set plans r.seats.items s.clients place plan c.answer.new.seat did.new m.clients known plan_there did.is in
     let P : ℕ → Type 0 = λ k. AreClients plans (slice_set r.seats.items place c.answer.new.seat) (slice_set s.clients k did.new) in
-    let line_there : a.call < length plan.lines.items = line_within plan.lines.items a.call did.command did.there in
+    let line_there : a.call < length plan = slice_get_within plan a.call did.command did.there in
     let fewer : length did.new.left + 1 ≤ length client.left = omega (arith, ap length did.left, fewer_left plan seat client a (core.next_call client) is next.1 line_there) in
     let left : lines_left (slice_set s.clients (d - 1) did.new) ≤ lines_left s.clients = lines_after s.clients place (d - 1) client did.new back known at.1 fewer in
     has_come _ o (core.with_client s d did.new) s _ did.comes (record {

@@ -1,6 +1,6 @@
 use Rattle.std.proofs.Common.{◌≡◌, ◌++◌, map}
-use Rattle.client_calls.specs.Commands.{command_of}
-use Rattle.schedule_run.proofs.owned.lines_of.Given as goal
+use Rattle.command_list.specs.Views.{command_of}
+use Rattle.core_plans.proofs.plan.ClientPlan.of.Given as goal
 
 -- the lines so far and the commands that are left are all commands
 abbrev pub invariant-loop-command : goal.invariant-loop-command
