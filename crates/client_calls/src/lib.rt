@@ -1,5 +1,5 @@
-//! What every layer above the log speaks in: the entries of the history, runs of sequences, and the checks that a commit
-//! passes before it is written.
+//! What every layer above the log speaks in: the entries of the history, runs of sequences, and the checks that a
+//! commit passes before it is written.
 #![tactic(auto)]
 
 mod checks;

@@ -114,8 +114,8 @@ impl<D: Disk, T: Table<Nodes, Parts>, C: Clock + Drop, G: Gate + Drop> Engine
             (trace : Trace) × (groups : List Group)
             × IsClosing (settings_of T.opening T.ours T.account self) (D.faults (disk_of result.log)) trace groups
             accounts result.last (fault_of result.log)
-            × WritesLog (bound_of self.list) (λ calls. Wrote (opened_log self) calls result.log) trace (all_attempts accounts)
-            (fault_of result.log) }
+            × WritesLog (bound_of self.list) (λ calls. Wrote (opened_log self) calls result.log) trace
+            (all_attempts accounts) (fault_of result.log) }
     {
         self.close(rt, clients)
     }

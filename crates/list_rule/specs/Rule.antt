@@ -175,7 +175,8 @@ module _ {Q : Type 0} (line queue : List (Entry Q)) (log : Held Q) where
   Shows (cut c w) = (line ≡ queue) × ((own : Entry Q) × (g : List (Entry Q)) × (log ≡ grouped own g))
   Shows (marked c) = (line ≡ queue) × ((own : Entry Q) × (g : List (Entry Q)) × (log ≡ grouped own g))
 
-pub record Account {Q P : Type 0} (bound : ℕ) (line : List (Entry Q)) (handled : List (Handling Q P)) (mode : Mode Q) : Type 0 where
+pub record Account {Q P : Type 0} (bound : ℕ) (line : List (Entry Q)) (handled : List (Handling Q P))
+    (mode : Mode Q) : Type 0 where
   pub events : List (Event Q P)
   pub queue : List (Entry Q)
   pub log : Held Q

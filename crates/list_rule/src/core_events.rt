@@ -23,19 +23,19 @@ ghost use Rattle.wp_model.specs.declared.group.Item.{Item};
 
 use crate::code::codes_stand_for_items;
 
-/// Where the core stands as both lists show it, each event of the lists may come in the core, and it stands as the lists
-/// show it after that event too. `ws` are the writers of the group in hand once the core has logged it, with their
-/// answers. Where a writer of the core is made of each entry's client and request, with their items, it has the item of
-/// its entry in each queue whose codes are those of the requests.
+/// Where the core stands as both lists show it, each event of the lists may come in the core, and it stands as the
+/// lists show it after that event too. `ws` are the writers of the group in hand once the core has logged it, with
+/// their answers. Where a writer of the core is made of each entry's client and request, with their items, it has the
+/// item of its entry in each queue whose codes are those of the requests.
 ///
 /// A writer comes, the oldest leads and builds its group, and the groups of the second list stay. The core logs the
 /// group in hand while the lists stay as they are. The group of which no member has a run leaves by a log, a fault or a
 /// refusal. Who has left is told. So nothing is logged after a fault.
 ///
-/// Where there is one stage, a logged group leaves by the core's exit, once it is published. Where groups are handed on,
-/// it is cut off from the first list by `boundary`, comes to the end of the second queue by `second`, and its leader
-/// gives the log on by `next`, which comes nowhere else; and the first group of the second queue leaves it by an exit
-/// once it is published, and its members leave with their answers.
+/// Where there is one stage, a logged group leaves by the core's exit, once it is published. Where groups are handed
+/// on, it is cut off from the first list by `boundary`, comes to the end of the second queue by `second`, and its
+/// leader gives the log on by `next`, which comes nowhere else; and the first group of the second queue leaves it by
+/// an exit once it is published, and its members leave with their answers.
 pub fn list_and_core<Q, P>()
     ensures writers { (items : Q → Item) (writer : ℕ → Q → Writer)
         → ((c : ℕ) (q : Q) → ((writer c q).client ≡ c) × (item_of (writer c q) ≡ items q))
@@ -88,8 +88,8 @@ pub fn list_and_core<Q, P>()
         → o.pipelined ≡ false → IsSame writer_of → IsCoreOf writer_of reply_of ws a (list_half_of s)
         → s.log ≡ in_log ws → s.table ≡ published → IsExit own p gs a b → HasReplies reply_of (all_answers own p gs) ws
         → IsTaken writer_of reply_of o (core.Exit own.by) s [] b }
-    ensures exit_second { (writer_of : Entry Q → Writer) (reply_of : P → Reply) (o : Options) (s : State) (a b : Lists Q P)
-        (ws : List Writer) (c : ℕ) (g : Squad Q P)
+    ensures exit_second { (writer_of : Entry Q → Writer) (reply_of : P → Reply) (o : Options) (s : State)
+        (a b : Lists Q P) (ws : List Writer) (c : ℕ) (g : Squad Q P)
         → o.pipelined ≡ true → IsSame writer_of → IsCoreOf writer_of reply_of ws a (list_half_of s)
         → s.table ≡ published → IsServedOut c g a b
         → IsGroupOf writer_of (line_of g) (first_group s.second)

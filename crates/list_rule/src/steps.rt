@@ -41,8 +41,8 @@ impl<Q, P: Given, L: Ledger<Q, P, M>, M, B: PickedAbout<L::About>> Play<
     ghost then = { entered (logs_picked L.stands L.kept L.number_of P.run_of B.number B.about) };
 }
 
-/// A writer in the list reads its state: it leads from here on, or works beside its leader, or it has its reply, or none
-/// of these.
+/// A writer in the list reads its state: it leads from here on, or works beside its leader, or it has its reply, or
+/// none of these.
 pub struct ReadState<B>(PhantomData<B>);
 
 impl<Q, P: Given, L: Ledger<Q, P, M>, M, B: PickedAbout<L::About>> Play<

@@ -76,10 +76,10 @@ module _ (group_bytes : ℕ) (attempts : List (List Attempt)) (o : Outcome) (gro
       → NoChance None image (text None (begun (records_of groups) x))
       → RecoversPrefix (begun (records_of groups) x) image enough
 
-  -- What the log holds at the end, with some of the record that was tried where a call failed; and what a crash leaves,
-  -- at some moment of the run (any), and at its end (now), when all that was synced is among it. It holds for each record
-  -- that may be the failed one, and the one that was tried is among these: so nobody can choose one whose premise
-  -- excludes an image.
+  -- What the log holds at the end, with some of the record that was tried where a call failed; and what a crash
+  -- leaves, at some moment of the run (any), and at its end (now), when all that was synced is among it. It holds for
+  -- each record that may be the failed one, and the one that was tried is among these: so nobody can choose one whose
+  -- premise excludes an image.
   pub record IsCrashSafe (lost : List GroupCall) (reached : ℕ) (any now : List ℕ → Type 0) : Type 0 where
     pub failed : MatchOption o.fault (content ≡ text None (records_of groups)) (λ count. (x : List ℕ)
         × (tried lost ≡ Some x) × IsFailedWrite x)
@@ -87,9 +87,9 @@ module _ (group_bytes : ℕ) (attempts : List (List Attempt)) (o : Outcome) (gro
     pub held : (image : List ℕ) → any image → HoldsSynced groups reached image
     pub at_end : LeavesPrefix now (HaveSynced groups)
 
--- A run: its outcome, of one trace with these commits in its leaders' hands, and how its log was written, where `wrote`
--- says which calls of the log writer made the log that was handed back of the one that was opened. The printed length is
--- that of the text of their records.
+-- A run: its outcome, of one trace with these commits in its leaders' hands, and how its log was written, where
+-- `wrote` says which calls of the log writer made the log that was handed back of the one that was opened. The
+-- printed length is that of the text of their records.
 pub record IsRun (settings : Settings) (ended : ℕ) (script : List (List Command)) (wrote : List GroupCall → Type 0)
     (o : Outcome) : Type 0 where
   pub trace : Trace

@@ -26,8 +26,8 @@ pub fn synced_before_the_next_group()
 
 /// A run writes one record for each group, as the group is accepted, and none after a write that failed.
 pub fn written_group_by_group()
-    // Client 1 commits `put a 1`, and client 2 `put b 2`. Printed are `no logfault 1` and `ok 1 1`: the run went on after
-    // the failed write. No log was written so, whatever the trace, the commits and the fault are said to be.
+    // Client 1 commits `put a 1`, and client 2 `put b 2`. Printed are `no logfault 1` and `ok 1 1`: the run went on
+    // after the failed write. No log was written so, whatever the trace, the commits and the fault are said to be.
     ensures accepted_after_a_failed_write { (group_bytes : ℕ) (trace : Trace) (attempts : List (List Attempt))
         (fault : Option ℕ) → WritesLog group_bytes (λ calls. calls ≡ failed_then_worked) trace attempts fault → ⊥ }
     // A client commits `put a 1`, to be synced, and then `put b 2`. Printed are `ok 1 1` and `ok 2 2`, and both were

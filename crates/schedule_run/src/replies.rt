@@ -102,8 +102,8 @@ fn reply_at(told: &[CoreReply], at: usize) -> Option<CoreReply>
     }
 }
 
-/// The reply to a command, of which the core tells all but what was read. It is `None` where a command that reads nothing
-/// is said to have been read, which the core never says.
+/// The reply to a command, of which the core tells all but what was read. It is `None` where a command that reads
+/// nothing is said to have been read, which the core never says.
 fn reply_of(
     reads: &mut MapUpTo,
     command: &CommandView<'_>,

@@ -46,7 +46,8 @@ pub record HasOutcome (execution : Execution) (old new : Option Disk) : Type 0 w
 -- A refusal leaves the disk as it was, and so does a run that never began. Else there is an outcome.
 abbrev pub IsEnd : Options → List (List calls.Command) → Option Disk → Option Disk → ℕ → ℕ → (List ℕ → Type 0)
     → (List GroupCall → Type 0) → End → Type 0
-IsEnd options script old new opened ended images wrote (end.DiskFault count) = (new ≡ old) × IsReached opened count ended
+IsEnd options script old new opened ended images wrote (end.DiskFault count) =
+    (new ≡ old) × IsReached opened count ended
 IsEnd options script old new opened ended images wrote (end.NotEmpty len) = (new ≡ old) × (0 < len)
     × IfSome old (λ d. length d.content ≡ len)
 IsEnd options script old new opened ended images wrote end.NoMemory = new ≡ old

@@ -113,8 +113,8 @@ pub trait Table<N: Versioned, P: GroupParts<N>> {
         ensures rows { IfOk result (λ rows. rows.rows ≡ rows_within lo.now hi.now
             (map_after (account seat.new).seen)) };
 
-    /// Launches a group, and hands each member its nodes: each takes its own part next, by its own seat. The client that
-    /// launches needn't have a part. Its seat keeps the turn until `await_published`.
+    /// Launches a group, and hands each member its nodes: each takes its own part next, by its own seat. The client
+    /// that launches needn't have a part. Its seat keeps the turn until `await_published`.
     fn launch(&self, seat: &mut Self::Seat, turn: Self::Turn, parts: &mut P)
         requires ours { ours self.now seat.old × our_turn self.now turn }
         requires ready { IsReady (account seat.old) }

@@ -16,8 +16,8 @@ ghost use Rattle.table_rule.specs.CoreEvents.{IsCoreGroup, IsCoreOf, AreTaken, I
 ///
 /// A group is launched that stands in the core, by the one that leads it there. Who publishes it finds all the core's
 /// members of the group finished, the last of its team last. A read finds the core's published sequence, and a step
-/// that moves nothing leaves the core where it is. The exit of a group moves the core alone, and the core's other events
-/// leave it standing as the table does.
+/// that moves nothing leaves the core where it is. The exit of a group moves the core alone, and the core's other
+/// events leave it standing as the table does.
 pub fn table_and_core()
     ensures launch { (start : ℕ) (o : Options) (team : ℕ → List ℕ) (s : State) (a b : TableNow)
         (g : List MemberVersions) (c : ℕ)

@@ -38,7 +38,7 @@ module _ {D K : Type 0} (disk : disk.Ghosts D) (sink : sink.Ghosts K) (seen : Ob
     -- However the clients' threads interleave, every reply in the output is that of a plain map at its point of one
     -- printed history of whole batches, in which each client's acknowledged batches stand once, in its order, each
     -- under its own run of sequences; and a crash at any moment of the run leaves a log that recovers a prefix of the
-    -- logged batches with every acknowledged synced one.
+    -- logged batches, with every acknowledged synced one that the log goes past, and at the run's end with all of them.
     pub ran : status ≡ 0 → RanWhole seen
     pub ran_to_fault : status ≡ 3
         → DiskFailed seen (disk.faults opened) (disk.faults ended) (sink.faults before) (sink.faults after)

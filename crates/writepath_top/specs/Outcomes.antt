@@ -21,9 +21,9 @@ use Rattle.writepath_top.specs.declared.telling.Form.{Form}
 use Rattle.writepath_top.specs.Telling.{text_of}
 use Rattle.writepath_top.specs.Texts.{SaysTo, TakesPrefix}
 
--- The outcome of a run: it is legal, and the log was written by just the calls that wrote its history's groups. Where the
--- disk tells its bytes the run found the log empty and left the batches of this outcome there, and a crash at any moment
--- of it leaves a prefix of them to recover.
+-- The outcome of a run: it is legal, and the log was written by just the calls that wrote its history's groups. Where
+-- the disk tells its bytes the run found the log empty and left the batches of this outcome there, and a crash at any
+-- moment of it leaves a prefix of them to recover.
 pub record IsOutcome (execution : Execution) (opened ended : Option Disk) (o : calls.Outcome) : Type 0 where
   pub run : IsRunOf execution o
   pub log : Told opened ended (LeavesSafeLog execution o run)

@@ -57,8 +57,8 @@ abbrev pub CodesFit : List (ℕ × ℕ) → Type 0
 CodesFit [] = Unit {0}
 CodesFit (x ∷ xs) = (x.1 < 2 ^ 56) × CodesFit xs
 
--- the events of the list, the latest first, up to the client's coming, where it waits, or up to the building of its group,
--- where it leads one
+-- the events of the list, the latest first, up to the client's coming, where it waits, or up to the building of its
+-- group, where it leads one
 module _ {Q P : Type 0} where
   abbrev pub past_at : Stage Q P → List (Event Q P)
   past_at Idle = []
@@ -77,8 +77,8 @@ module _ {Q P : Type 0} where
   past_in (h ∷ hs) = past_at h.stage
 
 module _ {Q P L M : Type 0} where
-  -- the client is in the list with q: it waits, and came when it had been told all that was handled for it; or it leads,
-  -- and has the log; or it works beside its leader
+  -- the client is in the list with q: it waits, and came when it had been told all that was handled for it; or it
+  -- leads, and has the log; or it works beside its leader
   abbrev pub IsLinked : (L → List (Handling Q P) → Type 0) → ℕ → Task → Q → List (Q × P) → Sat Q P L M → Type 0
   IsLinked stood c Awaits q mine m = (past : List (Event Q P)) × At c (Waiting q past) mine m × (m.1 ≡ [])
       × HasCome c q mine past

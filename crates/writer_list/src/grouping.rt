@@ -27,8 +27,8 @@ use std::marker::Brand;
 impl<Q: Itemized, P: Given, L: Ledger<Q, P, M>, M> WriterList<Q, P, L, M> {
     /// Takes the requests of the leader's group in link order, its own first. The group is the grouping rule's, under
     /// the list's bound, of the whole queue as it stands at one moment of this call: after the events that the leader
-    /// knows from here on, of which this is the last. Who links later doesn't change it. Each request is lawful for this
-    /// list.
+    /// knows from here on, of which this is the last. Who links later doesn't change it. Each request is lawful for
+    /// this list.
     pub fn group(
         &self,
         writer: &mut Writer<Q, P, L, M>,

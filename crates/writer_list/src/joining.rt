@@ -98,7 +98,8 @@ impl<Q: Itemized, P: Given, L: Ledger<Q, P, M>, M> WriterList<Q, P, L, M> {
             writer.old) writer.old → heads gs ≡ group → replies.old.items ≡ pays own p gs
             → HasSent (L.serves (about_of self.now)) self.now.clients writer.old.client result (debt gs own p)
             (told writer.old)
-            (ending (parting (grouped own seen (past_in writer.old.seat.me.0) left group) B.given) D.given) writer.new.seat.me
+            (ending (parting (grouped own seen (past_in writer.old.seat.me.0) left group) B.given) D.given)
+            writer.new.seat.me
             × (room.new.members.items ≡ bys (heads gs ++ own ∷ [])) }
     {
         let code = self.own_code(writer);

@@ -84,8 +84,8 @@ pub(super) fn complete<R: Wait>(rt: &R, table: &MemoryTable, seat: &mut MemSeat)
     }
 }
 
-// A group of so many nodes behind the sequence `last` is launched by a client that has no part of it, and published. Its
-// only member is the last to finish: else nobody would publish it, and this wouldn't return.
+// A group of so many nodes behind the sequence `last` is launched by a client that has no part of it, and published.
+// Its only member is the last to finish: else nobody would publish it, and this wouldn't return.
 fn write<R: Wait + Abort>(
     rt: &R,
     alloc: Global,
