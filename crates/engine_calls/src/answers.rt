@@ -1,7 +1,7 @@
-//! What the calls answer. What a read answers is of `wp_coding`.
+//! What the calls answer. What a read answers is of `base_bytes`.
 
-use wp_model::Refusal;
-use write_batch::Batch;
+use log_batch::Batch;
+use model_base::Refusal;
 
 /// An accepted batch, which is handed back with its sequence set.
 #[derive(Drop)]

@@ -1,24 +1,24 @@
 //! The calls.
 
 ghost use Rattle.std.specs.Prelude.{◌≡◌, true, false, List, map, IfOk, IfErr, OnOk, OnErr};
-ghost use Rattle.wp_model.specs.Batch as model;
-ghost use Rattle.wp_model.specs.Groups.{Group};
-ghost use Rattle.wp_model.specs.LogContents.{GroupCall};
-ghost use Rattle.wp_model.specs.Map.{rows_within, value_at};
-ghost use Rattle.wp_model.specs.Controller as controller;
-ghost use Rattle.wp_model.specs.Tokens.{holds_stop, holds_slow};
-ghost use Rattle.wp_model.specs.Trace.{Trace};
-ghost use Rattle.wp_coding.specs.Answers.{found_value};
-ghost use Rattle.account_model.specs.Accounts.{Keeps, Wrote, Refuses, Reads as ReadsAt, Asks, GivesBack};
-ghost use Rattle.account_model.specs.Closing.{AreOurs, all_attempts, IsClosing};
-ghost use Rattle.run_model.specs.Written.{WritesLog, IsSyncedBy};
+ghost use Rattle.model_base.specs.Batch as model;
+ghost use Rattle.model_base.specs.Groups.{Group};
+ghost use Rattle.model_base.specs.LogContents.{GroupCall};
+ghost use Rattle.model_base.specs.Map.{rows_within, value_at};
+ghost use Rattle.model_base.specs.Controller as controller;
+ghost use Rattle.model_base.specs.Tokens.{holds_stop, holds_slow};
+ghost use Rattle.model_base.specs.Trace.{Trace};
+ghost use Rattle.base_bytes.specs.Answers.{found_value};
+ghost use Rattle.model_accounts.specs.Accounts.{Keeps, Wrote, Refuses, Reads as ReadsAt, Asks, GivesBack};
+ghost use Rattle.model_accounts.specs.Closing.{AreOurs, all_attempts, IsClosing};
+ghost use Rattle.model_runs.specs.Written.{WritesLog, IsSyncedBy};
 
 use crate::answers::{Closed, Receipt, Refused};
+use base_bytes::{Bytes, Read, Reads, Rows};
+use engine_controller::{Held, NotHeld};
+use log_batch::Batch;
+use model_base::{NoMemory, WriteOptions};
 use std::sync::Wait;
-use wp_coding::{Bytes, Read, Reads, Rows};
-use wp_model::{NoMemory, WriteOptions};
-use write_batch::Batch;
-use write_controller::{Held, NotHeld};
 
 /// All clients of a write path, that of the number 1 first, and the room that closing it takes.
 pub struct Clients<C, R> {
@@ -39,9 +39,9 @@ pub trait Engine {
     type Log;
 
     ghost use Rattle.std.specs.Prelude.{ℕ, List, Option};
-    ghost use Rattle.wp_model.specs.LogContents.{GroupCall};
-    ghost use Rattle.wp_model.specs.Trace.{Settings};
-    ghost use Rattle.account_model.specs.Accounts.{Account};
+    ghost use Rattle.model_base.specs.LogContents.{GroupCall};
+    ghost use Rattle.model_base.specs.Trace.{Settings};
+    ghost use Rattle.model_accounts.specs.Accounts.{Account};
 
     /// What it was opened for.
     ghost settings: { Self → Settings };

@@ -1,5 +1,5 @@
 //! The calls of a write path that many clients share, whatever it is made of: what a client writes and reads, and how
-//! the whole is closed. What they promise is said of each client's account (`account_model`), and of all accounts at
+//! the whole is closed. What they promise is said of each client's account (`model_accounts`), and of all accounts at
 //! the closing.
 //!
 //! A client is one thread's at a time, and each call is made with the client. No call names another client.
@@ -11,5 +11,5 @@ mod gate;
 
 pub use answers::{Closed, Receipt, Refused};
 pub use engine::{Clients, Engine};
+pub use engine_controller::{Held, NotHeld};
 pub use gate::{Gate, OpenGate};
-pub use write_controller::{Held, NotHeld};

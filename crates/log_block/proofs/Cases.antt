@@ -1,10 +1,10 @@
 -- What is seen in front of some bytes, case by case.
 use Rattle.std.proofs.Common.{◌≡◌, ℕ, ◌+◌, ◌<◌, ◌≤◌, true, false, List, ◌∷◌, length, take, drop, Some, None, nat_lt, ◌==◌, cond, refl, ap, ◌∙◌, arith}
 use Rattle.std.proofs.lemmas.Bool.{lt-ltb, le-ltb, ne_eqb}
-use Rattle.wp_model.specs.declared.log.Damage.TheVariants.{ShortHeader, Zeros, BadLength, BadType, BadChecksum, BadTrailer}
-use Rattle.wp_model.specs.Checksum.{crc32c, masked}
-use Rattle.wp_model.specs.Log.{Kind}
-use Rattle.wp_model.specs.Reading.{Seen, fragment, nothing, damage, seen_within, are_zeros, checksum_field, length_field, type_field, kind_of_code, checked}
+use Rattle.model_base.specs.declared.log.Damage.TheVariants.{ShortHeader, Zeros, BadLength, BadType, BadChecksum, BadTrailer}
+use Rattle.model_base.specs.Checksum.{crc32c, masked}
+use Rattle.model_base.specs.Log.{Kind}
+use Rattle.model_base.specs.Reading.{Seen, fragment, nothing, damage, seen_within, are_zeros, checksum_field, length_field, type_field, kind_of_code, checked}
 
 -- the trailer of a block: zeros
 pub seen_zeros : (space : ℕ) (bytes : List ℕ) → space < 7 → are_zeros bytes ≡ true → seen_within None space bytes ≡ nothing

@@ -5,7 +5,7 @@ use Rattle.std.proofs.Math.Seq.{take-length}
 use Rattle.std.proofs.lemmas.Bool.{ne_eqb, ltb-true, ltb-false, leb-true, leb-false}
 use Rattle.std.specs.Simd.{first_chunks}
 use Rattle.std.specs.Int.{div_ceil}
-use Rattle.wp_model.specs.Log.{Kind, full, first, middle, last, kind_code, room, trailer, next_place, parts_of, later_fragments, as_fragments}
+use Rattle.model_base.specs.Log.{Kind, full, first, middle, last, kind_code, room, trailer, next_place, parts_of, later_fragments, as_fragments}
 use Rattle.log_block.specs.declared.pieces.Piece.{Piece}
 use Rattle.log_block.specs.Pieces.{IsPiece, ArePieces}
 use Rattle.log_block.specs.Cutting.{first_piece, later_piece, later_pieces}

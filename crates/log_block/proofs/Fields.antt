@@ -2,7 +2,7 @@
 use Rattle.std.proofs.Common.{◌≡◌, ℕ, ◌-◌, List, length, take, drop, arith, length-drop}
 use Rattle.std.proofs.lemmas.List.{take_all}
 use Rattle.byteorder.specs.Endian.{little_number}
-use Rattle.wp_model.specs.Reading.{checksum_field, length_field}
+use Rattle.model_base.specs.Reading.{checksum_field, length_field}
 
 -- a slice to the end is what is left
 pub rest_is : (block : List ℕ) (at : ℕ) → take (length block - at) (drop at block) ≡ drop at block

@@ -1,6 +1,6 @@
 -- What is written of pieces is what is written of their fragments.
 use Rattle.std.proofs.Common.{◌≡◌, ℕ, ◌+◌, List, [], ◌∷◌, ◌++◌, length, slice_range, replicate, None, refl, ◌∙◌, ap}
-use Rattle.wp_model.specs.Log.{Fragment, kind_code, header, fragment_bytes, trailer, next_place, placed}
+use Rattle.model_base.specs.Log.{Fragment, kind_code, header, fragment_bytes, trailer, next_place, placed}
 use Rattle.log_block.specs.declared.pieces.Piece.{Piece}
 use Rattle.log_block.specs.Pieces.{IsPiece, ArePieces, piece_text, pieces_text}
 

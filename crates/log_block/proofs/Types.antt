@@ -1,8 +1,8 @@
 -- The types of fragments.
 use Rattle.std.proofs.Common.{◌≡◌, ℕ, zero, suc, ◌≤◌, Some, None, refl, arith}
 use Rattle.std.proofs.lemmas.Bool.{ne_eqb}
-use Rattle.wp_model.specs.Log.{Kind, full, first, middle, last, kind_code}
-use Rattle.wp_model.specs.Reading.{kind_of_code}
+use Rattle.model_base.specs.Log.{Kind, full, first, middle, last, kind_code}
+use Rattle.model_base.specs.Reading.{kind_of_code}
 
 -- the number is a kind's code
 pub record IsCode (code : ℕ) : Type 0 where

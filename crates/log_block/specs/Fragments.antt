@@ -1,7 +1,7 @@
 -- What the reader of a block answers, against what is seen there.
 use Rattle.std.specs.Prelude.{◌≡◌, ℕ, ◌+◌, ◌≤◌, List, length, slice_range, None}
-use Rattle.wp_model.specs.Log.{Kind, kind_code}
-use Rattle.wp_model.specs.Reading as reading
+use Rattle.model_base.specs.Log.{Kind, kind_code}
+use Rattle.model_base.specs.Reading as reading
 use Rattle.log_block.specs.declared.fragments.Seen.{Seen}
 use Rattle.log_block.specs.declared.fragments.Seen.TheVariants.{Fragment, End, Damage}
 

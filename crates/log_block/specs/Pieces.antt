@@ -1,6 +1,6 @@
 -- A record's pieces as it is written, against the definition of its text.
 use Rattle.std.specs.Prelude.{◌≡◌, ℕ, ◌+◌, ◌-◌, ◌%◌, ◌≤◌, ◌≢◌, List, [], ◌∷◌, ◌++◌, length, replicate, flat_map, slice_range, None, ⊤}
-use Rattle.wp_model.specs.Log.{Fragment, kind_code, header, trailer, next_place}
+use Rattle.model_base.specs.Log.{Fragment, kind_code, header, trailer, next_place}
 use Rattle.log_block.specs.declared.pieces.Piece.{Piece}
 
 -- A piece of the record is this fragment, which is written at that offset of the log, and begins at that place of the

@@ -1,13 +1,13 @@
 //! What stands at a place of a block.
 
 ghost use Rattle.std.specs.Prelude.{◌≡◌, ◌+◌, ◌≤◌, ◌↔◌, IsTrue, length, drop, Option, Some, None, nat_lt, if◌then◌else◌};
-ghost use Rattle.wp_model.specs.Reading as reading;
-ghost use Rattle.wp_model.specs.declared.log.Damage.TheVariants as damages;
+ghost use Rattle.model_base.specs.Reading as reading;
+ghost use Rattle.model_base.specs.declared.log.Damage.TheVariants as damages;
 ghost use Rattle.log_block.specs.Fragments.{Tells};
 
 use crate::headers::{BLOCK_LEN, FULL, HEADER_LEN, LAST, checksum};
 use byteorder::{ByteOrder, LittleEndian};
-use wp_model::Damage;
+use model_base::Damage;
 
 /// What a reader sees at a place of a block.
 #[derive(Clone, Copy, Debug, PartialEq, Eq)]

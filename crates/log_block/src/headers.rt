@@ -1,10 +1,10 @@
 //! A fragment's header.
 
 ghost use Rattle.std.specs.Prelude.{◌≡◌, ◌≤◌, ◌∷◌, length, None};
-ghost use Rattle.wp_model.specs.Checksum.{crc32c, masked};
-ghost use Rattle.wp_model.specs.Log as log;
+ghost use Rattle.model_base.specs.Checksum.{crc32c, masked};
+ghost use Rattle.model_base.specs.Log as log;
 
-use wp_coding::{crc32c, extend, mask};
+use base_bytes::{crc32c, extend, mask};
 
 /// The bytes of a block.
 pub const BLOCK_LEN: usize = 32768;

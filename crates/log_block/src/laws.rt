@@ -1,7 +1,7 @@
 //! A law of what is written.
 
 ghost use Rattle.std.specs.Prelude.{◌≡◌, ◌%◌, ℕ, List, None};
-ghost use Rattle.wp_model.specs.Log as log;
+ghost use Rattle.model_base.specs.Log as log;
 
 use crate::headers::BLOCK_LEN;
 

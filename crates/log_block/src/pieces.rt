@@ -2,7 +2,7 @@
 
 ghost use Rattle.std.specs.Prelude.{◌≡◌, ◌-◌, ◌%◌, ◌<◌, ◌^◌, ℕ, List, length, None};
 ghost use Rattle.std.specs.Int.{div_ceil};
-ghost use Rattle.wp_model.specs.Log as log;
+ghost use Rattle.model_base.specs.Log as log;
 ghost use Rattle.log_block.specs.Pieces as pieces;
 ghost use Rattle.log_block.specs.Cutting as cutting;
 

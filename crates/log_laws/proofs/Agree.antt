@@ -3,9 +3,9 @@ use Rattle.std.proofs.Common.{Option, ◌≡◌, ⊎_elim, ℕ, List, [], ◌∷
 use Rattle.std.proofs.Math.ListN.{length-replicate}
 use Rattle.std.proofs.lemmas.List.{append-nil}
 use Rattle.std.specs.List.{AllByRecursion}
-use Rattle.wp_model.specs.Log.{Fragment, fragment_bytes, trailer, next_place, placed, FitFrom, AreOneRecord, kinds_of, all_fragments}
-use Rattle.wp_model.specs.Reading.{fragment, nothing, seen_at, end_of, AreBegun}
-use Rattle.wp_model.specs.Recovery.{HasFragment}
+use Rattle.model_base.specs.Log.{Fragment, fragment_bytes, trailer, next_place, placed, FitFrom, AreOneRecord, kinds_of, all_fragments}
+use Rattle.model_base.specs.Reading.{fragment, nothing, seen_at, end_of, AreBegun}
+use Rattle.model_base.specs.Recovery.{HasFragment}
 use Rattle.log_laws.proofs.Next.{fragment_len, seen_laid, seen_past}
 use Rattle.log_laws.proofs.Placed.{behind, end_none, end_more, split_joined, begins}
 

@@ -3,9 +3,9 @@ use Rattle.std.proofs.Common.{Option, ◌≡◌, ◌⊎◌, inl, inr, ⊎_elim, 
 use Rattle.std.proofs.Math.Seq.{take-append_seam, drop-append_seam}
 use Rattle.std.proofs.lemmas.List.{take-append-drop, append_cancel_left, map-append}
 use Rattle.std.specs.List.{AllByRecursion}
-use Rattle.wp_model.specs.Log.{Kind, full, first, middle, last, Fragment, fragment_bytes, trailer, next_place, placed, FitFrom, GoesToLast, AreOneRecord, kinds_of, all_fragments, record_of, SpellsWhole}
-use Rattle.wp_model.specs.Reading.{fragment, next_seen, end_of, AreBegun}
-use Rattle.wp_model.specs.Recovery.{ReaderMeets, NoChanceForReader}
+use Rattle.model_base.specs.Log.{Kind, full, first, middle, last, Fragment, fragment_bytes, trailer, next_place, placed, FitFrom, GoesToLast, AreOneRecord, kinds_of, all_fragments, record_of, SpellsWhole}
+use Rattle.model_base.specs.Reading.{fragment, next_seen, end_of, AreBegun}
+use Rattle.model_base.specs.Recovery.{ReaderMeets, NoChanceForReader}
 use Rattle.log_laws.proofs.Next.{next_laid}
 use Rattle.log_laws.proofs.Placed.{length_map, behind, placed_append, fit_front, fit_back, begins}
 use Rattle.log_laws.proofs.Agree.{Whole, are_front, Split, split_groups}

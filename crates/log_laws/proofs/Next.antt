@@ -4,8 +4,8 @@ use Rattle.std.proofs.Math.ListN.{length-replicate}
 use Rattle.std.proofs.Math.Seq.{take-append_seam, drop-append_seam, take-append-add}
 use Rattle.std.proofs.Math.ListN.{drop_of_length-le}
 use Rattle.std.proofs.lemmas.Bool.{ltb-true, lt-ltb}
-use Rattle.wp_model.specs.Log.{header_len, Fragment, fragment_bytes, room, trailer, next_place}
-use Rattle.wp_model.specs.Reading.{Seen, fragment, nothing, seen_within, seen_at, are_zeros, next_seen, behind_zeros}
+use Rattle.model_base.specs.Log.{header_len, Fragment, fragment_bytes, room, trailer, next_place}
+use Rattle.model_base.specs.Reading.{Seen, fragment, nothing, seen_within, seen_at, are_zeros, next_seen, behind_zeros}
 use Rattle.log_laws.proofs.Seen.{seen_written}
 
 pub cases_bool : {A : Type 0} (b : Bool) → (b ≡ true → A) → (b ≡ false → A) → A

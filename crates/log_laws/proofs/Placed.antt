@@ -2,8 +2,8 @@
 use Rattle.std.proofs.Common.{Option, ◌≡◌, ◌⊎◌, inl, inr, ⊎_elim, ℕ, suc, ◌+◌, List, [], ◌∷◌, ◌++◌, length, map, replicate, refl, sym, ◌∙◌, ap, subst, arith, length-append, append_assoc, add-zero}
 use Rattle.std.proofs.Math.ListN.{length-replicate}
 use Rattle.std.specs.List.{AllByRecursion}
-use Rattle.wp_model.specs.Log.{header_len, Kind, full, first, middle, last, Fragment, fragment_bytes, trailer, next_place, placed, FitFrom, GoesToLast, AreOneRecord, kinds_of}
-use Rattle.wp_model.specs.Reading.{end_of, AreBegun}
+use Rattle.model_base.specs.Log.{header_len, Kind, full, first, middle, last, Fragment, fragment_bytes, trailer, next_place, placed, FitFrom, GoesToLast, AreOneRecord, kinds_of}
+use Rattle.model_base.specs.Reading.{end_of, AreBegun}
 use Rattle.log_laws.proofs.Next.{fragment_len}
 
 pub length_map : {A B : Type 0} (f : A → B) (xs : List A) → length (map f xs) ≡ length xs

@@ -6,10 +6,10 @@ use Rattle.std.proofs.lemmas.Bool.{leb-true, leb-false}
 use Rattle.std.proofs.lemmas.Grind.{flat_map-append}
 use Rattle.std.proofs.lemmas.List.{drop-drop, take-append-drop, append-nil}
 use Rattle.std.specs.List.{AllByRecursion}
-use Rattle.wp_model.specs.declared.log.EndReason.{EndReason}
-use Rattle.wp_model.specs.Log.{header_len, Kind, full, first, middle, last, Fragment, fragment_bytes, trailer, next_place, placed, FitFrom, AreOneRecord, kinds_of, all_fragments, record_of, SpellsWhole, text}
-use Rattle.wp_model.specs.Reading.{Seen, Next, fragment, nothing, damage, seen_at, next_seen, end_of, AreBegun, Stand, Comes, ReadingEnds, clean, broken, bad_order, unfinished}
-use Rattle.wp_model.specs.Recovery.{IsRead}
+use Rattle.model_base.specs.declared.log.EndReason.{EndReason}
+use Rattle.model_base.specs.Log.{header_len, Kind, full, first, middle, last, Fragment, fragment_bytes, trailer, next_place, placed, FitFrom, AreOneRecord, kinds_of, all_fragments, record_of, SpellsWhole, text}
+use Rattle.model_base.specs.Reading.{Seen, Next, fragment, nothing, damage, seen_at, next_seen, end_of, AreBegun, Stand, Comes, ReadingEnds, clean, broken, bad_order, unfinished}
+use Rattle.model_base.specs.Recovery.{IsRead}
 use Rattle.log_laws.proofs.Next.{cases_bool, fragment_len, seen_laid, next_laid}
 use Rattle.log_laws.proofs.Placed.{behind, end_none, end_more, split_joined, begins}
 use Rattle.log_laws.proofs.Agree.{Whole}

@@ -3,10 +3,10 @@ use Rattle.std.proofs.Common.{Option, ◌≡◌, ℕ, zero, suc, List, [], ◌�
 use Rattle.std.proofs.Math.Seq.{take-append_seam}
 use Rattle.std.proofs.lemmas.List.{map-append, take-map}
 use Rattle.std.specs.List.{AllByRecursion}
-use Rattle.wp_model.specs.Batch.{IsBatch}
-use Rattle.wp_model.specs.Log.{Fragment, next_place, all_fragments, record_of, SpellsWhole, text}
-use Rattle.wp_model.specs.Reading.{end_of}
-use Rattle.wp_model.specs.Recovery.{Logged, logged_bytes, AreInOrder, last_after, Keeps, Recovered, IsRecovered, Meets, ReaderMeets, NoChance}
+use Rattle.model_base.specs.Batch.{IsBatch}
+use Rattle.model_base.specs.Log.{Fragment, next_place, all_fragments, record_of, SpellsWhole, text}
+use Rattle.model_base.specs.Reading.{end_of}
+use Rattle.model_base.specs.Recovery.{Logged, logged_bytes, AreInOrder, last_after, Keeps, Recovered, IsRecovered, Meets, ReaderMeets, NoChance}
 use Rattle.log_laws.proofs.Placed.{length_map}
 use Rattle.log_laws.proofs.Agree.{are_front}
 use Rattle.log_laws.proofs.Crash.{met_front, groups_front}

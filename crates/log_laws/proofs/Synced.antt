@@ -3,10 +3,10 @@ use Rattle.std.proofs.Common.{Option, ◌≡◌, ℕ, ◌≤◌, List, [], ◌�
 use Rattle.std.proofs.Math.Seq.{take-take}
 use Rattle.std.proofs.lemmas.List.{map-append, take-append-drop, append-nil}
 use Rattle.std.specs.List.{AllByRecursion}
-use Rattle.wp_model.specs.Batch.{IsBatch}
-use Rattle.wp_model.specs.Log.{Fragment, fragment_bytes, trailer, next_place, placed, FitFrom, all_fragments, record_of, SpellsWhole, text}
-use Rattle.wp_model.specs.Reading.{end_of, seen_at}
-use Rattle.wp_model.specs.Recovery.{Logged, logged_bytes, AreInOrder, Recovered, IsRecovered, HasFragment}
+use Rattle.model_base.specs.Batch.{IsBatch}
+use Rattle.model_base.specs.Log.{Fragment, fragment_bytes, trailer, next_place, placed, FitFrom, all_fragments, record_of, SpellsWhole, text}
+use Rattle.model_base.specs.Reading.{end_of, seen_at}
+use Rattle.model_base.specs.Recovery.{Logged, logged_bytes, AreInOrder, Recovered, IsRecovered, HasFragment}
 use Rattle.log_laws.proofs.Next.{seen_laid}
 use Rattle.log_laws.proofs.Placed.{length_map, behind, placed_append, fit_back}
 use Rattle.log_laws.proofs.Agree.{are_front}

@@ -7,8 +7,8 @@ use Rattle.std.proofs.Math.Dec.{lit<}
 use Rattle.std.specs.Simd.{first_chunks}
 use Rattle.std.specs.Int.{div_ceil}
 use Rattle.std.specs.List.{flat_map}
-use Rattle.wp_model.specs.Log.{header_len, part_len, first, middle, Fragment, room, next_place, placed, FitFrom, GoesToLast, AreOneRecord, kinds_of, all_fragments, record_of, SpellsWhole, pieces_of, parts_of, later_fragments, as_fragments, record_text, text_from, text}
-use Rattle.wp_model.specs.Reading.{end_of}
+use Rattle.model_base.specs.Log.{header_len, part_len, first, middle, Fragment, room, next_place, placed, FitFrom, GoesToLast, AreOneRecord, kinds_of, all_fragments, record_of, SpellsWhole, pieces_of, parts_of, later_fragments, as_fragments, record_text, text_from, text}
+use Rattle.model_base.specs.Reading.{end_of}
 use Rattle.log_laws.proofs.Seen.{header_small, with_header}
 use Rattle.log_laws.proofs.Placed.{behind, end_none, end_more, placed_append}
 use Rattle.log_laws.proofs.Agree.{Whole}

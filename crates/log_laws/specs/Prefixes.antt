@@ -1,6 +1,6 @@
 -- What a crash may leave of a log: a front of the records that were written, each of them whole.
 use Rattle.std.specs.Prelude.{◌≡◌, ℕ, ◌≤◌, List, length, take, map, None}
-use Rattle.wp_model.specs.Recovery.{logged_bytes, Recovered, IsRecovered, IsRead}
+use Rattle.model_base.specs.Recovery.{logged_bytes, Recovered, IsRecovered, IsRead}
 
 -- These are the first n of the records, none left out and none in part, and P holds of their number.
 pub record IsPrefix (found records : List (List ℕ)) (P : ℕ → Type 0) : Type 0 where

@@ -10,10 +10,10 @@
 
 ghost use Rattle.std.specs.Prelude.{◌≡◌, ◌<◌, ◌≤◌, ◌^◌, ◌++◌, ℕ, List, length, take, map, Option, None, ⊤};
 ghost use Rattle.std.specs.List.{AllByRecursion};
-ghost use Rattle.wp_model.specs.Batch.{IsBatch};
-ghost use Rattle.wp_model.specs.Varint.{IsVarint, varint};
-ghost use Rattle.wp_model.specs.Log.{SpellsWhole, text};
-ghost use Rattle.wp_model.specs.Recovery.{Logged, logged_bytes, AreInOrder, Recovered, IsRecovered, IsRead, NoChance, NoChanceForReader};
+ghost use Rattle.model_base.specs.Batch.{IsBatch};
+ghost use Rattle.model_base.specs.Varint.{IsVarint, varint};
+ghost use Rattle.model_base.specs.Log.{SpellsWhole, text};
+ghost use Rattle.model_base.specs.Recovery.{Logged, logged_bytes, AreInOrder, Recovered, IsRecovered, IsRead, NoChance, NoChanceForReader};
 ghost use Rattle.log_laws.specs.Prefixes.{RecoversPrefix, ReadsPrefix};
 
 /// The spelling of a number is a varint, and none begins another.

@@ -2,7 +2,7 @@
 use Rattle.std.proofs.Common.{◌≡◌, ℕ, ◌+◌, ◌-◌, ◌<◌, ◌≤◌, min, List, ◌++◌, length, take, drop, Option, Some, None, IfSome, sym, ◌∙◌, ap, subst, arith, length-append, length-take, length-drop}
 use Rattle.std.proofs.Math.Seq.{take-add, take-append-add}
 use Rattle.std.proofs.lemmas.List.{drop-drop, take-append-le, take_all}
-use Rattle.wp_edge.specs.Disk.{Disk}
+use Rattle.base_devices.specs.Disk.{Disk}
 use Rattle.log_reader.specs.Blocks.{ReadsBlock}
 use borrow.Rule.Slice.PartMut.{put_mid}
 

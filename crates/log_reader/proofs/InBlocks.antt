@@ -3,9 +3,9 @@ use Rattle.std.proofs.Common.{◌≡◌, ℕ, ◌+◌, ◌-◌, ◌%◌, ◌<◌
 use Rattle.std.proofs.Math.ListN.{drop_of_length-le}
 use Rattle.std.proofs.lemmas.List.{drop-take, drop-drop, append-nil}
 use Rattle.std.proofs.lemmas.Bool.{ltb-true, ltb-false}
-use Rattle.wp_model.specs.declared.log.Damage.{Damage}
-use Rattle.wp_model.specs.Log.{Fragment, room, next_place}
-use Rattle.wp_model.specs.Reading.{Seen, Next, fragment, nothing, damage, seen_within, seen_at, seen_in_block, next_seen, behind_zeros}
+use Rattle.model_base.specs.declared.log.Damage.{Damage}
+use Rattle.model_base.specs.Log.{Fragment, room, next_place}
+use Rattle.model_base.specs.Reading.{Seen, Next, fragment, nothing, damage, seen_within, seen_at, seen_in_block, next_seen, behind_zeros}
 use Rattle.log_block.specs.declared.fragments.Seen.{Seen as Answer}
 use Rattle.log_block.specs.declared.fragments.Seen.TheVariants as answers
 use Rattle.log_block.specs.Fragments.{StandsThere, Tells}

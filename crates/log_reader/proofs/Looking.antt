@@ -1,7 +1,7 @@
 -- What a reader sees in its window.
 use Rattle.std.proofs.Common.{◌≡◌, ℕ, ◌+◌, List, length, take, None, true, refl, sym, ◌∙◌, ap, subst, arith, length-take}
-use Rattle.wp_edge.specs.Disk.{Disk}
-use Rattle.wp_model.specs.Reading.{next_seen}
+use Rattle.base_devices.specs.Disk.{Disk}
+use Rattle.model_base.specs.Reading.{next_seen}
 use Rattle.log_block.specs.declared.fragments.Seen.{Seen}
 use Rattle.log_block.specs.declared.fragments.Seen.TheVariants as seen
 use Rattle.log_reader.specs.declared.window.Window.{Window}

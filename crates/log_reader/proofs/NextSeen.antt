@@ -4,11 +4,11 @@ use Rattle.std.proofs.Math.ListN.{drop_of_length-le}
 use Rattle.std.proofs.Math.Seq.{drop-append_seam}
 use Rattle.std.proofs.lemmas.List.{take-append-drop, drop-drop}
 use Rattle.std.proofs.lemmas.Bool.{ltb-true, ltb-false, lt-ltb, le-ltb, eqb-true}
-use Rattle.wp_model.specs.Checksum.{crc32c, masked}
-use Rattle.wp_model.specs.Log.{Kind, Fragment, fragment_bytes, room, trailer, next_place}
-use Rattle.wp_model.specs.declared.log.Damage.{Damage}
-use Rattle.wp_model.specs.declared.log.Damage.TheVariants.{ShortHeader, Zeros, BadLength, BadChecksum, BadTrailer}
-use Rattle.wp_model.specs.Reading.{Seen, Next, fragment, nothing, damage, seen_within, seen_at, are_zeros, checked, kind_of_code, checksum_field, type_field, length_field, part_field, next_seen, behind_zeros}
+use Rattle.model_base.specs.Checksum.{crc32c, masked}
+use Rattle.model_base.specs.Log.{Kind, Fragment, fragment_bytes, room, trailer, next_place}
+use Rattle.model_base.specs.declared.log.Damage.{Damage}
+use Rattle.model_base.specs.declared.log.Damage.TheVariants.{ShortHeader, Zeros, BadLength, BadChecksum, BadTrailer}
+use Rattle.model_base.specs.Reading.{Seen, Next, fragment, nothing, damage, seen_within, seen_at, are_zeros, checked, kind_of_code, checksum_field, type_field, length_field, part_field, next_seen, behind_zeros}
 use Rattle.log_reader.proofs.SeenFragment.{fragment_is, fragment_bytes_are}
 
 pub cases_bool : {A : Type 0} (b : Bool) → (b ≡ true → A) → (b ≡ false → A) → A

@@ -3,10 +3,10 @@ use Rattle.std.proofs.Common.{◌≡◌, ℕ, ◌+◌, List, [], ◌∷◌, ◌+
 use Rattle.std.proofs.Math.Seq.{drop-append_seam}
 use Rattle.std.proofs.lemmas.List.{drop-drop, append-nil}
 use Rattle.std.specs.List.{AllByRecursion}
-use Rattle.wp_model.specs.declared.log.Damage.{Damage}
-use Rattle.wp_model.specs.declared.log.EndReason.TheVariants as ends
-use Rattle.wp_model.specs.Log.{Kind, full, first, middle, last, Fragment, placed, next_place, GoesToLast, AreOneRecord, kinds_of, record_of}
-use Rattle.wp_model.specs.Reading.{Seen, Next, fragment, nothing, damage, next_seen, Stand, end_of, AreBegun, Comes, ReadingEnds, clean, broken, bad_order, unfinished}
+use Rattle.model_base.specs.declared.log.Damage.{Damage}
+use Rattle.model_base.specs.declared.log.EndReason.TheVariants as ends
+use Rattle.model_base.specs.Log.{Kind, full, first, middle, last, Fragment, placed, next_place, GoesToLast, AreOneRecord, kinds_of, record_of}
+use Rattle.model_base.specs.Reading.{Seen, Next, fragment, nothing, damage, next_seen, Stand, end_of, AreBegun, Comes, ReadingEnds, clean, broken, bad_order, unfinished}
 use Rattle.log_reader.specs.declared.reader.Continuation.TheVariants as continuation
 use Rattle.log_reader.specs.Blocks.{IsNext}
 use Rattle.log_reader.specs.Records.{IsRecord, Reads}

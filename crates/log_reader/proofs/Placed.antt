@@ -1,8 +1,8 @@
 -- Fragments that stand one after another.
 use Rattle.std.proofs.Common.{None, ◌≡◌, ℕ, ◌+◌, List, [], ◌∷◌, ◌++◌, length, replicate, sym, ◌∙◌, ap, subst, arith, length-append, append_assoc, add-zero}
 use Rattle.std.proofs.Math.ListN.{length-replicate}
-use Rattle.wp_model.specs.Log.{Fragment, fragment_bytes, trailer, next_place, placed, FitFrom}
-use Rattle.wp_model.specs.Reading.{end_of}
+use Rattle.model_base.specs.Log.{Fragment, fragment_bytes, trailer, next_place, placed, FitFrom}
+use Rattle.model_base.specs.Reading.{end_of}
 
 -- where the fragment behind one begins to be looked for
 abbrev pub behind : ℕ → Fragment → ℕ

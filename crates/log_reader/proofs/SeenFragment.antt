@@ -5,10 +5,10 @@ use Rattle.std.proofs.lemmas.List.{take-append-drop, get_or-take, get_or-drop, g
 use Rattle.std.proofs.Math.Seq.{drop-cons}
 use Rattle.std.specs.Int.{w16, w32, to_le_bytes}
 use Rattle.std.proofs.lemmas.Nat.{le_bytes_2, le_bytes_4}
-use Rattle.wp_model.specs.declared.log.Damage.TheVariants.{BadTrailer}
-use Rattle.wp_model.specs.Checksum.{crc32c, masked}
-use Rattle.wp_model.specs.Log.{Kind, full, first, middle, last, kind_code, Fragment, header, fragment_bytes}
-use Rattle.wp_model.specs.Reading.{fragment, nothing, damage, seen_within, checked, kind_of_code, are_zeros, checksum_field, length_field, type_field, part_field}
+use Rattle.model_base.specs.declared.log.Damage.TheVariants.{BadTrailer}
+use Rattle.model_base.specs.Checksum.{crc32c, masked}
+use Rattle.model_base.specs.Log.{Kind, full, first, middle, last, kind_code, Fragment, header, fragment_bytes}
+use Rattle.model_base.specs.Reading.{fragment, nothing, damage, seen_within, checked, kind_of_code, are_zeros, checksum_field, length_field, type_field, part_field}
 
 -- where a choice gives what its first branch doesn't
 pub other : {A : Type 0} (b : Bool) (x y z : A) → cond b x y ≡ z → (x ≡ z → ⊥) → (b ≡ false) × (y ≡ z)

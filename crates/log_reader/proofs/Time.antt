@@ -1,7 +1,7 @@
 -- Calls that only read, one after another.
 use Rattle.std.proofs.Common.{◌≡◌, inl, inr, ⊎_elim, ℕ, List, Option, IfSome, sym, ◌∙◌, subst, arith}
-use Rattle.wp_edge.specs.Disk.{Disk, IsImage, TimePasses}
-use Rattle.wp_edge.specs.declared.disk.Disk.{Ghosts}
+use Rattle.base_devices.specs.Disk.{Disk, IsImage, TimePasses}
+use Rattle.base_devices.specs.declared.disk.Disk.{Ghosts}
 use Rattle.log_reader.specs.OnlyReads.{OnlyReads}
 
 -- one stretch of time after another

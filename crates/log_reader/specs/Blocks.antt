@@ -1,8 +1,8 @@
 -- A reader of a log in one of its blocks.
 use Rattle.std.specs.Prelude.{◌≡◌, ℕ, ◌+◌, ◌%◌, ◌<◌, ◌≤◌, List, [], ◌∷◌, length, take, drop, slice_range, None}
-use Rattle.wp_model.specs.Log.{Kind, kind_code, next_place}
-use Rattle.wp_model.specs.Reading as reading
-use Rattle.wp_model.specs.Reading.{next_seen, end_of, Stand}
+use Rattle.model_base.specs.Log.{Kind, kind_code, next_place}
+use Rattle.model_base.specs.Reading as reading
+use Rattle.model_base.specs.Reading.{next_seen, end_of, Stand}
 use Rattle.log_block.specs.declared.fragments.Seen.{Seen}
 use Rattle.log_block.specs.declared.fragments.Seen.TheVariants as seen
 

@@ -1,7 +1,7 @@
 -- What reading does to a disk: it changes nothing of it.
 use Rattle.std.specs.Prelude.{◌≡◌, ◌≤◌}
-use Rattle.wp_edge.specs.Disk.{TimePasses}
-use Rattle.wp_edge.specs.declared.disk.Disk.{Ghosts}
+use Rattle.base_devices.specs.Disk.{TimePasses}
+use Rattle.base_devices.specs.declared.disk.Disk.{Ghosts}
 
 -- the disk tells what it told, its time went on, and its count of faults hasn't fallen
 pub record OnlyReads {D : Type 0} (ghosts : Ghosts D) (old new : D) : Type 0 where

@@ -1,8 +1,8 @@
 -- What a reader answers, against what the log says.
 use Rattle.std.specs.Prelude.{◌≡◌, ℕ, ◌≤◌, List, length, Option, Some, None}
-use Rattle.wp_edge.specs.Faults.{Rose}
-use Rattle.wp_model.specs.Log.{Fragment, AreOneRecord, kinds_of, record_of, next_place}
-use Rattle.wp_model.specs.Reading.{Stand, end_of, ReadingEnds}
+use Rattle.base_devices.specs.Faults.{Rose}
+use Rattle.model_base.specs.Log.{Fragment, AreOneRecord, kinds_of, record_of, next_place}
+use Rattle.model_base.specs.Reading.{Stand, end_of, ReadingEnds}
 use Rattle.log_reader.specs.declared.reader.Next.{Next}
 use Rattle.log_reader.specs.declared.reader.Next.TheVariants as next
 

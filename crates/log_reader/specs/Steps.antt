@@ -1,8 +1,8 @@
 -- One fragment more of a record.
 use Rattle.std.specs.Prelude.{◌≡◌, ℕ, ◌<◌, List, [], ◌∷◌, Option, Some, None}
-use Rattle.wp_model.specs.declared.log.EndReason.TheVariants as ends
-use Rattle.wp_model.specs.Log.{Kind, full, first, middle, last, Fragment, kinds_of, record_of, next_place}
-use Rattle.wp_model.specs.Reading.{Stand, end_of, AreBegun}
+use Rattle.model_base.specs.declared.log.EndReason.TheVariants as ends
+use Rattle.model_base.specs.Log.{Kind, full, first, middle, last, Fragment, kinds_of, record_of, next_place}
+use Rattle.model_base.specs.Reading.{Stand, end_of, AreBegun}
 use Rattle.log_reader.specs.declared.reader.Next.{Next}
 use Rattle.log_reader.specs.declared.reader.Next.TheVariants as next
 use Rattle.log_reader.specs.declared.reader.Step.{Step}

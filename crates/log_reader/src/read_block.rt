@@ -1,12 +1,12 @@
 //! A block, from the disk.
 
 ghost use Rattle.std.specs.Prelude.{◌≡◌, ◌+◌, ◌^◌, ◌<◌, ◌≤◌, length, IfOk, IfErr, IfSome, OnOk};
-ghost use Rattle.wp_edge.specs.Faults.{Rose};
+ghost use Rattle.base_devices.specs.Faults.{Rose};
 ghost use Rattle.log_reader.specs.Blocks.{ReadsBlock};
 ghost use Rattle.log_reader.specs.OnlyReads.{OnlyReads};
 
+use base_devices::Disk;
 use log_block::BLOCK_LEN;
-use wp_edge::Disk;
 
 /// Reads the block that begins at the offset `start` into the first bytes of `block`, as far as the disk has it, and
 /// answers how many bytes that are. A fault is answered by the disk's count, and no read that failed is tried again.

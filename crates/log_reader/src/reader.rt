@@ -1,7 +1,7 @@
 //! The records of a log, one after another.
 
 ghost use Rattle.std.specs.Prelude.{◌≡◌, ◌+◌, ◌^◌, ◌<◌, ◌≤◌, ℕ, List, [], ◌++◌, slice_range, None, IfOk, IfSome, OnOk};
-ghost use Rattle.wp_model.specs.Log.{Kind, kind_code};
+ghost use Rattle.model_base.specs.Log.{Kind, kind_code};
 ghost use Rattle.log_reader.specs.Blocks.{IsNext};
 ghost use Rattle.log_reader.specs.Windows.{IsSound, IsOn, offset_of, bytes_of};
 ghost use Rattle.log_reader.specs.Records.{Reads, HasFault, stopped_by};
@@ -11,11 +11,11 @@ ghost use Rattle.log_reader.specs.Reader.{Follows, PlaceAfter, GoesForward};
 ghost use Rattle.log_reader.specs.OnlyReads.{OnlyReads};
 
 use crate::window::Window;
+use base_devices::Disk;
 use log_block::{FIRST, FULL, LAST, MIDDLE, Seen};
+use model_base::{EndReason, NoMemory};
 use std::alloc::Global;
 use std::marker::Model;
-use wp_edge::Disk;
-use wp_model::{EndReason, NoMemory};
 
 /// What reading on comes to.
 #[derive(Clone, Copy, Debug, PartialEq, Eq)]

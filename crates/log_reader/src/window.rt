@@ -1,16 +1,16 @@
 //! The block of a log in which a reader stands.
 
 ghost use Rattle.std.specs.Prelude.{◌≡◌, ◌+◌, ◌^◌, ◌<◌, ◌≤◌, ℕ, List, length, slice_range, IfOk, IfErr, IfSome, OnOk, true};
-ghost use Rattle.wp_edge.specs.Faults.{Rose};
+ghost use Rattle.base_devices.specs.Faults.{Rose};
 ghost use Rattle.log_reader.specs.Windows.{IsSound, IsOn, offset_of, SeesNext, PartLies, bytes_of};
 ghost use Rattle.log_reader.specs.OnlyReads.{OnlyReads};
 
 use crate::read_block::read_block;
 use crate::see::see;
+use base_devices::Disk;
 use log_block::{BLOCK_LEN, Seen};
+use model_base::NoMemory;
 use std::alloc::Global;
-use wp_edge::Disk;
-use wp_model::NoMemory;
 
 /// The block in which a reader stands, and where in it.
 #[derive(Debug, Drop)]

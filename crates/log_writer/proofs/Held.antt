@@ -3,9 +3,9 @@ use Rattle.std.proofs.Common.{◌≡◌, ◌⊎◌, inl, inr, ⊎_elim, ℕ, zer
 use Rattle.std.proofs.Math.Seq.{take-take}
 use Rattle.std.proofs.lemmas.List.{take-append-le, take_all}
 use Rattle.std.proofs.lemmas.Option.{same_Some, slice_get_within}
-use Rattle.wp_edge.specs.Disk.{Disk, IsDisk, IsImage, Told, LeavesOnly}
-use Rattle.wp_edge.specs.declared.disk.Disk.{Ghosts}
-use Rattle.wp_model.specs.Log.{record_text, text}
+use Rattle.base_devices.specs.Disk.{Disk, IsDisk, IsImage, Told, LeavesOnly}
+use Rattle.base_devices.specs.declared.disk.Disk.{Ghosts}
+use Rattle.model_base.specs.Log.{record_text, text}
 use Rattle.log_writer.specs.declared.writer.LogWriter.{LogWriter}
 use Rattle.log_writer.specs.Crashes.{KeepsSafe, reach_with, MayBeLeft, HoldsUpTo}
 use Rattle.log_writer.specs.Words.{disk_of, len_of, fault_of}

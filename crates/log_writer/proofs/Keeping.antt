@@ -2,10 +2,10 @@
 use Rattle.std.proofs.Common.{◌≡◌, ℕ, ◌+◌, ◌≤◌, Bool, true, false, IsTrue, List, [], ◌∷◌, ◌++◌, length, take, drop, map, Option, Some, None, IfSome, sym, ◌∙◌, ap, subst, arith, append_assoc, length-append, length-take, add-zero, zero-add}
 use Rattle.std.proofs.Math.Seq.{take-take, take-append_seam, take-length}
 use Rattle.std.proofs.lemmas.List.{take-append-le, take-append-drop, take_all, append-nil}
-use Rattle.wp_edge.specs.Disk.{Disk, IsImage, Told, LeavesOnly}
-use Rattle.wp_edge.specs.declared.disk.Disk.{Ghosts}
-use Rattle.wp_model.specs.Log.{record_text, text_from, text}
-use Rattle.wp_model.specs.Recovery.{logged_bytes}
+use Rattle.base_devices.specs.Disk.{Disk, IsImage, Told, LeavesOnly}
+use Rattle.base_devices.specs.declared.disk.Disk.{Ghosts}
+use Rattle.model_base.specs.Log.{record_text, text_from, text}
+use Rattle.model_base.specs.Recovery.{logged_bytes}
 use Rattle.log_laws.proofs.Placed.{length_map}
 use Rattle.log_laws.proofs.Written.{text_spells}
 use Rattle.log_laws.proofs.Crash.{reads_front}

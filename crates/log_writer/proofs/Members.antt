@@ -5,8 +5,8 @@ use Rattle.std.proofs.lemmas.Grind.{flat_map-append}
 use Rattle.std.proofs.lemmas.List.Sums.{sum_by-append, sum_by-cons}
 use Rattle.std.proofs.lemmas.List.{take_all, append-nil}
 use Rattle.std.specs.List.{flat_map}
-use Rattle.wp_model.specs.Batch.{Record, record_bytes, is_counted, count_of, body, header, batch}
-use Rattle.write_batch.specs.Contents.{Contents}
+use Rattle.model_base.specs.Batch.{Record, record_bytes, is_counted, count_of, body, header, batch}
+use Rattle.log_batch.specs.Contents.{Contents}
 use Rattle.log_writer.specs.Groups.{batches_of, counts_of, bodies_of, record_of_group}
 
 -- the first member's bytes, and those of the members behind it

@@ -4,10 +4,10 @@ use Rattle.std.proofs.Math.ListN.{length-replicate}
 use Rattle.std.proofs.lemmas.Bool.{ltb-true}
 use Rattle.std.proofs.lemmas.List.{append-nil, drop-drop}
 use Rattle.std.specs.Result.{IsErr}
-use Rattle.wp_edge.specs.Disk.{IsDisk, IsImage}
-use Rattle.wp_edge.specs.declared.disk.Disk.{Ghosts}
-use Rattle.wp_edge.specs.declared.failed.Failed.{Failed}
-use Rattle.wp_model.specs.Log as log
+use Rattle.base_devices.specs.Disk.{IsDisk, IsImage}
+use Rattle.base_devices.specs.declared.disk.Disk.{Ghosts}
+use Rattle.base_devices.specs.declared.failed.Failed.{Failed}
+use Rattle.model_base.specs.Log as log
 use Rattle.log_block.specs.declared.pieces.Piece.{Piece}
 use Rattle.log_block.specs.Pieces.{piece_text, pieces_text, CoverRecord, StandsInBlock, StandInBlocks, end_in_block}
 use Rattle.log_writer.specs.Puts.{Puts}

@@ -3,9 +3,9 @@ use Rattle.std.proofs.Common.{◌≡◌, inl, inr, ⊎_elim, ℕ, ◌+◌, ◌�
 use Rattle.std.proofs.Math.Seq.{take-append-add}
 use Rattle.std.proofs.lemmas.List.{take-append-le, take_min, append-nil}
 use Rattle.std.specs.Result.{IsErr}
-use Rattle.wp_edge.specs.Disk.{Disk, IsDisk, IsImage, Told, LeavesOnly}
-use Rattle.wp_edge.specs.Faults.{HasCause}
-use Rattle.wp_edge.specs.declared.disk.Disk.{Ghosts}
+use Rattle.base_devices.specs.Disk.{Disk, IsDisk, IsImage, Told, LeavesOnly}
+use Rattle.base_devices.specs.Faults.{HasCause}
+use Rattle.base_devices.specs.declared.disk.Disk.{Ghosts}
 use Rattle.log_writer.specs.Crashes.{KeepsSafe, reach_with, MayBeLeft}
 use Rattle.log_writer.specs.Puts.{HasFront, ArePut, Puts}
 

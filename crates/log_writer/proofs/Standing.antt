@@ -2,9 +2,9 @@
 use Rattle.std.proofs.Common.{◌≡◌, ℕ, ◌+◌, ◌≤◌, Bool, true, false, List, [], ◌∷◌, ◌++◌, length, take, Option, Some, None, IfSome, MatchOption, refl, sym, ◌∙◌, ap, subst, arith, length-append}
 use Rattle.std.proofs.Math.Seq.{take-append-add}
 use Rattle.std.proofs.lemmas.List.{take-append-le, take_all, append-nil}
-use Rattle.wp_edge.specs.Disk.{Disk, Told}
-use Rattle.wp_edge.specs.declared.disk.Disk.{Ghosts}
-use Rattle.wp_model.specs.Log.{record_text, text}
+use Rattle.base_devices.specs.Disk.{Disk, Told}
+use Rattle.base_devices.specs.declared.disk.Disk.{Ghosts}
+use Rattle.model_base.specs.Log.{record_text, text}
 use Rattle.log_writer.specs.declared.writer.LogWriter.{LogWriter}
 use Rattle.log_writer.specs.Puts.{HasFront, IsSynced, ArePut}
 use Rattle.log_writer.specs.Words.{disk_of, len_of, fault_of}

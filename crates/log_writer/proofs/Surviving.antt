@@ -2,10 +2,10 @@
 use Rattle.std.proofs.Common.{◌≡◌, ℕ, ◌≤◌, Bool, true, false, List, [], ◌++◌, length, take, Option, Some, None, Result, Ok, Err, IfSome, MatchOption, refl, sym, ◌∙◌, ap, subst, arith, append_assoc, length-append, length-take}
 use Rattle.std.proofs.Math.Seq.{take-take}
 use Rattle.std.proofs.lemmas.List.{take-append-le, append-nil}
-use Rattle.wp_edge.specs.Disk.{Disk, IsDisk, IsImage, Told, LeavesOnly}
-use Rattle.wp_edge.specs.declared.disk.Disk.{Ghosts}
-use Rattle.wp_model.specs.Counts.{Rose}
-use Rattle.wp_model.specs.Log.{record_text, text}
+use Rattle.base_devices.specs.Disk.{Disk, IsDisk, IsImage, Told, LeavesOnly}
+use Rattle.base_devices.specs.declared.disk.Disk.{Ghosts}
+use Rattle.model_base.specs.Counts.{Rose}
+use Rattle.model_base.specs.Log.{record_text, text}
 use Rattle.log_writer.specs.declared.writer.LogWriter.{LogWriter}
 use Rattle.log_writer.specs.Crashes.{KeepsSafe, KeepsWhatWasSafe, KeepsPrefix}
 use Rattle.log_writer.specs.Puts.{ArePut, Puts}

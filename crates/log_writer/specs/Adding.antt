@@ -1,9 +1,9 @@
 -- A call of `add_group`, and what it does to the log.
 use Rattle.std.specs.Prelude.{◌≡◌, ℕ, ◌+◌, Bool, List, length, Option, Some, None, Result, Ok, Err, IfSome, MatchOption}
-use Rattle.wp_edge.specs.declared.disk.Disk.{Ghosts}
-pub use Rattle.wp_model.specs.LogContents.{GroupCall, record_of_call}
-use Rattle.wp_model.specs.Log.{record_text}
-use Rattle.write_batch.specs.Contents.{Contents}
+use Rattle.base_devices.specs.declared.disk.Disk.{Ghosts}
+pub use Rattle.model_base.specs.LogContents.{GroupCall, record_of_call}
+use Rattle.model_base.specs.Log.{record_text}
+use Rattle.log_batch.specs.Contents.{Contents}
 use Rattle.log_writer.specs.declared.errors.Fault.{Fault}
 use Rattle.log_writer.specs.declared.writer.LogWriter.{LogWriter}
 use Rattle.log_writer.specs.Groups.{batches_of}

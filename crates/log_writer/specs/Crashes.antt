@@ -1,13 +1,13 @@
 -- What a crash leaves of a log's disk, in bytes and in records.
 use Rattle.std.specs.Prelude.{◌≡◌, ℕ, ◌+◌, ◌≤◌, max, List, [], ◌∷◌, ◌++◌, length, take, map, Option, None, IfSome}
 use Rattle.std.specs.List.{AllByRecursion}
-use Rattle.wp_edge.specs.Disk.{Disk, IsImage, LeavesOnly}
-use Rattle.wp_edge.specs.declared.disk.Disk.{Ghosts}
-use Rattle.wp_model.specs.Batch.{IsBatch}
-use Rattle.wp_model.specs.Log.{text}
-use Rattle.wp_model.specs.Recovery.{Logged, logged_bytes, AreInOrder, NoChance, NoChanceForReader}
+use Rattle.base_devices.specs.Disk.{Disk, IsImage, LeavesOnly}
+use Rattle.base_devices.specs.declared.disk.Disk.{Ghosts}
+use Rattle.model_base.specs.Batch.{IsBatch}
+use Rattle.model_base.specs.Log.{text}
+use Rattle.model_base.specs.Recovery.{Logged, logged_bytes, AreInOrder, NoChance, NoChanceForReader}
 use Rattle.log_laws.specs.Prefixes.{RecoversPrefix, ReadsPrefix}
-pub use Rattle.wp_model.specs.LogContents.{HoldsUpTo}
+pub use Rattle.model_base.specs.LogContents.{HoldsUpTo}
 
 -- the disk's safe bytes are a prefix of the image
 pub record KeepsSafe (d : Disk) (image : List ℕ) : Type 0 where

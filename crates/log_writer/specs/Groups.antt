@@ -1,8 +1,8 @@
 -- A group of batches, and the one record that it makes in the log.
 use Rattle.std.specs.Prelude.{ℕ, List, length, map, flat_map}
 use Rattle.std.specs.List.{sum_by}
-use Rattle.wp_model.specs.Batch.{Record, count_of, body, group_record}
-use Rattle.write_batch.specs.Contents.{Contents}
+use Rattle.model_base.specs.Batch.{Record, count_of, body, group_record}
+use Rattle.log_batch.specs.Contents.{Contents}
 
 -- the additions of each member
 abbrev pub batches_of : List Contents → List (List Record)

@@ -1,8 +1,8 @@
 -- What opening a log does to its disk.
 use Rattle.std.specs.Prelude.{◌≡◌, ◌<◌, ◌≤◌, [], length, None, IfSome}
-use Rattle.wp_model.specs.Counts.{Rose}
-use Rattle.wp_edge.specs.Disk.{TimePasses}
-use Rattle.wp_edge.specs.declared.disk.Disk.{Ghosts}
+use Rattle.model_base.specs.Counts.{Rose}
+use Rattle.base_devices.specs.Disk.{TimePasses}
+use Rattle.base_devices.specs.declared.disk.Disk.{Ghosts}
 use Rattle.log_writer.specs.declared.errors.OpenError.{OpenError}
 use Rattle.log_writer.specs.declared.errors.OpenError.TheVariants.{Fault, NotEmpty, NoMemory}
 use Rattle.log_writer.specs.declared.writer.LogWriter.{LogWriter}

@@ -1,8 +1,8 @@
 -- What it does to a disk to put bytes at the end of its content, and perhaps to sync them.
 use Rattle.std.specs.Prelude.{◌≡◌, ℕ, ◌+◌, ◌≤◌, Bool, true, false, List, ◌++◌, length, take, Result, MatchResult}
-use Rattle.wp_edge.specs.Disk.{Disk, Told, LeavesOnly}
-use Rattle.wp_edge.specs.Faults.{HasCause}
-use Rattle.wp_edge.specs.declared.disk.Disk.{Ghosts}
+use Rattle.base_devices.specs.Disk.{Disk, Told, LeavesOnly}
+use Rattle.base_devices.specs.Faults.{HasCause}
+use Rattle.base_devices.specs.declared.disk.Disk.{Ghosts}
 use Rattle.log_writer.specs.Crashes.{reach_with, MayBeLeft}
 
 -- a prefix of the bytes stands after the content

@@ -1,6 +1,6 @@
 -- What a log writer shows.
 use Rattle.std.specs.Prelude.{ℕ, Option, vec_capacity}
-use Rattle.wp_edge.specs.declared.disk.Disk.{Ghosts}
+use Rattle.base_devices.specs.declared.disk.Disk.{Ghosts}
 use Rattle.log_writer.specs.declared.writer.LogWriter.{LogWriter}
 
 abbrev pub disk_of : {D : Type 0} {ghosts : Ghosts D} → LogWriter D ghosts → D

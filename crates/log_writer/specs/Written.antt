@@ -1,10 +1,10 @@
 -- What a log has become by calls of `add_group`.
 use Rattle.std.specs.Prelude.{◌≡◌, ℕ, ◌+◌, ◌≤◌, true, List, [], ◌∷◌, ◌++◌, length, take, drop, slice_get, Option, Some, None, IfSome}
 use Rattle.std.specs.List.{AllByRecursion}
-use Rattle.wp_edge.specs.Disk.{Disk}
-use Rattle.wp_edge.specs.declared.disk.Disk.{Ghosts}
-use Rattle.wp_model.specs.Counts.{Rose}
-use Rattle.wp_model.specs.Log.{text}
+use Rattle.base_devices.specs.Disk.{Disk}
+use Rattle.base_devices.specs.declared.disk.Disk.{Ghosts}
+use Rattle.model_base.specs.Counts.{Rose}
+use Rattle.model_base.specs.Log.{text}
 use Rattle.log_writer.specs.declared.writer.LogWriter.{LogWriter}
 use Rattle.log_writer.specs.Words.{disk_of, len_of, fault_of}
 use Rattle.log_writer.specs.Crashes.{HoldsUpTo}

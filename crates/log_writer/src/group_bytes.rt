@@ -1,11 +1,11 @@
 //! The bytes of a group's record, which stand apart in the members.
 
 ghost use Rattle.std.specs.Prelude.{◌≡◌, ◌+◌, ◌≤◌, ◌<◌, ◌^◌, ◌++◌, length, take, drop};
-ghost use Rattle.wp_model.specs.Batch as model;
+ghost use Rattle.model_base.specs.Batch as model;
 ghost use Rattle.log_writer.specs.Groups.{counts_of, body_lens_of, bodies_of};
 
+use log_batch::{Batch, HEADER_LEN};
 use std::marker::Model;
-use write_batch::{Batch, HEADER_LEN};
 
 /// The bytes of a group's record that are still to be written: the rest of its header or of a member, and the members
 /// after it. Contracts see the bytes.

@@ -1,7 +1,7 @@
 //! Laws of logs that calls of `add_group` wrote.
 
 ghost use Rattle.std.specs.Prelude.{◌≡◌, ◌+◌, ◌≤◌, ℕ, List, [], ◌∷◌, ◌++◌, IfSome};
-ghost use Rattle.wp_edge.specs.Disk.{IsImage, LeavesOnly};
+ghost use Rattle.base_devices.specs.Disk.{IsImage, LeavesOnly};
 ghost use Rattle.log_writer.specs.declared.writer.LogWriter.{LogWriter as Log};
 ghost use Rattle.log_writer.specs.Words.{disk_of};
 ghost use Rattle.log_writer.specs.Opening.{HasOpened};
@@ -9,7 +9,7 @@ ghost use Rattle.log_writer.specs.Adding.{GroupCall, Adds};
 ghost use Rattle.log_writer.specs.Crashes.{KeepsPrefix};
 ghost use Rattle.log_writer.specs.Written.{Wrote, IsWritten, begun_by, HaveSynced, HoldsCalls, HoldsSynced, Stands, HasCauseSince};
 
-use wp_edge::Disk;
+use base_devices::Disk;
 
 /// A log that is opened is written by no calls, and each call writes on. What the log has then is what the calls wrote.
 pub fn written_by_calls<D: Disk>()

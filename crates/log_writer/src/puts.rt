@@ -1,14 +1,14 @@
 //! What is put at the end of a log's disk.
 
 ghost use Rattle.std.specs.Prelude.{◌≡◌, ◌+◌, ◌-◌, ◌^◌, ◌<◌, ◌≤◌, [], ◌++◌, length, take, drop, replicate, true, false, None, OnOk, IfOk};
-ghost use Rattle.wp_model.specs.Log as log;
+ghost use Rattle.model_base.specs.Log as log;
 ghost use Rattle.log_writer.specs.Groups.{counts_of, body_lens_of, record_of_group};
 ghost use Rattle.log_writer.specs.Puts.{Puts};
 
 use crate::group_bytes::{GroupBytes, bodies_len, count_of, group_header, set_at};
+use base_devices::{Disk, Failed};
+use log_batch::Batch;
 use log_block::{BLOCK_LEN, Fragmenter, HEADER_LEN, MAX_PART_LEN, Piece, header};
-use wp_edge::{Disk, Failed};
-use write_batch::Batch;
 
 /// Appends bytes.
 pub(crate) fn append<D: Disk>(disk: &mut D, bytes: &[u8]) -> Result<(), Failed>

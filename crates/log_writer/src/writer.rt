@@ -5,11 +5,11 @@ ghost use Rattle.std.proofs.Props.{props};
 
 use crate::puts::put_group;
 use crate::{Fault, OpenError};
+use base_devices::Disk;
+use log_batch::Batch;
 use log_block::BLOCK_LEN;
+use model_base::NoMemory;
 use std::alloc::Global;
-use wp_edge::Disk;
-use wp_model::NoMemory;
-use write_batch::Batch;
 
 /// A log on a disk, to which groups of batches are written. Once a write has failed it takes no more.
 pub struct LogWriter<D: Disk> {
@@ -27,7 +27,7 @@ pub struct LogWriter<D: Disk> {
 
 impl<D: Disk> LogWriter<D> {
     ghost use Rattle.std.specs.Prelude.{◌+◌, ◌-◌, ◌^◌, ◌<◌, IsTrue, IfErr, OnOk};
-    ghost use Rattle.wp_model.specs.History.{max_sequence};
+    ghost use Rattle.model_base.specs.History.{max_sequence};
     ghost use Rattle.log_writer.specs.Words.{disk_of, len_of, fault_of, room_of};
     ghost use Rattle.log_writer.specs.Groups.{counts_of, body_lens_of, record_of_group};
     ghost use Rattle.log_writer.specs.Crashes.{LeavesPrefix, IsDurable};

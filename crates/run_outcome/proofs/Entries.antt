@@ -1,9 +1,9 @@
 -- The entries of a client's batches: how many there are, the one at a place, and one more.
 use Rattle.std.specs.Prelude.{Some, slice_get}
 use Rattle.std.proofs.Common.{◌≡◌, ℕ, zero, suc, ◌+◌, List, [], ◌∷◌, ◌++◌, length, ap, ◌∙◌, refl, arith}
-use Rattle.write_batch.specs.Contents.{Contents}
-use Rattle.client_calls.specs.declared.entry.Entry.{Entry}
-use Rattle.batch_list.specs.declared.kept.Kept.{Kept}
+use Rattle.log_batch.specs.Contents.{Contents}
+use Rattle.run_calls.specs.declared.entry.Entry.{Entry}
+use Rattle.run_batches.specs.declared.kept.Kept.{Kept}
 use Rattle.run_outcome.specs.Histories.{entry_of, entries_from, entries_of}
 
 pub entries_from-append : (client ordinal : ℕ) (xs ys : List (Kept Contents)) → entries_from client ordinal (xs ++ ys) ≡ entries_from client ordinal xs ++ entries_from client (ordinal + length xs) ys

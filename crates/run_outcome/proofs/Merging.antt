@@ -7,9 +7,9 @@ use Rattle.std.proofs.lemmas.List.{get_or-map, length-map}
 use Rattle.std.proofs.lemmas.List.Elements.{All-head, All-tail}
 use Rattle.std.proofs.lemmas.List.Sorted.{All-permutation}
 use Rattle.std.proofs.lemmas.Option.{slice_get-map, slice_get_read, slice_get-get_or, get_or_from_slice_get, same_Some}
-use Rattle.write_batch.specs.Contents.{Contents}
-use Rattle.client_calls.specs.declared.entry.Entry.{Entry}
-use Rattle.batch_list.specs.declared.kept.Kept.{Kept}
+use Rattle.log_batch.specs.Contents.{Contents}
+use Rattle.run_calls.specs.declared.entry.Entry.{Entry}
+use Rattle.run_batches.specs.declared.kept.Kept.{Kept}
 use Rattle.run_outcome.specs.declared.places.Place.{Place}
 use Rattle.run_outcome.specs.Histories.{entry_of, entries_of, entries_of_all}
 use Rattle.run_outcome.specs.Places.{no_batch, places_by, entry_at, entries_at, IsPlace, ArePlaces}

@@ -4,9 +4,9 @@ use Rattle.std.proofs.Common.{◌≡◌, ℕ, suc, ◌+◌, ◌-◌, ◌<◌, �
 use Rattle.std.proofs.lemmas.List.{map-append}
 use Rattle.std.proofs.lemmas.List.Elements.{All-nil, All-cons, All-append}
 use Rattle.std.proofs.lemmas.Option.{slice_get_within, get_or_from_slice_get}
-use Rattle.write_batch.specs.Contents.{Contents}
-use Rattle.client_calls.specs.declared.entry.Entry.{Entry}
-use Rattle.batch_list.specs.declared.kept.Kept.{Kept}
+use Rattle.log_batch.specs.Contents.{Contents}
+use Rattle.run_calls.specs.declared.entry.Entry.{Entry}
+use Rattle.run_batches.specs.declared.kept.Kept.{Kept}
 use Rattle.run_outcome.specs.declared.places.Place.{Place}
 use Rattle.run_outcome.specs.Histories.{entry_of, entries_from, entries_of, entries_by, entries_of_all}
 use Rattle.run_outcome.specs.Places.{no_batch, places_from, places_by, kept_at, entry_at, entries_at, IsPlace, ArePlaces}

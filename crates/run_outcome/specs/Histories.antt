@@ -1,9 +1,9 @@
 -- The entries that clients' accepted batches are.
 use Rattle.std.specs.Prelude.{ℕ, ◌+◌, ◌-◌, ◌^◌, min, List, [], ◌∷◌, ◌++◌}
-use Rattle.wp_model.specs.Batch.{count_of}
-use Rattle.write_batch.specs.Contents.{Contents}
-use Rattle.client_calls.specs.declared.entry.Entry.{Entry}
-use Rattle.batch_list.specs.declared.kept.Kept.{Kept}
+use Rattle.model_base.specs.Batch.{count_of}
+use Rattle.log_batch.specs.Contents.{Contents}
+use Rattle.run_calls.specs.declared.entry.Entry.{Entry}
+use Rattle.run_batches.specs.declared.kept.Kept.{Kept}
 
 -- the last sequence of a batch's run, as a number of 64 bits
 abbrev pub last_in : Contents → ℕ

@@ -1,10 +1,10 @@
 -- Where the batches of the clients' lists stand, and the entries there.
 use Rattle.std.specs.Prelude.{◌≡◌, ℕ, ◌+◌, ◌-◌, ◌<◌, ◌≤◌, List, [], ◌∷◌, ◌++◌, length, map, slice_index_or}
 use Rattle.std.specs.List.{All}
-use Rattle.wp_model.specs.declared.history.Flag.TheVariants.{Log}
-use Rattle.write_batch.specs.Contents.{Contents, empty}
-use Rattle.client_calls.specs.declared.entry.Entry.{Entry}
-use Rattle.batch_list.specs.declared.kept.Kept.{Kept}
+use Rattle.model_base.specs.declared.history.Flag.TheVariants.{Log}
+use Rattle.log_batch.specs.Contents.{Contents, empty}
+use Rattle.run_calls.specs.declared.entry.Entry.{Entry}
+use Rattle.run_batches.specs.declared.kept.Kept.{Kept}
 use Rattle.run_outcome.specs.declared.places.Place.{Place}
 use Rattle.run_outcome.specs.Histories.{entry_of}
 

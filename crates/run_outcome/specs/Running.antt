@@ -1,18 +1,18 @@
 -- What a run of a script comes to: an outcome, and the log that it leaves.
 use Rattle.std.specs.Prelude.{◌≡◌, ℕ, ◌≤◌, List, [], length, Option, None}
 use Rattle.std.specs.List.{AllByRecursion}
-use Rattle.wp_edge.specs.Disk.{Disk, Told, IsImage}
-use Rattle.wp_model.specs.Counts.{Rose}
-use Rattle.wp_model.specs.Map.{Pairs}
-use Rattle.wp_model.specs.Trace.{Settings}
-use Rattle.wp_model.specs.Calls as calls
-use Rattle.wp_model.specs.LogContents.{GroupCall}
-use Rattle.client_calls.specs.declared.options.Options.{Options}
+use Rattle.base_devices.specs.Disk.{Disk, Told, IsImage}
+use Rattle.model_base.specs.Counts.{Rose}
+use Rattle.model_base.specs.Map.{Pairs}
+use Rattle.model_base.specs.Trace.{Settings}
+use Rattle.model_base.specs.Calls as calls
+use Rattle.model_base.specs.LogContents.{GroupCall}
+use Rattle.run_calls.specs.declared.options.Options.{Options}
 use Rattle.run_outcome.specs.declared.outcome.Outcome.{Outcome}
-use Rattle.client_calls.specs.Settings.{settings_of}
+use Rattle.run_calls.specs.Settings.{settings_of}
 use Rattle.run_outcome.specs.Shows.{ShowsOutcome}
-use Rattle.run_model.specs.Refusals.{AreRefusedForThemselves}
-use Rattle.run_model.specs.Crashes.{IsRun, IsSafe}
+use Rattle.model_runs.specs.Refusals.{AreRefusedForThemselves}
+use Rattle.model_runs.specs.Crashes.{IsRun, IsSafe}
 
 -- How a run was set up, what its clients were to do, the count of faults of the log's disk at its end, what a crash at
 -- some moment of it might have left, and by which calls of the log writer the disk came to be as it was handed back

@@ -2,14 +2,14 @@
 -- records of an accepted batch.
 use Rattle.std.specs.Prelude.{◌≡◌, Bool, true, false, not, List, filter}
 use Rattle.std.specs.List.{AllZip, list_any}
-use Rattle.wp_model.specs.Batch.{Record}
-use Rattle.wp_model.specs.Map.{Pairs}
-use Rattle.wp_model.specs.History as history
-use Rattle.wp_model.specs.Calls as calls
-use Rattle.write_batch.specs.Contents.{Contents}
+use Rattle.model_base.specs.Batch.{Record}
+use Rattle.model_base.specs.Map.{Pairs}
+use Rattle.model_base.specs.History as history
+use Rattle.model_base.specs.Calls as calls
+use Rattle.log_batch.specs.Contents.{Contents}
 use Rattle.run_outcome.specs.declared.reply.Reply.{Reply}
 use Rattle.run_outcome.specs.declared.reply.Reply.TheVariants.{Accepted, Refused, Found, FoundEach, Rows, Done, Held, NotHeld, NoMemory}
-use Rattle.client_calls.specs.declared.entry.Entry.{Entry}
+use Rattle.run_calls.specs.declared.entry.Entry.{Entry}
 use Rattle.run_outcome.specs.declared.outcome.Outcome.{Outcome}
 
 abbrev pub lacks_memory : Reply → Bool

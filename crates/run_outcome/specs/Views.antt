@@ -1,7 +1,7 @@
 -- The entries that a history holds.
 use Rattle.std.specs.Prelude.{List}
-use Rattle.write_batch.specs.Contents.{Contents}
-use Rattle.client_calls.specs.declared.entry.Entry.{Entry}
+use Rattle.log_batch.specs.Contents.{Contents}
+use Rattle.run_calls.specs.declared.entry.Entry.{Entry}
 use Rattle.run_outcome.specs.declared.history.Batches.{Batches}
 use Rattle.run_outcome.specs.declared.history.Batches.TheVariants.{OfOne, OfAll}
 use Rattle.run_outcome.specs.Histories.{entries_of}

@@ -3,8 +3,8 @@
 ghost use Rattle.std.specs.Prelude.{◌≡◌, ◌<◌, length, Some, slice_get};
 ghost use Rattle.run_outcome.specs.Histories.{entries_of};
 
-use batch_list::{BatchList, Kept, KeptBatch};
-use client_calls::Entry;
+use run_batches::{BatchList, Kept, KeptBatch};
+use run_calls::Entry;
 
 /// The entry of the batch at a place of a client's list, from 0 on.
 pub fn entry_of(client: u32, at: usize, list: &BatchList) -> Entry<KeptBatch<'_>>

@@ -6,11 +6,11 @@ ghost use Rattle.run_outcome.specs.Histories.{entries_of, entries_of_all};
 
 use crate::entry::entry_of;
 use crate::merged::Merged;
-use batch_list::{BatchList, KeptBatch};
-use client_calls::Entry;
+use model_base::NoMemory;
+use run_batches::{BatchList, KeptBatch};
+use run_calls::Entry;
 use std::alloc::Global;
 use std::marker::Model;
-use wp_model::NoMemory;
 
 /// The accepted batches of all clients in order of their sequences. Contracts see the list of its entries.
 ///
@@ -29,8 +29,8 @@ enum Batches {
 
 impl Model for History {
     ghost use Rattle.std.specs.Prelude.{List};
-    ghost use Rattle.write_batch.specs.Contents.{Contents};
-    ghost use Rattle.client_calls.specs.declared.entry.Entry.{Entry};
+    ghost use Rattle.log_batch.specs.Contents.{Contents};
+    ghost use Rattle.run_calls.specs.declared.entry.Entry.{Entry};
 
     ghost Value = { List (Entry Contents) };
 

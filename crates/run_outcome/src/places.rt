@@ -3,9 +3,9 @@
 ghost use Rattle.std.specs.Prelude.{◌≡◌, ◌<◌, ◌-◌, ◌^◌, ◌++◌, min, length, sum_by, IfOk, OnOk};
 ghost use Rattle.run_outcome.specs.Places.{places_from, places_by};
 
-use batch_list::BatchList;
+use model_base::NoMemory;
+use run_batches::BatchList;
 use std::alloc::Global;
-use wp_model::NoMemory;
 
 /// Where a batch stands, with the first sequence of its run. It takes sixteen bytes.
 #[derive(Drop)]

@@ -1,7 +1,7 @@
 //! What a client is told.
 
-use wp_coding::{Bytes, FoundList, PairList};
-use wp_model::Refusal;
+use base_bytes::{Bytes, FoundList, PairList};
+use model_base::Refusal;
 
 /// The reply to a command. What adds to a batch or empties it has none.
 #[derive(Drop)]

@@ -1,7 +1,7 @@
 //! The calls.
 ghost use Rattle.std.specs.Prelude.{◌≡◌, ℕ, ◌<◌, ◌≤◌, ◌^◌, List, [], ◌∷◌, ◌++◌, None, Some, map, IfOk};
-ghost use Rattle.wp_model.specs.Map.{rows_within};
-ghost use Rattle.wp_coding.specs.Answers.{found_value};
+ghost use Rattle.model_base.specs.Map.{rows_within};
+ghost use Rattle.base_bytes.specs.Answers.{found_value};
 ghost use Rattle.table_rule.specs.declared.content.MemberVersions.{MemberVersions};
 ghost use Rattle.table_rule.specs.declared.view.Launched.{Launched};
 ghost use Rattle.table_rule.specs.declared.view.Stage.TheVariants.{Idle, Holding, Stored, Publishing};
@@ -13,11 +13,11 @@ ghost use Rattle.table_calls.specs.Account.{Account, Learns, Launches, Takes, St
 use crate::finished::Finished;
 use crate::group::GroupParts;
 use crate::seats::Seats;
+use base_bytes::{Bytes, Read, Reads, Rows};
+use model_base::NoMemory;
 use std::alloc::Global;
 use std::sync::Wait;
 use table_rule::Versioned;
-use wp_coding::{Bytes, Read, Reads, Rows};
-use wp_model::NoMemory;
 
 /// A table of versions, which groups are published to. `P` is a list of a group's members with their nodes.
 ///

@@ -1,15 +1,15 @@
 //! What a table is made of: nodes of versions, and the trees that they are put in.
 ghost use Rattle.std.specs.Prelude.{◌≡◌, ◌≢◌, List, [], ◌∷◌, IfOk, MatchOption};
 ghost use Rattle.std.specs.Option.{option_copied};
-ghost use Rattle.wp_model.specs.Map.{value_at, rows_within};
+ghost use Rattle.model_base.specs.Map.{value_at, rows_within};
 ghost use Rattle.table_rule.specs.declared.content.Version.{Version};
 ghost use Rattle.table_rule.specs.Histories.{In, IsOrderUpTo, map_of};
 ghost use Rattle.table_rule.specs.Steps.{Adds};
 
+use base_bytes::Rows;
+use model_base::NoMemory;
 use std::alloc::Global;
 use table_rule::Versioned;
-use wp_coding::Rows;
-use wp_model::NoMemory;
 
 /// A node that is one version.
 pub trait VersionNode {

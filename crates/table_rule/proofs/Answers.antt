@@ -1,7 +1,7 @@
 -- What a locked tree answers is the map of what its seat has seen.
 use Rattle.std.proofs.Common.{◌≡◌, ℕ, suc, eqb, cond, Bool, true, false, List, [], ◌∷◌, filter, refl, sym, ap, ◌∙◌, inl, inr, ⊎_elim, arith, eq-eqb, eqb-true}
 use Rattle.std.proofs.Math.Nat.{mod-one}
-use Rattle.wp_model.specs.Checksum.{crc32c}
+use Rattle.model_base.specs.Checksum.{crc32c}
 use Rattle.table_rule.specs.declared.content.Version.{Version}
 use Rattle.table_rule.specs.declared.content.MemberVersions.{MemberVersions}
 use Rattle.table_rule.specs.Histories.{In, versions_of, Runs, last_of, shard_of, of_shard, AreRising, IsOrderUpTo}

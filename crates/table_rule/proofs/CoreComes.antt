@@ -1,9 +1,9 @@
 -- A team's events in the core, one after another.
 use Rattle.std.proofs.Common.{◌≡◌, ◌≢◌, ℕ, Bool, true, false, not, ◌&&◌, List, [], ◌∷◌, ◌++◌, ◌==◌, ◌||◌, map, Some, refl, sym, ap, ◌∙◌, append_assoc, append-nil}
 use Rattle.std.proofs.lemmas.Bool.{ne_eqb}
-use Rattle.core_model.specs.declared.event.Event.TheVariants as core
-use Rattle.core_model.specs.Core.{Options, launched, State, table_group, among, runners}
-use Rattle.core_model.specs.Step.{step, when, insert, finish, entry_ahead}
+use Rattle.model_core.specs.declared.event.Event.TheVariants as core
+use Rattle.model_core.specs.Core.{Options, launched, State, table_group, among, runners}
+use Rattle.model_core.specs.Step.{step, when, insert, finish, entry_ahead}
 use Rattle.table_rule.specs.CoreEvents.{Come}
 use Rattle.table_rule.proofs.Teams.{Once, among_head, among_tail, among_others, once_head, once_tail}
 

@@ -3,11 +3,11 @@ use Rattle.std.proofs.Common.{◌≡◌, ◌≢◌, ◌⊎◌, inl, inr, ⊎_eli
 use Rattle.std.specs.List.{list_all}
 use Rattle.std.proofs.lemmas.Bool.{and_from}
 use Rattle.std.proofs.lemmas.Bool.Decides.{eqb_tells}
-use Rattle.core_model.specs.declared.event.Event.{Event as CoreEvent}
-use Rattle.core_model.specs.declared.event.Event.TheVariants as core
-use Rattle.core_model.specs.Halves.{moves_table}
-use Rattle.core_model.specs.Core.{Options, free, still as at_rest, launched, published as is_published, State, leads, table_group, among, runners, with_client, next_call, told}
-use Rattle.core_model.specs.Step.{step, when, launch, publish, exit, leave, without_table_group, read, read_call, read_with, is_last, group_last}
+use Rattle.model_core.specs.declared.event.Event.{Event as CoreEvent}
+use Rattle.model_core.specs.declared.event.Event.TheVariants as core
+use Rattle.model_core.specs.Halves.{moves_table}
+use Rattle.model_core.specs.Core.{Options, free, still as at_rest, launched, published as is_published, State, leads, table_group, among, runners, with_client, next_call, told}
+use Rattle.model_core.specs.Step.{step, when, launch, publish, exit, leave, without_table_group, read, read_call, read_with, is_last, group_last}
 use Rattle.table_rule.specs.declared.content.MemberVersions.{MemberVersions}
 use Rattle.table_rule.specs.Histories.{In, last_of}
 use Rattle.table_rule.specs.Rule.{Mode, still, running, ended}

@@ -2,15 +2,15 @@
 use Rattle.std.proofs.Common.{◌≡◌, ℕ, ◌<◌, ◌==◌, Bool, true, false, not, List, [], ◌∷◌, ◌++◌, length, find, filter, Option, Some, None, if◌then◌else◌, refl, ap, sym, ◌∙◌, subst, arith}
 use Rattle.std.specs.List.{list_any}
 use Rattle.std.proofs.lemmas.Bool.{and_parts}
-use Rattle.core_model.specs.declared.event.Event.{Event}
-use Rattle.core_model.specs.declared.event.Event.TheVariants as e
-use Rattle.wp_model.specs.declared.write.WriteOptions.{WriteOptions}
-use Rattle.wp_model.specs.declared.write.Refusal.{Refusal}
-use Rattle.wp_model.specs.declared.write.Refusal.TheVariants as no
-use Rattle.wp_model.specs.Calls.{Command, commit, Reply}
-use Rattle.core_model.specs.Core.{Options, Writer, Client, LogPhase, free, led, built, in_log, marked, handed, State, client_at, with_client, next_call, told, refusal_of, leads, with_runs, has_run, in_hand, first_group, table_group, read_reply}
-use Rattle.core_model.specs.Step.{when, step, link, link_call, link_with, elect, build, log_group, logged_group, fault, refuse, boundary, to_second, next, complete, complete_with, completed, read, read_call, read_with}
-use Rattle.core_model.specs.Halves.{moves_table}
+use Rattle.model_core.specs.declared.event.Event.{Event}
+use Rattle.model_core.specs.declared.event.Event.TheVariants as e
+use Rattle.model_base.specs.declared.write.WriteOptions.{WriteOptions}
+use Rattle.model_base.specs.declared.write.Refusal.{Refusal}
+use Rattle.model_base.specs.declared.write.Refusal.TheVariants as no
+use Rattle.model_base.specs.Calls.{Command, commit, Reply}
+use Rattle.model_core.specs.Core.{Options, Writer, Client, LogPhase, free, led, built, in_log, marked, handed, State, client_at, with_client, next_call, told, refusal_of, leads, with_runs, has_run, in_hand, first_group, table_group, read_reply}
+use Rattle.model_core.specs.Step.{when, step, link, link_call, link_with, elect, build, log_group, logged_group, fault, refuse, boundary, to_second, next, complete, complete_with, completed, read, read_call, read_with}
+use Rattle.model_core.specs.Halves.{moves_table}
 
 -- the table stays, and so does a group for it
 abbrev pub Leaves : Options → State → State → Type 0

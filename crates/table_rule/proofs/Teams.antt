@@ -7,8 +7,8 @@ use Rattle.std.proofs.lemmas.List.{map-append}
 use Rattle.std.proofs.lemmas.List.Elements.{filter-append}
 use Rattle.std.proofs.lemmas.List.Folds.{list_any-append}
 use Rattle.std.proofs.lemmas.List.Sums.{sum_by-append, sum_by-cons}
-use Rattle.core_model.specs.Core.{Writer, has_run, among, runners}
-use Rattle.core_model.specs.Step.{is_last}
+use Rattle.model_core.specs.Core.{Writer, has_run, among, runners}
+use Rattle.model_core.specs.Step.{is_last}
 use Rattle.table_rule.specs.declared.content.MemberVersions.{MemberVersions}
 use Rattle.table_rule.specs.Histories.{In}
 use Rattle.table_rule.specs.CoreEvents.{StandFor}

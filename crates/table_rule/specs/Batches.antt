@@ -1,6 +1,6 @@
 -- The versions that a batch's records make.
 use Rattle.std.specs.Prelude.{ℕ, ◌+◌, List, [], ◌∷◌, Some, None}
-use Rattle.wp_model.specs.Batch.{Record, value, deletion, single_deletion, log_data}
+use Rattle.model_base.specs.Batch.{Record, value, deletion, single_deletion, log_data}
 use Rattle.table_rule.specs.declared.content.Version.{Version}
 
 -- one for each record that counts, with the sequence 0; a single deletion makes one like a deletion

@@ -1,11 +1,11 @@
 -- The events of the table as events of the write path's core.
 use Rattle.std.specs.Prelude.{◌≡◌, ◌⊎◌, ℕ, ◌<◌, ◌≤◌, ◌==◌, true, false, List, [], ◌∷◌, ◌++◌, length, count_by, Option, Some, None}
 use Rattle.std.specs.List.{list_all}
-use Rattle.wp_model.specs.Batch.{Record}
-use Rattle.wp_model.specs.Calls.{Command, Reply}
-use Rattle.core_model.specs.declared.event.Event.{Event as CoreEvent}
-use Rattle.core_model.specs.Core.{Options, Writer, Client, still as at_rest, launched, published as is_published, State as CoreState, client_at, next_call, run_of, table_group, among, runners, read_reply}
-use Rattle.core_model.specs.Step.{step, is_last, group_last}
+use Rattle.model_base.specs.Batch.{Record}
+use Rattle.model_base.specs.Calls.{Command, Reply}
+use Rattle.model_core.specs.declared.event.Event.{Event as CoreEvent}
+use Rattle.model_core.specs.Core.{Options, Writer, Client, still as at_rest, launched, published as is_published, State as CoreState, client_at, next_call, run_of, table_group, among, runners, read_reply}
+use Rattle.model_core.specs.Step.{step, is_last, group_last}
 use Rattle.table_rule.specs.declared.content.MemberVersions.{MemberVersions}
 use Rattle.table_rule.specs.declared.content.Version.{Version}
 use Rattle.table_rule.specs.Batches.{made, numbered}

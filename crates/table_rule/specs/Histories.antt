@@ -1,10 +1,10 @@
 -- Versions, groups and histories as plain lists. A published group is a write group whose batches have been put into
 -- the memtable (RocksDB wiki, "MemTable").
 use Rattle.std.specs.Prelude.{◌≡◌, ◌≢◌, ◌⊎◌, ◌↔◌, ℕ, suc, ◌+◌, ◌%◌, ◌<◌, ◌≤◌, Option, Some, None, List, [], ◌∷◌, ◌++◌, ◌==◌, length, map, filter}
-use Rattle.wp_model.specs.Batch.{Record}
-use Rattle.wp_model.specs.Batch as model
-use Rattle.wp_model.specs.Checksum.{crc32c}
-use Rattle.wp_model.specs.Map.{Pairs, after_records, value_at}
+use Rattle.model_base.specs.Batch.{Record}
+use Rattle.model_base.specs.Batch as model
+use Rattle.model_base.specs.Checksum.{crc32c}
+use Rattle.model_base.specs.Map.{Pairs, after_records, value_at}
 use Rattle.table_rule.specs.declared.content.Version.{Version}
 use Rattle.table_rule.specs.declared.content.MemberVersions.{MemberVersions}
 

@@ -1,10 +1,10 @@
 //! The events of the table are events of the write path's core.
 ghost use Rattle.std.specs.Prelude.{◌≡◌, ℕ, true, false, List, [], ◌∷◌, map, Some};
-ghost use Rattle.core_model.specs.declared.event.Event.{Event};
-ghost use Rattle.core_model.specs.declared.event.Event.TheVariants as core;
-ghost use Rattle.core_model.specs.Core.{Options, State, still as at_rest, published as is_published, leads, table_group};
-ghost use Rattle.core_model.specs.Halves.{moves_table};
-ghost use Rattle.core_model.specs.Step.{step, is_last};
+ghost use Rattle.model_core.specs.declared.event.Event.{Event};
+ghost use Rattle.model_core.specs.declared.event.Event.TheVariants as core;
+ghost use Rattle.model_core.specs.Core.{Options, State, still as at_rest, published as is_published, leads, table_group};
+ghost use Rattle.model_core.specs.Halves.{moves_table};
+ghost use Rattle.model_core.specs.Step.{step, is_last};
 ghost use Rattle.table_rule.specs.declared.content.MemberVersions.{MemberVersions};
 ghost use Rattle.table_rule.specs.Rule.{still, ended};
 ghost use Rattle.table_rule.specs.Events.{TableNow, Stays, IsRead, IsLaunch, IsInsert, IsFinish, IsPublish};

@@ -1,7 +1,7 @@
 //! The calls of a client's seat, in the words of its account.
 ghost use Rattle.std.specs.Prelude.{◌≡◌, ◌<◌, ◌≤◌, ◌^◌, List, [], ◌∷◌, ◌++◌, None, Some, length, IfOk};
-ghost use Rattle.wp_model.specs.Map.{value_at, rows_within};
-ghost use Rattle.wp_coding.specs.Answers.{found_value};
+ghost use Rattle.model_base.specs.Map.{value_at, rows_within};
+ghost use Rattle.base_bytes.specs.Answers.{found_value};
 ghost use Rattle.table_rule.specs.declared.content.MemberVersions.{MemberVersions};
 ghost use Rattle.table_rule.specs.declared.content.Version.{Version};
 ghost use Rattle.table_rule.specs.declared.view.Launched.{Launched};
@@ -16,12 +16,12 @@ use crate::launching::Turn;
 use crate::member::Handed;
 use crate::seat::TableSeat;
 use crate::shared::SharedTable;
+use base_bytes::{Found, Rows};
+use model_base::NoMemory;
 use std::alloc::Global;
 use std::marker::Brand;
 use std::sync::Wait;
 use table_calls::{Finished, GroupParts, VersionNodes, VersionTree};
-use wp_coding::{Found, Rows};
-use wp_model::NoMemory;
 
 impl<T: VersionTree<N::Node> + Drop, N: VersionNodes + Drop> TableSeat<T, N> {
     /// The client's number.

@@ -12,11 +12,11 @@ use crate::launching::Turn;
 use crate::seat::TableSeat;
 use crate::shared::{Client, SharedTable};
 use atomic_table::{Seat, Table};
+use base_waiting::{Bell, Bells};
+use model_base::NoMemory;
 use std::alloc::Global;
 use table_calls::{Seats, VersionNode, VersionNodes, VersionTree};
 use table_rule::{Content, First, Opening, TableLaw, Versioned, View};
-use waiting::{Bell, Bells};
-use wp_model::NoMemory;
 
 /// The words where no lock is taken and no group is launched.
 fn first_words(alloc: Global, opening: &Opening) -> Result<Vec<u64>, NoMemory>

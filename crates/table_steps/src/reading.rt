@@ -1,7 +1,7 @@
 //! Look-ups in a shard, as of what the seat has seen.
 ghost use Rattle.std.specs.Prelude.{◌≡◌, ℕ, ◌<◌, List, IfOk};
-ghost use Rattle.wp_model.specs.Map.{value_at, rows_within};
-ghost use Rattle.wp_coding.specs.Answers.{found_value};
+ghost use Rattle.model_base.specs.Map.{value_at, rows_within};
+ghost use Rattle.base_bytes.specs.Answers.{found_value};
 ghost use Rattle.table_rule.specs.declared.content.MemberVersions.{MemberVersions};
 ghost use Rattle.table_rule.specs.declared.content.Version.{Version};
 ghost use Rattle.table_rule.specs.declared.view.Lock.TheVariants.{Free};
@@ -10,11 +10,11 @@ ghost use Rattle.table_rule.specs.Histories.{Runs, IsOrderUpTo, last_of, version
 ghost use Rattle.table_rule.specs.Steps.{IsAt};
 
 use crate::shared::{Client, SharedTable};
+use base_bytes::{Bytes, Found, Rows};
+use model_base::NoMemory;
 use std::alloc::Global;
 use std::sync::Wait;
 use table_calls::{VersionNode, VersionNodes, VersionTree};
-use wp_coding::{Bytes, Found, Rows};
-use wp_model::NoMemory;
 
 /// What a tree has of a key as of a sequence.
 fn copied<B: VersionNode, T: VersionTree<B>>(

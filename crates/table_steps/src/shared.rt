@@ -11,12 +11,12 @@ ghost use Rattle.table_rule.specs.Steps.{IsAt, IsClient};
 ghost use Rattle.table_steps.specs.Seen.{Locked, Sees};
 
 use atomic_table::{Seat, Table};
+use base_waiting::{Bell, Bells};
 use crossbeam_utils::Backoff;
 use std::alloc::Global;
 use std::sync::Wait;
 use table_calls::{VersionNodes, VersionTree};
 use table_rule::{Content, Learn, LockShard, Opening, TableLaw, UnlockShard, Versioned, View};
-use waiting::{Bell, Bells};
 
 /// The words and slots of a table. `T` are its trees, and `N` a member's nodes.
 #[derive(Drop)]

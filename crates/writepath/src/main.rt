@@ -2,11 +2,11 @@
 //! clock.
 #![tactic(auto)]
 
+use base_devices::{FileDisk, RealClock, StdSink, StdSource};
+use program_call::{Ended, run};
 use std::env;
 use std::io::{self, ErrorKind};
 use std::process::ExitCode;
-use wp_edge::{FileDisk, RealClock, StdSink, StdSource};
-use writepath_top::{Ended, run};
 
 /// The exit status where there is no memory for the arguments.
 const OUT_OF_MEMORY: u8 = 6;

@@ -1,4 +1,4 @@
-use Rattle.wp_model.specs.Log.{text}
+use Rattle.model_base.specs.Log.{text}
 use Rattle.log_laws.proofs.Written.{text_spells}
 use Rattle.log_laws.proofs.Crash.{reads_front}
 use Rattle.log_laws.proofs.Recovers.{recovers_front}

@@ -1,6 +1,6 @@
 use Rattle.std.proofs.Common.{◌≡◌, None, length, map, take, ap, arith, length-take}
-use Rattle.wp_model.specs.Log.{text}
-use Rattle.wp_model.specs.Recovery.{logged_bytes}
+use Rattle.model_base.specs.Log.{text}
+use Rattle.model_base.specs.Recovery.{logged_bytes}
 use Rattle.log_laws.proofs.Placed.{length_map}
 use Rattle.log_laws.proofs.Written.{text_spells}
 use Rattle.log_laws.proofs.Crash.{reads_front}

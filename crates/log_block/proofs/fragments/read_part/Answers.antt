@@ -1,10 +1,10 @@
 use Rattle.std.proofs.Common.{◌≡◌, ℕ, ◌+◌, ◌-◌, ◌≤◌, List, ◌∷◌, length, take, drop, slice_index, None, cond, refl, sym, ◌∙◌, ap, arith, length-drop, eq-eqb}
 use Rattle.std.proofs.lemmas.Bool.{ne_eqb, false≢true}
 use Rattle.std.proofs.lemmas.List.{drop-drop}
-use Rattle.wp_model.specs.Checksum.{crc32c, masked}
-use Rattle.wp_model.specs.Log.{Kind, kind_code}
-use Rattle.wp_model.specs.Reading as reading
-use Rattle.wp_model.specs.declared.log.Damage.TheVariants.{BadType, BadChecksum}
+use Rattle.model_base.specs.Checksum.{crc32c, masked}
+use Rattle.model_base.specs.Log.{Kind, kind_code}
+use Rattle.model_base.specs.Reading as reading
+use Rattle.model_base.specs.declared.log.Damage.TheVariants.{BadType, BadChecksum}
 use Rattle.log_block.specs.Fragments.{StandsThere}
 use Rattle.log_block.proofs.Fields.{length_read, checksum_read, rest_is}
 use Rattle.log_block.proofs.Types.{IsCode, some_kind, no_kind}

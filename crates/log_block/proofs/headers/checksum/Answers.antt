@@ -1,5 +1,5 @@
 use Rattle.std.proofs.Common.{[], ◌∷◌, ap, sym, ◌∙◌}
-use Rattle.wp_model.specs.Checksum.{masked}
+use Rattle.model_base.specs.Checksum.{masked}
 use Rattle.log_block.proofs.headers.checksum.Goals as goal
 
 pub returns : goal.returns

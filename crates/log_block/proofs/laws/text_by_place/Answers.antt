@@ -1,6 +1,6 @@
 use Rattle.std.proofs.Common.{ℕ, ◌-◌, ◌%◌, List, ◌∷◌, length, None, refl, sym, ◌∙◌}
 use Rattle.std.specs.Int.{div_ceil}
-use Rattle.wp_model.specs.Log.{parts_of, as_fragments}
+use Rattle.model_base.specs.Log.{parts_of, as_fragments}
 use Rattle.log_block.specs.declared.pieces.Piece.{Piece}
 use Rattle.log_block.specs.Cutting.{first_piece, later_pieces}
 use Rattle.log_block.proofs.Cuts.{whole_are}

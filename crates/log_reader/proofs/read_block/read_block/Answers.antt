@@ -1,5 +1,5 @@
 use Rattle.std.proofs.Common.{◌≡◌, ◌+◌, ◌-◌, ◌≤◌, length, drop, Option, IfSome, ◌∙◌, subst, arith, length-take, length-drop}
-use Rattle.wp_edge.specs.Disk.{Disk}
+use Rattle.base_devices.specs.Disk.{Disk}
 use Rattle.log_reader.proofs.Time.{more_read}
 use Rattle.log_reader.proofs.FromDisk.{if_both, if_one, Before, Gives, read_more, read_none, read_whole, read_to_end, length-put}
 use borrow.Rule.Slice.PartMut.{put_mid}

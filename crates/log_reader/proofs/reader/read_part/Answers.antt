@@ -1,7 +1,7 @@
 use Rattle.std.proofs.Common.{◌+◌, ℕ, length, None, IfSome, sym, ◌∙◌, ap, subst}
-use Rattle.wp_edge.specs.Disk.{Disk}
-use Rattle.wp_model.specs.declared.log.EndReason.TheVariants as ends
-use Rattle.wp_model.specs.Reading.{ReadingEnds}
+use Rattle.base_devices.specs.Disk.{Disk}
+use Rattle.model_base.specs.declared.log.EndReason.TheVariants as ends
+use Rattle.model_base.specs.Reading.{ReadingEnds}
 use Rattle.log_block.specs.declared.fragments.Seen.{Seen}
 use Rattle.log_block.specs.declared.fragments.Seen.TheVariants as seen
 use Rattle.log_reader.specs.declared.window.Window.{Window}

@@ -1,7 +1,7 @@
 use Rattle.std.proofs.Common.{◌≡◌, ℕ, List, Option, Some, None, sym, ◌∙◌, ap, subst}
-use Rattle.wp_model.specs.declared.log.EndReason.TheVariants as ends
-use Rattle.wp_model.specs.Log.{Kind}
-use Rattle.wp_model.specs.Reading.{ReadingEnds}
+use Rattle.model_base.specs.declared.log.EndReason.TheVariants as ends
+use Rattle.model_base.specs.Log.{Kind}
+use Rattle.model_base.specs.Reading.{ReadingEnds}
 use Rattle.log_reader.specs.declared.reader.Continuation.{Continuation}
 use Rattle.log_reader.specs.Windows.{offset_of, bytes_of}
 use Rattle.log_reader.specs.Records.{IsRecord}

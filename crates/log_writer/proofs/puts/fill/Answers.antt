@@ -1,5 +1,5 @@
 use Rattle.std.proofs.Common.{◌≡◌, ℕ, ◌+◌, ◌-◌, ◌++◌, List, length, take, drop, None, ◌∙◌, ap, arith, length-take, length-drop}
-use Rattle.wp_model.specs.Log as log
+use Rattle.model_base.specs.Log as log
 use Rattle.log_writer.proofs.Filling.{part_there, filled}
 use Rattle.log_writer.proofs.puts.fill.Goals as goal
 

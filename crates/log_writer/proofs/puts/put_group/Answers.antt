@@ -1,5 +1,5 @@
 use Rattle.std.proofs.Common.{List, ℕ, None}
-use Rattle.wp_model.specs.Log as log
+use Rattle.model_base.specs.Log as log
 use Rattle.log_writer.specs.Groups.{record_of_group}
 use Rattle.log_writer.proofs.Putting.{puts_ok, puts_err, puts_synced}
 use Rattle.log_writer.proofs.puts.put_group.Goals as goal

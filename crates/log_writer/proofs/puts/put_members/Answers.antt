@@ -1,10 +1,10 @@
 use Rattle.std.proofs.Common.{◌≡◌, ◌+◌, ◌++◌, ℕ, List, length, false, None, IfOk, sym, ◌∙◌, ap, subst, arith, length-append}
 use Rattle.std.proofs.lemmas.List.{append-nil}
 use Rattle.std.proofs.lemmas.List.Concat.{length-flat_map}
-use Rattle.wp_model.specs.Batch.{body}
-use Rattle.wp_model.specs.Batch as model
-use Rattle.wp_model.specs.Log as log
-use Rattle.write_batch.specs.Contents.{Contents}
+use Rattle.model_base.specs.Batch.{body}
+use Rattle.model_base.specs.Batch as model
+use Rattle.model_base.specs.Log as log
+use Rattle.log_batch.specs.Contents.{Contents}
 use Rattle.log_writer.specs.Groups.{bodies_of, record_of_group}
 use Rattle.log_writer.specs.Puts.{Puts}
 use Rattle.log_writer.proofs.Members.{record_is, only_member}

@@ -1,5 +1,5 @@
 use Rattle.std.proofs.Common.{◌-◌, ℕ, ◌++◌, List, take, replicate, None, false, subst}
-use Rattle.wp_model.specs.Log as log
+use Rattle.model_base.specs.Log as log
 use Rattle.log_writer.specs.Puts.{Puts}
 use Rattle.log_writer.proofs.Putting.{puts_more, puts_cut}
 use Rattle.log_writer.proofs.puts.put_piece.Goals as goal

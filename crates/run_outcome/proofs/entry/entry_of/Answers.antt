@@ -1,8 +1,8 @@
 use Rattle.std.specs.Prelude.{Some}
 use Rattle.std.proofs.Common.{◌≡◌, ℕ, ◌+◌, ◌-◌, ◌^◌, min, ap, sym, ◌∙◌}
-use Rattle.wp_model.specs.Batch.{count_of}
-use Rattle.write_batch.specs.Contents.{Contents}
-use Rattle.batch_list.specs.declared.kept.Kept.{Kept}
+use Rattle.model_base.specs.Batch.{count_of}
+use Rattle.log_batch.specs.Contents.{Contents}
+use Rattle.run_batches.specs.declared.kept.Kept.{Kept}
 use Rattle.run_outcome.specs.Histories.{last_in, entry_of}
 use Rattle.run_outcome.proofs.Entries.{entries_of-at}
 use Rattle.run_outcome.proofs.entry.entry_of.Goals as goal

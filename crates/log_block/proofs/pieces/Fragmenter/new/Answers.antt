@@ -1,6 +1,6 @@
 use Rattle.std.proofs.Common.{◌≡◌, ℕ, ◌-◌, ◌%◌, List, ◌∷◌, length, None, sym, subst, arith}
 use Rattle.std.specs.Int.{div_ceil}
-use Rattle.wp_model.specs.Log as log
+use Rattle.model_base.specs.Log as log
 use Rattle.log_block.specs.declared.pieces.Piece.{Piece}
 use Rattle.log_block.specs.Pieces as pieces
 use Rattle.log_block.specs.Cutting as cutting

@@ -1,5 +1,5 @@
 use Rattle.std.proofs.Common.{◌≡◌, length, Option, IfSome, subst, ◌∙◌, arith}
-use Rattle.wp_edge.specs.Disk.{Disk}
+use Rattle.base_devices.specs.Disk.{Disk}
 use Rattle.log_block.specs.declared.fragments.Seen.TheVariants as seen
 use Rattle.log_reader.proofs.Time.{more_read}
 use Rattle.log_reader.specs.Windows.{IsOn, offset_of, SeesNext, bytes_of}

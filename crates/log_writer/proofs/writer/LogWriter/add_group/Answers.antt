@@ -1,5 +1,5 @@
 use Rattle.std.proofs.Common.{[], ◌∷◌, length, None}
-use Rattle.wp_model.specs.Log.{record_text}
+use Rattle.model_base.specs.Log.{record_text}
 use Rattle.log_writer.specs.Groups.{record_of_group}
 use Rattle.log_writer.proofs.Keeping.{crash_keeps, leaves_safe, leaves_same, durable, len_more}
 use Rattle.log_writer.proofs.writer.LogWriter.add_group.Goals as goal

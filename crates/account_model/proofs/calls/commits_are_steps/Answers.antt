@@ -1,5 +1,0 @@
-use Rattle.account_model.proofs.calls.commits_are_steps.Goals as goal
-use Rattle.account_model.proofs.Goings.{goes_add, goes_clear, goes_accepted, goes_refused, lacks_commit}
-
-pub returns : goal.returns
-returns c = record { added = goes_add; cleared = goes_clear; accepted = goes_accepted; refused = goes_refused; out_of_memory = lacks_commit }

@@ -1,6 +1,0 @@
-use Rattle.account_model.proofs.closings.led_groups.Goals as goal
-use Rattle.account_model.proofs.Wholes.{whole_of_queue}
-use Rattle.account_model.proofs.Leading.{groups_from_led, slowed_holds}
-
-pub returns : goal.returns
-returns c = record { whole = whole_of_queue; groups = groups_from_led; slowed = slowed_holds }

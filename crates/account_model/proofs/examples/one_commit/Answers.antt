@@ -1,5 +1,0 @@
-use Rattle.account_model.proofs.OneBatch as batch
-use Rattle.account_model.proofs.examples.one_commit.Goals as goal
-
-pub returns : goal.returns
-returns c = record { wrote = batch.wrote; run = batch.run; closing = batch.closing }

@@ -1,5 +1,0 @@
-use Rattle.account_model.proofs.runs.calls_one_after_another.Goals as goal
-use Rattle.account_model.proofs.Passing.{went_none, went_more}
-
-pub returns : goal.returns
-returns c = record { no_call = went_none; one_more = went_more }

@@ -1,0 +1,81 @@
+-- The checksum of the definition is the turned register that has taken in all bytes, from one of ones.
+use Rattle.std.proofs.Common.{◌≡◌, ℕ, ◌+◌, ◌^◌, ◌≤◌, Bool, true, false, not, List, [], ◌∷◌, ◌++◌, map, length, take, drop, fold, flat_map, replicate, refl, sym, ap, ◌∙◌, arith, length-append, length-take, take-append-drop, w32}
+use Rattle.std.specs.Int.{bit_not}
+use Rattle.std.proofs.lemmas.List.Sums.{fold-append}
+use Rattle.model_base.specs.Checksum.{low_bits, remainder, dividend, crc32c}
+use Rattle.base_bytes.specs.Register.{step, shift, take_in, take_in_byte}
+use Rattle.base_bytes.proofs.Crc.Register.{fold_step-turned, shift-fold_step, fold_step-zeros}
+use Rattle.base_bytes.proofs.Crc.Division.{Mirrors-remainder, number_of_bits-not}
+
+-- the bits of bytes are taken in byte by byte
+fold_take_in-bits : (bytes : List ℕ) (n : ℕ) → fold take_in n (flat_map (low_bits 8) bytes) ≡ fold take_in_byte n bytes
+unfolding take_in_byte
+fold_take_in-bits [] n = refl
+fold_take_in-bits (byte ∷ bytes) n =
+    fold-append take_in n (low_bits 8 byte) (flat_map (low_bits 8) bytes) ∙ fold_take_in-bits bytes (fold take_in n (low_bits 8 byte))
+
+-- a list with each bit put to one
+map-true : (bits : List Bool) → map (λ _. true) bits ≡ replicate (length bits) true
+map-true [] = refl
+map-true (b ∷ bits) = ap (λ bs. true ∷ bs) (map-true bits)
+
+-- the register from which the division of a dividend that is not turned goes as that of the turned one from 0
+abbrev first : ℕ
+first = 0x641f6454
+
+-- 32 ones take it to nothing
+first-ones : fold step first (replicate 32 true) ≡ 0
+unfolding step
+first-ones = refl
+
+-- and 32 zeros to ones
+shift-first : shift 32 first ≡ 0xffffffff
+unfolding shift step
+shift-first = refl
+
+-- to turn the first 32 coefficients is to begin with that register
+fold_step-turned_front : (bits : List Bool) → 32 ≤ length bits
+    → fold step 0 (map not (take 32 bits) ++ drop 32 bits) ≡ fold step first bits
+fold_step-turned_front bits long =
+    let front : length (take 32 bits) ≡ 32 = omega (arith, length-take 32 bits) in
+    let none = ap (λ k. fold step first (replicate k true)) front ∙ first-ones in
+    let turned = fold_step-turned (take 32 bits) first 0 (ap (fold step first) (map-true (take 32 bits)) ∙ none) in
+    fold-append step 0 (map not (take 32 bits)) (drop 32 bits)
+    ∙ ap (λ n. fold step n (drop 32 bits)) (sym turned)
+    ∙ sym (fold-append step first (take 32 bits) (drop 32 bits))
+    ∙ ap (fold step first) (take-append-drop 32 bits)
+
+-- the division of the dividend
+fold_step-dividend : (bytes : List ℕ) → fold step 0 (dividend bytes) ≡ fold take_in_byte 0xffffffff bytes
+fold_step-dividend bytes =
+    let bits = flat_map (low_bits 8) bytes in
+    let zeros = replicate 32 false in
+    fold_step-turned_front (bits ++ zeros) (omega (arith, length-append bits zeros))
+    ∙ fold-append step first bits zeros
+    ∙ fold_step-zeros 32 (fold step first bits)
+    ∙ shift-fold_step bits first
+    ∙ ap (λ n. fold take_in n bits) shift-first
+    ∙ fold_take_in-bits bytes 0xffffffff
+
+-- the checksum is what the register lacks of 32 ones
+crc32c-turned : (bytes : List ℕ) → crc32c bytes + fold take_in_byte 0xffffffff bytes + 1 ≡ 2 ^ 32
+crc32c-turned bytes =
+    let m = Mirrors-remainder (dividend bytes) in
+    let turned = number_of_bits-not (remainder (dividend bytes)) ∙ ap (λ k. 2 ^ k) m.long in
+    omega (arith, m.same, fold_step-dividend bytes)
+
+-- the checksum by bytes
+crc32c-fold : (bytes : List ℕ) → crc32c bytes ≡ bit_not w32 (fold take_in_byte 0xffffffff bytes)
+crc32c-fold bytes = omega (arith, crc32c-turned bytes)
+
+-- the register that a checksum turns
+fold_take_in_byte-crc32c : (bytes : List ℕ) → fold take_in_byte 0xffffffff bytes ≡ bit_not w32 (crc32c bytes)
+fold_take_in_byte-crc32c bytes = omega (arith, crc32c-turned bytes)
+
+-- the checksum of bytes that follow others
+pub crc32c-append : (front bytes : List ℕ)
+    → crc32c (front ++ bytes) ≡ bit_not w32 (fold take_in_byte (bit_not w32 (crc32c front)) bytes)
+crc32c-append front bytes =
+    crc32c-fold (front ++ bytes)
+    ∙ ap (bit_not w32) (fold-append take_in_byte 0xffffffff front bytes)
+    ∙ ap (λ n. bit_not w32 (fold take_in_byte n bytes)) (fold_take_in_byte-crc32c front)

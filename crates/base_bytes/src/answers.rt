@@ -1,0 +1,164 @@
+//! What reads answer, the same in each layer.
+
+ghost use Rattle.std.specs.Prelude.{◌≡◌, [], ◌∷◌, ◌++◌, length, map, OnOk, OnErr};
+ghost use Rattle.base_bytes.specs.Answers.{found_value};
+
+use crate::Bytes;
+use model_base::NoMemory;
+use std::alloc::Global;
+use std::marker::Model;
+
+/// What a look-up finds of a key. Contracts see a value or none, by `found_value`.
+#[derive(Debug, PartialEq, Eq, Drop)]
+pub enum Found {
+    /// No value.
+    Absent,
+    /// This value.
+    Value(Bytes),
+}
+
+/// A look-up at a sequence: the sequence, and what was found there.
+#[derive(Debug, PartialEq, Eq, Drop)]
+pub struct Read {
+    pub at: u64,
+    pub value: Found,
+}
+
+/// Look-ups of several keys at one sequence, in the order in which the keys were asked.
+#[derive(Debug, Drop)]
+pub struct Reads {
+    pub at: u64,
+    pub values: FoundList,
+}
+
+/// The keys of a range with their values at a sequence, in the byte order of the keys.
+#[derive(Debug, Drop)]
+pub struct Rows {
+    pub at: u64,
+    pub rows: PairList,
+}
+
+/// A list of look-ups. Contracts see a list of values or none.
+#[derive(Debug, Drop)]
+pub struct FoundList {
+    items: Vec<Found>,
+}
+
+impl Model for FoundList {
+    ghost use Rattle.std.specs.Prelude.{List, ℕ, Option, map};
+    ghost use Rattle.base_bytes.specs.Answers.{found_value};
+
+    ghost Value = { List (Option (List ℕ)) };
+
+    ghost view = { λ l. map found_value l.items.items };
+}
+
+impl FoundList {
+    /// No look-ups. This takes no memory.
+    pub fn new(alloc: Global) -> FoundList
+        ensures { result ≡ [] }
+    {
+        FoundList {
+            items: Vec::new(alloc),
+        }
+    }
+
+    /// Those of a `Vec`, in its order. This takes no memory.
+    pub fn from_vec(items: Vec<Found>) -> FoundList
+        ensures { result ≡ map found_value items.items }
+    {
+        FoundList { items }
+    }
+
+    /// The `Vec` of the look-ups. This takes no memory.
+    pub fn into_vec(self) -> Vec<Found>
+        ensures { map found_value result.items ≡ self }
+    {
+        self.items
+    }
+
+    /// Puts a look-up behind the others.
+    pub fn push(&mut self, found: Found) -> Result<(), NoMemory>
+        ensures ok { OnOk result (self.new ≡ self.old ++ found_value found ∷ []) }
+        ensures err { OnErr result (self.new ≡ self.old) }
+    {
+        self.items.push(found)?;
+        Ok(())
+    }
+
+    /// How many there are.
+    pub fn len(&self) -> usize
+        ensures { result ≡ length self.now }
+    {
+        self.items.len()
+    }
+
+    /// The look-ups.
+    pub fn as_slice(&self) -> &[Found]
+        ensures { map found_value result.now ≡ self.now }
+    {
+        &self.items
+    }
+}
+
+/// A list of keys with their values. Contracts see a list of pairs of lists of bytes.
+#[derive(Debug, Drop)]
+pub struct PairList {
+    items: Vec<(Bytes, Bytes)>,
+}
+
+impl Model for PairList {
+    ghost use Rattle.model_base.specs.Map.{Pairs};
+
+    ghost Value = { Pairs };
+
+    ghost view = { λ l. l.items.items };
+}
+
+impl PairList {
+    /// No pairs. This takes no memory.
+    pub fn new(alloc: Global) -> PairList
+        ensures { result ≡ [] }
+    {
+        PairList {
+            items: Vec::new(alloc),
+        }
+    }
+
+    /// Those of a `Vec`, in its order. This takes no memory.
+    pub fn from_vec(items: Vec<(Bytes, Bytes)>) -> PairList
+        ensures { result ≡ items.items }
+    {
+        PairList { items }
+    }
+
+    /// The `Vec` of the pairs. This takes no memory.
+    pub fn into_vec(self) -> Vec<(Bytes, Bytes)>
+        ensures { result.items ≡ self }
+    {
+        self.items
+    }
+
+    /// Puts a key and its value behind the others.
+    pub fn push(&mut self, key: Bytes, value: Bytes) -> Result<(), NoMemory>
+        ensures ok { OnOk result (self.new ≡ self.old ++ (key, value) ∷ []) }
+        ensures err { OnErr result (self.new ≡ self.old) }
+    {
+        self.items.push((key, value))?;
+        Ok(())
+    }
+
+    /// How many there are.
+    pub fn len(&self) -> usize
+        ensures { result ≡ length self.now }
+    {
+        self.items.len()
+    }
+
+    /// The pairs.
+    pub fn as_slice(&self) -> &[(Bytes, Bytes)]
+        ensures { result.now ≡ self.now }
+    {
+        &self.items
+    }
+}

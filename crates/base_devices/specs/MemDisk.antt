@@ -1,0 +1,59 @@
+-- What a disk in memory shows.
+use Rattle.std.specs.Prelude.{◌≡◌, ◌⊎◌, ℕ, ◌+◌, Bool, nat_lt, List, length, take, drop, slice_set, Option, Some}
+use Rattle.base_devices.specs.Disk.{Disk, IsImage}
+use Rattle.base_devices.specs.Eras.{WasImage, told_from}
+use Rattle.base_devices.specs.Listed.{Listed}
+use Rattle.base_devices.specs.declared.mem_disk.MemDisk.{MemDisk}
+
+-- the content, how much of it is safe, and how far writes came
+abbrev pub disk_of : MemDisk → Disk
+disk_of d = record { content = d.content.items; synced = d.synced; reach = d.reach }
+
+abbrev pub told_of : MemDisk → Option Disk
+told_of d = Some (disk_of d)
+
+-- how many bytes it has
+abbrev pub len_of : MemDisk → ℕ
+len_of d = length (disk_of d).content
+
+-- how many bytes the content may have
+abbrev pub capacity_of : MemDisk → ℕ
+capacity_of d = d.capacity
+
+-- so many more bytes are too many
+abbrev pub has_no_room : MemDisk → ℕ → Bool
+has_no_room d more = nat_lt (capacity_of d) (len_of d + more)
+
+-- its first bytes, as a crash may leave them
+abbrev pub cut_to : ℕ → Disk → Disk
+cut_to len d = record { content = take len d.content; synced = len; reach = len }
+
+-- with another byte at a place
+abbrev pub with_byte : Disk → ℕ → ℕ → Disk
+with_byte d at byte = record d { content = slice_set d.content at byte }
+
+-- the calls that are to fail, those made, and the faults
+abbrev pub disk_calls : MemDisk → Listed
+disk_calls d = d.calls
+
+-- how many eras have ended
+abbrev pub moment_of : MemDisk → ℕ
+moment_of d = length d.past.items
+
+-- the first moment of which it tells what a crash might have left
+abbrev pub from_of : MemDisk → ℕ
+from_of d = told_from d.forgot d.past.items
+
+-- what a crash might have left since a moment: now, or in an era that ended since then
+abbrev pub since_of : MemDisk → ℕ → List ℕ → Type 0
+since_of d t image = IsImage (disk_of d) image ⊎ WasImage d.content.items (drop t d.past.items) image
+
+-- it tells of crashes from now on
+pub record StartsAnew (d : MemDisk) : Type 0 where
+  pub moment : moment_of d ≡ 0
+  pub from : from_of d ≡ 0
+
+-- no era has ended
+pub record SameEra (old new : MemDisk) : Type 0 where
+  pub moment : moment_of new ≡ moment_of old
+  pub from : from_of new ≡ from_of old

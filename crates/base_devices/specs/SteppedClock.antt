@@ -1,0 +1,11 @@
+-- What a stepped clock shows.
+use Rattle.std.specs.Prelude.{ℕ, Option}
+use Rattle.base_devices.specs.declared.stepped_clock.SteppedClock.{SteppedClock}
+
+-- the moment that it stands at
+abbrev pub clock_at : SteppedClock → ℕ
+clock_at c = c.at
+
+-- the last moment that it answered
+abbrev pub clock_answered : SteppedClock → Option ℕ
+clock_answered c = c.answered

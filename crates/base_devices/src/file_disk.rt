@@ -1,0 +1,113 @@
+//! A file as a disk.
+
+ghost use Rattle.std.specs.Prelude.{◌≡◌, MatchResult, IsErr};
+ghost use Rattle.base_devices.specs.Faults.{HasCause};
+
+use crate::failed::count_fault;
+use crate::system_file::SystemFile;
+use crate::{Disk, Failed};
+use std::fs::File;
+use std::io;
+use std::rt::Files;
+
+/// A file of the system as a disk. It tells nothing of its content. Each error of the system is a fault.
+///
+/// Making one touches nothing. The first `len`, `read` or `sync` opens the file for reading, and the first `append`
+/// opens it for writing, and makes it where there is none. So a file that may only be read can be read, and no file is
+/// made before something is appended. Where there is no file `len` answers 0, `sync` has nothing to do, and `read`
+/// fails. A call that couldn't open it fails, and the next one tries again.
+///
+/// It relies on being the only one that writes to the file, and keeps count of its length from the first call on. As it
+/// opens the file for writing it takes the exclusive lock of `flock`, which it keeps until it is dropped, and it fails
+/// where another one has the lock, or where the file hasn't the length any more that was told. A program that doesn't
+/// ask for the lock isn't kept out. An append writes where the content ends, over what a failed one may have left
+/// there, in one call of the system unless that takes a part only.
+///
+/// `sync` is the system's `fdatasync`: it makes the file's bytes and its length safe. The first one also syncs the
+/// folder that the path names, since the file's entry there may be new. Once a sync of the bytes has failed each later
+/// one fails too: the system may have dropped what it couldn't write, and then a sync that works shows nothing.
+///
+/// It never has the number of a standard stream, also where the caller has closed one: what is meant for the stream
+/// can't come to the file.
+#[derive(Drop)]
+pub struct FileDisk<R: Drop> {
+    file: SystemFile<R>,
+    faults: u64,
+}
+
+impl<R: Files<File = File> + Drop> FileDisk<R> {
+    ghost use Rattle.base_devices.specs.FileDisk.{file_added, file_faults};
+
+    /// The file of this path as a disk. It touches nothing yet.
+    pub fn new(runtime: R, path: String) -> Self
+        ensures added { file_added result ≡ 0 }
+        ensures faults { file_faults result ≡ 0 }
+    {
+        FileDisk {
+            file: SystemFile::new(runtime, path),
+            faults: 0,
+        }
+    }
+
+    /// Counts a fault where a call of the file failed.
+    fn answer<T: Drop>(&mut self, done: io::Result<T>) -> Result<T, Failed>
+        ensures answer { MatchResult done (λ answer. result ≡ Ok answer) (λ _. IsErr result) }
+        ensures added { file_added self.new ≡ file_added self.old }
+        ensures cause { HasCause (file_faults self.old) (file_faults self.new) result }
+    {
+        match done {
+            Ok(answer) => Ok(answer),
+            Err(_) => Err(count_fault(&mut self.faults)),
+        }
+    }
+}
+
+impl<R: Files<File = File> + Drop> Disk for FileDisk<R> {
+    ghost use Rattle.std.specs.Prelude.{None, ⊤};
+    ghost use Rattle.base_devices.specs.FileDisk.{file_added, file_faults, file_added_is_small};
+
+    ghost told = { λ _. None };
+
+    ghost added = { file_added };
+
+    // Nothing is told of crashes, so anything might have been left.
+    ghost moment = { λ _. 0 };
+
+    ghost from = { λ _. 0 };
+
+    ghost since = { λ _ _ _. ⊤ };
+
+    ghost faults = { file_faults };
+
+    ghost is_disk = { λ _. tt };
+
+    ghost added_small = { file_added_is_small };
+
+    ghost counts_now = { λ _ _ _ _ _. tt };
+
+    ghost only_now = { λ _ _ _ _. tt };
+
+    fn faults(&self) -> u64 {
+        self.faults
+    }
+
+    fn len(&mut self) -> Result<u64, Failed> {
+        let done = self.file.len();
+        self.answer(done)
+    }
+
+    fn read(&mut self, at: u64, buf: &mut [u8]) -> Result<usize, Failed> {
+        let done = self.file.read(at, buf);
+        self.answer(done)
+    }
+
+    fn append(&mut self, piece: &[u8]) -> Result<(), Failed> {
+        let done = self.file.append(piece);
+        self.answer(done)
+    }
+
+    fn sync(&mut self) -> Result<(), Failed> {
+        let done = self.file.sync();
+        self.answer(done)
+    }
+}

@@ -1,0 +1,51 @@
+//! The system's clock.
+
+ghost use Rattle.std.specs.Prelude.{◌≡◌, None};
+
+use crate::Clock;
+use std::time::Duration;
+use std::{rt, thread};
+
+/// The system's monotonic clock, in microseconds from a start of the system's own. It tells no moment but those that it
+/// has answered.
+#[derive(Drop)]
+pub struct RealClock<R: Drop> {
+    runtime: R,
+    answered: Option<u64>,
+}
+
+impl<R: rt::Clock + Drop> RealClock<R> {
+    ghost use Rattle.base_devices.specs.RealClock.{real_answered};
+
+    /// The clock of this runtime, which has answered no moment yet.
+    pub fn new(runtime: R) -> Self
+        ensures answered { real_answered result ≡ None }
+    {
+        RealClock {
+            runtime,
+            answered: None,
+        }
+    }
+}
+
+impl<R: rt::Clock + Drop> Clock for RealClock<R> {
+    ghost use Rattle.base_devices.specs.RealClock.{real_answered};
+
+    ghost last = { real_answered };
+
+    // Where the clock can't be read it answers the last moment again, and 0 where there is none. Past the greatest
+    // `u64` it stands still.
+    fn now(&mut self) -> u64 {
+        let moment = match self.runtime.monotonic() {
+            Ok(since_start) => u64::try_from(since_start.as_micros()).unwrap_or(u64::MAX),
+            Err(_) => self.answered.unwrap_or(0),
+        };
+        self.answered = Some(moment);
+        moment
+    }
+
+    // It sleeps.
+    fn pause(&mut self, micros: u64) {
+        thread::sleep(&self.runtime, Duration::from_micros(micros));
+    }
+}

@@ -1,0 +1,226 @@
+//! A file of the system, opened only as far as it is used.
+
+ghost use Rattle.std.specs.Prelude.{◌≡◌, ◌+◌, ◌^◌, ◌<◌, ◌≤◌, length, true, false, IfOk, OnOk};
+
+use std::fs::{File, OpenOptions};
+use std::io::{self, ErrorKind};
+use std::os::fd::AsRawFd;
+use std::os::unix::fs::FileExt;
+use std::path::Path;
+use std::rt::Files;
+
+/// The most bytes that a file may have.
+const MAX_LEN: u64 = (1 << 63) - 1;
+
+/// The number of standard error, the last of the standard streams.
+const LAST_STREAM: i32 = 2;
+
+/// A file of the system. It has `len` bytes, whatever a failed append may have left after them.
+#[derive(Drop)]
+pub(crate) struct SystemFile<R: Drop> {
+    runtime: R,
+    path: String,
+    /// The open file.
+    file: Option<File>,
+    /// Whether it is open for writing too, and locked.
+    writes: bool,
+    /// Whether its length was asked for.
+    measured: bool,
+    /// How many bytes it had then.
+    start: u64,
+    len: u64,
+    /// Whether its entry in its folder is safe.
+    entry_synced: bool,
+    /// Whether a sync of its bytes failed.
+    sync_failed: bool,
+    ghost unmeasured: { measured ≡ false → len ≡ 0 },
+    ghost written: { writes ≡ true → measured ≡ true },
+    ghost grown: { start ≤ len },
+    ghost small: { len < 2 ^ 63 },
+}
+
+impl<R: Files<File = File> + Drop> SystemFile<R> {
+    ghost use Rattle.base_devices.specs.Disk.{GrowsBy};
+    ghost use Rattle.base_devices.specs.FileDisk.{added_to};
+
+    /// The file of this path. It touches nothing yet.
+    pub(crate) fn new(runtime: R, path: String) -> Self
+        ensures { added_to result ≡ 0 }
+    {
+        SystemFile {
+            runtime,
+            path,
+            file: None,
+            writes: false,
+            measured: false,
+            start: 0,
+            len: 0,
+            entry_synced: false,
+            sync_failed: false,
+        }
+    }
+
+    /// How many bytes the file has. One that isn't there has none.
+    pub(crate) fn len(&mut self) -> io::Result<u64>
+        ensures small { IfOk result (λ n. n < 2 ^ 63) }
+        ensures adds_none { added_to self.new ≡ added_to self.old }
+    {
+        if !self.is_there()? {
+            self.measure(0)?;
+        }
+        Ok(self.len)
+    }
+
+    /// Copies content from a place on to the start of the buffer.
+    pub(crate) fn read(&mut self, at: u64, buf: &mut [u8]) -> io::Result<usize>
+        ensures at_most { IfOk result (λ n. n ≤ length buf.new) }
+        ensures small { IfOk result (λ n. 0 < n → at + n < 2 ^ 63) }
+        ensures adds_none { added_to self.new ≡ added_to self.old }
+    {
+        self.open_to_read()?;
+        let rest = self.len.saturating_sub(at);
+        let n = rest.min(buf.len() as u64) as usize;
+        self.opened()?.read_exact_at(&mut buf[..n], at)?;
+        Ok(n)
+    }
+
+    /// Writes all of the piece where the content ends.
+    pub(crate) fn append(&mut self, piece: &[u8]) -> io::Result<()>
+        ensures added { GrowsBy (added_to self.old) (added_to self.new) (length piece.now) result }
+    {
+        self.open_to_write()?;
+        let more = piece.len() as u64;
+        if more > MAX_LEN - self.len {
+            return Err(io::Error::from(ErrorKind::FileTooLarge));
+        }
+        self.opened()?.write_all_at(piece, self.len)?;
+        self.len += more;
+        Ok(())
+    }
+
+    /// Makes the content safe, and with the first sync the entry in the folder. A file that isn't there has no content.
+    pub(crate) fn sync(&mut self) -> io::Result<()>
+        ensures adds_none { added_to self.new ≡ added_to self.old }
+    {
+        if !self.is_there()? {
+            return Ok(());
+        }
+        if self.sync_failed {
+            return Err(io::Error::from(ErrorKind::Other));
+        }
+        let synced = self.opened()?.sync_data();
+        self.sync_failed = synced.is_err();
+        synced?;
+        self.sync_entry()
+    }
+
+    /// Makes the entry in the folder safe, where it isn't yet.
+    fn sync_entry(&mut self) -> io::Result<()>
+        ensures adds_none { added_to self.new ≡ added_to self.old }
+    {
+        if !self.entry_synced {
+            self.open_folder()?.sync_all()?;
+            self.entry_synced = true;
+        }
+        Ok(())
+    }
+
+    /// Opens the file for reading, where it isn't open yet, and says whether there is one.
+    fn is_there(&mut self) -> io::Result<bool>
+        ensures adds_none { added_to self.new ≡ added_to self.old }
+    {
+        match self.open_to_read() {
+            Ok(()) => Ok(true),
+            Err(error) if error.kind() == ErrorKind::NotFound => Ok(false),
+            Err(error) => Err(error),
+        }
+    }
+
+    /// Opens the file for reading, where it isn't open yet.
+    fn open_to_read(&mut self) -> io::Result<()>
+        ensures adds_none { added_to self.new ≡ added_to self.old }
+    {
+        if self.file.is_some() {
+            return Ok(());
+        }
+        let file = self.open(OpenOptions::new().read(true))?;
+        let found = file.metadata()?;
+        if found.is_dir() {
+            return Err(io::Error::from(ErrorKind::IsADirectory));
+        }
+        self.measure(found.len())?;
+        self.file = Some(file);
+        Ok(())
+    }
+
+    /// Opens the file for writing too, where that wasn't done yet, and makes it where there is none. It is locked from
+    /// then on: no other program that asks for the lock has it.
+    fn open_to_write(&mut self) -> io::Result<()>
+        ensures ready { OnOk result (self.new.measured ≡ true) }
+        ensures adds_none { added_to self.new ≡ added_to self.old }
+    {
+        if self.writes {
+            return Ok(());
+        }
+        let file = self.open_locked()?;
+        self.measure(file.metadata()?.len())?;
+        self.file = Some(file);
+        self.writes = true;
+        self.entry_synced = false;
+        Ok(())
+    }
+
+    /// Opens the file for reading and writing, and locks it.
+    fn open_locked(&self) -> io::Result<File> {
+        let file = self.open(OpenOptions::new().read(true).write(true).create(true))?;
+        file.try_lock()?;
+        Ok(file)
+    }
+
+    /// Opens the file. Where the caller has closed a standard stream the system gives out its number, and what is meant
+    /// for the stream would land in the file: then it takes a higher number.
+    fn open(&self, options: &OpenOptions) -> io::Result<File> {
+        let file = options.open(&self.runtime, self.path.as_str())?;
+        if file.as_raw_fd() > LAST_STREAM {
+            Ok(file)
+        } else {
+            file.try_clone()
+        }
+    }
+
+    /// Notes the length at first. Later it must be the same.
+    fn measure(&mut self, len: u64) -> io::Result<()>
+        ensures measured { OnOk result (self.new.measured ≡ true) }
+        ensures adds_none { added_to self.new ≡ added_to self.old }
+    {
+        if self.measured {
+            return if len == self.len {
+                Ok(())
+            } else {
+                Err(io::Error::from(ErrorKind::InvalidData))
+            };
+        }
+        if len > MAX_LEN {
+            return Err(io::Error::from(ErrorKind::FileTooLarge));
+        }
+        self.measured = true;
+        self.start = len;
+        self.len = len;
+        Ok(())
+    }
+
+    /// The open file.
+    fn opened(&self) -> io::Result<&File> {
+        self.file
+            .as_ref()
+            .ok_or(io::Error::from(ErrorKind::NotFound))
+    }
+
+    /// Opens the folder that the file lies in.
+    fn open_folder(&self) -> io::Result<File> {
+        match Path::new(self.path.as_str()).parent() {
+            Some(folder) if folder.as_str() != "" => File::open(&self.runtime, folder),
+            _ => File::open(&self.runtime, "."),
+        }
+    }
+}

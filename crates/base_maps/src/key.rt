@@ -1,0 +1,219 @@
+//! A key, compared mostly by bytes that stand in place.
+
+ghost use Rattle.std.specs.Prelude.{◌≡◌, ◌+◌, ◌≤◌, IfOk};
+ghost use Rattle.std.specs.Slice.Scan.{big_endian};
+ghost use lib.Lanes.{chunk};
+ghost use Rattle.model_base.specs.Map.{byte_order};
+ghost use Rattle.base_maps.specs.Fronts.{front_of};
+
+use model_base::NoMemory;
+use std::alloc::Global;
+use std::cmp::Ordering;
+use std::marker::Model;
+
+/// How many bytes of a key stand in place.
+const FRONT_LEN: usize = 16;
+
+/// The first bytes of a key, and zeros behind those of a shorter one. Contracts see these 16 bytes.
+#[derive(Clone, Copy, Debug)]
+pub struct Front {
+    bytes: [u8; FRONT_LEN],
+}
+
+impl Model for Front {
+    ghost use Rattle.std.specs.Prelude.{List, ℕ};
+
+    ghost Value = { List ℕ };
+
+    ghost view = { λ f. f.bytes };
+
+    ghost inverse = { λ bytes. record { bytes = bytes } };
+}
+
+impl Front {
+    /// The front of a key.
+    pub fn of(key: &[u8]) -> Front
+        ensures { result ≡ front_of 16 key.now }
+    {
+        let mut bytes = [0; FRONT_LEN];
+        if key.len() <= FRONT_LEN {
+            bytes[..key.len()].copy_from_slice(key);
+        } else {
+            bytes.copy_from_slice(&key[..FRONT_LEN]);
+        }
+        Front { bytes }
+    }
+
+    /// How it compares to another in byte order.
+    fn order(&self, other: &Front) -> Ordering
+        ensures { result ≡ byte_order self.now other.now }
+    {
+        order_as_numbers(&self.bytes, &other.bytes)
+    }
+}
+
+/// The number that eight bytes from `at` on spell, the highest first.
+fn number_at(bytes: &[u8; FRONT_LEN], at: usize) -> u64
+    requires { at + 8 ≤ FRONT_LEN }
+    ensures { result ≡ big_endian 0 (chunk at 8 bytes.now) }
+{
+    u64::from_be_bytes([
+        bytes[at],
+        bytes[at + 1],
+        bytes[at + 2],
+        bytes[at + 3],
+        bytes[at + 4],
+        bytes[at + 5],
+        bytes[at + 6],
+        bytes[at + 7],
+    ])
+}
+
+/// How the bytes of two fronts compare, as two numbers.
+fn order_as_numbers(bytes: &[u8; FRONT_LEN], other: &[u8; FRONT_LEN]) -> Ordering
+    ensures { result ≡ byte_order bytes.now other.now }
+{
+    let (high, other_high) = (number_at(bytes, 0), number_at(other, 0));
+    if high != other_high {
+        return high.cmp(&other_high);
+    }
+    number_at(bytes, 8).cmp(&number_at(other, 8))
+}
+
+/// How two keys compare that have the same front.
+fn order_behind(key: &[u8], other: &[u8]) -> Ordering
+    requires { front_of 16 key.now ≡ front_of 16 other.now }
+    ensures { result ≡ byte_order key.now other.now }
+{
+    if key.len() <= FRONT_LEN || other.len() <= FRONT_LEN {
+        return key.len().cmp(&other.len());
+    }
+    key[FRONT_LEN..].cmp(&other[FRONT_LEN..])
+}
+
+/// A key. Contracts see its bytes.
+#[derive(Debug, Drop)]
+pub struct Key {
+    front: Front,
+    /// How many bytes the key has.
+    len: usize,
+    /// All bytes, where the front can't hold them.
+    whole: Vec<u8>,
+}
+
+impl Model for Key {
+    ghost use Rattle.std.specs.Prelude.{◌≡◌, List, ℕ};
+    ghost use Rattle.base_maps.specs.Fronts.{bytes_in, front_of};
+
+    ghost Value = { List ℕ };
+
+    ghost view = { λ k. bytes_in k.front k.len k.whole.items };
+
+    ghost invariant = { λ k. front_of 16 (bytes_in k.front k.len k.whole.items) ≡ k.front };
+}
+
+impl Key {
+    /// The key of these bytes. One of at most 16 takes no memory.
+    pub fn copy(alloc: Global, bytes: &[u8]) -> Result<Key, NoMemory>
+        ensures { IfOk result (λ key. key ≡ bytes.now) }
+    {
+        let whole = if bytes.len() <= FRONT_LEN {
+            Vec::new(alloc)
+        } else {
+            bytes.to_vec(alloc)?
+        };
+        Ok(Key {
+            front: Front::of(bytes),
+            len: bytes.len(),
+            whole,
+        })
+    }
+
+    /// Its bytes.
+    pub fn as_slice(&self) -> &[u8]
+        ensures { result.now ≡ self.now }
+    {
+        if self.len <= FRONT_LEN {
+            &self.front.bytes[..self.len]
+        } else {
+            &self.whole
+        }
+    }
+
+    /// How it compares to another in byte order.
+    pub fn order(&self, other: &Key) -> Ordering
+        ensures { result ≡ byte_order self.now other.now }
+    {
+        let order = self.front.order(&other.front);
+        if order.is_ne() {
+            return order;
+        }
+        order_behind(self.as_slice(), other.as_slice())
+    }
+
+    /// How a key whose front is told compares to it in byte order, so that a search makes that front once.
+    pub fn order_of(&self, key: &[u8], front: Front) -> Ordering
+        requires { front ≡ front_of 16 key.now }
+        ensures { result ≡ byte_order key.now self.now }
+    {
+        let order = front.order(&self.front);
+        if order.is_ne() {
+            return order;
+        }
+        order_behind(key, self.as_slice())
+    }
+}
+
+impl PartialEq for Key {
+    ghost use Rattle.std.specs.Prelude.{◌==◌};
+    ghost use Rattle.std.specs.Cmp.{partial_equiv_from_equiv};
+    ghost use Rattle.std.specs.Cmp.Lexicographic.{pointwise};
+    ghost use Rattle.std.proofs.lemmas.Cmp.{nat_list_eq_equiv};
+
+    ghost eq = { pointwise ◌==◌ };
+
+    ghost laws = { partial_equiv_from_equiv nat_list_eq_equiv };
+
+    fn eq(&self, other: &Key) -> bool {
+        self.as_slice() == other.as_slice()
+    }
+}
+
+impl Eq for Key {
+    ghost use Rattle.std.proofs.lemmas.Cmp.{nat_list_eq_equiv};
+
+    ghost laws = { nat_list_eq_equiv };
+}
+
+impl PartialOrd for Key {
+    ghost use Rattle.std.specs.Prelude.{Some};
+    ghost use Rattle.model_base.specs.Map.{byte_order};
+    ghost use Rattle.std.specs.Cmp.Lexicographic.{texts_po};
+
+    ghost partial_cmp = { λ x y. Some (byte_order x y) };
+
+    ghost laws = { texts_po };
+
+    fn partial_cmp(&self, other: &Key) -> Option<Ordering> {
+        Some(self.order(other))
+    }
+}
+
+impl Ord for Key {
+    ghost use Rattle.std.specs.Prelude.{refl};
+    ghost use Rattle.std.specs.Cmp.Lexicographic.{texts_ties};
+    ghost use Rattle.model_base.specs.Map.{byte_order};
+    ghost use Rattle.std.proofs.lemmas.Cmp.{nat_list_cmp_total};
+
+    ghost cmp = { byte_order };
+
+    ghost total = { nat_list_cmp_total };
+
+    ghost matches_partial_cmp = { λ x y. refl };
+
+    ghost matches_eq = { texts_ties };
+
+    fn cmp(&self, other: &Key) -> Ordering {
+        self.order(other)
+    }
+}

@@ -1,8 +1,0 @@
-use Rattle.std.proofs.Common.{arith}
-use Rattle.batch_list.proofs.Additions.{small_batch}
-use Rattle.batch_list.proofs.layout.bytes_of.Goals as goal
-
-pub returns : goal.returns
-returns c =
-    small_batch c.bytes.result.now c.args.batch.now c.bytes.ensures (omega (arith, c.sequence.ensures, c.sequence.type_inv)) (omega (arith, c.count.ensures, c.count.type_inv))
-    (omega (arith, c.size.ensures.value, c.size.ensures.limit))

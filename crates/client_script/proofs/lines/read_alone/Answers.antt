@@ -1,5 +1,0 @@
-use Rattle.client_script.proofs.ScriptParts.{behind_word-no_word}
-use Rattle.client_script.proofs.lines.read_alone.Goals as goal
-
-pub returns-then-is_some-clause-line : goal.returns-then-is_some-clause-line
-returns-then-is_some-clause-line c = behind_word-no_word _ c.args.rest (cc)

@@ -1,4 +1,0 @@
-use Rattle.client_script.proofs.lines.read_other.Goals as goal
-
-pub returns-then-eq-clause-command : goal.returns-then-eq-clause-command
-returns-then-eq-clause-command c = c.read_many.ensures.command c.args.language

@@ -1,6 +1,0 @@
-use Rattle.std.proofs.Common.{arith}
-use Rattle.client_script.proofs.ScriptSizes.{fits_batches}
-use Rattle.client_script.proofs.parser.read_script.Goals as goal
-
-pub returns-clause-fits : goal.returns-clause-fits
-returns-clause-fits c = fits_batches c.args.language c.in_ok-script.script c.in_ok-script.ensures.commands (omega (arith, c.in_ok-script.ensures.small, c.if-text-gt-TEXT_LIMIT.false))

@@ -1,7 +1,0 @@
-use Rattle.std.proofs.Common.{arith}
-use Rattle.client_script.specs.declared.language.Language.TheVariants.{Replay}
-use Rattle.client_script.proofs.ScriptSizes.{fits_batches}
-use Rattle.client_script.proofs.schedule.parse_schedule.Goals as goal
-
-pub returns-in-Some-clause-fits : goal.returns-in-Some-clause-fits
-returns-in-Some-clause-fits c = fits_batches Replay c.in_ok-script.field-0.script c.in_ok-script.ensures.commands (omega (arith, c.in_ok-script.ensures.small, c.if-text-gt-TEXT_LIMIT.false))

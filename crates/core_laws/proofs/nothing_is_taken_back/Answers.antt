@@ -1,6 +1,0 @@
--- What stays while more events come.
-use Rattle.core_laws.proofs.nothing_is_taken_back.Goals as goal
-use Rattle.core_laws.proofs.Later as more
-
-pub returns : goal.returns
-returns c = record { later = more.later }

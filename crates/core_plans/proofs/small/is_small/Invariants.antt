@@ -1,7 +1,0 @@
-use Rattle.std.proofs.Common.{◌↔◌, drop}
-use Rattle.core_plans.proofs.SmallLemmas.{SmallFrom}
-use Rattle.core_plans.proofs.small.is_small.Given as goal
-
--- the lines so far may come
-abbrev pub invariant-loop-place : goal.invariant-loop-place
-invariant-loop-place l = SmallFrom l.size (drop l.place l.plan) ↔ SmallFrom 12 l.plan

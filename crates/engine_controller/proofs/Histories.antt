@@ -1,0 +1,30 @@
+-- Histories of calls, and what each client has asked for in them.
+use Rattle.std.proofs.Common.{◌≡◌, ℕ, List, [], ◌∷◌, ◌++◌, sym, ap, ◌∙◌, refl}
+use mathlib.Core.List.{IsPrefix}
+use Rattle.model_base.specs.Controller as controller
+use Rattle.model_base.specs.Controller.{ControllerCall, numbers_after, answer, IsHistoryFrom, IsLegal}
+use Rattle.engine_controller.specs.declared.rule.Call.{Call}
+use Rattle.engine_controller.specs.Numbers.{action_of}
+use Rattle.engine_controller.specs.Rule.{numbers_from, history_from, numbers_at, history_of, AreNotOf}
+use Rattle.engine_controller.specs.Passes.{AreOfOthers}
+
+pub numbers_append : (n : controller.Numbers) (xs ys : List Call) → numbers_from n (xs ++ ys) ≡ numbers_from (numbers_from n xs) ys
+numbers_append n [] ys = refl
+numbers_append n (c ∷ xs) ys = numbers_append (numbers_after n (action_of c.action)) xs ys
+
+pub history_append : (n : controller.Numbers) (xs ys : List Call) → history_from n (xs ++ ys) ≡ history_from n xs ++ history_from (numbers_from n xs) ys
+history_append n [] ys = refl
+history_append n (c ∷ xs) ys = ap (λ ts. record { client = c.client; action = action_of c.action; told = answer n (action_of c.action) } ∷ ts) (history_append (numbers_after n (action_of c.action)) xs ys)
+
+-- each history of calls is legal
+pub legal_from : (n : controller.Numbers) (calls : List Call) → IsHistoryFrom n (history_from n calls)
+legal_from n [] = tt
+legal_from n (c ∷ calls) = (refl, legal_from (numbers_after n (action_of c.action)) calls)
+
+pub others_from : (client : ℕ) (n : controller.Numbers) (calls : List Call) → AreNotOf client calls → AreOfOthers client (history_from n calls)
+others_from client n [] a = tt
+others_from client n (c ∷ calls) a = (a.0, others_from client (numbers_after n (action_of c.action)) calls a.1)
+
+-- a beginning of the calls is a beginning of the history
+pub history_prefix : (xs ys : List Call) → IsPrefix xs ys → IsPrefix (history_of xs) (history_of ys)
+history_prefix xs ys p = (history_from (numbers_at xs) p.0, sym (history_append controller.opening xs p.0) ∙ ap history_of p.1)

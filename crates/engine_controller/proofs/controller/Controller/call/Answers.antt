@@ -1,0 +1,46 @@
+use Rattle.std.proofs.Common.{arith, sym, ◌∙◌, subst}
+use Rattle.engine_controller.specs.Rule.{MayCall}
+use Rattle.engine_controller.proofs.Moves.{sees_turn}
+use Rattle.engine_controller.proofs.Steps.{no_notes}
+use Rattle.engine_controller.proofs.Tellings.{sees_follows, follows_trans, follows_view, follows_asked, follows_makes}
+use Rattle.engine_controller.proofs.controller.Controller.call.Goals as goal
+
+pub load-found-requires : goal.load-found-requires
+load-found-requires g c =
+    let r = c.requires in
+    record { cell = r.cell; rule = sees_turn _ _ _ _ no_notes _ r.view }
+
+pub loop-init : goal.loop-init
+loop-init g c =
+    let told = c.load-found.ensures in
+    (told.cell, sees_follows _ _ _ _ told.rule, told.rule.range)
+
+pub after-wait-requires-clause-rate : goal.after-wait-requires-clause-rate
+after-wait-requires-clause-rate g c = c.loop.invariant.2.rate
+
+pub after-wait-requires-clause-room : goal.after-wait-requires-clause-room
+after-wait-requires-clause-room g c = let range = c.loop.invariant.2 in (omega (arith, range.stops), omega (arith, range.delays))
+
+pub exchange-requires-clause-cell : goal.exchange-requires-clause-cell
+exchange-requires-clause-cell g c = c.loop.invariant.0 ∙ c.requires.cell
+
+pub exchange-requires-clause-view : goal.exchange-requires-clause-view
+exchange-requires-clause-view g c = follows_view _ _ c.loop.invariant.1
+
+pub exchange-requires-clause-may : goal.exchange-requires-clause-may
+exchange-requires-clause-may g c = subst (MayCall c.args.action) (sym (follows_asked _ _ c.loop.invariant.1)) c.requires.may
+
+pub returns-in-Ok-clause-cell : goal.returns-in-Ok-clause-cell
+returns-in-Ok-clause-cell g c = c.exchange.ensures.cell ∙ c.loop.invariant.0
+
+pub returns-in-Ok-clause-made : goal.returns-in-Ok-clause-made
+returns-in-Ok-clause-made g c = (
+  c.loop.found,
+  follows_makes _ _ _ _ _ c.loop.invariant.1 c.in-Ok.ensures.ok,
+  c.new.ensures ∙ (λ i. record { stops = c.loop.found.stops; delays = c.loop.found.delays; wait = c.after-wait.ensures.wait i }),
+)
+
+pub loop-preserved : goal.loop-preserved
+loop-preserved g c =
+    let told = c.in-Err.ensures.err in
+    (c.exchange.ensures.cell ∙ c.loop.invariant.0, follows_trans _ _ _ c.loop.invariant.1 (sees_follows _ _ _ _ told), told.range)

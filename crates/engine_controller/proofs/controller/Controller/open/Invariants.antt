@@ -1,0 +1,12 @@
+use Rattle.std.proofs.Common.{◌≡◌, ℕ, ◌+◌, false, [], length, Some}
+use Rattle.std.specs.Prelude.{slice_get}
+use Rattle.crossbeam_utils.specs.Seq.{cell_view}
+use Rattle.engine_controller.specs.declared.pass.Pass.{Pass}
+use Rattle.engine_controller.specs.Rule.{others, client_view}
+use Rattle.engine_controller.proofs.controller.Controller.open.Given as goal
+
+-- the passes so far are of the first clients, and the rest covers for all others
+abbrev pub invariant-loop-known : goal.invariant-loop-known
+invariant-loop-known g l =
+    (length l.passes.items ≡ l._known) × (l.rest.table_id ≡ l.cell.table.shared.table_id) × (cell_view l.rest ≡ others l._known)
+    × ((i : ℕ) (p : Pass) → slice_get l.passes.items i ≡ Some p → (p.seat.table_id ≡ l.cell.table.shared.table_id) × (cell_view p.seat ≡ client_view (i + 1) []) × (p.stopping ≡ false) × (p.slowing ≡ false))

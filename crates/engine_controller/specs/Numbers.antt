@@ -1,0 +1,27 @@
+-- The five words as the numbers of the write controller's equations, and its calls.
+use Rattle.std.specs.Prelude.{ℕ, List, [], ◌∷◌}
+use Rattle.model_base.specs.Controller as controller
+use Rattle.model_base.specs.Controller.{stop, unstop, slow, unslow, delay, look, delayed}
+use Rattle.engine_controller.specs.declared.numbers.Numbers.{Numbers}
+use Rattle.engine_controller.specs.declared.numbers.Action.{Action}
+use Rattle.engine_controller.specs.declared.numbers.Action.TheVariants as call
+
+-- the order of the words in the cell
+abbrev pub words_of : Numbers → List ℕ
+words_of n = n.stops ∷ n.delays ∷ n.rate ∷ n.credit ∷ n.next ∷ []
+
+abbrev pub numbers_of : Numbers → controller.Numbers
+numbers_of n = record { stops = n.stops; delays = n.delays; rate = n.rate; credit = n.credit; next = n.next }
+
+abbrev pub action_of : Action → controller.Action
+action_of call.Stop = stop
+action_of call.Unstop = unstop
+action_of (call.Slow rate) = slow rate
+action_of call.Unslow = unslow
+action_of (call.Delay now bytes) = delay now bytes
+action_of call.Look = look
+
+-- the wait that a call answers: 0 but for a delay
+abbrev pub wait_after : controller.Numbers → controller.Action → ℕ
+wait_after n (delay now bytes) = (delayed n now bytes).wait
+wait_after n other = 0

@@ -1,0 +1,112 @@
+-- What the controller's calls say of a pass and of the controller's history.
+use Rattle.std.specs.Prelude.{◌≡◌, ◌≢◌, ℕ, ◌+◌, ◌≤◌, Bool, true, false, List, [], ◌∷◌, ◌++◌, length, Option, None, Some, slice_get, if◌then◌else◌}
+use Rattle.std.specs.List.{AllByRecursion}
+use Rattle.crossbeam_utils.specs.Seq.{cell_view}
+use Rattle.model_base.specs.Controller.{ControllerCall, Action, Look, IsLegal}
+use Rattle.model_base.specs.Tokens.{tokens_of, is_token, holds_stop, holds_slow}
+use Rattle.model_base.specs.Replies.{IsLater}
+use Rattle.engine_controller.specs.declared.pass.Pass.{Pass}
+use Rattle.engine_controller.specs.declared.pass.Note.{Note}
+use Rattle.engine_controller.specs.declared.pass.Others.{Others}
+use Rattle.engine_controller.specs.declared.pass.Passes.{Passes}
+use Rattle.engine_controller.specs.declared.controller.Controller.{Controller}
+use Rattle.engine_controller.specs.Rule.{client_in, seen_in, history_of, IsClientView, observer, others}
+use Rattle.engine_controller.specs.declared.rule.Caller.TheVariants.{Nobody}
+
+-- whose pass it is
+abbrev pub client_of : Pass → ℕ
+client_of pass = client_in (cell_view pass.seat)
+
+-- the controller's history as far as the pass has seen it
+abbrev pub seen_by : Pass → List ControllerCall
+seen_by pass = history_of (seen_in (cell_view pass.seat))
+
+abbrev pub noted : Note → List ControllerCall
+noted note = history_of (seen_in (cell_view note.seat))
+
+-- the client's own calls that took a token or gave one back
+abbrev pub asked_by : Pass → List Action
+asked_by pass = tokens_of (client_of pass) (seen_by pass)
+
+-- for how many clients it was opened
+abbrev pub clients_of : {C : Type 0} → Controller C → ℕ
+clients_of controller = controller.clients
+
+-- it is a pass of this controller
+pub record IsPassOf {C : Type 0} (controller : Controller C) (pass : Pass) : Type 0 where
+  pub cell : pass.seat.table_id ≡ controller.cell.table.shared.table_id
+  pub view : IsClientView (cell_view pass.seat)
+  pub stopping : pass.stopping ≡ holds_stop (asked_by pass)
+  pub slowing : pass.slowing ≡ holds_slow (asked_by pass)
+
+-- it is a note of this controller's
+pub record IsNoteOf {C : Type 0} (controller : Controller C) (note : Note) : Type 0 where
+  pub cell : note.seat.table_id ≡ controller.cell.table.shared.table_id
+  pub view : cell_view note.seat ≡ observer Nobody (seen_in (cell_view note.seat)) ∷ []
+  pub free : note.seat.me.1 ≡ []
+
+-- How a history goes on
+
+-- none of these calls is the client's
+abbrev pub AreOfOthers : ℕ → List ControllerCall → Type 0
+AreOfOthers client calls = AllByRecursion (λ (t : ControllerCall). t.client ≢ client) calls
+
+-- the history goes on by calls of others, and is legal
+pub record GoesOn (client : ℕ) (seen after : List ControllerCall) : Type 0 where
+  pub between : List ControllerCall
+  pub is : after ≡ seen ++ between
+  pub others : AreOfOthers client between
+  pub legal : IsLegal after
+
+-- the history goes on by calls of others and ends with this call of the client's, and is legal
+pub record EndsWith (client : ℕ) (seen : List ControllerCall) (action : Action) (told : Option Look)
+    (after : List ControllerCall) : Type 0 where
+  pub between : List ControllerCall
+  pub is : after ≡ (seen ++ between) ++ record { client = client; action = action; told = told } ∷ []
+  pub others : AreOfOthers client between
+  pub legal : IsLegal after
+
+-- a client that holds a token gives it back, and one that doesn't makes no call
+abbrev pub GivesBack : Bool → ℕ → List ControllerCall → Action → List ControllerCall → Type 0
+GivesBack true client seen action after = EndsWith client seen action None after
+GivesBack false client seen action after = after ≡ seen
+
+-- a call as one of those that take a token or give one back
+abbrev pub token_in : Action → List Action
+token_in action = if is_token action then action ∷ [] else []
+
+-- it is the last call, after all that was seen
+pub record IsLast (client : ℕ) (seen : List ControllerCall) (action : Action) (told : Option Look)
+    (after : List ControllerCall) : Type 0 where
+  pub place : ℕ
+  pub last : length after ≡ place + 1
+  pub is_later : IsLater after (length seen) place (record { client = client; action = action; told = told })
+
+-- Opening and closing
+
+-- it covers all but this controller's clients
+pub record IsOthersOf {C : Type 0} (controller : Controller C) (rest : Others) : Type 0 where
+  pub cell : rest.seat.table_id ≡ controller.cell.table.shared.table_id
+  pub view : cell_view rest.seat ≡ others (clients_of controller)
+
+-- these are the passes of a controller that was just opened for so many clients
+pub record AreNew {C : Type 0} (controller : Controller C) (clients : ℕ) (passes : Passes) : Type 0 where
+  pub opened_for : clients_of controller ≡ clients
+  pub number : length passes.clients.items ≡ clients
+  pub each : (i : ℕ) (pass : Pass) → slice_get passes.clients.items i ≡ Some pass
+      → IsPassOf controller pass × (client_of pass ≡ i + 1) × (seen_by pass ≡ [])
+  pub others_are : IsOthersOf controller passes.others
+
+-- these are all passes of the controller, in the order of the clients
+pub record AreAll {C : Type 0} (controller : Controller C) (passes : Passes) : Type 0 where
+  pub number : length passes.clients.items ≡ clients_of controller
+  pub each : (i : ℕ) (pass : Pass) → slice_get passes.clients.items i ≡ Some pass
+      → IsPassOf controller pass × (client_of pass ≡ i + 1)
+  pub others_are : IsOthersOf controller passes.others
+
+-- the one history: it is legal, its calls are the clients', and each pass has seen a beginning of it, with all calls of
+-- its own
+pub record IsHistoryOf (passes : List Pass) (history : List ControllerCall) : Type 0 where
+  pub legal : IsLegal history
+  pub clients : AllByRecursion (λ (t : ControllerCall). (1 ≤ t.client) × (t.client ≤ length passes)) history
+  pub each : (i : ℕ) (pass : Pass) → slice_get passes i ≡ Some pass → GoesOn (i + 1) (seen_by pass) history

@@ -1,0 +1,214 @@
+-- The rule of the controller's five words, and what each step on them tells.
+use Rattle.std.specs.Prelude.{◌≡◌, ◌≢◌, ℕ, ◌+◌, ◌-◌, ◌^◌, ◌≤◌, Bool, true, false, ◌||◌, List, [], ◌∷◌, ◌++◌, ◌==◌, nat_lt, ⊤}
+use Rattle.std.specs.List.{AllByRecursion, sum_by}
+use mathlib.Core.Option.{some}
+use mathlib.Core.List.{IsPrefix}
+use lib.ListN.{get_elem?}
+use Rattle.model_base.specs.Controller as controller
+use Rattle.model_base.specs.Controller.{ControllerCall, numbers_after, answer}
+use Rattle.model_base.specs.Tokens.{tokens_of, holds_stop, holds_slow}
+use Rattle.engine_controller.specs.declared.numbers.Numbers.{Numbers}
+use Rattle.engine_controller.specs.declared.numbers.Action.{Action}
+use Rattle.engine_controller.specs.declared.numbers.Action.TheVariants.{Stop, Unstop, Slow, Unslow, Delay, Look}
+use Rattle.engine_controller.specs.declared.rule.Call.{Call}
+use Rattle.engine_controller.specs.declared.rule.Observer.{Observer}
+use Rattle.engine_controller.specs.declared.rule.Caller.{Caller}
+use Rattle.engine_controller.specs.declared.rule.Caller.TheVariants.{Nobody, Client, Others}
+use Rattle.engine_controller.specs.Numbers.{numbers_of, action_of}
+
+-- Calls
+
+-- the numbers after calls
+abbrev pub numbers_from : controller.Numbers → List Call → controller.Numbers
+numbers_from n [] = n
+numbers_from n (c ∷ calls) = numbers_from (numbers_after n (action_of c.action)) calls
+
+-- the same calls, each with what it was told
+abbrev pub history_from : controller.Numbers → List Call → List ControllerCall
+history_from n [] = []
+history_from n (c ∷ calls) =
+    record { client = c.client; action = action_of c.action; told = answer n (action_of c.action) }
+    ∷ history_from (numbers_after n (action_of c.action)) calls
+
+abbrev pub numbers_at : List Call → controller.Numbers
+numbers_at calls = numbers_from controller.opening calls
+
+abbrev pub history_of : List Call → List ControllerCall
+history_of calls = history_from controller.opening calls
+
+abbrev pub call : ℕ → Action → Call
+call client action = record { client = client; action = action }
+
+-- Views
+
+abbrev View : Type 0
+View = List Observer
+
+abbrev pub observer : Caller → List Call → Observer
+observer caller seen = record { caller = caller; seen = seen }
+
+-- a client's view
+abbrev pub client_view : ℕ → List Call → List Observer
+client_view client seen = observer (Client client) seen ∷ []
+
+abbrev pub others : ℕ → List Observer
+others known = observer (Others known) [] ∷ []
+
+-- a client's number, and 0 for who is none
+abbrev pub number_of : Caller → ℕ
+number_of Nobody = 0
+number_of (Client client) = client
+number_of (Others known) = 0
+
+abbrev pub client_in : List Observer → ℕ
+client_in [] = 0
+client_in (v ∷ observers) = number_of v.caller
+
+abbrev pub seen_in : List Observer → List Call
+seen_in [] = []
+seen_in (v ∷ observers) = v.seen
+
+abbrev pub IsClientView : List Observer → Type 0
+IsClientView v = v ≡ client_view (client_in v) (seen_in v)
+
+-- what the first observer has seen, as nobody's
+abbrev pub note_of : List Observer → List Observer
+note_of observers = observer Nobody (seen_in observers) ∷ []
+
+-- how many clients have a pass
+abbrev pub known_to : Caller → ℕ
+known_to Nobody = 0
+known_to (Client client) = 0
+known_to (Others known) = known
+
+abbrev pub known_in : List Observer → ℕ
+known_in [] = 0
+known_in (v ∷ observers) = known_to v.caller
+
+-- the next client's pass is cut off the others'
+abbrev pub fewer_others : List Observer → List Observer
+fewer_others observers = others (known_in observers + 1)
+
+abbrev pub next_client : List Observer → List Observer
+next_client observers = client_view (known_in observers + 1) []
+
+-- The rule
+
+-- the caller may be this client
+abbrev pub covers : Caller → ℕ → Bool
+covers Nobody client = false
+covers (Client own) client = client == own
+covers (Others known) client = (client == 0) || nat_lt known client
+
+abbrev pub IsOfOthers : Caller → Call → Type 0
+IsOfOthers caller c = covers caller c.client ≡ false
+
+-- The others' observer has seen nothing. So every call comes after what it has seen, and at closing none is theirs.
+abbrev pub SeesFirst : Caller → List Call → Type 0
+SeesFirst Nobody seen = ⊤
+SeesFirst (Client client) seen = ⊤
+SeesFirst (Others known) seen = seen ≡ []
+
+-- what it has seen begins the history, and no call after that is its own
+pub record Fits (calls : List Call) (v : Observer) : Type 0 where
+  pub rest : List Call
+  pub begins : v.seen ++ rest ≡ calls
+  pub behind : AllByRecursion (IsOfOthers v.caller) rest
+  pub first : SeesFirst v.caller v.seen
+
+abbrev pub weight : Bool → ℕ
+weight true = 1
+weight false = 0
+
+-- 1 where it covers the client
+abbrev pub coverage : ℕ → Observer → ℕ
+coverage client v = weight (covers v.caller client)
+
+-- the client's calls that take a token or give one back
+abbrev pub asked_in : ℕ → List Call → List controller.Action
+asked_in client seen = tokens_of client (history_of seen)
+
+-- 1 where it is a client's that holds its token of that kind
+abbrev pub tokens_held_by : (List controller.Action → Bool) → List Call → Caller → ℕ
+tokens_held_by holds seen Nobody = 0
+tokens_held_by holds seen (Client client) = weight (holds (asked_in client seen))
+tokens_held_by holds seen (Others known) = 0
+
+abbrev pub tokens_held : (List controller.Action → Bool) → Observer → ℕ
+tokens_held holds v = tokens_held_by holds v.seen v.caller
+
+-- How many of 2 ^ 32 clients it covers. There are never more, so that a count of tokens, and one more, fits a word.
+abbrev pub share_of : Caller → ℕ
+share_of Nobody = 0
+share_of (Client client) = 1
+share_of (Others known) = 2 ^ 32 - known
+
+abbrev pub share : Observer → ℕ
+share v = share_of v.caller
+
+abbrev pub total : (Observer → ℕ) → List (List Observer) → ℕ
+total f views = sum_by (λ (v : List Observer). sum_by f v) views
+
+-- There is one history of calls. The words are the numbers after it, and each observer has seen a beginning of it,
+-- after which no call is its own. One observer at most covers a client. Stops and delays are how many clients hold such
+-- a token.
+pub record Kept (x : Numbers) (views : List (List Observer)) : Type 0 where
+  pub calls : List Call
+  pub numbers : numbers_of x ≡ numbers_at calls
+  pub rate : 1 ≤ x.rate
+  pub each : (i : ℕ) (v : List Observer) → get_elem? views i ≡ some v → AllByRecursion (Fits calls) v
+  pub alone : (client : ℕ) → total (coverage client) views ≤ 1
+  pub stops : x.stops ≡ total (tokens_held holds_stop) views
+  pub delays : x.delays ≡ total (tokens_held holds_slow) views
+  pub few : total share views ≤ 2 ^ 32
+
+-- Steps
+
+-- none of these calls is the client's
+abbrev pub AreNotOf : ℕ → List Call → Type 0
+AreNotOf client calls = AllByRecursion (λ (c : Call). c.client ≢ client) calls
+
+-- numbers of which no call makes more than a word
+pub record IsInRange (x : Numbers) : Type 0 where
+  pub rate : 1 ≤ x.rate
+  pub stops : x.stops ≤ 2 ^ 32
+  pub delays : x.delays ≤ 2 ^ 32
+
+-- the client has seen the history so far, which begins with all that its pass knew
+pub record Sees (v : List Observer) (x y : Numbers) (w : List Observer) : Type 0 where
+  pub between : List Call
+  pub view : w ≡ client_view (client_in v) (seen_in v ++ between)
+  pub others : AreNotOf (client_in v) between
+  pub known : AllByRecursion (λ (u : Observer). IsPrefix u.seen (seen_in v ++ between)) v
+  pub numbers : numbers_of x ≡ numbers_at (seen_in v ++ between)
+  pub range : IsInRange x
+
+-- the client has made a call, which ends the history so far
+pub record Makes (action : Action) (v : List Observer) (x : Numbers) (w : List Observer) : Type 0 where
+  pub between : List Call
+  pub view : w ≡ client_view (client_in v) ((seen_in v ++ between) ++ call (client_in v) action ∷ [])
+  pub others : AreNotOf (client_in v) between
+  pub numbers : numbers_of x ≡ numbers_at (seen_in v ++ between)
+  -- a stop token of its own is among the stops
+  pub own_stop : holds_stop (asked_in (client_in v) (seen_in v)) ≡ true → 1 ≤ x.stops
+
+-- an exchange makes the call where it finds what was found before, also where the call changes no number
+pub record Exchanges (action : Action) (found : Numbers) (v : List Observer) (x : Numbers) (w : List Observer) : Type 0
+  where
+    pub made : x ≡ found → Makes action v x w
+    pub other : x ≢ found → Sees v x x w
+
+-- there is a history that all the observers fit
+pub record Closes (v w : List Observer) : Type 0 where
+  pub view : w ≡ v
+  pub calls : List Call
+  pub fits : AllByRecursion (Fits calls) v
+
+-- a client takes a token only while it holds none of that kind, and gives back only what it holds
+abbrev pub MayCall : Action → List controller.Action → Type 0
+MayCall Stop asked = holds_stop asked ≡ false
+MayCall Unstop asked = holds_stop asked ≡ true
+MayCall (Slow rate) asked = holds_slow asked ≡ false
+MayCall Unslow asked = holds_slow asked ≡ true
+MayCall (Delay now bytes) asked = ⊤
+MayCall Look asked = ⊤

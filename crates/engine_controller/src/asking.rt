@@ -1,0 +1,69 @@
+//! The calls of who writes, and how what one pass has seen comes to another.
+
+ghost use Rattle.std.specs.Prelude.{◌≡◌, ◌≤◌, ℕ, true, Some, IfSome};
+ghost use mathlib.Core.List.{IsPrefix};
+ghost use Rattle.model_base.specs.Controller.{delay, look};
+ghost use Rattle.model_base.specs.Tokens.{holds_stop};
+ghost use Rattle.engine_controller.specs.Looks.{look_of};
+ghost use Rattle.engine_controller.specs.Passes.{client_of, seen_by, asked_by, noted};
+ghost use Rattle.engine_controller.specs.Passes.{IsPassOf, IsNoteOf, GoesOn, EndsWith};
+
+use crate::controller::Controller;
+use crate::look::Look;
+use crate::numbers::Action;
+use crate::pass::{Note, Pass};
+use crate::rule::{Copied, Looking, Sight};
+use crate::words::{join, load, split};
+use base_devices::Clock;
+use std::sync::Wait;
+
+impl<C: Clock> Controller<C> {
+    /// Asks how long a group of so many bytes has to wait. The clock is asked once for its moment, before the call.
+    pub fn delay<R: Wait>(&self, rt: &R, pass: &mut Pass, clock: &mut C, bytes: u64) -> Look
+        requires own { IsPassOf self.now pass.old }
+        ensures own { IsPassOf self.now pass.new × (client_of pass.new ≡ client_of pass.old) }
+        ensures asked { (now : ℕ) × IfSome (C.last clock.new) (λ moment. moment ≡ now)
+            × EndsWith (client_of pass.old) (seen_by pass.old) (delay now bytes) (Some (look_of result))
+            (seen_by pass.new) }
+    {
+        let now = clock.now();
+        self.call(rt, &mut pass.seat, Action::Delay { now, bytes })
+    }
+
+    /// Reads how many clients stop and slow writes. A client that stops them itself is among these.
+    pub fn look<R: Wait>(&self, rt: &R, pass: &mut Pass) -> Look
+        requires own { IsPassOf self.now pass.old }
+        ensures own { IsPassOf self.now pass.new × (client_of pass.new ≡ client_of pass.old) }
+        ensures asked { EndsWith (client_of pass.old) (seen_by pass.old) look (Some (look_of result))
+            (seen_by pass.new) }
+        ensures stopped { holds_stop (asked_by pass.old) ≡ true → 1 ≤ (look_of result).stops }
+    {
+        let found = load::<Looking, R>(&self.cell, rt, &mut pass.seat);
+        Look::new(found.stops, found.delays, 0)
+    }
+
+    /// What the pass has seen, to be taken to another client's pass. It is no call, and the pass itself stays.
+    pub fn note(&self, pass: &mut Pass) -> Note
+        requires own { IsPassOf self.now pass.old }
+        ensures own { IsPassOf self.now pass.new × (client_of pass.new ≡ client_of pass.old) }
+        ensures seen { seen_by pass.new ≡ seen_by pass.old }
+        ensures note { IsNoteOf self.now result × (noted result ≡ seen_by pass.old) }
+    {
+        Note {
+            seat: split::<Copied>(&self.cell, &mut pass.seat),
+        }
+    }
+
+    /// Lets the pass see what another has seen, and all of the history so far. It is no call.
+    pub fn learn<R: Wait>(&self, rt: &R, pass: &mut Pass, note: Note)
+        requires own { IsPassOf self.now pass.old }
+        requires note { IsNoteOf self.now note }
+        ensures own { IsPassOf self.now pass.new × (client_of pass.new ≡ client_of pass.old) }
+        ensures seen { GoesOn (client_of pass.old) (seen_by pass.old) (seen_by pass.new) }
+        ensures noted { IsPrefix (noted note) (seen_by pass.new) }
+    {
+        join(&self.cell, &mut pass.seat, note.seat);
+        // Only a step tells that both are beginnings of one history.
+        load::<Sight, R>(&self.cell, rt, &mut pass.seat);
+    }
+}

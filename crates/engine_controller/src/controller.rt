@@ -1,0 +1,48 @@
+//! The controller: five words that change as one, and the step that makes a call.
+
+ghost use Rattle.std.specs.Prelude.{◌≡◌};
+ghost use Rattle.crossbeam_utils.specs.Seq.{cell_view};
+ghost use Rattle.engine_controller.specs.declared.numbers.Numbers.{Numbers};
+ghost use Rattle.engine_controller.specs.Looks.{look_of, look_at};
+ghost use Rattle.engine_controller.specs.Numbers.{numbers_of, action_of};
+ghost use Rattle.engine_controller.specs.Rule.{Makes, MayCall, IsClientView, client_in, seen_in, asked_in};
+
+use crate::look::Look;
+use crate::numbers::{Action, Numbers};
+use crate::rule::{Cell, Seat, Sight};
+use crate::words::{exchange, load};
+use base_devices::Clock;
+use std::marker::{Brand, PhantomData};
+use std::sync::{Mutex, Wait};
+
+/// A write controller for several clients, which ask a clock of the type `C`.
+#[derive(Drop)]
+pub struct Controller<C> {
+    pub(crate) cell: Cell,
+    pub(crate) clients: u32,
+    // No clock is kept. As a lock of it this may be shared by threads, also where the clock may only go to one.
+    pub(crate) clock: PhantomData<Mutex<C>>,
+}
+
+impl<C: Clock> Controller<C> {
+    // Makes a call, and says what it was told. Between the load and the exchange others may have called: then it tries
+    // again with the numbers that the exchange found.
+    pub(crate) fn call<R: Wait>(&self, rt: &R, seat: &mut Seat, action: Action) -> Look
+        requires cell { seat.old.table_id ≡ self.now.cell.table.shared.table_id }
+        requires view { IsClientView (cell_view seat.old) }
+        requires may { MayCall action (asked_in (client_in (cell_view seat.old)) (seen_in (cell_view seat.old))) }
+        ensures cell { seat.new.table_id ≡ seat.old.table_id }
+        ensures made { (found : Numbers) × Makes action (cell_view seat.old) found (cell_view seat.new)
+            × (look_of result ≡ look_at (numbers_of found) (action_of action)) }
+    {
+        let mut found = load::<Sight, R>(&self.cell, rt, seat);
+        for _ in rt.forever() {
+            let (new, wait) = found.after(action);
+            match exchange::<Brand, R>(&self.cell, rt, seat, action, found, new) {
+                Ok(_) => return Look::new(found.stops, found.delays, wait),
+                Err(other) => found = other,
+            }
+        }
+        unreachable!()
+    }
+}

@@ -1,0 +1,55 @@
+//! What the equations and the clauses of the calls come to: functions whose contracts are laws, and that have no code.
+
+ghost use Rattle.std.specs.Prelude.{◌≡◌, ◌<◌, ℕ, ◌+◌, ◌-◌, List, ◌++◌, length, Option, Some, slice_get};
+ghost use Rattle.std.specs.List.{AllByRecursion};
+ghost use mathlib.Core.List.{IsPrefix};
+ghost use Rattle.model_base.specs.Controller.{ControllerCall, Action, Look, Numbers, numbers_after, delay, look};
+ghost use Rattle.model_base.specs.Groups.{Group, HasPlace, AreAsked, is_delay};
+ghost use Rattle.model_base.specs.Tokens.{tokens_of};
+ghost use Rattle.engine_controller.specs.declared.pass.Pass.{Pass};
+ghost use Rattle.engine_controller.specs.Delays.{delays_of, place_if};
+ghost use Rattle.engine_controller.specs.Passes.{seen_by, GoesOn, EndsWith, IsLast, IsHistoryOf, token_in};
+
+/// Who looks changes nothing, nor does who asks for a delay while writes are stopped.
+pub fn asking_a_stopped_controller_changes_nothing()
+    ensures look { (n : Numbers) → numbers_after n look ≡ n }
+    ensures delay { (n : Numbers) (now bytes : ℕ) → 0 < n.stops → numbers_after n (delay now bytes) ≡ n }
+{}
+
+/// Where a history goes on by calls of others, what was seen begins it, and the client's tokens and delays are those
+/// before.
+pub fn calls_of_others()
+    ensures begins { (client : ℕ) (seen after : List ControllerCall) → GoesOn client seen after
+        → IsPrefix seen after }
+    ensures tokens { (client : ℕ) (seen after : List ControllerCall) → GoesOn client seen after
+        → tokens_of client after ≡ tokens_of client seen }
+    ensures delays { (client : ℕ) (seen after : List ControllerCall) → GoesOn client seen after
+        → delays_of client after ≡ delays_of client seen }
+{}
+
+/// Where a history goes on by calls of others and ends with one of the client's own, what was seen begins it. The
+/// client's tokens and delays are those before, and this call, if it is one. It stands at the last place, after all
+/// that was seen.
+pub fn own_calls()
+    ensures begins { (client : ℕ) (seen : List ControllerCall) (action : Action) (told : Option Look)
+        (after : List ControllerCall) → EndsWith client seen action told after → IsPrefix seen after }
+    ensures tokens { (client : ℕ) (seen : List ControllerCall) (action : Action) (told : Option Look)
+        (after : List ControllerCall) → EndsWith client seen action told after
+        → tokens_of client after ≡ tokens_of client seen ++ token_in action }
+    ensures delays { (client : ℕ) (seen : List ControllerCall) (action : Action) (told : Option Look)
+        (after : List ControllerCall) → EndsWith client seen action told after
+        → delays_of client after ≡ delays_of client seen ++ place_if (is_delay action) (length after - 1) }
+    ensures last { (client : ℕ) (seen : List ControllerCall) (action : Action) (told : Option Look)
+        (after : List ControllerCall) → EndsWith client seen action told after
+        → IsLast client seen action told after }
+{}
+
+/// At closing: where each client's delays, as its own pass has seen them, were asked for groups, all delays of the one
+/// history were.
+pub fn delays_of_all_clients()
+    ensures { (groups : List Group) (passes : List Pass) (history : List ControllerCall)
+        → IsHistoryOf passes history
+        → ((i : ℕ) (pass : Pass) → slice_get passes i ≡ Some pass
+        → AllByRecursion (HasPlace groups) (delays_of (i + 1) (seen_by pass)))
+        → AreAsked groups 0 history }
+{}

@@ -1,0 +1,55 @@
+//! The write controller: clients stop or slow all writes, and who writes asks how long to wait. It goes by the plan of
+//! RocksDB's `db/write_controller.cc` (RocksDB wiki, "Write Stalls"); the equations are those of `model_base`, in
+//! `specs/Controller.antt`.
+//!
+//! Each client may hold a stop token and a slow token. A slow token comes with a rate in bytes a second. While anybody
+//! holds a stop token, writes are stopped; while anybody holds a slow token, they are slowed down: who writes spends a
+//! credit of bytes, which is refilled with time at the rate of the token that was taken last, and waits where the
+//! credit doesn't suffice. The controller itself holds nobody up: it tells, and who writes waits.
+//!
+//! The controller is five words, which change as one:
+//!
+//! | word | what it is |
+//! |---|---|
+//! | `stops` | how many clients hold a stop token |
+//! | `delays` | how many clients hold a slow token |
+//! | `rate` | bytes a second, at least 1 |
+//! | `credit` | bytes that may be written with no wait |
+//! | `next` | the moment of the next refill, in microseconds; 0: none is set |
+//!
+//! | call | what it does |
+//! |---|---|
+//! | `open` | a controller for 1 to 16 clients, with a pass for each |
+//! | `stop`, `unstop` | takes the client's stop token; gives it back |
+//! | `slow`, `unslow` | takes the client's slow token, with a rate; gives it back |
+//! | `end` | gives back the tokens that the client holds |
+//! | `delay` | asks for so many bytes, at the clock's moment: the counts of tokens, and how long to wait |
+//! | `look` | the counts of tokens |
+//! | `note`, `learn` | carry what one pass has seen to another, and make no call |
+//! | `close` | takes all passes back |
+//!
+//! Calls of several threads stand one after another in one history, and each call's answer is the one that the
+//! equations give at its place. A client makes its calls with its pass, which knows the history as far as it has seen
+//! it. What a call promises is how that history goes on: by calls of others, and then by this call. At closing there is
+//! one history, and what each pass has seen is a beginning of it, with all of its own calls.
+#![tactic(auto)]
+
+mod asking;
+mod controller;
+mod error;
+mod laws;
+mod look;
+mod numbers;
+mod opening;
+mod pass;
+mod rule;
+mod tokens;
+mod words;
+
+pub use controller::Controller;
+pub use error::{Held, NotHeld};
+pub use laws::{
+    asking_a_stopped_controller_changes_nothing, calls_of_others, delays_of_all_clients, own_calls,
+};
+pub use look::Look;
+pub use pass::{Note, Others, Pass, Passes};

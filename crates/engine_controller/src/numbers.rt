@@ -1,0 +1,196 @@
+//! The controller's five numbers, and what each call makes of them, by the equations of `model_base`.
+
+ghost use Rattle.std.specs.Prelude.{◌≡◌, ◌+◌, ◌<◌, ◌≤◌, ◌^◌};
+ghost use Rattle.model_base.specs.Controller.{numbers_after, slow, delayed, owing, refilled, spending, capped};
+ghost use Rattle.engine_controller.specs.Numbers.{numbers_of, action_of, wait_after};
+
+use crossbeam_utils::atomic::seq_cell::Words;
+
+/// Microseconds of a second, in which a rate's bytes are allowed.
+const SECOND: u64 = 1_000_000;
+
+/// The least wait, and the time between two refills, in microseconds.
+const MILLISECOND: u64 = 1_000;
+
+/// The numbers. Those of a controller that was just opened are 0, 0, 1, 0, 0.
+#[derive(Clone, Copy, Debug, PartialEq, Eq)]
+pub struct Numbers {
+    /// How many clients hold a stop token.
+    pub stops: u64,
+    /// How many clients hold a slow token.
+    pub delays: u64,
+    /// Bytes a second, at least 1.
+    pub rate: u64,
+    /// Bytes that may be written with no wait.
+    pub credit: u64,
+    /// The moment of the next refill, in microseconds. 0: none is set.
+    pub next: u64,
+}
+
+impl Words<5> for Numbers {
+    ghost use Rattle.engine_controller.specs.Numbers.{words_of};
+
+    ghost words = { words_of };
+
+    fn to_words(self) -> [u64; 5] {
+        [self.stops, self.delays, self.rate, self.credit, self.next]
+    }
+
+    fn from_words(bits: &[u64; 5]) -> Numbers {
+        Numbers {
+            stops: bits[0],
+            delays: bits[1],
+            rate: bits[2],
+            credit: bits[3],
+            next: bits[4],
+        }
+    }
+}
+
+/// A call of the controller: tokens are taken or given back, a group of so many bytes is to be written at a moment,
+/// or the numbers are read.
+#[derive(Clone, Copy, Debug, PartialEq, Eq)]
+pub enum Action {
+    Stop,
+    Unstop,
+    Slow { rate: u64 },
+    Unslow,
+    Delay { now: u64, bytes: u64 },
+    Look,
+}
+
+impl Numbers {
+    /// Those of a controller that was just opened.
+    pub const OPENING: Numbers = Numbers {
+        stops: 0,
+        delays: 0,
+        rate: 1,
+        credit: 0,
+        next: 0,
+    };
+
+    /// The numbers after a call, and the wait that it answers, in microseconds.
+    pub fn after(self, action: Action) -> (Numbers, u64)
+        requires rate { 1 ≤ self.rate }
+        requires room { (self.stops + 1 < 2 ^ 64) × (self.delays + 1 < 2 ^ 64) }
+        ensures numbers { numbers_of result.0 ≡ numbers_after (numbers_of self) (action_of action) }
+        ensures wait { result.1 ≡ wait_after (numbers_of self) (action_of action) }
+    {
+        let numbers = match action {
+            Action::Stop => Numbers {
+                stops: self.stops + 1,
+                ..self
+            },
+            Action::Unstop => Numbers {
+                stops: self.stops.saturating_sub(1),
+                ..self
+            },
+            Action::Slow { rate } => self.slowed(rate),
+            Action::Unslow => Numbers {
+                delays: self.delays.saturating_sub(1),
+                ..self
+            },
+            Action::Delay { now, bytes } => return self.delayed(now, bytes),
+            Action::Look => self,
+        };
+        (numbers, 0)
+    }
+
+    // The first slow token begins with no credit and no refill set.
+    fn slowed(self, rate: u64) -> Numbers
+        requires { self.delays + 1 < 2 ^ 64 }
+        ensures { numbers_of result ≡ numbers_after (numbers_of self) (slow rate) }
+    {
+        let fresh = if self.delays == 0 {
+            Numbers {
+                credit: 0,
+                next: 0,
+                ..self
+            }
+        } else {
+            self
+        };
+        Numbers {
+            delays: fresh.delays + 1,
+            rate: rate.max(1),
+            ..fresh
+        }
+    }
+
+    fn delayed(self, now: u64, bytes: u64) -> (Numbers, u64)
+        requires { 1 ≤ self.rate }
+        ensures numbers { numbers_of result.0 ≡ (delayed (numbers_of self) now bytes).numbers }
+        ensures wait { result.1 ≡ (delayed (numbers_of self) now bytes).wait }
+    {
+        if self.stops > 0 || self.delays == 0 {
+            return (self, 0);
+        }
+        if bytes <= self.credit {
+            return self.spending(now, bytes);
+        }
+        let begun = if self.next == 0 {
+            Numbers { next: now, ..self }
+        } else {
+            self
+        };
+        if begun.next <= now {
+            begun.refilled(now).spending(now, bytes)
+        } else {
+            begun.owing(now, bytes)
+        }
+    }
+
+    // A refill is due: the credit of the time since the last one, and of a millisecond.
+    fn refilled(self, now: u64) -> Numbers
+        requires { self.next ≤ now }
+        ensures numbers { numbers_of result ≡ refilled (numbers_of self) now }
+        ensures rate { result.rate ≡ self.rate }
+    {
+        let elapsed = (now - self.next).saturating_add(MILLISECOND);
+        let allowed = (u128::from(elapsed) * u128::from(self.rate)).div_ceil(u128::from(SECOND));
+        Numbers {
+            credit: self.credit.saturating_add(saturated(allowed)),
+            next: now.saturating_add(MILLISECOND),
+            ..self
+        }
+    }
+
+    fn spending(self, now: u64, bytes: u64) -> (Numbers, u64)
+        requires { 1 ≤ self.rate }
+        ensures numbers { numbers_of result.0 ≡ (spending (numbers_of self) now bytes).numbers }
+        ensures wait { result.1 ≡ (spending (numbers_of self) now bytes).wait }
+    {
+        if bytes > self.credit {
+            return self.owing(now, bytes);
+        }
+        let left = Numbers {
+            credit: self.credit - bytes,
+            ..self
+        };
+        (left, 0)
+    }
+
+    // What the credit lacks is owed: the next refill moves on by the time of these bytes.
+    fn owing(self, now: u64, bytes: u64) -> (Numbers, u64)
+        requires { 1 ≤ self.rate }
+        ensures numbers { numbers_of result.0 ≡ (owing (numbers_of self) now bytes).numbers }
+        ensures wait { result.1 ≡ (owing (numbers_of self) now bytes).wait }
+    {
+        let owed = u128::from(bytes.saturating_sub(self.credit));
+        let time = owed * u128::from(SECOND) / u128::from(self.rate);
+        let next = self.next.saturating_add(saturated(time));
+        let after = Numbers {
+            credit: 0,
+            next,
+            ..self
+        };
+        (after, next.saturating_sub(now).max(MILLISECOND))
+    }
+}
+
+// The number, or the greatest `u64` where it is above that.
+fn saturated(number: u128) -> u64
+    ensures { result ≡ capped number }
+{
+    u64::try_from(number).unwrap_or(u64::MAX)
+}

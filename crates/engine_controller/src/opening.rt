@@ -1,0 +1,66 @@
+//! How a controller is opened and closed.
+
+ghost use Rattle.std.specs.Prelude.{◌≤◌, List, IfOk};
+ghost use Rattle.model_base.specs.Controller.{ControllerCall};
+ghost use Rattle.engine_controller.specs.Passes.{AreNew, AreAll, IsHistoryOf};
+
+use crate::controller::Controller;
+use crate::numbers::Numbers;
+use crate::pass::{Others, Pass, Passes};
+use crate::rule::{Cell, Closing, Moved, NextClient};
+use crate::words::{join, load, split};
+use base_devices::Clock;
+use model_base::NoMemory;
+use std::alloc::Global;
+use std::marker::PhantomData;
+use std::sync::Wait;
+
+impl<C: Clock> Controller<C> {
+    /// A controller for 1 to 16 clients, with a pass for each. Nobody holds a token.
+    pub fn open(alloc: Global, clients: u32) -> Result<(Controller<C>, Passes), NoMemory>
+        requires clients { (1 ≤ clients) × (clients ≤ 16) }
+        ensures new { IfOk result (λ r. AreNew r.0 clients r.1) }
+    {
+        let mut passes = Vec::with_capacity(alloc, clients as usize)?;
+        let (cell, mut rest) = Cell::ruled(alloc, Numbers::OPENING)?;
+        for _known in 0..clients {
+            let seat = split::<NextClient>(&cell, &mut rest);
+            passes.push(Pass {
+                seat,
+                stopping: false,
+                slowing: false,
+            })?;
+        }
+        let controller = Controller {
+            cell,
+            clients,
+            clock: PhantomData,
+        };
+        let passes = Passes {
+            clients: passes,
+            others: Others { seat: rest },
+        };
+        Ok((controller, passes))
+    }
+
+    /// Takes all passes back. There is one history, which is legal. Its calls are the clients', and each pass has seen
+    /// a beginning of it, with all calls of its own.
+    pub fn close<R: Wait>(self, rt: &R, passes: Passes)
+        requires all { AreAll self passes }
+        ensures history { (history : List ControllerCall) × IsHistoryOf passes.clients.items history }
+    {
+        let Controller {
+            cell,
+            clients: _,
+            clock: _,
+        } = self;
+        let Passes { clients, others } = passes;
+        let mut rest = others.seat;
+        for mut pass in clients {
+            let seat = split::<Moved>(&cell, &mut pass.seat);
+            join(&cell, &mut rest, seat);
+        }
+        // The history is told at a step, and no pass needs to be taken for that.
+        load::<Closing, R>(&cell, rt, &mut rest);
+    }
+}

@@ -1,0 +1,152 @@
+//! The rule of the five words: what they are, and what each pass knows of the calls so far.
+//!
+//! The history of calls exists in the proofs alone. Of the structs and enums here no value is made.
+
+use crate::numbers::{Action, Numbers};
+use atomic_table::{Join, Split};
+use crossbeam_utils::atomic::seq_cell::{Pass, RuledSeqCell};
+use crossbeam_utils::rule::{Outcome, Protocol};
+use std::collections::LinkedList;
+use std::marker::{Brand, PhantomData};
+
+/// A call in the controller's history: whose, and what.
+pub struct Call {
+    pub client: u64,
+    pub action: Action,
+}
+
+/// Whose calls a pass makes.
+pub enum Caller {
+    /// Nobody's: it only knows what was seen.
+    Nobody,
+    /// This client's.
+    Client(u64),
+    /// Those of all but the clients from 1 to this one. Such a pass makes no call.
+    Others(u64),
+}
+
+/// Whose calls a pass makes, and the beginning of the history that it has seen.
+pub struct Observer {
+    pub caller: Caller,
+    pub seen: LinkedList<Call>,
+}
+
+/// What a pass knows: one observer, but several while it takes in another pass, and at closing.
+pub type View = LinkedList<Observer>;
+
+/// The words are the numbers after one history of calls.
+pub struct OneHistory;
+
+impl Protocol<Numbers, View> for OneHistory {
+    ghost use Rattle.engine_controller.specs.Rule.{Kept, others};
+
+    ghost holds = { Kept };
+
+    ghost first = { others 0 };
+}
+
+/// The five words.
+pub type Cell = RuledSeqCell<Numbers, View, OneHistory, 5>;
+
+/// A view of the five words.
+pub type Seat = Pass<Numbers, View>;
+
+/// A load that shows the history so far, and is no call.
+pub struct Sight;
+
+impl Outcome<Numbers, View> for Sight {
+    ghost use Rattle.engine_controller.specs.Rule.{Sees};
+
+    ghost then = { Sees };
+}
+
+/// A load that is a call itself: `look`.
+pub struct Looking;
+
+impl Outcome<Numbers, View> for Looking {
+    ghost use Rattle.engine_controller.specs.declared.numbers.Action.TheVariants.{Look};
+    ghost use Rattle.engine_controller.specs.Rule.{Makes};
+
+    ghost then = { λ v x _ w. Makes Look v x w };
+}
+
+/// The load at closing.
+pub struct Closing;
+
+impl Outcome<Numbers, View> for Closing {
+    ghost use Rattle.engine_controller.specs.Rule.{Closes};
+
+    ghost then = { λ v _ _ w. Closes v w };
+}
+
+/// What is asked for by an exchange: this call, where the numbers are those that were found before.
+pub trait Asking {
+    ghost use Rattle.engine_controller.specs.declared.numbers.Action.{Action};
+    ghost use Rattle.engine_controller.specs.declared.numbers.Numbers.{Numbers};
+
+    ghost call: { Action };
+
+    ghost found: { Numbers };
+}
+
+/// Each exchange picks its own. What stands here is only what a type must have.
+impl Asking for Brand {
+    ghost use Rattle.engine_controller.specs.declared.numbers.Action.TheVariants.{Look};
+
+    ghost call = { Look };
+
+    ghost found = { record { stops = 0; delays = 0; rate = 1; credit = 0; next = 0 } };
+}
+
+/// An exchange that asks for this. That its outcome knows the call is why one step is enough for a call: it tells that
+/// the call was made also where the call changes no number.
+pub struct Exchange<J: Asking> {
+    asking: PhantomData<J>,
+}
+
+impl<J: Asking> Outcome<Numbers, View> for Exchange<J> {
+    ghost use Rattle.engine_controller.specs.Rule.{Exchanges};
+
+    ghost then = { λ v x _ w. Exchanges J.call J.found v x w };
+}
+
+/// The next client's pass is cut off.
+pub struct NextClient;
+
+impl Split<View> for NextClient {
+    ghost use Rattle.engine_controller.specs.Rule.{fewer_others, next_client};
+
+    ghost left = { fewer_others };
+
+    ghost right = { next_client };
+}
+
+/// What a pass has seen is copied.
+pub struct Copied;
+
+impl Split<View> for Copied {
+    ghost use Rattle.engine_controller.specs.Rule.{note_of};
+
+    ghost left = { λ v. v };
+
+    ghost right = { note_of };
+}
+
+/// A whole view goes to a new pass, since one that has made calls can't be joined itself.
+pub struct Moved;
+
+impl Split<View> for Moved {
+    ghost use Rattle.std.specs.Prelude.{[]};
+
+    ghost left = { λ _. [] };
+
+    ghost right = { λ v. v };
+}
+
+impl Join<View> for Moved {
+    ghost use Rattle.std.specs.Prelude.{[], ◌++◌};
+
+    ghost both = { λ v w. v ++ w };
+
+    ghost spent = { [] };
+}

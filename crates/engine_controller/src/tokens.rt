@@ -1,0 +1,107 @@
+//! The calls that take a token or give one back. A client asks its own pass whether it holds one.
+
+ghost use Rattle.std.specs.Prelude.{◌≡◌, ◌++◌, true, false, List, None, OnOk, OnErr};
+ghost use Rattle.model_base.specs.Controller.{ControllerCall, stop, unstop, slow, unslow};
+ghost use Rattle.model_base.specs.Tokens.{holds_stop, holds_slow, given_back};
+ghost use Rattle.engine_controller.specs.Passes.{client_of, seen_by, asked_by, IsPassOf, EndsWith, GivesBack};
+
+use crate::controller::Controller;
+use crate::error::{Held, NotHeld};
+use crate::numbers::Action;
+use crate::pass::Pass;
+use base_devices::Clock;
+use std::sync::Wait;
+
+impl<C: Clock> Controller<C> {
+    /// Whether the client holds a stop token.
+    pub fn is_stopping(&self, pass: &Pass) -> bool
+        requires own { IsPassOf self.now pass.now }
+        ensures { result ≡ holds_stop (asked_by pass.now) }
+    {
+        pass.stopping
+    }
+
+    /// Takes the client's stop token. While anybody holds one, writes are stopped. Where the client holds one already,
+    /// nothing is called.
+    pub fn stop<R: Wait>(&self, rt: &R, pass: &mut Pass) -> Result<(), Held>
+        requires own { IsPassOf self.now pass.old }
+        ensures own { IsPassOf self.now pass.new × (client_of pass.new ≡ client_of pass.old) }
+        ensures done { OnOk result ((holds_stop (asked_by pass.old) ≡ false)
+            × EndsWith (client_of pass.old) (seen_by pass.old) stop None (seen_by pass.new)) }
+        ensures held { OnErr result ((holds_stop (asked_by pass.old) ≡ true)
+            × (seen_by pass.new ≡ seen_by pass.old)) }
+    {
+        if pass.stopping {
+            return Err(Held);
+        }
+        self.call(rt, &mut pass.seat, Action::Stop);
+        pass.stopping = true;
+        Ok(())
+    }
+
+    /// Gives the client's stop token back. Where it holds none, nothing is called.
+    pub fn unstop<R: Wait>(&self, rt: &R, pass: &mut Pass) -> Result<(), NotHeld>
+        requires own { IsPassOf self.now pass.old }
+        ensures own { IsPassOf self.now pass.new × (client_of pass.new ≡ client_of pass.old) }
+        ensures done { OnOk result ((holds_stop (asked_by pass.old) ≡ true)
+            × EndsWith (client_of pass.old) (seen_by pass.old) unstop None (seen_by pass.new)) }
+        ensures not_held { OnErr result ((holds_stop (asked_by pass.old) ≡ false)
+            × (seen_by pass.new ≡ seen_by pass.old)) }
+    {
+        if !pass.stopping {
+            return Err(NotHeld);
+        }
+        self.call(rt, &mut pass.seat, Action::Unstop);
+        pass.stopping = false;
+        Ok(())
+    }
+
+    /// Takes the client's slow token, with a rate in bytes a second. A rate of 0 is 1. Where the client holds one
+    /// already, nothing is called.
+    pub fn slow<R: Wait>(&self, rt: &R, pass: &mut Pass, rate: u64) -> Result<(), Held>
+        requires own { IsPassOf self.now pass.old }
+        ensures own { IsPassOf self.now pass.new × (client_of pass.new ≡ client_of pass.old) }
+        ensures done { OnOk result ((holds_slow (asked_by pass.old) ≡ false)
+            × EndsWith (client_of pass.old) (seen_by pass.old) (slow rate) None (seen_by pass.new)) }
+        ensures held { OnErr result ((holds_slow (asked_by pass.old) ≡ true)
+            × (seen_by pass.new ≡ seen_by pass.old)) }
+    {
+        if pass.slowing {
+            return Err(Held);
+        }
+        self.call(rt, &mut pass.seat, Action::Slow { rate });
+        pass.slowing = true;
+        Ok(())
+    }
+
+    /// Gives the client's slow token back. The rate, the credit and the next refill stay. Where the client holds none,
+    /// nothing is called.
+    pub fn unslow<R: Wait>(&self, rt: &R, pass: &mut Pass) -> Result<(), NotHeld>
+        requires own { IsPassOf self.now pass.old }
+        ensures own { IsPassOf self.now pass.new × (client_of pass.new ≡ client_of pass.old) }
+        ensures done { OnOk result ((holds_slow (asked_by pass.old) ≡ true)
+            × EndsWith (client_of pass.old) (seen_by pass.old) unslow None (seen_by pass.new)) }
+        ensures not_held { OnErr result ((holds_slow (asked_by pass.old) ≡ false)
+            × (seen_by pass.new ≡ seen_by pass.old)) }
+    {
+        if !pass.slowing {
+            return Err(NotHeld);
+        }
+        self.call(rt, &mut pass.seat, Action::Unslow);
+        pass.slowing = false;
+        Ok(())
+    }
+
+    /// Gives back the tokens that the client holds, the stop token first, and makes no other call.
+    pub fn end<R: Wait>(&self, rt: &R, pass: &mut Pass)
+        requires own { IsPassOf self.now pass.old }
+        ensures own { IsPassOf self.now pass.new × (client_of pass.new ≡ client_of pass.old) }
+        ensures tokens { asked_by pass.new ≡ asked_by pass.old ++ given_back (asked_by pass.old) }
+        ensures calls { (middle : List ControllerCall)
+            × GivesBack (holds_stop (asked_by pass.old)) (client_of pass.old) (seen_by pass.old) unstop middle
+            × GivesBack (holds_slow (asked_by pass.old)) (client_of pass.old) middle unslow (seen_by pass.new) }
+    {
+        let _ = self.unstop(rt, pass);
+        let _ = self.unslow(rt, pass);
+    }
+}

@@ -1,0 +1,88 @@
+//! What is done with the five words and the passes, apart from the type of the clock: each function is one step of the
+//! cell under its rule.
+
+ghost use Rattle.std.specs.Prelude.{◌≡◌, ◌≢◌, ◌++◌, [], Bool, true, if◌then◌else◌, IfOk, IfErr};
+ghost use Rattle.crossbeam_utils.specs.Register.{Turns, Forks};
+ghost use Rattle.crossbeam_utils.specs.Seq.{cell_view};
+ghost use Rattle.model_base.specs.Controller.{numbers_after};
+ghost use Rattle.engine_controller.specs.declared.numbers.Numbers.{Numbers};
+ghost use Rattle.engine_controller.specs.Numbers.{numbers_of, action_of};
+ghost use Rattle.engine_controller.specs.Rule.{Kept, Makes, Sees, MayCall, IsClientView, client_in, seen_in, asked_in};
+
+use crate::numbers::{Action, Numbers};
+use crate::rule::{Asking, Cell, Exchange, Moved, Seat, View};
+use atomic_table::Split;
+use crossbeam_utils::rule::Outcome;
+use std::sync::Wait;
+
+/// Reads the numbers, with an outcome that the caller picks.
+pub fn load<M: Outcome<Numbers, View>, R: Wait>(cell: &Cell, rt: &R, seat: &mut Seat) -> Numbers
+    requires cell { seat.old.table_id ≡ cell.now.table.shared.table_id }
+    requires rule { Turns Kept seat.old.id (cell_view seat.old) (λ x. x) M.then }
+    ensures cell { seat.new.table_id ≡ seat.old.table_id }
+    ensures rule { M.then (cell_view seat.old) result result (cell_view seat.new) }
+{
+    cell.load_as::<M, R>(rt, seat)
+}
+
+/// One exchange, which makes the call where the numbers are still those found before.
+pub fn exchange<J: Asking, R: Wait>(
+    cell: &Cell,
+    rt: &R,
+    seat: &mut Seat,
+    action: Action,
+    found: Numbers,
+    new: Numbers,
+) -> Result<Numbers, Numbers>
+    requires picked { (J.call ≡ action) × (J.found ≡ found) }
+    requires cell { seat.old.table_id ≡ cell.now.table.shared.table_id }
+    requires view { IsClientView (cell_view seat.old) }
+    requires may { MayCall action (asked_in (client_in (cell_view seat.old)) (seen_in (cell_view seat.old))) }
+    requires new { numbers_of new ≡ numbers_after (numbers_of found) (action_of action) }
+    ensures cell { seat.new.table_id ≡ seat.old.table_id }
+    ensures ok { IfOk result (λ _. Makes action (cell_view seat.old) found (cell_view seat.new)) }
+    ensures err { IfErr result (λ x. Sees (cell_view seat.old) x x (cell_view seat.new)) }
+{
+    exchange_as::<Exchange<J>, R>(cell, rt, seat, found, new)
+}
+
+// Puts new numbers in place of those found before, where they are still those, with an outcome that the caller picks.
+fn exchange_as<M: Outcome<Numbers, View>, R: Wait>(
+    cell: &Cell,
+    rt: &R,
+    seat: &mut Seat,
+    found: Numbers,
+    new: Numbers,
+) -> Result<Numbers, Numbers>
+    requires cell { seat.old.table_id ≡ cell.now.table.shared.table_id }
+    requires rule { (eq : Numbers → Numbers → Bool) → ((x y : Numbers) → eq x y ≡ true → x ≡ y)
+        → ((x y : Numbers) → x ≡ y → eq x y ≡ true)
+        → Turns Kept seat.old.id (cell_view seat.old) (λ x. if eq x found then new else x) M.then }
+    ensures cell { seat.new.table_id ≡ seat.old.table_id }
+    ensures ok { IfOk result (λ _. M.then (cell_view seat.old) found new (cell_view seat.new)) }
+    ensures err { IfErr result (λ x. (x ≢ found) × M.then (cell_view seat.old) x x (cell_view seat.new)) }
+{
+    cell.compare_exchange_as::<M, R>(rt, seat, found, new)
+}
+
+/// Cuts a pass in two, as the caller picks.
+pub fn split<M: Split<View>>(cell: &Cell, seat: &mut Seat) -> Seat
+    requires cell { seat.old.table_id ≡ cell.now.table.shared.table_id }
+    requires rule { Forks Kept seat.old.id (cell_view seat.old)
+        (M.left (cell_view seat.old)) (M.right (cell_view seat.old)) }
+    ensures kept { (seat.new.table_id ≡ seat.old.table_id) × (cell_view seat.new ≡ M.left (cell_view seat.old)) }
+    ensures given { (result.table_id ≡ seat.old.table_id) × (cell_view result ≡ M.right (cell_view seat.old))
+        × (result.me.1 ≡ []) }
+{
+    cell.split_pass::<M>(seat)
+}
+
+/// A pass takes in the observers of another, which has made no call.
+pub fn join(cell: &Cell, seat: &mut Seat, other: Seat)
+    requires cell { seat.old.table_id ≡ cell.now.table.shared.table_id }
+    requires other { (other.table_id ≡ seat.old.table_id) × (other.me.1 ≡ []) }
+    ensures cell { seat.new.table_id ≡ seat.old.table_id }
+    ensures view { cell_view seat.new ≡ cell_view seat.old ++ cell_view other }
+{
+    cell.join_pass::<Moved>(seat, other);
+}

@@ -1,0 +1,224 @@
+-- What a client concludes of its answer.
+use Rattle.std.proofs.Common.{◌≡◌, inr, ℕ, ◌-◌, ◌<◌, ◌≤◌, Bool, true, false, not, cond, ◌==◌, ◌&&◌, map, List, [], ◌∷◌, ◌++◌, Option, Some, None, MatchOption, IfSome, Result, Ok, Err, IfOk, IfErr, length, refl, ap, sym, ◌∙◌, subst, arith, append_assoc, append-nil, length-append}
+use Rattle.std.specs.Prelude.{if◌then◌else◌, nat_lt}
+use Rattle.std.specs.List.{AllByRecursion}
+use mathlib.Core.List.{IsPrefix}
+use mathlib.Core.Logic.{dite}
+use native.Mathlib.Decide.{ℕ_discrete}
+use Rattle.std.proofs.lemmas.Bool.{ne_eqb, eq-eqb}
+use Rattle.base_devices.specs.declared.disk.Disk.{Ghosts}
+use Rattle.model_base.specs.declared.write.Refusal.{Refusal}
+use Rattle.model_base.specs.declared.write.Refusal.TheVariants.{Empty, TooLarge, SyncWithoutLog, SelfStop, NoMemory, Incomplete, LogFault, SequenceFull}
+use Rattle.model_base.specs.declared.write.WriteOptions.{WriteOptions}
+use Rattle.model_base.specs.Trace.{Settings}
+use Rattle.model_base.specs.Progress.{early_refusal}
+use Rattle.model_base.specs.Batch.{Record, count_of, size_of_batch}
+use Rattle.model_base.specs.Controller.{ControllerCall, Look, delay}
+use Rattle.model_base.specs.LogContents.{GroupCall}
+use Rattle.model_base.specs.Replies.{IsLater}
+use Rattle.model_base.specs.Tokens.{tokens_of, holds_stop}
+use Rattle.model_base.proofs.Prefixes.{prefix_self, prefix_trans}
+use Rattle.model_base.proofs.Runs.{later_in}
+use Rattle.log_writer.specs.declared.writer.LogWriter.{LogWriter}
+use Rattle.log_writer.specs.Written.{Wrote as LogWrote}
+use Rattle.log_batch.specs.Contents.{Contents}
+use Rattle.table_rule.specs.declared.content.MemberVersions.{MemberVersions}
+use Rattle.table_rule.specs.Histories.{Begins, last_of, versions_of}
+use Rattle.table_rule.proofs.Histories.{versions_append}
+use Rattle.line_rule.specs.declared.view.Handling.{Handling}
+use Rattle.line_rule.specs.Chain.{of}
+use Rattle.engine_controller.specs.declared.controller.Controller.{Controller}
+use Rattle.engine_controller.specs.declared.pass.Note.{Note}
+use Rattle.engine_controller.specs.Passes.{noted, IsNoteOf}
+use Rattle.engine_groups.specs.declared.requests.Request.{Request}
+use Rattle.engine_calls.specs.declared.answers.Receipt.{Receipt}
+use Rattle.engine_calls.specs.declared.answers.Refused.{Refused}
+use Rattle.engine_groups.specs.declared.requests.Reply.{Reply}
+use Rattle.model_accounts.specs.Accounts.{Account, IsRefused, IsRefusedLate, Keeps, Refuses, Wrote}
+use Rattle.model_runs.specs.Written.{IsSyncedBy}
+use Rattle.engine_groups.specs.Clients.{own_commits}
+use Rattle.engine_groups.specs.Handled.{AreHandled, ComesBack, HandsBack, IsLate, ShowsDelay, answer_in, answer_of_refusal, commit_of, noted_in, seen_for}
+use Rattle.engine_groups.specs.Runs.{IsAbove}
+use Rattle.engine_rule.specs.Commits.{Commit, commits_of, held_up}
+use Rattle.engine_rule.specs.Entries.{account_of, SeesMore}
+use Rattle.engine_rule.proofs.Own.{refused_failed, refused_full, refused_held_up, wrote}
+use Rattle.engine_rule.proofs.Synced.{have_synced}
+
+abbrev pub commit : ℕ → Request → Reply → Commit
+commit k q p = commit_of (record { by = k; asked = q; reply = p })
+
+pub commits_told : (k : ℕ) (hs : List (Handling Request Reply)) → commits_of k (map commit_of hs) ≡ own_commits k (of k hs)
+commits_told k [] = refl
+commits_told k (h ∷ hs) = dite (ℕ_discrete h.by k)
+    (λ same. rw (eq-eqb h.by k same) (λ i. commit (same i) h.asked h.reply ∷ commits_told k hs i))
+    (λ other. rw (ne_eqb h.by k other) (commits_told k hs))
+
+pub own_more : (k : ℕ) (mine : List (Request × Reply)) (q : Request) (p : Reply) → own_commits k (mine ++ (q, p) ∷ []) ≡ own_commits k mine ++ commit k q p ∷ []
+own_more k [] q p = refl
+own_more k (t ∷ mine) q p = ap (λ l. commit k t.0 t.1 ∷ l) (own_more k mine q p)
+
+one_pair : {A : Type 0} (x y : A) (xs ys : List A) → x ∷ xs ≡ y ∷ ys → (x ≡ y) × (xs ≡ ys)
+one_pair x y xs ys e = (cc, cc)
+
+-- the newest of what was handled for a client
+back_by : (P : Handling Request Reply → Type 0) (k : ℕ) (h : Handling Request Reply) (hs : List (Handling Request Reply)) (mine : List (Request × Reply)) (q : Request) (p : Reply) (b : Bool) → cond b ((h.asked, h.reply) ∷ of k hs) (of k hs) ≡ mine ++ (q, p) ∷ [] → P h
+    → ((m : List (Request × Reply)) → of k hs ≡ m ++ (q, p) ∷ [] → (by : ℕ) × P (record { by = by; asked = q; reply = p })) → (by : ℕ) × P (record { by = by; asked = q; reply = p })
+back_by P k h hs [] q p true e holds more = let t = (one_pair (h.asked, h.reply) (q, p) (of k hs) [] e).0 in (h.by, subst (λ (z : Request × Reply). P (record { by = h.by; asked = z.0; reply = z.1 })) t holds)
+back_by P k h hs (m ∷ mine) q p true e holds more = more mine (one_pair (h.asked, h.reply) m (of k hs) (mine ++ (q, p) ∷ []) e).1
+back_by P k h hs mine q p false e holds more = more mine e
+
+nothing_last : {A : Type 0} (l : List A) (x : A) → [] ≡ l ++ x ∷ [] → ⊥
+nothing_last [] x e = absurd (cc)
+nothing_last (y ∷ ys) x e = absurd (cc)
+
+pub newest : (P : Handling Request Reply → Type 0) (k : ℕ) (hs : List (Handling Request Reply)) (mine : List (Request × Reply)) (q : Request) (p : Reply) → of k hs ≡ mine ++ (q, p) ∷ [] → AllByRecursion P hs → (by : ℕ) × P (record { by = by; asked = q; reply = p })
+newest P k [] mine q p e all = absurd (nothing_last mine (q, p) e)
+newest P k (h ∷ hs) mine q p e all = back_by P k h hs mine q p (h.by == k) e all.0 (λ m is. newest P k hs m q p is all.1)
+
+pub last_back : (k : ℕ) (hs : List (Handling Request Reply)) (mine : List (Request × Reply)) (q : Request) (p : Reply) → of k hs ≡ mine ++ (q, p) ∷ [] → AllByRecursion HandsBack hs → ComesBack q.batch p.answer
+last_back k hs mine q p e handed_back = (newest HandsBack k hs mine q p e handed_back).1
+
+-- what passed the early checks is logged where it is to be synced, and may not wait where its client stops writes
+logged_by : (empty large sync no_log : Bool) (a b c : Refusal) (rest : Option Refusal) → (if empty then Some a else if large then Some b else if sync && no_log then Some c else rest) ≡ None → sync ≡ true → no_log ≡ false
+logged_by true large sync no_log a b c rest e s = absurd (cc)
+logged_by false true sync no_log a b c rest e s = absurd (cc)
+logged_by false false true true a b c rest e s = absurd (cc)
+logged_by false false true false a b c rest e s = refl
+logged_by false false false no_log a b c rest e s = absurd (cc)
+
+pub logged_if : (bytes : ℕ) (stopping : Bool) (records : List Record) (how : WriteOptions) → early_refusal bytes stopping records how ≡ None → how.sync ≡ true → how.no_log ≡ false
+logged_if bytes stopping records how e = logged_by (count_of records == 0) (nat_lt bytes (size_of_batch records)) how.sync how.no_log Empty (TooLarge (size_of_batch records)) SyncWithoutLog (if stopping && not how.no_slowdown then Some SelfStop else None) e
+
+impatient_by : (empty large unlogged no_slowdown : Bool) (a b c d : Refusal) → (if empty then Some a else if large then Some b else if unlogged then Some c else if true && not no_slowdown then Some d else None) ≡ None → no_slowdown ≡ true
+impatient_by true large unlogged no_slowdown a b c d e = absurd (cc)
+impatient_by false true unlogged no_slowdown a b c d e = absurd (cc)
+impatient_by false false true no_slowdown a b c d e = absurd (cc)
+impatient_by false false false true a b c d e = refl
+impatient_by false false false false a b c d e = absurd (cc)
+
+pub impatient_if : (bytes : ℕ) (records : List Record) (how : WriteOptions) → early_refusal bytes true records how ≡ None → how.no_slowdown ≡ true
+impatient_if bytes records how e = impatient_by (count_of records == 0) (nat_lt bytes (size_of_batch records)) (how.sync && how.no_log) how.no_slowdown Empty (TooLarge (size_of_batch records)) SyncWithoutLog SelfStop e
+
+pub none_is : {A : Type 0} (o : Option A) → ((x : A) → o ≡ Some x → ⊥) → o ≡ None
+none_is None h = refl
+none_is (Some x) h = absurd (h x refl)
+
+pub begins_self : {A : Type 0} (xs : List A) → Begins xs xs
+begins_self xs = ([], sym (append-nil xs))
+
+pub keeps_self : (v : Account) → Keeps v v
+keeps_self v = record {
+  number = refl;
+  mine = refl;
+  asked = refl;
+  attempts = refl;
+  seen = record { start = refl; published = begins_self v.seen.published; controller_calls = prefix_self v.seen.controller_calls };
+}
+
+-- a refusal by the early checks
+pub refuses_early : (settings : Settings) (v : Account) (records : List Record) (how : WriteOptions) (why : Refusal) → early_refusal settings.batch_bytes (holds_stop v.asked) records how ≡ Some why → Refuses settings v records how why v
+refuses_early settings v records how why early =
+    subst (λ (o : Option Refusal). MatchOption o (IsRefusedLate v records how why v) (λ (x : Refusal). (why ≡ x) × Keeps v v)) (sym early) (refl, keeps_self v)
+
+-- a refusal past the early checks
+pub refuses_late : (settings : Settings) (v : Account) (records : List Record) (how : WriteOptions) (why : Refusal) (w : Account) → early_refusal settings.batch_bytes (holds_stop v.asked) records how ≡ None → IsRefusedLate v records how why w → Refuses settings v records how why w
+refuses_late settings v records how why w passed late =
+    subst (λ (o : Option Refusal). MatchOption o (IsRefusedLate v records how why w) (λ (early : Refusal). (why ≡ early) × Keeps v w)) (sym passed) late
+
+-- what a client concludes of an answer to this batch, where its account was the first and is the second
+pub record Concludes {D : Type 0} {ghosts : Ghosts D} (opened : LogWriter D ghosts) (settings : Settings) (v : Account) (batch : Contents) (how : WriteOptions) (answer : Result Receipt Refused) (w : Account) : Type 0 where
+  pub accepted : IfOk answer (λ (r : Receipt). Wrote settings v batch.records how r.first r.group_last w)
+  pub back : IfOk answer (λ (r : Receipt). (r.batch ≡ record batch { sequence = r.first }) × (r.count ≡ count_of batch.records))
+  pub synced : IfOk answer (λ (r : Receipt). how.sync ≡ true → (calls : List GroupCall) × (log : LogWriter D ghosts) × LogWrote opened calls log × IsSyncedBy r.first batch.records calls)
+  pub refused : IfErr answer (λ (e : Refused). Refuses settings v batch.records how e.why w)
+  pub unchanged : IfErr answer (λ (e : Refused). e.batch ≡ batch)
+
+module _ {C D : Type 0} {ghosts : Ghosts D} (controller : Controller C) (opened : LogWriter D ghosts) (start k : ℕ) (settings : Settings) (q : Request) (p : Reply) (mine : List (Request × Reply)) (handled : List (Handling Request Reply)) (kept : AreHandled controller opened start handled) (own : of k handled ≡ mine ++ (q, p) ∷ []) (seen now : List (List MemberVersions)) (sees : Begins seen now)
+    (known after : List ControllerCall) (more : SeesMore k known after) (noted_known : noted_in q.note ≡ known) (sees_note : IfSome p.note (λ (n : Note). IsPrefix (noted n) after))
+    (passed : early_refusal settings.batch_bytes (holds_stop (tokens_of k known)) q.batch.records q.options ≡ None) (above : IsAbove (last_of start seen) p.answer) where
+  is : commits_of k (map commit_of handled) ≡ own_commits k mine ++ commit k q p ∷ []
+  is = commits_told k handled ∙ (ap (own_commits k) own ∙ own_more k mine q p)
+
+  abbrev old : Account
+  old = account_of start k (own_commits k mine) seen known
+
+  abbrev new : Account
+  new = account_of start k (own_commits k (mine ++ (q, p) ∷ [])) now after
+
+  new_is : account_of start k (own_commits k mine ++ commit k q p ∷ []) now after ≡ new
+  new_is = ap (λ cs. account_of start k cs now after) (sym (own_more k mine q p))
+
+  pub answered_ok : (r : Receipt) → p.answer ≡ Ok r → r.group_last ≤ last_of start now → Wrote settings old q.batch.records q.options r.first r.group_last new
+  answered_ok r ok reached = subst (Wrote settings old q.batch.records q.options r.first r.group_last) new_is
+      (wrote start k (own_commits k mine) (commit k q p) seen now sees known after more (map commit_of handled) kept.answered is settings r.first r.group_last (ap answer_in ok) passed (subst (IsAbove (last_of start seen)) ok above) reached)
+
+  -- the note of a reply is seen, and so is the delay that it shows
+  noted_after : (note : Option Note) → IfSome note (λ (n : Note). IsNoteOf controller n × (noted n ≡ seen_for p)) → IfSome note (λ (n : Note). IsPrefix (noted n) after) → (n : Note) → note ≡ Some n → IsPrefix (seen_for p) after
+  noted_after None a b n e = absurd (cc)
+  noted_after (Some m) a b n e = subst (λ (l : List ControllerCall). IsPrefix l after) a.1 b
+
+  refused_by : (why : Refusal) (e : Refused) → e.why ≡ why → p.answer ≡ Err e → IsLate why → IsRefused old q.batch.records q.options why new
+  refused_by (LogFault n) e is_why err late = subst (IsRefused old q.batch.records q.options (LogFault n)) new_is
+      (refused_failed start k (own_commits k mine) (commit k q p) seen now sees known after more n (ap answer_in err ∙ ap answer_of_refusal is_why))
+  refused_by (SequenceFull l) e is_why err late = subst (IsRefused old q.batch.records q.options (SequenceFull l)) new_is
+      (refused_full start k (own_commits k mine) (commit k q p) seen now sees known after more (map commit_of handled) kept.answered is l (ap answer_in err ∙ ap answer_of_refusal is_why) (subst (IsAbove (last_of start seen)) err above l is_why))
+  refused_by (Incomplete s d w) e is_why err late =
+      let numbers : Look = record { stops = s; delays = d; wait = w } in
+      let told : answer_in p.answer ≡ held_up numbers = ap answer_in err ∙ ap answer_of_refusal is_why in
+      let shows = (newest (ShowsDelay controller) k handled mine q p own kept.shown).1 in
+      let h = shows.held_up numbers told in
+      let delayed = h.3 in
+      let front = noted_after p.note shows.note sees_note h.2.0 h.2.1 in
+      let later = later_in (seen_for p) after front (length (noted_in q.note)) (length (seen_for p) - 1) (record { client = delayed.by; action = delay delayed.now delayed.bytes; told = Some numbers }) delayed.is_later in
+      subst (IsRefused old q.batch.records q.options (Incomplete s d w)) new_is
+      (refused_held_up start k (own_commits k mine) (commit k q p) seen now sees known after more numbers delayed.by delayed.now delayed.bytes told h.0 h.1
+      (subst (λ (l : List ControllerCall). IsLater after (length l) (length (seen_for p) - 1) (record { client = delayed.by; action = delay delayed.now delayed.bytes; told = Some numbers })) noted_known later))
+  refused_by Empty e is_why err late = absurd late
+  refused_by (TooLarge size) e is_why err late = absurd late
+  refused_by SyncWithoutLog e is_why err late = absurd late
+  refused_by SelfStop e is_why err late = absurd late
+  refused_by NoMemory e is_why err late = absurd late
+
+  back : ComesBack q.batch p.answer
+  back = last_back k handled mine q p own kept.handed_back
+
+  pub answered_err : (e : Refused) → p.answer ≡ Err e → Refuses settings old q.batch.records q.options e.why new
+  answered_err e err = refuses_late settings old q.batch.records q.options e.why new passed (inr (refused_by e.why e refl err (subst (ComesBack q.batch) err back).1))
+
+  -- a batch that was to be synced was, by one of the calls that wrote the log
+  pub answered_synced : (r : Receipt) → p.answer ≡ Ok r → q.options.sync ≡ true → (calls : List GroupCall) × (log : LogWriter D ghosts) × LogWrote opened calls log × IsSyncedBy r.first q.batch.records calls
+  answered_synced r ok sync =
+      let w = kept.written in
+      let h = have_synced start k (map commit_of handled) (own_commits k mine) (commit k q p) w.worked r.first r.group_last kept.answered w.parts is (ap answer_in ok) sync (logged_if settings.batch_bytes (holds_stop (tokens_of k known)) q.batch.records q.options passed sync) in
+      (w.calls, w.log, w.wrote, record { front = h.front; call = h.call; rest = h.rest ++ w.lost; there = w.both ∙ (ap (λ (l : List GroupCall). l ++ w.lost) h.there ∙ append_assoc h.front (h.call ∷ h.rest) w.lost); is = h.is })
+
+  -- all that the client concludes
+  pub concludes : (answer : Result Receipt Refused) → p.answer ≡ answer → IfOk answer (λ (r : Receipt). r.group_last ≤ last_of start now) → Concludes opened settings old q.batch q.options answer new
+  concludes (Ok r) ok reached = let b = subst (ComesBack q.batch) ok back in record { accepted = answered_ok r ok reached; back = b; synced = answered_synced r ok; refused = tt; unchanged = tt }
+  concludes (Err e) err reached = let b = subst (ComesBack q.batch) err back in record { accepted = tt; back = tt; synced = tt; refused = answered_err e err; unchanged = b.0 }
+
+-- the note of a reply is the controller's
+pub note_of : {C : Type 0} (controller : Controller C) (note : Option Note) (seen : List ControllerCall) → IfSome note (λ (n : Note). IsNoteOf controller n × (noted n ≡ seen)) → IfSome note (IsNoteOf controller)
+note_of controller None seen h = tt
+note_of controller (Some n) seen h = h.0
+
+-- Going on
+
+pub sees_on : (k : ℕ) (a b c : List ControllerCall) → SeesMore k a b → SeesMore k b c → SeesMore k a c
+sees_on k a b c f g = record { begins = prefix_trans a b c f.begins g.begins; tokens = g.tokens ∙ f.tokens }
+
+pub begins_on : {A : Type 0} (xs ys zs : List A) → Begins xs ys → Begins ys zs → Begins xs zs
+begins_on xs ys zs a b = (a.0 ++ b.0, b.1 ∙ (ap (λ l. l ++ b.0) a.1 ∙ append_assoc xs a.0 b.0))
+
+-- who has seen no less of what is published has seen it up to no lower sequence
+last_later : (start : ℕ) (xs ys : List (List MemberVersions)) → Begins xs ys → last_of start xs ≤ last_of start ys
+last_later start xs ys b = let e = ap (λ l. length (versions_of l)) b.1 ∙ (ap length (versions_append xs b.0) ∙ length-append (versions_of xs) (versions_of b.0)) in omega (arith, e)
+
+above_all : (m n : ℕ) (answer : Result Receipt Refused) → m ≤ n → IsAbove n answer → IsAbove m answer
+above_all m n (Ok r) low above = let a : n < r.first = above in omega (arith, low, a)
+above_all m n (Err e) low above = λ last is. let a : n ≤ last = above last is in omega (arith, low, a)
+
+-- an answer above what a client was shown is above all that it had seen before
+pub above_seen : (start start' shown : ℕ) (before loaded : List (List MemberVersions)) (answer : Result Receipt Refused) → start ≡ start' → Begins before loaded → shown ≡ last_of start' loaded → IsAbove shown answer → IsAbove (last_of start before) answer
+above_seen start start' shown before loaded answer same more is above =
+    above_all (last_of start before) shown answer (let l = last_later start before loaded more in let e = ap (λ (n : ℕ). last_of n loaded) same in omega (arith, l, e, is)) above

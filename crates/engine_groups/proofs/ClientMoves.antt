@@ -1,0 +1,183 @@
+-- A client whose seat or whose pass went on, and its account then.
+use Rattle.std.proofs.Common.{◌≡◌, ℕ, ◌-◌, Bool, true, false, List, [], ◌∷◌, ◌++◌, Option, None, Result, Ok, Err, IfOk, OnOk, OnErr, length, refl, ap, sym, ◌∙◌, subst, append-nil}
+use Rattle.std.specs.List.{AllByRecursion}
+use mathlib.Core.List.{IsPrefix}
+use Rattle.base_devices.specs.declared.disk.Disk.{Ghosts}
+use Rattle.model_base.specs.Controller.{ControllerCall, Action, Look, unstop, unslow}
+use Rattle.model_base.specs.Groups.{is_delay}
+use Rattle.model_base.specs.Map.{Pairs}
+use Rattle.model_base.specs.Tokens.{tokens_of, given_back}
+use Rattle.model_base.proofs.Prefixes.{prefix_self, prefix_trans}
+use Rattle.table_rule.specs.declared.view.Opening.{Opening}
+use Rattle.table_rule.specs.Histories.{Begins, In, last_of, map_after}
+use Rattle.table_calls.specs.Account.{Account as TableAccount, Learns}
+use Rattle.model_accounts.specs.Accounts.{Keeps, Asks, GivesBack, Reads as ReadsAtEnd}
+use Rattle.engine_controller.specs.declared.pass.Pass.{Pass}
+use Rattle.engine_controller.specs.Delays.{delays_of, place_if}
+use Rattle.engine_controller.specs.Passes.{IsPassOf, EndsWith, GoesOn, GivesBack as GivesBackIn, asked_by, seen_by, token_in, client_of as pass_client}
+use Rattle.engine_controller.proofs.Account.{ends_begins, ends_tokens, ends_last, goes_begins, goes_tokens}
+use Rattle.engine_controller.proofs.Places.{ends_delays, goes_delays}
+use Rattle.engine_rule.specs.Asked.{place_of}
+use Rattle.engine_rule.specs.Commits.{Commit}
+use Rattle.engine_rule.specs.Entries.{SeesMore}
+use Rattle.engine_groups.specs.declared.engine.GroupEngine.{GroupEngine}
+use Rattle.engine_groups.specs.declared.engine.Client.{Client}
+use Rattle.engine_groups.specs.Clients.{IsClientOf, account_in, own_commits, told_of}
+use Rattle.engine_groups.proofs.Answered.{begins_self}
+
+pub on_ok : {A B : Type 0} {P Q : Type 0} (r : Result A B) → (P → Q) → OnOk r P → OnOk r Q
+on_ok (Ok x) f p = f p
+on_ok (Err e) f p = tt
+
+pub on_err : {A B : Type 0} {P Q : Type 0} (r : Result A B) → (P → Q) → OnErr r P → OnErr r Q
+on_err (Ok x) f p = tt
+on_err (Err e) f p = f p
+
+-- who gives back what it holds has seen no less then, and asked for no delay
+back_begins : (b : Bool) (client : ℕ) (seen : List ControllerCall) (action : Action) (after : List ControllerCall) → GivesBackIn b client seen action after → IsPrefix seen after
+back_begins true client seen action after h = ends_begins client seen action None after h
+back_begins false client seen action after h = subst (λ (l : List ControllerCall). IsPrefix seen l) (sym h) (prefix_self seen)
+
+back_no_delays : (b : Bool) (client : ℕ) (seen : List ControllerCall) (action : Action) (after : List ControllerCall) → is_delay action ≡ false → GivesBackIn b client seen action after → delays_of client after ≡ delays_of client seen
+back_no_delays true client seen action after still h = ends_delays client seen action None after h ∙ (ap (λ (d : Bool). delays_of client seen ++ place_if d (length after - 1)) still ∙ append-nil (delays_of client seen))
+back_no_delays false client seen action after still h = ap (delays_of client) h
+
+module _ {D T C G S U P : Type 0} {ghosts : Ghosts D} (opening : T → Opening) (ours : T → S → Type 0) (account : S → TableAccount) (e : GroupEngine D T C G S U P ghosts) (c : Client D T C S U P ghosts) (fits : IsClientOf opening ours account e c) where
+  -- its seat has seen more
+  pub seat_moved : (seat : S) → ours e.table seat → Learns (opening e.table).start (account c.seat) (account seat) → IsClientOf opening ours account e (record c { seat = seat })
+  seat_moved seat our learns = let s = fits.seated in record {
+    seated = record {
+      is_engine = s.is_engine;
+      writer = s.writer;
+      number = s.number;
+      seat = our;
+      ready = record { idle = learns.stage ∙ s.ready.idle; none_launched = learns.launched ∙ s.ready.none_launched };
+      seat_number = learns.number ∙ s.seat_number;
+      start = s.start;
+      pass = s.pass;
+      pass_number = s.pass_number;
+      can_lead = record { lists = s.can_lead.lists; layout = s.can_lead.layout };
+    };
+    out = fits.out;
+    has_asked = fits.has_asked;
+  }
+
+  pub seat_keeps : (seat : S) → Begins (account c.seat).seen (account seat).seen → Keeps (account_in opening ours account c) (account_in opening ours account (record c { seat = seat }))
+  seat_keeps seat seen = record {
+    number = refl;
+    mine = refl;
+    asked = refl;
+    attempts = refl;
+    seen = record { start = refl; published = seen; controller_calls = prefix_self (seen_by c.pass) };
+  }
+
+  -- what the seat read is so at the end of what the client has seen
+  pub seat_reads : {A B : Type 0} (r : Result A B) (at : A → ℕ) (answers : A → Pairs → Type 0) (seat : S) → IfOk r (λ x. at x ≡ last_of (opening e.table).start (account seat).seen)
+      → IfOk r (λ x. answers x (map_after (account seat).seen)) → IfOk r (λ x. ReadsAtEnd (at x) (answers x) (account_in opening ours account (record c { seat = seat })))
+  seat_reads (Ok x) at answers seat is answer = record { at_is = is ∙ ap (λ (start : ℕ). last_of start (account seat).seen) (sym fits.seated.start); answer = answer }
+  seat_reads (Err x) at answers seat is answer = tt
+
+  -- its pass has seen more, with no delay of its own
+  pub pass_moved : (pass : Pass) → IsPassOf e.controller pass → pass_client pass ≡ pass_client c.pass → delays_of c.number (seen_by pass) ≡ delays_of c.number (seen_by c.pass) → IsClientOf opening ours account e (record c { pass = pass })
+  pass_moved pass own same delays = let s = fits.seated in record {
+    seated = record {
+      is_engine = s.is_engine;
+      writer = s.writer;
+      number = s.number;
+      seat = s.seat;
+      ready = s.ready;
+      seat_number = s.seat_number;
+      start = s.start;
+      pass = own;
+      pass_number = same ∙ s.pass_number;
+      can_lead = record { lists = s.can_lead.lists; layout = s.can_lead.layout };
+    };
+    out = fits.out;
+    has_asked = subst (AllByRecursion (λ (place : ℕ). (x : Commit) × In x (own_commits c.number (told_of c)) × (place_of x ≡ place))) (sym delays) fits.has_asked;
+  }
+
+  -- the tokens, by the client's number
+  pub same_tokens : asked_by c.pass ≡ tokens_of c.number (seen_by c.pass)
+  same_tokens = ap (λ (k : ℕ). tokens_of k (seen_by c.pass)) fits.seated.pass_number
+
+  -- it saw and asked nothing
+  pub pass_keeps : (pass : Pass) → seen_by pass ≡ seen_by c.pass → Keeps (account_in opening ours account c) (account_in opening ours account (record c { pass = pass }))
+  pass_keeps pass same = record {
+    number = refl;
+    mine = refl;
+    asked = ap (tokens_of c.number) same;
+    attempts = refl;
+    seen = record { start = refl; published = begins_self (account c.seat).seen; controller_calls = subst (IsPrefix (seen_by c.pass)) (sym same) (prefix_self (seen_by c.pass)) };
+  }
+
+  -- it made a call that is no delay
+  pub no_delays : (pass : Pass) (action : Action) (told : Option Look) → EndsWith (pass_client c.pass) (seen_by c.pass) action told (seen_by pass) → is_delay action ≡ false → delays_of c.number (seen_by pass) ≡ delays_of c.number (seen_by c.pass)
+  no_delays pass action told ends still =
+      let own = subst (λ (k : ℕ). EndsWith k (seen_by c.pass) action told (seen_by pass)) fits.seated.pass_number ends in
+      ends_delays c.number (seen_by c.pass) action told (seen_by pass) own ∙ (ap (λ (b : Bool). delays_of c.number (seen_by c.pass) ++ place_if b (length (seen_by pass) - 1)) still ∙ append-nil (delays_of c.number (seen_by c.pass)))
+
+  -- it took a token or gave one back
+  module _ (pass : Pass) (action : Action) (ends : EndsWith (pass_client c.pass) (seen_by c.pass) action None (seen_by pass)) where
+    ends_own : EndsWith c.number (seen_by c.pass) action None (seen_by pass)
+    ends_own = subst (λ (k : ℕ). EndsWith k (seen_by c.pass) action None (seen_by pass)) fits.seated.pass_number ends
+
+    pub pass_asks : token_in action ≡ action ∷ [] → Asks (account_in opening ours account c) action (account_in opening ours account (record c { pass = pass }))
+    pass_asks is =
+        let last = ends_last c.number (seen_by c.pass) action None (seen_by pass) ends_own in record {
+          number = refl;
+          mine = refl;
+          asked = ends_tokens c.number (seen_by c.pass) action None (seen_by pass) ends_own ∙ ap (λ (l : List Action). tokens_of c.number (seen_by c.pass) ++ l) is;
+          attempts = refl;
+          seen = record { start = refl; published = begins_self (account c.seat).seen; controller_calls = ends_begins c.number (seen_by c.pass) action None (seen_by pass) ends_own };
+          place = last.place;
+          is_later = last.is_later;
+        }
+
+    -- with what the client held before
+    pub asks_if : (holds : List Action → Bool) (b : Bool) → token_in action ≡ action ∷ [] → holds (asked_by c.pass) ≡ b
+        → (holds (account_in opening ours account c).asked ≡ b) × Asks (account_in opening ours account c) action (account_in opening ours account (record c { pass = pass }))
+    asks_if holds b is held = (ap holds (sym same_tokens) ∙ held, pass_asks is)
+
+  pub keeps_if : (pass : Pass) (holds : List Action → Bool) (b : Bool) → holds (asked_by c.pass) ≡ b → seen_by pass ≡ seen_by c.pass
+      → (holds (account_in opening ours account c).asked ≡ b) × Keeps (account_in opening ours account c) (account_in opening ours account (record c { pass = pass }))
+  keeps_if pass holds b held same = (ap holds (sym same_tokens) ∙ held, pass_keeps pass same)
+
+  -- a call was done, or refused
+  pub token_delays : {A B : Type 0} (P Q : Type 0) (r : Result A B) (pass : Pass) (action : Action) → is_delay action ≡ false
+      → OnOk r (P × EndsWith (pass_client c.pass) (seen_by c.pass) action None (seen_by pass)) → OnErr r (Q × (seen_by pass ≡ seen_by c.pass))
+      → delays_of c.number (seen_by pass) ≡ delays_of c.number (seen_by c.pass)
+  token_delays P Q (Ok x) pass action still done held = no_delays pass action None done.1 still
+  token_delays P Q (Err x) pass action still done held = ap (delays_of c.number) held.1
+
+  -- it gave back what it held
+  module _ (pass : Pass) (middle : List ControllerCall) (a b : Bool) (first : GivesBackIn a (pass_client c.pass) (seen_by c.pass) unstop middle) (second : GivesBackIn b (pass_client c.pass) middle unslow (seen_by pass)) where
+    back_delays : (k : ℕ) → k ≡ c.number → GivesBackIn a k (seen_by c.pass) unstop middle → GivesBackIn b k middle unslow (seen_by pass) → delays_of c.number (seen_by pass) ≡ delays_of c.number (seen_by c.pass)
+    back_delays k is f s = subst (λ (n : ℕ). delays_of n (seen_by pass) ≡ delays_of n (seen_by c.pass)) is
+        (back_no_delays b k middle unslow (seen_by pass) refl s ∙ back_no_delays a k (seen_by c.pass) unstop middle refl f)
+
+    pub end_moved : IsPassOf e.controller pass → pass_client pass ≡ pass_client c.pass → IsClientOf opening ours account e (record c { pass = pass })
+    end_moved own same = pass_moved pass own same (back_delays (pass_client c.pass) fits.seated.pass_number first second)
+
+    pub end_gives : pass_client pass ≡ pass_client c.pass → asked_by pass ≡ asked_by c.pass ++ given_back (asked_by c.pass) → GivesBack (account_in opening ours account c) (account_in opening ours account (record c { pass = pass }))
+    end_gives same tokens = record {
+      number = refl;
+      mine = refl;
+      asked = ap (λ (k : ℕ). tokens_of k (seen_by pass)) (sym (same ∙ fits.seated.pass_number)) ∙ (tokens ∙ ap (λ (l : List Action). l ++ given_back l) same_tokens);
+      attempts = refl;
+      seen = record {
+        start = refl;
+        published = begins_self (account c.seat).seen;
+        controller_calls = prefix_trans (seen_by c.pass) middle (seen_by pass) (back_begins a (pass_client c.pass) (seen_by c.pass) unstop middle first) (back_begins b (pass_client c.pass) middle unslow (seen_by pass) second);
+      };
+    }
+
+  -- its pass has seen more of others' calls
+  module _ (pass : Pass) (goes : GoesOn (pass_client c.pass) (seen_by c.pass) (seen_by pass)) where
+    goes_own : GoesOn c.number (seen_by c.pass) (seen_by pass)
+    goes_own = subst (λ (k : ℕ). GoesOn k (seen_by c.pass) (seen_by pass)) fits.seated.pass_number goes
+
+    pub learn_moved : IsPassOf e.controller pass → pass_client pass ≡ pass_client c.pass → IsClientOf opening ours account e (record c { pass = pass })
+    learn_moved own same = pass_moved pass own same (goes_delays c.number (seen_by c.pass) (seen_by pass) goes_own)
+
+    pub learn_sees : SeesMore c.number (seen_by c.pass) (seen_by pass)
+    learn_sees = record { begins = goes_begins c.number (seen_by c.pass) (seen_by pass) goes_own; tokens = goes_tokens c.number (seen_by c.pass) (seen_by pass) goes_own }

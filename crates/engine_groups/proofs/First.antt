@@ -1,0 +1,71 @@
+-- What holds of the things that a leader holds when an engine is opened.
+use Rattle.std.proofs.Common.{◌≡◌, ◌⊎◌, inl, inr, ⊎_elim, ℕ, Bool, true, false, List, [], Option, None, Some, refl, sym, ap, ◌∙◌, subst}
+use Rattle.base_devices.specs.declared.disk.Disk.{Ghosts}
+use Rattle.model_base.specs.Controller.{ControllerCall}
+use Rattle.log_writer.specs.declared.writer.LogWriter.{LogWriter}
+use Rattle.log_writer.specs.Words.{fault_of}
+use Rattle.log_writer.specs.Written.{no_call}
+use Rattle.table_rule.specs.declared.content.MemberVersions.{MemberVersions}
+use Rattle.engine_controller.specs.declared.controller.Controller.{Controller}
+use Rattle.engine_rule.specs.Consistent.{AreConsistent}
+use Rattle.engine_groups.specs.Handled.{AreHandled}
+use Rattle.engine_stage_laws.specs.Served.{AreServed}
+use Rattle.engine_groups.specs.Law.{ServesIs, StandsFor, TurnIs}
+
+-- an opened log, a table where nothing is published, its turn, and a controller that nobody has asked
+pub stands_first : {D : Type 0} {ghosts : Ghosts D} {T U : Type 0} (our_turn : T → U → Type 0) (history : U → List (List MemberVersions)) (table : T) (log : LogWriter D ghosts) (start clients group_bytes : ℕ) (turn : U) (asked : List ControllerCall)
+    → AreConsistent start clients group_bytes [] [] start None [] [] → our_turn table turn → history turn ≡ [] → fault_of log ≡ None → asked ≡ []
+    → StandsFor our_turn history table log start clients group_bytes asked log turn start []
+stands_first our_turn history table log start clients group_bytes turn asked first our none alive unasked = record {
+  our = our;
+  calls = [];
+  wrote = no_call;
+  consistent = subst (λ (z : List ControllerCall × Option ℕ × List (List MemberVersions)). AreConsistent start clients group_bytes z.0 [] start z.1 z.2 []) (λ i. (sym unasked i, sym alive i, sym none i)) first;
+}
+
+-- nothing was handled
+pub kept_first : {C D : Type 0} {ghosts : Ghosts D} (controller : Controller C) (opened : LogWriter D ghosts) (start clients group_bytes : ℕ)
+    → AreConsistent start clients group_bytes [] [] start None [] [] → AreHandled controller opened start []
+kept_first controller opened start clients group_bytes first = record {
+  answered = tt;
+  handed_back = tt;
+  shown = tt;
+  written = record {
+    calls = [];
+    log = opened;
+    wrote = no_call;
+    worked = first.written.worked;
+    lost = first.written.lost;
+    both = first.written.both;
+    parts = first.written.parts;
+  };
+}
+
+some_or : {U : Type 0} → U → Option U → U
+some_or d None = d
+some_or d (Some u) = u
+
+some_same : {U : Type 0} (a b : U) → Some a ≡ Some b → a ≡ b
+unfolding some_or
+some_same a b e = ap (some_or a) e
+
+-- The right to launch at the beginning
+module _ {T U : Type 0} (our_turn : T → U → Type 0) (history : U → List (List MemberVersions)) (table : T) (turn : U) (our : our_turn table turn) (none : history turn ≡ []) (with_log apart : Option U) where
+  pub turn_first : (b : Bool) → (b ≡ false → (with_log ≡ Some turn) × (apart ≡ None)) → (b ≡ true → (with_log ≡ None) × (apart ≡ Some turn)) → TurnIs our_turn history table b [] with_log × ServesIs our_turn history table b [] apart
+  turn_first false one two = let t = one refl in ((turn, t.0, our, none), t.1)
+  turn_first true one two = let t = two refl in (t.0, (turn, t.1, our, subst (λ h. AreServed [] h) (sym none) refl))
+
+module _ {U : Type 0} (turn : U) (with_log apart : Option U) where
+  pub place_first : (b : Bool) → (b ≡ false → (with_log ≡ Some turn) × (apart ≡ None)) → (b ≡ true → (with_log ≡ None) × (apart ≡ Some turn)) → ((u : U) × (with_log ≡ Some u) × (apart ≡ None)) ⊎ ((u : U) × (with_log ≡ None) × (apart ≡ Some u))
+  place_first false one two = let t = one refl in inl (turn, t.0, t.1)
+  place_first true one two = let t = two refl in inr (turn, t.0, t.1)
+
+  same_first : (u : U) → ((with_log ≡ Some turn) × (apart ≡ None)) ⊎ ((with_log ≡ None) × (apart ≡ Some turn)) → ((with_log ≡ Some u) × (apart ≡ None)) ⊎ ((with_log ≡ None) × (apart ≡ Some u)) → u ≡ turn
+  same_first u a b = ⊎_elim {C = u ≡ turn}
+      (λ (x : (with_log ≡ Some turn) × (apart ≡ None)). ⊎_elim {C = u ≡ turn} (λ (y : (with_log ≡ Some u) × (apart ≡ None)). some_same u turn (sym y.0 ∙ x.0)) (λ (y : (with_log ≡ None) × (apart ≡ Some u)). absurd (let z : Some turn ≡ None = sym x.0 ∙ y.0 in cc)) b)
+      (λ (x : (with_log ≡ None) × (apart ≡ Some turn)). ⊎_elim {C = u ≡ turn} (λ (y : (with_log ≡ Some u) × (apart ≡ None)). absurd (let z : Some turn ≡ None = sym x.1 ∙ y.1 in cc)) (λ (y : (with_log ≡ None) × (apart ≡ Some u)). some_same u turn (sym y.1 ∙ x.1)) b)
+      a
+
+  pub back_first : (u : U) (b : Bool) → (b ≡ false → (with_log ≡ Some turn) × (apart ≡ None)) → (b ≡ true → (with_log ≡ None) × (apart ≡ Some turn)) → ((with_log ≡ Some u) × (apart ≡ None)) ⊎ ((with_log ≡ None) × (apart ≡ Some u)) → u ≡ turn
+  back_first u false one two at = same_first u (inl (one refl)) at
+  back_first u true one two at = same_first u (inr (two refl)) at

@@ -1,0 +1,24 @@
+use Rattle.std.proofs.Common.{◌≤◌, ℕ, [], ◌∷◌, ◌++◌, length, refl, sym, ap, ◌∙◌, subst, arith}
+use Rattle.line_writers.specs.Seats.{bound_of, clients_of}
+use Rattle.engine_groups.proofs.LeftClients.{has_answered, left_client, roomy}
+use Rattle.engine_groups.proofs.engine.GroupEngine.leave.Goals as goal
+
+pub returns-clause-fits : goal.returns-clause-fits
+returns-clause-fits g c =
+    let r = c.requires.leaves in let e = c.args.self.now in let w = c.args.client.now in let n : ℕ = clients_of e.list in
+    let number = r.0 in let start = r.1 in let mine = r.2 in let own = r.3 in let seen = r.4 in let l = r.5 in
+    let x = c.exit.ensures in
+    let out = x.out.2 (bound_of e.list) own l.group l.left seen l.gs l.p l.has l.heads_are l.pays_are in
+    left_client g.T.Table.opening g.T.Table.ours g.T.Table.account g.T.Table.our_turn g.T.Table.history e number start mine own seen w c.args.held l _
+    refl refl x.out.0 x.client x.out.1 (out.0 ∙ (λ i. l.told_is i ++ (own.asked, l.p) ∷ [])) l.seats.seat l.seats.ready refl refl (
+      l.requests,
+      ((let k = c.exit.new.replies.list.ok.0 in let none = ap length x.room.1 in omega (arith, k, none)), x.room.1, subst (λ (k : ℕ). n ≤ k) (sym x.replies_room) l.replies_room),
+      x.room.0,
+    )
+    (roomy n w.layout l.layout c.requires.parts)
+
+pub returns-clause-answered : goal.returns-clause-answered
+returns-clause-answered g c number start mine own seen l =
+    let e = c.args.self.now in let w = c.args.client.now in let x = c.exit.ensures in
+    let out = x.out.2 (bound_of e.list) own l.group l.left seen l.gs l.p l.has l.heads_are l.pays_are in
+    has_answered g.T.Table.opening g.T.Table.ours g.T.Table.account g.T.Table.our_turn g.T.Table.history e number start mine own seen w c.args.held l c.exit.result _ (out.0 ∙ (λ i. l.told_is i ++ (own.asked, l.p) ∷ [])) out.1

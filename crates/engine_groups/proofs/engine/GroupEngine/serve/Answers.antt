@@ -1,0 +1,243 @@
+use Rattle.std.proofs.Common.{◌≡◌, ◌≤◌, ◌-◌, ℕ, Bool, IfSome, List, [], ◌∷◌, ◌++◌, length, refl, sym, ap, ◌∙◌, subst, take, drop, vec_capacity}
+use Rattle.std.specs.List.{AllByRecursion, AllZip}
+use Rattle.model_base.specs.Controller.{ControllerCall, Look}
+use Rattle.model_base.specs.History.{max_sequence}
+use Rattle.line_writers.specs.Seats.{bound_of, about_of, clients_of}
+use Rattle.engine_controller.specs.Delays.{delays_of}
+use Rattle.engine_controller.specs.Looks.{look_of}
+use Rattle.engine_controller.specs.Passes.{client_of, seen_by, noted, IsNoteOf}
+use Rattle.table_rule.specs.declared.content.MemberVersions.{MemberVersions}
+use Rattle.engine_rule.specs.Entries.{SeesMore}
+use Rattle.engine_rule.specs.Plans.{CommitRequest, ComesAfter, IsAskedFor, LetsProceed, MayNotWait, ProceedsWith}
+use Rattle.engine_groups.specs.declared.requests.Delay.{Delay}
+use Rattle.engine_groups.specs.declared.requests.Request.{Request}
+use Rattle.engine_groups.specs.declared.requests.Reply.{Reply}
+use Rattle.engine_groups.specs.Asking.{HasAskedFor, OnlyLooks, all_seen}
+use Rattle.engine_groups.specs.Handled.{HandsBack, InOrder, IsHeldUp, commit_requests_of, handled_with, seen_at}
+use Rattle.engine_groups.specs.Law.{LogStandsFor}
+use Rattle.engine_groups.specs.Led.{AreAlike, IsLedGroup}
+use Rattle.engine_groups.specs.Numbering.{AreBeside, others_in}
+use Rattle.engine_groups.specs.Staged.{published_with}
+use Rattle.engine_groups.proofs.Members.{beside_where, others_unnoted}
+use Rattle.engine_groups.proofs.Serves.{as_many, asked_after, asked_delays, asked_is, asked_sees, asked_shown, back_unnoted, first_flag, held_at, held_back, held_order, held_shown, led_unnoted, looks_sees, order_unnoted, proceeds, put_back, replies_at, replies_shown, stands_by, stands_held_up, stands_noted}
+use Rattle.engine_groups.proofs.Staging.{laid, no_runs_held}
+use Rattle.engine_groups.proofs.Standing.{last_low}
+use Rattle.engine_groups.proofs.Turning.{is_none_by}
+use Rattle.engine_groups.proofs.Views.{unseen_commits}
+use Rattle.engine_groups.proofs.engine.GroupEngine.serve.Goals as goal
+
+-- the log alone
+abbrev our_log : Unit {0} → List (List MemberVersions) → Type 0
+our_log t u = Unit {0}
+
+abbrev as_is : List (List MemberVersions) → List (List MemberVersions)
+as_is u = u
+
+pub returns-then-not-proceeds-clause-served : goal.returns-then-not-proceeds-clause-served
+returns-then-not-proceeds-clause-served g c =
+    let S = c.requires.served in let q = S.seats in let e = c.args.self.now in let v = c.args.client.now in
+    let xs : List (ℕ × Request) = v.lists.requests.list.items in let k : ℕ = v.number in let was : List ControllerCall = seen_by v.pass in
+    let asked : List ControllerCall = noted c.args.held.asked in
+    let A = c.ask-look.ensures in let N = c.note-asked.ensures in let R = c.refuse_held_up.ensures in let no = c.may_proceed-proceeds.ensures.refused c.if-not-proceeds.true in
+    let n : Look = look_of c.ask-look.result in let known : List ControllerCall = seen_by c.ask-look.new.pass in
+    let L = v.lists.requests.list in let new : List (ℕ × Request) = c.ask-look.new.requests in let same = c.deref_mut.ensures.value in
+    let h : HasAskedFor k was asked xs n known = subst (λ (z : ℕ × List (ℕ × Request)). HasAskedFor z.0 was asked z.1 n known) (λ i. (q.pass_number i, same i)) A.asked in
+    let left : List (ℕ × Request) = take L.len (new ++ drop (length new) L.items) in
+    let left_is : left ≡ all_seen xs = put_back xs new L.len L.ok.0 (A.requests ∙ ap all_seen same) in
+    let d : Delay = record { pass = c.of.result } in
+    let is : seen_at d ≡ known = ap seen_by c.of.ensures in
+    let ys : List (ℕ × Reply) = c.refuse_held_up.new.replies.items in
+    let zip : AllZip (IsHeldUp e.controller d n) (all_seen xs) ys = subst (λ l. AllZip (IsHeldUp e.controller d n) l ys) left_is R.replies in
+    let may : MayNotWait (commit_requests_of xs) = subst (λ (b : Bool). AreAlike b (commit_requests_of xs)) (ap (λ o. o.no_slowdown) (first_flag (bound_of e.list) (clients_of e.list) xs S.led left c.index.result.now left_is c.index.ensures) ∙ no.0) S.led.slowdown in
+    let still : seen_by c.note-asked.new.pass ≡ known = N.seen ∙ no.2 in
+    record {
+      seats = record {
+        is_engine = q.is_engine;
+        seat = q.seat;
+        ready = q.ready;
+        seat_number = q.seat_number;
+        pass = R.pass.0;
+        pass_number = R.pass.1 ∙ (N.own.1 ∙ (c.may_proceed-proceeds.ensures.pass.1 ∙ (A.pass.1 ∙ q.pass_number)));
+        number = q.number;
+      };
+      layout = laid (clients_of e.list) v.layout S.layout;
+      seat = refl;
+      number = refl;
+      start = refl;
+      writer = refl;
+      room_same = refl;
+      in_order = held_order e.controller d n xs ys zip;
+      handed_back = held_back e.controller d n xs ys zip;
+      shown = held_shown e.controller d n known h.before is no.1 (asked_shown k was asked known xs n h) xs ys zip may h.members;
+      taken = R.taken;
+      requests_room = R.room.0;
+      replies_room = R.room.1;
+      sees_more = subst (SeesMore k was) (sym (R.pass.2 ∙ still)) (asked_sees k was asked known xs n h);
+      known = known;
+      delays = subst (λ (l : List ControllerCall). delays_of k l ≡ delays_of k was ++ (length known - 1) ∷ []) (sym (R.pass.2 ∙ still)) (asked_delays k was asked known xs n h);
+      of_delay = held_at e.controller d n known is xs ys zip;
+    }
+
+pub returns-then-not-proceeds-clause-held : goal.returns-then-not-proceeds-clause-held
+returns-then-not-proceeds-clause-held g c hs st =
+    let S = c.requires.served in let q = S.seats in let e = c.args.self.now in let v = c.args.client.now in let about = about_of e.list in let path = c.args.held.path in
+    let xs : List (ℕ × Request) = v.lists.requests.list.items in let k : ℕ = v.number in let was : List ControllerCall = seen_by v.pass in
+    let asked : List ControllerCall = noted c.args.held.asked in
+    let A = c.ask-look.ensures in let N = c.note-asked.ensures in let R = c.refuse_held_up.ensures in let no = c.may_proceed-proceeds.ensures.refused c.if-not-proceeds.true in
+    let n : Look = look_of c.ask-look.result in let known : List ControllerCall = seen_by c.ask-look.new.pass in
+    let L = v.lists.requests.list in let new : List (ℕ × Request) = c.ask-look.new.requests in let same = c.deref_mut.ensures.value in
+    let h : HasAskedFor k was asked xs n known = subst (λ (z : ℕ × List (ℕ × Request)). HasAskedFor z.0 was asked z.1 n known) (λ i. (q.pass_number i, same i)) A.asked in
+    let left : List (ℕ × Request) = take L.len (new ++ drop (length new) L.items) in
+    let left_is : left ≡ all_seen xs = put_back xs new L.len L.ok.0 (A.requests ∙ ap all_seen same) in
+    let d : Delay = record { pass = c.of.result } in
+    let is : seen_at d ≡ known = ap seen_by c.of.ensures in
+    let ys : List (ℕ × Reply) = c.refuse_held_up.new.replies.items in
+    let zip : AllZip (IsHeldUp e.controller d n) (all_seen xs) ys = subst (λ l. AllZip (IsHeldUp e.controller d n) l ys) left_is R.replies in
+    let may : MayNotWait (commit_requests_of xs) = subst (λ (b : Bool). AreAlike b (commit_requests_of xs)) (ap (λ o. o.no_slowdown) (first_flag (bound_of e.list) (clients_of e.list) xs S.led left c.index.result.now left_is c.index.ensures) ∙ no.0) S.led.slowdown in
+    let still : seen_by c.note-asked.new.pass ≡ known = N.seen ∙ no.2 in
+    let led : IsLedGroup about.group_bytes about.clients xs = subst (λ (z : ℕ × ℕ). IsLedGroup z.0 z.1 xs) (λ i. (sym q.is_engine.group_bytes i, sym q.is_engine.about_clients i)) S.led in
+    record {
+      turn = st.turn;
+      note = subst (λ ctl. IsNoteOf ctl c.note-asked.result) (sym q.is_engine.controller) N.note.0;
+      path = stands_by our_log as_is about.opened.value path.log st.published path.last tt tt about.start about.start about.clients about.clients about.group_bytes about.group_bytes known (noted c.note-asked.result) (hs ++ handled_with xs ys) refl refl refl refl (sym (N.note.1 ∙ no.2))
+          (stands_held_up our_log as_is about.opened.value path.log st.published path.last e.controller d n tt about.start about.clients about.group_bytes asked known hs xs ys zip is led (asked_is k was asked known xs n h about.group_bytes about.clients led S.leads) (asked_after k was asked known xs n h) no.1 may st.path);
+    }
+
+pub refuse_held_up-requires-clause-room : goal.refuse_held_up-requires-clause-room
+refuse_held_up-requires-clause-room g c =
+    let S = c.requires.served in let q = S.seats in let e = c.args.self.now in let v = c.args.client.now in
+    let xs : List (ℕ × Request) = v.lists.requests.list.items in
+    let L = v.lists.requests.list in let new : List (ℕ × Request) = c.ask-look.new.requests in
+    let left : List (ℕ × Request) = take L.len (new ++ drop (length new) L.items) in
+    let left_is : left ≡ all_seen xs = put_back xs new L.len L.ok.0 (c.ask-look.ensures.requests ∙ ap all_seen c.deref_mut.ensures.value) in
+    let many = as_many xs left left_is in
+    subst (λ (n : ℕ). n ≤ vec_capacity v.lists.replies.list) (sym many) S.room
+
+pub returns-then-not-proceeds-clause-staged : goal.returns-then-not-proceeds-clause-staged
+returns-then-not-proceeds-clause-staged g c =
+    let S = c.requires.served in let q = S.seats in let e = c.args.self.now in let v = c.args.client.now in
+    let xs : List (ℕ × Request) = v.lists.requests.list.items in
+    let n : Look = look_of c.ask-look.result in let same = c.deref_mut.ensures.value in
+    let L = v.lists.requests.list in let new : List (ℕ × Request) = c.ask-look.new.requests in
+    let left : List (ℕ × Request) = take L.len (new ++ drop (length new) L.items) in
+    let left_is : left ≡ all_seen xs = put_back xs new L.len L.ok.0 (c.ask-look.ensures.requests ∙ ap all_seen same) in
+    let d : Delay = record { pass = c.of.result } in
+    let ys : List (ℕ × Reply) = c.refuse_held_up.new.replies.items in
+    let zip : AllZip (IsHeldUp e.controller d n) (all_seen xs) ys = subst (λ l. AllZip (IsHeldUp e.controller d n) l ys) left_is c.refuse_held_up.ensures.replies in
+    (S.layout.clear.2, refl, no_runs_held e.controller d n (all_seen xs) ys zip)
+
+pub log_phase-path-requires-clause-last : goal.log_phase-path-requires-clause-last
+log_phase-path-requires-clause-last g c =
+    let q = c.requires.served.seats in let e = c.args.self.now in let about = about_of e.list in let path = c.args.held.path in let st = c.requires.held.1 in
+    last_low our_log as_is tt about.opened.value about.start about.clients about.group_bytes (noted c.args.held.asked) path.log st.published path.last c.requires.held.0 st.path
+    (subst (λ (k : ℕ). k ≤ max_sequence) (sym q.is_engine.start) q.is_engine.low)
+
+pub log_phase-path-requires-clause-group : goal.log_phase-path-requires-clause-group
+log_phase-path-requires-clause-group g c =
+    let S = c.requires.served in let q = S.seats in let e = c.args.self.now in let v = c.args.client.now in
+    let xs : List (ℕ × Request) = v.lists.requests.list.items in
+    let L = v.lists.requests.list in let new : List (ℕ × Request) = c.ask-look.new.requests in
+    let left : List (ℕ × Request) = take L.len (new ++ drop (length new) L.items) in
+    let left_is : left ≡ all_seen xs = put_back xs new L.len L.ok.0 (c.ask-look.ensures.requests ∙ ap all_seen c.deref_mut.ensures.value) in
+    let led = subst (λ (z : ℕ × List (ℕ × Request)). IsLedGroup (bound_of e.list) z.0 z.1) (λ i. (sym S.layout.clear.3 i, sym left_is i)) (led_unnoted (bound_of e.list) (clients_of e.list) xs S.led) in
+    ((bound_of e.list), led)
+
+pub returns-clause-served : goal.returns-clause-served
+returns-clause-served g c =
+    let S = c.requires.served in let q = S.seats in let e = c.args.self.now in let v = c.args.client.now in
+    let xs : List (ℕ × Request) = v.lists.requests.list.items in let k : ℕ = v.number in let was : List ControllerCall = seen_by v.pass in
+    let asked : List ControllerCall = noted c.args.held.asked in
+    let A = c.ask-look.ensures in let P = c.may_proceed-proceeds.ensures in let N = c.note-asked.ensures in let H = c.log_phase-path.ensures in
+    let n : Look = look_of c.ask-look.result in let known : List ControllerCall = seen_by c.ask-look.new.pass in
+    let L = v.lists.requests.list in let new : List (ℕ × Request) = c.ask-look.new.requests in let same = c.deref_mut.ensures.value in
+    let h : HasAskedFor k was asked xs n known = subst (λ (z : ℕ × List (ℕ × Request)). HasAskedFor z.0 was asked z.1 n known) (λ i. (q.pass_number i, same i)) A.asked in
+    let left : List (ℕ × Request) = take L.len (new ++ drop (length new) L.items) in
+    let left_is : left ≡ all_seen xs = put_back xs new L.len L.ok.0 (A.requests ∙ ap all_seen same) in
+    let d : Delay = record { pass = c.of.result } in
+    let is : seen_at d ≡ known = ap seen_by c.of.ensures in
+    let ys : List (ℕ × Reply) = c.log_phase-path.new.replies.items in
+    let own : client_of c.ask-look.new.pass ≡ k = A.pass.1 ∙ q.pass_number in
+    let looks : OnlyLooks k known (seen_by c.note-asked.new.pass) = subst (λ (z : ℕ × List ControllerCall). OnlyLooks z.0 known z.1) (λ i. (own i, sym N.seen i)) P.looks in
+    record {
+      seats = record {
+        is_engine = q.is_engine;
+        seat = q.seat;
+        ready = q.ready;
+        seat_number = q.seat_number;
+        pass = N.own.0;
+        pass_number = N.own.1 ∙ (P.pass.1 ∙ own);
+        number = q.number;
+      };
+      layout = record {
+        no_plans = H.taken.1;
+        no_batches = H.taken.2;
+        clients_are = H.taken.3 ∙ S.layout.clear.3;
+        plans = subst (λ m. clients_of e.list ≤ m) (sym H.room.1) S.layout.plans;
+        batches = subst (λ m. clients_of e.list ≤ m) (sym H.room.2) S.layout.batches;
+        members = subst (λ m. clients_of e.list ≤ m) (sym H.room.4) S.layout.members;
+      };
+      seat = refl;
+      number = refl;
+      start = refl;
+      writer = refl;
+      room_same = refl;
+      in_order = order_unnoted xs ys (subst (λ l. InOrder l ys) left_is H.replies.0);
+      handed_back = back_unnoted xs ys (subst (λ l. AllByRecursion HandsBack (handled_with l ys)) left_is H.replies.1);
+      shown = replies_shown e.controller d xs ys H.replies.2;
+      taken = H.taken.0;
+      requests_room = H.room.0;
+      replies_room = H.room.3;
+      sees_more = looks_sees k was known (seen_by c.note-asked.new.pass) (asked_sees k was asked known xs n h) looks;
+      known = known;
+      delays = looks.delays ∙ asked_delays k was asked known xs n h;
+      of_delay = replies_at e.controller d known is ys H.replies.2;
+    }
+
+pub returns-clause-held : goal.returns-clause-held
+returns-clause-held g c hs st =
+    let S = c.requires.served in let q = S.seats in let E = q.is_engine in let e = c.args.self.now in let v = c.args.client.now in let about = about_of e.list in let path = c.args.held.path in
+    let xs : List (ℕ × Request) = v.lists.requests.list.items in let k : ℕ = v.number in let was : List ControllerCall = seen_by v.pass in
+    let asked : List ControllerCall = noted c.args.held.asked in
+    let A = c.ask-look.ensures in let P = c.may_proceed-proceeds.ensures in let N = c.note-asked.ensures in let H = c.log_phase-path.ensures in
+    let n : Look = look_of c.ask-look.result in let known : List ControllerCall = seen_by c.ask-look.new.pass in
+    let L = v.lists.requests.list in let new : List (ℕ × Request) = c.ask-look.new.requests in let same = c.deref_mut.ensures.value in
+    let h : HasAskedFor k was asked xs n known = subst (λ (z : ℕ × List (ℕ × Request)). HasAskedFor z.0 was asked z.1 n known) (λ i. (q.pass_number i, same i)) A.asked in
+    let left : List (ℕ × Request) = take L.len (new ++ drop (length new) L.items) in
+    let left_is : left ≡ all_seen xs = put_back xs new L.len L.ok.0 (A.requests ∙ ap all_seen same) in
+    let d : Delay = record { pass = c.of.result } in
+    let is : seen_at d ≡ known = ap seen_by c.of.ensures in
+    let ys : List (ℕ × Reply) = c.log_phase-path.new.replies.items in
+    let many : ℕ = v.layout.parts.clients in
+    let led : IsLedGroup about.group_bytes many left = subst (λ (z : ℕ × ℕ × List (ℕ × Request)). IsLedGroup z.0 z.1 z.2) (λ i. (sym E.group_bytes i, sym S.layout.clear.3 i, sym left_is i)) (led_unnoted (bound_of e.list) (clients_of e.list) xs S.led) in
+    let comes : ComesAfter asked (seen_at d) = subst (ComesAfter asked) (sym is) (asked_after k was asked known xs n h) in
+    let alike : commit_requests_of left ≡ commit_requests_of xs = ap commit_requests_of left_is ∙ unseen_commits xs in
+    let is_for : IsAskedFor (commit_requests_of left) n (seen_at d) = subst (λ (z : List CommitRequest × List ControllerCall). IsAskedFor z.0 n z.1) (λ i. (sym alike i, sym is i)) (asked_is k was asked known xs n h (bound_of e.list) (clients_of e.list) S.led S.leads) in
+    let went : List ControllerCall = seen_by c.may_proceed-proceeds.new.pass in
+    let own : client_of c.ask-look.new.pass ≡ k = A.pass.1 ∙ q.pass_number in
+    let flag = ap (λ o. o.no_slowdown) (first_flag (bound_of e.list) (clients_of e.list) xs S.led left c.index.result.now left_is c.index.ensures) in
+    let lets : LetsProceed k n known went S.led.first.1.options.no_slowdown = subst (λ (z : ℕ × Bool). LetsProceed z.0 n known went z.1) (λ i. (own i, sym flag i)) (P.proceeds c.if-not-proceeds.false) in
+    let on : ProceedsWith (commit_requests_of left) n (seen_at d) went = subst (λ (z : List CommitRequest × List ControllerCall). ProceedsWith z.0 n z.1 went) (λ i. (sym alike i, sym is i)) (proceeds k n known went (bound_of e.list) (clients_of e.list) xs S.led S.leads P.looks.begins lets) in
+    let clients_are : about.clients ≡ many = E.about_clients ∙ sym S.layout.clear.3 in
+    let before : LogStandsFor about.opened.value about.start many about.group_bytes asked path.log st.published path.last hs = stands_by our_log as_is about.opened.value path.log st.published path.last tt tt about.start about.start about.clients many about.group_bytes about.group_bytes asked asked hs refl refl clients_are refl refl st.path in
+    let p = c.log_phase-path.result.0 in
+    let now = published_with c.log_phase-path.result.1 c.log_phase-path.new.layout.parts.parts st.published in
+    let after = H.path about.opened.value about.start about.group_bytes asked went st.published hs n led comes is_for on before in
+    let unnoted = subst (λ l. LogStandsFor about.opened.value about.start many about.group_bytes went p.log now p.last (hs ++ handled_with l ys)) left_is after in
+    let as_was = stands_noted our_log as_is about.opened.value p.log now p.last tt about.start many about.group_bytes went hs xs ys unnoted in
+    record {
+      note = subst (λ ctl. IsNoteOf ctl c.note-asked.result) (sym E.controller) N.note.0;
+      path = stands_by our_log as_is about.opened.value p.log now p.last tt tt about.start about.start many about.clients about.group_bytes about.group_bytes went (noted c.note-asked.result) (hs ++ handled_with xs ys) refl refl (sym clients_are) refl (sym N.note.1) as_was;
+      turn = st.turn;
+    }
+
+pub returns-clause-beside : goal.returns-clause-beside
+returns-clause-beside g c =
+    let v = c.args.client.now in
+    let xs : List (ℕ × Request) = v.lists.requests.list.items in
+    let L = v.lists.requests.list in let new : List (ℕ × Request) = c.ask-look.new.requests in
+    let left : List (ℕ × Request) = take L.len (new ++ drop (length new) L.items) in
+    let left_is : left ≡ all_seen xs = put_back xs new L.len L.ok.0 (c.ask-look.ensures.requests ∙ ap all_seen c.deref_mut.ensures.value) in
+    let others = ap others_in left_is ∙ others_unnoted xs in
+    let staged = is_none_by c.is_none.result c.args.held.turn c.is_none.ensures in
+    let told = beside_where c.may_be_apart.result c.is_none.result (others_in left) c.log_phase-path.new.layout.members.items c.log_phase-path.result.1 c.may_be_apart.ensures c.log_phase-path.ensures.beside in
+    subst (λ (z : Bool × List ℕ). IfSome c.log_phase-path.result.1 (λ _. AreBeside z.0 z.1 c.log_phase-path.new.layout.members.items)) (λ i. (staged i, others i)) told

@@ -1,0 +1,122 @@
+//! The engine as any write path that many clients share.
+
+ghost use Rattle.std.specs.Prelude.{List, map};
+
+use crate::engine::{Client, GroupEngine, Room};
+use base_bytes::{Bytes, Read, Reads, Rows};
+use base_devices::{Clock, Disk};
+use engine_calls::{Clients, Closed, Engine, Gate, Held, NotHeld, Receipt, Refused};
+use log_batch::Batch;
+use log_writer::LogWriter;
+use model_base::{NoMemory, WriteOptions};
+use std::sync::Wait;
+use table_calls::Table;
+use table_tree::{Nodes, Parts};
+
+impl<D: Disk, T: Table<Nodes, Parts>, C: Clock + Drop, G: Gate + Drop> Engine
+    for GroupEngine<D, T, C, G> {
+    type Client = Client<D, T, C>;
+
+    type Room = Room<D, T, C>;
+
+    type Log = LogWriter<D>;
+
+    ghost use Rattle.model_base.specs.Trace.{Trace};
+    ghost use Rattle.model_base.specs.Groups.{Group};
+    ghost use Rattle.model_accounts.specs.Closing.{AreOurs, all_attempts, IsClosing};
+    ghost use Rattle.model_runs.specs.Written.{WritesLog};
+    ghost use Rattle.log_writer.specs.Words.{fault_of, disk_of};
+    ghost use Rattle.log_writer.specs.Written.{Wrote};
+    ghost use Rattle.line_writers.specs.Seats.{bound_of, clients_of};
+    ghost use Rattle.engine_groups.specs.Clients.{IsClientOf, HasRoomToClose, account_in, settings_of, opened_log};
+
+    ghost settings = { λ e. settings_of T.opening T.ours T.account e };
+
+    ghost account = { λ c. account_in T.opening T.ours T.account c };
+
+    ghost belongs = { λ e c. IsClientOf T.opening T.ours T.account e c };
+
+    ghost closes = { λ e room. HasRoomToClose e.controller (clients_of e.list) room };
+
+    ghost wrote = { λ e calls log. Wrote (opened_log e) calls log };
+
+    ghost fault = { λ log. fault_of log };
+
+    ghost faults = { λ log. D.faults (disk_of log) };
+
+    fn write<R: Wait>(
+        &self,
+        rt: &R,
+        client: &mut Client<D, T, C>,
+        batch: Batch,
+        options: WriteOptions,
+    ) -> Result<Receipt, Refused> {
+        self.write(rt, client, batch, options)
+    }
+
+    fn get<R: Wait>(
+        &self,
+        rt: &R,
+        client: &mut Client<D, T, C>,
+        key: &[u8],
+    ) -> Result<Read, NoMemory> {
+        self.get(rt, client, key)
+    }
+
+    fn get_many<R: Wait>(
+        &self,
+        rt: &R,
+        client: &mut Client<D, T, C>,
+        keys: &[Bytes],
+    ) -> Result<Reads, NoMemory> {
+        self.get_many(rt, client, keys)
+    }
+
+    fn scan<R: Wait>(
+        &self,
+        rt: &R,
+        client: &mut Client<D, T, C>,
+        lo: &[u8],
+        hi: &[u8],
+    ) -> Result<Rows, NoMemory> {
+        self.scan(rt, client, lo, hi)
+    }
+
+    fn stop<R: Wait>(&self, rt: &R, client: &mut Client<D, T, C>) -> Result<(), Held> {
+        self.stop(rt, client)
+    }
+
+    fn unstop<R: Wait>(&self, rt: &R, client: &mut Client<D, T, C>) -> Result<(), NotHeld> {
+        self.unstop(rt, client)
+    }
+
+    fn slow<R: Wait>(&self, rt: &R, client: &mut Client<D, T, C>, rate: u64) -> Result<(), Held> {
+        self.slow(rt, client, rate)
+    }
+
+    fn unslow<R: Wait>(&self, rt: &R, client: &mut Client<D, T, C>) -> Result<(), NotHeld> {
+        self.unslow(rt, client)
+    }
+
+    fn end<R: Wait>(&self, rt: &R, client: &mut Client<D, T, C>) {
+        self.end(rt, client);
+    }
+
+    fn close<R: Wait>(
+        self,
+        rt: &R,
+        clients: Clients<Client<D, T, C>, Room<D, T, C>>,
+    ) -> Closed<LogWriter<D>>
+        requires all { AreOurs (IsClientOf T.opening T.ours T.account self) (account_in T.opening T.ours T.account)
+            (clients_of self.list) clients.clients.items }
+        requires room { HasRoomToClose self.controller (clients_of self.list) clients.room }
+        ensures { let accounts = map (account_in T.opening T.ours T.account) clients.clients.items in
+            (trace : Trace) × (groups : List Group)
+            × IsClosing (settings_of T.opening T.ours T.account self) (D.faults (disk_of result.log)) trace groups
+            accounts result.last (fault_of result.log)
+            × WritesLog (bound_of self.list) (λ calls. Wrote (opened_log self) calls result.log) trace
+            (all_attempts accounts) (fault_of result.log) }
+    {
+        self.close(rt, clients)
+    }
+}

@@ -1,0 +1,143 @@
+//! The end of an engine.
+
+ghost use Rattle.std.specs.Prelude.{◌≡◌, ◌≤◌, ◌+◌, ◌<◌, ℕ, List, [], ◌++◌, map, length, vec_len, vec_capacity};
+ghost use mathlib.Core.List.{IsPrefix};
+ghost use Rattle.model_base.specs.Controller.{ControllerCall};
+ghost use Rattle.engine_controller.specs.Passes.{noted, AreAll, IsNoteOf, IsHistoryOf};
+ghost use Rattle.engine_groups.specs.Clients.{writer_in, seat_in, pass_in};
+
+use crate::engine::{Client, GroupEngine, Room};
+use crate::held::{Held, LogPath, Right, one_turn};
+use crate::numbering::take_first;
+use crate::requests::{Reply, Request};
+use base_devices::{Clock, Disk};
+use engine_calls::{Clients, Closed, Gate};
+use engine_controller::{Controller, Note, Pass, Passes};
+use engine_rule::closings;
+use line_writers::Writer;
+use log_writer::{LogWriter, written_by_calls};
+use std::sync::Wait;
+use table_calls::{Seats, Table};
+use table_tree::{Nodes, Parts};
+
+/// Takes the clients apart.
+pub(crate) fn part_all<D: Disk, T: Table<Nodes, Parts>, C>(
+    clients: &mut Vec<Client<D, T, C>>,
+    writers: &mut Vec<Writer<Request, Reply, Held<D, T, C>, Right<T>>>,
+    seats: &mut Vec<T::Seat>,
+    passes: &mut Vec<Pass>,
+)
+    requires empty { (writers.old.items ≡ []) × (seats.old.items ≡ []) × (passes.old.items ≡ []) }
+    requires room { (length clients.old.items ≤ vec_capacity writers.old)
+        × (length clients.old.items ≤ vec_capacity seats.old)
+        × (length clients.old.items ≤ vec_capacity passes.old) }
+    ensures writers { writers.new.items ≡ map writer_in clients.old.items }
+    ensures seats { seats.new.items ≡ map seat_in clients.old.items }
+    ensures passes { passes.new.items ≡ map pass_in clients.old.items }
+    ensures parted { clients.new.items ≡ [] }
+{
+    while let Some(client) = take_first(clients) {
+        let Client {
+            number: _,
+            start: _,
+            writer,
+            seat,
+            pass,
+            lists: _,
+            layout: _,
+        } = client;
+        writers.push_reserved(writer);
+        seats.push_reserved(seat);
+        passes.push_reserved(pass);
+    }
+}
+
+/// Ends a controller. Its first pass learns what a note shows, so that this begins the one history too.
+fn end_controller<C: Clock, R: Wait>(rt: &R, controller: Controller<C>, passes: Passes, note: Note)
+    requires all { AreAll controller passes }
+    requires some { 0 < length passes.clients.items }
+    requires note { IsNoteOf controller note }
+    ensures { (history : List ControllerCall) × IsHistoryOf passes.clients.items history
+        × IsPrefix (noted note) history }
+{
+    let Passes {
+        clients: mut passes,
+        others,
+    } = passes;
+    controller.learn(rt, &mut passes[0], note);
+    let passes = Passes {
+        clients: passes,
+        others,
+    };
+    controller.close(rt, passes);
+}
+
+impl<D: Disk, T: Table<Nodes, Parts>, C: Clock + Drop, G: Gate + Drop> GroupEngine<D, T, C, G> {
+    ghost use Rattle.model_base.specs.Trace.{Trace};
+    ghost use Rattle.model_base.specs.Groups.{Group};
+    ghost use Rattle.log_writer.specs.Words.{fault_of, disk_of};
+    ghost use Rattle.log_writer.specs.Written.{Wrote};
+    ghost use Rattle.model_accounts.specs.Closing.{AreOurs, all_attempts, IsClosing};
+    ghost use Rattle.model_runs.specs.Written.{WritesLog};
+    ghost use Rattle.line_writers.specs.Seats.{bound_of, clients_of};
+    ghost use Rattle.engine_groups.specs.Clients.{IsClientOf, account_in, settings_of, opened_log, HasRoomToClose};
+
+    /// Gives the log up. All clients are handed in. Of all that they wrote and read there is one trace, and the log was
+    /// written by just the calls that wrote its history.
+    pub fn close<R: Wait>(
+        self,
+        rt: &R,
+        clients: Clients<Client<D, T, C>, Room<D, T, C>>,
+    ) -> Closed<LogWriter<D>>
+        requires all { AreOurs (IsClientOf T.opening T.ours T.account self) (account_in T.opening T.ours T.account)
+            (clients_of self.list) clients.clients.items }
+        requires room { HasRoomToClose self.controller (clients_of self.list) clients.room }
+        ensures { let accounts = map (account_in T.opening T.ours T.account) clients.clients.items in
+            (trace : Trace) × (groups : List Group)
+            × IsClosing (settings_of T.opening T.ours T.account self) (D.faults (disk_of result.log)) trace groups
+            accounts result.last (fault_of result.log)
+            × WritesLog (bound_of self.list) (λ calls. Wrote (opened_log self) calls result.log) trace
+            (all_attempts accounts) (fault_of result.log) }
+    {
+        let GroupEngine {
+            list,
+            table,
+            controller,
+            gate: _,
+            alloc: _,
+            batch_bytes: _,
+        } = self;
+        let Clients {
+            mut clients,
+            room: Room {
+                mut writers,
+                mut seats,
+                mut passes,
+                others,
+            },
+        } = clients;
+        part_all(&mut clients, &mut writers, &mut seats, &mut passes);
+        clients.destroy_empty();
+        let (held, right) = list.close(writers);
+        let Held {
+            path: LogPath { log, last },
+            turn,
+            clock: _,
+            asked,
+        } = held;
+        let Right { turn: apart } = right;
+        let turn = one_turn(turn, apart);
+        let passes = Passes {
+            clients: passes,
+            others,
+        };
+        end_controller(rt, controller, passes, asked);
+        table.close(Seats {
+            turn,
+            clients: seats,
+        });
+        written_by_calls::<D>();
+        closings();
+        Closed { log, last }
+    }
+}

@@ -1,0 +1,71 @@
+//! A client's reads.
+
+ghost use Rattle.std.specs.Prelude.{◌≡◌, map, IfOk};
+ghost use Rattle.model_base.specs.Map.{value_at, rows_within};
+ghost use Rattle.base_bytes.specs.Answers.{found_value};
+
+use crate::engine::{Client, GroupEngine};
+use base_bytes::{Bytes, Read, Reads, Rows};
+use base_devices::{Clock, Disk};
+use engine_calls::Gate;
+use model_base::NoMemory;
+use std::sync::Wait;
+use table_calls::Table;
+use table_tree::{Nodes, Parts};
+
+impl<D: Disk, T: Table<Nodes, Parts>, C: Clock + Drop, G: Gate + Drop> GroupEngine<D, T, C, G> {
+    ghost use Rattle.model_accounts.specs.Accounts.{Keeps, Reads as ReadsAtEnd};
+    ghost use Rattle.engine_groups.specs.Clients.{IsClientOf, account_in};
+
+    /// A key's value at the end of what is published.
+    pub fn get<R: Wait>(
+        &self,
+        rt: &R,
+        client: &mut Client<D, T, C>,
+        key: &[u8],
+    ) -> Result<Read, NoMemory>
+        requires { IsClientOf T.opening T.ours T.account self.now client.old }
+        ensures belongs { IsClientOf T.opening T.ours T.account self.now client.new }
+        ensures keeps { Keeps (account_in T.opening T.ours T.account client.old)
+            (account_in T.opening T.ours T.account client.new) }
+        ensures ok { IfOk result (λ read. ReadsAtEnd read.at (λ m. found_value read.value ≡ value_at m key.now)
+            (account_in T.opening T.ours T.account client.new)) }
+    {
+        self.table.read(self.alloc, rt, &mut client.seat, key)
+    }
+
+    /// The values of keys, all at one end of what is published.
+    pub fn get_many<R: Wait>(
+        &self,
+        rt: &R,
+        client: &mut Client<D, T, C>,
+        keys: &[Bytes],
+    ) -> Result<Reads, NoMemory>
+        requires { IsClientOf T.opening T.ours T.account self.now client.old }
+        ensures belongs { IsClientOf T.opening T.ours T.account self.now client.new }
+        ensures keeps { Keeps (account_in T.opening T.ours T.account client.old)
+            (account_in T.opening T.ours T.account client.new) }
+        ensures ok { IfOk result (λ reads. ReadsAtEnd reads.at (λ m. reads.values ≡ map (value_at m) keys.now)
+            (account_in T.opening T.ours T.account client.new)) }
+    {
+        self.table.read_many(self.alloc, rt, &mut client.seat, keys)
+    }
+
+    /// The keys from `lo` on and below `hi` with their values, all at one end of what is published, in byte order.
+    pub fn scan<R: Wait>(
+        &self,
+        rt: &R,
+        client: &mut Client<D, T, C>,
+        lo: &[u8],
+        hi: &[u8],
+    ) -> Result<Rows, NoMemory>
+        requires { IsClientOf T.opening T.ours T.account self.now client.old }
+        ensures belongs { IsClientOf T.opening T.ours T.account self.now client.new }
+        ensures keeps { Keeps (account_in T.opening T.ours T.account client.old)
+            (account_in T.opening T.ours T.account client.new) }
+        ensures ok { IfOk result (λ rows. ReadsAtEnd rows.at (λ m. rows.rows ≡ rows_within lo.now hi.now m)
+            (account_in T.opening T.ours T.account client.new)) }
+    {
+        self.table.scan(self.alloc, rt, &mut client.seat, lo, hi)
+    }
+}

@@ -1,0 +1,118 @@
+//! What a client waits for once it has its answer.
+
+ghost use Rattle.std.specs.Prelude.{◌≡◌, true, ◌≤◌, IfOk, IfSome};
+ghost use mathlib.Core.List.{IsPrefix};
+ghost use Rattle.table_rule.specs.Histories.{Begins, last_of};
+ghost use Rattle.engine_controller.specs.Passes.{seen_by, noted, IsNoteOf};
+ghost use Rattle.engine_rule.specs.Entries.{SeesMore};
+ghost use Rattle.engine_groups.specs.Clients.{IsClientOf};
+ghost use Rattle.engine_groups.specs.Runs.{IsAbove};
+
+use crate::engine::{Client, GroupEngine};
+use base_devices::{Clock, Disk};
+use crossbeam_utils::Backoff;
+use engine_calls::{Gate, Receipt, Refused};
+use engine_controller::Note;
+use model_base::Refusal;
+use std::sync::Wait;
+use table_calls::Table;
+use table_tree::{Nodes, Parts};
+
+/// Waits until an answer speaks of sequences above `shown`, up to which its client had seen what is published when it
+/// made the call.
+///
+/// It never waits: runs are given one behind the other, and what is published was given runs before. But where groups
+/// go into the table in a stage of their own, no rule speaks of the log and of the table at one moment, and so it isn't
+/// proved that an answer is above. Where it weren't, the call wouldn't return, and no client would be told of it.
+pub(crate) fn await_above<R: Wait>(rt: &R, shown: u64, answer: &Result<Receipt, Refused>)
+    ensures { IsAbove shown answer.now }
+{
+    let backoff = Backoff::new();
+    // A pause changes neither `shown` nor the answer.
+    for _ in rt.forever() {
+        if is_above(shown, answer) {
+            return;
+        }
+        backoff.snooze();
+    }
+    unreachable!()
+}
+
+/// Whether a run is above a sequence, or the sequence behind which there was no room isn't below it.
+fn is_above(shown: u64, answer: &Result<Receipt, Refused>) -> bool
+    ensures { result ≡ true → IsAbove shown answer.now }
+{
+    match answer {
+        Ok(receipt) => shown < receipt.first,
+        Err(refused) => match refused.why {
+            Refusal::SequenceFull { last } => shown <= last,
+            _ => true,
+        },
+    }
+}
+
+impl<D: Disk, T: Table<Nodes, Parts>, C: Clock + Drop, G: Gate + Drop> GroupEngine<D, T, C, G> {
+    /// Lets the client see what its answer speaks of: its group published, or the delay that it was refused by.
+    pub(crate) fn see<R: Wait>(
+        &self,
+        rt: &R,
+        client: &mut Client<D, T, C>,
+        answer: &Result<Receipt, Refused>,
+        note: Option<Note>,
+    )
+        requires client { IsClientOf T.opening T.ours T.account self.now client.old }
+        requires note { IfSome note (IsNoteOf self.now.controller) }
+        ensures fits { IsClientOf T.opening T.ours T.account self.now client.new }
+        ensures same { (client.new.number ≡ client.old.number) × (client.new.start ≡ client.old.start)
+            × (client.new.writer ≡ client.old.writer) }
+        ensures seen { Begins (T.account client.old.seat).seen (T.account client.new.seat).seen
+            × SeesMore client.old.number (seen_by client.old.pass) (seen_by client.new.pass) }
+        ensures published { IfOk answer.now (λ r. r.group_last
+            ≤ last_of (T.opening self.now.table).start (T.account client.new.seat).seen) }
+        ensures noted { IfSome note (λ n. IsPrefix (noted n) (seen_by client.new.pass)) }
+    {
+        self.await_answer(rt, client, answer);
+        if let Some(note) = note {
+            self.controller.learn(rt, &mut client.pass, note);
+        }
+    }
+
+    /// Waits until the client has seen its group published, if its batch was accepted.
+    fn await_answer<R: Wait>(
+        &self,
+        rt: &R,
+        client: &mut Client<D, T, C>,
+        answer: &Result<Receipt, Refused>,
+    )
+        requires { IsClientOf T.opening T.ours T.account self.now client.old }
+        ensures fits { IsClientOf T.opening T.ours T.account self.now client.new }
+        ensures same { (client.new.number ≡ client.old.number) × (client.new.start ≡ client.old.start)
+            × (client.new.writer ≡ client.old.writer) × (client.new.pass ≡ client.old.pass) }
+        ensures seen { Begins (T.account client.old.seat).seen (T.account client.new.seat).seen }
+        ensures published { IfOk answer.now (λ r. r.group_last
+            ≤ last_of (T.opening self.now.table).start (T.account client.new.seat).seen) }
+    {
+        if let Ok(receipt) = answer {
+            self.await_seen(rt, client, receipt.group_last);
+        }
+    }
+
+    /// Waits until the client has seen what is published up to a sequence.
+    fn await_seen<R: Wait>(&self, rt: &R, client: &mut Client<D, T, C>, last: u64)
+        requires { IsClientOf T.opening T.ours T.account self.now client.old }
+        ensures fits { IsClientOf T.opening T.ours T.account self.now client.new }
+        ensures same { (client.new.number ≡ client.old.number) × (client.new.start ≡ client.old.start)
+            × (client.new.writer ≡ client.old.writer) × (client.new.pass ≡ client.old.pass) }
+        ensures seen { Begins (T.account client.old.seat).seen (T.account client.new.seat).seen }
+        ensures reached { last ≤ last_of (T.opening self.now.table).start (T.account client.new.seat).seen }
+    {
+        let backoff = Backoff::new();
+        for _ in rt.forever() {
+            if last <= self.table.last(&mut client.seat) {
+                return;
+            }
+            backoff.snooze();
+        }
+        unreachable!()
+    }
+}

@@ -1,0 +1,94 @@
+//! What the leader of a logged group does.
+
+ghost use Rattle.std.specs.Prelude.{◌≡◌, ◌≤◌, ◌<◌, ◌^◌, ℕ, List, [], ◌∷◌, ◌++◌};
+ghost use Rattle.table_rule.specs.declared.content.MemberVersions.{MemberVersions};
+ghost use Rattle.table_rule.specs.Histories.{Begins, last_of};
+ghost use Rattle.table_rule.specs.Rule.{end_of};
+ghost use Rattle.table_rule.specs.Steps.{IsNext};
+ghost use Rattle.engine_memtable.specs.Parts.{HaveParts};
+ghost use Rattle.engine_memtable.specs.Working.{HasLaunched};
+ghost use Rattle.table_calls.specs.Account.{IsReady};
+ghost use Rattle.line_rule.specs.declared.view.Debt.{Debt};
+ghost use Rattle.line_rule.specs.declared.view.Handling.{Handling};
+ghost use Rattle.line_writers.specs.Roles.{AreMembers};
+ghost use Rattle.line_writers.specs.Seats.{Belongs, client_of, clients_of};
+ghost use Rattle.line_writers.specs.Second.{HasRight};
+
+use crate::working::work;
+use line_rule::{Given, Itemized, Ledger};
+use line_writers::{Writer, WriterList};
+use std::sync::Wait;
+use table_calls::{GroupParts, Table};
+use table_rule::Versioned;
+
+/// Works on the leader's own part of the group that it launched, and waits until the group is published. `end` is the
+/// group's last sequence.
+pub fn await_group<N: Versioned, P: GroupParts<N>, T: Table<N, P>, R: Wait>(
+    rt: &R,
+    table: &T,
+    seat: &mut T::Seat,
+    end: u64,
+) -> T::Turn
+    requires ours { T.ours table.now seat.old }
+    requires launched { (number : ℕ) × (seen before : List (List MemberVersions)) × (group : List MemberVersions)
+        × HasLaunched (T.opening table.now).start number seen before group (T.account seat.old)
+        × (end ≡ end_of (last_of (T.opening table.now).start before) group) }
+    ensures ours { T.ours table.now seat.new × T.our_turn table.now result }
+    ensures published { (number : ℕ) (seen before : List (List MemberVersions)) (group : List MemberVersions)
+        → HasLaunched (T.opening table.now).start number seen before group (T.account seat.old)
+        → (T.history result ≡ before ++ group ∷ []) × ((T.account seat.new).number ≡ number)
+        × Begins seen (T.account seat.new).seen }
+    ensures ready { IsReady (T.account seat.new) }
+    ensures reached { end ≤ last_of (T.opening table.now).start (T.account seat.new).seen }
+{
+    work::<N, P, T, R>(rt, table, seat);
+    table.await_published(rt, seat, end)
+}
+
+/// Leads a group of the second list, whose leader has the right: launches its parts, tells its members to work beside
+/// it, works on its own part, and waits until the group is published. `members` are just those that have a part beside
+/// the leader, since who is told without a part waits for one forever, and the leader waits forever for one who has a
+/// part and isn't told. `end` is the group's last sequence.
+pub fn lead<
+    Q: Itemized,
+    A: Given,
+    L: Ledger<Q, A, M>,
+    M,
+    N: Versioned,
+    P: GroupParts<N>,
+    T: Table<N, P>,
+    R: Wait,
+>(
+    rt: &R,
+    list: &WriterList<Q, A, L, M>,
+    writer: &mut Writer<Q, A, L, M>,
+    table: &T,
+    seat: &mut T::Seat,
+    turn: T::Turn,
+    members: &[u32],
+    parts: &mut P,
+    end: u64,
+) -> T::Turn
+    requires leads { Belongs list.now writer.old × ((d : Debt Q A) × (from to : List (Handling Q A))
+        × (mine : List (Q × A)) × HasRight (clients_of list.now) d from to mine writer.old
+        × AreMembers (clients_of list.now) members.now d.rest) }
+    requires ours { T.ours table.now seat.old × T.our_turn table.now turn × IsReady (T.account seat.old) }
+    requires next { IsNext (T.opening table.now) (T.history turn) (P.parts parts.old) }
+    requires parts { HaveParts (T.account seat.old).number members.now (P.parts parts.old) }
+    requires end { (end ≡ end_of (last_of (T.opening table.now).start (T.history turn)) (P.parts parts.old))
+        × (end < 2 ^ 64) }
+    ensures client { (client_of writer.new ≡ client_of writer.old) × Belongs list.now writer.new }
+    ensures leads { (d : Debt Q A) (from to : List (Handling Q A)) (mine : List (Q × A))
+        → HasRight (clients_of list.now) d from to mine writer.old
+        → HasRight (clients_of list.now) d from to mine writer.new }
+    ensures ours { T.ours table.now seat.new × T.our_turn table.now result × IsReady (T.account seat.new) }
+    ensures published { T.history result ≡ T.history turn ++ P.parts parts.old ∷ [] }
+    ensures seen { ((T.account seat.new).number ≡ (T.account seat.old).number)
+        × Begins (T.account seat.old).seen (T.account seat.new).seen }
+    ensures reached { end ≤ last_of (T.opening table.now).start (T.account seat.new).seen }
+    ensures emptied { (P.parts parts.new ≡ []) × (P.room parts.new ≡ P.room parts.old) }
+{
+    table.launch(seat, turn, parts);
+    list.launch_roles(writer, members);
+    await_group::<N, P, T, R>(rt, table, seat, end)
+}

@@ -1,0 +1,326 @@
+-- At the end the commits make one trace of all clients, and the log's calls wrote its history.
+use Rattle.std.proofs.Common.{◌≡◌, ◌≢◌, inl, inr, ℕ, suc, ◌+◌, ◌-◌, ◌<◌, ◌≤◌, Bool, true, false, cond, nat_le, ◌==◌, map, get_or, slice_get, List, [], ◌∷◌, ◌++◌, Option, Some, None, IfSome, length, refl, ap, sym, ◌∙◌, subst, ⊎_elim, arith, append_assoc}
+use Rattle.std.specs.Option.{option_map}
+use Rattle.std.specs.List.{AllByRecursion, AllZip}
+use Rattle.std.specs.Bool.{IsTrue}
+use Rattle.std.proofs.lemmas.Option.{slice_get-map, slice_get_cases}
+use mathlib.Core.List.{IsPrefix}
+use Rattle.std.proofs.lemmas.List.Elements.{filter-append}
+use Rattle.model_base.specs.Batch.{count_of}
+use Rattle.model_base.specs.History.{Entry, IsHistory, max_sequence, last_sequence, IsBoundary}
+use Rattle.model_base.specs.Attempts.{Attempt, slowed}
+use Rattle.model_base.specs.Controller.{ControllerCall, IsLegal}
+use Rattle.model_base.specs.Tokens.{is_token, tokens_of}
+use Rattle.model_base.specs.Trace.{Trace, Settings}
+use Rattle.model_base.specs.Groups.{Member, Group, Holds, AreOfOthers, AreStatuses, IsStatus, items_of}
+use Rattle.model_base.specs.Outcomes.{entries_of_client}
+use Rattle.model_base.specs.Counts.{Rose}
+use Rattle.model_base.specs.Grouping.{group_len}
+use Rattle.model_base.specs.LogContents.{GroupCall}
+use Rattle.table_rule.specs.declared.content.MemberVersions.{MemberVersions}
+use Rattle.model_runs.specs.Lost.{fitting, IsLost}
+use Rattle.model_accounts.specs.Sights.{Saw}
+use Rattle.model_accounts.specs.Accounts.{Account}
+use Rattle.model_accounts.specs.Closing.{IsAccountOf, IsClosing, all_attempts}
+use Rattle.model_accounts.specs.Led.{AreLed, Led, groups_of}
+use Rattle.model_runs.specs.Written.{AreLost, IsLostCall, WritesLog}
+use Rattle.engine_rule.specs.Commits.{Answer, AreAnswered, AreOfClients, Commit, IsAnswer, accepted, held_up, commits_of, failed, fault_after, fault_after_all, last_after, last_after_all, no_room}
+use Rattle.engine_rule.specs.Consistent.{AreConsistent}
+use Rattle.engine_rule.specs.Asked.{HasAsked, place_of}
+use Rattle.engine_rule.specs.Entries.{AreCallsOf, HasPart, trace_of, attempt_of, entries_after, entries_of, entry_after, entry_with, status_of}
+use Rattle.engine_rule.specs.LogCalls.{AreLostWrites, IsLostWrite}
+use Rattle.engine_rule.specs.Plans.{AreLogged, CommitRequest, HaveOwnClients, all_failed, answered, batches_from, item_of_request}
+use Rattle.engine_rule.proofs.Chains.{entries_clients, entries_history, entries_own, images_entries}
+use Rattle.engine_rule.proofs.Leaders.{are_led, led_of}
+use Rattle.model_accounts.proofs.Leading.{groups_from_led, slowed_holds}
+use Rattle.model_accounts.proofs.Seeing.{saw_published}
+use Rattle.engine_controller.specs.Delays.{delays_of}
+use Rattle.engine_controller.proofs.Account.{goes_begins, goes_tokens}
+use Rattle.engine_controller.proofs.Places.{goes_delays}
+
+-- Statuses
+
+-- right beside these groups, where who was held up stands in the group of its delay
+abbrev HasStatus : Trace → List Group → Option ℕ → Commit → Type 0
+HasStatus trace groups fault c =
+    (call : ℕ) → ((place : ℕ) → status_of (place_of c) c.answer ≡ slowed place → Holds groups place c.client call) → IsStatus trace groups fault c.client call (status_of (place_of c) c.answer)
+
+-- what is told by one right answer, where these entries stand before
+status_by : (trace : Trace) (groups : List Group) (fault : Option ℕ) (last : ℕ) (dead : Option ℕ) (c : Commit) (p : ℕ) (v : Answer) → IsAnswer last dead (count_of c.records) v → ((n : ℕ) → fault_after dead v ≡ Some n → fault ≡ Some n)
+    → IsBoundary trace.start trace.entries last → (call : ℕ) → ((place : ℕ) → status_of p v ≡ slowed place → Holds groups place c.client call) → IsStatus trace groups fault c.client call (status_of p v)
+status_by trace groups fault last dead c p (accepted first end) h to_fault b call held = tt
+status_by trace groups fault last dead c p (held_up numbers) h to_fault b call held = held p refl
+status_by trace groups fault last dead c p (failed n) h to_fault b call held = to_fault n refl
+status_by trace groups fault last dead c p (no_room l) h to_fault b call held = subst (IsBoundary trace.start trace.entries) (sym h.1) b
+
+-- a fault stays what it is
+dead_step : (last n : ℕ) (c : Commit) (cs : List Commit) (v : Answer) → ((k : ℕ) → AreAnswered last (Some k) cs → fault_after_all (Some k) cs ≡ Some k) → IsAnswer last (Some n) (count_of c.records) v → AreAnswered (last_after last (count_of c.records) v) (fault_after (Some n) v) cs → fault_after_all (fault_after (Some n) v) cs ≡ Some n
+dead_step last n c cs (accepted first end) more a b = absurd (let bad = a.0 in cc)
+dead_step last n c cs (held_up numbers) more a b = more n b
+dead_step last n c cs (failed m) more a b = subst (λ k. fault_after_all (Some k) cs ≡ Some n) (sym a) (more n (subst (λ k. AreAnswered last (Some k) cs) a b))
+dead_step last n c cs (no_room l) more a b = absurd (let bad = a.0 in cc)
+
+dead_stays : (last n : ℕ) (cs : List Commit) → AreAnswered last (Some n) cs → fault_after_all (Some n) cs ≡ Some n
+dead_stays last n [] h = refl
+dead_stays last n (c ∷ cs) h = dead_step last n c cs c.answer (λ k. dead_stays last k cs) h.0 h.1
+
+last_sequence_append : (start : ℕ) (xs ys : List Entry) → last_sequence start (xs ++ ys) ≡ last_sequence (last_sequence start xs) ys
+last_sequence_append start [] ys = refl
+last_sequence_append start (x ∷ xs) ys = last_sequence_append (x.first + x.count - 1) xs ys
+
+last_with : (last : ℕ) (dead : Option ℕ) (mine : List Entry) (c : Commit) (v : Answer) → IsAnswer last dead (count_of c.records) v → last_sequence last (entry_with c.client mine c v) ≡ last_after last (count_of c.records) v
+last_with last dead mine c (accepted first end) h = let a = h.2 in let b = h.1 in omega (arith, a, b)
+last_with last dead mine c (held_up numbers) h = refl
+last_with last dead mine c (failed n) h = refl
+last_with last dead mine c (no_room l) h = refl
+
+all_statuses : (trace : Trace) (groups : List Group) (fault : Option ℕ) (last : ℕ) (dead : Option ℕ) (front : List Entry) (cs : List Commit) → AreAnswered last dead cs → fault ≡ fault_after_all dead cs → trace.entries ≡ front ++ entries_after front cs → last ≡ last_sequence trace.start front → AllByRecursion (HasStatus trace groups fault) cs
+all_statuses trace groups fault last dead front [] h is split ends = tt
+all_statuses trace groups fault last dead front (c ∷ cs) h is split ends =
+    let e : List Entry = entry_after front c in (
+      status_by trace groups fault last dead c (place_of c) c.answer h.0
+          (λ n now. is ∙ (ap (λ d. fault_after_all d cs) now ∙ dead_stays (last_after last (count_of c.records) c.answer) n cs (subst (λ d. AreAnswered (last_after last (count_of c.records) c.answer) d cs) now h.1)))
+          (front, record { rest = e ++ entries_after (front ++ e) cs; split = split; ends = ends }),
+      all_statuses trace groups fault (last_after last (count_of c.records) c.answer) (fault_after dead c.answer) (front ++ e) cs h.1 is (split ∙ sym (append_assoc front e (entries_after (front ++ e) cs)))
+          (sym (last_sequence_append trace.start front e ∙ (ap (λ n. last_sequence n e) (sym ends) ∙ last_with last dead (entries_of_client c.client front) c c.answer h.0))),
+    )
+
+nat_same : (a b : ℕ) → (a == b) ≡ true → a ≡ b
+nat_same a b h = grind arith
+
+-- a client's own
+own_statuses : (trace : Trace) (groups : List Group) (fault : Option ℕ) (k call : ℕ) (cs : List Commit) → AllByRecursion (HasStatus trace groups fault) cs
+    → ((j : ℕ) (attempt : Attempt) (place : ℕ) → slice_get (map attempt_of (commits_of k cs)) j ≡ Some attempt → attempt.status ≡ slowed place → Holds groups place k (call + j))
+    → AreStatuses trace groups fault k call (map attempt_of (commits_of k cs))
+own_statuses trace groups fault k call [] h held = tt
+own_statuses trace groups fault k call (c ∷ cs) h held = by (c.client == k) refl held (λ n more. own_statuses trace groups fault k n cs h.1 more)
+  where
+    Held : ℕ → List Attempt → Type 0
+    Held n attempts = (j : ℕ) (attempt : Attempt) (place : ℕ) → slice_get attempts j ≡ Some attempt → attempt.status ≡ slowed place → Holds groups place k (n + j)
+
+    by : (b : Bool) → (c.client == k) ≡ b → Held call (map attempt_of (cond b (c ∷ commits_of k cs) (commits_of k cs)))
+        → ((n : ℕ) → Held n (map attempt_of (commits_of k cs)) → AreStatuses trace groups fault k n (map attempt_of (commits_of k cs))) → AreStatuses trace groups fault k call (map attempt_of (cond b (c ∷ commits_of k cs) (commits_of k cs)))
+    by true e own more =
+        let client : c.client ≡ k = nat_same c.client k e in
+        let first : (place : ℕ) → status_of (place_of c) c.answer ≡ slowed place → Holds groups place c.client call = λ place is.
+        subst (λ (z : ℕ × ℕ). Holds groups place z.0 z.1) (λ i. (sym client i, call_is i)) (own 0 (attempt_of c) place refl is) in (
+          subst (λ (j : ℕ). IsStatus trace groups fault j call (status_of (place_of c) c.answer)) client (h.0 call first),
+          more (call + 1) (λ j attempt place there is. subst (Holds groups place k) (next j) (own (suc j) attempt place there is)),
+        )
+      where
+        call_is : call + 0 ≡ call
+        call_is = omega arith
+
+        next : (j : ℕ) → call + suc j ≡ call + 1 + j
+        next j = omega arith
+    by false e own more = more call own
+
+-- The lost group's members
+
+commits_append : (k : ℕ) (xs ys : List Commit) → commits_of k (xs ++ ys) ≡ commits_of k xs ++ commits_of k ys
+commits_append k xs ys = filter-append (λ (c : Commit). c.client == k) xs ys
+
+itself : (n : ℕ) → (n == n) ≡ true
+itself n = grind arith
+
+handled_at : (before : List Commit) (c : Commit) (after : List Commit) → slice_get (map attempt_of (commits_of c.client (before ++ c ∷ after))) (length (commits_of c.client before)) ≡ Some (attempt_of c)
+handled_at [] c after = rw (itself c.client) refl
+handled_at (u ∷ before) c after = by (u.client == c.client) refl (handled_at before c after)
+  where
+    by : (b : Bool) → (u.client == c.client) ≡ b → slice_get (map attempt_of (commits_of c.client (before ++ c ∷ after))) (length (commits_of c.client before)) ≡ Some (attempt_of c)
+        → slice_get (map attempt_of (commits_of c.client (u ∷ (before ++ c ∷ after)))) (length (commits_of c.client (u ∷ before))) ≡ Some (attempt_of c)
+    by true e h = rw e h
+    by false e h = rw e h
+
+members_behind : List ControllerCall → List Commit → ℕ → List CommitRequest → List Member
+members_behind known before n [] = []
+members_behind known before n (a ∷ requests) = record { client = a.client; call = length (commits_of a.client before); item = item_of_request a } ∷ members_behind known (before ++ answered known a (failed n) ∷ []) n requests
+
+items_behind : (known : List ControllerCall) (before : List Commit) (n : ℕ) (requests : List CommitRequest) → items_of (members_behind known before n requests) ≡ map item_of_request requests
+unfolding members_behind
+items_behind known before n [] = refl
+items_behind known before n (a ∷ requests) = ap (λ is. item_of_request a ∷ is) (items_behind known (before ++ answered known a (failed n) ∷ []) n requests)
+
+length_behind : (known : List ControllerCall) (before : List Commit) (n : ℕ) (requests : List CommitRequest) → length (members_behind known before n requests) ≡ length requests
+unfolding members_behind
+length_behind known before n [] = refl
+length_behind known before n (a ∷ requests) = ap suc (length_behind known (before ++ answered known a (failed n) ∷ []) n requests)
+
+unlike_behind : (known : List ControllerCall) (client : ℕ) (before : List Commit) (n : ℕ) (requests : List CommitRequest) → AllByRecursion (λ (b : CommitRequest). client ≢ b.client) requests → AllByRecursion (λ (m : Member). client ≢ m.client) (members_behind known before n requests)
+unfolding members_behind
+unlike_behind known client before n [] h = tt
+unlike_behind known client before n (a ∷ requests) h = (h.0, unlike_behind known client (before ++ answered known a (failed n) ∷ []) n requests h.1)
+
+others_behind : (known : List ControllerCall) (before : List Commit) (n : ℕ) (requests : List CommitRequest) → HaveOwnClients requests → AreOfOthers (members_behind known before n requests)
+unfolding members_behind
+others_behind known before n [] h = tt
+others_behind known before n (a ∷ requests) h = (unlike_behind known a.client (before ++ answered known a (failed n) ∷ []) n requests h.0, others_behind known (before ++ answered known a (failed n) ∷ []) n requests h.1)
+
+fitting_is : (last : ℕ) (requests : List CommitRequest) → fitting last (map (λ (a : CommitRequest). a.records) requests) ≡ batches_from last requests
+fitting_is last [] = refl
+fitting_is last (a ∷ requests) = by (nat_le (last + count_of a.records) max_sequence) refl (λ m. fitting_is m requests)
+  where
+    by : (b : Bool) → nat_le (last + count_of a.records) max_sequence ≡ b → ((m : ℕ) → fitting m (map (λ (a : CommitRequest). a.records) requests) ≡ batches_from m requests)
+        → cond b (a.records ∷ fitting (last + count_of a.records) (map (λ (a : CommitRequest). a.records) requests)) (fitting last (map (λ (a : CommitRequest). a.records) requests)) ≡ cond b (a.records ∷ []) [] ++ batches_from (cond b (last + count_of a.records) last) requests
+    by true e more = ap (λ l. a.records ∷ l) (more (last + count_of a.records))
+    by false e more = more last
+
+module _ (cs : List Commit) (accounts : List Account) (clients : ℕ) (all : length accounts ≡ clients) (are : (i : ℕ) (a : Account) → slice_get accounts i ≡ Some a → a.attempts ≡ map attempt_of (commits_of (i + 1) cs)) where
+  lost_members : (known : List ControllerCall) (n : ℕ) (before : List Commit) (requests : List CommitRequest) (after : List Commit) → cs ≡ before ++ (all_failed known n requests ++ after) → AreLogged requests → AreOfClients clients (all_failed known n requests)
+      → AllZip (IsLost (all_attempts accounts) n) (members_behind known before n requests) (map (λ (a : CommitRequest). a.records) requests)
+  unfolding members_behind
+  lost_members known n before [] after split h named = tt
+  lost_members known n before (a ∷ requests) after split h named =
+      let c : Commit = answered known a (failed n) in (
+        elim (slice_get_cases accounts (a.client - 1)).1 [
+          | inl there ↦ (
+              let number : a.client ≡ (a.client - 1) + 1 = (let low = named.0.0 in omega arith) in
+              let of_client : slice_get (all_attempts accounts) (a.client - 1) ≡ Some there.0.attempts = slice_get-map (λ (x : Account). x.attempts) accounts (a.client - 1) ∙ ap (option_map (λ (x : Account). x.attempts)) there.2 in
+              let is : there.0.attempts ≡ map attempt_of (commits_of a.client cs) = are (a.client - 1) there.0 there.2 ∙ ap (λ k. map attempt_of (commits_of k cs)) (sym number) in
+              record {
+                stands = record {
+                  number = a.client - 1;
+                  commits = there.0.attempts;
+                  attempt = attempt_of c;
+                  client = number;
+                  of_client = of_client;
+                  there = ap (λ hs. slice_get hs (length (commits_of a.client before))) is ∙ (ap (λ l. slice_get (map attempt_of (commits_of a.client l)) (length (commits_of a.client before))) split ∙ handled_at before c (all_failed known n requests ++ after));
+                  item = refl;
+                };
+                records_are = refl;
+                to_log = h.0;
+                status = refl;
+              })
+          | inr gone ↦ (let low = named.0.0 in let high = named.0.1 in let none = gone.0 in absurd (omega arith))
+        ],
+        lost_members known n (before ++ c ∷ []) requests after (split ∙ sym (append_assoc before (c ∷ []) (all_failed known n requests ++ after))) h.1 named.1,
+      )
+
+all_front : {X : Type 0} (P : X → Type 0) (xs ys : List X) → AllByRecursion P (xs ++ ys) → AllByRecursion P xs
+all_front P [] ys a = tt
+all_front P (x ∷ xs) ys a = (a.0, all_front P xs ys a.1)
+
+all_back : {X : Type 0} (P : X → Type 0) (xs ys : List X) → AllByRecursion P (xs ++ ys) → AllByRecursion P ys
+all_back P [] ys a = a
+all_back P (x ∷ xs) ys a = all_back P xs ys a.1
+
+some_length : {A B : Type 0} (f : A → B) (xs : List A) (n : ℕ) → length xs ≡ n → length (map f xs) ≡ n
+some_length f [] n e = e
+some_length f (x ∷ xs) n e = ap suc (some_length f xs (length xs) refl) ∙ e
+
+module _ (settings : Settings) (cs : List Commit) (last : ℕ) (fault : Option ℕ) (published : List (List MemberVersions)) (calls : List GroupCall) (asked history : List ControllerCall)
+    (k : AreConsistent settings.start settings.clients settings.group_bytes asked cs last fault published calls)
+    (accounts : List Account) (all : length accounts ≡ settings.clients) (are : (i : ℕ) (a : Account) → slice_get accounts i ≡ Some a → HasPart settings.start cs published history i a) where
+  abbrev trace : Trace
+  trace = trace_of settings.start cs history
+
+  is_history : IsHistory settings.start (entries_of cs) × (last_sequence settings.start (entries_of cs) ≡ last_after_all settings.start cs)
+  is_history = entries_history settings.start None [] cs k.answered
+
+  last_is : last ≡ last_sequence settings.start (entries_of cs)
+  last_is = k.last_is ∙ sym is_history.1
+
+  attempts_are : (i : ℕ) (a : Account) → slice_get accounts i ≡ Some a → a.attempts ≡ map attempt_of (commits_of (i + 1) cs)
+  attempts_are i a there = ap (λ b. b.attempts) (are i a there).is
+
+  attempts_at : (i : ℕ) (a : Account) → slice_get accounts i ≡ Some a → slice_get (all_attempts accounts) i ≡ Some (map attempt_of (commits_of (i + 1) cs))
+  attempts_at i a there = slice_get-map (λ (x : Account). x.attempts) accounts i ∙ (ap (option_map (λ (x : Account). x.attempts)) there ∙ ap Some (attempts_are i a there))
+
+  own_is : (i : ℕ) (own : List Attempt) → slice_get (all_attempts accounts) i ≡ Some own → own ≡ map attempt_of (commits_of (i + 1) cs)
+  own_is i own e = ⊎_elim
+      (λ (p : (x : Account) × (i < length accounts) × (slice_get accounts i ≡ Some x) × (get_or accounts i x ≡ x)).
+      let is : Some own ≡ Some (map attempt_of (commits_of (i + 1) cs)) = sym e ∙ attempts_at i p.0 p.2 in cc (is))
+      (λ (p : (length accounts ≤ i) × (slice_get accounts i ≡ None)).
+      let is : Some own ≡ None = sym e ∙ (slice_get-map (λ (x : Account). x.attempts) accounts i ∙ ap (option_map (λ (x : Account). x.attempts)) p.1) in absurd (cc))
+      (slice_get_cases accounts i).1
+
+  -- what a client has asked for, of all
+  have_asked : (client : ℕ) → 1 ≤ client → client ≤ settings.clients → (known : List ControllerCall) × (delays_of client history ≡ delays_of client known) × HasAsked client (commits_of client cs) known
+  have_asked client low high = ⊎_elim
+      (λ (p : (x : Account) × (client - 1 < length accounts) × (slice_get accounts (client - 1) ≡ Some x) × (get_or accounts (client - 1) x ≡ x)).
+      let number : client - 1 + 1 ≡ client = omega (arith, low) in
+      let h = are (client - 1) p.0 p.2 in
+      subst (λ n. (known : List ControllerCall) × (delays_of n history ≡ delays_of n known) × HasAsked n (commits_of n cs) known) number (h.known, goes_delays (client - 1 + 1) h.known history h.goes_on, h.has_asked))
+      (λ (p : (length accounts ≤ client - 1) × (slice_get accounts (client - 1) ≡ None)). let none = p.0 in absurd (omega (arith, none, low, high, all)))
+      (slice_get_cases accounts (client - 1)).1
+
+  module _ (legal : IsLegal history) (calls_of : AreCallsOf settings.clients history) (within : IsPrefix asked history) where
+    abbrev led : List Led
+    led = map led_of k.in_groups.groups
+
+    is_led : AreLed settings.group_bytes history led (all_attempts accounts)
+    is_led = are_led settings.group_bytes asked history cs k.in_groups within settings.clients (all_attempts accounts) (some_length (λ (x : Account). x.attempts) accounts settings.clients all) k.of_clients calls_of have_asked own_is
+
+    statuses : AllByRecursion (HasStatus trace (groups_of led) fault) cs
+    statuses = all_statuses trace (groups_of led) fault settings.start None [] cs k.answered k.fault_is refl refl
+
+    part_of : (i : ℕ) (a : Account) → slice_get accounts i ≡ Some a → IsAccountOf trace (groups_of led) fault a
+    part_of i a there =
+        let h = are i a there in
+        let number : a.number ≡ i + 1 = ap (λ b. b.number) h.is in
+        let held : (j : ℕ) (attempt : Attempt) (place : ℕ) → slice_get (map attempt_of (commits_of (i + 1) cs)) j ≡ Some attempt → attempt.status ≡ slowed place → Holds (groups_of led) place (i + 1) (0 + j) =
+        λ j attempt place at is. subst (Holds (groups_of led) place (i + 1)) (from_none j) (slowed_holds settings.group_bytes history led (all_attempts accounts) is_led i (map attempt_of (commits_of (i + 1) cs)) j attempt place (attempts_at i a there) at is) in
+        record {
+          accepted = ap (λ n. entries_of_client n (entries_of cs)) number ∙ (entries_own (i + 1) [] [] cs refl ∙ sym (ap (λ b. b.mine) h.is));
+          tokens = ap (λ n. tokens_of n history) number ∙ (goes_tokens (i + 1) h.known history h.goes_on ∙ sym (ap (λ b. b.asked) h.is));
+          statuses = subst (λ (z : ℕ × List Attempt). AreStatuses trace (groups_of led) fault z.0 0 z.1) (λ j. (sym number j, sym (attempts_are i a there) j)) (own_statuses trace (groups_of led) fault (i + 1) 0 cs statuses held);
+          seen = subst (λ (b : Account). Saw b.seen trace) (sym h.is)
+              (saw_published trace published (images_entries [] cs published k.images) (record { start = settings.start; published = h.seen; controller_calls = h.known }) refl h.begins (goes_begins (i + 1) h.known history h.goes_on));
+        }
+      where
+        from_none : (j : ℕ) → j ≡ 0 + j
+        from_none j = omega arith
+
+    of_tokens : (n : ℕ) (ts : List ControllerCall) → AreCallsOf n ts → AllByRecursion (λ (t : ControllerCall). IsTrue (is_token t.action) → (1 ≤ t.client) × (t.client ≤ n)) ts
+    of_tokens n [] h = tt
+    of_tokens n (t ∷ ts) h = ((λ is. h.0), of_tokens n ts h.1)
+
+    pub closing : (ended : ℕ) → IfSome fault (λ count. Rose settings.opened count × (count ≤ ended)) → (groups : List Group) × IsClosing settings ended trace groups accounts last fault
+    closing ended rose = (
+      groups_of led,
+      record {
+        is_trace = record { start = refl; entries = is_history.0; controller_calls = legal; clients = entries_clients settings.clients [] cs k.of_clients; tokens = of_tokens settings.clients history calls_of };
+        are_groups = groups_from_led settings.group_bytes history led (all_attempts accounts) is_led;
+        each = part_of;
+        last_is = last_is;
+        fault_is = rose;
+      },
+    )
+
+  lost_call : (n : ℕ) (c : GroupCall) → IsLostWrite settings.group_bytes cs n last c → IsLostCall settings.group_bytes (all_attempts accounts) n (last_sequence settings.start (entries_of cs)) c
+  lost_call n c g =
+      let whole = g.is_group in
+      let named : AreOfClients settings.clients (all_failed g.known n g.requests) = all_front (λ (c : Commit). (1 ≤ c.client) × (c.client ≤ settings.clients)) (all_failed g.known n g.requests) g.rest (all_back (λ (c : Commit). (1 ≤ c.client) × (c.client ≤ settings.clients)) g.front (all_failed g.known n g.requests ++ g.rest) (subst (AreOfClients settings.clients) g.split k.of_clients)) in
+      record {
+        failed = g.failed;
+        first = g.writes.first ∙ ap (λ m. m + 1) last_is;
+        batches = record {
+          members = members_behind g.known g.front n g.requests;
+          is_group = record {
+            some = (let l = length_behind g.known g.front n g.requests in let s = whole.some in omega (arith, l, s));
+            whole = ap (λ is. group_len settings.group_bytes is) (items_behind g.known g.front n g.requests) ∙ (whole.whole ∙ sym (length_behind g.known g.front n g.requests));
+            of_others = others_behind g.known g.front n g.requests whole.of_others;
+          };
+          all = map (λ (a : CommitRequest). a.records) g.requests;
+          each = lost_members cs accounts settings.clients all (λ i a there. ap (λ b. b.attempts) (are i a there).is) g.known n g.front g.requests g.rest g.split g.writes.to_log named;
+          batches_are = g.writes.batches ∙ (sym (fitting_is last g.requests) ∙ ap (λ m. fitting m (map (λ (a : CommitRequest). a.records) g.requests)) last_is);
+          some = g.writes.some;
+        };
+      }
+
+  are_lost : (lost : List GroupCall) (f : Option ℕ) → AreLostWrites settings.group_bytes cs f last lost → AreLost settings.group_bytes (all_attempts accounts) f (last_sequence settings.start (entries_of cs)) lost
+  are_lost lost None h = h
+  are_lost lost (Some n) h = (h.0, h.1, lost_call n h.0 h.2)
+
+  pub writes_log : (wrote : List GroupCall → Type 0) → wrote calls → WritesLog settings.group_bytes wrote trace (all_attempts accounts) fault
+  writes_log wrote by =
+      let w = k.written in record {
+        parts = w.parts.parts;
+        calls = w.worked;
+        lost = w.lost;
+        cut = w.parts.cut;
+        runs = w.parts.runs;
+        each = w.parts.each;
+        none_else = are_lost w.lost fault w.are_lost;
+        by = subst wrote w.both by;
+      }

@@ -1,0 +1,361 @@
+-- Each end of a leader's work keeps all consistent.
+use Rattle.std.proofs.Common.{◌≡◌, ◌≢◌, ◌⊎◌, ℕ, ◌+◌, ◌<◌, ◌≤◌, Bool, true, false, cond, ◌==◌, filter, map, List, [], ◌∷◌, ◌++◌, Option, Some, None, length, refl, ap, sym, ◌∙◌, subst, ⊎_elim, arith, append_assoc, append-nil}
+use Rattle.std.specs.List.{AllByRecursion, AllZip}
+use Rattle.std.proofs.lemmas.List.Elements.{filter-append}
+use Rattle.std.proofs.lemmas.Grind.{flat_map-append}
+use Rattle.model_base.specs.declared.write.WriteOptions.{WriteOptions}
+use Rattle.model_base.specs.Batch.{count_of}
+use Rattle.model_base.specs.declared.history.Flag.TheVariants.{Log, NoLog, Sync}
+use Rattle.model_base.specs.History.{Entry, IsHistory, RunsFollow, logged, is_logged, flag_of}
+use Rattle.model_base.specs.Controller.{ControllerCall, HoldUp, Look}
+use Rattle.model_base.specs.LogContents.{GroupCall}
+use Rattle.table_rule.specs.declared.content.MemberVersions.{MemberVersions}
+use Rattle.table_rule.specs.Histories.{made_by, versions_in, Images}
+use Rattle.table_rule.proofs.Images.{images_more, images_none}
+use Rattle.model_runs.specs.Written.{AreOfOwnClients, WroteEntries, first_of}
+use Rattle.engine_rule.specs.Commits.{Answer, AreAnswered, AreOfClients, Commit, accepted, held_up, failed, fault_after_all, last_after, last_after_all, no_room}
+use Rattle.engine_rule.specs.Asked.{AreInGroups}
+use Rattle.engine_rule.specs.Consistent.{AreConsistent, Publishes}
+use Rattle.engine_rule.specs.Entries.{entries_after, entries_of, entry_after, entry_with, versions_made, versions_with}
+use Rattle.engine_rule.specs.LogCalls.{AreLostWrites, IsLostWrite, LogsGroup, SyncsFor, WritesBatches, WroteCommits, WroteParts}
+use Rattle.engine_rule.specs.Plans.{HaveOwnClients, AreLawful, AreUnlogged, ComesAfter, CommitRequest, IsAskedFor, IsWholeGroup, MayNotWait, ProceedsWith, all_failed, all_held_up, answer_with, answered, batches_from, last_with, last_with_all, planned, versions_from}
+use Rattle.engine_rule.proofs.Chains.{answered_append, dead_append, end_append, entries_history, entries_more}
+use Rattle.engine_rule.proofs.OneGroup.{all_append, in_groups_failed, in_groups_held_up, in_groups_planned}
+use Rattle.engine_rule.proofs.Plans.{planned_answered, planned_batches, planned_clients, planned_dead, planned_end, planned_versions}
+
+zip_append : {A B : Type 0} (R : A → B → Type 0) (xs : List A) (cs : List B) (ys : List A) (ds : List B) → AllZip R xs cs → AllZip R ys ds → AllZip R (xs ++ ys) (cs ++ ds)
+zip_append R [] [] ys ds a b = b
+zip_append R [] (c ∷ cs) ys ds a b = absurd a
+zip_append R (x ∷ xs) [] ys ds a b = absurd a
+zip_append R (x ∷ xs) (c ∷ cs) ys ds a b = (a.0, zip_append R xs cs ys ds a.1 b)
+
+none_of : {A B : Type 0} (f : A → B) (xs : List A) → map f xs ≡ [] → xs ≡ []
+none_of f [] e = refl
+none_of f (x ∷ xs) e = absurd (cc)
+
+some_of : {A B : Type 0} (f : A → B) (xs : List A) → 0 < length (map f xs) → 0 < length xs
+some_of f [] h = h
+some_of f (x ∷ xs) h = omega arith
+
+-- Flags
+
+logs_flag : (options : WriteOptions) → options.no_log ≡ false → is_logged (flag_of options) ≡ true
+logs_flag options e = rw e (by options.sync)
+  where
+    by : (b : Bool) → is_logged (cond b Sync Log) ≡ true
+    by true = refl
+    by false = refl
+
+skips_flag : (options : WriteOptions) → options.no_log ≡ true → is_logged (flag_of options) ≡ false
+skips_flag options e = rw e refl
+
+syncs_flag : (options : WriteOptions) → flag_of options ≡ Sync → options.sync ≡ true
+syncs_flag options e = by options.no_log options.sync e
+  where
+    by : (n b : Bool) → cond n NoLog (cond b Sync Log) ≡ Sync → b ≡ true
+    by true b e = absurd (cc)
+    by false true e = refl
+    by false false e = absurd (cc)
+
+-- What holds of each request holds of the entry that it makes
+module _ (known : List ControllerCall) (P : WriteOptions → Type 0) where
+  entry_at : (mine : List Entry) (a : CommitRequest) (rest : List Entry) (v : Answer) → P a.options → AllByRecursion (λ (e : Entry). (options : WriteOptions) × P options × (e.flag ≡ flag_of options)) rest
+      → AllByRecursion (λ (e : Entry). (options : WriteOptions) × P options × (e.flag ≡ flag_of options)) (entry_with a.client mine (answered known a v) v ++ rest)
+  entry_at mine a rest (accepted first end) h more = ((a.options, h, refl), more)
+  entry_at mine a rest (held_up numbers) h more = more
+  entry_at mine a rest (failed n) h more = more
+  entry_at mine a rest (no_room l) h more = more
+
+  flags_of : (last end : ℕ) (before : List Entry) (requests : List CommitRequest) → AllByRecursion (λ (a : CommitRequest). P a.options) requests → AllByRecursion (λ (e : Entry). (options : WriteOptions) × P options × (e.flag ≡ flag_of options)) (entries_after before (planned known last end requests))
+  flags_of last end before [] h = tt
+  flags_of last end before (a ∷ requests) h =
+      let c = answered known a (answer_with last end a.records) in
+      entry_at (filter (λ (e : Entry). e.client == a.client) before) a (entries_after (before ++ entry_after before c) (planned known (last_with last a.records) end requests)) (answer_with last end a.records) h.0
+      (flags_of (last_with last a.records) end (before ++ entry_after before c) requests h.1)
+
+-- A group's entries are each of another client
+module _ (known : List ControllerCall) where
+  client_at : (P : ℕ → Type 0) (mine : List Entry) (a : CommitRequest) (rest : List Entry) (v : Answer) → P a.client → AllByRecursion (λ (e : Entry). P e.client) rest
+      → AllByRecursion (λ (e : Entry). P e.client) (entry_with a.client mine (answered known a v) v ++ rest)
+  client_at P mine a rest (accepted first end) h more = (h, more)
+  client_at P mine a rest (held_up numbers) h more = more
+  client_at P mine a rest (failed n) h more = more
+  client_at P mine a rest (no_room l) h more = more
+
+  clients_of : (P : ℕ → Type 0) (last end : ℕ) (before : List Entry) (requests : List CommitRequest) → AllByRecursion (λ (a : CommitRequest). P a.client) requests → AllByRecursion (λ (e : Entry). P e.client) (entries_after before (planned known last end requests))
+  clients_of P last end before [] h = tt
+  clients_of P last end before (a ∷ requests) h =
+      let c = answered known a (answer_with last end a.records) in
+      client_at P (filter (λ (e : Entry). e.client == a.client) before) a (entries_after (before ++ entry_after before c) (planned known (last_with last a.records) end requests)) (answer_with last end a.records) h.0
+      (clients_of P (last_with last a.records) end (before ++ entry_after before c) requests h.1)
+
+  own_at : (mine : List Entry) (a : CommitRequest) (rest : List Entry) (v : Answer) → AllByRecursion (λ (e : Entry). a.client ≢ e.client) rest → AreOfOwnClients rest → AreOfOwnClients (entry_with a.client mine (answered known a v) v ++ rest)
+  own_at mine a rest (accepted first end) others own = (others, own)
+  own_at mine a rest (held_up numbers) others own = own
+  own_at mine a rest (failed n) others own = own
+  own_at mine a rest (no_room l) others own = own
+
+  own_clients : (last end : ℕ) (before : List Entry) (requests : List CommitRequest) → HaveOwnClients requests → AreOfOwnClients (entries_after before (planned known last end requests))
+  own_clients last end before [] own = tt
+  own_clients last end before (a ∷ requests) own =
+      let c = answered known a (answer_with last end a.records) in
+      let after = before ++ entry_after before c in
+      own_at (filter (λ (e : Entry). e.client == a.client) before) a (entries_after after (planned known (last_with last a.records) end requests)) (answer_with last end a.records)
+      (clients_of (λ n. a.client ≢ n) (last_with last a.records) end after requests own.0) (own_clients (last_with last a.records) end after requests own.1)
+
+all_logged : (es : List Entry) → AllByRecursion (λ (e : Entry). (options : WriteOptions) × (options.no_log ≡ false) × (e.flag ≡ flag_of options)) es → logged es ≡ es
+all_logged [] h = refl
+all_logged (e ∷ es) h = let t : is_logged e.flag ≡ true = ap is_logged h.0.2 ∙ logs_flag h.0.0 h.0.1 in rw t (ap (λ l. e ∷ l) (all_logged es h.1))
+
+none_logged : (es : List Entry) → AllByRecursion (λ (e : Entry). (options : WriteOptions) × (options.no_log ≡ true) × (e.flag ≡ flag_of options)) es → logged es ≡ []
+none_logged [] h = refl
+none_logged (e ∷ es) h = let t : is_logged e.flag ≡ false = ap is_logged h.0.2 ∙ skips_flag h.0.0 h.0.1 in rw t (none_logged es h.1)
+
+all_synced : (sync : Bool) (es : List Entry) → AllByRecursion (λ (e : Entry). (options : WriteOptions) × (options.sync ≡ true → sync ≡ true) × (e.flag ≡ flag_of options)) es → AllByRecursion (λ (e : Entry). e.flag ≡ Sync → sync ≡ true) es
+all_synced sync [] h = tt
+all_synced sync (e ∷ es) h = ((λ is. h.0.1 (syncs_flag h.0.0 (sym h.0.2 ∙ is))), all_synced sync es h.1)
+
+-- The log's calls
+
+no_more_calls : (old new : List Entry) (calls : List GroupCall) → logged new ≡ [] → WroteParts old calls → WroteParts (old ++ new) calls
+no_more_calls old new calls none k = record {
+  parts = k.parts;
+  cut = k.cut ∙ (sym (append-nil (logged old)) ∙ ((λ i. logged old ++ sym none i) ∙ sym (filter-append (λ (e : Entry). is_logged e.flag) old new)));
+  runs = k.runs;
+  each = k.each;
+}
+
+first_is : (last : ℕ) (es : List Entry) → IsHistory last es → 0 < length es → first_of es ≡ Some (last + 1)
+first_is last [] h some = absurd (omega arith)
+first_is last (e ∷ es) h some = ap Some h.0.first
+
+runs_follow : (last : ℕ) (es : List Entry) → IsHistory last es → RunsFollow es
+runs_follow last [] h = tt
+runs_follow last (e ∷ es) h = h.1
+
+one_more_call : (last : ℕ) (old new : List Entry) (calls : List GroupCall) (c : GroupCall) → IsHistory last new → logged new ≡ new → 0 < length new → c.first ≡ last + 1 → c.batches ≡ map (λ (e : Entry). e.records) new
+    → AllByRecursion (λ (e : Entry). e.flag ≡ Sync → c.sync ≡ true) new → c.failed ≡ None → AreOfOwnClients new → WroteParts old calls → WroteParts (old ++ new) (calls ++ c ∷ [])
+one_more_call last old new calls c h all some first batches synced ok own k = record {
+  parts = k.parts ++ new ∷ [];
+  cut = flat_map-append (λ part. part) k.parts (new ∷ []) ∙ ((λ i. k.cut i ++ append-nil new i) ∙ ((λ i. logged old ++ sym all i) ∙ sym (filter-append (λ (e : Entry). is_logged e.flag) old new)));
+  runs = all_append RunsFollow k.parts (new ∷ []) k.runs (runs_follow last new h, tt);
+  each = zip_append WroteEntries k.parts calls (new ∷ []) (c ∷ []) k.each (record { some = first_is last new h some ∙ ap Some (sym first); apart = own; batches = batches; synced = synced; ok = ok }, tt);
+}
+
+-- A group got runs
+module _ (start clients group_bytes : ℕ) (asked known went : List ControllerCall) (cs : List Commit) (last : ℕ) (published : List (List MemberVersions)) (calls : List GroupCall) (k : AreConsistent start clients group_bytes asked cs last None published calls) (requests : List CommitRequest) (lawful : AreLawful clients requests)
+    (numbers : Look) (whole : IsWholeGroup group_bytes requests) (is_asked : IsAskedFor requests numbers known) (comes : ComesAfter asked known) (proceeds : ProceedsWith requests numbers known went) where
+  abbrev end : ℕ
+  end = last_with_all last requests
+
+  abbrev new : List Commit
+  new = planned known last end requests
+
+  new_entries : List Entry
+  new_entries = entries_after (entries_of cs) new
+
+  answered_new : AreAnswered last None new
+  answered_new = planned_answered known clients last end requests lawful (omega arith)
+
+  history_new : IsHistory last new_entries
+  unfolding new_entries
+  history_new = (entries_history last None (entries_of cs) new answered_new).0
+
+  batches_are : map (λ (e : Entry). e.records) new_entries ≡ batches_from last requests
+  unfolding new_entries
+  batches_are = planned_batches known last end (entries_of cs) requests
+
+  written_new : (calls' : List GroupCall) → LogsGroup last requests calls calls' → WroteCommits group_bytes (cs ++ new) None end calls'
+  unfolding new_entries
+  written_new calls' logs =
+      let w = k.written in
+      let all_good : calls ≡ w.worked = w.both ∙ ((λ i. w.worked ++ w.are_lost i) ∙ append-nil w.worked) in
+      let old : WroteParts (entries_of cs) calls = subst (WroteParts (entries_of cs)) (sym all_good) w.parts in
+      let now : WroteParts (entries_of cs ++ new_entries) calls' = ⊎_elim
+      (λ (t : (calls' ≡ calls) × (AreUnlogged requests ⊎ (batches_from last requests ≡ []))). subst (WroteParts (entries_of cs ++ new_entries)) (sym t.0) (no_more_calls (entries_of cs) new_entries calls
+      (⊎_elim (λ (u : AreUnlogged requests). none_logged new_entries (flags_of known (λ options. options.no_log ≡ true) last end (entries_of cs) requests u))
+      (λ (u : batches_from last requests ≡ []). ap logged (none_of (λ (e : Entry). e.records) new_entries (batches_are ∙ u))) t.1) old))
+      (λ (t : (c : GroupCall) × (calls' ≡ calls ++ c ∷ []) × WritesBatches last requests c × SyncsFor requests c.sync × (c.failed ≡ None)).
+      let c = t.0 in
+      let same : c.batches ≡ map (λ (e : Entry). e.records) new_entries = t.2.batches ∙ sym batches_are in
+      let some : 0 < length new_entries = some_of (λ (e : Entry). e.records) new_entries (subst (λ l. 0 < length l) same t.2.some) in
+      subst (WroteParts (entries_of cs ++ new_entries)) (sym t.1) (one_more_call last (entries_of cs) new_entries calls c history_new (all_logged new_entries (flags_of known (λ options. options.no_log ≡ false) last end (entries_of cs) requests t.2.to_log)) some t.2.first same
+      (all_synced c.sync new_entries (flags_of known (λ options. options.sync ≡ true → c.sync ≡ true) last end (entries_of cs) requests t.3)) t.4 (own_clients known last end (entries_of cs) requests whole.of_others) old))
+      logs in
+      record { worked = calls'; lost = []; both = sym (append-nil calls'); parts = subst (λ es. WroteParts es calls') (sym (entries_more cs new)) now; are_lost = refl }
+
+  pub consistent_accepted : (published' : List (List MemberVersions)) (calls' : List GroupCall) → Publishes (versions_from last requests) published published' → LogsGroup last requests calls calls' → AreConsistent start clients group_bytes went (cs ++ new) end None published' calls'
+  consistent_accepted published' calls' publishes logs = record {
+    answered = answered_append start None cs new k.answered (subst (λ (z : ℕ × Option ℕ). AreAnswered z.0 z.1 new) (λ i. (k.last_is i, k.fault_is i)) answered_new);
+    of_clients = all_append (λ (c : Commit). (1 ≤ c.client) × (c.client ≤ clients)) cs new k.of_clients (planned_clients known clients last end requests lawful);
+    last_is = sym (end_append start cs new ∙ (ap (λ n. last_after_all n new) (sym k.last_is) ∙ planned_end known last end requests));
+    fault_is = sym (dead_append None cs new ∙ (ap (λ d. fault_after_all d new) (sym k.fault_is) ∙ planned_dead known last end None requests));
+    in_groups = in_groups_planned group_bytes cs asked known numbers k.in_groups requests whole is_asked comes went proceeds last end;
+    images = ⊎_elim
+        (λ (t : (versions_from last requests ≡ []) × (published' ≡ published)). subst (Images versions_made (cs ++ new)) (sym t.1) (images_none versions_made cs new published k.images (planned_versions known last end requests ∙ t.0)))
+        (λ (t : (g : List MemberVersions) × (published' ≡ published ++ g ∷ []) × (versions_in g ≡ versions_from last requests)). subst (Images versions_made (cs ++ new)) (sym t.1) (images_more versions_made cs new published t.0 k.images (planned_versions known last end requests ∙ sym t.2)))
+        publishes;
+    written = written_new calls' logs;
+  }
+
+-- A group was answered alike, and got no runs
+
+abbrev alike : List ControllerCall → Answer → List CommitRequest → List Commit
+alike known v requests = map (λ (q : CommitRequest). answered known q v) requests
+
+record GivesNoRun (v : Answer) : Type 0 where
+  last : (n count : ℕ) → last_after n count v ≡ n
+  entries : (client : ℕ) (mine : List Entry) (c : Commit) → entry_with client mine c v ≡ []
+  versions : (c : Commit) → versions_with c v ≡ []
+
+held_up_no_run : (numbers : Look) → GivesNoRun (held_up numbers)
+held_up_no_run numbers = record { last = λ n count. refl; entries = λ client mine c. refl; versions = λ c. refl }
+
+failed_no_run : (n : ℕ) → GivesNoRun (failed n)
+failed_no_run n = record { last = λ m count. refl; entries = λ client mine c. refl; versions = λ c. refl }
+
+module _ (known : List ControllerCall) (v : Answer) (none : GivesNoRun v) where
+  alike_end : (last : ℕ) (requests : List CommitRequest) → last_after_all last (alike known v requests) ≡ last
+  alike_end last [] = refl
+  alike_end last (a ∷ requests) = ap (λ n. last_after_all n (alike known v requests)) (none.last last (count_of a.records)) ∙ alike_end last requests
+
+  alike_clients : (clients : ℕ) (requests : List CommitRequest) → AreLawful clients requests → AreOfClients clients (alike known v requests)
+  alike_clients clients [] h = tt
+  alike_clients clients (a ∷ requests) h = ((h.0.1, h.0.2), alike_clients clients requests h.1)
+
+  alike_entries : (before : List Entry) (requests : List CommitRequest) → entries_after before (alike known v requests) ≡ []
+  alike_entries before [] = refl
+  alike_entries before (a ∷ requests) =
+      let c = answered known a v in
+      let now : entry_after before c ≡ [] = none.entries a.client (filter (λ (e : Entry). e.client == a.client) before) c in
+      λ i. now i ++ alike_entries (before ++ entry_after before c) requests i
+
+  alike_versions : (requests : List CommitRequest) → made_by versions_made (alike known v requests) ≡ []
+  alike_versions [] = refl
+  alike_versions (a ∷ requests) = λ i. none.versions (answered known a v) i ++ alike_versions requests i
+
+  same_entries : (cs : List Commit) (requests : List CommitRequest) → entries_of (cs ++ alike known v requests) ≡ entries_of cs
+  same_entries cs requests = entries_more cs (alike known v requests) ∙ ((λ i. entries_of cs ++ alike_entries (entries_of cs) requests i) ∙ append-nil (entries_of cs))
+
+  consistent_alike : (start clients group_bytes : ℕ) (asked went : List ControllerCall) (cs : List Commit) (last : ℕ) (fault now : Option ℕ) (published : List (List MemberVersions)) (calls more : List GroupCall) (requests : List CommitRequest)
+      → AreConsistent start clients group_bytes asked cs last fault published calls → AreLawful clients requests → AreAnswered last fault (alike known v requests) → fault_after_all fault (alike known v requests) ≡ now
+      → AreInGroups group_bytes went (cs ++ alike known v requests) → WroteCommits group_bytes (cs ++ alike known v requests) now last more
+      → AreConsistent start clients group_bytes went (cs ++ alike known v requests) last now published more
+  consistent_alike start clients group_bytes asked went cs last fault now published calls more requests k lawful right fault_now in_groups written = record {
+    answered = answered_append start None cs (alike known v requests) k.answered (subst (λ (z : ℕ × Option ℕ). AreAnswered z.0 z.1 (alike known v requests)) (λ i. (k.last_is i, k.fault_is i)) right);
+    of_clients = all_append (λ (c : Commit). (1 ≤ c.client) × (c.client ≤ clients)) cs (alike known v requests) k.of_clients (alike_clients clients requests lawful);
+    last_is = k.last_is ∙ sym (end_append start cs (alike known v requests) ∙ alike_end (last_after_all start cs) requests);
+    fault_is = sym (dead_append None cs (alike known v requests) ∙ (ap (λ d. fault_after_all d (alike known v requests)) (sym k.fault_is) ∙ fault_now));
+    in_groups = in_groups;
+    images = images_none versions_made cs (alike known v requests) published k.images (alike_versions requests);
+    written = written;
+  }
+
+-- the fault
+failed_dead_on : (known : List ControllerCall) (n : ℕ) (requests : List CommitRequest) → fault_after_all (Some n) (all_failed known n requests) ≡ Some n
+failed_dead_on known n [] = refl
+failed_dead_on known n (a ∷ requests) = failed_dead_on known n requests
+
+failed_dead : (known : List ControllerCall) (n : ℕ) (dead : Option ℕ) (requests : List CommitRequest) → 0 < length requests → fault_after_all dead (all_failed known n requests) ≡ Some n
+failed_dead known n dead [] some = absurd (omega arith)
+failed_dead known n dead (a ∷ requests) some = failed_dead_on known n requests
+
+failed_answered_on : (known : List ControllerCall) (last n : ℕ) (requests : List CommitRequest) → AreAnswered last (Some n) (all_failed known n requests)
+failed_answered_on known last n [] = tt
+failed_answered_on known last n (a ∷ requests) = (refl, failed_answered_on known last n requests)
+
+failed_answered : (known : List ControllerCall) (last n : ℕ) (requests : List CommitRequest) → AreAnswered last None (all_failed known n requests)
+failed_answered known last n [] = tt
+failed_answered known last n (a ∷ requests) = (tt, failed_answered_on known last n requests)
+
+held_up_dead : (known : List ControllerCall) (numbers : Look) (fault : Option ℕ) (requests : List CommitRequest) → fault_after_all fault (all_held_up known numbers requests) ≡ fault
+held_up_dead known numbers fault [] = refl
+held_up_dead known numbers fault (a ∷ requests) = held_up_dead known numbers fault requests
+
+held_up_answered : (known : List ControllerCall) (last : ℕ) (numbers : Look) (fault : Option ℕ) (requests : List CommitRequest) → AreAnswered last fault (all_held_up known numbers requests)
+held_up_answered known last numbers fault [] = tt
+held_up_answered known last numbers fault (a ∷ requests) = (tt, held_up_answered known last numbers fault requests)
+
+-- the log's calls are those before
+lost_later : (group_bytes n last : ℕ) (cs new : List Commit) (c : GroupCall) → IsLostWrite group_bytes cs n last c → IsLostWrite group_bytes (cs ++ new) n last c
+lost_later group_bytes n last cs new c g = record {
+  front = g.front;
+  known = g.known;
+  requests = g.requests;
+  rest = g.rest ++ new;
+  split = ap (λ l. l ++ new) g.split ∙ (append_assoc g.front (all_failed g.known n g.requests ++ g.rest) new ∙ ap (λ l. g.front ++ l) (append_assoc (all_failed g.known n g.requests) g.rest new));
+  is_group = g.is_group;
+  writes = g.writes;
+  failed = g.failed;
+}
+
+lost_as_before : (group_bytes last : ℕ) (cs more : List Commit) (fault : Option ℕ) (lost : List GroupCall) → AreLostWrites group_bytes cs fault last lost → AreLostWrites group_bytes (cs ++ more) fault last lost
+lost_as_before group_bytes last cs more None lost h = h
+lost_as_before group_bytes last cs more (Some n) lost h = (h.0, h.1, lost_later group_bytes n last cs more h.0 h.2)
+
+wrote_as_before : (group_bytes last : ℕ) (cs new : List Commit) (fault : Option ℕ) (calls : List GroupCall) → entries_of (cs ++ new) ≡ entries_of cs → WroteCommits group_bytes cs fault last calls → WroteCommits group_bytes (cs ++ new) fault last calls
+wrote_as_before group_bytes last cs new fault calls same w = record {
+  worked = w.worked;
+  lost = w.lost;
+  both = w.both;
+  parts = subst (λ es. WroteParts es w.worked) (sym same) w.parts;
+  are_lost = lost_as_before group_bytes last cs new fault w.lost w.are_lost;
+}
+
+module _ (start clients group_bytes : ℕ) (cs : List Commit) (last : ℕ) (published : List (List MemberVersions)) (calls : List GroupCall) (requests : List CommitRequest) (asked known : List ControllerCall) (numbers : Look)
+    (lawful : AreLawful clients requests) (whole : IsWholeGroup group_bytes requests) (is_asked : IsAskedFor requests numbers known) (comes : ComesAfter asked known) where
+  -- writes are held up
+  pub consistent_held_up : (fault : Option ℕ) → AreConsistent start clients group_bytes asked cs last fault published calls → HoldUp numbers → MayNotWait requests
+      → AreConsistent start clients group_bytes known (cs ++ all_held_up known numbers requests) last fault published calls
+  consistent_held_up fault k hold may =
+      let none = held_up_no_run numbers in
+      consistent_alike known (held_up numbers) none start clients group_bytes asked known cs last fault fault published calls calls requests k lawful (held_up_answered known last numbers fault requests) (held_up_dead known numbers fault requests)
+      (in_groups_held_up group_bytes cs asked known numbers k.in_groups requests whole is_asked comes hold may)
+      (wrote_as_before group_bytes last cs (all_held_up known numbers requests) fault calls (same_entries known (held_up numbers) none cs requests) k.written)
+
+  module _ (went : List ControllerCall) (proceeds : ProceedsWith requests numbers known went) where
+    -- the log had failed before
+    pub consistent_after_fault : (n : ℕ) → AreConsistent start clients group_bytes asked cs last (Some n) published calls → AreConsistent start clients group_bytes went (cs ++ all_failed known n requests) last (Some n) published calls
+    consistent_after_fault n k =
+        let none = failed_no_run n in
+        consistent_alike known (failed n) none start clients group_bytes asked went cs last (Some n) (Some n) published calls calls requests k lawful (failed_answered_on known last n requests) (failed_dead_on known n requests)
+        (in_groups_failed group_bytes cs asked known numbers k.in_groups requests whole is_asked comes went proceeds n)
+        (wrote_as_before group_bytes last cs (all_failed known n requests) (Some n) calls (same_entries known (failed n) none cs requests) k.written)
+
+    -- the log fails with this group
+    pub consistent_with_fault : (n : ℕ) → AreConsistent start clients group_bytes asked cs last None published calls → (c : GroupCall) → WritesBatches last requests c → c.failed ≡ Some n
+        → AreConsistent start clients group_bytes went (cs ++ all_failed known n requests) last (Some n) published (calls ++ c ∷ [])
+    consistent_with_fault n k c writes failed_is =
+        let none = failed_no_run n in let w = k.written in
+        let all_good : calls ≡ w.worked = w.both ∙ ((λ i. w.worked ++ w.are_lost i) ∙ append-nil w.worked) in
+        let lost : IsLostWrite group_bytes (cs ++ all_failed known n requests) n last c = record {
+          front = cs;
+          known = known;
+          requests = requests;
+          rest = [];
+          split = ap (λ l. cs ++ l) (sym (append-nil (all_failed known n requests)));
+          is_group = whole;
+          writes = writes;
+          failed = failed_is;
+        } in
+        consistent_alike known (failed n) none start clients group_bytes asked went cs last None (Some n) published calls (calls ++ c ∷ []) requests k lawful (failed_answered known last n requests) (failed_dead known n None requests whole.some)
+        (in_groups_failed group_bytes cs asked known numbers k.in_groups requests whole is_asked comes went proceeds n)
+        (record {
+          worked = w.worked;
+          lost = c ∷ [];
+          both = (λ i. all_good i ++ c ∷ []);
+          parts = subst (λ es. WroteParts es w.worked) (sym (same_entries known (failed n) none cs requests)) w.parts;
+          are_lost = (c, refl, lost);
+        })
+
+-- at the beginning nothing was handled
+pub consistent_first : (start clients group_bytes : ℕ) → AreConsistent start clients group_bytes [] [] start None [] []
+consistent_first start clients group_bytes = record {
+  answered = tt;
+  of_clients = tt;
+  last_is = refl;
+  fault_is = refl;
+  in_groups = record { groups = []; cut = refl; each = tt; seen = tt; rise = tt };
+  images = refl;
+  written = record { worked = []; lost = []; both = refl; parts = record { parts = []; cut = refl; runs = tt; each = tt }; are_lost = refl };
+}

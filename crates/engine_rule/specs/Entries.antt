@@ -1,0 +1,108 @@
+-- What commits make: the entries of the one history, their versions, and each client's account.
+use Rattle.std.specs.Prelude.{◌≡◌, ℕ, ◌+◌, ◌≤◌, List, [], ◌∷◌, ◌++◌, map}
+use Rattle.std.specs.List.{AllByRecursion}
+use mathlib.Core.List.{IsPrefix}
+use Rattle.model_base.specs.History.{Entry}
+use Rattle.model_base.specs.Attempts.{Attempt, WriteStatus, succeeded, slowed, faulted, full}
+use Rattle.model_base.specs.Controller.{ControllerCall}
+use Rattle.model_base.specs.Tokens.{tokens_of}
+use Rattle.model_base.specs.Outcomes.{entries_of_client}
+use Rattle.model_base.specs.Progress.{next_entry}
+use Rattle.model_base.specs.Trace.{Trace}
+use Rattle.table_rule.specs.declared.content.Version.{Version}
+use Rattle.table_rule.specs.declared.content.MemberVersions.{MemberVersions}
+use Rattle.table_rule.specs.Histories.{Begins}
+use Rattle.table_rule.specs.Batches.{made, numbered}
+use Rattle.model_accounts.specs.Accounts.{Account}
+use Rattle.engine_controller.specs.Passes.{GoesOn}
+use Rattle.engine_rule.specs.Commits.{Answer, accepted, held_up, failed, no_room, Commit, commits_of}
+use Rattle.engine_rule.specs.Asked.{place_of, HasAsked}
+
+-- The history
+
+-- the entry that a commit makes after its client's own, if it has a run
+abbrev pub entry_with : ℕ → List Entry → Commit → Answer → List Entry
+entry_with client mine c (accepted first group_last) = next_entry client mine c.options first c.records ∷ []
+entry_with client mine c (held_up numbers) = []
+entry_with client mine c (failed count) = []
+entry_with client mine c (no_room at) = []
+
+-- the same after the entries of all clients
+abbrev pub entry_after : List Entry → Commit → List Entry
+entry_after before c = entry_with c.client (entries_of_client c.client before) c c.answer
+
+abbrev pub entries_after : List Entry → List Commit → List Entry
+entries_after before [] = []
+entries_after before (c ∷ commits) = entry_after before c ++ entries_after (before ++ entry_after before c) commits
+
+-- the history of the commits
+abbrev pub entries_of : List Commit → List Entry
+entries_of commits = entries_after [] commits
+
+-- the trace of the commits, beside this history of the controller
+abbrev pub trace_of : ℕ → List Commit → List ControllerCall → Trace
+trace_of start commits history = record {
+  start = start;
+  entries = entries_of commits;
+  controller_calls = history;
+}
+
+-- its versions
+
+abbrev pub versions_with : Commit → Answer → List Version
+versions_with c (accepted first group_last) = numbered first (made c.records)
+versions_with c (held_up numbers) = []
+versions_with c (failed count) = []
+versions_with c (no_room at) = []
+
+abbrev pub versions_made : Commit → List Version
+versions_made c = versions_with c c.answer
+
+-- What one client has of them
+
+-- what became of a commit whose group's delay stands at this place
+abbrev pub status_of : ℕ → Answer → WriteStatus
+status_of place (accepted first group_last) = succeeded
+status_of place (held_up numbers) = slowed place
+status_of place (failed count) = faulted count
+status_of place (no_room at) = full at
+
+abbrev pub attempt_of : Commit → Attempt
+attempt_of c = record { records = c.records; options = c.options; status = status_of (place_of c) c.answer }
+
+-- its own entries after some, from its own commits
+abbrev pub mine_after : ℕ → List Entry → List Commit → List Entry
+mine_after client mine [] = []
+mine_after client mine (c ∷ commits) = entry_with client mine c c.answer
+    ++ mine_after client (mine ++ entry_with client mine c c.answer) commits
+
+-- the account of a client that has made these commits, and has seen these groups published and these calls of the
+-- controller
+abbrev pub account_of : ℕ → ℕ → List Commit → List (List MemberVersions) → List ControllerCall → Account
+account_of start client own published known = record {
+  number = client;
+  mine = mine_after client [] own;
+  asked = tokens_of client known;
+  attempts = map attempt_of own;
+  seen = record { start = start; published = published; controller_calls = known };
+}
+
+-- The client at this place (from 0) has made just its commits of all, has seen a beginning of what was published, and
+-- of the controller's history a beginning with all calls of its own. For each delay among these it has a commit.
+pub record HasPart (start : ℕ) (commits : List Commit) (published : List (List MemberVersions))
+    (history : List ControllerCall) (place : ℕ) (a : Account) : Type 0 where
+  pub seen : List (List MemberVersions)
+  pub begins : Begins seen published
+  pub known : List ControllerCall
+  pub goes_on : GoesOn (place + 1) known history
+  pub has_asked : HasAsked (place + 1) (commits_of (place + 1) commits) known
+  pub is : a ≡ account_of start (place + 1) (commits_of (place + 1) commits) seen known
+
+-- the controller's history, as a client has seen it, went on, with no token of its own
+pub record SeesMore (client : ℕ) (known now : List ControllerCall) : Type 0 where
+  pub begins : IsPrefix known now
+  pub tokens : tokens_of client now ≡ tokens_of client known
+
+-- the clients that made these calls have the numbers from 1 to this
+abbrev pub AreCallsOf : ℕ → List ControllerCall → Type 0
+AreCallsOf clients calls = AllByRecursion (λ (t : ControllerCall). (1 ≤ t.client) × (t.client ≤ clients)) calls

@@ -1,0 +1,155 @@
+-- How a leader gives its group runs, one after another, to those that fit below the greatest sequence, and what lets
+-- the group go on at all.
+use Rattle.std.specs.Prelude.{◌≡◌, ◌≢◌, ◌⊎◌, ℕ, ◌+◌, ◌<◌, ◌≤◌, Bool, false, true, nat_le, if◌then◌else◌, List, [], ◌∷◌, ◌++◌, length, map, ⊤, Some}
+use Rattle.std.specs.List.{AllByRecursion}
+use mathlib.Core.List.{IsPrefix}
+use Rattle.model_base.specs.declared.group.Item.{Item}
+use Rattle.model_base.specs.declared.write.WriteOptions.{WriteOptions}
+use Rattle.model_base.specs.Batch.{Record, count_of, size_of_batch}
+use Rattle.model_base.specs.Grouping.{group_len, size_of}
+use Rattle.model_base.specs.History.{max_sequence}
+use Rattle.table_rule.specs.declared.content.Version.{Version}
+use Rattle.table_rule.specs.Batches.{made, numbered}
+use Rattle.model_base.specs.Controller.{ControllerCall, Look, HoldUp, delay, look}
+use Rattle.model_base.specs.Replies.{IsLater}
+use Rattle.engine_rule.specs.Commits.{Answer, accepted, held_up, failed, no_room, Commit}
+
+-- what a client wants to commit
+pub record CommitRequest : Type 0 where
+  pub client : ℕ
+  pub records : List Record
+  pub options : WriteOptions
+
+-- its answer in a group for which this history of the controller ends with the delay
+abbrev pub answered : List ControllerCall → CommitRequest → Answer → Commit
+answered known q answer = record {
+  client = q.client;
+  records = q.records;
+  options = q.options;
+  answer = answer;
+  controller_calls = known;
+}
+
+-- Of a batch, where `last` was given last: what is given last after it, if its run fits; its answer, in a group that
+-- ends with `group_last`; itself, if it has a run; and the versions that it makes.
+abbrev pub last_with : ℕ → List Record → ℕ
+last_with last records = if nat_le (last + count_of records) max_sequence then last + count_of records else last
+
+abbrev pub answer_with : ℕ → ℕ → List Record → Answer
+answer_with last group_last records =
+    if nat_le (last + count_of records) max_sequence then accepted (last + 1) group_last else no_room last
+
+abbrev pub batch_with : ℕ → List Record → List (List Record)
+batch_with last records = if nat_le (last + count_of records) max_sequence then records ∷ [] else []
+
+abbrev pub versions_at : ℕ → List Record → List Version
+versions_at last records =
+    if nat_le (last + count_of records) max_sequence then numbered (last + 1) (made records) else []
+
+-- The same of a group
+abbrev pub last_with_all : ℕ → List CommitRequest → ℕ
+last_with_all last [] = last
+last_with_all last (q ∷ requests) = last_with_all (last_with last q.records) requests
+
+abbrev pub planned : List ControllerCall → ℕ → ℕ → List CommitRequest → List Commit
+planned known last group_last [] = []
+planned known last group_last (q ∷ requests) = answered known q (answer_with last group_last q.records)
+    ∷ planned known (last_with last q.records) group_last requests
+
+abbrev pub batches_from : ℕ → List CommitRequest → List (List Record)
+batches_from last [] = []
+batches_from last (q ∷ requests) = batch_with last q.records ++ batches_from (last_with last q.records) requests
+
+abbrev pub versions_from : ℕ → List CommitRequest → List Version
+versions_from last [] = []
+versions_from last (q ∷ requests) = versions_at last q.records ++ versions_from (last_with last q.records) requests
+
+-- all are answered the log's fault
+abbrev pub all_failed : List ControllerCall → ℕ → List CommitRequest → List Commit
+all_failed known count requests = map (λ (q : CommitRequest). answered known q (failed count)) requests
+
+-- all are answered that writes are held up
+abbrev pub all_held_up : List ControllerCall → Look → List CommitRequest → List Commit
+all_held_up known numbers requests = map (λ (q : CommitRequest). answered known q (held_up numbers)) requests
+
+-- each has a record that counts, and a client's number
+abbrev pub AreLawful : ℕ → List CommitRequest → Type 0
+AreLawful clients requests = AllByRecursion (λ (q : CommitRequest). (1 ≤ count_of q.records) × (1 ≤ q.client)
+    × (q.client ≤ clients)) requests
+
+-- all are to be logged, or none is
+abbrev pub AreLogged : List CommitRequest → Type 0
+AreLogged requests = AllByRecursion (λ (q : CommitRequest). q.options.no_log ≡ false) requests
+
+abbrev pub AreUnlogged : List CommitRequest → Type 0
+AreUnlogged requests = AllByRecursion (λ (q : CommitRequest). q.options.no_log ≡ true) requests
+
+-- no client is twice among them
+abbrev pub HaveOwnClients : List CommitRequest → Type 0
+HaveOwnClients [] = ⊤
+HaveOwnClients (q ∷ requests) = AllByRecursion (λ (r : CommitRequest). q.client ≢ r.client) requests
+    × HaveOwnClients requests
+
+-- what grouping sees of one
+abbrev pub item_of_request : CommitRequest → Item
+item_of_request q = record {
+  size = size_of_batch q.records;
+  sync = q.options.sync;
+  no_log = q.options.no_log;
+  no_slowdown = q.options.no_slowdown;
+}
+
+-- they are a whole group by the rule of grouping
+pub record IsWholeGroup (group_bytes : ℕ) (requests : List CommitRequest) : Type 0 where
+  pub some : 0 < length requests
+  pub whole : group_len group_bytes (map item_of_request requests) ≡ length requests
+  pub of_others : HaveOwnClients requests
+
+-- all may not wait
+abbrev pub MayNotWait : List CommitRequest → Type 0
+MayNotWait requests = AllByRecursion (λ (q : CommitRequest). q.options.no_slowdown ≡ true) requests
+
+-- the controller's history ends with the delay of the sum of a group's sizes, for which its leader, the first, asked,
+-- and was told this
+pub record IsAskedFor (requests : List CommitRequest) (numbers : Look) (known : List ControllerCall) : Type 0 where
+  pub leader : CommitRequest
+  pub rest : List CommitRequest
+  pub leads : requests ≡ leader ∷ rest
+  pub before : List ControllerCall
+  pub now : ℕ
+  pub is : known ≡ before ++ record {
+    client = leader.client;
+    action = delay now (size_of (map item_of_request requests));
+    told = Some numbers;
+  } ∷ []
+
+-- behind the delay a look of the leader told of no stop
+pub record HasLooked (leader : ℕ) (known went : List ControllerCall) : Type 0 where
+  pub place : ℕ
+  pub numbers : Look
+  pub is_later : IsLater went (length known) place
+      (record { client = leader; action = look; told = Some numbers })
+  pub free : numbers.stops ≡ 0
+
+-- What the leader was told by its delay lets a commit go on: one that may not wait where writes aren't held up, and one
+-- that may once no stop was told.
+abbrev pub LetsProceed : ℕ → Look → List ControllerCall → List ControllerCall → Bool → Type 0
+LetsProceed leader numbers known went true = HoldUp numbers → ⊥
+LetsProceed leader numbers known went false = (numbers.stops ≡ 0) ⊎ HasLooked leader known went
+
+-- The leader of a group, the first, has seen so much of the controller's history when it goes on, and what it was told
+-- lets all of the group go on.
+pub record ProceedsWith (requests : List CommitRequest) (numbers : Look)
+    (known went : List ControllerCall) : Type 0 where
+  pub leader : CommitRequest
+  pub rest : List CommitRequest
+  pub leads : requests ≡ leader ∷ rest
+  pub begins : IsPrefix known went
+  pub each : AllByRecursion
+      (λ (q : CommitRequest). LetsProceed leader.client numbers known went q.options.no_slowdown) requests
+
+-- what was seen before the last call goes on from what the leaders before had seen
+pub record ComesAfter (asked known : List ControllerCall) : Type 0 where
+  pub more : List ControllerCall
+  pub call : ControllerCall
+  pub is : known ≡ (asked ++ more) ++ call ∷ []

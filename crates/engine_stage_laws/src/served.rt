@@ -1,0 +1,44 @@
+//! A leader that publishes its group leaves all as it should be, and at the end what is published is what was logged.
+
+ghost use Rattle.std.specs.Prelude.{◌≡◌, ℕ, List, [], ◌++◌, Option};
+ghost use Rattle.model_base.specs.Controller.{ControllerCall, Look};
+ghost use Rattle.model_base.specs.LogContents.{GroupCall};
+ghost use Rattle.table_rule.specs.declared.content.MemberVersions.{MemberVersions};
+ghost use Rattle.table_rule.specs.Histories.{Members, last_of, versions_in};
+ghost use Rattle.engine_rule.specs.Commits.{Commit, AreAnswered, last_after_all};
+ghost use Rattle.engine_rule.specs.Plans.{CommitRequest, planned, versions_from, all_failed, all_held_up, AreLawful, HaveOwnClients};
+ghost use Rattle.engine_rule.specs.Consistent.{AreConsistent, Publishes};
+ghost use Rattle.engine_stage_laws.specs.Served.{accepted_of, AreServed, parts_from};
+
+/// The parts of a group, one of each member that has a run, are together the group's versions, and each member is one
+/// of the clients and has one.
+pub fn parts_of_a_group()
+    ensures versions { (last : ℕ) (requests : List CommitRequest)
+        → versions_in (parts_from last requests) ≡ versions_from last requests }
+    ensures members { (clients last : ℕ) (requests : List CommitRequest) → AreLawful clients requests
+        → HaveOwnClients requests → Members clients (parts_from last requests) }
+{}
+
+/// At the beginning nothing is served. A group that is published is served, and one that has no run changes nothing.
+pub fn groups_are_served()
+    ensures first { AreServed (accepted_of []) [] }
+    // all that is served ends with the last sequence given, so that the next group goes behind it
+    ensures ends { (start : ℕ) (fault : Option ℕ) (commits : List Commit) (published : List (List MemberVersions))
+        → AreAnswered start fault commits → AreServed (accepted_of commits) published
+        → last_of start published ≡ last_after_all start commits }
+    ensures written { (known : List ControllerCall) (last end : ℕ) (requests : List CommitRequest)
+        (commits : List Commit) (old new : List (List MemberVersions)) → AreServed (accepted_of commits) old
+        → Publishes (versions_from last requests) old new
+        → AreServed (accepted_of (commits ++ planned known last end requests)) new }
+    ensures failed { (known : List ControllerCall) (count : ℕ) (requests : List CommitRequest) (commits : List Commit)
+        → accepted_of (commits ++ all_failed known count requests) ≡ accepted_of commits }
+    ensures held_up { (known : List ControllerCall) (numbers : Look) (requests : List CommitRequest)
+        (commits : List Commit)
+        → accepted_of (commits ++ all_held_up known numbers requests) ≡ accepted_of commits }
+    // at the end the log's commits and the table's history are one
+    ensures closing { (start clients group_bytes : ℕ) (asked : List ControllerCall) (commits : List Commit) (last : ℕ)
+        (fault : Option ℕ) (logged published : List (List MemberVersions)) (calls : List GroupCall)
+        → AreConsistent start clients group_bytes asked commits last fault logged calls
+        → AreServed (accepted_of commits) published
+        → AreConsistent start clients group_bytes asked commits last fault published calls }
+{}

@@ -1,8 +1,0 @@
-use Rattle.group_engine.proofs.ClientMoves.{seat_keeps, seat_moved}
-use Rattle.group_engine.proofs.engine.GroupEngine.get_many.Goals as goal
-
-pub returns-clause-belongs : goal.returns-clause-belongs
-returns-clause-belongs g c = seat_moved g.T.Table.opening g.T.Table.ours g.T.Table.account c.args.self.now c.args.client.now c.requires c.read_many.new.seat c.read_many.ensures.ours c.read_many.ensures.seen
-
-pub returns-clause-keeps : goal.returns-clause-keeps
-returns-clause-keeps g c = seat_keeps g.T.Table.opening g.T.Table.ours g.T.Table.account c.args.self.now c.args.client.now c.requires c.read_many.new.seat c.read_many.ensures.seen.seen

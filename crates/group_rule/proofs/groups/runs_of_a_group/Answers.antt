@@ -1,5 +1,0 @@
-use Rattle.group_rule.proofs.Plans.{versions_runs}
-use Rattle.group_rule.proofs.groups.runs_of_a_group.Goals as goal
-
-pub returns : goal.returns
-returns c = record { runs = λ last requests. (versions_runs last requests).0; ends = λ last requests. (versions_runs last requests).1 }

@@ -1,0 +1,24 @@
+-- The rule of grouping in plain words: a group is the longest front of the queue whose writers behind the leader may
+-- all join it.
+use Rattle.std.specs.Prelude.{◌≡◌, ℕ, ◌+◌, ◌<◌, ◌≤◌, true, List, ◌∷◌, length, take, slice_get, Some}
+use Rattle.model_base.specs.declared.group.Item.{Item}
+use Rattle.model_base.specs.Grouping.{cap, size_of}
+
+-- a writer may join a leader's group, where the sizes up to it come to this sum
+pub record MayJoin (max : ℕ) (leader : Item) (total : ℕ) (i : Item) : Type 0 where
+  pub sync : i.sync ≡ true → leader.sync ≡ true
+  pub no_slowdown : i.no_slowdown ≡ leader.no_slowdown
+  pub no_log : i.no_log ≡ leader.no_log
+  pub within : total ≤ cap max leader
+
+-- the writer at a place of the queue may join, its own size and those before it summed
+abbrev pub MayJoinAt : ℕ → Item → List Item → ℕ → Item → Type 0
+MayJoinAt max leader behind place i = MayJoin max leader (size_of (take (place + 1) (leader ∷ behind))) i
+
+-- a group of a leader and those behind it in the queue has n writers
+pub record IsLongestGroup (max : ℕ) (leader : Item) (behind : List Item) (n : ℕ) : Type 0 where
+  pub leader_in : 1 ≤ n
+  pub within : n ≤ length (leader ∷ behind)
+  pub joined : (place : ℕ) (i : Item) → 1 ≤ place → place < n → slice_get (leader ∷ behind) place ≡ Some i
+      → MayJoinAt max leader behind place i
+  pub refused : (i : Item) → slice_get (leader ∷ behind) n ≡ Some i → MayJoinAt max leader behind n i → ⊥

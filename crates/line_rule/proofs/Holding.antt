@@ -1,0 +1,96 @@
+-- What the rule says of the list between two steps.
+use Rattle.std.proofs.Common.{◌≡◌, Bool, true, false, ℕ, ◌≤◌, List, [], ◌∷◌, length, refl, arith}
+use Rattle.atomic_table.specs.Table.{State}
+use mathlib.Core.Option.{Option}
+use Rattle.line_rule.specs.declared.content.Content.{Content}
+use Rattle.line_rule.specs.declared.view.Entry.{Entry}
+use Rattle.line_rule.specs.declared.view.Handling.{Handling}
+use Rattle.line_rule.specs.declared.view.Hold.{Hold}
+use Rattle.line_rule.specs.Standing.{Phase, Mode, open_, waits, led, built, cut, marked, Two, Turn, still, calls, held_by, passes, Place, away, parted, queued, called, serves, served, flat, InStep}
+use Rattle.line_rule.specs.Laws.{Laws}
+use Rattle.line_rule.specs.Rule.{Listed, InMode, InTurn, Level, AllFit}
+use Rattle.line_rule.specs.SecondList.{last_served, served_in}
+use Rattle.line_rule.specs.Steps.{now_of}
+use Rattle.line_rule.specs.Between.{LogAtHome, RightAt, AllRecall, Between, AreLists}
+use Rattle.line_rule.proofs.Groups.{walk_bound}
+
+module _ {Q P L M : Type 0} (stands : Laws Q P L M) (n : ℕ) where
+  home_in : (homes : List (Option (Content Q P L M))) (line hand : List (Entry Q)) (handled : List (Handling Q P)) (phase : ℕ → Phase Q P) (due : ℕ → List (Q × P)) (mode : Mode Q)
+      → InMode stands n homes line hand handled phase due mode → LogAtHome stands homes handled mode
+  home_in homes line hand handled phase due open_ ok = ok.2
+  home_in homes line hand handled phase due (waits c) ok = ok.2
+  home_in homes line hand handled phase due (led c) ok = tt
+  home_in homes line hand handled phase due (built c group) ok = tt
+  home_in homes line hand handled phase due (cut c next) ok = tt
+  home_in homes line hand handled phase due (marked c) ok = tt
+
+  right_in : (words : List ℕ) (homes : List (Option (Content Q P L M))) (phase : ℕ → Phase Q P) (two : Two Q P) (turn : Turn)
+      → InTurn stands n words homes phase two turn → RightAt stands n homes two.groups two.done turn
+  right_in words homes phase two still ok = ok
+  right_in words homes phase two (calls c) ok = ((ok.0.0, ok.0.1, ok.0.2, ok.0.4), ok.1)
+  right_in words homes phase two (held_by c) ok = (ok.0, ok.1, ok.2, ok.4)
+  right_in words homes phase two (passes c next) ok = ok
+
+  level_in : (two : Two Q P) (last : List (Handling Q P)) (piped : Bool) → piped ≡ true → Level stands piped two last → InStep two.done two.groups last two.lead
+  level_in two last true is ok = ok
+  level_in two last false is ok = absurd (cc)
+
+  none_in : (two : Two Q P) (last : List (Handling Q P)) (piped : Bool) → piped ≡ false → Level stands piped two last → two.groups ≡ []
+  none_in two last true is ok = absurd (cc)
+  none_in two last false is ok = ok.0
+
+  pub few_served : (place : ℕ → Place Q P) (turn : Turn) → length (last_served place turn) ≤ 1
+  few_served place still = omega arith
+  few_served place (calls c) = omega arith
+  few_served place (held_by c) = omega arith
+  few_served place (passes c next) = few (place c)
+    where
+      few : (p : Place Q P) → length (served_in p) ≤ 1
+      few away = omega arith
+      few (parted g b) = omega arith
+      few (queued g) = omega arith
+      few (called g) = omega arith
+      few (serves g) = omega arith
+      few (served g) = omega arith
+
+  pub between : (s : State (Content Q P L M) (List (Hold Q P))) → Listed stands n s → Between stands n s
+  between s r = record {
+    walk = r.line;
+    queue = r.account.queue;
+    log = r.account.log;
+    handled = r.handled;
+    owing = r.account.owing;
+    mode = r.mode;
+    events = r.account.events;
+    newest = r.newest_is;
+    links = r.links;
+    short = walk_bound n r.line r.within r.distinct;
+    distinct = r.distinct;
+    within = r.within;
+    legal = r.account.legal;
+    recalled = λ id v at. all_recall id v (r.seats id v at);
+    ran = r.account.ran;
+    shows = r.account.shows;
+    home = home_in s.homes r.line r.hand r.handled r.phase r.due r.mode r.log_is;
+    groups = r.two.groups;
+    turn = r.two.turn;
+    lead = r.two.lead;
+    done = r.two.done;
+    second_newest = r.second.newest_is;
+    second_links = r.second.links;
+    second_short = walk_bound n (flat r.two.groups) r.second.within r.second.distinct;
+    second_distinct = r.second.distinct;
+    second_within = r.second.within;
+    right = right_in s.words s.homes r.phase r.two r.two.turn r.second.turn_is;
+    handed = r.second.ahead_holds;
+    none_second = λ is. none_in r.two (stands.given r.handled) stands.piped is r.second.in_level;
+    in_order = λ is. level_in r.two (stands.given r.handled) stands.piped is r.second.in_level;
+  }
+    where
+      all_recall : (id : ℕ) (v : List (Hold Q P)) → AllFit n r.line r.hand r.handled r.mode r.phase r.due r.told r.two r.account.events r.seat id v → AllRecall r.account.events v
+      all_recall id [] ok = tt
+      all_recall id (h ∷ hs) ok = (ok.0.6, all_recall id hs ok.1)
+
+  pub shown : (s : State (Content Q P L M) (List (Hold Q P))) (r : Listed stands n s) → (b : Between stands n s) × AreLists stands b (now_of stands n s r)
+  unfolding between
+  shown s r = (between s r, (refl, refl, (last_served r.two.place r.two.turn, refl, few_served r.two.place r.two.turn)))

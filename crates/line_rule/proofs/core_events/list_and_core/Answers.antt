@@ -1,0 +1,52 @@
+use Rattle.std.proofs.Common.{refl}
+use Rattle.line_rule.proofs.CoreLaws.{coded_items}
+use Rattle.line_rule.proofs.CoreSteps.{boundary_core, second_core, next_core, next_there, serves_core, comes_core, leads_core, groups_core, logs_there, log_leaves, fault_leaves, refuse_leaves, told_core, exits_core}
+use Rattle.line_rule.proofs.core_events.list_and_core.Goals as goal
+
+pub returns-clause-open : goal.returns-clause-open
+returns-clause-open g c writer_of reply_of o plans = record { queue = refl; log = (refl, refl, (refl, λ k. refl)); second = tt; owed = refl }
+
+pub returns-clause-link : goal.returns-clause-link
+returns-clause-link g c writer_of reply_of o s a b ws e r ev commits = comes_core writer_of reply_of o s a b ws e r ev commits
+
+pub returns-clause-elect : goal.returns-clause-elect
+returns-clause-elect g c writer_of reply_of o s a b ws e same r ev = leads_core writer_of reply_of o s a b ws e same r ev
+
+pub returns-clause-build : goal.returns-clause-build
+returns-clause-build g c writer_of reply_of o s a b ws own group left same has r ev = groups_core writer_of reply_of o s a b ws own group left same has r ev
+
+pub returns-clause-log : goal.returns-clause-log
+returns-clause-log g c writer_of reply_of o s a old ws built own group same r held is alive runs one = logs_there writer_of reply_of o s a a old ws built own group same r held is alive runs one
+
+pub returns-clause-boundary : goal.returns-clause-boundary
+returns-clause-boundary g c writer_of reply_of o s a b ws client squad two same r is ev = boundary_core writer_of reply_of o s a b ws client squad two same r is ev
+
+pub returns-clause-second : goal.returns-clause-second
+returns-clause-second g c writer_of reply_of o s a b ws client squad to same r ev = second_core writer_of reply_of o s a b ws client squad to same r ev
+
+pub returns-clause-next : goal.returns-clause-next
+returns-clause-next g c writer_of reply_of o s a b ws back squad own p gs r ev there has = next_core writer_of reply_of o s a b ws back squad own p gs r ev there has
+
+pub returns-clause-next_of_handed : goal.returns-clause-next_of_handed
+returns-clause-next_of_handed g c writer_of reply_of o s new a ws client r came = next_there writer_of reply_of o s a a ws client new r came
+
+pub returns-clause-exit_second : goal.returns-clause-exit_second
+returns-clause-exit_second g c writer_of reply_of o s a b ws client squad two same r is ev = serves_core writer_of reply_of o s a b ws client squad two same r is ev
+
+pub returns-clause-log_refused : goal.returns-clause-log_refused
+returns-clause-log_refused g c writer_of reply_of o s a b old ws built own p gs same r ev is alive runs no_run has = log_leaves writer_of reply_of o s a b old ws built own p gs same r ev is alive runs no_run has
+
+pub returns-clause-fault : goal.returns-clause-fault
+returns-clause-fault g c writer_of reply_of o s a b old built own p gs same r ev is ok = fault_leaves writer_of reply_of o s a b old built own p gs same r ev is ok
+
+pub returns-clause-refuse : goal.returns-clause-refuse
+returns-clause-refuse g c writer_of reply_of o s a b old built own p gs stops delays wait same r ev is unslowed ok = refuse_leaves writer_of reply_of o s a b old built own p gs stops delays wait same r ev is unslowed ok
+
+pub returns-clause-complete : goal.returns-clause-complete
+returns-clause-complete g c writer_of reply_of o s a b ws e p client same r ev none there = told_core writer_of reply_of o s a b ws e p client same r ev none.0 none.1 there
+
+pub returns-clause-exit : goal.returns-clause-exit
+returns-clause-exit g c writer_of reply_of o s a b ws own p gs one same r is there ev has = exits_core writer_of reply_of o s a b ws own p gs one same r is there ev has
+
+pub returns-clause-writers : goal.returns-clause-writers
+returns-clause-writers g c items writer is = ((λ e. (is e.by e.asked).0), coded_items c.codes_stand_for_items.ensures items writer is)

@@ -1,0 +1,63 @@
+-- The second list as its events tell of it.
+use Rattle.std.specs.Prelude.{◌≡◌, ◌≢◌, ℕ, List, [], ◌∷◌, ◌++◌}
+use mathlib.Core.Option.{Option, none, some}
+use Rattle.line_rule.specs.declared.view.Squad.{Squad}
+use Rattle.line_rule.specs.declared.view.Back.{Back}
+use Rattle.line_rule.specs.declared.view.Back.TheVariants.{Away, Parting, Joining, Holding, Queued, Serving, Passing}
+use Rattle.line_rule.specs.Standing.{Place, away, parted, queued, called, serves, served, Turn, still, calls, held_by, passes, Lead2, level, ahead, Two}
+
+-- its groups, newest first; whose group, which is the newest one, is there while it has the log still; and the group
+-- that a client has cut off from the first list, and that has yet to come into this one
+abbrev pub SecondList : Type 0 → Type 0 → Type 0
+SecondList Q P = List (Squad Q P) × Lead2 × (ℕ → Option (Squad Q P))
+
+module _ {Q P : Type 0} where
+  abbrev pub apart_in : Place Q P → Option (Squad Q P)
+  apart_in away = none
+  apart_in (parted g b) = some g
+  apart_in (queued g) = none
+  apart_in (called g) = none
+  apart_in (serves g) = none
+  apart_in (served g) = none
+
+  abbrev pub served_in : Place Q P → List (Squad Q P)
+  served_in away = []
+  served_in (parted g b) = []
+  served_in (queued g) = []
+  served_in (called g) = []
+  served_in (serves g) = []
+  served_in (served g) = g ∷ []
+
+  -- the group whose link is cut, and whose leader has yet to give the right on
+  abbrev pub last_served : (ℕ → Place Q P) → Turn → List (Squad Q P)
+  last_served place still = []
+  last_served place (calls c) = []
+  last_served place (held_by c) = []
+  last_served place (passes c w) = served_in (place c)
+
+  abbrev pub second_list_of : Two Q P → SecondList Q P
+  second_list_of two = (two.groups ++ last_served two.place two.turn, two.lead, λ k. apart_in (two.place k))
+
+  -- for c it is this now, and for the others as it was
+  abbrev pub IsPut : ℕ → Option (Squad Q P) → (ℕ → Option (Squad Q P)) → (ℕ → Option (Squad Q P)) → Type 0
+  IsPut c g was now = (now c ≡ g) × ((k : ℕ) → k ≢ c → now k ≡ was k)
+
+  -- who is ahead is c, where its group is in the second list while it has the log, and not, where it has none there
+  abbrev pub IsAhead : Back Q P → ℕ → Lead2 → Type 0
+  IsAhead Away c lead = lead ≢ ahead c
+  IsAhead (Parting g b) c lead = lead ≢ ahead c
+  IsAhead (Joining g) c lead = lead ≡ ahead c
+  IsAhead (Holding g) c lead = lead ≡ ahead c
+  IsAhead (Queued g) c lead = lead ≢ ahead c
+  IsAhead (Serving g walk) c lead = lead ≢ ahead c
+  IsAhead (Passing g x) c lead = lead ≢ ahead c
+
+  -- a leader gives the log on: its group, if it is in the second list, is ahead no more
+  abbrev pub handed : Back Q P → SecondList Q P → SecondList Q P
+  handed Away p = p
+  handed (Parting g b) p = p
+  handed (Joining g) p = (p.0, level, p.2)
+  handed (Holding g) p = (p.0, level, p.2)
+  handed (Queued g) p = p
+  handed (Serving g walk) p = p
+  handed (Passing g x) p = p

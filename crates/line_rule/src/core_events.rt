@@ -1,0 +1,121 @@
+//! The events of the list, and of the second one, are events of the write path's core.
+ghost use Rattle.std.specs.Prelude.{◌≡◌, List, [], ◌∷◌, ◌++◌, true, false, ℕ, Some};
+ghost use Rattle.std.specs.List.{list_any};
+ghost use mathlib.Core.Option.{none};
+ghost use Rattle.model_base.specs.Calls.{Command, Reply, refused};
+ghost use Rattle.model_base.specs.declared.write.Refusal.TheVariants as no;
+ghost use Rattle.model_core.specs.declared.event.Event.TheVariants as core;
+ghost use Rattle.model_core.specs.Core.{Options, Writer, Client, State, item_of, client_at, built as in_hand, in_log, published, opened, first_group, with_runs, has_run};
+ghost use Rattle.model_core.specs.Halves.{list_half_of};
+ghost use Rattle.model_core.specs.Step.{step, is_no_slowdown};
+ghost use Rattle.line_rule.specs.declared.view.Back.{Back};
+ghost use Rattle.line_rule.specs.declared.view.Entry.{Entry};
+ghost use Rattle.line_rule.specs.declared.view.Handling.{Handling};
+ghost use Rattle.line_rule.specs.declared.view.Squad.{Squad};
+ghost use Rattle.line_rule.specs.Chain.{AllCoded, all_answers};
+ghost use Rattle.line_rule.specs.Events.{free, grouped, comes, elects, builds};
+ghost use Rattle.line_rule.specs.Standing.{level, ahead, line_of};
+ghost use Rattle.line_rule.specs.Steps.{Lists, HappensAlone, IsExit, IsComplete, IsBoundary, IsSecond, IsNext, IsServedOut};
+ghost use Rattle.line_rule.specs.Handing.{IsInNone, IsJoined};
+ghost use Rattle.line_rule.specs.CoreEvents.{IsSame, HasItems, HasReplies, AllHave, IsGroupOf, IsCoreOf, IsTaken, IsCommit, HasLeft};
+ghost use Rattle.line_rule.specs.Grouping.{code_by};
+ghost use Rattle.model_base.specs.declared.group.Item.{Item};
+
+use crate::code::codes_stand_for_items;
+
+/// Where the core stands as both lists show it, each event of the lists may come in the core, and it stands as the
+/// lists show it after that event too. `ws` are the writers of the group in hand once the core has logged it, with
+/// their answers. Where a writer of the core is made of each entry's client and request, with their items, it has the
+/// item of its entry in each queue whose codes are those of the requests.
+///
+/// A writer comes, the oldest leads and builds its group, and the groups of the second list stay. The core logs the
+/// group in hand while the lists stay as they are. The group of which no member has a run leaves by a log, a fault or a
+/// refusal. Who has left is told. So nothing is logged after a fault.
+///
+/// Where there is one stage, a logged group leaves by the core's exit, once it is published. Where groups are handed
+/// on, it is cut off from the first list by `boundary`, comes to the end of the second queue by `second`, and its
+/// leader gives the log on by `next`, which comes nowhere else; and the first group of the second queue leaves it by
+/// an exit once it is published, and its members leave with their answers.
+pub fn list_and_core<Q, P>()
+    ensures writers { (items : Q → Item) (writer : ℕ → Q → Writer)
+        → ((c : ℕ) (q : Q) → ((writer c q).client ≡ c) × (item_of (writer c q) ≡ items q))
+        → IsSame {Q = Q} (λ e. writer e.by e.asked)
+        × ((queue : List (Entry Q)) → AllCoded (λ q code. code ≡ code_by items q) queue
+        → HasItems (λ e. writer e.by e.asked) queue) }
+    ensures open { (writer_of : Entry Q → Writer) (reply_of : P → Reply) (o : Options) (plans : List (List Command))
+        → IsCoreOf {Q = Q} {P = P} writer_of reply_of [] (([], free, [], []), ([], level, λ _. none))
+        (list_half_of (opened o plans)) }
+    ensures link { (writer_of : Entry Q → Writer) (reply_of : P → Reply) (o : Options) (s : State) (a b : Lists Q P)
+        (ws : List Writer) (e : Entry Q)
+        → IsCoreOf writer_of reply_of ws a (list_half_of s) → HappensAlone (comes e) a b
+        → IsCommit o s e.by (writer_of e)
+        → IsTaken writer_of reply_of o (core.Link e.by) s ws b }
+    ensures elect { (writer_of : Entry Q → Writer) (reply_of : P → Reply) (o : Options) (s : State) (a b : Lists Q P)
+        (ws : List Writer) (e : Entry Q)
+        → IsSame writer_of → IsCoreOf writer_of reply_of ws a (list_half_of s) → HappensAlone (elects e) a b
+        → IsTaken writer_of reply_of o (core.Elect e.by) s [] b }
+    ensures build { (writer_of : Entry Q → Writer) (reply_of : P → Reply) (o : Options) (s : State) (a b : Lists Q P)
+        (ws : List Writer) (own : Entry Q) (group left : List (Entry Q))
+        → IsSame writer_of → HasItems writer_of a.0.0 → IsCoreOf writer_of reply_of ws a (list_half_of s)
+        → HappensAlone (builds o.group_bytes own group left) a b
+        → IsTaken writer_of reply_of o (core.Build own.by) s [] b }
+    ensures log { (writer_of : Entry Q → Writer) (reply_of : P → Reply) (o : Options) (s : State) (a : Lists Q P)
+        (old ws built : List Writer) (own : Entry Q) (group : List (Entry Q))
+        → IsSame writer_of → IsCoreOf writer_of reply_of old a (list_half_of s)
+        → a.0.1 ≡ grouped own group → s.log ≡ in_hand built → s.log_failed ≡ false
+        → ws ≡ with_runs s.assigned built → list_any has_run ws ≡ true
+        → IsTaken writer_of reply_of o (core.Log own.by) s ws a }
+    ensures boundary { (writer_of : Entry Q → Writer) (reply_of : P → Reply) (o : Options) (s : State) (a b : Lists Q P)
+        (ws : List Writer) (c : ℕ) (g : Squad Q P)
+        → o.pipelined ≡ true → IsSame writer_of → IsCoreOf writer_of reply_of ws a (list_half_of s)
+        → s.log ≡ in_log ws → IsBoundary c g a b
+        → IsTaken writer_of reply_of o (core.Boundary c) s ws b }
+    ensures second { (writer_of : Entry Q → Writer) (reply_of : P → Reply) (o : Options) (s : State) (a b : Lists Q P)
+        (ws : List Writer) (c : ℕ) (g : Squad Q P) (to : List (Handling Q P))
+        → IsSame writer_of → IsCoreOf writer_of reply_of ws a (list_half_of s) → IsSecond c g to a b
+        → IsTaken writer_of reply_of o (core.Second c) s ws b }
+    ensures next { (writer_of : Entry Q → Writer) (reply_of : P → Reply) (o : Options) (s : State) (a b : Lists Q P)
+        (ws : List Writer) (back : Back Q P) (g : Squad Q P) (own : Entry Q) (p : P) (gs : List (Entry Q × P))
+        → IsCoreOf writer_of reply_of ws a (list_half_of s) → IsNext back own p gs a b → IsJoined g back
+        → HasReplies reply_of (all_answers own p gs) ws
+        → IsTaken writer_of reply_of o (core.Next own.by) s [] b }
+    ensures next_of_handed { (writer_of : Entry Q → Writer) (reply_of : P → Reply) (o : Options) (s new : State)
+        (a : Lists Q P) (ws : List Writer) (c : ℕ)
+        → IsCoreOf writer_of reply_of ws a (list_half_of s) → step o s (core.Next c) ≡ Some new
+        → a.1.1 ≡ ahead c }
+    ensures exit { (writer_of : Entry Q → Writer) (reply_of : P → Reply) (o : Options) (s : State) (a b : Lists Q P)
+        (ws : List Writer) (own : Entry Q) (p : P) (gs : List (Entry Q × P))
+        → o.pipelined ≡ false → IsSame writer_of → IsCoreOf writer_of reply_of ws a (list_half_of s)
+        → s.log ≡ in_log ws → s.table ≡ published → IsExit own p gs a b → HasReplies reply_of (all_answers own p gs) ws
+        → IsTaken writer_of reply_of o (core.Exit own.by) s [] b }
+    ensures exit_second { (writer_of : Entry Q → Writer) (reply_of : P → Reply) (o : Options) (s : State)
+        (a b : Lists Q P) (ws : List Writer) (c : ℕ) (g : Squad Q P)
+        → o.pipelined ≡ true → IsSame writer_of → IsCoreOf writer_of reply_of ws a (list_half_of s)
+        → s.table ≡ published → IsServedOut c g a b
+        → IsGroupOf writer_of (line_of g) (first_group s.second)
+        × IsTaken writer_of reply_of o (core.Exit c) s ws b }
+    ensures log_refused { (writer_of : Entry Q → Writer) (reply_of : P → Reply) (o : Options) (s : State)
+        (a b : Lists Q P) (old ws built : List Writer) (own : Entry Q) (p : P) (gs : List (Entry Q × P))
+        → IsSame writer_of → IsCoreOf writer_of reply_of old a (list_half_of s) → IsExit own p gs a b
+        → s.log ≡ in_hand built → s.log_failed ≡ false
+        → ws ≡ with_runs s.assigned built → list_any has_run ws ≡ false → HasReplies reply_of (all_answers own p gs) ws
+        → IsTaken writer_of reply_of o (core.Log own.by) s [] b }
+    ensures fault { (writer_of : Entry Q → Writer) (reply_of : P → Reply) (o : Options) (s : State) (a b : Lists Q P)
+        (old built : List Writer) (own : Entry Q) (p : P) (gs : List (Entry Q × P))
+        → IsSame writer_of → IsCoreOf writer_of reply_of old a (list_half_of s) → IsExit own p gs a b
+        → s.log ≡ in_hand built → AllHave reply_of (refused (no.LogFault 1)) (all_answers own p gs)
+        → IsTaken writer_of reply_of o (core.Fault own.by) s [] b }
+    ensures refuse { (writer_of : Entry Q → Writer) (reply_of : P → Reply) (o : Options) (s : State) (a b : Lists Q P)
+        (old built : List Writer) (own : Entry Q) (p : P) (gs : List (Entry Q × P)) (stops delays wait : ℕ)
+        → IsSame writer_of → IsCoreOf writer_of reply_of old a (list_half_of s) → IsExit own p gs a b
+        → s.log ≡ in_hand built → is_no_slowdown built ≡ true
+        → AllHave reply_of (refused (no.Incomplete stops delays wait)) (all_answers own p gs)
+        → IsTaken writer_of reply_of o (core.Refuse own.by stops delays wait) s [] b }
+    ensures complete { (writer_of : Entry Q → Writer) (reply_of : P → Reply) (o : Options) (s : State) (a b : Lists Q P)
+        (ws : List Writer) (e : Entry Q) (p : P) (client : Client)
+        → IsSame writer_of → IsCoreOf writer_of reply_of ws a (list_half_of s) → IsComplete e p a b
+        → IsInNone e.by a → client_at s e.by ≡ Some client
+        → HasLeft s e.by (reply_of p) × IsTaken writer_of reply_of o (core.Complete e.by) s ws b }
+{
+    codes_stand_for_items();
+}

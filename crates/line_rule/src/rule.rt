@@ -1,0 +1,128 @@
+// The rule of the list, and what it asks of requests, replies, log and right.
+ghost use Rattle.std.specs.Prelude.{◌≡◌, ℕ, List, [], ◌++◌};
+ghost use Rattle.line_rule.specs.Laws.{laws_for};
+ghost use Rattle.line_rule.specs.Rule.{Listed, newcomers, all_but_first, first_only};
+
+use crate::content::{Content, Start};
+use crate::view::{Handling, View};
+use atomic_table::{Join, Split, TableRule};
+use std::marker::Brand;
+
+/// What a log says that was handled, where it had this number at first, and its number now.
+pub trait Ledger<Q, P, M> {
+    /// What the law is about, besides the log.
+    type About;
+
+    ghost use Rattle.std.specs.Prelude.{ℕ, List};
+    ghost use Rattle.line_rule.specs.declared.view.Handling.{Handling};
+
+    ghost stands: { Self.About → Self → List (Handling Q P) → Type 0 };
+
+    /// What holds of what was handled, wherever the log is.
+    ghost kept: { Self.About → List (Handling Q P) → Type 0 };
+
+    /// For which of what was handled, of those that were given runs, the right stands.
+    ghost serves: { Self.About → M → List (Handling Q P) → Type 0 };
+
+    /// What holds of each request that is in the list.
+    ghost lawful: { Self.About → Q → Type 0 };
+
+    ghost number_of: { Self → ℕ };
+
+    fn number(&self) -> u64
+        ensures { result ≡ Self.number_of self.now };
+}
+
+/// The first number and the count that a reply gives; the count 0 where it gives none.
+pub trait Given {
+    ghost use Rattle.std.specs.Prelude.{ℕ};
+
+    ghost run_of: { Self → ℕ × ℕ };
+}
+
+/// What grouping sees of a request.
+pub trait Itemized {
+    ghost use Rattle.model_base.specs.declared.group.Item.{Item};
+
+    ghost item_of: { Self → Item };
+}
+
+/// What the law of the log is about, and a number, which the caller picks: the one at opening, or a group's bound.
+pub trait PickedAbout<K> {
+    ghost use Rattle.std.specs.Prelude.{ℕ, Option};
+
+    ghost number: { ℕ };
+
+    ghost about: { Option K };
+}
+
+impl<K> PickedAbout<K> for Brand {
+    ghost use Rattle.std.specs.Prelude.{None};
+
+    ghost number = { 0 };
+
+    ghost about = { None };
+}
+
+/// Which of what was handled was given runs, which the caller picks.
+pub trait PickedGiven<Q, P> {
+    ghost use Rattle.std.specs.Prelude.{List};
+    ghost use Rattle.line_rule.specs.declared.view.Handling.{Handling};
+
+    ghost given: { List (Handling Q P) };
+}
+
+impl<Q, P> PickedGiven<Q, P> for Brand {
+    ghost use Rattle.std.specs.Prelude.{[]};
+
+    ghost given = { [] };
+}
+
+/// What the law of the right is about, and which of what was handled was given runs, which the caller picks.
+pub trait PickedRight<Q, P, K> {
+    ghost use Rattle.std.specs.Prelude.{List, Option};
+    ghost use Rattle.line_rule.specs.declared.view.Handling.{Handling};
+
+    ghost about: { Option K };
+
+    ghost given: { List (Handling Q P) };
+}
+
+impl<Q, P, K> PickedRight<Q, P, K> for Brand {
+    ghost use Rattle.std.specs.Prelude.{[], None};
+
+    ghost about = { None };
+
+    ghost given = { [] };
+}
+
+pub struct Order;
+
+impl<Q: Itemized, P: Given, L: Ledger<Q, P, M>, M> TableRule<
+    Content<Q, P, L, M>,
+    View<Q, P>,
+    Start<L::About>,
+> for Order {
+    ghost holds = { λ k. Listed (laws_for Q.item_of L.lawful L.stands L.kept L.number_of P.run_of L.serves k)
+        k.clients };
+
+    ghost first = { λ k. newcomers k.clients };
+}
+
+/// Cuts the first client off.
+pub struct First;
+
+impl<Q, P> Split<View<Q, P>> for First {
+    ghost left = { λ v. all_but_first v };
+
+    ghost right = { λ v. first_only v };
+}
+
+/// Takes another's clients in.
+pub struct Both;
+
+impl<Q, P> Join<View<Q, P>> for Both {
+    ghost both = { λ v w. v ++ w };
+
+    ghost spent = { [] };
+}

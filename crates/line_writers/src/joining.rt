@@ -1,0 +1,276 @@
+// How a group comes into the second list.
+ghost use Rattle.std.specs.Prelude.{◌≡◌, ◌≢◌, ℕ, ◌+◌, ◌^◌, ◌<◌, ◌≤◌, List, [], ◌∷◌, ◌++◌, true, vec_len, vec_capacity, length, Some};
+ghost use Rattle.line_rule.specs.declared.content.Content.{Content};
+ghost use Rattle.line_rule.specs.declared.content.Content.TheVariants.{Told, Log, Right};
+ghost use Rattle.line_rule.specs.declared.view.Back.TheVariants.{Parting, Joining, Holding};
+ghost use Rattle.line_rule.specs.declared.view.Entry.{Entry};
+ghost use Rattle.line_rule.specs.declared.view.Handling.{Handling};
+ghost use Rattle.line_rule.specs.declared.view.Lead.{Lead};
+ghost use Rattle.line_rule.specs.declared.view.Squad.{Squad};
+ghost use Rattle.line_rule.specs.declared.view.Stage.{Stage};
+ghost use Rattle.line_rule.specs.declared.view.Stage.TheVariants.{Leading};
+ghost use Rattle.line_rule.specs.Chain.{newest, heads, all_answers};
+ghost use Rattle.line_rule.specs.Standing.{line_of};
+ghost use Rattle.line_rule.specs.Laws.{given_runs};
+ghost use Rattle.line_rule.specs.Plays.{At, AtWith, in_hand, debt, slots_of, parting, ending, IsCut};
+ghost use Rattle.line_writers.specs.Roles.{HasJoined, HasSent, grouped, past_in, pays, bys};
+ghost use Rattle.line_writers.specs.Rooms.{HasRoom};
+ghost use Rattle.line_writers.specs.Seats.{about_of, asks_of, client_of, clients_of, law_of, piped_of, Belongs, HasGroup, Stays, told};
+ghost use Rattle.line_writers.specs.Second.{IsSent, ListsMembers};
+
+use crate::line_writers::WriterList;
+use crate::room::{Replies, Room};
+use crate::writer::{Task, Writer};
+use crossbeam_utils::Backoff;
+use line_rule::{
+    AimSecond, Given, Itemized, JoinSecond, Ledger, PickedGiven, PickedRight, ReadNewest, ReadOlder,
+};
+use std::marker::Brand;
+use std::sync::Wait;
+
+impl<Q: Itemized, P: Given, L: Ledger<Q, P, M>, M> WriterList<Q, P, L, M> {
+    /// Moves a group to the second list, with its replies in its slots. The log, which stands for all that was handled
+    /// before and for the group, goes back, or on to the next leader. The writer waits for the right then, which it has
+    /// already where its group came alone.
+    pub fn exit_pipelined<R: Wait>(
+        &self,
+        rt: &R,
+        writer: &mut Writer<Q, P, L, M>,
+        log: L,
+        replies: &mut Replies<P>,
+        room: &mut Room,
+    )
+        requires piped { piped_of self.now ≡ true }
+        requires group { Belongs self.now writer.old × ((max : ℕ) × (own : Entry Q)
+            × (group left : List (Entry Q)) × (seen : List (Handling Q P)) × (gs : List (Entry Q × P)) × (p : P)
+            × HasGroup (asks_of Q.item_of L.lawful self.now) (clients_of self.now) max own group left seen (told
+            writer.old) writer.old × (heads gs ≡ group) × (replies.old.list.items ≡ pays own p gs)
+            × law_of L.stands L.kept L.number_of P.run_of self.now log (seen ++ all_answers own p gs)) }
+        requires room { HasRoom (clients_of self.now) room.old × (vec_len replies.old.list ≤ clients_of self.now) }
+        ensures replies { (replies.new.list.items ≡ [])
+            × (vec_capacity replies.new.list ≡ vec_capacity replies.old.list) }
+        ensures client { (client_of writer.new ≡ client_of writer.old) × Belongs self.now writer.new }
+        ensures sent { (max : ℕ) (own : Entry Q) (group left : List (Entry Q)) (seen : List (Handling Q P)) (gs : List
+            (Entry Q × P)) (p : P)
+            → HasGroup (asks_of Q.item_of L.lawful self.now) (clients_of self.now) max own group left seen (told
+            writer.old) writer.old → heads gs ≡ group → replies.old.list.items ≡ pays own p gs
+            → IsSent (L.serves (about_of self.now)) (clients_of self.now) (debt gs own p) (given_runs P.run_of
+            seen) (given_runs P.run_of (seen ++ all_answers own p gs)) (told writer.old) writer.new
+            × ListsMembers (clients_of self.now) (debt gs own p) room.new }
+    {
+        let alone = self.exit_from::<Brand, Brand, R>(rt, writer, log, &mut replies.list, room);
+        if alone {
+            self.rotate(writer, room.members.len());
+            writer.task = Task::Serves;
+            return;
+        }
+        writer.task = Task::Queues;
+    }
+
+    // The same, where what was given runs before the group, and with it, is picked: true where the leader has the
+    // right.
+    fn exit_from<B: PickedGiven<Q, P>, D: PickedRight<Q, P, L::About>, R: Wait>(
+        &self,
+        rt: &R,
+        writer: &mut Writer<Q, P, L, M>,
+        log: L,
+        replies: &mut Vec<(u32, P)>,
+        room: &mut Room,
+    ) -> bool
+        requires piped { piped_of self.now ≡ true }
+        requires about { D.about ≡ Some (about_of self.now) }
+        requires group { Belongs self.now writer.old × ((max : ℕ) × (own : Entry Q)
+            × (group left : List (Entry Q)) × (seen : List (Handling Q P)) × (gs : List (Entry Q × P)) × (p : P)
+            × HasGroup (asks_of Q.item_of L.lawful self.now) (clients_of self.now) max own group left seen (told
+            writer.old) writer.old × (heads gs ≡ group) × (replies.old.items ≡ pays own p gs)
+            × law_of L.stands L.kept L.number_of P.run_of self.now log (seen ++ all_answers own p gs)
+            × (B.given ≡ given_runs P.run_of seen)
+            × (D.given ≡ given_runs P.run_of (seen ++ all_answers own p gs))) }
+        requires room { HasRoom (clients_of self.now) room.old × (vec_len replies.old ≤ clients_of self.now) }
+        ensures seat { Stays writer.new writer.old }
+        ensures replies { (replies.new.items ≡ []) × (vec_capacity replies.new ≡ vec_capacity replies.old) }
+        ensures room { (vec_len room.new.walk ≡ 0) × (room.new.walk.items ≡ [])
+            × (clients_of self.now ≤ vec_capacity room.new.walk)
+            × (clients_of self.now ≤ vec_capacity room.new.members) }
+        ensures sent { (max : ℕ) (own : Entry Q) (group left : List (Entry Q)) (seen : List (Handling Q P)) (gs :
+            List (Entry Q × P)) (p : P)
+            → HasGroup (asks_of Q.item_of L.lawful self.now) (clients_of self.now) max own group left seen (told
+            writer.old) writer.old → heads gs ≡ group → replies.old.items ≡ pays own p gs
+            → HasSent (L.serves (about_of self.now)) self.now.clients writer.old.client result (debt gs own p)
+            (told writer.old)
+            (ending (parting (grouped own seen (past_in writer.old.seat.me.0) left group) B.given) D.given)
+            writer.new.seat.me
+            × (room.new.members.items ≡ bys (heads gs ++ own ∷ [])) }
+    {
+        let code = self.own_code(writer);
+        self.fill(writer, replies, &mut room.members);
+        self.put_log(writer, log);
+        self.send_on::<B, D, R>(
+            rt,
+            writer,
+            code,
+            room.members[0] as u64,
+            room.members.len(),
+            &mut room.walk,
+        )
+    }
+
+    // The leader's own code, as it stands in its link.
+    fn own_code(&self, writer: &mut Writer<Q, P, L, M>) -> u64
+        requires seat { (writer.old.seat.table_id ≡ self.now.table.shared.table_id)
+            × (writer.old.client ≤ self.now.clients) }
+        ensures seat { (writer.new.seat.table_id ≡ writer.old.seat.table_id)
+            × (writer.new.client ≡ writer.old.client) × (writer.new.seat.me ≡ writer.old.seat.me) }
+        ensures code { (lead : Lead Q P) (mine : List (Q × P)) (newer : List (Entry Q))
+            → At writer.old.client (Leading lead) mine writer.old.seat.me → lead.walk ≡ newer ++ lead.own ∷ []
+            → lead.own.by ≡ writer.old.client → result ≡ lead.own.code }
+        ensures small { result < 2 ^ 56 }
+    {
+        let c = writer.client;
+        self.table
+            .shared
+            .load::<ReadOlder>(&mut writer.seat, 2 * c as usize + 3)
+            / 256
+    }
+
+    // Moves the group to the second list, and gives the log on: true where the leader has taken the right.
+    fn send_on<B: PickedGiven<Q, P>, D: PickedRight<Q, P, L::About>, R: Wait>(
+        &self,
+        rt: &R,
+        writer: &mut Writer<Q, P, L, M>,
+        code: u64,
+        newest_member: u64,
+        count: usize,
+        walk: &mut Vec<(u64, u64)>,
+    ) -> bool
+        requires piped { piped_of self.now ≡ true }
+        requires about { D.about ≡ Some (about_of self.now) }
+        requires seat { (writer.old.seat.table_id ≡ self.now.table.shared.table_id) × (0 < writer.old.client)
+            × (writer.old.client ≤ self.now.clients) × (code < 2 ^ 56) }
+        requires room { (vec_len walk.old ≡ 0) × (walk.old.items ≡ []) × (self.now.clients ≤ vec_capacity walk.old) }
+        requires ready { (lead : Lead Q P) × (mine : List (Q × P)) × (gs : List (Entry Q × P)) × (p : P) × (l : L)
+            × At writer.old.client (Leading lead) mine writer.old.seat.me
+            × (newest_member ≡ newest (in_hand lead)) × (lead.taken ≡ lead.group)
+            × (count ≡ length (in_hand lead)) × (lead.own.code ≡ code) × (heads gs ≡ lead.taken)
+            × (writer.old.seat.me.1 ≡ (0, Log l) ∷ slots_of gs ((writer.old.client, Told p) ∷ []))
+            × law_of L.stands L.kept L.number_of P.run_of self.now l (lead.seen ++ all_answers lead.own p gs)
+            × (B.given ≡ given_runs P.run_of lead.seen)
+            × (D.given ≡ given_runs P.run_of (lead.seen ++ all_answers lead.own p gs)) }
+        ensures seat { (writer.new.seat.table_id ≡ writer.old.seat.table_id)
+            × (writer.new.client ≡ writer.old.client) × (walk.new.items ≡ []) × (vec_len walk.new ≡ 0)
+            × (vec_capacity walk.new ≡ vec_capacity walk.old) }
+        ensures sent { (lead : Lead Q P) (mine : List (Q × P)) (gs : List (Entry Q × P)) (p : P) (l : L)
+            → At writer.old.client (Leading lead) mine writer.old.seat.me → heads gs ≡ lead.taken
+            → writer.old.seat.me.1 ≡ (0, Log l) ∷ slots_of gs ((writer.old.client, Told p) ∷ [])
+            → HasSent (L.serves (about_of self.now)) self.now.clients writer.old.client result (debt gs lead.own p)
+            mine (ending (parting lead B.given) D.given) writer.new.seat.me }
+    {
+        let next = self.part::<B>(writer, newest_member, count, walk);
+        let alone = self.join_second::<D, R>(rt, writer, code, newest_member);
+        if alone {
+            writer.seat.turn();
+            self.go_on(writer, next, walk);
+            return true;
+        }
+        self.go_on(writer, next, walk);
+        false
+    }
+
+    // Puts the group, which is cut off from the first list, into the second: true where its leader takes the right.
+    fn join_second<B: PickedRight<Q, P, L::About>, R: Wait>(
+        &self,
+        rt: &R,
+        writer: &mut Writer<Q, P, L, M>,
+        code: u64,
+        newest_member: u64,
+    ) -> bool
+        requires piped { piped_of self.now ≡ true }
+        requires about { B.about ≡ Some (about_of self.now) }
+        requires seat { (writer.old.seat.table_id ≡ self.now.table.shared.table_id) × (0 < writer.old.client)
+            × (writer.old.client ≤ self.now.clients) × (code < 2 ^ 56) }
+        requires parted { (st : Stage Q P) × (lead : Lead Q P) × (mine : List (Q × P)) × (g : Squad Q P) × (b : ℕ)
+            × AtWith writer.old.client st mine (Parting g b) writer.old.seat.me × (g.own.code ≡ code)
+            × IsCut lead st × (g.from ≡ given_runs P.run_of lead.seen) × (newest_member ≡ newest (line_of g)) }
+        ensures seat { Stays writer.new writer.old }
+        ensures joined { (st : Stage Q P) (mine : List (Q × P)) (g : Squad Q P) (b : ℕ)
+            → AtWith writer.old.client st mine (Parting g b) writer.old.seat.me
+            → HasJoined (L.serves (about_of self.now)) self.now.clients writer.old.client B.given result st mine g
+            writer.old.seat.me
+            writer.new.seat.me }
+    {
+        let shared = &self.table.shared;
+        let backoff = Backoff::new();
+        // Until the exchange works the group is cut off from the first list, and not in the second.
+        for _ in rt.forever() {
+            let older = shared.load::<ReadNewest>(&mut writer.seat, 1);
+            self.aim_second(writer, older, code);
+            let found = self.enter_second::<B>(writer, older, newest_member);
+            if found == older {
+                return older == 0;
+            }
+            backoff.snooze();
+        }
+        unreachable!()
+    }
+
+    // Lets the leader of a group that is cut off name this newest writer of the second list.
+    fn aim_second(&self, writer: &mut Writer<Q, P, L, M>, older: u64, code: u64)
+        requires seat { (writer.old.seat.table_id ≡ self.now.table.shared.table_id) × (0 < writer.old.client)
+            × (writer.old.client ≤ self.now.clients) × (older < 256) × (code < 2 ^ 56) }
+        requires parted { (st : Stage Q P) × (mine : List (Q × P)) × (g : Squad Q P) × (b : ℕ)
+            × AtWith writer.old.client st mine (Parting g b) writer.old.seat.me × (g.own.code ≡ code) }
+        ensures seat { Stays writer.new writer.old }
+        ensures aimed { (st : Stage Q P) (mine : List (Q × P)) (g : Squad Q P) (b : ℕ)
+            → AtWith writer.old.client st mine (Parting g b) writer.old.seat.me → g.own.code ≡ code
+            → AtWith writer.old.client st mine (Parting g older) writer.new.seat.me
+            × (writer.new.seat.me.1 ≡ writer.old.seat.me.1) }
+    {
+        let c = writer.client;
+        self.table
+            .shared
+            .store::<AimSecond>(&mut writer.seat, 2 * c as usize + 3, older + 256 * code);
+    }
+
+    // Puts the group into the second list where its newest writer is still `older`; answers the newest writer.
+    fn enter_second<B: PickedRight<Q, P, L::About>>(
+        &self,
+        writer: &mut Writer<Q, P, L, M>,
+        older: u64,
+        newest_member: u64,
+    ) -> u64
+        requires piped { piped_of self.now ≡ true }
+        requires about { B.about ≡ Some (about_of self.now) }
+        requires seat { writer.old.seat.table_id ≡ self.now.table.shared.table_id }
+        requires parted { (st : Stage Q P) × (lead : Lead Q P) × (mine : List (Q × P)) × (g : Squad Q P)
+            × AtWith writer.old.client st mine (Parting g older) writer.old.seat.me × IsCut lead st
+            × (g.from ≡ given_runs P.run_of lead.seen) × (newest_member ≡ newest (line_of g)) }
+        ensures seat { Stays writer.new writer.old }
+        ensures entered { (st : Stage Q P) (mine : List (Q × P)) (g : Squad Q P)
+            → AtWith writer.old.client st mine (Parting g older) writer.old.seat.me → (result ≡ older → older ≢ 0
+            → AtWith writer.old.client st mine (Joining (ending g B.given)) writer.new.seat.me
+            × (writer.new.seat.me.1 ≡ writer.old.seat.me.1)) × (result ≡ older → older ≡ 0 → (right : M)
+            × L.serves (about_of self.now) right g.from
+            × AtWith writer.old.client st mine (Holding (ending g B.given)) writer.new.seat.me
+            × (writer.new.seat.me.1 ≡ (self.now.clients + 1, Right right) ∷ writer.old.seat.me.1))
+            × (result ≢ older → writer.new.seat.me ≡ writer.old.seat.me) }
+    {
+        self.table
+            .shared
+            .compare_exchange::<JoinSecond<B>>(&mut writer.seat, 1, older, newest_member)
+    }
+
+    // Lets the first `count` slots go behind the others.
+    fn rotate(&self, writer: &mut Writer<Q, P, L, M>, count: usize)
+        requires first { (a : List (ℕ × Content Q P L M)) × (b : List (ℕ × Content Q P L M))
+            × (writer.old.seat.me.1 ≡ a ++ b) × (length a ≡ count) }
+        ensures seat { (writer.new.seat.table_id ≡ writer.old.seat.table_id)
+            × (writer.new.client ≡ writer.old.client) × (writer.new.seat.me.0 ≡ writer.old.seat.me.0) }
+        ensures turned { (a b : List (ℕ × Content Q P L M)) → writer.old.seat.me.1 ≡ a ++ b → length a ≡ count
+            → writer.new.seat.me.1 ≡ b ++ a }
+    {
+        // The first `i` slots are behind the others, in their order.
+        for i in 0..count {
+            writer.seat.turn();
+        }
+    }
+}

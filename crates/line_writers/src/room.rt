@@ -1,0 +1,64 @@
+// The lists that a leader works with.
+ghost use Rattle.std.specs.Prelude.{◌≡◌, ℕ, ◌<◌, ◌≤◌, List, vec_len, IfOk};
+ghost use Rattle.line_writers.specs.Rooms.{AreReady, AllReady};
+
+use std::alloc::{AllocError, Global};
+
+/// The requests of a group in link order, each with its client.
+#[derive(Drop)]
+pub struct Requests<Q> {
+    pub list: Vec<(u32, Q)>,
+}
+
+/// The replies to a group in link order, each with its client.
+#[derive(Drop)]
+pub struct Replies<P> {
+    pub list: Vec<(u32, P)>,
+}
+
+/// Room for the work of a leader.
+#[derive(Drop)]
+pub struct Room {
+    pub(crate) walk: Vec<(u64, u64)>,
+    pub(crate) members: Vec<u32>,
+}
+
+/// What one client needs to lead a group, with room for all clients.
+#[derive(Drop)]
+pub struct Lists<Q, P> {
+    pub requests: Requests<Q>,
+    pub replies: Replies<P>,
+    pub room: Room,
+}
+
+impl<Q: Drop, P: Drop> Lists<Q, P> {
+    fn new(alloc: Global, clients: u32) -> Result<Lists<Q, P>, AllocError>
+        ensures { IfOk result (λ lists. AreReady clients lists) }
+    {
+        let requests = Requests {
+            list: Vec::with_capacity(alloc, clients as usize)?,
+        };
+        let replies = Replies {
+            list: Vec::with_capacity(alloc, clients as usize)?,
+        };
+        let walk = Vec::with_capacity(alloc, clients as usize)?;
+        let members = Vec::with_capacity(alloc, clients as usize)?;
+        let room = Room { walk, members };
+        Ok(Lists {
+            requests,
+            replies,
+            room,
+        })
+    }
+
+    // One of each kind for each client.
+    pub(crate) fn for_all(alloc: Global, clients: u32) -> Result<Vec<Lists<Q, P>>, AllocError>
+        ensures { IfOk result (λ all. (vec_len all ≡ clients) × AllReady clients all.items) }
+    {
+        let mut all = Vec::with_capacity(alloc, clients as usize)?;
+        for made in 0..clients {
+            all.push_reserved(Lists::new(alloc, clients)?);
+        }
+        Ok(all)
+    }
+}

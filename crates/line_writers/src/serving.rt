@@ -1,0 +1,317 @@
+// How the leader of a group of the second list gets the right, has its members beside it, and leaves.
+ghost use Rattle.std.specs.Prelude.{◌≡◌, ◌≢◌, ℕ, ◌+◌, ◌^◌, ◌<◌, ◌≤◌, List, [], ◌∷◌, ◌++◌, true, vec_len, vec_capacity, length, Some};
+ghost use Rattle.line_rule.specs.declared.content.Content.{Content};
+ghost use Rattle.line_rule.specs.declared.content.Content.TheVariants.{Empty, Right};
+ghost use Rattle.line_rule.specs.declared.view.Back.{Back};
+ghost use Rattle.line_rule.specs.declared.view.Back.TheVariants.{Queued, Serving, Passing};
+ghost use Rattle.line_rule.specs.declared.view.Debt.{Debt};
+ghost use Rattle.line_rule.specs.declared.view.Entry.{Entry};
+ghost use Rattle.line_rule.specs.declared.view.Handling.{Handling};
+ghost use Rattle.line_rule.specs.declared.view.Squad.{Squad};
+ghost use Rattle.line_rule.specs.declared.view.Stage.{Stage};
+ghost use Rattle.line_rule.specs.declared.view.Stage.TheVariants.{Settling};
+ghost use Rattle.line_rule.specs.Chain.{newest, pairs};
+ghost use Rattle.line_rule.specs.Standing.{line_of};
+ghost use Rattle.line_rule.specs.Plays.{At, AtWith, debt, WalksSecond};
+ghost use Rattle.line_writers.specs.Roles.{CodesFit, SeesSecond, HasTrace, AreMembers};
+ghost use Rattle.line_writers.specs.Rooms.{HasRoom};
+ghost use Rattle.line_writers.specs.Seats.{about_of, client_of, clients_of, piped_of, Belongs, IsOut, Stays, told};
+ghost use Rattle.line_writers.specs.Second.{HasRight, ListsMembers};
+
+use crate::line_writers::WriterList;
+use crate::room::Room;
+use crate::writer::Writer;
+use crossbeam_utils::Backoff;
+use line_rule::{
+    CallNext, ClearSecond, Content, Given, Itemized, LeaveSecond, Ledger, MakeParallel,
+    PickedAbout, ReadOlderSecond, Summon,
+};
+use std::sync::Wait;
+
+impl<Q: Itemized, P: Given, L: Ledger<Q, P, M>, M> WriterList<Q, P, L, M> {
+    /// Tells these members of the group to work beside the leader, which has the right.
+    pub fn launch_roles(&self, writer: &mut Writer<Q, P, L, M>, members: &[u32])
+        requires leads { Belongs self.now writer.old × ((d : Debt Q P) × (from to : List (Handling Q P))
+            × (mine : List (Q × P)) × HasRight (clients_of self.now) d from to mine writer.old
+            × AreMembers (clients_of self.now) members.now d.rest) }
+        ensures client { (client_of writer.new ≡ client_of writer.old) × Belongs self.now writer.new }
+        ensures leads { (d : Debt Q P) (from to : List (Handling Q P)) (mine : List (Q × P))
+            → HasRight (clients_of self.now) d from to mine writer.old
+            → HasRight (clients_of self.now) d from to mine writer.new }
+    {
+        // The first `i` members are told, and the leader has the right still.
+        for i in 0..members.len() {
+            self.make_parallel(writer, members[i]);
+        }
+    }
+
+    /// Ends a group of the second list. The right, which stands for what was given runs with the group, goes back, or
+    /// on to the leader of the next group, and then each member is told its reply. The leader's own is answered.
+    pub fn exit_memtable(&self, writer: &mut Writer<Q, P, L, M>, right: M, room: &mut Room) -> P
+        requires piped { piped_of self.now ≡ true }
+        requires serves { Belongs self.now writer.old × ((d : Debt Q P) × (from to : List (Handling Q P))
+            × (mine : List (Q × P)) × HasRight (clients_of self.now) d from to mine writer.old
+            × L.serves (about_of self.now) right to
+            × ListsMembers (clients_of self.now) d room.old) }
+        ensures room { HasRoom (clients_of self.now) room.new }
+        ensures client { (client_of writer.new ≡ client_of writer.old) × Belongs self.now writer.new }
+        ensures out { IsOut writer.new
+            × ((d : Debt Q P) (from to : List (Handling Q P)) (mine : List (Q × P))
+            → HasRight (clients_of self.now) d from to mine writer.old
+            → (told writer.new ≡ mine ++ (d.own.asked, d.reply) ∷ []) × (result ≡ d.reply)) }
+    {
+        self.put_right(writer, right);
+        self.pass_on(
+            writer,
+            room.members[0] as u64,
+            room.members.len(),
+            &mut room.walk,
+        );
+        self.tell_all(writer, room.members.as_slice());
+        room.members.clear();
+        self.retire(writer)
+    }
+
+    // Tells a member to work beside its leader.
+    fn make_parallel(&self, writer: &mut Writer<Q, P, L, M>, member: u32)
+        requires seat { (writer.old.seat.table_id ≡ self.now.table.shared.table_id) × (0 < member)
+            × (member ≤ self.now.clients) }
+        requires member { (pre : List (Entry Q × P)) × (post : List (Entry Q × P)) × (y : Entry Q × P)
+            × (own : Entry Q) × (p : P) × (mine : List (Q × P)) × (g : Squad Q P) × (walk : List (Entry Q))
+            × AtWith writer.old.client (Settling (debt (pre ++ y ∷ post) own p)) mine (Serving g walk)
+            writer.old.seat.me × (y.0.by ≡ member) }
+        ensures seat { Stays writer.new writer.old }
+        ensures same { writer.new.seat.me ≡ writer.old.seat.me }
+    {
+        self.table
+            .shared
+            .store::<MakeParallel>(&mut writer.seat, 2 * member as usize + 2, 8);
+        self.bells.ring(member as u64);
+    }
+
+    // Waits until the group is the first of the second list, and takes the right.
+    pub(crate) fn await_right<B: PickedAbout<L::About>, R: Wait>(
+        &self,
+        rt: &R,
+        writer: &mut Writer<Q, P, L, M>,
+    ) -> M
+        requires piped { piped_of self.now ≡ true }
+        requires about { B.about ≡ Some (about_of self.now) }
+        requires seat { (writer.old.seat.table_id ≡ self.now.table.shared.table_id) × (0 < writer.old.client)
+            × (writer.old.client ≤ self.now.clients) }
+        requires queued { (d : Debt Q P) × (mine : List (Q × P)) × (g : Squad Q P)
+            × AtWith writer.old.client (Settling d) mine (Queued g) writer.old.seat.me }
+        ensures seat { Stays writer.new writer.old }
+        ensures right { (d : Debt Q P) (mine : List (Q × P)) (g : Squad Q P)
+            → AtWith writer.old.client (Settling d) mine (Queued g) writer.old.seat.me
+            → AtWith writer.old.client (Settling d) mine (Serving g []) writer.new.seat.me
+            × (writer.new.seat.me.1 ≡ (self.now.clients + 1, Empty) ∷ writer.old.seat.me.1)
+            × L.serves (about_of self.now) result g.from }
+    {
+        let c = writer.client;
+        let backoff = Backoff::new();
+        // Until a look shows 4 the group waits behind others.
+        for _ in rt.forever() {
+            let state = self.summon::<B>(writer);
+            if state == 4 {
+                return self.take_right(writer);
+            }
+            self.bells.pause(rt, &backoff, c as u64);
+        }
+        unreachable!()
+    }
+
+    // Looks whether the group is the first of the second list: at 4 its leader has the right.
+    fn summon<B: PickedAbout<L::About>>(&self, writer: &mut Writer<Q, P, L, M>) -> u64
+        requires piped { piped_of self.now ≡ true }
+        requires about { B.about ≡ Some (about_of self.now) }
+        requires seat { (writer.old.seat.table_id ≡ self.now.table.shared.table_id) × (0 < writer.old.client)
+            × (writer.old.client ≤ self.now.clients) }
+        requires queued { (d : Debt Q P) × (mine : List (Q × P)) × (g : Squad Q P)
+            × AtWith writer.old.client (Settling d) mine (Queued g) writer.old.seat.me }
+        ensures seat { Stays writer.new writer.old }
+        ensures role { (d : Debt Q P) (mine : List (Q × P)) (g : Squad Q P)
+            → AtWith writer.old.client (Settling d) mine (Queued g) writer.old.seat.me → (result ≡ 4 → (right : M)
+            × L.serves (about_of self.now) right g.from
+            × AtWith writer.old.client (Settling d) mine (Serving g []) writer.new.seat.me
+            × (writer.new.seat.me.1 ≡ (self.now.clients + 1, Right right) ∷ writer.old.seat.me.1)) × (result ≢ 4
+            → writer.new.seat.me ≡ writer.old.seat.me) }
+    {
+        let c = writer.client;
+        self.table
+            .shared
+            .load::<Summon<B>>(&mut writer.seat, 2 * c as usize + 2)
+    }
+
+    // Takes the right out of its slot.
+    pub(crate) fn take_right(&self, writer: &mut Writer<Q, P, L, M>) -> M
+        requires seat { writer.old.seat.table_id ≡ self.now.table.shared.table_id }
+        requires held { (r : M) × (t : List (ℕ × Content Q P L M))
+            × (writer.old.seat.me.1 ≡ (self.now.clients + 1, Right r) ∷ t) }
+        ensures seat { (writer.new.seat.table_id ≡ writer.old.seat.table_id)
+            × (writer.new.client ≡ writer.old.client) × (writer.new.seat.me.0 ≡ writer.old.seat.me.0) }
+        ensures taken { (r : M) (t : List (ℕ × Content Q P L M))
+            → writer.old.seat.me.1 ≡ (self.now.clients + 1, Right r) ∷ t
+            → (writer.new.seat.me.1 ≡ (self.now.clients + 1, Empty) ∷ t) × (result ≡ r) }
+    {
+        match self.table.shared.exchange(
+            &mut writer.seat,
+            self.clients as usize + 1,
+            Content::Empty,
+        ) {
+            Content::Right(right) => right,
+            _ => unreachable!(),
+        }
+    }
+
+    // Puts the right into its slot.
+    fn put_right(&self, writer: &mut Writer<Q, P, L, M>, right: M)
+        requires seat { writer.old.seat.table_id ≡ self.now.table.shared.table_id }
+        requires held { (t : List (ℕ × Content Q P L M))
+            × (writer.old.seat.me.1 ≡ (self.now.clients + 1, Empty) ∷ t) }
+        ensures seat { (writer.new.seat.table_id ≡ writer.old.seat.table_id)
+            × (writer.new.client ≡ writer.old.client) × (writer.new.seat.me.0 ≡ writer.old.seat.me.0) }
+        ensures put { (t : List (ℕ × Content Q P L M)) → writer.old.seat.me.1 ≡ (self.now.clients + 1, Empty) ∷ t
+            → writer.new.seat.me.1 ≡ (self.now.clients + 1, Right right) ∷ t }
+    {
+        match self.table.shared.exchange(
+            &mut writer.seat,
+            self.clients as usize + 1,
+            Content::Right(right),
+        ) {
+            Content::Empty => {}
+            _ => unreachable!(),
+        }
+    }
+
+    // Gives the right back, or to the leader of the next group; the leader's own has `count` members.
+    fn pass_on(
+        &self,
+        writer: &mut Writer<Q, P, L, M>,
+        newest_member: u64,
+        count: usize,
+        walk: &mut Vec<(u64, u64)>,
+    )
+        requires piped { piped_of self.now ≡ true }
+        requires seat { (writer.old.seat.table_id ≡ self.now.table.shared.table_id) × (vec_len walk.old ≡ 0)
+            × (walk.old.items ≡ []) × (self.now.clients ≤ vec_capacity walk.old) }
+        requires ready { (d : Debt Q P) × (mine : List (Q × P)) × (g : Squad Q P) × (line : List (Entry Q))
+            × (right : M) × (t : List (ℕ × Content Q P L M))
+            × AtWith writer.old.client (Settling d) mine (Serving g line) writer.old.seat.me
+            × (writer.old.seat.me.1 ≡ (self.now.clients + 1, Right right) ∷ t)
+            × (newest_member ≡ newest (line_of g)) × L.serves (about_of self.now) right g.to
+            × (count ≡ length (line_of g)) }
+        ensures seat { (writer.new.seat.table_id ≡ writer.old.seat.table_id)
+            × (writer.new.client ≡ writer.old.client) × (walk.new.items ≡ []) × (vec_len walk.new ≡ 0)
+            × (vec_capacity walk.new ≡ vec_capacity walk.old) }
+        ensures passed { (d : Debt Q P) (mine : List (Q
+            × P)) (g : Squad Q P) (line : List (Entry Q)) (right : M) (t : List (ℕ × Content Q P L M))
+            → AtWith writer.old.client (Settling d) mine (Serving g line) writer.old.seat.me
+            → writer.old.seat.me.1 ≡ (self.now.clients + 1, Right right) ∷ t
+            → At writer.old.client (Settling d) mine writer.new.seat.me × (writer.new.seat.me.1 ≡ t) }
+    {
+        let found = self.leave_second(writer, newest_member);
+        if found == newest_member {
+            return;
+        }
+        self.survey_second(writer, found, walk);
+        let (next, code) = walk[walk.len() - count - 1];
+        walk.clear();
+        self.clear_second(writer, next, code);
+        self.call_next(writer, next);
+    }
+
+    // Gives the right back where no group came after the leader's own, whose newest member is `newest_member`; answers
+    // the newest writer of the second list.
+    fn leave_second(&self, writer: &mut Writer<Q, P, L, M>, newest_member: u64) -> u64
+        requires piped { piped_of self.now ≡ true }
+        requires seat { writer.old.seat.table_id ≡ self.now.table.shared.table_id }
+        requires serves { (d : Debt Q P) × (mine : List (Q × P)) × (g : Squad Q P) × (walk : List (Entry Q))
+            × (right : M) × (t : List (ℕ × Content Q P L M))
+            × AtWith writer.old.client (Settling d) mine (Serving g walk) writer.old.seat.me
+            × (writer.old.seat.me.1 ≡ (self.now.clients + 1, Right right) ∷ t)
+            × (newest_member ≡ newest (line_of g)) × L.serves (about_of self.now) right g.to }
+        ensures seat { Stays writer.new writer.old }
+        ensures left { (d : Debt Q P) (mine : List (Q × P)) (g : Squad Q P) (walk : List (Entry Q)) (y : ℕ
+            × Content Q P L M) (t : List (ℕ × Content Q P L M))
+            → AtWith writer.old.client (Settling d) mine (Serving g walk) writer.old.seat.me
+            → writer.old.seat.me.1 ≡ y ∷ t → (result ≡ newest_member
+            → At writer.old.client (Settling d) mine writer.new.seat.me × (writer.new.seat.me.1 ≡ t))
+            × (result ≢ newest_member
+            → WalksSecond self.now.table.shared.table_id.slots writer.old.client d mine g result writer.old.seat.me
+            writer.new.seat.me) }
+    {
+        self.table
+            .shared
+            .compare_exchange::<LeaveSecond>(&mut writer.seat, 1, newest_member, 0)
+    }
+
+    // Walks the second list, from this newest writer on: each writer's client and code.
+    fn survey_second(&self, writer: &mut Writer<Q, P, L, M>, first: u64, walk: &mut Vec<(u64, u64)>)
+        requires seat { (writer.old.seat.table_id ≡ self.now.table.shared.table_id) × (vec_len walk.old ≡ 0)
+            × (walk.old.items ≡ []) × (self.now.clients ≤ vec_capacity walk.old) }
+        requires read { HasTrace (SeesSecond writer.old.client) self.now.table.shared.table_id.slots first
+            writer.old.seat.me }
+        ensures seat { (writer.new.seat.table_id ≡ writer.old.seat.table_id)
+            × (writer.new.client ≡ writer.old.client) × (writer.new.seat.me ≡ writer.old.seat.me)
+            × (vec_capacity walk.new ≡ vec_capacity walk.old) }
+        ensures walk { (line : List (Entry Q)) → SeesSecond writer.old.client writer.old.seat.me line
+            → walk.new.items ≡ pairs line }
+        ensures codes { CodesFit walk.new.items }
+    {
+        let shared = &self.table.shared;
+        let mut at = first;
+        // The walk has the writers of the second list from the newest one on, and `at` is the next older one.
+        for step in 0..self.clients {
+            let word = shared.load::<ReadOlderSecond>(&mut writer.seat, 2 * at as usize + 3);
+            walk.push_reserved((at, word / 256));
+            at = word % 256;
+            if at == 0 {
+                return;
+            }
+        }
+        unreachable!()
+    }
+
+    // Clears the link of the next group's leader in the second list.
+    fn clear_second(&self, writer: &mut Writer<Q, P, L, M>, next: u64, code: u64)
+        requires piped { piped_of self.now ≡ true }
+        requires seat { (writer.old.seat.table_id ≡ self.now.table.shared.table_id) × (0 < next)
+            × (next ≤ self.now.clients) × (code < 2 ^ 56) }
+        requires next { (d : Debt Q P) × (mine : List (Q × P)) × (g : Squad Q P) × (walk : List (Entry Q))
+            × (pre : List (Entry Q)) × (x : Entry Q)
+            × AtWith writer.old.client (Settling d) mine (Serving g walk) writer.old.seat.me
+            × (walk ≡ pre ++ x ∷ line_of g) × (x.by ≡ next) × (x.code ≡ code) }
+        ensures seat { Stays writer.new writer.old }
+        ensures cleared { (d : Debt Q P) (mine : List (Q
+            × P)) (g : Squad Q P) (walk : List (Entry Q)) (pre : List (Entry Q)) (x : Entry Q)
+            → AtWith writer.old.client (Settling d) mine (Serving g walk) writer.old.seat.me
+            → walk ≡ pre ++ x ∷ line_of g → x.by ≡ next
+            → AtWith writer.old.client (Settling d) mine (Passing g x) writer.new.seat.me
+            × (writer.new.seat.me.1 ≡ writer.old.seat.me.1) }
+    {
+        self.table
+            .shared
+            .store::<ClearSecond>(&mut writer.seat, 2 * next as usize + 3, 256 * code);
+    }
+
+    // Gives the right to the next group's leader.
+    fn call_next(&self, writer: &mut Writer<Q, P, L, M>, next: u64)
+        requires seat { (writer.old.seat.table_id ≡ self.now.table.shared.table_id) × (0 < next)
+            × (next ≤ self.now.clients) }
+        requires passes { (st : Stage Q P) × (mine : List (Q × P)) × (g : Squad Q P) × (x : Entry Q) × (right : M)
+            × (t : List (ℕ × Content Q P L M)) × AtWith writer.old.client st mine (Passing g x) writer.old.seat.me
+            × (writer.old.seat.me.1 ≡ (self.now.clients + 1, Right right) ∷ t) × (x.by ≡ next)
+            × L.serves (about_of self.now) right g.to }
+        ensures seat { Stays writer.new writer.old }
+        ensures called { (st : Stage Q P) (mine : List (Q × P)) (g : Squad Q P) (x : Entry Q) (y : ℕ
+            × Content Q P L M) (t : List (ℕ × Content Q P L M))
+            → AtWith writer.old.client st mine (Passing g x) writer.old.seat.me → writer.old.seat.me.1 ≡ y ∷ t
+            → At writer.old.client st mine writer.new.seat.me × (writer.new.seat.me.1 ≡ t) }
+    {
+        self.table
+            .shared
+            .store::<CallNext>(&mut writer.seat, 2 * next as usize + 2, 4);
+        self.bells.ring(next);
+    }
+}

@@ -1,0 +1,32 @@
+// A client's seat, and what it is asked to do.
+ghost use Rattle.std.specs.Prelude.{◌≡◌};
+
+use atomic_table::Seat;
+use line_rule::{Content, View};
+
+/// What a writer is to do when it waits for its role the next time: to wait, to lead with the log that it has taken, to
+/// wait for its reply alone, to wait for the right, or to serve with the right that it has taken.
+#[derive(Clone, Copy)]
+pub(crate) enum Task {
+    Awaits,
+    Leads,
+    Helps,
+    Queues,
+    Serves,
+}
+
+/// A client's seat at the list.
+#[derive(Drop)]
+pub struct Writer<Q, P, L, M> {
+    pub(crate) client: u32,
+    pub(crate) task: Task,
+    pub(crate) seat: Seat<Content<Q, P, L, M>, View<Q, P>>,
+}
+
+/// What a writer is asked to do.
+pub enum Role<L, P> {
+    /// To lead a group, with the log.
+    LogLeader(L),
+    /// Nothing more: this is its reply.
+    Done(P),
+}

@@ -1,5 +1,0 @@
-use Rattle.std.proofs.Common.{◌∙◌}
-use Rattle.list_tests.proofs.tests.play_row.Goals as goal
-
-pub returns : goal.returns
-returns g c = (c.finish_all.ensures.0, c.finish_all.ensures.1 ∙ c.ask_all.ensures.1)

@@ -1,5 +1,0 @@
-use Rattle.list_tests.specs.Players.{MayWrite}
-use Rattle.list_tests.proofs.tests.playing.write_often.Given as goal
-
-abbrev pub invariant-loop-time : goal.invariant-loop-time
-invariant-loop-time g l = MayWrite l.list l.initial.player.writer.client l.player

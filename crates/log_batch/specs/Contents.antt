@@ -1,0 +1,28 @@
+-- What a batch holds, and the bytes that it is.
+use Rattle.std.specs.Prelude.{◌≡◌, ◌≤◌, ℕ, List, [], ◌∷◌, ◌++◌, length}
+use Rattle.model_base.specs.Batch.{Record, count_of, header, body, size_of_batch}
+
+-- its sequence, and the additions in order
+pub record Contents : Type 0 where
+  pub sequence : ℕ
+  pub records : List Record
+
+-- no additions, and the sequence 0
+abbrev pub empty : Contents
+empty = record { sequence = 0; records = [] }
+
+-- with one addition more, behind the others
+abbrev pub added : Contents → Record → Contents
+added contents addition = record contents { records = contents.records ++ addition ∷ [] }
+
+-- how many bytes the batch has with it
+abbrev pub size_with : Contents → Record → ℕ
+size_with contents addition = size_of_batch (added contents addition).records
+
+-- The bytes are those of a batch of this sequence and this count: of the additions `records`. No other additions have
+-- these bytes.
+pub record IsBatch (bytes : List ℕ) (sequence count : ℕ) : Type 0 where
+  pub records : List Record
+  pub count_is : count ≡ count_of records
+  pub bytes_are : bytes ≡ header sequence count ++ body records
+  pub fits : length bytes ≤ 16777216

@@ -1,0 +1,187 @@
+//! A batch of additions.
+
+ghost use Rattle.std.specs.Prelude.{◌≡◌, ◌<◌, ◌≤◌, ◌^◌, ◌-◌, length, min, IfOk, OnOk, OnErr, IsOkUnless};
+ghost use Rattle.model_base.specs.Batch as model;
+ghost use Rattle.log_batch.specs.Contents.{IsBatch, empty, added, size_with};
+ghost use Rattle.log_batch.specs.OneBatch.{IsBatch-prop};
+ghost use Rattle.log_batch.specs.View.{record_of};
+
+use crate::record_bytes::{append_record, size_with_record};
+use crate::record_view::sequences_of;
+use crate::{AddError, RecordView, Records};
+use base_bytes::Bytes;
+use model_base::NoMemory;
+use std::alloc::Global;
+use std::marker::Model;
+
+/// The most bytes that a batch has.
+pub const MAX_SIZE: u64 = 16_777_216;
+
+/// The greatest sequence, `kMaxSequenceNumber` of RocksDB's db/dbformat.h.
+pub const MAX_SEQUENCE: u64 = (1 << 56) - 1;
+
+/// How many bytes the header of a batch has: its sequence and its count.
+pub const HEADER_LEN: usize = 12;
+
+/// Where the count stands in it.
+pub const COUNT_AT: usize = 8;
+
+/// A batch of additions. Contracts see its sequence and the additions in order.
+///
+/// Its bytes are a header of twelve, which are the sequence in eight and the count in four, the lowest
+/// byte first, and then the records of the additions.
+#[derive(Debug, Drop)]
+pub struct Batch {
+    bytes: Bytes,
+    sequence: u64,
+    count: u32,
+    ghost holds: { IsBatch bytes sequence count } by { IsBatch-prop bytes sequence count },
+}
+
+impl Model for Batch {
+    ghost use Rattle.log_batch.specs.Contents.{Contents};
+
+    ghost Value = { Contents };
+
+    ghost view = { λ b. record { sequence = b.sequence; records = b.holds.records } };
+}
+
+impl Batch {
+    /// A batch of no additions, with the sequence 0.
+    pub fn new(alloc: Global) -> Result<Batch, NoMemory>
+        ensures { IfOk result (λ batch. batch ≡ empty) }
+    {
+        Ok(Batch {
+            bytes: Bytes::copy(alloc, &[0; HEADER_LEN])?,
+            sequence: 0,
+            count: 0,
+        })
+    }
+
+    /// Adds a key with its value.
+    ///
+    /// Refused before all where the batch would have more than [`MAX_SIZE`] bytes, by `TooLarge` with
+    /// the size that it would have; a length of 2^32 or more counts as a varint of five bytes. A
+    /// refused addition leaves the batch as it was.
+    pub fn put(&mut self, key: &[u8], value: &[u8]) -> Result<(), AddError>
+        ensures ok { OnOk result (self.new ≡ added self.old (model.value key.now value.now)) }
+        ensures err { OnErr result (self.new ≡ self.old) }
+        ensures too_large { let size = size_with self.old (model.value key.now value.now) in
+            MAX_SIZE < size → result ≡ Err (AddError.TooLarge (min size (2 ^ 64 - 1))) }
+        ensures fits { size_with self.old (model.value key.now value.now) ≤ MAX_SIZE
+            → IsOkUnless result AddError.NoMemory }
+    {
+        self.add(RecordView::Value { key, value })
+    }
+
+    /// Adds a deletion of a key. Refused as [`Batch::put`] is.
+    pub fn delete(&mut self, key: &[u8]) -> Result<(), AddError>
+        ensures ok { OnOk result (self.new ≡ added self.old (model.deletion key.now)) }
+        ensures err { OnErr result (self.new ≡ self.old) }
+        ensures too_large { let size = size_with self.old (model.deletion key.now) in
+            MAX_SIZE < size → result ≡ Err (AddError.TooLarge (min size (2 ^ 64 - 1))) }
+        ensures fits { size_with self.old (model.deletion key.now) ≤ MAX_SIZE → IsOkUnless result AddError.NoMemory }
+    {
+        self.add(RecordView::Deletion { key })
+    }
+
+    /// Adds a single deletion of a key. Refused as [`Batch::put`] is.
+    pub fn single_delete(&mut self, key: &[u8]) -> Result<(), AddError>
+        ensures ok { OnOk result (self.new ≡ added self.old (model.single_deletion key.now)) }
+        ensures err { OnErr result (self.new ≡ self.old) }
+        ensures too_large { let size = size_with self.old (model.single_deletion key.now) in
+            MAX_SIZE < size → result ≡ Err (AddError.TooLarge (min size (2 ^ 64 - 1))) }
+        ensures fits { size_with self.old (model.single_deletion key.now) ≤ MAX_SIZE
+            → IsOkUnless result AddError.NoMemory }
+    {
+        self.add(RecordView::SingleDeletion { key })
+    }
+
+    /// Adds log data, which isn't counted and takes no sequence. Refused as [`Batch::put`] is.
+    pub fn log_data(&mut self, blob: &[u8]) -> Result<(), AddError>
+        ensures ok { OnOk result (self.new ≡ added self.old (model.log_data blob.now)) }
+        ensures err { OnErr result (self.new ≡ self.old) }
+        ensures too_large { let size = size_with self.old (model.log_data blob.now) in
+            MAX_SIZE < size → result ≡ Err (AddError.TooLarge (min size (2 ^ 64 - 1))) }
+        ensures fits { size_with self.old (model.log_data blob.now) ≤ MAX_SIZE → IsOkUnless result AddError.NoMemory }
+    {
+        self.add(RecordView::LogData { blob })
+    }
+
+    /// Adds a record behind the others.
+    fn add(&mut self, view: RecordView<'_>) -> Result<(), AddError>
+        ensures ok { OnOk result (self.new ≡ added self.old (record_of view.entry)) }
+        ensures err { OnErr result (self.new ≡ self.old) }
+        ensures too_large { let size = size_with self.old (record_of view.entry) in
+            MAX_SIZE < size → result ≡ Err (AddError.TooLarge (min size (2 ^ 64 - 1))) }
+        ensures fits { size_with self.old (record_of view.entry) ≤ MAX_SIZE → IsOkUnless result AddError.NoMemory }
+    {
+        let size = size_with_record(self.size(), view);
+        if size > MAX_SIZE {
+            return Err(AddError::TooLarge { size });
+        }
+        let len = self.bytes.len();
+        if append_record(&mut self.bytes, view).is_err() {
+            self.bytes.truncate(len);
+            return Err(AddError::NoMemory);
+        }
+        self.count += sequences_of(view);
+        self.bytes.overwrite(COUNT_AT, &self.count.to_le_bytes());
+        Ok(())
+    }
+
+    /// Takes out all additions, and sets the sequence to 0.
+    pub fn clear(&mut self)
+        ensures { self.new ≡ empty }
+    {
+        self.bytes.truncate(HEADER_LEN);
+        self.bytes.overwrite(0, &[0; HEADER_LEN]);
+        self.sequence = 0;
+        self.count = 0;
+    }
+
+    /// The sequence of the first addition that counts.
+    pub fn sequence(&self) -> u64
+        ensures { result ≡ self.now.sequence }
+    {
+        self.sequence
+    }
+
+    /// Gives it another sequence, and changes nothing else.
+    pub fn set_sequence(&mut self, sequence: u64)
+        ensures { self.new ≡ record self.old { sequence = sequence } }
+    {
+        self.sequence = sequence;
+        self.bytes.overwrite(0, &sequence.to_le_bytes());
+    }
+
+    /// How many additions count. Each of those takes a sequence.
+    pub fn count(&self) -> u32
+        ensures { result ≡ model.count_of self.now.records }
+    {
+        self.count
+    }
+
+    /// How many bytes it has.
+    pub fn size(&self) -> u64
+        ensures value { result ≡ model.size_of_batch self.now.records }
+        ensures limit { result ≤ MAX_SIZE }
+    {
+        self.bytes.len() as u64
+    }
+
+    /// Its bytes.
+    pub fn bytes(&self) -> &[u8]
+        ensures { result.now ≡ model.batch self.now.sequence self.now.records }
+    {
+        self.bytes.as_slice()
+    }
+
+    /// The additions in order, as parts of its bytes.
+    pub fn records(&self) -> Records<'_>
+        ensures value { result ≡ self.now.records }
+        ensures bound { length result < 2 ^ 64 }
+    {
+        Records::of_body(&self.bytes.as_slice()[HEADER_LEN..])
+    }
+}

@@ -1,0 +1,103 @@
+//! The records of a batch, in order.
+
+ghost use Rattle.std.specs.Prelude.{◌≡◌, ◌<◌, ◌^◌, ℕ, List, ◌++◌, length, IfOk, IfErr};
+ghost use Rattle.std.specs.List.{AllByRecursion};
+ghost use Rattle.model_base.specs.Batch as model;
+ghost use Rattle.log_batch.specs.Body.{IsBody};
+ghost use Rattle.log_batch.specs.OneBody.{IsBody-prop};
+
+use crate::RecordView;
+use crate::record_view::sequences_of;
+use crate::split::split_record;
+use model_base::BatchError;
+use std::marker::Model;
+
+/// The records that bytes behind a header are, from the first on. Contracts see those that are left.
+///
+/// Each is taken apart anew, and none is copied.
+#[derive(Debug, Drop)]
+pub struct Records<'a> {
+    rest: &'a [u8],
+    ghost holds: { IsBody rest.now } by { IsBody-prop rest.now },
+}
+
+impl<'a> Model for Records<'a> {
+    ghost use Rattle.std.specs.Prelude.{List};
+    ghost use Rattle.model_base.specs.Batch.{Record};
+
+    ghost Value = { List Record };
+
+    ghost view = { λ r. r.holds.records };
+}
+
+impl<'a> Iterator for Records<'a> {
+    type Item = RecordView<'a>;
+
+    ghost use Rattle.std.specs.Iterator.{YieldsFirstBy, item_count};
+    ghost use Rattle.log_batch.specs.View.{record_of};
+
+    ghost next_gives = { YieldsFirstBy record_of (λ left. left) };
+
+    ghost remaining = { item_count (λ left. left) };
+
+    fn next(&mut self) -> Option<RecordView<'a>> {
+        if self.rest.is_empty() {
+            return None;
+        }
+        match split_record(self.rest) {
+            Ok((record, rest)) => {
+                self.rest = rest;
+                Some(record)
+            }
+            Err(_) => unreachable!(),
+        }
+    }
+}
+
+impl<'a> Records<'a> {
+    /// Those that bytes are.
+    pub(crate) fn of_body(bytes: &'a [u8]) -> Records<'a>
+        requires { IsBody bytes.now }
+        ensures spelled { bytes.now ≡ model.body result }
+        ensures readable { AllByRecursion model.IsReadable result }
+        ensures bound { length result < 2 ^ 64 }
+    {
+        Records { rest: bytes }
+    }
+
+    /// The same records from the same place on.
+    pub(crate) fn again(&self) -> Records<'a>
+        ensures same { result ≡ self.now }
+        ensures bound { length result < 2 ^ 64 }
+    {
+        Records { rest: self.rest }
+    }
+}
+
+/// The records that bytes are, and how many of them count.
+pub fn records_of(bytes: &[u8]) -> Result<(Records<'_>, u64), BatchError>
+    ensures spelled { IfOk result (λ p. bytes.now ≡ model.body p.0) }
+    ensures readable { IfOk result (λ p. AllByRecursion model.IsReadable p.0) }
+    ensures counted { IfOk result (λ p. p.1 ≡ model.count_of p.0) }
+    ensures err { IfErr result (λ e. (records : List model.Record) × (rest : List ℕ)
+        × AllByRecursion model.IsReadable records × (bytes.now ≡ model.body records ++ rest) × model.NoRecord rest e) }
+{
+    let found = count_records(bytes)?;
+    Ok((Records { rest: bytes }, found))
+}
+
+/// How many of the records that bytes are count.
+fn count_records(bytes: &[u8]) -> Result<u64, BatchError>
+    ensures ok { IfOk result (λ found. (body : IsBody bytes.now) × (found ≡ model.count_of body.records)) }
+    ensures err { IfErr result (λ e. (records : List model.Record) × (rest : List ℕ)
+        × AllByRecursion model.IsReadable records × (bytes.now ≡ model.body records ++ rest) × model.NoRecord rest e) }
+{
+    let mut rest = bytes;
+    let mut found = 0;
+    while !rest.is_empty() {
+        let (record, behind) = split_record(rest)?;
+        found += u64::from(sequences_of(record));
+        rest = behind;
+    }
+    Ok(found)
+}

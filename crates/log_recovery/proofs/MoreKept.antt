@@ -1,0 +1,178 @@
+-- What is kept of a file: one record more, and no more than may be kept.
+use Rattle.std.proofs.Common.{Option, None, ◌≡◌, ⊎_elim, ℕ, ◌+◌, ◌-◌, ◌<◌, ◌≤◌, List, [], ◌∷◌, ◌++◌, length, take, drop, map, refl, sym, ◌∙◌, ap, subst, arith, cond, ◌==◌, length-append, length-take, length-drop, append_assoc, zero-add}
+use Rattle.std.proofs.Math.Seq.{take-append_seam, take-add}
+use Rattle.std.proofs.lemmas.Grind.{flat_map-append}
+use Rattle.std.proofs.lemmas.List.{take-append-drop, append-nil, map-append, append_cancel_left}
+use Rattle.std.proofs.lemmas.Nat.{from_le_bytes-to_le_bytes_4, from_le_bytes-to_le_bytes_8}
+use Rattle.std.specs.Int.{w32, w64, from_le_bytes}
+use Rattle.std.specs.List.{AllByRecursion}
+use Rattle.model_base.specs.Batch.{Record, count_of, IsBatch}
+use Rattle.model_base.specs.Log.{Fragment, placed, FitFrom, AreOneRecord, kinds_of, record_of, all_fragments}
+use Rattle.model_base.specs.Reading.{end_of, Stand}
+use Rattle.model_base.specs.Recovery.{Logged, logged_bytes, last_after, MayFollow, AreInOrder, last_sequence, Keeps}
+use Rattle.log_recovery.specs.Keeping.{MayBeKept}
+use Rattle.log_laws.proofs.Placed.{behind, end_none, end_more, placed_append}
+use Rattle.log_recovery.proofs.Standing.{stand_front, stand_back, one_front, one_record}
+
+abbrev pub Whole : List (List Fragment) → Type 0
+Whole groups = AllByRecursion (λ fs. AreOneRecord (kinds_of fs)) groups
+
+AreBatches : List Logged → Type 0
+AreBatches bs = AllByRecursion (λ b. IsBatch (logged_bytes b) b.first b.records) bs
+
+-- one more for which it holds
+all_more : {A : Type 0} (P : A → Type 0) (xs : List A) (x : A) → AllByRecursion P xs → P x → AllByRecursion P (xs ++ x ∷ [])
+all_more P [] x all one = (one, tt)
+all_more P (y ∷ ys) x all one = (all.0, all_more P ys x all.1 one)
+
+in_order_more : (last : ℕ) (bs : List Logged) (b : Logged) → AreInOrder last bs → MayFollow (last_sequence last bs) b → AreInOrder last (bs ++ b ∷ [])
+in_order_more last [] b ordered may = (may, tt)
+in_order_more last (c ∷ cs) b ordered may = (ordered.0, in_order_more (last_after last c) cs b ordered.1 may)
+
+fit_joined : (number : Option ℕ) (offset : ℕ) (xs ys : List Fragment) → FitFrom number offset xs → FitFrom number (end_of number offset xs) ys → FitFrom number offset (xs ++ ys)
+fit_joined number offset [] ys fit_x fit_y = subst (λ n. FitFrom number n ys) (end_none number offset) fit_y
+fit_joined number offset (x ∷ xs) ys fit_x fit_y = (fit_x.0, fit_joined number (behind number offset x) xs ys fit_x.1 (subst (λ n. FitFrom number n ys) (end_more number offset x xs) fit_y))
+
+-- Nothing is kept at first.
+pub keeps_none : (file : List ℕ) → Keeps None file 0 []
+keeps_none file = record { within = omega arith; spelled = record { groups = []; whole = tt; same = refl; fit = tt; spelled = refl }; are_batches = tt; in_order = tt }
+
+-- the fragments in front of the offset up to which records are kept
+module _ (number : Option ℕ) (file : List ℕ) (kept : ℕ) (bs : List Logged) (keeps : Keeps number file kept bs) where
+  pub fragments : List Fragment
+  fragments = all_fragments keeps.spelled.groups
+
+  pub end_is : end_of number 0 fragments ≡ kept
+  unfolding fragments
+  end_is = zero-add (length (placed number 0 fragments)) ∙ sym (ap length keeps.spelled.spelled) ∙ omega (arith, length-take kept file, keeps.within)
+
+  pub all_stand : Stand number file 0 fragments
+  unfolding fragments
+  all_stand = record {
+    rest = drop kept file;
+    there = sym (take-append-drop kept file) ∙ ap (λ (l : List ℕ). l ++ drop kept file) keeps.spelled.spelled;
+    fit = keeps.spelled.fit;
+  }
+
+-- A batch that comes next and may follow is kept too.
+pub keeps_more : (number : Option ℕ) (file : List ℕ) (kept : ℕ) (bs : List Logged) (b : Logged) (fs : List Fragment) → Keeps number file kept bs → AreOneRecord (kinds_of fs) → Stand number file kept fs
+    → record_of fs ≡ logged_bytes b → IsBatch (logged_bytes b) b.first b.records → MayFollow (last_sequence 0 bs) b → Keeps number file (end_of number kept fs) (bs ++ b ∷ [])
+unfolding fragments
+keeps_more number file kept bs b fs keeps one stands bytes is may =
+    let groups = keeps.spelled.groups in
+    let flat : List Fragment = all_fragments groups in
+    let piece : List ℕ = placed number kept fs in
+    let end : end_of number 0 flat ≡ kept = end_is number file kept bs keeps in
+    let joined : all_fragments (groups ++ fs ∷ []) ≡ flat ++ fs = flat_map-append (λ (l : List Fragment). l) groups (fs ∷ []) ∙ ap (λ (l : List Fragment). flat ++ l) (append-nil fs) in
+    let taken : take (kept + length piece) file ≡ take kept file ++ piece =
+    take-add kept (length piece) file ∙ ap (λ (l : List ℕ). take kept file ++ take (length piece) l) stands.there ∙ ap (λ (l : List ℕ). take kept file ++ l) (take-append_seam piece stands.rest) in
+    let laid : placed number 0 (flat ++ fs) ≡ placed number 0 flat ++ piece = placed_append number 0 flat fs ∙ ap (λ (n : ℕ). placed number 0 flat ++ placed number n fs) end in
+    record {
+      within = omega (arith, keeps.within, length-drop kept file, ap length stands.there, length-append piece stands.rest);
+      spelled = record {
+        groups = groups ++ fs ∷ [];
+        whole = all_more (λ l. AreOneRecord (kinds_of l)) groups fs keeps.spelled.whole one;
+        same = map-append logged_bytes bs (b ∷ []) ∙ ap (λ (l : List (List ℕ)). l ++ logged_bytes b ∷ []) keeps.spelled.same ∙ ap (λ (l : List ℕ). map record_of groups ++ l ∷ []) (sym bytes) ∙ sym (map-append record_of groups (fs ∷ []));
+        fit = subst (FitFrom number 0) (sym joined) (fit_joined number 0 flat fs keeps.spelled.fit (subst (λ n. FitFrom number n fs) (sym end) stands.fit));
+        spelled = taken ∙ ap (λ (l : List ℕ). l ++ piece) keeps.spelled.spelled ∙ sym laid ∙ ap (placed number 0) (sym joined);
+      };
+      are_batches = all_more (λ c. IsBatch (logged_bytes c) c.first c.records) bs b keeps.are_batches is;
+      in_order = in_order_more 0 bs b keeps.in_order may;
+    }
+
+-- a batch's bytes tell its sequence and its count
+pub one_header : (bytes : List ℕ) (first other : ℕ) (records others : List Record) → IsBatch bytes first records → IsBatch bytes other others → (first ≡ other) × (count_of records ≡ count_of others)
+one_header bytes first other records others a b = (
+  sym (sequence_read first records a) ∙ sequence_read other others b,
+  sym (count_read first records a) ∙ count_read other others b,
+)
+  where
+    sequence_read : (s : ℕ) (rs : List Record) → IsBatch bytes s rs → from_le_bytes w64 (take 8 bytes) ≡ s
+    sequence_read s rs is = ap (λ (l : List ℕ). from_le_bytes w64 (take 8 l)) is.spelled ∙ from_le_bytes-to_le_bytes_8 s is.sequence_fits
+
+    count_read : (s : ℕ) (rs : List Record) → IsBatch bytes s rs → from_le_bytes w32 (take 4 (drop 8 bytes)) ≡ count_of rs
+    count_read s rs is = ap (λ (l : List ℕ). from_le_bytes w32 (take 4 (drop 8 l))) is.spelled ∙ from_le_bytes-to_le_bytes_4 (count_of rs) is.count_fits
+
+-- the last sequence, by the header alone
+after : ℕ → ℕ → ℕ → ℕ
+after last first count = cond (count == 0) last (first + count - 1)
+
+same_after : (last : ℕ) (b c : Logged) → IsBatch (logged_bytes b) b.first b.records → IsBatch (logged_bytes c) c.first c.records → logged_bytes b ≡ logged_bytes c → last_after last b ≡ last_after last c
+unfolding after
+same_after last b c is_b is_c same =
+    let one = one_header (logged_bytes b) b.first c.first b.records c.records is_b (subst (λ bytes. IsBatch bytes c.first c.records) (sym same) is_c) in
+    ap (λ (f : ℕ). after last f (count_of b.records)) one.0 ∙ ap (λ (n : ℕ). after last c.first n) one.1
+
+-- behind a front of batches in order the next one may follow it
+next_may : (last last' : ℕ) (bs cs : List Logged) (bytes : List ℕ) (more : List (List ℕ)) → last' ≡ last → map logged_bytes cs ≡ map logged_bytes bs ++ bytes ∷ more
+    → AreBatches bs → AreBatches cs → AreInOrder last' cs → MayBeKept (last_sequence last bs) bytes
+unfolding AreBatches
+next_may last last' bs [] bytes more same e is_b is_c ordered = absurd (no_more bs e)
+  where
+    no_more : (bs : List Logged) → [] ≡ map logged_bytes bs ++ bytes ∷ more → ⊥
+    no_more [] e = cc
+    no_more (b ∷ bs) e = cc
+next_may last last' [] (c ∷ cs) bytes more same e is_b is_c ordered =
+    let head : logged_bytes c ≡ bytes = cc in
+    record { batch = c; same = head; is = is_c.0; may = subst (λ n. MayFollow n c) same ordered.0 }
+next_may last last' (b ∷ bs) (c ∷ cs) bytes more same e is_b is_c ordered =
+    let head : logged_bytes c ≡ logged_bytes b = cc in
+    let tail : map logged_bytes cs ≡ map logged_bytes bs ++ bytes ∷ more = cc in
+    next_may (last_after last b) (last_after last' c) bs cs bytes more (ap (λ (n : ℕ). last_after n c) same ∙ same_after last c b is_c.0 is_b.0 head) tail is_b.1 is_c.1 ordered.1
+
+-- Of the fragments of records, a front of whole records is some of the records.
+pub groups_front : (number : Option ℕ) (file : List ℕ) (offset : ℕ) (gs hs : List (List Fragment)) (rest : List Fragment) → Whole gs → Whole hs → Stand number file offset (all_fragments hs) → all_fragments hs ≡ all_fragments gs ++ rest
+    → (more : List (List Fragment)) × (hs ≡ gs ++ more)
+groups_front number file offset [] hs rest whole_g whole_h stands e = (hs, refl)
+groups_front number file offset ([] ∷ gs) [] rest whole_g whole_h stands e = absurd whole_g.0
+groups_front number file offset ((f ∷ g) ∷ gs) [] rest whole_g whole_h stands e = absurd (cc)
+groups_front number file offset (g ∷ gs) (h ∷ hs) rest whole_g whole_h stands e =
+    let joined : h ++ all_fragments hs ≡ g ++ (all_fragments gs ++ rest) = e ∙ append_assoc g (all_fragments gs) rest in
+    let stands_h = stand_front number file offset h (all_fragments hs) stands in
+    let stands_g = stand_front number file offset g (all_fragments gs ++ rest) (subst (Stand number file offset) joined stands) in
+    let same : h ≡ g = one_record number file offset h g whole_h.0 whole_g.0 stands_h stands_g in
+    let later : all_fragments hs ≡ all_fragments gs ++ rest = append_cancel_left g (all_fragments hs) (all_fragments gs ++ rest) (ap (λ (l : List Fragment). l ++ all_fragments hs) (sym same) ∙ joined) in
+    let more = groups_front number file (end_of number offset h) gs hs rest whole_g.1 whole_h.1 (stand_back number file offset h (all_fragments hs) stands) later in
+    (more.0, ap (λ (l : List Fragment). l ∷ hs) same ∙ ap (λ (l : List (List Fragment)). g ∷ l) more.1)
+
+-- what would be kept behind the kept records: a record that stands there, and is a batch that may follow
+pub record KeptNext (number : Option ℕ) (file : List ℕ) (kept last : ℕ) : Type 0 where
+  pub fs : List Fragment
+  pub one : AreOneRecord (kinds_of fs)
+  pub stands : Stand number file kept fs
+  pub may : MayBeKept last (record_of fs)
+
+no_shorter : (number : Option ℕ) (xs ys rest : List Fragment) → xs ≡ ys ++ rest → end_of number 0 ys ≤ end_of number 0 xs
+no_shorter number xs ys rest e =
+    omega (arith, ap length (ap (placed number 0) e ∙ placed_append number 0 ys rest), length-append (placed number 0 ys) (placed number (end_of number 0 ys) rest))
+
+-- Where more is kept, such a record stands there.
+pub more_kept : (number : Option ℕ) (file : List ℕ) (kept kept' : ℕ) (bs cs : List Logged) → Keeps number file kept bs → Keeps number file kept' cs → kept < kept' → KeptNext number file kept (last_sequence 0 bs)
+unfolding AreBatches fragments
+more_kept number file kept kept' bs cs a b less =
+    ⊎_elim
+    (λ h. absurd (omega (arith, no_shorter number _ _ h.0 h.1, end_is number file kept bs a, end_is number file kept' cs b, less)))
+    (λ h. let more = groups_front number file 0 a.spelled.groups b.spelled.groups h.0 a.spelled.whole b.spelled.whole (all_stand number file kept' cs b) h.1 in by_more more.0 more.1)
+    (one_front number file 0 (fragments number file kept bs a) (fragments number file kept' cs b) (all_stand number file kept bs a) (all_stand number file kept' cs b))
+  where
+    by_more : (more : List (List Fragment)) → b.spelled.groups ≡ a.spelled.groups ++ more → KeptNext number file kept (last_sequence 0 bs)
+    by_more [] e =
+        let same : b.spelled.groups ≡ a.spelled.groups = e ∙ append-nil a.spelled.groups in
+        absurd (omega (arith, ap (λ (gs : List (List Fragment)). end_of number 0 (all_fragments gs)) same, end_is number file kept bs a, end_is number file kept' cs b, less))
+    by_more (g ∷ more) e =
+        let front : List Fragment = all_fragments a.spelled.groups in
+        let flat : all_fragments b.spelled.groups ≡ front ++ (g ++ all_fragments more) = ap all_fragments e ∙ flat_map-append (λ (l : List Fragment). l) a.spelled.groups (g ∷ more) in
+        let behind_kept : Stand number file kept (g ++ all_fragments more) =
+        subst (λ n. Stand number file n (g ++ all_fragments more)) (end_is number file kept bs a) (stand_back number file 0 front (g ++ all_fragments more) (subst (Stand number file 0) flat (all_stand number file kept' cs b))) in
+        let names : map logged_bytes cs ≡ map logged_bytes bs ++ record_of g ∷ map record_of more =
+        b.spelled.same ∙ ap (map record_of) e ∙ map-append record_of a.spelled.groups (g ∷ more) ∙ ap (λ (l : List (List ℕ)). l ++ record_of g ∷ map record_of more) (sym a.spelled.same) in
+        record {
+          fs = g;
+          one = whole_at a.spelled.groups (subst Whole e b.spelled.whole);
+          stands = stand_front number file kept g (all_fragments more) behind_kept;
+          may = next_may 0 0 bs cs (record_of g) (map record_of more) refl names a.are_batches b.are_batches b.in_order;
+        }
+      where
+        whole_at : (gs : List (List Fragment)) → Whole (gs ++ g ∷ more) → AreOneRecord (kinds_of g)
+        whole_at [] whole = whole.0
+        whole_at (h ∷ gs) whole = whole_at gs whole.1

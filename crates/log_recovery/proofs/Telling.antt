@@ -1,0 +1,74 @@
+-- What the steps of recovery come to where the disk tells its content.
+use Rattle.std.proofs.Common.{◌≡◌, ℕ, List, Option, Some, None, MatchOption, IfSome, sym, subst}
+use Rattle.base_devices.specs.Disk.{Disk}
+use Rattle.model_base.specs.declared.log.EndReason.{EndReason}
+use Rattle.model_base.specs.Reading.{ReadingEnds}
+use Rattle.log_reader.specs.declared.reader.Next.{Next}
+use Rattle.log_reader.specs.declared.reader.Next.TheVariants as next
+use Rattle.log_reader.specs.Reader.{Reader, Follows}
+use Rattle.log_reader.specs.Records.{Reads}
+use Rattle.log_recovery.specs.declared.kept.Kept.{Kept}
+use Rattle.log_recovery.specs.declared.recovery.Recovered.{Recovered}
+use Rattle.log_recovery.specs.Keeping.{KeepsFront, Adds, Refuses}
+use Rattle.log_recovery.specs.Recovering.{HasRecovered}
+use Rattle.log_recovery.proofs.Recovers.{keeps_read, refuses_read, ends_reading}
+
+if_both : (told : Option Disk) (P Q R : Disk → Type 0) → IfSome told P → IfSome told Q → ((d : Disk) → P d → Q d → R d) → IfSome told R
+if_both None P Q R p q f = tt
+if_both (Some d) P Q R p q f = f d p q
+
+pub if_all : (told : Option Disk) (P : Disk → Type 0) → ((d : Disk) → P d) → IfSome told P
+if_all None P f = tt
+if_all (Some d) P f = f d
+
+-- the reader's answer is so
+pub reads : (before told : Option Disk) (log : Reader) (in_hand : List ℕ) (answer : Next) → before ≡ told → log.stopped ≡ None → IfSome told (λ d. Follows d.content log)
+    → IfSome before (λ d. Follows d.content log → log.stopped ≡ None → Reads d.content log.place in_hand answer) → IfSome told (λ d. Reads d.content log.place in_hand answer)
+reads before told log in_hand answer same going follows says =
+    let now : IfSome told (λ d. Follows d.content log → log.stopped ≡ None → Reads d.content log.place in_hand answer) =
+    subst (λ (t : Option Disk). IfSome t (λ d. Follows d.content log → log.stopped ≡ None → Reads d.content log.place in_hand answer)) same says in
+    if_both told (λ d. Follows d.content log) (λ d. Follows d.content log → log.stopped ≡ None → Reads d.content log.place in_hand answer) (λ d. Reads d.content log.place in_hand answer) follows now (λ d f s. s f going)
+
+-- and it follows the file
+pub follows_on : (before told : Option Disk) (log new : Reader) → before ≡ told → IfSome told (λ d. Follows d.content log) → IfSome before (λ d. Follows d.content log → Follows d.content new) → IfSome told (λ d. Follows d.content new)
+follows_on before told log new same follows says =
+    let now : IfSome told (λ d. Follows d.content log → Follows d.content new) = subst (λ (t : Option Disk). IfSome t (λ d. Follows d.content log → Follows d.content new)) same says in
+    if_both told (λ d. Follows d.content log) (λ d. Follows d.content log → Follows d.content new) (λ d. Follows d.content new) follows now (λ d f s. s f)
+
+-- what keeping a record came to
+abbrev pub KeptOrNot : Kept → Kept → List ℕ → ℕ → Option EndReason → Type 0
+KeptOrNot old new bytes end r = MatchOption r (Adds old new bytes end) (λ why. (new ≡ old) × Refuses old.last bytes why)
+
+pub kept_adds : (old new : Kept) (bytes : List ℕ) (end : ℕ) (r : Option EndReason) → KeptOrNot old new bytes end r → r ≡ None → Adds old new bytes end
+kept_adds old new bytes end None m e = m
+kept_adds old new bytes end (Some why) m e = absurd (cc)
+
+pub kept_refuses : (old new : Kept) (bytes : List ℕ) (end : ℕ) (r : Option EndReason) (why : EndReason) → KeptOrNot old new bytes end r → r ≡ Some why → (new ≡ old) × Refuses old.last bytes why
+kept_refuses old new bytes end None why m e = absurd (cc)
+kept_refuses old new bytes end (Some w) why m e = let same : w ≡ why = cc in (m.0, subst (Refuses old.last bytes) same m.1)
+
+-- one record more is kept
+pub front_more : (told : Option Disk) (old new : Kept) (place start end : ℕ) (in_hand bytes : List ℕ) → old.end ≡ place → bytes ≡ in_hand → Adds old new bytes end
+    → IfSome told (λ d. KeepsFront d.content old) → IfSome told (λ d. Reads d.content place in_hand (next.Record start end)) → IfSome told (λ d. KeepsFront d.content new)
+front_more told old new place start end in_hand bytes there bytes_are adds front says =
+    if_both told (λ d. KeepsFront d.content old) (λ d. Reads d.content place in_hand (next.Record start end)) (λ d. KeepsFront d.content new) front says
+    (λ d f r. keeps_read d.content old new place start end in_hand bytes there bytes_are f r adds)
+
+-- what is shown of what is kept, with this end
+abbrev pub answer : Kept → ℕ → EndReason → Recovered
+answer kept at why = record { groups = kept.groups; map = kept.map; last = kept.last; kept = kept.end; end = record { at = at; why = why } }
+
+-- a record that isn't kept ends recovery
+pub refused : (told : Option Disk) (old new : Kept) (place start end : ℕ) (in_hand bytes : List ℕ) (why : EndReason) → old.end ≡ place → bytes ≡ in_hand → (new ≡ old) × Refuses old.last bytes why
+    → IfSome told (λ d. KeepsFront d.content old) → IfSome told (λ d. Reads d.content place in_hand (next.Record start end)) → IfSome told (λ d. HasRecovered d.content (answer new start why))
+refused told old new place start end in_hand bytes why there bytes_are refuses front says =
+    subst (λ (k : Kept). IfSome told (λ d. HasRecovered d.content (answer k start why))) (sym refuses.0)
+    (if_both told (λ d. KeepsFront d.content old) (λ d. Reads d.content place in_hand (next.Record start end)) (λ d. HasRecovered d.content (answer old start why)) front says
+    (λ d f r. refuses_read d.content old place start end in_hand bytes why there bytes_are f r refuses.1))
+
+-- so does what doesn't read
+pub ended : (told : Option Disk) (kept : Kept) (place at : ℕ) (in_hand : List ℕ) (why : EndReason) → kept.end ≡ place
+    → IfSome told (λ d. KeepsFront d.content kept) → IfSome told (λ d. Reads d.content place in_hand (next.End at why)) → IfSome told (λ d. HasRecovered d.content (answer kept at why))
+ended told kept place at in_hand why there front says =
+    if_both told (λ d. KeepsFront d.content kept) (λ d. Reads d.content place in_hand (next.End at why)) (λ d. HasRecovered d.content (answer kept at why)) front says
+    (λ d f r. ends_reading d.content kept (record { at = at; why = why }) f (subst (λ n. ReadingEnds None d.content n at why) (sym there) r))

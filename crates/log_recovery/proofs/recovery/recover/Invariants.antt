@@ -1,0 +1,19 @@
+use Rattle.std.proofs.Common.{◌≡◌, ◌-◌, ◌^◌, None, IfSome}
+use Rattle.log_reader.specs.OnlyReads.{OnlyReads}
+use Rattle.log_reader.specs.Reader.{Follows}
+use Rattle.log_recovery.specs.Keeping.{KeepsFront}
+use Rattle.log_recovery.proofs.recovery.recover.Given as goal
+
+-- the records in front of the place where the reader stands are kept
+abbrev pub invariant-loop-start : goal.invariant-loop-start
+invariant-loop-start g l = record {
+  place : l.kept.end ≡ l.log.place;
+  going : l.log.stopped ≡ None;
+  follows : IfSome (g.D.Disk.told l.fn.disk) (λ d. Follows d.content l.log);
+  front : IfSome (g.D.Disk.told l.fn.disk) (λ d. KeepsFront d.content l.kept);
+  worked : g.D.Disk.faults l.disk ≡ g.D.Disk.faults l.fn.disk;
+  disk : OnlyReads g.D.Disk l.fn.disk l.disk;
+}
+
+abbrev pub decreases-loop-start : goal.decreases-loop-start
+decreases-loop-start g l = 2 ^ 63 - l.log.place

@@ -1,0 +1,64 @@
+-- What keeping a record of a log comes to.
+use Rattle.std.specs.Prelude.{◌≡◌, ◌≢◌, ℕ, ◌+◌, ◌-◌, ◌<◌, ◌≤◌, List, [], ◌∷◌, ◌++◌, length, map, fold, None}
+use Rattle.model_base.specs.declared.log.EndReason.{EndReason}
+use Rattle.model_base.specs.declared.log.EndReason.TheVariants as ends
+use Rattle.model_base.specs.Batch.{count_of, IsBatch}
+use Rattle.model_base.specs.History.{max_sequence}
+use Rattle.model_base.specs.Map.{after_records}
+use Rattle.model_base.specs.Recovery.{Logged, logged_bytes, last_after, last_sequence, MayFollow, Keeps, RecordEnds}
+use Rattle.log_recovery.specs.declared.kept.GroupNote.{GroupNote}
+use Rattle.log_recovery.specs.declared.kept.Kept.{Kept}
+
+-- the note of a batch
+abbrev pub note_of : Logged → GroupNote
+note_of b = record { first = b.first; count = count_of b.records; size = length (logged_bytes b) }
+
+-- what the batches come to that are kept: their notes, their map and the last sequence
+pub record Shows (kept : Kept) (batches : List Logged) : Type 0 where
+  pub groups : kept.groups.items ≡ map note_of batches
+  pub map_is : kept.map ≡ fold (λ m b. after_records m b.records) [] batches
+  pub last : kept.last ≡ last_sequence 0 batches
+
+-- the file's records up to an offset are kept
+pub record KeepsFront (file : List ℕ) (kept : Kept) : Type 0 where
+  pub batches : List Logged
+  pub shows : Shows kept batches
+  pub keeps : Keeps None file kept.end batches
+
+-- the batch with these bytes may follow the last sequence
+pub record MayBeKept (last : ℕ) (bytes : List ℕ) : Type 0 where
+  pub batch : Logged
+  pub same : logged_bytes batch ≡ bytes
+  pub is : IsBatch (logged_bytes batch) batch.first batch.records
+  pub may : MayFollow last batch
+
+-- a record's batch is kept after the others, up to this offset
+pub record Adds (old new : Kept) (bytes : List ℕ) (end : ℕ) : Type 0 where
+  pub kept : MayBeKept old.last bytes
+  pub groups : new.groups.items ≡ old.groups.items ++ note_of kept.batch ∷ []
+  pub map : new.map ≡ after_records old.map kept.batch.records
+  pub last : new.last ≡ last_after old.last kept.batch
+  pub end_is : new.end ≡ end
+
+-- a record that can't be kept, and why
+pub record Refuses (last : ℕ) (bytes : List ℕ) (why : EndReason) : Type 0 where
+  pub ends : RecordEnds last bytes why
+  pub not_kept : MayBeKept last bytes → ⊥
+
+-- a run of so many sequences may follow the last one, and passes no greatest one
+abbrev pub MayRun : ℕ → ℕ → ℕ → Type 0
+MayRun last first count = count ≢ 0 → (last < first) × (first + count - 1 ≤ max_sequence)
+
+-- why it may not
+abbrev pub IsRunEnd : ℕ → ℕ → ℕ → EndReason → Type 0
+IsRunEnd last first count (ends.Order f l) = (f ≡ first) × (l ≡ last) × (count ≢ 0) × (first ≤ last)
+IsRunEnd last first count (ends.High f n) = (f ≡ first) × (n ≡ count) × (count ≢ 0) × (last < first)
+    × (max_sequence < first + count - 1)
+IsRunEnd last first count ends.Clean = ⊥
+IsRunEnd last first count (ends.Broken d) = ⊥
+IsRunEnd last first count ends.BadOrder = ⊥
+IsRunEnd last first count ends.Unfinished = ⊥
+IsRunEnd last first count ends.Short = ⊥
+IsRunEnd last first count ends.BadVarint = ⊥
+IsRunEnd last first count (ends.Tag t) = ⊥
+IsRunEnd last first count (ends.Count said found) = ⊥

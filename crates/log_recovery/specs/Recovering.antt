@@ -1,0 +1,29 @@
+-- What recovering a log comes to.
+use Rattle.std.specs.Prelude.{◌≡◌, ℕ, ◌≤◌, List, map, None}
+use Rattle.base_devices.specs.Faults.{Rose}
+use Rattle.model_base.specs.Recovery as recovery
+use Rattle.log_recovery.specs.declared.recovery.Recovered.{Recovered}
+use Rattle.log_recovery.specs.declared.recovery.RecoverError.{RecoverError}
+use Rattle.log_recovery.specs.declared.recovery.RecoverError.TheVariants.{Fault, NoMemory}
+use Rattle.log_recovery.specs.Keeping.{note_of}
+
+-- what a caller sees of what is recovered: a note of each group, the map, the last sequence, what is kept, and why no
+-- more
+pub record ShowsRecovered (shown : Recovered) (r : recovery.Recovered) : Type 0 where
+  pub groups : shown.groups.items ≡ map note_of r.batches
+  pub map_is : shown.map ≡ recovery.recovered_map r
+  pub last : shown.last ≡ recovery.recovered_last r
+  pub kept : shown.kept ≡ r.kept
+  pub at : shown.end.at ≡ r.at
+  pub why : shown.end.why ≡ r.why
+
+-- the file recovers just that
+pub record HasRecovered (file : List ℕ) (shown : Recovered) : Type 0 where
+  pub recovered : recovery.Recovered
+  pub is : recovery.IsRecovered None file recovered
+  pub shows : ShowsRecovered shown recovered
+
+-- why a log was not recovered: the disk's count rose in the call, or there was no memory and no fault
+abbrev pub IsRecoverError : ℕ → ℕ → RecoverError → Type 0
+IsRecoverError before now (Fault count) = Rose before count × (count ≤ now)
+IsRecoverError before now NoMemory = now ≡ before

@@ -1,0 +1,90 @@
+//! Recovery, record by record.
+
+ghost use Rattle.std.specs.Prelude.{◌≡◌, ◌≤◌, IfOk, IfErr, IfSome, OnOk};
+ghost use Rattle.log_reader.specs.OnlyReads.{OnlyReads};
+ghost use Rattle.log_recovery.specs.Recovering.{HasRecovered, IsRecoverError};
+
+use crate::kept::{GroupNote, Kept};
+use crate::recovered_map::RecoveredMap;
+use base_devices::Disk;
+use log_reader::{LogReader, Next};
+use model_base::{EndReason, NoMemory};
+use std::alloc::Global;
+
+/// Where recovery ended, and why.
+#[derive(Clone, Copy, Debug, PartialEq, Eq)]
+pub struct End {
+    pub at: u64,
+    pub why: EndReason,
+}
+
+/// What a log recovers: the groups that are kept, the map and the last sequence of all their records, the offset after
+/// them, and the end.
+#[derive(Drop)]
+pub struct Recovered {
+    pub groups: Vec<GroupNote>,
+    pub map: RecoveredMap,
+    pub last: u64,
+    pub kept: u64,
+    pub end: End,
+}
+
+/// Why a log was not recovered. Damage is no error.
+#[derive(Clone, Copy, Debug, PartialEq, Eq)]
+pub enum RecoverError {
+    /// The disk failed, for the how many-th time.
+    Fault { count: u64 },
+    NoMemory,
+}
+
+impl From<NoMemory> for RecoverError {
+    ghost use Rattle.log_recovery.specs.declared.recovery.RecoverError.TheVariants.{NoMemory};
+
+    ghost from_gives = { λ _ e. e ≡ NoMemory };
+
+    fn from(_: NoMemory) -> RecoverError {
+        RecoverError::NoMemory
+    }
+}
+
+/// Recovers the log that a disk holds. Any bytes give an answer, and the disk keeps them.
+///
+/// It reads from the start on and never asks the disk for its length, so that a disk on which nothing can be read is a
+/// fault and not an empty log. No read that failed is tried again.
+///
+/// It is `Fault` where a read failed, and `NoMemory` where there was no memory for a block, a record, a note, a key or
+/// a value.
+pub fn recover<D: Disk>(alloc: Global, disk: &mut D) -> Result<Recovered, RecoverError>
+    ensures recovered { IfSome (D.told disk.old) (λ d. IfOk result (HasRecovered d.content)) }
+    ensures worked { OnOk result (D.faults disk.new ≡ D.faults disk.old) }
+    ensures error { IfErr result (IsRecoverError (D.faults disk.old) (D.faults disk.new)) }
+    ensures disk { OnlyReads ⟦<D as Disk>⟧ disk.old disk.new }
+{
+    let mut log = LogReader::open(alloc)?;
+    let mut kept = Kept::new(alloc);
+    loop {
+        match log.next(disk) {
+            Next::Record { start, end } => {
+                if let Some(why) = kept.keep(log.record(), end)? {
+                    return Ok(answer_of(kept, End { at: start, why }));
+                }
+            }
+            Next::End { at, why } => return Ok(answer_of(kept, End { at, why })),
+            Next::Fault { count } => return Err(RecoverError::Fault { count }),
+            Next::NoMemory => return Err(RecoverError::NoMemory),
+        }
+    }
+}
+
+/// What is recovered where the kept records end so.
+fn answer_of(kept: Kept, end: End) -> Recovered
+    ensures { result ≡ record { groups = kept.groups; map = kept.map; last = kept.last; kept = kept.end; end = end } }
+{
+    Recovered {
+        groups: kept.groups,
+        map: kept.map,
+        last: kept.last,
+        kept: kept.end,
+        end,
+    }
+}

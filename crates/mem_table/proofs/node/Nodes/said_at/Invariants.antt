@@ -1,7 +1,0 @@
--- Those passed are above the sequence.
-use Rattle.std.proofs.Common.{◌≡◌}
-use Rattle.mem_table.specs.Newest.{first_up_to}
-use Rattle.mem_table.proofs.node.Nodes.said_at.Given as goal
-
-abbrev pub invariant-loop-rest : goal.invariant-loop-rest
-invariant-loop-rest l = first_up_to l.at l.self ≡ first_up_to l.at l.rest

@@ -1,8 +1,0 @@
--- Those counted, and the versions of the parts that are left.
-use Rattle.std.proofs.Common.{◌≡◌, ◌+◌, length, drop}
-use Rattle.table_rule.specs.Histories.{versions_in}
-use Rattle.mem_table.specs.Parts.{group_of}
-use Rattle.mem_table.proofs.parts.Parts.version_count.Given as goal
-
-abbrev pub invariant-loop-part : goal.invariant-loop-part
-invariant-loop-part l = l.count + length (versions_in (group_of (drop l.part-index l.part-items))) ≡ length (versions_in (group_of l.fn.self.parts))

@@ -1,7 +1,0 @@
--- No versions are in order.
-use Rattle.std.specs.List.Sorted.{IsStrictlySortedBy}
-use Rattle.mem_table.proofs.tree.Tree.new.Goals as goal
-
-pub invariant_of-result : goal.invariant_of-result
-unfolding IsStrictlySortedBy
-invariant_of-result c = rw c.new.ensures (tt, record { sorted = tt; each = tt })

@@ -1,6 +1,0 @@
--- The versions by their sequences are such an order.
-use Rattle.mem_table.proofs.Orders.{order_up_to}
-use Rattle.mem_table.proofs.tree.orders_of_versions.Goals as goal
-
-pub returns : goal.returns
-returns c versions at = order_up_to at versions

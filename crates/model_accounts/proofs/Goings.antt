@@ -1,0 +1,205 @@
+-- What each call says of its client is a step of the client, in each trace of which it may have seen what it has seen.
+use Rattle.std.proofs.Common.{◌≡◌, ◌⊎◌, inl, inr, ℕ, ◌+◌, ◌≤◌, Bool, true, false, if◌then◌else◌, Option, Some, None, List, [], ◌∷◌, ◌++◌, length, map, max, MatchOption, refl, ap, sym, ◌∙◌, subst, arith}
+use Rattle.std.proofs.lemmas.Option.{slice_get_cases}
+use Rattle.model_base.specs.declared.write.WriteOptions.{WriteOptions}
+use Rattle.model_base.specs.declared.write.Refusal.{Refusal}
+use Rattle.model_base.specs.declared.write.Refusal.TheVariants.{Empty, TooLarge, SyncWithoutLog, SelfStop, NoMemory}
+use Rattle.model_base.specs.Batch.{Record, count_of, size_of_batch}
+use Rattle.model_base.specs.Map.{Pairs, value_at, rows_within}
+use Rattle.model_base.specs.History.{Entry}
+use Rattle.model_base.specs.Controller as controller
+use Rattle.model_base.specs.Controller.{ControllerCall, Action}
+use Rattle.model_base.specs.Tokens.{holds_stop, holds_slow}
+use Rattle.model_base.specs.Trace.{Trace, Settings}
+use Rattle.model_base.specs.Attempts.{Attempt}
+use Rattle.model_base.specs.Progress.{Progress, early_refusal}
+use Rattle.model_base.specs.Replies.{IsAttempted, ReadsAt, Replies, Stays, IsDone}
+use Rattle.model_base.specs.Calls.{Command, add, clear, commit, get, many, scan, stop, unstop, slow, unslow, Reply, quiet, accepted, refused, found, found_each, rows, done, held, not_held}
+use Rattle.model_base.proofs.Prefixes.{prefix_length}
+use Rattle.model_base.proofs.Runs.{later_in, refuse_in}
+use Rattle.model_accounts.specs.Sights.{last_seen, Sees, InEachTrace}
+use Rattle.model_accounts.specs.Accounts.{Account, standing, Keeps, Wrote, IsRefused, Refuses, Reads, Asks}
+use Rattle.model_accounts.specs.ClientRuns.{Goes, Lacks}
+use Rattle.model_accounts.proofs.Seeing.{sees_self, last_rises, seen_ends, seen_map}
+
+-- a progress by its parts
+stands_by : (w : Account) (pending : List Record) (seen_up_to : ℕ) (mine : List Entry) (asked : List Action) (attempts : List Attempt) → w.mine ≡ mine → w.asked ≡ asked → w.attempts ≡ attempts
+    → standing w pending seen_up_to ≡ record { pending = pending; mine = mine; asked = asked; attempts = attempts; seen_up_to = seen_up_to; known = length w.seen.controller_calls }
+stands_by w pending seen_up_to mine asked attempts m a h = rw (m, a, h) refl
+
+stays : (v w : Account) → Keeps v w → (pending : List Record) (seen_up_to : ℕ) → Stays (standing v pending seen_up_to) (standing w pending seen_up_to)
+stays v w k pending seen_up_to = stands_by w pending seen_up_to v.mine v.asked v.attempts k.mine k.asked k.attempts
+
+-- a step, by the replies that may come
+goes_by : (settings : Settings) (v : Account) (before : List Record) (command : Command) (reply : Reply) (w : Account) (after : List Record) → w.number ≡ v.number → Sees v.seen w.seen
+    → ((shown : ℕ) → shown ≤ last_seen v.seen → (seen_up_to : ℕ) × (seen_up_to ≤ last_seen w.seen)
+    × InEachTrace w.seen (λ trace. Replies settings trace v.number (standing v before shown) command reply (standing w after seen_up_to)))
+    → Goes settings v before command reply w after
+goes_by settings v before command reply w after number seen right = record {
+  number = number;
+  seen = seen;
+  step = λ shown low. (
+      let r = right shown low in (
+        r.0,
+        r.1,
+        λ trace is_history saw. record {
+          replies = r.2 trace is_history saw;
+          rises = prefix_length v.seen.controller_calls w.seen.controller_calls seen.controller_calls;
+          within = prefix_length w.seen.controller_calls trace.controller_calls saw.controller_calls;
+        },
+      ));
+}
+
+module _ (settings : Settings) (v : Account) (pending : List Record) where
+  pub goes_add : (r : Record) → Goes settings v pending (add r) quiet v (pending ++ r ∷ [])
+  goes_add r = goes_by settings v pending (add r) quiet v (pending ++ r ∷ []) refl (sees_self v.seen) (λ shown low. (shown, low, λ trace is_history saw. refl))
+
+  pub goes_clear : Goes settings v pending clear quiet v []
+  goes_clear = goes_by settings v pending clear quiet v [] refl (sees_self v.seen) (λ shown low. (shown, low, λ trace is_history saw. refl))
+
+  -- a commit, by its refusal at once, if there is one
+  abbrev Committed : Trace → WriteOptions → Reply → Progress → Progress → Option Refusal → Type 0
+  Committed trace how reply p q early = MatchOption early (IsAttempted trace v.number p how reply q) (λ why. (reply ≡ refused why) × Stays p q)
+
+  pub goes_accepted : (how : WriteOptions) (first last group_last : ℕ) (w : Account) → last + 1 ≡ first + count_of pending → Wrote settings v pending how first group_last w
+      → Goes settings v pending (commit how) (accepted first last pending) w []
+  goes_accepted how first last group_last w run wrote =
+      let rises = last_rises v.seen w.seen wrote.seen in
+      goes_by settings v pending (commit how) (accepted first last pending) w [] wrote.number wrote.seen (λ shown low. (
+        max shown last,
+        (let b = wrote.within in let c = wrote.reached in omega (arith, rises, low, b, c, run)),
+        λ trace is_history saw. subst (Committed trace how (accepted first last pending) (standing v pending shown) (standing w [] (max shown last))) (sym wrote.passed) (record {
+          batch = refl;
+          run = run;
+          above = (let a = wrote.above in omega (arith, low, a));
+          behind = wrote.behind;
+          alive = wrote.alive;
+          after = stands_by w [] (max shown last) _ _ _ wrote.mine wrote.asked wrote.attempts;
+        }),
+      ))
+
+  pub goes_refused : (how : WriteOptions) (why : Refusal) (w : Account) → (why ≡ NoMemory → ⊥) → Refuses settings v pending how why w → Goes settings v pending (commit how) (refused why) w pending
+  goes_refused how why w other refuses = by_check (early_refusal settings.batch_bytes (holds_stop v.asked) pending how) refl refuses
+    where
+      by_check : (o : Option Refusal) → early_refusal settings.batch_bytes (holds_stop v.asked) pending how ≡ o
+          → MatchOption o (((why ≡ NoMemory) × Keeps v w) ⊎ IsRefused v pending how why w) (λ (early : Refusal). (why ≡ early) × Keeps v w) → Goes settings v pending (commit how) (refused why) w pending
+      by_check None e (inl short) = absurd (other short.0)
+      by_check None e (inr r) =
+          let rises = last_rises v.seen w.seen r.seen in
+          goes_by settings v pending (commit how) (refused why) w pending r.number r.seen (λ shown low. (
+            shown,
+            omega (arith, rises, low),
+            λ trace is_history saw. subst (Committed trace how (refused why) (standing v pending shown) (standing w pending shown)) (sym e) (
+              r.status,
+              refuse_in w.seen.controller_calls trace.controller_calls saw.controller_calls (standing v pending (last_seen v.seen)) shown (length w.seen.controller_calls) low how why r.status r.may,
+              stands_by w pending shown _ _ _ r.mine r.asked r.attempts,
+            ),
+          ))
+      by_check (Some early) e s =
+          let rises = last_rises v.seen w.seen s.1.seen in
+          goes_by settings v pending (commit how) (refused why) w pending s.1.number s.1.seen (λ shown low. (
+            shown,
+            omega (arith, rises, low),
+            λ trace is_history saw. subst (Committed trace how (refused why) (standing v pending shown) (standing w pending shown)) (sym e) (ap refused s.0, stays v w s.1 pending shown),
+          ))
+
+  -- a read's answer is of what the client has now seen published
+  reads_end : (w : Account) (at : ℕ) (answers : Pairs → Type 0) → Keeps v w → Reads at answers w → (shown : ℕ) → shown ≤ last_seen v.seen
+      → InEachTrace w.seen (λ trace. ReadsAt trace (standing v pending shown) at answers (standing w pending at))
+  reads_end w at answers k r shown low trace is_history saw = record {
+    front = saw.entries;
+    is_front = record { rest = saw.begins.0; split = sym saw.begins.1; ends = r.at_is ∙ seen_ends w.seen trace is_history saw };
+    not_below = (let rises = last_rises v.seen w.seen k.seen in let is = r.at_is in omega (arith, rises, low, is));
+    answer = subst answers (seen_map w.seen trace is_history saw) r.answer;
+    after = stands_by w pending at _ _ _ k.mine k.asked k.attempts;
+  }
+
+  -- a read, by the reply that it makes of its answer
+  read_on : (c : Command) (reply : Reply) (w : Account) (at : ℕ) (answers : Pairs → Type 0) → Keeps v w → Reads at answers w
+      → ((trace : Trace) (shown : ℕ) → ReadsAt trace (standing v pending shown) at answers (standing w pending at) → Replies settings trace v.number (standing v pending shown) c reply (standing w pending at))
+      → Goes settings v pending c reply w pending
+  read_on c reply w at answers k r right = goes_by settings v pending c reply w pending k.number k.seen (λ shown low. (
+    at,
+    (let is = r.at_is in omega (arith, is)),
+    λ trace is_history saw. right trace shown (reads_end w at answers k r shown low trace is_history saw),
+  ))
+
+  pub goes_get : (key : List ℕ) (at : ℕ) (value : Option (List ℕ)) (w : Account) → Keeps v w → Reads at (λ m. value ≡ value_at m key) w → Goes settings v pending (get key) (found at value) w pending
+  goes_get key at value w k r = read_on (get key) (found at value) w at (λ m. value ≡ value_at m key) k r (λ trace shown h. h)
+
+  pub goes_many : (keys : List (List ℕ)) (at : ℕ) (values : List (Option (List ℕ))) (w : Account) → Keeps v w → Reads at (λ m. values ≡ map (value_at m) keys) w → Goes settings v pending (many keys) (found_each at values) w pending
+  goes_many keys at values w k r = read_on (many keys) (found_each at values) w at (λ m. values ≡ map (value_at m) keys) k r (λ trace shown h. h)
+
+  pub goes_scan : (lo hi : List ℕ) (at : ℕ) (pairs : Pairs) (w : Account) → Keeps v w → Reads at (λ m. pairs ≡ rows_within lo hi m) w → Goes settings v pending (scan lo hi) (rows at pairs) w pending
+  goes_scan lo hi at pairs w k r = read_on (scan lo hi) (rows at pairs) w at (λ m. pairs ≡ rows_within lo hi m) k r (λ trace shown h. h)
+
+  -- a call of the controller that was done
+  asks_done : (a : Action) (w : Account) → Asks v a w → (shown : ℕ) → InEachTrace w.seen (λ trace. IsDone trace v.number (standing v pending shown) a (standing w pending shown))
+  asks_done a w k shown trace is_history saw = record {
+    place = k.place;
+    is_later = later_in w.seen.controller_calls trace.controller_calls saw.controller_calls (length v.seen.controller_calls) k.place _ k.is_later;
+    known = elim (slice_get_cases w.seen.controller_calls k.place).1 [
+      | inl there ↦ there.1
+      | inr gone ↦ absurd (cc (k.is_later.there, gone.1))
+    ];
+    after = stands_by w pending shown _ _ _ k.mine k.asked k.attempts;
+  }
+
+  -- it asked, or kept all, and was shown no more
+  asked_on : (c : Command) (r : Reply) (w : Account) → w.number ≡ v.number → Sees v.seen w.seen
+      → ((shown : ℕ) → InEachTrace w.seen (λ trace. Replies settings trace v.number (standing v pending shown) c r (standing w pending shown))) → Goes settings v pending c r w pending
+  asked_on c r w number seen right = goes_by settings v pending c r w pending number seen (λ shown low. (shown, (let rises = last_rises v.seen w.seen seen in omega (arith, rises, low)), right shown))
+
+  pub goes_stop : (w : Account) → holds_stop v.asked ≡ false → Asks v controller.stop w → Goes settings v pending stop done w pending
+  goes_stop w h k = asked_on stop done w k.number k.seen (λ shown trace is_history saw. (h, asks_done controller.stop w k shown trace is_history saw))
+
+  pub goes_stop_held : (w : Account) → holds_stop v.asked ≡ true → Keeps v w → Goes settings v pending stop held w pending
+  goes_stop_held w h k = asked_on stop held w k.number k.seen (λ shown trace is_history saw. (h, stays v w k pending shown))
+
+  pub goes_unstop : (w : Account) → holds_stop v.asked ≡ true → Asks v controller.unstop w → Goes settings v pending unstop done w pending
+  goes_unstop w h k = asked_on unstop done w k.number k.seen (λ shown trace is_history saw. (h, asks_done controller.unstop w k shown trace is_history saw))
+
+  pub goes_unstop_not_held : (w : Account) → holds_stop v.asked ≡ false → Keeps v w → Goes settings v pending unstop not_held w pending
+  goes_unstop_not_held w h k = asked_on unstop not_held w k.number k.seen (λ shown trace is_history saw. (h, stays v w k pending shown))
+
+  pub goes_slow : (rate : ℕ) (w : Account) → holds_slow v.asked ≡ false → Asks v (controller.slow rate) w → Goes settings v pending (slow rate) done w pending
+  goes_slow rate w h k = asked_on (slow rate) done w k.number k.seen (λ shown trace is_history saw. (h, asks_done (controller.slow rate) w k shown trace is_history saw))
+
+  pub goes_slow_held : (rate : ℕ) (w : Account) → holds_slow v.asked ≡ true → Keeps v w → Goes settings v pending (slow rate) held w pending
+  goes_slow_held rate w h k = asked_on (slow rate) held w k.number k.seen (λ shown trace is_history saw. (h, stays v w k pending shown))
+
+  pub goes_unslow : (w : Account) → holds_slow v.asked ≡ true → Asks v controller.unslow w → Goes settings v pending unslow done w pending
+  goes_unslow w h k = asked_on unslow done w k.number k.seen (λ shown trace is_history saw. (h, asks_done controller.unslow w k shown trace is_history saw))
+
+  pub goes_unslow_not_held : (w : Account) → holds_slow v.asked ≡ false → Keeps v w → Goes settings v pending unslow not_held w pending
+  goes_unslow_not_held w h k = asked_on unslow not_held w k.number k.seen (λ shown trace is_history saw. (h, stays v w k pending shown))
+
+-- out of memory comes past the early checks alone, and changes nothing
+
+none_is_memory : (b : Bool) (x y : Option Refusal) → (x ≡ Some NoMemory → ⊥) → (y ≡ Some NoMemory → ⊥) → (if b then x else y) ≡ Some NoMemory → ⊥
+none_is_memory true x y p q e = p e
+none_is_memory false x y p q e = q e
+
+early_is_other : (batch_bytes : ℕ) (stopping : Bool) (records : List Record) (how : WriteOptions) → early_refusal batch_bytes stopping records how ≡ Some NoMemory → ⊥
+early_is_other batch_bytes stopping records how =
+    let empty : Some Empty ≡ Some NoMemory → ⊥ = λ e. absurd (cc e) in
+    let large : Some (TooLarge (size_of_batch records)) ≡ Some NoMemory → ⊥ = λ e. absurd (cc e) in
+    let both : Some SyncWithoutLog ≡ Some NoMemory → ⊥ = λ e. absurd (cc e) in
+    let self : Some SelfStop ≡ Some NoMemory → ⊥ = λ e. absurd (cc e) in
+    let nothing : Option Refusal = None in
+    let none : nothing ≡ Some NoMemory → ⊥ = λ e. absurd (cc e) in
+    none_is_memory _ _ _ empty (none_is_memory _ _ _ large (none_is_memory _ _ _ both (none_is_memory _ _ _ self none)))
+
+lacked : (settings : Settings) (v : Account) (pending : List Record) (how : WriteOptions) (w : Account) → Refuses settings v pending how NoMemory w
+    → (early_refusal settings.batch_bytes (holds_stop v.asked) pending how ≡ None) × Keeps v w
+lacked settings v pending how w refuses = by_check (early_refusal settings.batch_bytes (holds_stop v.asked) pending how) refl refuses
+  where
+    by_check : (o : Option Refusal) → early_refusal settings.batch_bytes (holds_stop v.asked) pending how ≡ o
+        → MatchOption o (((NoMemory ≡ NoMemory) × Keeps v w) ⊎ IsRefused v pending how NoMemory w) (λ (early : Refusal). (NoMemory ≡ early) × Keeps v w)
+        → (early_refusal settings.batch_bytes (holds_stop v.asked) pending how ≡ None) × Keeps v w
+    by_check None e (inl short) = (e, short.1)
+    by_check None e (inr r) = absurd r.may
+    by_check (Some early) e s = absurd (early_is_other settings.batch_bytes (holds_stop v.asked) pending how (e ∙ ap Some (sym s.0)))
+
+pub lacks_commit : (settings : Settings) (v : Account) (pending : List Record) (how : WriteOptions) (w : Account) → Refuses settings v pending how NoMemory w → Lacks settings v pending (commit how) w
+lacks_commit settings v pending how w refuses = let l = lacked settings v pending how w refuses in record { keeps = l.1; may = λ shown. l.0 }

@@ -1,0 +1,53 @@
+-- A client's calls, one after another, and how they end.
+use Rattle.std.proofs.Common.{ℕ, List, [], ◌∷◌, ◌++◌, refl, sym, ◌∙◌, subst, arith}
+use Rattle.model_base.specs.Batch.{Record}
+use Rattle.model_base.specs.Trace.{Settings}
+use Rattle.model_base.specs.Progress.{fresh}
+use Rattle.model_base.specs.Runs.{Run, whole, cut_off, commands_of}
+use Rattle.model_base.specs.Calls.{Command, Reply, Call, no_memory}
+use Rattle.model_base.proofs.Runs.{run_more}
+use Rattle.model_accounts.specs.Accounts.{Account, newcomer, standing, GivesBack}
+use Rattle.model_accounts.specs.ClientRuns.{Goes, Lacks, Went, HasRun}
+use Rattle.model_accounts.proofs.Seeing.{saw_earlier, sees_on}
+
+pub went_none : (settings : Settings) (start number : ℕ) → Went settings [] (newcomer start number) []
+went_none settings start number = record { seen_up_to = 0; shown = omega arith; run = λ trace is_history saw. refl }
+
+pub went_more : (settings : Settings) (calls : List Call) (v : Account) (before : List Record) (c : Command) (r : Reply) (w : Account) (after : List Record)
+    → Went settings calls v before → Goes settings v before c r w after → Went settings (calls ++ record { command = c; reply = r } ∷ []) w after
+went_more settings calls v before c r w after so_far goes =
+    let next = goes.step so_far.seen_up_to so_far.shown in
+    let last : Call = record { command = c; reply = r } in
+    record {
+      seen_up_to = next.0;
+      shown = next.1;
+      run = λ trace is_history saw. subst (λ (n : ℕ). Run settings trace n fresh (calls ++ last ∷ []) (standing w after next.0)) (sym goes.number) (
+          run_more settings trace v.number fresh calls (standing v before so_far.seen_up_to) last (standing w after next.0)
+          (so_far.run trace is_history (saw_earlier v.seen w.seen goes.seen trace saw)) (next.2 trace is_history saw));
+    }
+
+-- all commands were answered, and the client gave back what it held
+pub has_run : (settings : Settings) (calls : List Call) (v : Account) (pending : List Record) (w : Account)
+    → Went settings calls v pending → GivesBack v w → HasRun settings v.number (commands_of calls) calls w
+has_run settings calls v pending w went back = record {
+  end = standing v pending went.seen_up_to;
+  is_transcript = λ trace is_history saw. whole refl (went.run trace is_history (saw_earlier v.seen w.seen back.seen trace saw));
+  number = back.number;
+  mine = back.mine;
+  asked = back.asked;
+  attempts = back.attempts;
+}
+
+-- the last call found no memory
+pub has_run_short : (settings : Settings) (calls : List Call) (v : Account) (pending : List Record) (last : Command) (rest : List Command) (u w : Account) → Went settings calls v pending
+    → Lacks settings v pending last u → GivesBack u w
+    → HasRun settings v.number (commands_of (calls ++ record { command = last; reply = no_memory } ∷ []) ++ rest) (calls ++ record { command = last; reply = no_memory } ∷ []) w
+has_run_short settings calls v pending last rest u w went lacks back = record {
+  end = standing v pending went.seen_up_to;
+  is_transcript = λ trace is_history saw. cut_off calls last rest refl refl
+      (went.run trace is_history (saw_earlier v.seen w.seen (sees_on v.seen u.seen w.seen lacks.keeps.seen back.seen) trace saw)) (lacks.may went.seen_up_to);
+  number = back.number ∙ lacks.keeps.number;
+  mine = back.mine ∙ lacks.keeps.mine;
+  asked = rw (← lacks.keeps.asked) back.asked;
+  attempts = back.attempts ∙ lacks.keeps.attempts;
+}

@@ -1,0 +1,81 @@
+-- What was seen of a trace at some time, and what was seen of it earlier.
+use Rattle.std.proofs.Common.{◌≡◌, ℕ, ◌≤◌, List, [], ◌∷◌, ◌++◌, length, refl, ap, sym, ◌∙◌, subst, arith, append_assoc}
+use mathlib.Core.List.{IsPrefix}
+use Rattle.model_base.specs.History.{Entry, IsHistory, last_of as last_of_entry, last_sequence, map_of}
+use Rattle.model_base.specs.Trace.{Trace}
+use Rattle.model_base.proofs.Prefixes.{prefix_self, prefix_trans}
+use Rattle.table_rule.specs.declared.content.MemberVersions.{MemberVersions}
+use Rattle.table_rule.specs.Histories.{Begins, Images, versions_of, map_of as map_of_versions, map_after}
+use Rattle.table_rule.proofs.Histories.{begins_same, begins_trans, longer}
+use Rattle.table_rule.proofs.Images.{images_versions}
+use Rattle.model_accounts.specs.Versions.{versions_of_entry, versions_of_entries}
+use Rattle.model_accounts.specs.Sights.{Sight, last_seen, Sees, Saw}
+use Rattle.model_accounts.proofs.Versions.{versions_reach, versions_map}
+
+-- Earlier and later
+
+pub sees_self : (v : Sight) → Sees v v
+sees_self v = record { start = refl; published = begins_same v.published; controller_calls = prefix_self v.controller_calls }
+
+pub sees_on : (u v w : Sight) → Sees u v → Sees v w → Sees u w
+sees_on u v w a b = record {
+  start = b.start ∙ a.start;
+  published = begins_trans u.published v.published w.published a.published b.published;
+  controller_calls = prefix_trans u.controller_calls v.controller_calls w.controller_calls a.controller_calls b.controller_calls;
+}
+
+-- what was seen published doesn't fall
+pub last_rises : (v w : Sight) → Sees v w → last_seen v ≤ last_seen w
+last_rises v w s = let more = longer v.published w.published s.published in let start = s.start in omega (arith, more, start)
+
+-- the first of some groups, each made by entries of its own, are made by the first of the entries
+cut : (entries : List Entry) (some groups : List (List MemberVersions)) → Images versions_of_entry entries groups → Begins some groups
+    → (first : List Entry) × IsPrefix first entries × Images versions_of_entry first some
+cut entries [] groups are begins = ([], (entries, refl), refl)
+cut entries (g ∷ some) groups are begins =
+    let all : Images versions_of_entry entries (g ∷ (some ++ begins.0)) = subst (Images versions_of_entry entries) begins.1 are in
+    let rest = cut all.1 some (some ++ begins.0) all.4 (begins.0, refl) in (
+      all.0 ++ rest.0,
+      (rest.1.0, append_assoc all.0 rest.0 rest.1.0 ∙ (ap (λ l. all.0 ++ l) rest.1.1 ∙ sym all.2)),
+      (all.0, rest.0, refl, all.3, rest.2),
+    )
+
+-- who has seen the first of all published groups has seen some of the trace whose entries made them
+pub saw_published : (trace : Trace) (history : List (List MemberVersions)) → Images versions_of_entry trace.entries history → (sight : Sight) → sight.start ≡ trace.start
+    → Begins sight.published history → IsPrefix sight.controller_calls trace.controller_calls → Saw sight trace
+saw_published trace history are sight start begins calls =
+    let first = cut trace.entries sight.published history are begins in
+    record { start = start; entries = first.0; begins = first.1; groups = first.2; controller_calls = calls }
+
+-- what was seen earlier was seen of the same trace
+pub saw_earlier : (v w : Sight) → Sees v w → (trace : Trace) → Saw w trace → Saw v trace
+saw_earlier v w sees trace saw =
+    let first = cut saw.entries v.published w.published saw.groups sees.published in
+    record {
+      start = sym sees.start ∙ saw.start;
+      entries = first.0;
+      begins = prefix_trans first.0 saw.entries trace.entries first.1 saw.begins;
+      groups = first.2;
+      controller_calls = prefix_trans v.controller_calls w.controller_calls trace.controller_calls sees.controller_calls saw.controller_calls;
+    }
+
+-- What was seen published is what some first entries of the trace make
+
+history_before : (start : ℕ) (first rest : List Entry) → IsHistory start (first ++ rest) → IsHistory start first
+history_before start [] rest is = tt
+history_before start (e ∷ first) rest is = (is.0, history_before (last_of_entry e) first rest is.1)
+
+module _ (sight : Sight) (trace : Trace) (is_history : IsHistory trace.start trace.entries) (saw : Saw sight trace) where
+  same_versions : versions_of_entries saw.entries ≡ versions_of sight.published
+  same_versions = images_versions versions_of_entry saw.entries sight.published saw.groups
+
+  pub seen_ends : last_seen sight ≡ last_sequence trace.start saw.entries
+  seen_ends =
+      let is = history_before trace.start saw.entries saw.begins.0 (subst (IsHistory trace.start) (sym saw.begins.1) is_history) in
+      let reach = versions_reach trace.start saw.entries is in
+      let same = ap length same_versions in
+      let start = saw.start in
+      omega (arith, reach, same, start)
+
+  pub seen_map : map_after sight.published ≡ map_of saw.entries
+  seen_map = ap map_of_versions (sym same_versions) ∙ versions_map saw.entries

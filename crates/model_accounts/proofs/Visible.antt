@@ -1,0 +1,179 @@
+-- A client's commits that a leader took in hand are commits of its transcript, and their statuses are the replies there.
+use Rattle.std.proofs.Common.{◌≡◌, ◌⊎◌, inl, inr, ℕ, ◌≤◌, Option, Some, None, List, [], ◌∷◌, ◌++◌, length, slice_get, MatchOption, refl, ap, sym, ◌∙◌, subst, arith, length-append}
+use Rattle.std.proofs.lemmas.Option.{slice_get_cases}
+use Rattle.std.proofs.lemmas.Bool.{cases_lt}
+use Rattle.model_base.proofs.Prefixes.{prefix_at}
+use Rattle.model_base.specs.declared.write.WriteOptions.{WriteOptions}
+use Rattle.model_base.specs.declared.write.Refusal.{Refusal}
+use Rattle.model_base.specs.declared.write.Refusal.TheVariants as no
+use Rattle.model_base.specs.Batch.{Record}
+use Rattle.model_base.specs.Controller.{ControllerCall}
+use Rattle.model_base.specs.Tokens.{holds_stop}
+use Rattle.model_base.specs.Trace.{Trace, Settings}
+use Rattle.model_base.specs.Attempts.{Attempt, WriteStatus, succeeded, slowed, faulted, full, with_attempt}
+use Rattle.model_base.specs.Progress.{Progress, fresh, early_refusal, added_by}
+use Rattle.model_base.specs.Replies.{MayRefuse, IsAttempted, Stays, Replies, Stops, Unstops, Slows, Unslows, Gets, GetsMany, Scans, Adds, Clears}
+use Rattle.model_base.specs.Runs.{Run}
+use Rattle.model_accounts.specs.Answered.{Tells, IsAmong}
+use Rattle.model_base.specs.Calls.{Command, add, clear, commit, get, many, scan, stop, unstop, slow, unslow, Reply, quiet, accepted, refused, found, found_each, rows, done, held, not_held, Call}
+
+abbrev attempt : Progress → WriteOptions → WriteStatus → Attempt
+attempt p how status = record { records = p.pending; options = how; status = status }
+
+-- a step puts no commit into a leader's hand, or its own one
+abbrev Hands : Progress → Command → Reply → Progress → Type 0
+Hands p c r q = (q.attempts ≡ p.attempts)
+    ⊎ ((how : WriteOptions) × (status : WriteStatus) × (c ≡ commit how) × (q.attempts ≡ p.attempts ++ attempt p how status ∷ []) × Tells status p.pending r)
+
+record Moves (p : Progress) (c : Command) (r : Reply) (q : Progress) : Type 0 where
+  pending : q.pending ≡ added_by p.pending c r
+  hands : Hands p c r q
+
+-- nothing of both moved
+same_both : (p : Progress) (c : Command) (r : Reply) (q : Progress) → added_by p.pending c r ≡ p.pending → q.pending ≡ p.pending → q.attempts ≡ p.attempts → Moves p c r q
+same_both p c r q none a b = record { pending = a ∙ sym none; hands = inl b }
+
+refusal_tells : (controller_calls : List ControllerCall) (p : Progress) (knows : ℕ) (how : WriteOptions) (why : Refusal) (status : WriteStatus)
+    → MayRefuse controller_calls p knows how why (Some status) → Tells status p.pending (refused why)
+refusal_tells controller_calls p knows how (no.Incomplete a b c) (slowed place) s = (a, b, c, refl)
+refusal_tells controller_calls p knows how (no.Incomplete a b c) succeeded s = absurd s.2
+refusal_tells controller_calls p knows how (no.Incomplete a b c) (faulted n) s = absurd s.2
+refusal_tells controller_calls p knows how (no.Incomplete a b c) (full n) s = absurd s.2
+refusal_tells controller_calls p knows how (no.LogFault n) status s = let is : status ≡ faulted n = cc s in subst (λ f. Tells f p.pending (refused (no.LogFault n))) (sym is) refl
+refusal_tells controller_calls p knows how (no.SequenceFull n) status s = let is : status ≡ full n = cc (s.0) in subst (λ f. Tells f p.pending (refused (no.SequenceFull n))) (sym is) refl
+refusal_tells controller_calls p knows how no.Empty status s = absurd s
+refusal_tells controller_calls p knows how (no.TooLarge n) status s = absurd s
+refusal_tells controller_calls p knows how no.SyncWithoutLog status s = absurd s
+refusal_tells controller_calls p knows how no.SelfStop status s = absurd s
+refusal_tells controller_calls p knows how no.NoMemory status s = absurd s
+
+commit_moves : (trace : Trace) (client : ℕ) (p : Progress) (how : WriteOptions) (r : Reply) (q : Progress) (o : Option Refusal)
+    → MatchOption o (IsAttempted trace client p how r q) (λ why. (r ≡ refused why) × Stays p q) → Moves p (commit how) r q
+commit_moves trace client p how (accepted a b records) q None s = record {
+  pending = ap (λ (x : Progress). x.pending) s.after;
+  hands = inr (how, succeeded, refl, ap (λ (x : Progress). x.attempts) s.after, (a, b, ap (accepted a b) s.batch));
+}
+commit_moves trace client p how (refused why) q None s = by_status s.0 s.1 s.2
+  where
+    by_status : (status : Option WriteStatus) → MayRefuse trace.controller_calls p q.known how why status
+        → q ≡ record p { attempts = with_attempt p.attempts p.pending how status; known = q.known } → Moves p (commit how) (refused why) q
+    by_status None may e = same_both p (commit how) (refused why) q refl (ap (λ (x : Progress). x.pending) e) (ap (λ (x : Progress). x.attempts) e)
+    by_status (Some status) may e = record {
+      pending = ap (λ (x : Progress). x.pending) e;
+      hands = inr (how, status, refl, ap (λ (x : Progress). x.attempts) e, refusal_tells trace.controller_calls p q.known how why status may);
+    }
+commit_moves trace client p how _ q None s = absurd s
+commit_moves trace client p how r q (Some why) s =
+    same_both p (commit how) r q (ap (added_by p.pending (commit how)) s.0) (ap (λ (x : Progress). x.pending) s.1) (ap (λ (x : Progress). x.attempts) s.1)
+
+-- where the step is an equation on the new progress that leaves both
+module _ (p : Progress) (q : Progress) where
+  adds : (x : Record) (r : Reply) → Adds p x r q → Moves p (add x) r q
+  adds x quiet s = record { pending = ap (λ (x : Progress). x.pending) s; hands = inl (ap (λ (x : Progress). x.attempts) s) }
+  adds x _ s = absurd s
+
+  clears : (r : Reply) → Clears p r q → Moves p clear r q
+  clears quiet s = record { pending = ap (λ (x : Progress). x.pending) s; hands = inl (ap (λ (x : Progress). x.attempts) s) }
+  clears _ s = absurd s
+
+  gets : (trace : Trace) (key : List ℕ) (r : Reply) → Gets trace p key r q → Moves p (get key) r q
+  gets trace key (found at v) s = same_both p _ _ q refl (ap (λ (x : Progress). x.pending) s.after) (ap (λ (x : Progress). x.attempts) s.after)
+  gets trace key _ s = absurd s
+
+  gets_many : (trace : Trace) (keys : List (List ℕ)) (r : Reply) → GetsMany trace p keys r q → Moves p (many keys) r q
+  gets_many trace keys (found_each at v) s = same_both p _ _ q refl (ap (λ (x : Progress). x.pending) s.after) (ap (λ (x : Progress). x.attempts) s.after)
+  gets_many trace keys _ s = absurd s
+
+  scans : (trace : Trace) (lo hi : List ℕ) (r : Reply) → Scans trace p lo hi r q → Moves p (scan lo hi) r q
+  scans trace lo hi (rows at v) s = same_both p _ _ q refl (ap (λ (x : Progress). x.pending) s.after) (ap (λ (x : Progress). x.attempts) s.after)
+  scans trace lo hi _ s = absurd s
+
+  stops : (trace : Trace) (client : ℕ) (r : Reply) → Stops trace client p r q → Moves p stop r q
+  stops trace client done s = same_both p _ _ q refl (ap (λ (x : Progress). x.pending) s.1.after) (ap (λ (x : Progress). x.attempts) s.1.after)
+  stops trace client held s = same_both p _ _ q refl (ap (λ (x : Progress). x.pending) s.1) (ap (λ (x : Progress). x.attempts) s.1)
+  stops trace client _ s = absurd s
+
+  unstops : (trace : Trace) (client : ℕ) (r : Reply) → Unstops trace client p r q → Moves p unstop r q
+  unstops trace client done s = same_both p _ _ q refl (ap (λ (x : Progress). x.pending) s.1.after) (ap (λ (x : Progress). x.attempts) s.1.after)
+  unstops trace client not_held s = same_both p _ _ q refl (ap (λ (x : Progress). x.pending) s.1) (ap (λ (x : Progress). x.attempts) s.1)
+  unstops trace client _ s = absurd s
+
+  slows : (trace : Trace) (client rate : ℕ) (r : Reply) → Slows trace client p rate r q → Moves p (slow rate) r q
+  slows trace client rate done s = same_both p _ _ q refl (ap (λ (x : Progress). x.pending) s.1.after) (ap (λ (x : Progress). x.attempts) s.1.after)
+  slows trace client rate held s = same_both p _ _ q refl (ap (λ (x : Progress). x.pending) s.1) (ap (λ (x : Progress). x.attempts) s.1)
+  slows trace client rate _ s = absurd s
+
+  unslows : (trace : Trace) (client : ℕ) (r : Reply) → Unslows trace client p r q → Moves p unslow r q
+  unslows trace client done s = same_both p _ _ q refl (ap (λ (x : Progress). x.pending) s.1.after) (ap (λ (x : Progress). x.attempts) s.1.after)
+  unslows trace client not_held s = same_both p _ _ q refl (ap (λ (x : Progress). x.pending) s.1) (ap (λ (x : Progress). x.attempts) s.1)
+  unslows trace client _ s = absurd s
+
+moves : (settings : Settings) (trace : Trace) (client : ℕ) (p : Progress) (c : Command) (r : Reply) (q : Progress) → Replies settings trace client p c r q → Moves p c r q
+moves settings trace client p (add x) r q s = adds p q x r s
+moves settings trace client p clear r q s = clears p q r s
+moves settings trace client p (commit how) r q s = commit_moves trace client p how r q (early_refusal settings.batch_bytes (holds_stop p.asked) p.pending how) s
+moves settings trace client p (get key) r q s = gets p q trace key r s
+moves settings trace client p (many keys) r q s = gets_many p q trace keys r s
+moves settings trace client p (scan lo hi) r q s = scans p q trace lo hi r s
+moves settings trace client p stop r q s = stops p q trace client r s
+moves settings trace client p unstop r q s = unstops p q trace client r s
+moves settings trace client p (slow rate) r q s = slows p q trace client rate r s
+moves settings trace client p unslow r q s = unslows p q trace client r s
+
+later_call : (records : List Record) (c : Call) (calls : List Call) (h : Attempt) → IsAmong (added_by records c.command c.reply) calls h → IsAmong records (c ∷ calls) h
+later_call records c calls h s = record { before = c ∷ s.before; reply = s.reply; after = s.after; there = ap (λ cs. c ∷ cs) s.there; batch = s.batch; tells = s.tells }
+
+at_last : {A : Type 0} (xs : List A) (x : A) → slice_get (xs ++ x ∷ []) (length xs) ≡ Some x
+at_last [] x = refl
+at_last (z ∷ xs) x = at_last xs x
+
+hands_keep : (p : Progress) (c : Command) (r : Reply) (q : Progress) → Hands p c r q → (i : ℕ) (x : Attempt) → slice_get p.attempts i ≡ Some x → slice_get q.attempts i ≡ Some x
+hands_keep p c r q (inl same) i x e = ap (λ hs. slice_get hs i) same ∙ e
+hands_keep p c r q (inr new) i x e = prefix_at p.attempts q.attempts (attempt p new.0 new.1 ∷ [], sym new.3) i x e
+
+kept : (settings : Settings) (trace : Trace) (client : ℕ) (p : Progress) (calls : List Call) (q : Progress) → Run settings trace client p calls q → (i : ℕ) (x : Attempt) → slice_get p.attempts i ≡ Some x → slice_get q.attempts i ≡ Some x
+kept settings trace client p [] q run i x e = ap (λ (y : Progress). slice_get y.attempts i) run ∙ e
+kept settings trace client p (c ∷ calls) q run i x e =
+    kept settings trace client run.0 calls q run.2 i x (hands_keep p c.command c.reply run.0 (moves settings trace client p c.command c.reply run.0 run.1.replies).hands i x e)
+
+among : (settings : Settings) (trace : Trace) (client : ℕ) (p : Progress) (calls : List Call) (q : Progress) → Run settings trace client p calls q
+    → (k : ℕ) (h : Attempt) → length p.attempts ≤ k → slice_get q.attempts k ≡ Some h → IsAmong p.pending calls h
+among settings trace client p [] q run k h past e =
+    let at : slice_get p.attempts k ≡ Some h = ap (λ (x : Progress). slice_get x.attempts k) (sym run) ∙ e in
+    elim (slice_get_cases p.attempts k).1 [
+      | inl there ↦ (let n = there.1 in absurd (omega arith))
+      | inr gone ↦ absurd (cc (at, gone.1))
+    ]
+among settings trace client p (c ∷ calls) q run k h past e =
+    by_move (moves settings trace client p c.command c.reply run.0 run.1.replies) (λ low. among settings trace client run.0 calls q run.2 k h low e) (kept settings trace client run.0 calls q run.2)
+  where
+    this_one : (how : WriteOptions) (status : WriteStatus) → c.command ≡ commit how → Tells status p.pending c.reply → IsAmong p.pending (c ∷ calls) (attempt p how status)
+    this_one how status command tells = record {
+      before = [];
+      reply = c.reply;
+      after = calls;
+      there = ap (λ (x : Command). record { command = x; reply = c.reply } ∷ calls) command;
+      batch = refl;
+      tells = tells;
+    }
+
+    by_move : Moves p c.command c.reply run.0 → (length (run.0).attempts ≤ k → IsAmong (run.0).pending calls h)
+        → ((i : ℕ) (x : Attempt) → slice_get (run.0).attempts i ≡ Some x → slice_get q.attempts i ≡ Some x) → IsAmong p.pending (c ∷ calls) h
+    by_move m later keeps = elim m.hands [
+      | inl same ↦ later_call p.pending c calls h (subst (λ rs. IsAmong rs calls h) m.pending (later (let n : length (run.0).attempts ≡ length p.attempts = ap length same in omega arith)))
+      | inr new ↦ elim (cases_lt (length p.attempts) k) [
+        | inl more ↦ later_call p.pending c calls h (subst (λ rs. IsAmong rs calls h) m.pending (later (
+            let n : length (run.0).attempts ≡ length (p.attempts ++ attempt p new.0 new.1 ∷ []) = ap length new.3 in
+            omega (arith, n, length-append p.attempts (attempt p new.0 new.1 ∷ [])))))
+        | inr last ↦ (
+            let is : k ≡ length p.attempts = omega arith in
+            let there = keeps (length p.attempts) (attempt p new.0 new.1) (ap (λ hs. slice_get hs (length p.attempts)) new.3 ∙ at_last p.attempts (attempt p new.0 new.1)) in
+            let same : attempt p new.0 new.1 ≡ h = cc (there, ap (slice_get q.attempts) is, e) in
+            subst (IsAmong p.pending (c ∷ calls)) same (this_one new.0 new.1 new.2 new.4))
+      ]
+    ]
+
+-- each commit that a leader took in hand stands in the transcript, with the batch that it had there and the reply that its status says
+pub attempts_visible : (settings : Settings) (trace : Trace) (client : ℕ) (calls : List Call) (end : Progress) → Run settings trace client fresh calls end
+    → (k : ℕ) (h : Attempt) → slice_get end.attempts k ≡ Some h → IsAmong [] calls h
+attempts_visible settings trace client calls end run k h e = among settings trace client fresh calls end run k h (omega arith) e

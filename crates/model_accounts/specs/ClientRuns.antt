@@ -1,0 +1,57 @@
+-- How a client goes on, call by call, whatever the write path that it calls.
+use Rattle.std.specs.Prelude.{◌≡◌, ℕ, ◌+◌, ◌≤◌, List, [], ◌∷◌, ◌++◌, length, Some, slice_get}
+use Rattle.model_base.specs.Batch.{Record}
+use Rattle.model_base.specs.Tokens.{given_back}
+use Rattle.model_base.specs.Trace.{Settings}
+use Rattle.model_base.specs.Progress.{Progress, fresh}
+use Rattle.model_base.specs.Replies.{MayLackMemory}
+use Rattle.model_base.specs.Runs.{Step, Run, IsTranscript}
+use Rattle.model_base.specs.Calls.{Command, Reply, Call}
+use Rattle.model_accounts.specs.Sights.{last_seen, Sees, InEachTrace}
+use Rattle.model_accounts.specs.Accounts.{Account, Keeps, standing}
+
+-- Whatever it was shown before, it goes on by this command and reply, in each trace of which it may have seen what it
+-- now has seen.
+pub record Goes (settings : Settings) (v : Account) (before : List Record) (command : Command) (reply : Reply)
+    (w : Account) (after : List Record) : Type 0 where
+  pub number : w.number ≡ v.number
+  pub seen : Sees v.seen w.seen
+  pub step : (shown : ℕ) → shown ≤ last_seen v.seen → (seen_up_to : ℕ) × (seen_up_to ≤ last_seen w.seen)
+      × InEachTrace w.seen (λ trace. Step settings trace v.number (standing v before shown) command reply
+      (standing w after seen_up_to))
+
+-- its call found no memory, where that may be, and changed nothing
+pub record Lacks (settings : Settings) (v : Account) (before : List Record) (command : Command)
+    (w : Account) : Type 0 where
+  pub keeps : Keeps v w
+  pub may : (shown : ℕ) → MayLackMemory settings (standing v before shown) command
+
+-- a call more, with its reply
+abbrev pub with_call : List Call → Command → Reply → List Call
+with_call calls command reply = calls ++ record { command = command; reply = reply } ∷ []
+
+-- its calls so far brought it there
+pub record Went (settings : Settings) (calls : List Call) (a : Account) (pending : List Record) : Type 0 where
+  pub seen_up_to : ℕ
+  pub shown : seen_up_to ≤ last_seen a.seen
+  pub run : InEachTrace a.seen (λ trace. Run settings trace a.number fresh calls (standing a pending seen_up_to))
+
+-- All its calls, as far as it alone can tell: a transcript in each trace of which it may have seen what it has seen,
+-- that leaves what it has done
+pub record HasRun (settings : Settings) (client : ℕ) (commands : List Command) (calls : List Call)
+    (a : Account) : Type 0 where
+  pub end : Progress
+  pub is_transcript : InEachTrace a.seen (λ trace. IsTranscript settings trace client commands calls end)
+  pub number : a.number ≡ client
+  pub mine : a.mine ≡ end.mine
+  pub asked : a.asked ≡ end.asked ++ given_back end.asked
+  pub attempts : a.attempts ≡ end.attempts
+
+-- each client has run its part of the script
+pub record HaveRun (settings : Settings) (script : List (List Command)) (transcripts : List (List Call))
+    (accounts : List Account) : Type 0 where
+  pub clients : length accounts ≡ length script
+  pub transcripts_of : length transcripts ≡ length script
+  pub each : (i : ℕ) (commands : List Command) (calls : List Call) (a : Account)
+      → slice_get script i ≡ Some commands → slice_get transcripts i ≡ Some calls → slice_get accounts i ≡ Some a
+      → HasRun settings (i + 1) commands calls a

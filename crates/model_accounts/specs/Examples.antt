@@ -1,0 +1,81 @@
+-- A client that commits one batch, and what can be seen of it.
+use Rattle.std.specs.Prelude.{false, List, [], ◌∷◌, codes, Some}
+use Rattle.model_base.specs.declared.history.Flag.TheVariants.{Log}
+use Rattle.model_base.specs.declared.write.WriteOptions.{WriteOptions}
+use Rattle.model_base.specs.Batch.{Record, value, size_of_batch}
+use Rattle.model_base.specs.History.{Entry}
+use Rattle.model_base.specs.Controller.{ControllerCall, delay}
+use Rattle.model_base.specs.Trace.{Trace, Settings}
+use Rattle.model_base.specs.Attempts.{Attempt, succeeded, item_of}
+use Rattle.model_base.specs.Groups.{Group}
+use Rattle.model_base.specs.Calls.{Command, add, commit, Call, quiet, accepted}
+use Rattle.table_rule.specs.declared.content.Version.{Version}
+use Rattle.model_accounts.specs.Sights.{Sight}
+use Rattle.model_accounts.specs.Accounts.{Account, newcomer}
+
+abbrev pub settings : Settings
+settings = record { start = 0; clients = 1; group_bytes = 1048576; batch_bytes = 16777216; opened = 0 }
+
+-- `put a 1` and `put b 2`, in one batch
+abbrev pub two_records : List Record
+two_records = value (codes "a") (codes "1") ∷ value (codes "b") (codes "2") ∷ []
+
+abbrev pub plain : WriteOptions
+plain = record { sync = false; no_log = false; no_slowdown = false }
+
+abbrev pub one_entry : Entry
+one_entry = record { client = 1; ordinal = 1; first = 1; count = 2; flag = Log; records = two_records }
+
+-- the call of the controller for the commit's group: no token is held, so it needn't wait
+abbrev pub one_delay : ControllerCall
+one_delay = record {
+  client = 1;
+  action = delay 0 (size_of_batch two_records);
+  told = Some (record { stops = 0; delays = 0; wait = 0 });
+}
+
+abbrev pub one_batch : Trace
+one_batch = record { start = 0; entries = one_entry ∷ []; controller_calls = one_delay ∷ [] }
+
+-- the commit, and its group
+abbrev pub one_attempt : Attempt
+one_attempt = record { records = two_records; options = plain; status = succeeded }
+
+abbrev pub one_group : Group
+one_group = record { place = 0; members = record { client = 1; call = 0; item = item_of one_attempt } ∷ [] }
+
+-- the versions that it makes
+abbrev pub first_version : Version
+first_version = record { key = codes "a"; value = Some (codes "1"); sequence = 1 }
+
+abbrev pub second_version : Version
+second_version = record { key = codes "b"; value = Some (codes "2"); sequence = 2 }
+
+-- these versions, as a group that was published once the controller was asked
+abbrev pub sight_of : List Version → Sight
+sight_of versions = record {
+  start = 0;
+  published = (record { member = 1; versions = versions } ∷ []) ∷ [];
+  controller_calls = one_delay ∷ [];
+}
+
+-- the client's account before its commit, and after it
+abbrev pub before : Account
+before = newcomer 0 1
+
+abbrev pub after : Account
+after = record before {
+  mine = one_entry ∷ [];
+  attempts = one_attempt ∷ [];
+  seen = sight_of (first_version ∷ second_version ∷ []);
+}
+
+-- its script and its transcript
+abbrev pub commands : List Command
+commands = add (value (codes "a") (codes "1")) ∷ add (value (codes "b") (codes "2")) ∷ commit plain ∷ []
+
+abbrev pub calls : List Call
+calls =
+    record { command = add (value (codes "a") (codes "1")); reply = quiet }
+    ∷ record { command = add (value (codes "b") (codes "2")); reply = quiet }
+    ∷ record { command = commit plain; reply = accepted 1 2 two_records } ∷ []

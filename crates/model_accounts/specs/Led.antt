@@ -1,0 +1,80 @@
+-- What the log's one holder at a time knows: the groups that were taken in hand, one after another, each with the place
+-- of its delay. From this the groups of an outcome are had at its closing.
+use Rattle.std.specs.Prelude.{◌≡◌, ◌≢◌, ℕ, ◌+◌, ◌≤◌, ⊤, Bool, List, [], ◌∷◌, ◌++◌, length, map, filter, flat_map, slice_get, ◌==◌, Option, Some}
+use Rattle.std.specs.List.{AllByRecursion}
+use Rattle.model_base.specs.declared.group.Item.{Item}
+use Rattle.model_base.specs.Grouping.{size_of, group_len}
+use Rattle.model_base.specs.Controller.{ControllerCall, delay, Look}
+use Rattle.model_base.specs.Attempts.{Attempt, slowed, item_of}
+use Rattle.model_base.specs.Groups.{Member, Group, HaveOwnPlaces, AreAsked, StandTogether}
+
+-- a commit in a leader's hand, with its client's number
+pub record Taken : Type 0 where
+  pub client : ℕ
+  pub attempt : Attempt
+
+pub record Led : Type 0 where
+  pub place : ℕ
+  pub commits : List Taken
+
+-- what grouping sees of them
+abbrev pub items_in : List Taken → List Item
+items_in ts = map (λ (t : Taken). item_of t.attempt) ts
+
+abbrev pub all_taken : List Led → List Taken
+all_taken led = flat_map (λ (g : Led). g.commits) led
+
+-- the commits of a client among them, in order
+abbrev pub is_of : ℕ → Taken → Bool
+is_of client t = t.client == client
+
+abbrev pub count_of_client : ℕ → List Taken → ℕ
+count_of_client client ts = length (filter (is_of client) ts)
+
+abbrev pub attempts_of : ℕ → List Taken → List Attempt
+attempts_of client ts = map (λ (t : Taken). t.attempt) (filter (is_of client) ts)
+
+-- each commit by its client and its number among that client's, after those before it
+abbrev pub members_after : List Taken → List Taken → List Member
+members_after before [] = []
+members_after before (t ∷ ts) =
+    record { client = t.client; call = count_of_client t.client before; item = item_of t.attempt }
+    ∷ members_after (before ++ t ∷ []) ts
+
+abbrev pub groups_after : List Taken → List Led → List Group
+groups_after before [] = []
+groups_after before (g ∷ led) =
+    record { place = g.place; members = members_after before g.commits } ∷ groups_after (before ++ g.commits) led
+
+abbrev pub groups_of : List Led → List Group
+groups_of led = groups_after [] led
+
+-- no client is twice among them
+abbrev pub HaveOwnClients : List Taken → Type 0
+HaveOwnClients [] = ⊤
+HaveOwnClients (t ∷ ts) = AllByRecursion (λ (u : Taken). t.client ≢ u.client) ts × HaveOwnClients ts
+
+-- a leader took a whole group, and asked for a delay of its sizes; who of it was slowed was told so by that delay
+pub record IsLed (group_bytes : ℕ) (controller_calls : List ControllerCall) (g : Led) : Type 0 where
+  pub by : ℕ
+  pub now : ℕ
+  pub told : Option Look
+  pub there : slice_get controller_calls g.place
+      ≡ Some (record { client = by; action = delay now (size_of (items_in g.commits)); told = told })
+  pub some : 1 ≤ length g.commits
+  pub whole : group_len group_bytes (items_in g.commits) ≡ length g.commits
+  pub of_others : HaveOwnClients g.commits
+  pub slowed_here : AllByRecursion
+      (λ (t : Taken). (place : ℕ) → t.attempt.status ≡ slowed place → place ≡ g.place) g.commits
+
+-- these are all groups, and all that became of the clients' commits
+pub record AreLed (group_bytes : ℕ) (controller_calls : List ControllerCall) (led : List Led)
+    (attempts : List (List Attempt)) : Type 0 where
+  pub each : AllByRecursion (IsLed group_bytes controller_calls) led
+  pub places : HaveOwnPlaces (groups_of led)
+  pub all : AreAsked (groups_of led) 0 controller_calls
+  pub clients : AllByRecursion (λ (t : Taken). (1 ≤ t.client) × (t.client ≤ length attempts)) (all_taken led)
+  pub together : AllByRecursion (λ (g : Led). StandTogether controller_calls (map (λ (h : Led). h.place) led) g.place
+      (items_in g.commits) (map (λ (t : Taken). t.attempt.status) g.commits)) led
+  pub of_client : (i : ℕ) (own : List Attempt) → slice_get attempts i ≡ Some own
+      → own ≡ attempts_of (i + 1) (all_taken led)

@@ -1,0 +1,43 @@
+-- What a client can see of a run while the run goes on.
+use Rattle.std.specs.Prelude.{◌≡◌, ℕ, List, []}
+use mathlib.Core.List.{IsPrefix}
+use Rattle.model_base.specs.History.{Entry, IsHistory}
+use Rattle.model_base.specs.Controller.{ControllerCall}
+use Rattle.model_base.specs.Trace.{Trace}
+use Rattle.table_rule.specs.declared.content.MemberVersions.{MemberVersions}
+use Rattle.table_rule.specs.Histories.{Begins, Images, last_of}
+use Rattle.model_accounts.specs.Versions.{versions_of_entry}
+
+-- The groups that were published, by its reads, and the controller's calls, by its pass. A published group has
+-- versions: they tell neither whose they are nor how they were committed. So this is no trace.
+pub record Sight : Type 0 where
+  -- the sequence before the first batch
+  pub start : ℕ
+  pub published : List (List MemberVersions)
+  pub controller_calls : List ControllerCall
+
+abbrev pub unseen : ℕ → Sight
+unseen start = record { start = start; published = []; controller_calls = [] }
+
+-- the last sequence that was seen published
+abbrev pub last_seen : Sight → ℕ
+last_seen sight = last_of sight.start sight.published
+
+-- one sight is what was seen of a run at some time, and the other what was seen later
+pub record Sees (v w : Sight) : Type 0 where
+  pub start : w.start ≡ v.start
+  pub published : Begins v.published w.published
+  pub controller_calls : IsPrefix v.controller_calls w.controller_calls
+
+-- It was seen of this trace: the entries with which the trace begins made the published groups, each group some of
+-- them, whole.
+pub record Saw (sight : Sight) (trace : Trace) : Type 0 where
+  pub start : sight.start ≡ trace.start
+  pub entries : List Entry
+  pub begins : IsPrefix entries trace.entries
+  pub groups : Images versions_of_entry entries sight.published
+  pub controller_calls : IsPrefix sight.controller_calls trace.controller_calls
+
+-- P holds in each trace, of one history of whole batches, of which this may have been seen
+abbrev pub InEachTrace : Sight → (Trace → Type 0) → Type 0
+InEachTrace sight P = (trace : Trace) → IsHistory trace.start trace.entries → Saw sight trace → P trace

@@ -1,0 +1,75 @@
+//! What each kind of call says of its client is a step of the client.
+
+ghost use Rattle.std.specs.Prelude.{◌≡◌, ◌+◌, ◌++◌, ℕ, true, false, List, [], ◌∷◌, Option, map};
+ghost use Rattle.model_base.specs.declared.write.WriteOptions.{WriteOptions};
+ghost use Rattle.model_base.specs.declared.write.Refusal.{Refusal};
+ghost use Rattle.model_base.specs.declared.write.Refusal.TheVariants.{NoMemory};
+ghost use Rattle.model_base.specs.Batch.{Record, count_of};
+ghost use Rattle.model_base.specs.Map.{Pairs, value_at, rows_within};
+ghost use Rattle.model_base.specs.Controller as controller;
+ghost use Rattle.model_base.specs.Tokens.{holds_stop, holds_slow};
+ghost use Rattle.model_base.specs.Trace.{Settings};
+ghost use Rattle.model_base.specs.Calls.{add, clear, commit, get, many, scan, stop, unstop, slow, unslow};
+ghost use Rattle.model_base.specs.Calls.{quiet, accepted, refused, found, found_each, rows, done, held, not_held};
+ghost use Rattle.model_accounts.specs.Accounts.{Account, Keeps, Wrote, Refuses, Reads, Asks};
+ghost use Rattle.model_accounts.specs.ClientRuns.{Goes, Lacks};
+
+/// A record that is added, a batch that is emptied, and a commit with its answer.
+pub fn commits_are_steps()
+    ensures added { (settings : Settings) (v : Account) (pending : List Record) (r : Record)
+        → Goes settings v pending (add r) quiet v (pending ++ r ∷ []) }
+    ensures cleared { (settings : Settings) (v : Account) (pending : List Record)
+        → Goes settings v pending clear quiet v [] }
+    ensures accepted { (settings : Settings) (v : Account) (pending : List Record) (how : WriteOptions)
+        (first last group_last : ℕ) (w : Account)
+        → last + 1 ≡ first + count_of pending → Wrote settings v pending how first group_last w
+        → Goes settings v pending (commit how) (accepted first last pending) w [] }
+    ensures refused { (settings : Settings) (v : Account) (pending : List Record) (how : WriteOptions) (why : Refusal)
+        (w : Account)
+        → (why ≡ NoMemory → ⊥) → Refuses settings v pending how why w
+        → Goes settings v pending (commit how) (refused why) w pending }
+    ensures out_of_memory { (settings : Settings) (v : Account) (pending : List Record) (how : WriteOptions)
+        (w : Account)
+        → Refuses settings v pending how NoMemory w → Lacks settings v pending (commit how) w }
+{}
+
+/// A read with its answer, at the end of what the client has then seen published.
+pub fn reads_are_steps()
+    ensures get { (settings : Settings) (v : Account) (pending : List Record)
+        (key : List ℕ) (at : ℕ) (value : Option (List ℕ)) (w : Account)
+        → Keeps v w → Reads at (λ m. value ≡ value_at m key) w
+        → Goes settings v pending (get key) (found at value) w pending }
+    ensures many { (settings : Settings) (v : Account) (pending : List Record)
+        (keys : List (List ℕ)) (at : ℕ) (values : List (Option (List ℕ))) (w : Account)
+        → Keeps v w → Reads at (λ m. values ≡ map (value_at m) keys) w
+        → Goes settings v pending (many keys) (found_each at values) w pending }
+    ensures scan { (settings : Settings) (v : Account) (pending : List Record)
+        (lo hi : List ℕ) (at : ℕ) (pairs : Pairs) (w : Account)
+        → Keeps v w → Reads at (λ m. pairs ≡ rows_within lo hi m) w
+        → Goes settings v pending (scan lo hi) (rows at pairs) w pending }
+{}
+
+/// A token that stops writes is taken or given back, or is held already, or isn't held.
+pub fn stops_are_steps()
+    ensures taken { (settings : Settings) (v : Account) (pending : List Record) (w : Account)
+        → holds_stop v.asked ≡ false → Asks v controller.stop w → Goes settings v pending stop done w pending }
+    ensures held { (settings : Settings) (v : Account) (pending : List Record) (w : Account)
+        → holds_stop v.asked ≡ true → Keeps v w → Goes settings v pending stop held w pending }
+    ensures given_back { (settings : Settings) (v : Account) (pending : List Record) (w : Account)
+        → holds_stop v.asked ≡ true → Asks v controller.unstop w → Goes settings v pending unstop done w pending }
+    ensures not_held { (settings : Settings) (v : Account) (pending : List Record) (w : Account)
+        → holds_stop v.asked ≡ false → Keeps v w → Goes settings v pending unstop not_held w pending }
+{}
+
+/// The same of a token that slows writes.
+pub fn slowdowns_are_steps()
+    ensures taken { (settings : Settings) (v : Account) (pending : List Record) (rate : ℕ) (w : Account)
+        → holds_slow v.asked ≡ false → Asks v (controller.slow rate) w
+        → Goes settings v pending (slow rate) done w pending }
+    ensures held { (settings : Settings) (v : Account) (pending : List Record) (rate : ℕ) (w : Account)
+        → holds_slow v.asked ≡ true → Keeps v w → Goes settings v pending (slow rate) held w pending }
+    ensures given_back { (settings : Settings) (v : Account) (pending : List Record) (w : Account)
+        → holds_slow v.asked ≡ true → Asks v controller.unslow w → Goes settings v pending unslow done w pending }
+    ensures not_held { (settings : Settings) (v : Account) (pending : List Record) (w : Account)
+        → holds_slow v.asked ≡ false → Keeps v w → Goes settings v pending unslow not_held w pending }
+{}

@@ -1,0 +1,82 @@
+//! What follows once a write path is closed.
+
+ghost use Rattle.std.specs.Prelude.{◌≡◌, ◌+◌, ◌<◌, ℕ, true, List, [], ◌∷◌, length, map, take, flat_map, Option, Some, slice_get};
+ghost use Rattle.std.specs.List.{AllByRecursion, AllZip};
+ghost use Rattle.model_base.specs.declared.group.Item.{Item};
+ghost use Rattle.model_base.specs.Batch.{Record, group_record};
+ghost use Rattle.model_base.specs.History.{Entry, RunsFollow, logged};
+ghost use Rattle.model_base.specs.Grouping.{group_len};
+ghost use Rattle.model_base.specs.Controller.{ControllerCall};
+ghost use Rattle.model_base.specs.Trace.{Trace, Settings};
+ghost use Rattle.model_base.specs.Attempts.{Attempt, slowed};
+ghost use Rattle.model_base.specs.Groups.{Member, Group, AreGroups, Holds};
+ghost use Rattle.model_base.specs.Progress.{Progress};
+ghost use Rattle.model_base.specs.Runs.{IsTranscript};
+ghost use Rattle.model_base.specs.Calls.{Command, Call, Outcome};
+ghost use Rattle.model_base.specs.Outcomes.{outcome_of, IsLegalIn};
+ghost use Rattle.model_base.specs.LogContents.{GroupCall, AreGroupsOf, records_of, record_of_call};
+ghost use Rattle.model_runs.specs.Lost.{IsLost, IsLostGroup, IsFaultedBatch};
+ghost use Rattle.model_runs.specs.Crashes.{HasSync};
+ghost use Rattle.model_accounts.specs.Accounts.{Account};
+ghost use Rattle.model_accounts.specs.Closing.{all_attempts, IsClosing};
+ghost use Rattle.model_accounts.specs.ClientRuns.{HaveRun};
+ghost use Rattle.model_accounts.specs.Led.{Led, groups_of, AreLed};
+ghost use Rattle.model_runs.specs.Written.{WroteEntries, AreLost};
+ghost use Rattle.model_accounts.specs.Answered.{IsAmong};
+
+/// Where each client has run its part of the script, and the closing says that their accounts are parts of one trace,
+/// that is a legal outcome.
+pub fn closed_runs_are_legal()
+    ensures legal { (settings : Settings) (ended : ℕ) (script : List (List Command)) (transcripts : List (List Call))
+        (accounts : List Account) (trace : Trace) (groups : List Group) (last log_len : ℕ) (fault : Option ℕ)
+        → settings.clients ≡ length script → HaveRun settings script transcripts accounts
+        → IsClosing settings ended trace groups accounts last fault
+        → IsLegalIn settings ended script trace (all_attempts accounts)
+        (outcome_of trace transcripts last log_len fault) }
+{}
+
+/// The groups of an outcome, from what the log's holder knew, one leader after another.
+pub fn led_groups()
+    // what the rule of grouping takes of a queue is a whole group by itself
+    ensures whole { (group_bytes : ℕ) (queue : List Item) → 0 < length queue
+        → group_len group_bytes (take (group_len group_bytes queue) queue)
+        ≡ length (take (group_len group_bytes queue) queue) }
+    ensures groups { (group_bytes : ℕ) (controller_calls : List ControllerCall) (led : List Led)
+        (attempts : List (List Attempt))
+        → AreLed group_bytes controller_calls led attempts
+        → AreGroups group_bytes controller_calls (groups_of led) attempts }
+    ensures slowed { (group_bytes : ℕ) (controller_calls : List ControllerCall) (led : List Led)
+        (attempts : List (List Attempt))
+        → AreLed group_bytes controller_calls led attempts
+        → (i : ℕ) (own : List Attempt) (k : ℕ) (attempt : Attempt) (place : ℕ) → slice_get attempts i ≡ Some own
+        → slice_get own k ≡ Some attempt → attempt.status ≡ slowed place → Holds (groups_of led) place (i + 1) k }
+{}
+
+/// Each commit that a leader took in hand stands in its client's transcript, with its batch and the reply of its
+/// status.
+pub fn attempts_are_shown()
+    ensures shown { (settings : Settings) (trace : Trace) (client : ℕ) (commands : List Command) (calls : List Call)
+        (end : Progress) → IsTranscript settings trace client commands calls end
+        → (k : ℕ) (attempt : Attempt) → slice_get end.attempts k ≡ Some attempt → IsAmong [] calls attempt }
+    // so each batch of the group whose log write failed is one that was answered so
+    ensures lost { (settings : Settings) (ended : ℕ) (script : List (List Command)) (trace : Trace)
+        (attempts : List (List Attempt)) (o : Outcome) → IsLegalIn settings ended script trace attempts o
+        → (count : ℕ) (m : Member) (records : List Record) → IsLost attempts count m records
+        → IsFaultedBatch o count records }
+{}
+
+/// The calls that wrote the closed log wrote the groups of the history, one record each.
+pub fn logs_hold_the_history()
+    ensures groups { (entries : List Entry) (parts : List (List Entry)) (calls : List GroupCall)
+        → flat_map (λ part. part) parts ≡ logged entries → AllByRecursion RunsFollow parts
+        → AllZip WroteEntries parts calls → AreGroupsOf entries parts }
+    ensures records { (parts : List (List Entry)) (calls : List GroupCall) → AllZip WroteEntries parts calls
+        → map record_of_call calls ≡ records_of parts }
+    ensures synced { (part : List Entry) (c : GroupCall) → WroteEntries part c → HasSync part → c.sync ≡ true }
+    // where the log has a fault, the call that failed was to write the record of the lost group
+    ensures lost { (group_bytes : ℕ) (attempts : List (List Attempt)) (count last : ℕ) (lost : List GroupCall)
+        → AreLost group_bytes attempts (Some count) last lost
+        → (c : GroupCall) × (lost ≡ c ∷ []) × (c.failed ≡ Some count)
+        × IsLostGroup group_bytes attempts count last c.batches
+        × (record_of_call c ≡ group_record (last + 1) c.batches) }
+{}

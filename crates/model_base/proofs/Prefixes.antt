@@ -1,0 +1,29 @@
+-- Beginnings of one list, and of one trace.
+use Rattle.std.proofs.Common.{◌≡◌, ℕ, zero, suc, ◌≤◌, Some, List, [], ◌∷◌, ◌++◌, length, slice_get, refl, ap, sym, ◌∙◌, arith, append_assoc, length-append}
+use mathlib.Core.List.{IsPrefix}
+use Rattle.model_base.specs.Trace.{Trace, Begins}
+
+pub prefix_self : {A : Type 0} (xs : List A) → IsPrefix xs xs
+prefix_self [] = ([], refl)
+prefix_self (x ∷ xs) = (let r = prefix_self xs in r.0, ap (λ ys. x ∷ ys) (prefix_self xs).1)
+
+pub prefix_trans : {A : Type 0} (xs ys zs : List A) → IsPrefix xs ys → IsPrefix ys zs → IsPrefix xs zs
+prefix_trans xs ys zs p q = (p.0 ++ q.0, sym (append_assoc xs p.0 q.0) ∙ (ap (λ w. w ++ q.0) p.1 ∙ q.1))
+
+pub prefix_length : {A : Type 0} (xs ys : List A) → IsPrefix xs ys → length xs ≤ length ys
+prefix_length xs ys p = let e : length (xs ++ p.0) ≡ length ys = ap length p.1 in omega (arith, length-append xs p.0, e)
+
+-- what stands in a beginning stands there in the whole
+at_front : {A : Type 0} (xs rest : List A) (i : ℕ) (x : A) → slice_get xs i ≡ Some x → slice_get (xs ++ rest) i ≡ Some x
+at_front [] rest i x h = absurd (cc h)
+at_front (y ∷ xs) rest zero x h = h
+at_front (y ∷ xs) rest (suc i) x h = at_front xs rest i x h
+
+pub prefix_at : {A : Type 0} (xs ys : List A) → IsPrefix xs ys → (i : ℕ) (x : A) → slice_get xs i ≡ Some x → slice_get ys i ≡ Some x
+prefix_at xs ys p i x h = ap (λ zs. slice_get zs i) (sym p.1) ∙ at_front xs p.0 i x h
+
+pub begins_self : (v : Trace) → Begins v v
+begins_self v = record { start = refl; entries = prefix_self v.entries; controller_calls = prefix_self v.controller_calls }
+
+pub begins_trans : (u v w : Trace) → Begins u v → Begins v w → Begins u w
+begins_trans u v w a b = record { start = a.start ∙ b.start; entries = prefix_trans u.entries v.entries w.entries a.entries b.entries; controller_calls = prefix_trans u.controller_calls v.controller_calls w.controller_calls a.controller_calls b.controller_calls }

@@ -1,0 +1,133 @@
+-- Runs of calls: a longer trace, and one more call.
+use Rattle.std.proofs.Common.{◌≡◌, ℕ, ◌≤◌, Option, Some, None, List, [], ◌∷◌, ◌++◌, MatchOption, refl, ap, sym, ◌∙◌, subst, arith, append_assoc}
+use mathlib.Core.List.{IsPrefix}
+use Rattle.model_base.specs.declared.write.WriteOptions.{WriteOptions}
+use Rattle.model_base.specs.declared.write.Refusal.{Refusal}
+use Rattle.model_base.specs.declared.write.Refusal.TheVariants as no
+use Rattle.model_base.specs.Map.{Pairs}
+use Rattle.model_base.specs.History.{last_sequence}
+use Rattle.model_base.specs.Controller.{ControllerCall, Action, Look}
+use Rattle.model_base.specs.Trace.{Trace, Begins, Settings}
+use Rattle.model_base.specs.Attempts.{WriteStatus, succeeded, slowed, faulted, full}
+use Rattle.model_base.specs.Tokens.{holds_stop}
+use Rattle.model_base.specs.Progress.{Progress, fresh, early_refusal}
+use Rattle.model_base.specs.Replies.{IsLater, IsTold, MayRefuse, IsAttempted, ReadsAt, IsDone, Gets, GetsMany, Scans, Stops, Unstops, Slows, Unslows, Replies, Stays}
+use Rattle.model_base.specs.Runs.{Step, Run, IsTranscript, whole, cut_off}
+use Rattle.model_base.specs.Calls.{Command, add, clear, commit, get, many, scan, stop, unstop, slow, unslow, Reply, accepted, refused, found, found_each, rows, done, held, not_held, Call}
+use Rattle.model_base.proofs.Prefixes.{prefix_at, prefix_length}
+
+-- A longer trace
+
+pub later_in : (xs ys : List ControllerCall) → IsPrefix xs ys → (known place : ℕ) (t : ControllerCall) → IsLater xs known place t → IsLater ys known place t
+later_in xs ys p known place t s = record { later = s.later; there = prefix_at xs ys p place t s.there }
+
+told_in : (xs ys : List ControllerCall) → IsPrefix xs ys → (knew knows : ℕ) (numbers : Look) (status : Option WriteStatus) → IsTold xs knew knows numbers status → IsTold ys knew knows numbers status
+told_in xs ys p knew knows numbers None s = (s.0, s.1, later_in xs ys p knew s.0 _ s.2, s.3)
+told_in xs ys p knew knows numbers (Some (slowed place)) s = (s.0, s.1, s.2, later_in xs ys p knew place _ s.3, s.4)
+told_in xs ys p knew knows numbers (Some succeeded) s = absurd s
+told_in xs ys p knew knows numbers (Some (faulted c)) s = absurd s
+told_in xs ys p knew knows numbers (Some (full l)) s = absurd s
+
+-- also for a client that was shown less
+pub refuse_in : (xs ys : List ControllerCall) → IsPrefix xs ys → (p : Progress) (shown knows : ℕ) → shown ≤ p.seen_up_to → (how : WriteOptions) (why : Refusal) (status : Option WriteStatus)
+    → MayRefuse xs p knows how why status → MayRefuse ys (record p { seen_up_to = shown }) knows how why status
+refuse_in xs ys pre p shown knows low how (no.Incomplete a b c) status s = (s.0, s.1, told_in xs ys pre p.known knows _ status s.2)
+refuse_in xs ys pre p shown knows low how (no.LogFault c) status s = s
+refuse_in xs ys pre p shown knows low how (no.SequenceFull l) status s = (s.0, s.1, (let seen = s.2 in omega (arith, low, seen)), s.3, s.4, s.5)
+refuse_in xs ys pre p shown knows low how no.Empty status s = s
+refuse_in xs ys pre p shown knows low how (no.TooLarge n) status s = s
+refuse_in xs ys pre p shown knows low how no.SyncWithoutLog status s = s
+refuse_in xs ys pre p shown knows low how no.SelfStop status s = s
+refuse_in xs ys pre p shown knows low how no.NoMemory status s = s
+
+-- what is right where there is none
+in_none : {A : Type 0} (X Y : Type 0) (Q : A → Type 0) (o : Option A) → (X → Y) → MatchOption o X Q → MatchOption o Y Q
+in_none X Y Q None f s = f s
+in_none X Y Q (Some a) f s = s
+
+module _ (v w : Trace) (b : Begins v w) where
+  attempted_in : (client : ℕ) (p : Progress) (how : WriteOptions) (r : Reply) (q : Progress) → IsAttempted v client p how r q → IsAttempted w client p how r q
+  attempted_in client p how (accepted x y rs) q s = s
+  attempted_in client p how (refused why) q s = (s.0, refuse_in v.controller_calls w.controller_calls b.controller_calls p p.seen_up_to q.known (omega arith) how why s.0 s.1, s.2)
+  attempted_in client p how _ q s = absurd s
+
+  reads_in : (p : Progress) (at : ℕ) (answers : Pairs → Type 0) (q : Progress) → ReadsAt v p at answers q → ReadsAt w p at answers q
+  reads_in p at answers q s = record {
+    front = s.front;
+    is_front = (
+        let rest = b.entries.0 in
+        record {
+          rest = s.is_front.rest ++ rest;
+          split = sym b.entries.1 ∙ (ap (λ xs. xs ++ rest) s.is_front.split ∙ append_assoc s.front s.is_front.rest rest);
+          ends = s.is_front.ends ∙ ap (λ n. last_sequence n s.front) b.start;
+        });
+    not_below = s.not_below;
+    answer = s.answer;
+    after = s.after;
+  }
+
+  gets_in : (p : Progress) (key : List ℕ) (r : Reply) (q : Progress) → Gets v p key r q → Gets w p key r q
+  gets_in p key (found at x) q s = reads_in p at _ q s
+  gets_in p key _ q s = absurd s
+
+  many_in : (p : Progress) (keys : List (List ℕ)) (r : Reply) (q : Progress) → GetsMany v p keys r q → GetsMany w p keys r q
+  many_in p keys (found_each at xs) q s = reads_in p at _ q s
+  many_in p keys _ q s = absurd s
+
+  scans_in : (p : Progress) (lo hi : List ℕ) (r : Reply) (q : Progress) → Scans v p lo hi r q → Scans w p lo hi r q
+  scans_in p lo hi (rows at xs) q s = reads_in p at _ q s
+  scans_in p lo hi _ q s = absurd s
+
+  done_in : (client : ℕ) (p : Progress) (a : Action) (q : Progress) → IsDone v client p a q → IsDone w client p a q
+  done_in client p a q s = record { place = s.place; is_later = later_in v.controller_calls w.controller_calls b.controller_calls p.known s.place _ s.is_later; known = s.known; after = s.after }
+
+  stops_in : (client : ℕ) (p : Progress) (r : Reply) (q : Progress) → Stops v client p r q → Stops w client p r q
+  stops_in client p done q s = (s.0, done_in client p _ q s.1)
+  stops_in client p held q s = s
+  stops_in client p _ q s = absurd s
+
+  unstops_in : (client : ℕ) (p : Progress) (r : Reply) (q : Progress) → Unstops v client p r q → Unstops w client p r q
+  unstops_in client p done q s = (s.0, done_in client p _ q s.1)
+  unstops_in client p not_held q s = s
+  unstops_in client p _ q s = absurd s
+
+  slows_in : (client : ℕ) (p : Progress) (rate : ℕ) (r : Reply) (q : Progress) → Slows v client p rate r q → Slows w client p rate r q
+  slows_in client p rate done q s = (s.0, done_in client p _ q s.1)
+  slows_in client p rate held q s = s
+  slows_in client p rate _ q s = absurd s
+
+  unslows_in : (client : ℕ) (p : Progress) (r : Reply) (q : Progress) → Unslows v client p r q → Unslows w client p r q
+  unslows_in client p done q s = (s.0, done_in client p _ q s.1)
+  unslows_in client p not_held q s = s
+  unslows_in client p _ q s = absurd s
+
+  pub replies_in : (settings : Settings) (client : ℕ) (p : Progress) (c : Command) (r : Reply) (q : Progress) → Replies settings v client p c r q → Replies settings w client p c r q
+  replies_in settings client p (add x) r q s = s
+  replies_in settings client p clear r q s = s
+  replies_in settings client p (commit how) r q s = in_none {A = Refusal} _ _ (λ why. (r ≡ refused why) × Stays p q) (early_refusal settings.batch_bytes (holds_stop p.asked) p.pending how) (attempted_in client p how r q) s
+  replies_in settings client p (get key) r q s = gets_in p key r q s
+  replies_in settings client p (many keys) r q s = many_in p keys r q s
+  replies_in settings client p (scan lo hi) r q s = scans_in p lo hi r q s
+  replies_in settings client p stop r q s = stops_in client p r q s
+  replies_in settings client p unstop r q s = unstops_in client p r q s
+  replies_in settings client p (slow rate) r q s = slows_in client p rate r q s
+  replies_in settings client p unslow r q s = unslows_in client p r q s
+
+  pub step_in : (settings : Settings) (client : ℕ) (p : Progress) (c : Command) (r : Reply) (q : Progress) → Step settings v client p c r q → Step settings w client p c r q
+  step_in settings client p c r q s = record { replies = replies_in settings client p c r q s.replies; rises = s.rises; within = (let n = s.within in let m = prefix_length v.controller_calls w.controller_calls b.controller_calls in omega arith) }
+
+  -- a run in a trace is one in each that it begins
+  pub run_in : (settings : Settings) (client : ℕ) (p : Progress) (calls : List Call) (q : Progress) → Run settings v client p calls q → Run settings w client p calls q
+  run_in settings client p [] q s = s
+  run_in settings client p (c ∷ calls) q s = (s.0, step_in settings client p c.command c.reply s.0 s.1, run_in settings client s.0 calls q s.2)
+
+  pub transcript_in : (settings : Settings) (client : ℕ) (commands : List Command) (calls : List Call) (end : Progress) → IsTranscript settings v client commands calls end → IsTranscript settings w client commands calls end
+  transcript_in settings client commands calls end (whole all run) = whole all (run_in settings client fresh calls end run)
+  transcript_in settings client commands calls end (cut_off front last rest are from run lacks) = cut_off front last rest are from (run_in settings client fresh front end run) lacks
+
+-- One more call
+
+pub run_more : (settings : Settings) (v : Trace) (client : ℕ) (p : Progress) (calls : List Call) (m : Progress) (c : Call) (q : Progress)
+    → Run settings v client p calls m → Step settings v client m c.command c.reply q → Run settings v client p (calls ++ c ∷ []) q
+run_more settings v client p [] m c q s t = (q, subst (λ (x : Progress). Step settings v client x c.command c.reply q) s t, refl)
+run_more settings v client p (d ∷ calls) m c q s t = (s.0, s.1, run_more settings v client s.0 calls m c q s.2 t)

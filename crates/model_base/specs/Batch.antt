@@ -1,0 +1,122 @@
+-- A write batch, as the head of RocksDB's db/write_batch.cc gives it: a header of 12 bytes, and then records.
+--     sequence: fixed64, count: fixed32, records
+-- A record is a tag and one or two strings, each behind its length as a varint32.
+use Rattle.std.specs.Prelude.{◌≡◌, ◌⊎◌, ◌≢◌, ℕ, ◌+◌, ◌^◌, ◌<◌, ◌≤◌, Bool, true, false, IsTrue, List, [], ◌∷◌, ◌++◌, length, take, drop, count_by, flat_map, ◌==◌, if◌then◌else◌}
+use Rattle.std.specs.List.{AllByRecursion, list_any}
+use Rattle.std.specs.Int.{w32, w64, to_le_bytes, from_le_bytes}
+use Rattle.model_base.specs.declared.coding.CodeError.TheVariants as code
+use Rattle.model_base.specs.declared.batch.BatchError.{BatchError}
+use Rattle.model_base.specs.declared.batch.BatchError.TheVariants.{Short, BadVarint, Tag, Count}
+use Rattle.model_base.specs.Varint.{varint, BeginsVarint, IsCodeError}
+
+-- what a batch holds
+pub data Record : Type 0 where
+  value : List ℕ → List ℕ → Record
+  deletion : List ℕ → Record
+  single_deletion : List ℕ → Record
+  log_data : List ℕ → Record
+
+-- a record's first byte
+abbrev pub tag_of : Record → ℕ
+tag_of (deletion key) = 0
+tag_of (value key v) = 1
+tag_of (log_data blob) = 3
+tag_of (single_deletion key) = 7
+
+-- the strings behind it
+abbrev pub strings_of : Record → List (List ℕ)
+strings_of (deletion key) = key ∷ []
+strings_of (value key v) = key ∷ v ∷ []
+strings_of (log_data blob) = blob ∷ []
+strings_of (single_deletion key) = key ∷ []
+
+-- The tags that are read. A tag that is left out here is refused by its number.
+abbrev pub tags : List ℕ
+tags = 0 ∷ 1 ∷ 3 ∷ 7 ∷ []
+
+abbrev pub is_tag : ℕ → Bool
+is_tag t = list_any (λ u. u == t) tags
+
+-- how many strings stand behind a tag
+abbrev pub strings_after : ℕ → ℕ
+strings_after t = if t == 1 then 2 else 1
+
+-- each record but log data counts, and takes a sequence
+abbrev pub is_counted : Record → Bool
+is_counted (value key v) = true
+is_counted (deletion key) = true
+is_counted (single_deletion key) = true
+is_counted (log_data blob) = false
+
+abbrev pub count_of : List Record → ℕ
+count_of records = count_by is_counted records
+
+-- a length and that many bytes
+abbrev pub varstring : List ℕ → List ℕ
+varstring bytes = varint (length bytes) ++ bytes
+
+abbrev pub record_bytes : Record → List ℕ
+record_bytes r = tag_of r ∷ flat_map varstring (strings_of r)
+
+abbrev pub header : ℕ → ℕ → List ℕ
+header sequence count = to_le_bytes w64 sequence ++ to_le_bytes w32 count
+
+abbrev pub body : List Record → List ℕ
+body records = flat_map record_bytes records
+
+-- the bytes of a batch
+abbrev pub batch : ℕ → List Record → List ℕ
+batch sequence records = header sequence (count_of records) ++ body records
+
+-- what has a spelling that is read
+pub record IsReadable (r : Record) : Type 0 where
+  pub tag : IsTrue (is_tag (tag_of r))
+  pub lengths : AllByRecursion (λ s. length s < 2 ^ 32) (strings_of r)
+
+-- the bytes are the batch of these records at this sequence
+pub record IsBatch (bytes : List ℕ) (sequence : ℕ) (records : List Record) : Type 0 where
+  pub spelled : bytes ≡ batch sequence records
+  pub readable : AllByRecursion IsReadable records
+  pub sequence_fits : sequence < 2 ^ 64
+  pub count_fits : count_of records < 2 ^ 32
+
+abbrev pub size_of_batch : List Record → ℕ
+size_of_batch records = length (batch 0 records)
+
+-- The bytes of a group's one log record, a batch too: a header of the first sequence and the sum of the counts, then
+-- the members' bodies.
+abbrev pub group_record : ℕ → List (List Record) → List ℕ
+group_record first members = batch first (flat_map (λ records. records) members)
+
+-- no varstring stands in front of these bytes, and why: its length doesn't read, or passes the end
+abbrev pub NoVarstring : List ℕ → BatchError → Type 0
+NoVarstring bytes Short = IsCodeError bytes code.Short
+    ⊎ ((n : ℕ) × (used : ℕ) × BeginsVarint bytes n used × (length bytes < used + n))
+NoVarstring bytes BadVarint = IsCodeError bytes code.NotShortest ⊎ IsCodeError bytes code.TooLong
+NoVarstring bytes (Tag t) = ⊥
+NoVarstring bytes (Count said found) = ⊥
+
+-- of the n varstrings that should stand in front of these bytes, some do, and the next doesn't
+abbrev pub StringsBreak : ℕ → List ℕ → BatchError → Type 0
+StringsBreak n bytes error = (whole : List (List ℕ)) × (rest : List ℕ) × (length whole < n)
+    × AllByRecursion (λ s. length s < 2 ^ 32) whole
+    × (bytes ≡ flat_map varstring whole ++ rest) × NoVarstring rest error
+
+-- no record stands in front of these bytes, and why
+abbrev pub NoRecord : List ℕ → BatchError → Type 0
+NoRecord [] error = ⊥
+NoRecord (t ∷ bytes) error = (IsTrue (is_tag t) × StringsBreak (strings_after t) bytes error)
+    ⊎ ((is_tag t ≡ false) × (error ≡ Tag t))
+
+-- why bytes are no batch
+pub data IsBatchError (bytes : List ℕ) : BatchError → Type 0 where
+  -- fewer bytes than a header
+  no_header : length bytes < 12 → IsBatchError bytes Short
+  -- records, and then none
+  no_record : {error : BatchError} (records : List Record) (rest : List ℕ) → 12 ≤ length bytes
+      → AllByRecursion IsReadable records
+      → drop 12 bytes ≡ body records ++ rest → NoRecord rest error → IsBatchError bytes error
+  -- another count than the header says
+  wrong_count : {said : ℕ} (records : List Record) → 12 ≤ length bytes → AllByRecursion IsReadable records
+      → drop 12 bytes ≡ body records → said ≡ from_le_bytes w32 (take 4 (drop 8 bytes)) → said ≢ count_of records
+      → IsBatchError bytes (Count said (count_of records))

@@ -1,0 +1,51 @@
+-- What clients ask, what they are told, and what a whole run comes to.
+use Rattle.std.specs.Prelude.{ℕ, List, Option}
+use Rattle.model_base.specs.declared.write.WriteOptions.{WriteOptions}
+use Rattle.model_base.specs.declared.write.Refusal.{Refusal}
+use Rattle.model_base.specs.Batch.{Record}
+use Rattle.model_base.specs.Map.{Pairs}
+use Rattle.model_base.specs.History.{Entry}
+
+-- a line of a client's script
+pub data Command : Type 0 where
+  -- adds a record to the batch, or empties it
+  add : Record → Command
+  clear : Command
+  commit : WriteOptions → Command
+  get : List ℕ → Command
+  many : List (List ℕ) → Command
+  scan : List ℕ → List ℕ → Command
+  -- takes and gives back the two tokens of the write controller
+  stop : Command
+  unstop : Command
+  slow : ℕ → Command
+  unslow : Command
+
+pub data Reply : Type 0 where
+  -- what adds to a batch or empties it has no reply
+  quiet : Reply
+  -- first and last sequence, and the records that were written
+  accepted : ℕ → ℕ → List Record → Reply
+  refused : Refusal → Reply
+  -- what was found at which sequence
+  found : ℕ → Option (List ℕ) → Reply
+  found_each : ℕ → List (Option (List ℕ)) → Reply
+  rows : ℕ → Pairs → Reply
+  done : Reply
+  held : Reply
+  not_held : Reply
+  no_memory : Reply
+
+pub record Call : Type 0 where
+  pub command : Command
+  pub reply : Reply
+
+-- each client's calls with their replies, the one history, the published sequence and the map there, the log's length
+-- and its fault
+pub record Outcome : Type 0 where
+  pub transcripts : List (List Call)
+  pub history : List Entry
+  pub last : ℕ
+  pub state : Pairs
+  pub log_len : ℕ
+  pub fault : Option ℕ

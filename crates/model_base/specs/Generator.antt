@@ -1,0 +1,81 @@
+-- The script that a seed makes, by a linear congruential generator, and the summary of its outcome.
+use Rattle.std.specs.Prelude.{ℕ, zero, suc, ◌+◌, ◌*◌, ◌/◌, ◌%◌, ◌^◌, false, List, [], ◌∷◌, ◌++◌, length, map, sum_by, codes, decimal, ◌==◌, if◌then◌else◌}
+use Rattle.std.specs.List.{range_with_len}
+use Rattle.model_base.specs.declared.write.WriteOptions.{WriteOptions}
+use Rattle.model_base.specs.Batch.{Record, value, deletion}
+use Rattle.model_base.specs.History.{Entry}
+use Rattle.model_base.specs.Calls.{Command, add, commit, Outcome}
+use Rattle.model_base.specs.Script.{Script, value_of_digits}
+use Rattle.model_base.specs.Text.{line}
+
+-- the generator's state after a draw, and the number that is drawn when it comes to a state
+abbrev pub next_state : ℕ → ℕ
+next_state state = (state * 1103515245 + 12345) % 2 ^ 31
+
+abbrev pub number_at : ℕ → ℕ
+number_at state = state / 65536
+
+-- where a client's draws begin
+abbrev pub first_state : ℕ → ℕ → ℕ
+first_state seed client = (seed + client) % 2 ^ 31
+
+-- the first draws of a client, in order
+abbrev pub numbers_from : ℕ → ℕ → List ℕ
+numbers_from zero state = []
+numbers_from (suc n) state = number_at (next_state state) ∷ numbers_from n (next_state state)
+
+-- what some draws made, and the state after them
+pub record Draw (A : Type 0) : Type 0 where
+  pub made : A
+  pub state : ℕ
+
+-- each client has keys of its own
+abbrev pub key_of : ℕ → ℕ → List ℕ
+key_of client n = codes "c" ++ decimal client ++ codes "k" ++ decimal n
+
+-- a draw gives the key's number, one the kind, and for a value one more its number
+abbrev pub record_drawn : ℕ → ℕ → Draw Record
+record_drawn client state =
+    let at_key = next_state state in let key = key_of client (number_at at_key % 100) in
+    let at_kind = next_state at_key in let at_value = next_state at_kind in
+    if number_at at_kind % 4 == 0 then record { made = deletion key; state = at_kind }
+    else record { made = value key (decimal (number_at at_value % 1000)); state = at_value }
+
+abbrev pub with_rest : Draw Record → Draw (List Command) → Draw (List Command)
+with_rest r rest = record { made = add r.made ∷ rest.made; state = rest.state }
+
+-- so many records, one after another
+abbrev pub records_drawn : ℕ → ℕ → ℕ → Draw (List Command)
+records_drawn zero client state = record { made = []; state = state }
+records_drawn (suc n) client state = let r = record_drawn client state in with_rest r (records_drawn n client r.state)
+
+abbrev pub plain : WriteOptions
+plain = record { sync = false; no_log = false; no_slowdown = false }
+
+-- a draw gives how many records a batch has, from one to four; then it is committed
+abbrev pub batch_drawn : ℕ → ℕ → Draw (List Command)
+batch_drawn client state =
+    let at_count = next_state state in let records = records_drawn (1 + number_at at_count % 4) client at_count in
+    record records { made = records.made ++ commit plain ∷ [] }
+
+abbrev pub batches_drawn : ℕ → ℕ → ℕ → List Command
+batches_drawn zero client state = []
+batches_drawn (suc n) client state =
+    let batch = batch_drawn client state in batch.made ++ batches_drawn n client batch.state
+
+-- The script of a seed, for so many clients with so many batches each. A client's batches don't depend on the others.
+abbrev pub generated : ℕ → ℕ → ℕ → Script
+generated seed clients batches =
+    map (λ client. batches_drawn batches client (first_state seed client)) (range_with_len 1 clients)
+
+abbrev pub number_line : List ℕ → ℕ → List ℕ
+number_line word n = line (word ∷ decimal n ∷ [])
+
+-- What is printed of its outcome: clients, accepted batches, counted records, the last sequence, the keys, and the sum
+-- of their values as numbers. Since no key is of two clients, it is the same for every order of their batches.
+abbrev pub summary_text : Outcome → List ℕ
+summary_text o =
+    number_line (codes "clients") (length o.transcripts) ++ number_line (codes "batches") (length o.history)
+    ++ number_line (codes "records") (sum_by (λ (e : Entry). e.count) o.history) ++ number_line (codes "last") o.last
+    ++ number_line (codes "keys") (length o.state)
+    ++ number_line (codes "sum") (sum_by (λ p. value_of_digits p.1) o.state)

@@ -1,0 +1,175 @@
+-- For which groups of commits the controller was asked for a delay, and that each commit's status is that of the trace.
+use Rattle.std.specs.Prelude.{◌≡◌, ◌≢◌, ◌⊎◌, ℕ, ◌+◌, ◌<◌, Bool, true, false, IsTrue, List, [], ◌∷◌, length, map, flat_map, ⊤, Option, Some, slice_get}
+use Rattle.std.specs.List.{AllByRecursion, AllZip}
+use Rattle.model_base.specs.declared.group.Item.{Item}
+use Rattle.model_base.specs.History.{IsBoundary}
+use Rattle.model_base.specs.Grouping.{size_of, group_len}
+use Rattle.model_base.specs.Controller.{ControllerCall, Action, stop, unstop, slow, unslow, delay, look, Look, HoldUp}
+use Rattle.model_base.specs.Trace.{Trace}
+use Rattle.model_base.specs.Attempts.{Attempt, WriteStatus, succeeded, slowed, faulted, full, item_of}
+
+-- a commit: whose, the how many-th (from 0) of that client's that were taken in hand, and what grouping sees of it
+pub record Member : Type 0 where
+  pub client : ℕ
+  pub call : ℕ
+  pub item : Item
+
+abbrev pub items_of : List Member → List Item
+items_of members = map (λ (m : Member). m.item) members
+
+-- each client waits in one place at most
+abbrev pub AreOfOthers : List Member → Type 0
+AreOfOthers [] = ⊤
+AreOfOthers (m ∷ members) = AllByRecursion (λ (n : Member). m.client ≢ n.client) members × AreOfOthers members
+
+-- these are a whole group by the rule of grouping
+pub record IsGroup (group_bytes : ℕ) (members : List Member) : Type 0 where
+  pub some : 0 < length members
+  pub whole : group_len group_bytes (items_of members) ≡ length members
+  pub of_others : AreOfOthers members
+
+-- a group of commits, and the place (from 0) of the delay that was asked for it in the controller's history
+pub record Group : Type 0 where
+  pub place : ℕ
+  pub members : List Member
+
+-- there stands a delay of the sum of its sizes
+pub record IsAskedFor (group_bytes : ℕ) (controller_calls : List ControllerCall) (g : Group) : Type 0 where
+  pub by : ℕ
+  pub now : ℕ
+  pub told : Option Look
+  pub there : slice_get controller_calls g.place
+      ≡ Some (record { client = by; action = delay now (size_of (items_of g.members)); told = told })
+  pub is_group : IsGroup group_bytes g.members
+
+pub record HasPlace (groups : List Group) (place : ℕ) : Type 0 where
+  pub at : ℕ
+  pub group : Group
+  pub there : slice_get groups at ≡ Some group
+  pub is : group.place ≡ place
+
+abbrev pub is_delay : Action → Bool
+is_delay stop = false
+is_delay unstop = false
+is_delay (slow rate) = false
+is_delay unslow = false
+is_delay (delay now bytes) = true
+is_delay look = false
+
+-- each delay, from a place on, was asked for one of the groups
+abbrev pub AreAsked : List Group → ℕ → List ControllerCall → Type 0
+AreAsked groups place [] = ⊤
+AreAsked groups place (t ∷ controller_calls) = (IsTrue (is_delay t.action) → HasPlace groups place)
+    × AreAsked groups (place + 1) controller_calls
+
+-- it stands among the commits of the clients, which are in order of their numbers from 1
+pub record IsCommit (attempts : List (List Attempt)) (m : Member) : Type 0 where
+  pub number : ℕ
+  pub commits : List Attempt
+  pub attempt : Attempt
+  pub client : m.client ≡ number + 1
+  pub of_client : slice_get attempts number ≡ Some commits
+  pub there : slice_get commits m.call ≡ Some attempt
+  pub item : m.item ≡ item_of attempt
+
+-- no commit stands twice
+abbrev pub AreApart : Member → Member → Type 0
+AreApart m n = m.client ≡ n.client → m.call ≢ n.call
+
+abbrev pub AreAllApart : List Member → Type 0
+AreAllApart [] = ⊤
+AreAllApart (m ∷ members) = AllByRecursion (AreApart m) members × AreAllApart members
+
+-- no delay stands for two groups
+abbrev pub HaveOwnPlaces : List Group → Type 0
+HaveOwnPlaces [] = ⊤
+HaveOwnPlaces (g ∷ groups) = AllByRecursion (λ (h : Group). g.place ≢ h.place) groups × HaveOwnPlaces groups
+
+abbrev pub members_of : List Group → List Member
+members_of groups = flat_map (λ (g : Group). g.members) groups
+
+-- the group whose delay stands at a place holds this commit
+pub record Holds (groups : List Group) (place client call : ℕ) : Type 0 where
+  pub at : ℕ
+  pub group : Group
+  pub of_place : slice_get groups at ≡ Some group
+  pub place_is : group.place ≡ place
+  pub among : ℕ
+  pub member : Member
+  pub there : slice_get group.members among ≡ Some member
+  pub client_is : member.client ≡ client
+  pub call_is : member.call ≡ call
+
+-- A look of this client told of no stop, behind the delay at a place, and before each of these delays that are behind
+-- it.
+pub record SawNoStop (controller_calls : List ControllerCall) (delays : List ℕ) (client place : ℕ) : Type 0 where
+  pub at : ℕ
+  pub numbers : Look
+  pub there : slice_get controller_calls at ≡ Some (record { client = client; action = look; told = Some numbers })
+  pub behind : place < at
+  pub before : AllByRecursion (λ (delay : ℕ). place < delay → at < delay) delays
+  pub free : numbers.stops ≡ 0
+
+-- What was told at its group's delay lets a commit be written: one that may not wait where writes aren't held up, and
+-- one that may once no stop was told.
+abbrev pub MayProceed : List ControllerCall → List ℕ → ℕ → ℕ → Look → Bool → Type 0
+MayProceed controller_calls delays client place numbers true = HoldUp numbers → ⊥
+MayProceed controller_calls delays client place numbers false =
+    (numbers.stops ≡ 0) ⊎ SawNoStop controller_calls delays client place
+
+-- the same for a group of these items, whose delay stands at the place
+pub record Proceeds (controller_calls : List ControllerCall) (delays : List ℕ) (place : ℕ) (items : List Item) : Type 0
+  where
+    pub by : ℕ
+    pub now : ℕ
+    pub bytes : ℕ
+    pub numbers : Look
+    pub there : slice_get controller_calls place
+        ≡ Some (record { client = by; action = delay now bytes; told = Some numbers })
+    pub each : AllByRecursion
+        (λ (i : Item). MayProceed controller_calls delays by place numbers i.no_slowdown) items
+
+abbrev pub is_slowed : WriteStatus → Bool
+is_slowed (slowed place) = true
+is_slowed succeeded = false
+is_slowed (faulted count) = false
+is_slowed (full last) = false
+
+-- of these statuses each tells that writes are held up, or the group goes on, and none does
+abbrev pub StandTogether : List ControllerCall → List ℕ → ℕ → List Item → List WriteStatus → Type 0
+StandTogether controller_calls delays place items statuses = AllByRecursion (λ status. status ≡ slowed place) statuses
+    ⊎ (AllByRecursion (λ status. is_slowed status ≡ false) statuses × Proceeds controller_calls delays place items)
+
+-- a group is refused whole while writes are held up, or goes on whole
+pub record StandsTogether (controller_calls : List ControllerCall) (groups : List Group)
+    (attempts : List (List Attempt)) (g : Group) : Type 0 where
+  pub statuses : List WriteStatus
+  pub are : AllZip (λ (m : Member) status. (c : IsCommit attempts m) × (c.attempt.status ≡ status)) g.members statuses
+  pub together : StandTogether controller_calls (map (λ (h : Group). h.place) groups) g.place (items_of g.members)
+      statuses
+
+-- The delays of the controller's history are one for each of these groups. Each commit stands in one, and in no two.
+pub record AreGroups (group_bytes : ℕ) (controller_calls : List ControllerCall) (groups : List Group)
+    (attempts : List (List Attempt)) : Type 0 where
+  pub each : AllByRecursion (IsAskedFor group_bytes controller_calls) groups
+  pub all : AreAsked groups 0 controller_calls
+  pub places : HaveOwnPlaces groups
+  pub commits : AllByRecursion (IsCommit attempts) (members_of groups)
+  pub apart : AreAllApart (members_of groups)
+  pub none_else : (number : ℕ) (commits : List Attempt) (call : ℕ) (attempt : Attempt)
+      → slice_get attempts number ≡ Some commits → slice_get commits call ≡ Some attempt
+      → (place : ℕ) × Holds groups place (number + 1) call
+  pub together : AllByRecursion (StandsTogether controller_calls groups attempts) groups
+
+-- a status is that of the trace
+abbrev pub IsStatus : Trace → List Group → Option ℕ → ℕ → ℕ → WriteStatus → Type 0
+IsStatus trace groups fault client call succeeded = ⊤
+IsStatus trace groups fault client call (slowed place) = Holds groups place client call
+IsStatus trace groups fault client call (faulted count) = fault ≡ Some count
+IsStatus trace groups fault client call (full last) = IsBoundary trace.start trace.entries last
+
+-- the same for a client's commits in order, from one on
+abbrev pub AreStatuses : Trace → List Group → Option ℕ → ℕ → ℕ → List Attempt → Type 0
+AreStatuses trace groups fault client call [] = ⊤
+AreStatuses trace groups fault client call (h ∷ attempts) = IsStatus trace groups fault client call h.status
+    × AreStatuses trace groups fault client (call + 1) attempts

@@ -1,0 +1,43 @@
+-- What a run leaves in the log.
+use Rattle.std.specs.Prelude.{◌≡◌, ℕ, ◌<◌, Bool, Option, List, [], ◌∷◌, length, take, map, flat_map, None}
+use Rattle.std.specs.List.{AllByRecursion}
+use Rattle.model_base.specs.Batch.{Record, group_record}
+use Rattle.model_base.specs.Log.{text}
+use Rattle.model_base.specs.History.{Entry, RunsFollow, logged}
+use Rattle.model_base.specs.Calls.{Outcome}
+
+-- the one record of a group of logged entries
+abbrev pub record_of_entries : List Entry → List ℕ
+record_of_entries [] = []
+record_of_entries (e ∷ es) = group_record e.first (map (λ (x : Entry). x.records) (e ∷ es))
+
+-- the logged entries of a history, cut into consecutive groups
+pub record AreGroupsOf (entries : List Entry) (groups : List (List Entry)) : Type 0 where
+  pub cut : logged entries ≡ flat_map (λ g. g) groups
+  pub none_empty : AllByRecursion (λ g. 0 < length g) groups
+  pub runs : AllByRecursion RunsFollow groups
+
+abbrev pub records_of : List (List Entry) → List (List ℕ)
+records_of groups = map record_of_entries groups
+
+-- The log holds these groups: its content up to the printed length is the text of their records.
+pub record IsLogOf (o : Outcome) (content : List ℕ) (groups : List (List Entry)) : Type 0 where
+  pub of_history : AreGroupsOf o.history groups
+  pub content_is : take o.log_len content ≡ text None (records_of groups)
+  pub length_is : o.log_len ≡ length (text None (records_of groups))
+
+-- a call of `add_group`, and the count of faults that it was answered where it failed
+pub record GroupCall : Type 0 where
+  pub first : ℕ
+  pub batches : List (List Record)
+  pub sync : Bool
+  pub failed : Option ℕ
+
+-- the one record of its group
+abbrev pub record_of_call : GroupCall → List ℕ
+record_of_call c = group_record c.first c.batches
+
+-- An image that is longer than this text, and than what could be reached before the text was written, begins with the
+-- text.
+abbrev pub HoldsUpTo : ℕ → List ℕ → List ℕ → Type 0
+HoldsUpTo reached t image = length t < length image → reached < length image → take (length t) image ≡ t

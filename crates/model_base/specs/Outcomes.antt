@@ -1,0 +1,77 @@
+-- The outcome of a run is legal: its replies are those of a plain map at points of one history.
+use Rattle.std.specs.Prelude.{◌≡◌, ℕ, ◌+◌, ◌≤◌, IsTrue, List, ◌++◌, length, filter, Option, Some, slice_get, ◌==◌, IfSome}
+use Rattle.std.specs.List.{AllByRecursion}
+use Rattle.model_base.specs.History.{Entry, IsHistory, last_sequence, map_of}
+use Rattle.model_base.specs.Counts.{Rose}
+use Rattle.model_base.specs.Controller.{ControllerCall}
+use Rattle.model_base.specs.Controller.{IsLegal as IsControllerHistory}
+use Rattle.model_base.specs.Tokens.{is_token, tokens_of, given_back}
+use Rattle.model_base.specs.Trace.{Trace, Settings}
+use Rattle.model_base.specs.Attempts.{Attempt}
+use Rattle.model_base.specs.Groups.{Group, AreGroups, AreStatuses}
+use Rattle.model_base.specs.Progress.{Progress}
+use Rattle.model_base.specs.Runs.{IsTranscript}
+use Rattle.model_base.specs.Calls.{Command, Call, Outcome}
+
+-- the entries of a client
+abbrev pub entries_of_client : ℕ → List Entry → List Entry
+entries_of_client client entries = filter (λ (e : Entry). e.client == client) entries
+
+abbrev pub IsClient : Settings → ℕ → Type 0
+IsClient settings client = (1 ≤ client) × (client ≤ settings.clients)
+
+-- one history of whole batches and one of the controller, which name the clients alone
+pub record IsTrace (settings : Settings) (trace : Trace) : Type 0 where
+  pub start : trace.start ≡ settings.start
+  pub entries : IsHistory trace.start trace.entries
+  pub controller_calls : IsControllerHistory trace.controller_calls
+  pub clients : AllByRecursion (λ (e : Entry). IsClient settings e.client) trace.entries
+  pub tokens : AllByRecursion
+      (λ (t : ControllerCall). IsTrue (is_token t.action) → IsClient settings t.client) trace.controller_calls
+
+-- A client's calls are right in the trace. Its accepted batches are just its entries there, its calls of the controller
+-- just its tokens there, with what it gave back at its end, and its commits' statuses those of the trace
+pub record IsLegalTranscript (settings : Settings) (trace : Trace) (groups : List Group) (fault : Option ℕ) (client : ℕ)
+    (commands : List Command) (calls : List Call) (attempts : List Attempt) : Type 0 where
+  pub end : Progress
+  pub is_transcript : IsTranscript settings trace client commands calls end
+  pub accepted : entries_of_client client trace.entries ≡ end.mine
+  pub tokens : tokens_of client trace.controller_calls ≡ end.asked ++ given_back end.asked
+  pub commits : attempts ≡ end.attempts
+  pub statuses : AreStatuses trace groups fault client 0 attempts
+
+-- The trace of an outcome, and the commits of each client that came to a leader's hand. What no reply shows is these,
+-- the controller's history and the groups that asked it for a delay.
+pub record IsLegalIn (settings : Settings) (ended : ℕ) (script : List (List Command)) (trace : Trace)
+    (attempts : List (List Attempt)) (o : Outcome) : Type 0 where
+  pub is_trace : IsTrace settings trace
+  pub history : o.history ≡ trace.entries
+  pub clients : settings.clients ≡ length script
+  pub count : length o.transcripts ≡ length script
+  pub count_attempts : length attempts ≡ length script
+  pub groups : List Group
+  pub are_groups : AreGroups settings.group_bytes trace.controller_calls groups attempts
+  pub each : (i : ℕ) (commands : List Command) (calls : List Call) → slice_get script i ≡ Some commands
+      → slice_get o.transcripts i ≡ Some calls
+      → (h : List Attempt) × (slice_get attempts i ≡ Some h)
+      × IsLegalTranscript settings trace groups o.fault (i + 1) commands calls h
+  pub last : o.last ≡ last_sequence trace.start trace.entries
+  pub state : o.state ≡ map_of trace.entries
+  pub fault : IfSome o.fault (λ count. Rose settings.opened count × (count ≤ ended))
+
+-- the outcome of a trace in which the clients were answered so
+abbrev pub outcome_of : Trace → List (List Call) → ℕ → ℕ → Option ℕ → Outcome
+outcome_of trace transcripts last log_len fault =
+    record {
+      transcripts = transcripts;
+      history = trace.entries;
+      last = last;
+      state = map_of trace.entries;
+      log_len = log_len;
+      fault = fault;
+    }
+
+pub record IsLegal (settings : Settings) (ended : ℕ) (script : List (List Command)) (o : Outcome) : Type 0 where
+  pub trace : Trace
+  pub attempts : List (List Attempt)
+  pub legal : IsLegalIn settings ended script trace attempts o

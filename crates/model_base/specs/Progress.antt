@@ -1,0 +1,57 @@
+-- Where a client stands between two of its calls.
+use Rattle.std.specs.Prelude.{ℕ, ◌+◌, Bool, not, ◌&&◌, List, [], ◌∷◌, ◌++◌, length, fold, Option, Some, None, nat_lt, ◌==◌, if◌then◌else◌}
+use Rattle.model_base.specs.declared.write.WriteOptions.{WriteOptions}
+use Rattle.model_base.specs.declared.write.Refusal.{Refusal}
+use Rattle.model_base.specs.declared.write.Refusal.TheVariants as no
+use Rattle.model_base.specs.Batch.{Record, count_of, size_of_batch}
+use Rattle.model_base.specs.History.{Entry, flag_of}
+use Rattle.model_base.specs.Controller.{Action}
+use Rattle.model_base.specs.Attempts.{Attempt}
+use Rattle.model_base.specs.Calls.{Command, add, clear, commit, Reply, accepted, Call}
+
+pub record Progress : Type 0 where
+  -- the records of its batch: what was added since the last `ok` or `clear`
+  pub pending : List Record
+  -- its accepted batches, in order
+  pub mine : List Entry
+  -- its calls of the controller that were done
+  pub asked : List Action
+  -- its commits that a leader took in hand
+  pub attempts : List Attempt
+  -- it was shown what was published up to here
+  pub seen_up_to : ℕ
+  -- how many of the controller's calls its pass has seen
+  pub known : ℕ
+
+abbrev pub fresh : Progress
+fresh = record { pending = []; mine = []; asked = []; attempts = []; seen_up_to = 0; known = 0 }
+
+-- a client's next entry
+abbrev pub next_entry : ℕ → List Entry → WriteOptions → ℕ → List Record → Entry
+next_entry client mine how first records =
+    record {
+      client = client;
+      ordinal = 1 + length mine;
+      first = first;
+      count = count_of records;
+      flag = flag_of how;
+      records = records;
+    }
+
+-- Which refusal stands before a batch is linked, if one does: the checks in their order
+abbrev pub early_refusal : ℕ → Bool → List Record → WriteOptions → Option Refusal
+early_refusal batch_bytes stopping records how =
+    if count_of records == 0 then Some no.Empty
+    else if nat_lt batch_bytes (size_of_batch records) then Some (no.TooLarge (size_of_batch records))
+    else if how.sync && how.no_log then Some no.SyncWithoutLog
+    else if stopping && not how.no_slowdown then Some no.SelfStop else None
+
+-- the records of a client's batch after a call, and after all its calls
+abbrev pub added_by : List Record → Command → Reply → List Record
+added_by records (add r) reply = records ++ r ∷ []
+added_by records clear reply = []
+added_by records (commit how) (accepted first last own) = []
+added_by records other reply = records
+
+abbrev pub batch_after : List Call → List Record
+batch_after calls = fold (λ records c. added_by records c.command c.reply) [] calls

@@ -1,0 +1,136 @@
+-- What a reader sees at a place of a log, and why reading ends.
+use Rattle.std.specs.Prelude.{◌≡◌, ℕ, ◌+◌, ◌-◌, not, Bool, List, [], ◌∷◌, ◌++◌, length, take, drop, slice_index, Option, Some, None, nat_lt, bytes_eq, ◌==◌, if◌then◌else◌, ⊤}
+use Rattle.std.specs.List.{AllByRecursion, list_all}
+use Rattle.std.specs.Int.{w16, w32, to_le_bytes, from_le_bytes}
+use Rattle.model_base.specs.declared.log.Damage.{Damage}
+use Rattle.model_base.specs.declared.log.Damage.TheVariants.{ShortHeader, Zeros, BadLength, BadType, BadChecksum, BadTrailer, OldLog}
+use Rattle.model_base.specs.declared.log.EndReason.{EndReason}
+use Rattle.model_base.specs.declared.log.EndReason.TheVariants as ends
+use Rattle.model_base.specs.Checksum.{crc32c, masked}
+use Rattle.model_base.specs.Log.{Kind, full, first, middle, last, Fragment, AreOneRecord, kinds_of, header_len, room, next_place, placed, FitFrom}
+
+-- a fragment, the end of what there is, or damage
+pub data Seen : Type 0 where
+  fragment : Fragment → Seen
+  nothing : Seen
+  damage : Damage → Seen
+
+abbrev pub are_zeros : List ℕ → Bool
+are_zeros bytes = list_all (λ b. b == 0) bytes
+
+-- the fields of a header that stands in front
+abbrev pub checksum_field : List ℕ → ℕ
+checksum_field bytes = from_le_bytes w32 (take 4 bytes)
+
+abbrev pub length_field : List ℕ → ℕ
+length_field bytes = from_le_bytes w16 (take 2 (drop 4 bytes))
+
+abbrev pub type_field : List ℕ → ℕ
+type_field bytes = slice_index bytes 6
+
+abbrev pub number_field : List ℕ → ℕ
+number_field bytes = from_le_bytes w32 (take 4 (drop 7 bytes))
+
+abbrev pub part_field : Option ℕ → List ℕ → List ℕ
+part_field number bytes = take (length_field bytes) (drop (header_len number) bytes)
+
+abbrev pub kind_of_code : Option ℕ → ℕ → Option Kind
+kind_of_code (Some n) code = if code == 5 then Some full else (if code == 6 then Some first
+    else (if code == 7 then Some middle else (if code == 8 then Some last else None)))
+kind_of_code None code = if code == 1 then Some full else (if code == 2 then Some first
+    else (if code == 3 then Some middle else (if code == 4 then Some last else None)))
+
+-- the fragment of this kind, where its checksum is right
+abbrev pub checked : List ℕ → Option Kind → Seen
+checked bytes None = damage (BadType (type_field bytes))
+checked bytes (Some k) = if checksum_field bytes == masked (crc32c (type_field bytes ∷ part_field None bytes))
+    then fragment (record { kind = k; part = part_field None bytes }) else damage BadChecksum
+
+-- the same of a log with a number, where a fragment of another log is found before its length is looked at
+abbrev pub checked_numbered : ℕ → List ℕ → Option Kind → Seen
+checked_numbered n bytes None = damage (BadType (type_field bytes))
+checked_numbered n bytes (Some k) =
+    if not (bytes_eq (take 4 (drop 7 bytes)) (to_le_bytes w32 n)) then damage (OldLog (number_field bytes))
+    else if nat_lt (length bytes) (11 + length_field bytes) then damage BadLength
+    else if checksum_field bytes == masked (crc32c (type_field bytes ∷ to_le_bytes w32 n ++ part_field (Some n) bytes))
+    then fragment (record { kind = k; part = part_field (Some n) bytes }) else damage BadChecksum
+
+-- what stands in front of these bytes, with space for that many up to the end of the block
+unfoldable pub seen_within : Option ℕ → ℕ → List ℕ → Seen
+seen_within None space bytes =
+    if nat_lt space 7 then (if are_zeros bytes then nothing else damage BadTrailer)
+    else if length bytes == 0 then nothing
+    else if nat_lt (length bytes) 7 then damage ShortHeader
+    else if are_zeros (take 7 bytes) then damage Zeros
+    else if nat_lt (length bytes) (7 + length_field bytes) then damage BadLength
+    else checked bytes (kind_of_code None (type_field bytes))
+seen_within (Some n) space bytes =
+    if nat_lt space 11 then (if are_zeros bytes then nothing else damage BadTrailer)
+    else if length bytes == 0 then nothing
+    else if nat_lt (length bytes) 11 then damage ShortHeader
+    else if are_zeros (take 11 bytes) then damage Zeros
+    else checked_numbered n bytes (kind_of_code (Some n) (type_field bytes))
+
+-- the same at a place of a block, of whose bytes the file has these
+abbrev pub seen_in_block : Option ℕ → List ℕ → ℕ → Seen
+seen_in_block number block at = seen_within number (32768 - at) (drop at block)
+
+-- the same at a place of a file
+abbrev pub seen_at : Option ℕ → List ℕ → ℕ → Seen
+seen_at number file place = seen_within number (room place) (take (room place) (drop place file))
+
+-- what the reader sees next, and where: behind the zeros that end a block it goes on in the next one
+pub record Next : Type 0 where
+  pub at : ℕ
+  pub seen : Seen
+
+abbrev pub behind_zeros : Option ℕ → List ℕ → ℕ → Seen → Next
+behind_zeros number file offset nothing =
+    record { at = next_place number offset; seen = seen_at number file (next_place number offset) }
+behind_zeros number file offset (damage d) = record { at = offset; seen = damage d }
+behind_zeros number file offset (fragment f) = record { at = offset; seen = fragment f }
+
+abbrev pub next_seen : Option ℕ → List ℕ → ℕ → Next
+next_seen number file offset = behind_zeros number file offset (seen_at number file offset)
+
+-- these fragments stand in the file from an offset on
+pub record Stand (number : Option ℕ) (file : List ℕ) (offset : ℕ) (fs : List Fragment) : Type 0 where
+  pub rest : List ℕ
+  pub there : drop offset file ≡ placed number offset fs ++ rest
+  pub fit : FitFrom number offset fs
+
+abbrev pub end_of : Option ℕ → ℕ → List Fragment → ℕ
+end_of number offset fs = offset + length (placed number offset fs)
+
+-- the kinds of a record's first fragments, none or more, with its last one still to come
+abbrev pub AreBegun : List Kind → Type 0
+AreBegun [] = ⊤
+AreBegun (first ∷ kinds) = AllByRecursion (λ k. k ≡ middle) kinds
+AreBegun (full ∷ kinds) = ⊥
+AreBegun (middle ∷ kinds) = ⊥
+AreBegun (last ∷ kinds) = ⊥
+
+-- these fragments, which begin a record, stand there, and this is what the reader sees behind them
+pub record Comes (number : Option ℕ) (file : List ℕ) (offset : ℕ) (fs : List Fragment) (next : Next) : Type 0 where
+  pub begun : AreBegun (kinds_of fs)
+  pub stand : Stand number file offset fs
+  pub is_next : next ≡ next_seen number file (end_of number offset fs)
+
+-- why no record is read at an offset, and where that shows
+pub data ReadingEnds (number : Option ℕ) (file : List ℕ) (offset : ℕ) : ℕ → EndReason → Type 0 where
+  -- the file ends where a record may begin
+  clean : {at : ℕ} → Comes number file offset [] (record { at = at; seen = nothing })
+      → ReadingEnds number file offset (length file) ends.Clean
+  -- a fragment doesn't read
+  broken : {at : ℕ} {d : Damage} (fs : List Fragment)
+      → Comes number file offset fs (record { at = at; seen = damage d })
+      → ReadingEnds number file offset at (ends.Broken d)
+  -- one reads and stands in a wrong place
+  bad_order : {at : ℕ} {f : Fragment} (fs : List Fragment)
+      → Comes number file offset fs (record { at = at; seen = fragment f })
+      → (AreBegun (kinds_of (fs ++ f ∷ [])) → ⊥) → (AreOneRecord (kinds_of (fs ++ f ∷ [])) → ⊥)
+      → ReadingEnds number file offset at ends.BadOrder
+  -- the file ends inside a record
+  unfinished : {at : ℕ} (f : Fragment) (fs : List Fragment)
+      → Comes number file offset (f ∷ fs) (record { at = at; seen = nothing })
+      → ReadingEnds number file offset (next_place number offset) ends.Unfinished

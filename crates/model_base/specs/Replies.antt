@@ -1,0 +1,184 @@
+-- Which replies a client may get, and where it then stands.
+use Rattle.std.specs.Prelude.{◌≡◌, ℕ, ◌+◌, ◌<◌, ◌≤◌, true, false, List, [], ◌∷◌, ◌++◌, map, max, Option, Some, None, slice_get, MatchOption, ⊤}
+use Rattle.std.specs.List.{AllByRecursion}
+use Rattle.model_base.specs.declared.write.WriteOptions.{WriteOptions}
+use Rattle.model_base.specs.declared.write.Refusal.{Refusal}
+use Rattle.model_base.specs.declared.write.Refusal.TheVariants as no
+use Rattle.model_base.specs.Batch.{Record, count_of}
+use Rattle.model_base.specs.Map.{Pairs, value_at, rows_within}
+use Rattle.model_base.specs.History.{Entry, IsUpTo, map_of, max_sequence, last_of}
+use Rattle.model_base.specs.Controller as controller
+use Rattle.model_base.specs.Controller.{ControllerCall, Action, Look, HoldUp}
+use Rattle.model_base.specs.Tokens.{holds_stop, holds_slow}
+use Rattle.model_base.specs.Trace.{Trace, Settings}
+use Rattle.model_base.specs.Attempts.{Attempt, WriteStatus, succeeded, slowed, faulted, full, with_attempt, knows_dead}
+use Rattle.model_base.specs.Progress.{Progress, next_entry, early_refusal}
+use Rattle.model_base.specs.Calls.{Command, add, clear, commit, get, many, scan, stop, unstop, slow, unslow, Reply, quiet, accepted, refused, found, found_each, rows, done, held, not_held}
+
+-- Refusals
+
+-- a call stands at this place of the controller's history, behind all that was known
+pub record IsLater (controller_calls : List ControllerCall) (known place : ℕ) (call : ControllerCall) : Type 0 where
+  pub later : known ≤ place
+  pub there : slice_get controller_calls place ≡ Some call
+
+-- The numbers are those of a look, or of the delay that was asked for the commit's group, which stands behind all that
+-- the client knew before its call, and which it knows once the call returns. What the group was stands beside the
+-- controller's history.
+abbrev pub IsTold : List ControllerCall → ℕ → ℕ → Look → Option WriteStatus → Type 0
+IsTold controller_calls knew knows numbers None = (place : ℕ) × (by : ℕ)
+    × IsLater controller_calls knew place (record { client = by; action = controller.look; told = Some numbers })
+    × (place < knows)
+IsTold controller_calls knew knows numbers (Some (slowed place)) = (by : ℕ) × (now : ℕ) × (bytes : ℕ)
+    × IsLater controller_calls knew place
+    (record { client = by; action = controller.delay now bytes; told = Some numbers })
+    × (place < knows)
+IsTold controller_calls knew knows numbers (Some other) = ⊥
+
+-- no accepted batch ends past a sequence
+abbrev pub AreUpTo : List Entry → ℕ → Type 0
+AreUpTo mine last = AllByRecursion (λ e. last_of e ≤ last) mine
+
+-- where there was no room for a run, the sequence given last was below this one
+abbrev pub IsFullBelow : ℕ → WriteStatus → Type 0
+IsFullBelow sequence (full last) = last < sequence
+IsFullBelow sequence succeeded = ⊤
+IsFullBelow sequence (slowed place) = ⊤
+IsFullBelow sequence (faulted count) = ⊤
+
+abbrev pub AreFullBelow : ℕ → List Attempt → Type 0
+AreFullBelow sequence attempts = AllByRecursion (λ (h : Attempt). IsFullBelow sequence h.status) attempts
+
+-- why a commit of a client that stands there may be refused, past the early checks; how much of the controller's
+-- history the client then knows; and what became of the commit in the queue where it came into a leader's hand
+abbrev pub MayRefuse : List ControllerCall → Progress → ℕ → WriteOptions → Refusal → Option WriteStatus → Type 0
+MayRefuse controller_calls p knows how (no.Incomplete stops delays wait) status =
+    (how.no_slowdown ≡ true) × HoldUp (record { stops = stops; delays = delays; wait = wait })
+    × IsTold controller_calls p.known knows (record { stops = stops; delays = delays; wait = wait }) status
+MayRefuse controller_calls p knows how (no.LogFault count) status = status ≡ Some (faulted count)
+MayRefuse controller_calls p knows how (no.SequenceFull last) status =
+    (status ≡ Some (full last)) × (knows_dead p.attempts ≡ false) × (p.seen_up_to ≤ last) × AreUpTo p.mine last
+    × AreFullBelow (last + 1) p.attempts × (max_sequence < last + count_of p.pending)
+MayRefuse controller_calls p knows how no.Empty status = ⊥
+MayRefuse controller_calls p knows how (no.TooLarge size) status = ⊥
+MayRefuse controller_calls p knows how no.SyncWithoutLog status = ⊥
+MayRefuse controller_calls p knows how no.SelfStop status = ⊥
+MayRefuse controller_calls p knows how no.NoMemory status = ⊥
+
+-- Each command
+
+-- nothing but what is known of the controller may have changed
+abbrev pub Stays : Progress → Progress → Type 0
+Stays p q = q ≡ record p { known = q.known }
+
+abbrev pub Adds : Progress → Record → Reply → Progress → Type 0
+Adds p r quiet q = q ≡ record p { pending = p.pending ++ r ∷ []; known = q.known }
+Adds p r other q = ⊥
+
+abbrev pub Clears : Progress → Reply → Progress → Type 0
+Clears p quiet q = q ≡ record p { pending = []; known = q.known }
+Clears p other q = ⊥
+
+-- The batch has a run, which was replied, and is the client's next entry. The run is above all that the client was
+-- shown, and above each sequence behind which there was no room for a batch of its.
+pub record IsAccepted (client : ℕ) (p : Progress) (how : WriteOptions) (first last : ℕ) (records : List Record)
+    (q : Progress) : Type 0 where
+  pub batch : records ≡ p.pending
+  pub run : last + 1 ≡ first + count_of p.pending
+  pub above : p.seen_up_to < first
+  pub behind : AreFullBelow first p.attempts
+  pub alive : knows_dead p.attempts ≡ false
+  pub after : q ≡ record p {
+    pending = [];
+    mine = p.mine ++ next_entry client p.mine how first p.pending ∷ [];
+    attempts = with_attempt p.attempts p.pending how (Some succeeded);
+    seen_up_to = max p.seen_up_to last;
+    known = q.known;
+  }
+
+-- a commit that passed the early checks
+abbrev pub IsAttempted : Trace → ℕ → Progress → WriteOptions → Reply → Progress → Type 0
+IsAttempted trace client p how (accepted first last records) q = IsAccepted client p how first last records q
+IsAttempted trace client p how (refused why) q =
+    (status : Option WriteStatus) × MayRefuse trace.controller_calls p q.known how why status
+    × (q ≡ record p { attempts = with_attempt p.attempts p.pending how status; known = q.known })
+IsAttempted trace client p how other q = ⊥
+
+abbrev pub Commits : Settings → Trace → ℕ → Progress → WriteOptions → Reply → Progress → Type 0
+Commits settings trace client p how reply q =
+    MatchOption (early_refusal settings.batch_bytes (holds_stop p.asked) p.pending how)
+    (IsAttempted trace client p how reply q) (λ why. (reply ≡ refused why) × Stays p q)
+
+-- a read at a boundary of the history that isn't below any sequence that the client was shown
+pub record ReadsAt (trace : Trace) (p : Progress) (at : ℕ) (answers : Pairs → Type 0) (q : Progress) : Type 0 where
+  pub front : List Entry
+  pub is_front : IsUpTo trace.start trace.entries at front
+  pub not_below : p.seen_up_to ≤ at
+  pub answer : answers (map_of front)
+  pub after : q ≡ record p { seen_up_to = at; known = q.known }
+
+abbrev pub Gets : Trace → Progress → List ℕ → Reply → Progress → Type 0
+Gets trace p key (found at v) q = ReadsAt trace p at (λ m. v ≡ value_at m key) q
+Gets trace p key other q = ⊥
+
+abbrev pub GetsMany : Trace → Progress → List (List ℕ) → Reply → Progress → Type 0
+GetsMany trace p keys (found_each at vs) q = ReadsAt trace p at (λ m. vs ≡ map (value_at m) keys) q
+GetsMany trace p keys other q = ⊥
+
+abbrev pub Scans : Trace → Progress → List ℕ → List ℕ → Reply → Progress → Type 0
+Scans trace p lo hi (rows at pairs) q = ReadsAt trace p at (λ m. pairs ≡ rows_within lo hi m) q
+Scans trace p lo hi other q = ⊥
+
+-- a token is taken or given back: the controller's history has that call, behind what was known, and now the client
+-- knows it
+pub record IsDone (trace : Trace) (client : ℕ) (p : Progress) (action : Action) (q : Progress) : Type 0 where
+  pub place : ℕ
+  pub is_later : IsLater trace.controller_calls p.known place (record { client = client; action = action; told = None })
+  pub known : place < q.known
+  pub after : q ≡ record p { asked = p.asked ++ action ∷ []; known = q.known }
+
+abbrev pub Stops : Trace → ℕ → Progress → Reply → Progress → Type 0
+Stops trace client p done q = (holds_stop p.asked ≡ false) × IsDone trace client p controller.stop q
+Stops trace client p held q = (holds_stop p.asked ≡ true) × Stays p q
+Stops trace client p other q = ⊥
+
+abbrev pub Unstops : Trace → ℕ → Progress → Reply → Progress → Type 0
+Unstops trace client p done q = (holds_stop p.asked ≡ true) × IsDone trace client p controller.unstop q
+Unstops trace client p not_held q = (holds_stop p.asked ≡ false) × Stays p q
+Unstops trace client p other q = ⊥
+
+abbrev pub Slows : Trace → ℕ → Progress → ℕ → Reply → Progress → Type 0
+Slows trace client p rate done q = (holds_slow p.asked ≡ false) × IsDone trace client p (controller.slow rate) q
+Slows trace client p rate held q = (holds_slow p.asked ≡ true) × Stays p q
+Slows trace client p rate other q = ⊥
+
+abbrev pub Unslows : Trace → ℕ → Progress → Reply → Progress → Type 0
+Unslows trace client p done q = (holds_slow p.asked ≡ true) × IsDone trace client p controller.unslow q
+Unslows trace client p not_held q = (holds_slow p.asked ≡ false) × Stays p q
+Unslows trace client p other q = ⊥
+
+-- the client may get this reply to this command, and then stands there
+abbrev pub Replies : Settings → Trace → ℕ → Progress → Command → Reply → Progress → Type 0
+Replies settings trace client p (add r) reply q = Adds p r reply q
+Replies settings trace client p clear reply q = Clears p reply q
+Replies settings trace client p (commit how) reply q = Commits settings trace client p how reply q
+Replies settings trace client p (get key) reply q = Gets trace p key reply q
+Replies settings trace client p (many keys) reply q = GetsMany trace p keys reply q
+Replies settings trace client p (scan lo hi) reply q = Scans trace p lo hi reply q
+Replies settings trace client p stop reply q = Stops trace client p reply q
+Replies settings trace client p unstop reply q = Unstops trace client p reply q
+Replies settings trace client p (slow rate) reply q = Slows trace client p rate reply q
+Replies settings trace client p unslow reply q = Unslows trace client p reply q
+
+-- the commands that may find no memory: a commit once it passed the early checks
+abbrev pub MayLackMemory : Settings → Progress → Command → Type 0
+MayLackMemory settings p (add r) = Unit {0}
+MayLackMemory settings p clear = ⊥
+MayLackMemory settings p (commit how) = early_refusal settings.batch_bytes (holds_stop p.asked) p.pending how ≡ None
+MayLackMemory settings p (get key) = Unit {0}
+MayLackMemory settings p (many keys) = Unit {0}
+MayLackMemory settings p (scan lo hi) = Unit {0}
+MayLackMemory settings p stop = ⊥
+MayLackMemory settings p unstop = ⊥
+MayLackMemory settings p (slow rate) = ⊥
+MayLackMemory settings p unslow = ⊥

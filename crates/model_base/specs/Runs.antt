@@ -1,0 +1,37 @@
+-- A client's calls, one after another.
+use Rattle.std.specs.Prelude.{◌≡◌, ◌≢◌, ℕ, ◌≤◌, List, [], ◌∷◌, ◌++◌, length, map}
+use Rattle.std.specs.List.{AllByRecursion}
+use Rattle.model_base.specs.Trace.{Trace, Settings}
+use Rattle.model_base.specs.Progress.{Progress, fresh}
+use Rattle.model_base.specs.Replies.{Replies, MayLackMemory}
+use Rattle.model_base.specs.Calls.{Command, Reply, no_memory, Call}
+
+-- What a client knows of the controller never gets less, and is no more than there is
+pub record Step (settings : Settings) (trace : Trace) (client : ℕ) (p : Progress) (command : Command) (reply : Reply)
+    (q : Progress) : Type 0 where
+  pub replies : Replies settings trace client p command reply q
+  pub rises : p.known ≤ q.known
+  pub within : q.known ≤ length trace.controller_calls
+
+-- it goes from one place to another by these calls
+abbrev pub Run : Settings → Trace → ℕ → Progress → List Call → Progress → Type 0
+Run settings trace client p [] q = q ≡ p
+Run settings trace client p (c ∷ calls) q = (m : Progress) × Step settings trace client p c.command c.reply m
+    × Run settings trace client m calls q
+
+abbrev pub commands_of : List Call → List Command
+commands_of calls = map (λ c. c.command) calls
+
+-- none of these calls found no memory
+abbrev pub NoneWithoutMemory : List Call → Type 0
+NoneWithoutMemory calls = AllByRecursion (λ c. c.reply ≢ no_memory) calls
+
+-- the client's commands with their replies, whole or ended by one `no memory`; and where it stands at the end
+pub data IsTranscript (settings : Settings) (trace : Trace) (client : ℕ) (commands : List Command) (calls : List Call)
+    (end : Progress) : Type 0 where
+  whole : commands ≡ commands_of calls → Run settings trace client fresh calls end
+      → IsTranscript settings trace client commands calls end
+  cut_off : (front : List Call) (last : Command) (rest : List Command)
+      → calls ≡ front ++ record { command = last; reply = no_memory } ∷ [] → commands ≡ commands_of calls ++ rest
+      → Run settings trace client fresh front end → MayLackMemory settings end last
+      → IsTranscript settings trace client commands calls end

@@ -1,0 +1,250 @@
+-- The text of a script: lines of words, and what each line says.
+use Rattle.std.specs.Prelude.{ℕ, ◌+◌, ◌-◌, ◌*◌, ◌^◌, Bool, true, false, not, ◌&&◌, List, [], ◌∷◌, ◌++◌, length, fold, Option, Some, None, Result, Ok, Err, codes, decimal, bytes_eq, nat_lt, nat_le, ◌==◌, if◌then◌else◌, option_map}
+use Rattle.std.specs.List.{list_all, slice_split, enumerate_from}
+use Rattle.model_base.specs.declared.script.ScriptFault.{ScriptFault}
+use Rattle.model_base.specs.declared.script.ScriptFault.TheVariants.{Long, Byte, Word, Form, Client, Clients, NoClient, NoSchedule}
+use Rattle.model_base.specs.Batch.{value, deletion, single_deletion, log_data}
+use Rattle.model_base.specs.Calls.{Command, add, clear, commit, get, many, scan, stop, unstop, slow, unslow}
+
+-- Lines and words
+
+-- a last line may lack its line feed
+abbrev pub without_empty_end : List (List ℕ) → List (List ℕ)
+without_empty_end [] = []
+without_empty_end ([] ∷ []) = []
+without_empty_end ((b ∷ bs) ∷ []) = (b ∷ bs) ∷ []
+without_empty_end (l ∷ m ∷ ls) = l ∷ without_empty_end (m ∷ ls)
+
+abbrev pub lines_of : List ℕ → List (List ℕ)
+lines_of text = without_empty_end (slice_split (λ b. b == 10) text)
+
+-- empty lines and lines that begin with `#` are passed over
+abbrev pub is_passed_over : List ℕ → Bool
+is_passed_over [] = true
+is_passed_over (b ∷ bs) = b == 35
+
+-- spaces and printing characters alone
+abbrev pub are_plain : List ℕ → Bool
+are_plain bytes = list_all (λ b. nat_le 0x20 b && nat_le b 0x7e) bytes
+
+abbrev pub word_limit : ℕ
+word_limit = 1024
+
+abbrev pub is_word : List ℕ → Bool
+is_word w = nat_le 1 (length w) && nat_le (length w) word_limit
+
+-- a number is its decimal digits, and below 2 ^ 64
+abbrev pub value_of_digits : List ℕ → ℕ
+value_of_digits w = fold (λ n d. 10 * n + (d - 48)) 0 w
+
+abbrev pub number_of : List ℕ → Option ℕ
+number_of w = let n = value_of_digits w in if bytes_eq w (decimal n) && nat_lt n (2 ^ 64) then Some n else None
+
+-- A line: a client's section begins, or a command
+pub data Line : Type 0 where
+  section : ℕ → Line
+  command : Command → Line
+
+abbrev pub Read : Type 0 → Type 0
+Read A = Result A ScriptFault
+
+infixl 10 ◌>>=◌
+abbrev pub ◌>>=◌ : {A B : Type 0} → Read A → (A → Read B) → Read B
+(Ok x) >>= f = f x
+(Err fault) >>= f = Err fault
+
+abbrev pub or_form : {A : Type 0} → Option A → Read A
+or_form None = Err Form
+or_form (Some x) = Ok x
+
+abbrev pub no_word : Line → List (List ℕ) → Read Line
+no_word line [] = Ok line
+no_word line (w ∷ ws) = Err Form
+
+abbrev pub one_word : (List ℕ → Line) → List (List ℕ) → Read Line
+one_word line (w ∷ []) = Ok (line w)
+one_word line [] = Err Form
+one_word line (w ∷ v ∷ ws) = Err Form
+
+abbrev pub one_number : (ℕ → Line) → List (List ℕ) → Read Line
+one_number line (w ∷ []) = or_form (option_map line (number_of w))
+one_number line [] = Err Form
+one_number line (w ∷ v ∷ ws) = Err Form
+
+abbrev pub two_words : (List ℕ → List ℕ → Line) → List (List ℕ) → Read Line
+two_words line (w ∷ v ∷ []) = Ok (line w v)
+two_words line [] = Err Form
+two_words line (w ∷ []) = Err Form
+two_words line (w ∷ v ∷ u ∷ ws) = Err Form
+
+abbrev pub some_words : (List (List ℕ) → Line) → List (List ℕ) → Read Line
+some_words line [] = Err Form
+some_words line (w ∷ ws) = Ok (line (w ∷ ws))
+
+-- the flags `sync` and `nolog`, each or not, in this order
+abbrev pub is_first : List ℕ → List (List ℕ) → Bool
+is_first w [] = false
+is_first w (v ∷ vs) = bytes_eq v w
+
+abbrev pub behind_first : Bool → List (List ℕ) → List (List ℕ)
+behind_first true (v ∷ vs) = vs
+behind_first there vs = vs
+
+abbrev pub commit_flags : List (List ℕ) → Read Line
+commit_flags ws =
+    let sync = is_first (codes "sync") ws in let behind_sync = behind_first sync ws in
+    let no_log = is_first (codes "nolog") behind_sync in let rest = behind_first no_log behind_sync in
+    no_word (command (commit (record { sync = sync; no_log = no_log; no_slowdown = false }))) rest
+
+-- the same with the flag `noslow` behind them
+abbrev pub all_commit_flags : List (List ℕ) → Read Line
+all_commit_flags ws =
+    let sync = is_first (codes "sync") ws in let after_sync = behind_first sync ws in
+    let no_log = is_first (codes "nolog") after_sync in let after_no_log = behind_first no_log after_sync in
+    let no_slowdown = is_first (codes "noslow") after_no_log in let rest = behind_first no_slowdown after_no_log in
+    no_word (command (commit (record { sync = sync; no_log = no_log; no_slowdown = no_slowdown }))) rest
+
+-- what stands behind a first word
+pub record CommandForm : Type 0 where
+  pub word : List ℕ
+  pub rest : List (List ℕ) → Read Line
+
+-- batches of every kind of record, commits with flags, and reads of one key
+abbrev pub forms : List CommandForm
+forms =
+    record { word = codes "client"; rest = one_number section }
+    ∷ record { word = codes "put"; rest = two_words (λ k v. command (add (value k v))) }
+    ∷ record { word = codes "del"; rest = one_word (λ k. command (add (deletion k))) }
+    ∷ record { word = codes "sdel"; rest = one_word (λ k. command (add (single_deletion k))) }
+    ∷ record { word = codes "note"; rest = one_word (λ t. command (add (log_data t))) }
+    ∷ record { word = codes "clear"; rest = no_word (command clear) }
+    ∷ record { word = codes "commit"; rest = commit_flags }
+    ∷ record { word = codes "get"; rest = one_word (λ k. command (get k)) }
+    ∷ []
+
+-- reads of several keys at once, and of all keys in a range
+abbrev pub read_forms : List CommandForm
+read_forms =
+    record { word = codes "many"; rest = some_words (λ ks. command (many ks)) }
+    ∷ record { word = codes "scan"; rest = two_words (λ lo hi. command (scan lo hi)) }
+    ∷ []
+
+-- the tokens of the write controller
+abbrev pub token_forms : List CommandForm
+token_forms =
+    record { word = codes "stop"; rest = no_word (command stop) }
+    ∷ record { word = codes "unstop"; rest = no_word (command unstop) }
+    ∷ record { word = codes "slow"; rest = one_number (λ r. command (slow r)) }
+    ∷ record { word = codes "unslow"; rest = no_word (command unslow) }
+    ∷ []
+
+-- batches of every kind of record, commits with every flag, and every read
+abbrev pub client_forms : List CommandForm
+client_forms =
+    record { word = codes "client"; rest = one_number section }
+    ∷ record { word = codes "put"; rest = two_words (λ k v. command (add (value k v))) }
+    ∷ record { word = codes "del"; rest = one_word (λ k. command (add (deletion k))) }
+    ∷ record { word = codes "sdel"; rest = one_word (λ k. command (add (single_deletion k))) }
+    ∷ record { word = codes "note"; rest = one_word (λ t. command (add (log_data t))) }
+    ∷ record { word = codes "clear"; rest = no_word (command clear) }
+    ∷ record { word = codes "commit"; rest = all_commit_flags }
+    ∷ record { word = codes "get"; rest = one_word (λ k. command (get k)) }
+    ∷ read_forms
+
+-- every line that a client's section may have
+abbrev pub whole_forms : List CommandForm
+whole_forms = client_forms ++ token_forms
+
+-- the words of a line, by the form whose word stands first; a first word that is no command is found before the others
+-- are looked at
+abbrev pub by_form : List CommandForm → List ℕ → List (List ℕ) → Read Line
+by_form [] w ws = Err Word
+by_form (f ∷ fs) w ws = if bytes_eq w f.word then (if list_all is_word ws then f.rest ws else Err Form)
+    else by_form fs w ws
+
+abbrev pub by_words : List CommandForm → List (List ℕ) → Read Line
+by_words fs [] = Err Word
+by_words fs (w ∷ ws) = by_form fs w ws
+
+abbrev pub words_of : List ℕ → List (List ℕ)
+words_of line = slice_split (λ b. b == 32) line
+
+abbrev pub line_of : List CommandForm → List ℕ → Read Line
+line_of fs line = if are_plain line then by_words fs (words_of line) else Err Byte
+
+-- A script: the commands of each client
+abbrev pub Script : Type 0
+Script = List (List Command)
+
+-- a command behind those of the last client
+abbrev pub add_to_last : Script → Command → Script
+add_to_last [] c = []
+add_to_last (cs ∷ []) c = (cs ++ c ∷ []) ∷ []
+add_to_last (cs ∷ ds ∷ rest) c = cs ∷ add_to_last (ds ∷ rest) c
+
+abbrev pub with_section : ℕ → Script → ℕ → Read Script
+with_section most script n =
+    if not (n == length script + 1) then Err Client
+    else if n == most + 1 then Err Clients else Ok (script ++ [] ∷ [])
+
+abbrev pub with_command : Script → Command → Read Script
+with_command [] c = Err Client
+with_command (cs ∷ rest) c = Ok (add_to_last (cs ∷ rest) c)
+
+-- What may be written: how long the text may be, how many clients it may have, and the forms of its lines.
+pub record Grammar : Type 0 where
+  pub text_limit : ℕ
+  pub client_limit : ℕ
+  pub forms : List CommandForm
+
+-- that of one client
+abbrev pub run_grammar : Grammar
+run_grammar = record { text_limit = 16777216; client_limit = 1; forms = forms }
+
+-- that of several clients, with every line
+abbrev pub whole_grammar : Grammar
+whole_grammar = record { text_limit = 16777216; client_limit = 16; forms = whole_forms }
+
+abbrev pub with_line : ℕ → Script → Line → Read Script
+with_line most script (section n) = with_section most script n
+with_line most script (command c) = with_command script c
+
+-- a fault, and the number of its line; 0 where it is the whole text's
+pub record Fault : Type 0 where
+  pub line : ℕ
+  pub kind : ScriptFault
+
+abbrev pub at_line : {A : Type 0} → ℕ → Read A → Result A Fault
+at_line n (Ok x) = Ok x
+at_line n (Err kind) = Err (record { line = n; kind = kind })
+
+-- a numbered line behind others
+abbrev pub after_line : Grammar → Result Script Fault → ℕ × List ℕ → Result Script Fault
+after_line g (Err fault) l = Err fault
+after_line g (Ok script) l = if is_passed_over l.1 then Ok script
+    else at_line l.0 (line_of g.forms l.1 >>= with_line g.client_limit script)
+
+abbrev pub lines_read : Grammar → List ℕ → Result Script Fault
+lines_read g text = fold (after_line g) (Ok []) (enumerate_from 1 (lines_of text))
+
+-- after all a text without a client
+abbrev pub with_client : Result Script Fault → Result Script Fault
+with_client (Err fault) = Err fault
+with_client (Ok []) = Err (record { line = 0; kind = NoClient })
+with_client (Ok (cs ∷ rest)) = Ok (cs ∷ rest)
+
+-- What a script says, or its first fault; before all a text that is too long.
+abbrev pub script_of : Grammar → List ℕ → Result Script Fault
+script_of g text = if nat_lt g.text_limit (length text) then Err (record { line = 0; kind = Long })
+    else with_client (lines_read g text)
+
+-- the word of each kind of fault
+abbrev pub fault_word : ScriptFault → List ℕ
+fault_word Long = codes "long"
+fault_word Byte = codes "byte"
+fault_word Word = codes "word"
+fault_word Form = codes "form"
+fault_word Client = codes "client"
+fault_word Clients = codes "clients"
+fault_word NoClient = codes "none"
+fault_word NoSchedule = codes "schedule"

@@ -1,0 +1,217 @@
+-- The write path as a machine of events: a log queue, a group in hand, a memtable queue and a table
+-- (RocksDB's db/write_thread.cc; RocksDB wiki, "Pipelined Write").
+use Rattle.std.specs.Prelude.{ℕ, zero, suc, ◌+◌, ◌-◌, Bool, true, false, List, [], ◌∷◌, ◌++◌, length, map, filter, filter_map, take_while, nat_le, ◌==◌, if◌then◌else◌, Option, Some, None, is_some, slice_get, slice_set, option_map}
+use Rattle.std.specs.List.{list_any}
+use Rattle.model_base.specs.declared.group.Item.{Item}
+use Rattle.model_base.specs.declared.write.WriteOptions.{WriteOptions}
+use Rattle.model_base.specs.declared.write.Refusal.{Refusal}
+use Rattle.model_base.specs.declared.write.Refusal.TheVariants as no
+use Rattle.model_base.specs.Batch.{Record, count_of, size_of_batch}
+use Rattle.model_base.specs.Map.{Pairs, value_at, rows_within}
+use Rattle.model_base.specs.History.{Entry, max_sequence, last_of, map_of, flag_of}
+use Rattle.model_base.specs.Progress.{early_refusal}
+use Rattle.model_base.specs.Calls.{Command, add, clear, get, many, scan, Reply, quiet, accepted, refused, found, found_each, rows, Call}
+
+pub record Options : Type 0 where
+  pub pipelined : Bool
+  pub group_bytes : ℕ
+  pub batch_bytes : ℕ
+  pub start : ℕ
+
+-- a batch on its way: whose, how it is to be written, and the first sequence of its run, once it has one
+pub record Writer : Type 0 where
+  pub client : ℕ
+  pub options : WriteOptions
+  pub records : List Record
+  pub answer : Option Reply
+
+-- a client: the lines that are left, the records of its batch, its calls with their replies, and whether it is idle,
+-- which is that it waits for no answer
+pub record Client : Type 0 where
+  pub left : List Command
+  pub added : List Record
+  pub calls : List Call
+  pub idle : Bool
+
+-- where the log is: with nobody, with a leader, or with a group in hand
+pub data LogPhase : Type 0 where
+  free : LogPhase
+  led : ℕ → LogPhase
+  built : List Writer → LogPhase
+  in_log : List Writer → LogPhase
+  marked : List Writer → LogPhase
+  handed : ℕ → LogPhase
+
+-- a launched group has members that are inserted, and of these some that are finished, in order
+pub data TablePhase : Type 0 where
+  still : TablePhase
+  launched : List ℕ → List ℕ → TablePhase
+  published : TablePhase
+
+pub record State : Type 0 where
+  pub clients : List Client
+  pub queue : List Writer
+  pub log : LogPhase
+  pub second : List (List Writer)
+  pub table : TablePhase
+  -- how many entries each logged group has
+  pub groups : List ℕ
+  -- the entries given runs, and the sequence given last
+  pub entries : List Entry
+  pub assigned : ℕ
+  pub log_failed : Bool
+  pub inserted : List Entry
+  pub last : ℕ
+  -- those that have left with their answers, and whose clients don't have them yet
+  pub leaving : List Writer
+
+abbrev pub idle_client : List Command → Client
+idle_client commands = record { left = commands; added = []; calls = []; idle = true }
+
+abbrev pub opened : Options → List (List Command) → State
+opened o plans = record {
+  clients = map idle_client plans;
+  queue = [];
+  log = free;
+  second = [];
+  table = still;
+  groups = [];
+  entries = [];
+  assigned = o.start;
+  log_failed = false;
+  inserted = [];
+  last = o.start;
+  leaving = [];
+}
+
+-- Clients
+
+-- clients are numbered from 1
+abbrev pub client_at : State → ℕ → Option Client
+client_at s zero = None
+client_at s (suc c) = slice_get s.clients c
+
+abbrev pub with_client : State → ℕ → Client → State
+with_client s c client = record s { clients = slice_set s.clients (c - 1) client }
+
+-- what adds to a client's batch or empties it is done on the way to its next call
+pub record Ahead : Type 0 where
+  pub call : Option Command
+  pub client : Client
+
+abbrev pub ahead : List Call → List Record → List Command → Client → Ahead
+ahead calls added [] client =
+    record { call = None; client = record client { left = []; added = added; calls = calls } }
+ahead calls added (add r ∷ left) client =
+    ahead (calls ++ record { command = add r; reply = quiet } ∷ []) (added ++ r ∷ []) left client
+ahead calls added (clear ∷ left) client =
+    ahead (calls ++ record { command = clear; reply = quiet } ∷ []) [] left client
+ahead calls added (c ∷ left) client =
+    record { call = Some c; client = record client { left = left; added = added; calls = calls } }
+
+abbrev pub next_call : Client → Ahead
+next_call client = ahead client.calls client.added client.left client
+
+abbrev pub told : Client → Command → Reply → Client
+told client command reply = record client {
+  calls = client.calls ++ record { command = command; reply = reply } ∷ [];
+  idle = true;
+}
+
+-- Batches
+
+abbrev pub item_of : Writer → Item
+item_of w = record {
+  size = size_of_batch w.records;
+  sync = w.options.sync;
+  no_log = w.options.no_log;
+  no_slowdown = w.options.no_slowdown;
+}
+
+-- the checks before a batch is linked; the core knows no write controller, so nobody holds a token
+abbrev pub refusal_of : Options → WriteOptions → List Record → Option Refusal
+refusal_of o how records = early_refusal o.batch_bytes false records how
+
+-- a group's leader is its first writer
+abbrev pub leads : ℕ → List Writer → Bool
+leads c [] = false
+leads c (w ∷ ws) = w.client == c
+
+-- Runs
+
+-- members get runs in order, from the sequence given last; one that doesn't fit is refused, and later ones that fit are
+-- still taken
+abbrev pub with_runs : ℕ → List Writer → List Writer
+with_runs last [] = []
+with_runs last (w ∷ ws) =
+    if nat_le (last + count_of w.records) max_sequence
+    then record w { answer = Some (accepted (last + 1) (last + count_of w.records) w.records) }
+    ∷ with_runs (last + count_of w.records) ws
+    else record w { answer = Some (refused (no.SequenceFull last)) } ∷ with_runs last ws
+
+-- the first sequence of a member's run
+abbrev pub run_of : Option Reply → Option ℕ
+run_of (Some (accepted first last records)) = Some first
+run_of o = None
+
+abbrev pub has_run : Writer → Bool
+has_run w = is_some (run_of w.answer)
+
+abbrev pub all_answered : Reply → List Writer → List Writer
+all_answered reply ws = map (λ (w : Writer). record w { answer = Some reply }) ws
+
+-- the how many-th accepted batch of its client this will be
+abbrev pub ordinal_at : State → ℕ → ℕ
+ordinal_at s c = 1 + length (filter (λ (x : Entry). x.client == c) s.entries)
+
+abbrev pub entry_of : State → Writer → ℕ → Entry
+entry_of s w first = record {
+  client = w.client;
+  ordinal = ordinal_at s w.client;
+  first = first;
+  count = count_of w.records;
+  flag = flag_of w.options;
+  records = w.records;
+}
+
+-- the entries of a group's members that have runs
+abbrev pub entries_of : State → List Writer → List Entry
+entries_of s ws = filter_map (λ w. option_map (entry_of s w) (run_of w.answer)) ws
+
+abbrev pub last_entry : ℕ → List Entry → ℕ
+last_entry last [] = last
+last_entry last (x ∷ xs) = last_entry (last_of x) xs
+
+-- The group in the table: the first one of the second queue, or the logged group in hand
+
+abbrev pub in_hand : LogPhase → List Writer
+in_hand (in_log ws) = ws
+in_hand free = []
+in_hand (led c) = []
+in_hand (built ws) = []
+in_hand (marked ws) = []
+in_hand (handed c) = []
+
+abbrev pub first_group : List (List Writer) → List Writer
+first_group [] = []
+first_group (ws ∷ wss) = ws
+
+abbrev pub table_group : Options → State → List Writer
+table_group o s = if o.pipelined then first_group s.second else in_hand s.log
+
+abbrev pub among : ℕ → List ℕ → Bool
+among c cs = list_any (λ n. n == c) cs
+
+abbrev pub runners : List Writer → List ℕ
+runners ws = map (λ w. w.client) (filter has_run ws)
+
+-- Reads
+
+abbrev pub published_map : State → Pairs
+published_map s = map_of (take_while (λ x. nat_le (last_of x) s.last) s.entries)
+
+abbrev pub read_reply : State → Command → Option Reply
+read_reply s (get key) = Some (found s.last (value_at (published_map s) key))
+read_reply s (many keys) = Some (found_each s.last (map (value_at (published_map s)) keys))
+read_reply s (scan lo hi) = Some (rows s.last (rows_within lo hi (published_map s)))
+read_reply s c = None

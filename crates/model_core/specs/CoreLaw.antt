@@ -1,0 +1,149 @@
+-- What holds of the core after every event.
+use Rattle.std.specs.Prelude.{◌≡◌, ◌⊎◌, ℕ, ◌<◌, true, false, IsTrue, List, [], ◌∷◌, ◌++◌, length, map, filter, flat_map, count_by, Contains, ⊤, ◌==◌, if◌then◌else◌, Some, IsSome}
+use Rattle.std.specs.List.{AllByRecursion, AllZip}
+use Rattle.model_core.specs.declared.event.Event.{Event}
+use Rattle.model_core.specs.declared.event.Event.TheVariants as e
+use Rattle.model_base.specs.Batch.{count_of}
+use Rattle.model_base.specs.History.{Entry, IsHistory, RunsFollow, IsUpTo, last_sequence, last_of, logged, flag_of}
+use Rattle.model_base.specs.Calls.{accepted}
+use Rattle.model_core.specs.Core.{Options, Writer, Client, LogPhase, free, led, built, in_log, marked, handed, TablePhase, still, launched, published, State, client_at, leads, has_run, table_group, among, runners}
+
+-- the group in hand
+abbrev pub hand : LogPhase → List Writer
+hand (built ws) = ws
+hand (in_log ws) = ws
+hand (marked ws) = ws
+hand free = []
+hand (led c) = []
+hand (handed c) = []
+
+abbrev pub joined : List (List Writer) → List Writer
+joined wss = flat_map (λ ws. ws) wss
+
+-- the clients whose writers are in line, the first linked of them first
+abbrev pub in_order : State → List ℕ
+in_order s = map (λ (w : Writer). w.client) (joined s.second ++ hand s.log ++ s.queue)
+
+-- all clients that wait for an answer: those in line, and those whose writers have left with one
+abbrev pub waiting : State → List ℕ
+waiting s = in_order s ++ map (λ (w : Writer). w.client) s.leaving
+
+-- who leads the log is first in the queue
+abbrev pub LedIsFirst : LogPhase → List Writer → Type 0
+LedIsFirst (led c) queue = IsTrue (leads c queue)
+LedIsFirst free queue = ⊤
+LedIsFirst (built ws) queue = ⊤
+LedIsFirst (in_log ws) queue = ⊤
+LedIsFirst (marked ws) queue = ⊤
+LedIsFirst (handed c) queue = ⊤
+
+-- no group is marked for the second queue
+abbrev pub IsUnmarked : LogPhase → Type 0
+IsUnmarked (marked ws) = ⊥
+IsUnmarked free = ⊤
+IsUnmarked (led c) = ⊤
+IsUnmarked (built ws) = ⊤
+IsUnmarked (in_log ws) = ⊤
+IsUnmarked (handed c) = ⊤
+
+-- the group in hand, where it has its runs
+abbrev pub hand_with_runs : LogPhase → List Writer
+hand_with_runs (in_log ws) = ws
+hand_with_runs (marked ws) = ws
+hand_with_runs free = []
+hand_with_runs (led c) = []
+hand_with_runs (built ws) = []
+hand_with_runs (handed c) = []
+
+-- the groups with runs that aren't published, in order
+abbrev pub unpublished : Options → State → TablePhase → List Writer
+unpublished o s published = if o.pipelined then joined (tail_of s.second) ++ hand_with_runs s.log else []
+  where
+    tail_of : List (List Writer) → List (List Writer)
+    tail_of [] = []
+    tail_of (ws ∷ wss) = wss
+unpublished o s still = joined s.second ++ hand_with_runs s.log
+unpublished o s (launched ins fin) = joined s.second ++ hand_with_runs s.log
+
+-- the entry is that of a member with a run
+pub record IsEntryOf (w : Writer) (x : Entry) : Type 0 where
+  pub client : x.client ≡ w.client
+  pub flag : x.flag ≡ flag_of w.options
+  pub run : w.answer ≡ Some (accepted x.first (last_of x) x.records)
+
+-- a launched or published group is there; who has inserted has a run in the launched one, and who has finished has
+-- inserted
+abbrev pub IsTable : Options → State → TablePhase → Type 0
+IsTable o s still = ⊤
+IsTable o s published = 0 < length (table_group o s)
+IsTable o s (launched ins fin) = (0 < length (table_group o s))
+    × AllByRecursion (λ c. IsTrue (among c (runners (table_group o s)))) ins
+    × AllByRecursion (λ c. IsTrue (among c ins)) fin
+
+-- a member that has inserted has its entry in the table
+abbrev pub HasInserted : List Entry → TablePhase → Writer → Type 0
+HasInserted inserted (launched ins fin) w =
+    IsTrue (among w.client ins) → (x : Entry) × IsEntryOf w x × Contains inserted x
+HasInserted inserted still w = ⊤
+HasInserted inserted published w = ⊤
+
+-- an inserted entry past the published sequence is a member's that has inserted
+abbrev pub IsInsertedAhead : TablePhase → Entry → Type 0
+IsInsertedAhead (launched ins fin) x = IsTrue (among x.client ins)
+IsInsertedAhead still x = ⊥
+IsInsertedAhead published x = ⊥
+
+-- the members of a group agree on the log
+abbrev pub SameLogFlag : List Writer → Type 0
+SameLogFlag [] = ⊤
+SameLogFlag (w ∷ ws) = AllByRecursion (λ (v : Writer). v.options.no_log ≡ w.options.no_log) ws
+
+pub record IsCore (o : Options) (s : State) : Type 0 where
+  -- each client is idle, or waits in just one place, once
+  pub once : (c : ℕ) (client : Client) → client_at s c ≡ Some client
+      → count_by (λ n. n == c) (waiting s) ≡ (if client.idle then 0 else 1)
+  pub clients : AllByRecursion (λ c. IsSome (client_at s c)) (waiting s)
+  pub led_is_first : LedIsFirst s.log s.queue
+  pub single_stage : o.pipelined ≡ false → s.second ≡ []
+  pub unmarked : o.pipelined ≡ false → IsUnmarked s.log
+  -- those that have no run yet have something to write, and a group in hand is logged as a whole or not at all
+  pub counted : AllByRecursion (λ (w : Writer). 0 < count_of w.records) (hand s.log ++ s.queue)
+  pub one_log_flag : SameLogFlag (hand s.log)
+  -- the entries given runs are a history
+  pub is_history : IsHistory o.start s.entries
+  pub assigned : s.assigned ≡ last_sequence o.start s.entries
+  -- the published sequence is a boundary, and the entries past it are those of the groups on the way
+  pub front : List Entry
+  pub is_boundary : IsUpTo o.start s.entries s.last front
+  pub ahead : AllZip IsEntryOf (filter has_run (unpublished o s s.table)) is_boundary.rest
+  -- all up to it is in the table, and what is there past it belongs to the launched group
+  pub in_table : AllByRecursion (λ x. Contains s.inserted x) front
+  pub from_entries : AllByRecursion (λ x. Contains s.entries x × (Contains front x ⊎ IsInsertedAhead s.table x))
+      s.inserted
+  pub is_table : IsTable o s s.table
+  pub has_inserted : AllByRecursion (HasInserted s.inserted s.table) (filter has_run (table_group o s))
+  -- the logged groups are the logged entries, cut into parts
+  pub parts : List (List Entry)
+  pub cut : logged s.entries ≡ flat_map (λ p. p) parts
+  pub groups : s.groups ≡ map length parts
+  pub none_empty : AllByRecursion (λ p. 0 < length p) parts
+  pub runs : AllByRecursion RunsFollow parts
+
+-- What an event keeps
+
+-- the first list is what is left of the second
+abbrev pub IsSubsequence : List ℕ → List ℕ → Type 0
+IsSubsequence [] ys = ⊤
+IsSubsequence (x ∷ xs) [] = ⊥
+IsSubsequence (x ∷ xs) (y ∷ ys) = ((x ≡ y) × IsSubsequence xs ys) ⊎ IsSubsequence (x ∷ xs) ys
+
+-- nobody passes another: a link adds nobody, or its client at the end, if that didn't wait; other events add nobody
+abbrev pub KeepsOrder : Event → State → State → Type 0
+KeepsOrder (e.Link c) old new =
+    (in_order new ≡ in_order old) ⊎ ((in_order new ≡ in_order old ++ c ∷ []) × (among c (waiting old) ≡ false))
+KeepsOrder other old new = IsSubsequence (in_order new) (in_order old)
+
+pub record Keeps (event : Event) (old new : State) : Type 0 where
+  pub order : KeepsOrder event old new
+  -- a log that has failed gives no more runs
+  pub log_failed : old.log_failed ≡ true → (new.entries ≡ old.entries) × (new.log_failed ≡ true)

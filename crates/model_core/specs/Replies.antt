@@ -1,0 +1,163 @@
+-- What the clients of the core were told so far: the replies of a plain map at points of the one history of batches.
+use Rattle.std.specs.Prelude.{◌≡◌, ◌⊎◌, ℕ, zero, suc, ◌+◌, ◌<◌, ◌≤◌, Bool, true, false, List, [], ◌∷◌, ◌++◌, length, map, fold, max, Option, Some, None, IsSome, slice_get, MatchOption, ⊤}
+use mathlib.Core.List.{IsPrefix}
+use Rattle.std.specs.List.{AllByRecursion, list_any}
+use Rattle.model_base.specs.declared.write.WriteOptions.{WriteOptions}
+use Rattle.model_base.specs.declared.write.Refusal.{Refusal}
+use Rattle.model_base.specs.declared.write.Refusal.TheVariants as no
+use Rattle.model_base.specs.Batch.{Record, count_of}
+use Rattle.model_base.specs.Map.{Pairs, value_at, rows_within}
+use Rattle.model_base.specs.History.{Entry, IsHistory, IsUpTo, IsBoundary, map_of, max_sequence}
+use Rattle.model_base.specs.Progress.{early_refusal, next_entry, batch_after}
+use Rattle.model_base.specs.Runs.{commands_of}
+use Rattle.model_base.specs.Outcomes.{entries_of_client}
+use Rattle.model_base.specs.Calls.{Command, add, clear, commit, get, many, scan, stop, unstop, slow, unslow, Reply, quiet, accepted, refused, found, found_each, rows, Call}
+use Rattle.model_core.specs.Core.{Options, Client, State, client_at}
+
+-- The greatest sequence that a client has seen published, by its reads and by its accepted commits
+abbrev pub seen_with : ℕ → Reply → ℕ
+seen_with seen (accepted first last records) = max seen last
+seen_with seen (found at v) = max seen at
+seen_with seen (found_each at vs) = max seen at
+seen_with seen (rows at pairs) = max seen at
+seen_with seen other = seen
+
+abbrev pub seen_up_to : List Call → ℕ
+seen_up_to calls = fold (λ seen c. seen_with seen c.reply) 0 calls
+
+-- A client was told that the log has failed
+abbrev pub is_log_fault : Reply → Bool
+is_log_fault (refused (no.LogFault count)) = true
+is_log_fault other = false
+
+abbrev pub knows_log_failed : List Call → Bool
+knows_log_failed calls = list_any (λ (c : Call). is_log_fault c.reply) calls
+
+-- The entries of a client's accepted commits, in order
+abbrev pub entries_by : ℕ → List Entry → Command → Reply → List Entry
+entries_by client mine (commit how) (accepted first last records) =
+    mine ++ next_entry client mine how first records ∷ []
+entries_by client mine command reply = mine
+
+abbrev pub entries_told : ℕ → List Call → List Entry
+entries_told client calls = fold (λ mine c. entries_by client mine c.command c.reply) [] calls
+
+-- Each command: which reply may follow the calls before it
+
+-- a read at a boundary of the history that isn't below what the client has seen, answered by the map there
+pub record ReadsAt (o : Options) (s : State) (before : List Call) (at : ℕ) (answers : Pairs → Type 0) : Type 0 where
+  pub front : List Entry
+  pub is_front : IsUpTo o.start s.entries at front
+  pub not_below : seen_up_to before ≤ at
+  pub answer : answers (map_of front)
+
+abbrev pub Gets : Options → State → List Call → List ℕ → Reply → Type 0
+Gets o s before key (found at v) = ReadsAt o s before at (λ m. v ≡ value_at m key)
+Gets o s before key other = ⊥
+
+abbrev pub GetsMany : Options → State → List Call → List (List ℕ) → Reply → Type 0
+GetsMany o s before keys (found_each at vs) = ReadsAt o s before at (λ m. vs ≡ map (value_at m) keys)
+GetsMany o s before keys other = ⊥
+
+abbrev pub Scans : Options → State → List Call → List ℕ → List ℕ → Reply → Type 0
+Scans o s before lo hi (rows at pairs) = ReadsAt o s before at (λ m. pairs ≡ rows_within lo hi m)
+Scans o s before lo hi other = ⊥
+
+-- why a commit that passed the early checks may be refused: the log's fault, no room for its run after a boundary, or a
+-- stall that it wasn't to wait for
+abbrev pub MayRefuse : Options → State → List Call → WriteOptions → Refusal → Type 0
+MayRefuse o s before how (no.LogFault count) = (count ≡ 1) × (s.log_failed ≡ true)
+MayRefuse o s before how (no.SequenceFull last) =
+    (knows_log_failed before ≡ false) × (seen_up_to before ≤ last) × IsBoundary o.start s.entries last
+    × (max_sequence < last + count_of (batch_after before))
+MayRefuse o s before how (no.Incomplete stops delays wait) = how.no_slowdown ≡ true
+MayRefuse o s before how no.Empty = ⊥
+MayRefuse o s before how (no.TooLarge size) = ⊥
+MayRefuse o s before how no.SyncWithoutLog = ⊥
+MayRefuse o s before how no.SelfStop = ⊥
+MayRefuse o s before how no.NoMemory = ⊥
+
+-- an accepted batch is what was added since the last, under a run of as many sequences as it counts, and after a fault
+-- that its client knows of there is none
+pub record IsAccepted (before : List Call) (first last : ℕ) (records : List Record) : Type 0 where
+  pub batch : records ≡ batch_after before
+  pub run : last + 1 ≡ first + count_of records
+  pub alive : knows_log_failed before ≡ false
+
+-- a commit that passed the early checks
+abbrev pub IsHandled : Options → State → List Call → WriteOptions → Reply → Type 0
+IsHandled o s before how (accepted first last records) = IsAccepted before first last records
+IsHandled o s before how (refused why) = MayRefuse o s before how why
+IsHandled o s before how other = ⊥
+
+abbrev pub Commits : Options → State → List Call → WriteOptions → Reply → Type 0
+Commits o s before how reply =
+    MatchOption (early_refusal o.batch_bytes false (batch_after before) how)
+    (IsHandled o s before how reply)
+    (λ why. reply ≡ refused why)
+
+abbrev pub MayReply : Options → State → List Call → Command → Reply → Type 0
+MayReply o s before (add r) reply = reply ≡ quiet
+MayReply o s before clear reply = reply ≡ quiet
+MayReply o s before (commit how) reply = Commits o s before how reply
+MayReply o s before (get key) reply = Gets o s before key reply
+MayReply o s before (many keys) reply = GetsMany o s before keys reply
+MayReply o s before (scan lo hi) reply = Scans o s before lo hi reply
+MayReply o s before stop reply = ⊥
+MayReply o s before unstop reply = ⊥
+MayReply o s before (slow rate) reply = ⊥
+MayReply o s before unslow reply = ⊥
+
+-- each call has a reply that may follow the calls before it
+abbrev pub AreRight : Options → State → List Call → Type 0
+AreRight o s calls = (before : List Call) (c : Call) (after : List Call) → calls ≡ before ++ c ∷ after
+    → MayReply o s before c.command c.reply
+
+-- the next line is a commit that has its entry, of the batch as it stands, and no answer yet
+pub record IsOnItsWay (s : State) (c : ℕ) (client : Client) (rest : List Command) : Type 0 where
+  pub waits : client.idle ≡ false
+  pub how : WriteOptions
+  pub after : List Command
+  pub next : rest ≡ commit how ∷ after
+  pub first : ℕ
+  pub entries : entries_of_client c s.entries ≡ entries_told c client.calls
+      ++ next_entry c (entries_told c client.calls) how first (batch_after client.calls) ∷ []
+
+-- A client's calls are its lines so far, each rightly answered, and it has seen nothing that isn't published. Its
+-- entries in the history are its accepted commits in order, perhaps with one more on its way.
+pub record IsAnswered (o : Options) (s : State) (c : ℕ) (lines : List Command) (client : Client) : Type 0 where
+  pub rest : List Command
+  pub asked : lines ≡ commands_of client.calls ++ rest
+  pub right : AreRight o s client.calls
+  pub seen_published : seen_up_to client.calls ≤ s.last
+  pub entries : (entries_of_client c s.entries ≡ entries_told c client.calls) ⊎ IsOnItsWay s c client rest
+
+-- clients are numbered from 1
+abbrev pub lines_at : List (List Command) → ℕ → Option (List Command)
+lines_at plans zero = None
+lines_at plans (suc c) = slice_get plans c
+
+-- one history of whole batches, of these clients alone, and each client's calls in it
+pub record AreRepliesOf (o : Options) (plans : List (List Command)) (s : State) : Type 0 where
+  pub is_history : IsHistory o.start s.entries
+  pub of_clients : AllByRecursion (λ (x : Entry). IsSome (client_at s x.client)) s.entries
+  pub count : length s.clients ≡ length plans
+  pub each : (c : ℕ) (lines : List Command) (client : Client) → lines_at plans c ≡ Some lines
+      → client_at s c ≡ Some client → IsAnswered o s c lines client
+
+-- if it is the reply of a read, it was read at this sequence or a later one
+abbrev pub IsFrom : ℕ → Reply → Type 0
+IsFrom last (found at v) = last ≤ at
+IsFrom last (found_each at vs) = last ≤ at
+IsFrom last (rows at pairs) = last ≤ at
+IsFrom last other = ⊤
+
+-- A state and a later one: the history goes on, the published sequence doesn't fall, no reply is taken back, and no
+-- client's later read is older than what was published before.
+pub record IsLater (old new : State) : Type 0 where
+  pub history : IsPrefix old.entries new.entries
+  pub last : old.last ≤ new.last
+  pub calls : (c : ℕ) (client : Client) → client_at old c ≡ Some client
+      → (later : Client) × (client_at new c ≡ Some later)
+      × (told : List Call) × (client.calls ++ told ≡ later.calls)
+      × AllByRecursion (λ (c : Call). IsFrom old.last c.reply) told

@@ -1,0 +1,68 @@
+-- Linking keeps what the clients were told.
+use Rattle.std.proofs.Common.{◌≡◌, ℕ, Bool, true, false, if◌then◌else◌, List, [], ◌∷◌, ◌++◌, Option, Some, None, refl, subst, append_assoc}
+use Rattle.std.specs.List.{AllByRecursion}
+use Rattle.model_base.specs.declared.write.Refusal.{Refusal}
+use Rattle.model_base.specs.declared.write.WriteOptions.{WriteOptions}
+use Rattle.model_base.specs.Calls.{Command, commit, refused}
+use Rattle.model_core.specs.Core.{Options, Writer, Client, State, LogPhase, free, led, built, in_log, marked, handed, client_at, next_call, refusal_of}
+use Rattle.model_core.specs.Step.{link, link_call, link_with}
+use Rattle.model_core.specs.CoreLaw.{IsCore, hand, joined}
+use Rattle.model_core_laws.proofs.Lists.{all_append}
+use Rattle.model_core_laws.proofs.Ready.{ready_push, commit_refused, early_other}
+use Rattle.model_core_laws.proofs.Told.{Told, Waits, writers, unanswered}
+use Rattle.model_core_laws.proofs.ToldByLines.{apart, together, becomes}
+use Rattle.model_core_laws.proofs.ToldByClients.{GoesOn, the_client, others_wait, told_with, next_ready, next_asked, idle_absent, answered}
+
+one_more_unanswered : (P : Writer → Type 0) (log : LogPhase) (queue : List Writer) (w : Writer) → AllByRecursion P (unanswered log queue) → P w → AllByRecursion P (unanswered log (queue ++ w ∷ []))
+one_more_unanswered P (built ws) queue w a p = subst (AllByRecursion P) (append_assoc ws queue (w ∷ [])) (all_append P (ws ++ queue) (w ∷ []) a (p, tt))
+one_more_unanswered P free queue w a p = all_append P queue (w ∷ []) a (p, tt)
+one_more_unanswered P (led c) queue w a p = all_append P queue (w ∷ []) a (p, tt)
+one_more_unanswered P (in_log ws) queue w a p = all_append P queue (w ∷ []) a (p, tt)
+one_more_unanswered P (marked ws) queue w a p = all_append P queue (w ∷ []) a (p, tt)
+one_more_unanswered P (handed c) queue w a p = all_append P queue (w ∷ []) a (p, tt)
+
+linked_waits : (o : Options) (plans : List (List Command)) (s : State) (c : ℕ) (old : Client) (how : WriteOptions) → client_at s c ≡ Some old → old.idle ≡ true → (next_call old).call ≡ Some (commit how)
+    → refusal_of o how (next_call old).client.added ≡ None → Told o plans s → IsCore o (link_with o s c (next_call old).client how None) → Told o plans (link_with o s c (next_call old).client how None)
+linked_waits o plans s c old how is idle call passed so_far =
+    let a = (next_call old).client in let new : Client = record a { idle = false } in let t = link_with o s c a how None in
+    let w : Writer = record { client = c; options = how; records = a.added; answer = None } in
+    let on : GoesOn s t c old new = record { there = is; clients = refl; entries = refl; log_failed = refl; last = refl } in
+    let ready = next_ready o plans s c old idle (so_far.each c old is) in
+    let parts = apart (Waits o plans t) (joined s.second) (hand s.log) s.queue s.leaving (others_wait o plans s t c old new on (writers s) (idle_absent o s c old is idle so_far.core) so_far.waits) in
+    let waits : Waits o plans t w = record {
+      client = new;
+      there = the_client s t c old new on;
+      batch = ready.batch;
+      passed = passed;
+      asked = next_asked o plans s c old idle (so_far.each c old is) (commit how) call;
+      answer = ready.entries;
+    } in
+    told_with o plans s t c old new on (record { added = ready.batch; right = ready.right; seen_published = ready.seen_published; log_failed = ready.log_failed; asked = λ never. absurd (cc); entries = λ never. absurd (cc) })
+    (together (Waits o plans t) (joined s.second) (hand s.log) (s.queue ++ w ∷ []) s.leaving
+    (record { at_second = parts.at_second; at_hand = parts.at_hand; at_queue = all_append (Waits o plans t) s.queue (w ∷ []) parts.at_queue (waits, tt); at_leaving = parts.at_leaving }))
+    refl (one_more_unanswered (λ (w : Writer). w.answer ≡ None) s.log s.queue w so_far.none refl) so_far
+
+pub told_by_link : (o : Options) (plans : List (List Command)) (s t : State) (c : ℕ) → Told o plans s → link o s c (client_at s c) ≡ Some t → IsCore o t → Told o plans t
+told_by_link o plans s t c so_far e core = by_client (client_at s c) refl e
+  where
+    by_refusal : (old : Client) → client_at s c ≡ Some old → old.idle ≡ true → (how : WriteOptions) → (next_call old).call ≡ Some (commit how) → (why : Option Refusal) → refusal_of o how (next_call old).client.added ≡ why
+        → link_with o s c (next_call old).client how why ≡ t → Told o plans t
+    by_refusal old is idle how call (Some why) early e =
+        let a = (next_call old).client in let ready = next_ready o plans s c old idle (so_far.each c old is) in
+        becomes o plans (link_with o s c a how (Some why)) t e core (answered o plans s c old (commit how) (refused why) is idle call
+        (ready_push o s c a.calls (record { command = commit how; reply = refused why }) a.added ready.right (commit_refused o s a.calls a.added how why ready.batch early) ready.batch ready.seen_published ready.log_failed
+        (λ told. absurd (let f = early_other o.batch_bytes a.added how why early in cc)) ready.entries) so_far)
+    by_refusal old is idle how call None early e = becomes o plans (link_with o s c (next_call old).client how None) t e core (linked_waits o plans s c old how is idle call early so_far)
+
+    by_call : (old : Client) → client_at s c ≡ Some old → old.idle ≡ true → (call : Option Command) → (next_call old).call ≡ call → link_call o s c (next_call old).client call ≡ Some t → Told o plans t
+    by_call old is idle (Some (commit how)) call e = by_refusal old is idle how call (refusal_of o how (next_call old).client.added) refl (cc)
+    by_call old is idle (Some other) call e = absurd (cc)
+    by_call old is idle None call e = absurd (cc)
+
+    by_idle : (client : Client) → client_at s c ≡ Some client → (b : Bool) → client.idle ≡ b → (if b then link_call o s c (next_call client).client (next_call client).call else None) ≡ Some t → Told o plans t
+    by_idle client is true idle e = by_call client is idle (next_call client).call refl e
+    by_idle client is false idle e = absurd (cc)
+
+    by_client : (client : Option Client) → client_at s c ≡ client → link o s c client ≡ Some t → Told o plans t
+    by_client None is e = absurd (cc)
+    by_client (Some client) is e = by_idle client is client.idle refl e

@@ -1,0 +1,100 @@
+-- What the examples are made of: one client that writes and reads.
+use Rattle.std.specs.Prelude.{ℕ, true, false, List, [], ◌∷◌, ◌++◌, map, Some, codes}
+use Rattle.model_base.specs.declared.write.Refusal.{Refusal}
+use Rattle.model_base.specs.declared.write.WriteOptions.{WriteOptions}
+use Rattle.model_base.specs.declared.history.Flag.{Flag}
+use Rattle.model_base.specs.declared.history.Flag.TheVariants.{Log, NoLog}
+use Rattle.model_base.specs.Batch.{Record, value}
+use Rattle.model_base.specs.History.{Entry}
+use Rattle.model_base.specs.Runs.{commands_of}
+use Rattle.model_base.specs.Calls.{Command, add, commit, get, Reply, quiet, accepted, refused, found, Call}
+use Rattle.model_core.specs.declared.event.Event.{Event}
+use Rattle.model_core.specs.declared.event.Event.TheVariants as e
+use Rattle.model_core.specs.Core.{Options, Client, State, opened}
+use Rattle.model_core.specs.Step.{state_after}
+use Rattle.model_core.specs.Replies.{AreRepliesOf}
+
+-- groups of up to 1 MiB, batches of up to 4 KiB, and no batch before
+abbrev pub single_stage : Options
+single_stage = record { pipelined = false; group_bytes = 1048576; batch_bytes = 4096; start = 0 }
+
+abbrev pub pipelined : Options
+pipelined = record { pipelined = true; group_bytes = 1048576; batch_bytes = 4096; start = 0 }
+
+abbrev pub plain : WriteOptions
+plain = record { sync = false; no_log = false; no_slowdown = false }
+
+abbrev pub put_a1 : Record
+put_a1 = value (codes "a") (codes "1")
+
+abbrev pub put_a2 : Record
+put_a2 = value (codes "a") (codes "2")
+
+-- the batch of one record under the first sequence
+abbrev pub first_entry : Record → Entry
+first_entry r = record { client = 1; ordinal = 1; first = 1; count = 1; flag = Log; records = r ∷ [] }
+
+-- the batch of one record of a client under a sequence, in the log or not
+abbrev pub entry_at : ℕ → ℕ → Flag → Entry
+entry_at client sequence flag = record {
+  client = client;
+  ordinal = 1;
+  first = sequence;
+  count = 1;
+  flag = flag;
+  records = put_a1 ∷ [];
+}
+
+-- batches of two clients, both logged; and of three, of which the middle one isn't
+abbrev pub one_logged : List Entry
+one_logged = entry_at 1 1 Log ∷ []
+
+abbrev pub two_logged : List Entry
+two_logged = entry_at 1 1 Log ∷ entry_at 2 2 Log ∷ []
+
+abbrev pub gap_in_the_log : List Entry
+gap_in_the_log = entry_at 1 1 Log ∷ entry_at 2 2 NoLog ∷ entry_at 3 3 Log ∷ []
+
+-- a write of put_a1, and then a read
+abbrev pub script : List (List Command)
+script = (add put_a1 ∷ commit plain ∷ get (codes "a") ∷ []) ∷ []
+
+abbrev pub wrote : Record → List Call
+wrote r = record { command = add put_a1; reply = quiet }
+    ∷ record { command = commit plain; reply = accepted 1 1 (r ∷ []) } ∷ []
+
+abbrev pub refused_for : Refusal → List Call
+refused_for why = record { command = add put_a1; reply = quiet }
+    ∷ record { command = commit plain; reply = refused why } ∷ []
+
+abbrev pub reading : Reply → List Call
+reading reply = record { command = get (codes "a"); reply = reply } ∷ []
+
+abbrev pub written_and_read : List Call
+written_and_read = wrote put_a1 ++ reading (found 1 (Some (codes "1")))
+
+-- the clients' calls after these events
+abbrev pub calls_after : Options → List Event → List (List Call)
+calls_after o events = map (λ (client : Client). client.calls) (state_after o script events).clients
+
+-- the whole way of a write in each of the two ways, and the read
+abbrev pub way_through_the_log : List Event
+way_through_the_log = e.Link 1 ∷ e.Elect 1 ∷ e.Build 1 ∷ e.Log 1 ∷ []
+
+abbrev pub way_between : List Event
+way_between = e.Boundary 1 ∷ e.Second 1 ∷ e.Next 1 ∷ []
+
+abbrev pub way_through_the_table : List Event
+way_through_the_table = e.Launch 1 ∷ e.Insert 1 ∷ e.Finish 1 ∷ e.Publish 1 ∷ e.Exit 1 ∷ e.Complete 1 ∷ e.Read 1 ∷ []
+
+-- one idle client that was told this, where the history has these entries and is published up to a sequence
+abbrev pub told_in : List Entry → ℕ → List Call → State
+told_in entries last calls = record (opened single_stage []) {
+  clients = record { left = []; added = []; calls = calls; idle = true } ∷ [];
+  entries = entries;
+  assigned = last;
+  last = last;
+}
+
+abbrev pub AreRightIn : List Entry → ℕ → List Call → Type 0
+AreRightIn entries last calls = AreRepliesOf single_stage (commands_of calls ∷ []) (told_in entries last calls)

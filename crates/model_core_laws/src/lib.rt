@@ -1,0 +1,54 @@
+//! The laws of the write path's core, for both ways of writing, in a single stage and pipelined: functions whose
+//! contracts are laws, and that have no code. What they speak of stands in the definitions of `model_core`.
+#![tactic(auto)]
+
+mod examples;
+
+ghost use Rattle.std.specs.Prelude.{◌≡◌, ◌++◌, false, List, Some};
+ghost use Rattle.model_core.specs.declared.event.Event.{Event};
+ghost use Rattle.model_base.specs.Calls.{Command};
+ghost use Rattle.model_core.specs.Core.{Options, State, opened};
+ghost use Rattle.model_core.specs.Step.{step, state_after};
+ghost use Rattle.model_core.specs.CoreLaw.{IsCore, Keeps};
+ghost use Rattle.model_core.specs.Halves.{list_half_of, table_half_of, moves_list, moves_table, TableStep, ListStep};
+ghost use Rattle.model_core.specs.Replies.{AreRepliesOf, IsLater};
+
+pub use examples::{one_write, wrong_replies, wrong_states};
+
+/// The law of the core: it holds at the opening, and each event keeps it. An event also keeps the order of those in
+/// line, and after a fault of the log none gives a run. So the law holds after every list of events.
+pub fn law()
+    ensures opening { (o : Options) (plans : List (List Command)) → IsCore o (opened o plans) }
+    ensures kept { (o : Options) (s t : State) (event : Event) → IsCore o s → step o s event ≡ Some t
+        → IsCore o t × Keeps event s t }
+    ensures every_list { (o : Options) (plans : List (List Command)) (events : List Event)
+        → IsCore o (state_after o plans events) }
+{}
+
+/// The replies of the core: after every list of events the clients' calls so far, with their replies, are those of a
+/// plain map at points of the one history of batches.
+pub fn replies_of_a_map()
+    ensures every_list { (o : Options) (plans : List (List Command)) (events : List Event)
+        → AreRepliesOf o plans (state_after o plans events) }
+{}
+
+/// What stays while more events come: the history only goes on, the published sequence doesn't fall, and no reply is
+/// taken back. A read of any client that is answered later stands at or past what was published before, and so at or
+/// past every accepted commit that any client was told of before.
+pub fn nothing_is_taken_back()
+    ensures later { (o : Options) (plans : List (List Command)) (events more : List Event)
+        → IsLater (state_after o plans events) (state_after o plans (events ++ more)) }
+{}
+
+/// A state in two halves: where the writers are, and the memtable. Only the events from a group's launch to its exit
+/// move the memtable's half, and of these only the exit moves a writer.
+pub fn halves()
+    ensures list_events_leave_table { (o : Options) (s t : State) (event : Event)
+        → moves_table event ≡ false → step o s event ≡ Some t → table_half_of t ≡ table_half_of s }
+    ensures table_events_leave_list { (o : Options) (s t : State) (event : Event)
+        → moves_list event ≡ false → step o s event ≡ Some t → list_half_of t ≡ list_half_of s }
+    ensures table_step { (o : Options) (s t : State) (event : Event)
+        → step o s event ≡ Some t → TableStep o event s (table_half_of t) }
+    ensures list_step { (o : Options) (s t : State) (event : Event)
+        → step o s event ≡ Some t → ListStep o event s (list_half_of t) }
+{}

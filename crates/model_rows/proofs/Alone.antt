@@ -1,0 +1,65 @@
+-- Outcomes of one client.
+use Rattle.std.proofs.Common.{◌≡◌, ℕ, zero, suc, ◌+◌, Option, Some, List, [], ◌∷◌, ◌++◌, max, slice_get, refl, ap, subst, arith}
+use Rattle.std.specs.List.{AllByRecursion}
+use Rattle.model_base.specs.Batch.{Record}
+use Rattle.model_base.specs.Trace.{Trace}
+use Rattle.model_base.specs.Attempts.{Attempt, WriteStatus, succeeded, with_attempt}
+use Rattle.model_base.specs.Groups.{Group}
+use Rattle.model_base.specs.Progress.{Progress, next_entry}
+use Rattle.model_base.specs.Replies.{Replies}
+use Rattle.model_base.specs.Runs.{Step}
+use Rattle.model_base.specs.Calls.{Command, Reply, Call}
+use Rattle.model_base.specs.Outcomes.{IsLegalTranscript}
+use Rattle.model_rows.specs.Examples.{plain}
+use Rattle.model_rows.specs.Runs.{one_client}
+
+pub some_same : {A : Type 0} {a b : A} → Some a ≡ Some b → a ≡ b
+some_same e = cc
+
+-- what holds of all elements holds of the one at a place
+pub all_at : {A : Type 0} (P : A → Type 0) (xs : List A) (i : ℕ) (x : A) → AllByRecursion P xs → slice_get xs i ≡ Some x → P x
+all_at P [] i x a there = absurd (cc)
+all_at P (y ∷ xs) zero x a there = subst P (some_same there) a.0
+all_at P (y ∷ xs) (suc i) x a there = all_at P xs i x a.1 there
+
+-- a list of one has its element at the place 0 alone
+first_only : {A : Type 0} (x y : A) (i : ℕ) → slice_get (x ∷ []) i ≡ Some y → (i ≡ 0) × (x ≡ y)
+first_only x y zero h = (refl, cc h)
+first_only x y (suc i) h = absurd (cc h)
+
+-- the one client's transcript is all that has to be legal
+pub each_one : (trace : Trace) (groups : List Group) (fault : Option ℕ) (commands : List Command) (calls : List Call) (attempts : List Attempt)
+    → IsLegalTranscript one_client trace groups fault 1 commands calls attempts
+    → (i : ℕ) (cs : List Command) (ks : List Call) → slice_get (commands ∷ []) i ≡ Some cs → slice_get (calls ∷ []) i ≡ Some ks
+    → (h : List Attempt) × (slice_get (attempts ∷ []) i ≡ Some h) × IsLegalTranscript one_client trace groups fault (i + 1) cs ks h
+each_one trace groups fault commands calls attempts t i cs ks a b =
+    let f = first_only commands cs i a in
+    let g = first_only calls ks i b in (
+      attempts,
+      ap (λ n. slice_get (attempts ∷ []) n) f.0,
+      rw (f.0, ← f.1, ← g.1) t,
+    )
+
+-- a call of a client that knows nothing of the controller
+pub quietly : (trace : Trace) (p : Progress) (c : Command) (r : Reply) (q : Progress) → Replies one_client trace 1 p c r q → p.known ≡ 0 → q.known ≡ 0
+    → Step one_client trace 1 p c r q
+quietly trace p c r q h k l = record { replies = h; rises = omega (arith, k, l); within = omega (arith, l) }
+
+-- Where the client stands after each kind of call
+
+abbrev pub added : Record → Progress → Progress
+added r p = record p { pending = p.pending ++ r ∷ [] }
+
+abbrev pub took : ℕ → ℕ → Progress → Progress
+took first last p = record p {
+  pending = [];
+  mine = p.mine ++ next_entry 1 p.mine plain first p.pending ∷ [];
+  attempts = with_attempt p.attempts p.pending plain (Some succeeded);
+  seen_up_to = max p.seen_up_to last;
+}
+
+abbrev pub fell : WriteStatus → Progress → Progress
+fell status p = record p { attempts = with_attempt p.attempts p.pending plain (Some status) }
+
+abbrev pub shown : ℕ → Progress → Progress
+shown at p = record p { seen_up_to = at }

@@ -1,0 +1,152 @@
+-- A commit that was refused for a stop, where the only stop comes after it.
+use Rattle.std.proofs.Common.{◌≡◌, ℕ, zero, suc, ◌<◌, ◌≤◌, Bool, true, false, IsTrue, cond, ◌==◌, nat_lt, ◌||◌, ◌&&◌, Option, None, Some, List, [], ◌∷◌, ◌++◌, map, slice_get, refl, sym, arith, ap, ◌∙◌, subst, inl, inr}
+use Rattle.std.specs.List.{AllByRecursion}
+use Rattle.std.proofs.lemmas.Bool.{cond-true, cases_Bool}
+use Rattle.std.proofs.lemmas.Bool.Decides.{nat_tests}
+use Rattle.model_base.specs.Varint.{varint_within}
+use Rattle.model_base.specs.declared.write.Refusal.TheVariants as no
+use Rattle.model_base.specs.Calls.{refused}
+use Rattle.model_base.specs.Controller as controller
+use Rattle.model_base.specs.Controller.{ControllerCall, Action, Numbers, After, Look, opening, delayed, numbers_after, answer, IsHistoryFrom}
+use Rattle.model_base.specs.Tokens.{is_token, tokens_of, given_back}
+use Rattle.model_base.specs.Attempts.{WriteStatus, slowed}
+use Rattle.model_base.specs.Trace.{Trace}
+use Rattle.model_base.specs.Progress.{Progress, fresh, early_refusal}
+use Rattle.model_base.specs.Replies.{IsTold}
+use Rattle.model_base.specs.Runs.{Run}
+use Rattle.model_base.specs.Outcomes.{IsClient, IsLegal}
+use Rattle.model_rows.specs.Examples.{put_a1, noslow}
+use Rattle.model_rows.specs.Runs.{one_client, later_stop_script, later_stop_calls, refused_by_a_later_stop}
+use Rattle.model_rows.proofs.Alone.{some_same}
+use Rattle.model_rows.proofs.Steps.{run_of, is_attempted}
+
+-- Where there is no stop and no slowdown, no stop is told of, and none comes but by a token
+
+abbrev IsCalm : Numbers → Type 0
+IsCalm n = (n.stops ≡ 0) × (n.delays ≡ 0)
+
+tells_none : (n : Numbers) (a : Action) → IsCalm n → (l : Look) → answer n a ≡ Some l → l.stops ≡ 0
+tells_none n (controller.delay now bytes) calm l is = subst (λ (m : Look). m.stops ≡ 0) (some_same is) calm.0
+tells_none n controller.look calm l is = subst (λ (m : Look). m.stops ≡ 0) (some_same is) calm.0
+tells_none n other calm l is = absurd (cc)
+
+delay_calm : (n : Numbers) (now bytes : ℕ) → IsCalm n → (delayed n now bytes).numbers ≡ n
+delay_calm n now bytes calm =
+    let none : (nat_lt 0 n.stops || (n.delays == 0)) ≡ true = rw (calm.0, calm.1) refl in
+    ap (λ (a : After). a.numbers) (cond-true (nat_lt 0 n.stops || (n.delays == 0)) (record { numbers = n; wait = 0 }) _ none)
+
+calm_after : (n : Numbers) (a : Action) → is_token a ≡ false → IsCalm n → IsCalm (numbers_after n a)
+calm_after n (controller.delay now bytes) plain calm = subst IsCalm (sym (delay_calm n now bytes calm)) calm
+calm_after n controller.look plain calm = calm
+calm_after n other plain calm = absurd (cc)
+
+-- A client that stopped writes once and gave the stop back
+
+abbrev actions_of : List ControllerCall → List Action
+actions_of controller_calls = map (λ (t : ControllerCall). t.action) controller_calls
+
+abbrev a_stop : ControllerCall
+a_stop = record { client = 1; action = controller.stop; told = None }
+
+abbrev HaveNoStop : List Action → Type 0
+HaveNoStop actions = AllByRecursion (λ (a : Action). a ≡ controller.stop → ⊥) actions
+
+none_behind : (b : Bool) (t : ControllerCall) (rest : List ControllerCall) → HaveNoStop (actions_of (cond b (t ∷ rest) rest)) → HaveNoStop (actions_of rest)
+none_behind true t rest none = none.1
+none_behind false t rest none = none
+
+no_stop_at : (controller_calls : List ControllerCall) → HaveNoStop (tokens_of 1 controller_calls) → (place : ℕ) → slice_get controller_calls place ≡ Some a_stop → ⊥
+no_stop_at [] none place there = absurd (cc)
+no_stop_at (t ∷ rest) none zero there = (subst (λ (u : ControllerCall). HaveNoStop (tokens_of 1 (u ∷ rest))) (some_same there) none).0 refl
+no_stop_at (t ∷ rest) none (suc place) there = no_stop_at rest (none_behind ((t.client == 1) && is_token t.action) t _ none) place there
+
+once : List Action
+once = controller.stop ∷ controller.unstop ∷ []
+
+behind_a_token : (b : Bool) (t : ControllerCall) (rest : List ControllerCall) → b ≡ true → actions_of (cond b (t ∷ rest) rest) ≡ once → actions_of rest ≡ controller.unstop ∷ []
+unfolding once
+behind_a_token true t rest token is = cc
+behind_a_token false t rest token is = absurd (cc)
+
+behind_another : (b : Bool) (t : ControllerCall) (rest : List ControllerCall) → b ≡ false → actions_of (cond b (t ∷ rest) rest) ≡ once → actions_of rest ≡ once
+behind_another true t rest token is = absurd (cc)
+behind_another false t rest token is = is
+
+-- a call of a stop, a slowdown or their end is the client's
+is_own : (t : ControllerCall) → (IsTrue (is_token t.action) → IsClient one_client t.client) → is_token t.action ≡ true → ((t.client == 1) && is_token t.action) ≡ true
+is_own t named token = let is = named token in let low = is.0 in let high = is.1 in let own : (t.client == 1) ≡ true = grind (arith, nat_tests) in rw (own, token) refl
+
+and_false : (b c : Bool) → c ≡ false → (b && c) ≡ false
+and_false true c is = is
+and_false false c is = refl
+
+-- before the one stop none is told of
+none_before : (n : Numbers) (controller_calls : List ControllerCall) → IsHistoryFrom n controller_calls → IsCalm n → AllByRecursion (λ (t : ControllerCall). IsTrue (is_token t.action) → IsClient one_client t.client) controller_calls
+    → tokens_of 1 controller_calls ≡ once → (place later : ℕ) → place < later → slice_get controller_calls later ≡ Some a_stop → (t : ControllerCall) (l : Look) → slice_get controller_calls place ≡ Some t → t.told ≡ Some l → l.stops ≡ 0
+none_before n [] history calm named tokens place later before stopped t l there told = absurd (cc)
+none_before n (u ∷ rest) history calm named tokens zero later before stopped t l there told =
+    tells_none n u.action calm l (sym history.0 ∙ ap (λ (x : ControllerCall). x.told) (some_same there) ∙ told)
+none_before n (u ∷ rest) history calm named tokens (suc place) zero before stopped t l there told = absurd (omega arith)
+none_before n (u ∷ rest) history calm named tokens (suc place) (suc later) before stopped t l there told =
+    elim (cases_Bool (is_token u.action)) [
+      | inl token ↦ (
+          let gone = behind_a_token ((u.client == 1) && is_token u.action) u _ (is_own u named.0 token) tokens in
+          absurd (no_stop_at rest (subst HaveNoStop (sym gone) ((λ e. cc), tt)) later stopped))
+      | inr plain ↦ (
+          none_before (numbers_after n u.action) rest history.1 (calm_after n u.action plain calm) named.1
+          (behind_another ((u.client == 1) && is_token u.action) u _ (and_false (u.client == 1) (is_token u.action) plain) tokens) place later (omega arith) stopped t l there told)
+    ]
+
+-- What is told of a commit stands in the history before all that the client then knows
+
+pub record IsToldBefore (controller_calls : List ControllerCall) (knows : ℕ) (numbers : Look) : Type 0 where
+  pub place : ℕ
+  pub call : ControllerCall
+  pub there : slice_get controller_calls place ≡ Some call
+  pub told : call.told ≡ Some numbers
+  pub before : place < knows
+
+told_before : (controller_calls : List ControllerCall) (knew knows : ℕ) (numbers : Look) (status : Option WriteStatus) → IsTold controller_calls knew knows numbers status → IsToldBefore controller_calls knows numbers
+told_before controller_calls knew knows numbers None told = record { place = told.0; call = _; there = told.2.there; told = refl; before = told.3 }
+told_before controller_calls knew knows numbers (Some (slowed place)) told = record { place = place; call = _; there = told.3.there; told = refl; before = told.4 }
+told_before controller_calls knew knows numbers (Some other) told = absurd told
+
+-- the commit passes the checks
+passes : early_refusal 16777216 false (put_a1 ∷ []) noslow ≡ None
+unfolding varint_within
+passes = refl
+
+-- where the calls run, the stop comes behind what told of it, and the client has no other one
+pub record StopsLater (trace : Trace) (end : Progress) : Type 0 where
+  pub knows : ℕ
+  pub told : IsToldBefore trace.controller_calls knows (record { stops = 1; delays = 0; wait = 0 })
+  pub place : ℕ
+  pub later : knows ≤ place
+  pub there : slice_get trace.controller_calls place ≡ Some a_stop
+  pub asked : end.asked ≡ controller.stop ∷ []
+
+stops_later : (trace : Trace) (end : Progress) → Run one_client trace 1 fresh later_stop_calls end → StopsLater trace end
+stops_later trace end run =
+    let begun = run.0 in let refused_at = run.2.0 in let stopped = run.2.2.0 in
+    let first = run.1.replies in
+    let pending = ap (λ (x : Progress). x.pending) first in let asked = ap (λ (x : Progress). x.asked) first in
+    let refusal = is_attempted one_client trace 1 begun noslow (refused (no.Incomplete 1 0 0)) refused_at (rw (pending, asked) passes) run.2.1.replies in
+    let taken = run.2.2.1.replies.1 in
+    record {
+      knows = refused_at.known;
+      told = told_before trace.controller_calls begun.known refused_at.known _ refusal.0 refusal.1.2;
+      place = taken.place;
+      later = taken.is_later.later;
+      there = taken.is_later.there;
+      asked = ap (λ (x : Progress). x.asked) run.2.2.2 ∙ ap (λ (x : Progress). x.asked) taken.after ∙ ap (λ (x : Progress). x.asked ++ controller.stop ∷ []) refusal.2 ∙ ap (λ actions. actions ++ controller.stop ∷ []) asked;
+    }
+
+pub not_later : (ended : ℕ) → IsLegal one_client ended later_stop_script refused_by_a_later_stop → ⊥
+unfolding once
+not_later ended legal =
+    let l = legal.legal in let right = (l.each 0 _ _ refl refl).2 in
+    let s = stops_later legal.trace right.end (run_of one_client legal.trace 1 _ later_stop_calls right.end (λ e. cc) right.is_transcript) in
+    let told = s.told in let before = told.before in let later = s.later in
+    let none = none_before opening legal.trace.controller_calls l.is_trace.controller_calls (refl, refl) l.is_trace.tokens
+    (right.tokens ∙ ap (λ asked. asked ++ given_back asked) s.asked) told.place s.place (omega (arith, before, later)) s.there told.call _ told.there told.told in
+    absurd (omega (arith, none))

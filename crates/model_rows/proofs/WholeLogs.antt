@@ -1,0 +1,51 @@
+-- Logs that are recovered whole: nothing greater can be kept.
+use Rattle.std.proofs.Common.{[], ◌∷◌, None, refl}
+use Rattle.std.proofs.Math.Dec.{lit≤, lit<}
+use Rattle.model_base.specs.Varint.{varint_within}
+use Rattle.model_base.specs.Batch.{IsReadable, batch}
+use Rattle.model_base.specs.Log.{full}
+use Rattle.model_base.specs.Reading.{seen_within, clean}
+use Rattle.model_base.specs.Recovery.{IsRecovered, reading}
+use Rattle.model_rows.specs.Examples.{put_a1, put_b2}
+use Rattle.model_rows.specs.TwoBatches.{log_of_two, both_recovered, none_recovered}
+
+readable_a : IsReadable put_a1
+readable_a = record { tag = refl; lengths = (lit< tt, (lit< tt, tt)) }
+
+readable_b : IsReadable put_b2
+readable_b = record { tag = refl; lengths = (lit< tt, (lit< tt, tt)) }
+
+pub both : IsRecovered None log_of_two both_recovered
+unfolding varint_within seen_within
+both = record {
+  keeps = record {
+    within = lit≤ tt;
+    spelled = record {
+      groups = (record { kind = full; part = batch 1 (put_a1 ∷ []) } ∷ []) ∷ (record { kind = full; part = batch 2 (put_b2 ∷ []) } ∷ []) ∷ [];
+      whole = (refl, (refl, tt));
+      same = refl;
+      fit = (lit≤ tt, (lit≤ tt, tt));
+      spelled = refl;
+    };
+    are_batches = (
+      record { spelled = refl; readable = (readable_a, tt); sequence_fits = lit< tt; count_fits = lit< tt },
+      (record { spelled = refl; readable = (readable_b, tt); sequence_fits = lit< tt; count_fits = lit< tt }, tt),
+    );
+    in_order = ((λ some. (lit< tt, lit≤ tt)), ((λ some. (lit< tt, lit≤ tt)), tt));
+  };
+  most = λ kept batches keeps. keeps.within;
+  ends = reading (clean (record { begun = tt; stand = record { rest = []; there = refl; fit = tt }; is_next = refl }));
+}
+
+pub none : IsRecovered None [] none_recovered
+unfolding seen_within
+none = record {
+  keeps = record {
+    within = lit≤ tt;
+    spelled = record { groups = []; whole = tt; same = refl; fit = tt; spelled = refl };
+    are_batches = tt;
+    in_order = tt;
+  };
+  most = λ kept batches keeps. keeps.within;
+  ends = reading (clean (record { begun = tt; stand = record { rest = []; there = refl; fit = tt }; is_next = refl }));
+}

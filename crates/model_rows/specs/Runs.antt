@@ -1,0 +1,208 @@
+-- Runs of one client, or of two: what they asked, and what the run came to.
+use Rattle.std.specs.Prelude.{ℕ, codes, List, [], ◌∷◌, Option, Some, None}
+use Rattle.model_base.specs.declared.history.Flag.TheVariants.{Log}
+use Rattle.model_base.specs.declared.write.Refusal.TheVariants as no
+use Rattle.model_base.specs.Batch.{Record}
+use Rattle.model_base.specs.Calls.{Command, add, clear, commit, get, stop, unstop, quiet, accepted, refused, found, done, Call, Outcome}
+use Rattle.model_base.specs.Controller as controller
+use Rattle.model_base.specs.Controller.{ControllerCall}
+use Rattle.model_base.specs.History.{Entry}
+use Rattle.model_base.specs.Trace.{Settings}
+use Rattle.model_rows.specs.Examples.{put_a1, put_a2, put_b2, plain, noslow}
+
+-- one client, a fresh store, and the limits of RocksDB's groups and of a batch
+abbrev pub one_client : Settings
+one_client = record { start = 0; clients = 1; group_bytes = 1048576; batch_bytes = 16777216; opened = 0 }
+
+abbrev pub two_clients : Settings
+two_clients = record one_client { clients = 2 }
+
+-- the same, where two sequences are left
+abbrev pub nearly_full : Settings
+nearly_full = record one_client { start = 72057594037927933 }
+
+-- the client's how many-th batch, at this sequence, of one record
+abbrev pub entry_at : ℕ → ℕ → Record → Entry
+entry_at ordinal first r = record {
+  client = 1;
+  ordinal = ordinal;
+  first = first;
+  count = 1;
+  flag = Log;
+  records = r ∷ [];
+}
+
+-- a commit that was accepted, a commit that met the log's fault, one for which no sequences were left behind this one,
+-- and a read
+abbrev pub adds : Record → Call
+adds r = record { command = add r; reply = quiet }
+
+abbrev pub commits : ℕ → Record → Call
+commits at r = record { command = commit plain; reply = accepted at at (r ∷ []) }
+
+abbrev pub fails : ℕ → Call
+fails count = record { command = commit plain; reply = refused (no.LogFault count) }
+
+abbrev pub finds_full : ℕ → Call
+finds_full last = record { command = commit plain; reply = refused (no.SequenceFull last) }
+
+abbrev pub reads : List ℕ → ℕ → Option (List ℕ) → Call
+reads key at v = record { command = get key; reply = found at v }
+
+-- `put a 1`, `commit`, `get a`
+abbrev pub one_script : List (List Command)
+one_script = (add put_a1 ∷ commit plain ∷ get (codes "a") ∷ []) ∷ []
+
+-- The commit is accepted.
+abbrev pub one_calls : List Call
+one_calls = adds put_a1 ∷ commits 1 put_a1 ∷ reads (codes "a") 1 (Some (codes "1")) ∷ []
+
+abbrev pub one_commit : Outcome
+one_commit = record {
+  transcripts = one_calls ∷ [];
+  history = entry_at 1 1 put_a1 ∷ [];
+  last = 1;
+  state = (codes "a", codes "1") ∷ [];
+  log_len = 24;
+  fault = None;
+}
+
+-- The commit is refused.
+abbrev pub refused_calls : List Call
+refused_calls = adds put_a1 ∷ fails 1 ∷ reads (codes "a") 0 None ∷ []
+
+abbrev pub refused_commit : Outcome
+refused_commit = record {
+  transcripts = refused_calls ∷ [];
+  history = [];
+  last = 0;
+  state = [];
+  log_len = 0;
+  fault = Some 1;
+}
+
+-- `put a 1`, `commit`, `put b 2`, `commit`, `commit`, `get b`, `get a`
+abbrev pub failing_script : List (List Command)
+failing_script =
+    (add put_a1 ∷ commit plain ∷ add put_b2 ∷ commit plain ∷ commit plain ∷ get (codes "b") ∷ get (codes "a") ∷ []) ∷ []
+
+-- The first commit is accepted, and the second one meets a fault.
+abbrev pub failing_calls : List Call
+failing_calls =
+    adds put_a1 ∷ commits 1 put_a1 ∷ adds put_b2 ∷ fails 1 ∷ fails 1 ∷ reads (codes "b") 1 None
+    ∷ reads (codes "a") 1 (Some (codes "1")) ∷ []
+
+abbrev pub failed_write : Outcome
+failed_write = record {
+  transcripts = failing_calls ∷ [];
+  history = entry_at 1 1 put_a1 ∷ [];
+  last = 1;
+  state = (codes "a", codes "1") ∷ [];
+  log_len = 24;
+  fault = Some 1;
+}
+
+-- `put a 1`, `commit`, `put a 2`, `commit`, `get a`
+abbrev pub stale_script : List (List Command)
+stale_script = (add put_a1 ∷ commit plain ∷ add put_a2 ∷ commit plain ∷ get (codes "a") ∷ []) ∷ []
+
+-- Both commits are accepted, and the read answers the first value.
+abbrev pub stale_calls : List Call
+stale_calls = adds put_a1 ∷ commits 1 put_a1 ∷ adds put_a2 ∷ commits 2 put_a2 ∷ reads (codes "a") 1 (Some (codes "1"))
+    ∷ []
+
+abbrev pub stale_read : Outcome
+stale_read = record {
+  transcripts = stale_calls ∷ [];
+  history = entry_at 1 1 put_a1 ∷ entry_at 2 2 put_a2 ∷ [];
+  last = 2;
+  state = (codes "a", codes "2") ∷ [];
+  log_len = 48;
+  fault = None;
+}
+
+-- `get a`, `put a 1`, `commit`
+abbrev pub early_script : List (List Command)
+early_script = (get (codes "a") ∷ add put_a1 ∷ commit plain ∷ []) ∷ []
+
+-- The read answers the value that is committed after it.
+abbrev pub early_calls : List Call
+early_calls = reads (codes "a") 1 (Some (codes "1")) ∷ adds put_a1 ∷ commits 1 put_a1 ∷ []
+
+abbrev pub read_ahead : Outcome
+read_ahead = record one_commit { transcripts = early_calls ∷ [] }
+
+-- client 1: `get b`, `put a 1`, `commit`; client 2: `put b 2`, `commit`
+abbrev pub crossing_script : List (List Command)
+crossing_script =
+    (get (codes "b") ∷ add put_a1 ∷ commit plain ∷ []) ∷ (add put_b2 ∷ commit plain ∷ []) ∷ []
+
+-- Client 1 reads client 2's batch at 2, and then its own batch is accepted at 1.
+abbrev pub crossing_calls : List Call
+crossing_calls = reads (codes "b") 2 (Some (codes "2")) ∷ adds put_a1 ∷ commits 1 put_a1 ∷ []
+
+abbrev pub run_below_what_was_read : Outcome
+run_below_what_was_read = record {
+  transcripts = crossing_calls ∷ (adds put_b2 ∷ commits 2 put_b2 ∷ []) ∷ [];
+  history = entry_at 1 1 put_a1 ∷ record (entry_at 1 2 put_b2) { client = 2 } ∷ [];
+  last = 2;
+  state = (codes "a", codes "1") ∷ (codes "b", codes "2") ∷ [];
+  log_len = 48;
+  fault = None;
+}
+
+-- `put a 1`, `commit noslow`, `stop`
+abbrev pub later_stop_script : List (List Command)
+later_stop_script = (add put_a1 ∷ commit noslow ∷ stop ∷ []) ∷ []
+
+-- The commit is refused for one stop, and the only stop comes after it.
+abbrev pub later_stop_calls : List Call
+later_stop_calls =
+    adds put_a1 ∷ record { command = commit noslow; reply = refused (no.Incomplete 1 0 0) }
+    ∷ record { command = stop; reply = done } ∷ []
+
+abbrev pub refused_by_a_later_stop : Outcome
+refused_by_a_later_stop = record refused_commit { transcripts = later_stop_calls ∷ []; fault = None }
+
+-- `put a 1`, `put b 2`, `commit`, `clear`, `put a 1`, `commit`
+abbrev pub filling_script : List (List Command)
+filling_script =
+    (add put_a1 ∷ add put_b2 ∷ commit plain ∷ clear ∷ add put_a1 ∷ commit plain ∷ []) ∷ []
+
+-- The first batch finds no room behind the sequence at which the second one is then accepted.
+abbrev pub filling_calls : List Call
+filling_calls =
+    adds put_a1 ∷ adds put_b2 ∷ finds_full 72057594037927934 ∷ record { command = clear; reply = quiet } ∷ adds put_a1
+    ∷ commits 72057594037927934 put_a1 ∷ []
+
+abbrev pub lower_than_full : Outcome
+lower_than_full = record one_commit {
+  transcripts = filling_calls ∷ [];
+  history = entry_at 1 72057594037927934 put_a1 ∷ [];
+  last = 72057594037927934;
+}
+
+-- client 1: `put a 1`, `commit`; client 2: `stop`, `unstop`
+abbrev pub waiting_script : List (List Command)
+waiting_script = (add put_a1 ∷ commit plain ∷ []) ∷ (stop ∷ unstop ∷ []) ∷ []
+
+-- The commit is accepted.
+abbrev pub waiting_calls : List Call
+waiting_calls = adds put_a1 ∷ commits 1 put_a1 ∷ []
+
+abbrev pub stopping_calls : List Call
+stopping_calls = record { command = stop; reply = done } ∷ record { command = unstop; reply = done } ∷ []
+
+abbrev pub waited_out : Outcome
+waited_out = record one_commit { transcripts = waiting_calls ∷ stopping_calls ∷ [] }
+
+-- Client 2's stop, the delay of client 1's group, which was told of it, and the stop given back
+abbrev pub told_of_a_stop : List ControllerCall
+told_of_a_stop =
+    record { client = 2; action = controller.stop; told = None }
+    ∷ record {
+      client = 1;
+      action = controller.delay 0 17;
+      told = Some (record { stops = 1; delays = 0; wait = 0 });
+    }
+    ∷ record { client = 2; action = controller.unstop; told = None } ∷ []

@@ -1,0 +1,25 @@
+//! Which writes a leader takes along, where a group may have 1 MiB.
+
+ghost use Rattle.std.specs.Prelude.{◌≡◌, [], ◌∷◌, true};
+ghost use Rattle.model_base.specs.declared.group.Item.{Item};
+ghost use Rattle.model_base.specs.Grouping.{group_len};
+ghost use Rattle.model_rows.specs.Examples.{sized};
+
+/// A leader that no one follows is its own group, however large it is.
+pub fn group_of_one()
+    ensures alone { (leader : Item) → group_len 1048576 (leader ∷ []) ≡ 1 }
+{}
+
+/// A small leader takes 128 KiB besides its own bytes, and no more.
+pub fn groups_by_size()
+    ensures just_fits { group_len 1048576 (sized 100 ∷ sized 131072 ∷ []) ≡ 2 }
+    ensures one_byte_more { group_len 1048576 (sized 100 ∷ sized 131073 ∷ []) ≡ 1 }
+{}
+
+/// A leader that doesn't sync takes no write along that asks for it. One that does takes either.
+pub fn groups_by_options()
+    ensures sync_behind { group_len 1048576 (sized 100 ∷ record (sized 100) { sync = true } ∷ []) ≡ 1 }
+    ensures sync_ahead { group_len 1048576 (record (sized 100) { sync = true } ∷ sized 100 ∷ []) ≡ 2 }
+    ensures no_log_behind { group_len 1048576 (sized 100 ∷ record (sized 100) { no_log = true } ∷ []) ≡ 1 }
+    ensures no_slowdown_behind { group_len 1048576 (sized 100 ∷ record (sized 100) { no_slowdown = true } ∷ []) ≡ 1 }
+{}

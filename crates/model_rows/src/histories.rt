@@ -1,0 +1,38 @@
+//! What batches do, and how they stand in the history and in the log.
+
+ghost use Rattle.std.specs.Prelude.{◌≡◌, [], ◌∷◌, codes, true, Some, None};
+ghost use Rattle.model_base.specs.declared.history.Flag.TheVariants.{Log, NoLog, Sync};
+ghost use Rattle.model_base.specs.Batch.{value, deletion, single_deletion, log_data, batch};
+ghost use Rattle.model_base.specs.Map.{after_records, value_at};
+ghost use Rattle.model_base.specs.History.{flag_of};
+ghost use Rattle.model_base.specs.Log.{text};
+ghost use Rattle.model_base.specs.LogContents.{IsLogOf, record_of_entries};
+ghost use Rattle.model_rows.specs.Examples.{put_a1, put_a2, put_b2, plain};
+ghost use Rattle.model_rows.specs.Runs.{one_commit, entry_at};
+
+/// A later record of a key stands before an earlier one. The pairs are in the byte order of their keys.
+pub fn maps_of_batches()
+    ensures later_value { after_records [] (put_a1 ∷ put_a2 ∷ []) ≡ (codes "a", codes "2") ∷ [] }
+    ensures deleted { after_records [] (put_a1 ∷ put_a2 ∷ deletion (codes "a") ∷ []) ≡ [] }
+    ensures single_deleted { after_records [] (put_a1 ∷ put_b2 ∷ single_deletion (codes "a") ∷ [])
+        ≡ (codes "b", codes "2") ∷ [] }
+    ensures noted { after_records [] (log_data (codes "x") ∷ put_a1 ∷ []) ≡ (codes "a", codes "1") ∷ [] }
+    ensures in_order { after_records [] (put_b2 ∷ put_a1 ∷ value (codes "ab") (codes "3") ∷ []) ≡ (codes "a", codes "1")
+        ∷ (codes "ab", codes "3") ∷ (codes "b", codes "2") ∷ [] }
+    ensures there { value_at (after_records [] (put_a1 ∷ put_a2 ∷ [])) (codes "a") ≡ Some (codes "2") }
+    ensures not_there { value_at (after_records [] (put_a1 ∷ [])) (codes "b") ≡ None }
+{}
+
+/// How a commit's options stand in the history.
+pub fn flags_of_commits()
+    ensures plain { flag_of plain ≡ Log }
+    ensures sync { flag_of (record plain { sync = true }) ≡ Sync }
+    ensures no_log { flag_of (record plain { no_log = true }) ≡ NoLog }
+{}
+
+/// Two commits of one group have one log record. The log of a run of one commit has its batch.
+pub fn logs_of_histories()
+    ensures one_group { record_of_entries (entry_at 1 1 put_a1 ∷ entry_at 2 2 put_b2 ∷ [])
+        ≡ batch 1 (put_a1 ∷ put_b2 ∷ []) }
+    ensures one_commit { IsLogOf one_commit (text None (batch 1 (put_a1 ∷ []) ∷ [])) ((entry_at 1 1 put_a1 ∷ []) ∷ []) }
+{}

@@ -1,0 +1,30 @@
+//! Worked examples on the definitions of `model_base`: each function is a law that has no code, and its clauses give the
+//! values that the formats ask for.
+#![tactic(auto)]
+
+mod bytes;
+mod checksums;
+mod generators;
+mod grouping;
+mod histories;
+mod logs;
+mod outcomes;
+mod recoveries;
+mod scripts;
+mod texts;
+
+pub use bytes::{batches, group_of_two_batches, sizes_of_batches, varints};
+pub use checksums::{checksum_of_digits, checksum_of_empty_record};
+pub use generators::{first_batch, first_draws, summary};
+pub use grouping::{group_of_one, groups_by_options, groups_by_size};
+pub use histories::{flags_of_commits, logs_of_histories, maps_of_batches};
+pub use logs::{end_of_block, log_of_one_batch, long_records, record_of_no_bytes};
+pub use outcomes::{
+    failed_write, lower_than_full, one_commit, read_ahead, refused_by_a_later_stop, refused_commit,
+    run_below_what_was_read, stale_read, waited_out, written_while_stopped,
+};
+pub use recoveries::{empty_log_recovered, two_batches_recovered};
+pub use scripts::{
+    faults_of_scripts, one_script, passed_over_lines, records_and_flags, whole_scripts,
+};
+pub use texts::{digits_of_bytes, text_of_one_commit, text_of_refused_commit};

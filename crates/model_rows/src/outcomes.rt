@@ -1,0 +1,63 @@
+//! Outcomes of runs that are legal, and some that are not.
+
+ghost use Rattle.std.specs.Prelude.{◌≡◌, ℕ, List};
+ghost use Rattle.model_base.specs.Attempts.{Attempt};
+ghost use Rattle.model_base.specs.Trace.{Trace};
+ghost use Rattle.model_base.specs.Outcomes.{IsLegal, IsLegalIn};
+ghost use Rattle.model_rows.specs.Runs.{one_client, two_clients, nearly_full, one_script, one_commit, refused_commit, failing_script, failed_write, stale_script, stale_read, early_script, read_ahead, crossing_script, run_below_what_was_read, later_stop_script, refused_by_a_later_stop, filling_script, lower_than_full, waiting_script, waited_out, told_of_a_stop};
+
+/// A batch is accepted and then read.
+pub fn one_commit()
+    ensures legal { IsLegal one_client 0 one_script one_commit }
+{}
+
+/// The log's first write fails: the commit is refused, and the key isn't there. It is no outcome of a log that had no
+/// fault.
+pub fn refused_commit()
+    ensures legal { IsLegal one_client 1 one_script refused_commit }
+    ensures not_without_fault { IsLegal one_client 0 one_script refused_commit → ⊥ }
+{}
+
+/// The log's second write fails: no later commit is taken, and reads go on.
+pub fn failed_write()
+    ensures legal { IsLegal one_client 1 failing_script failed_write }
+{}
+
+/// A read that answers an older value than the client was shown is legal in no trace.
+pub fn stale_read()
+    ensures not_legal { (ended : ℕ) → IsLegal one_client ended stale_script stale_read → ⊥ }
+{}
+
+/// A read that answers what the client commits only later is legal in no trace.
+pub fn read_ahead()
+    ensures not_legal { (ended : ℕ) → IsLegal one_client ended early_script read_ahead → ⊥ }
+{}
+
+/// A commit that is accepted below a sequence at which the client has read is legal in no trace.
+pub fn run_below_what_was_read()
+    ensures not_legal { (ended : ℕ)
+        → IsLegal two_clients ended crossing_script run_below_what_was_read → ⊥ }
+{}
+
+/// A commit that is refused for a stop, where the only stop comes after it, is legal in no trace.
+pub fn refused_by_a_later_stop()
+    ensures not_legal { (ended : ℕ)
+        → IsLegal one_client ended later_stop_script refused_by_a_later_stop → ⊥ }
+{}
+
+/// A commit that is accepted at the sequence behind which an earlier one found no room is legal in no trace.
+pub fn lower_than_full()
+    ensures not_legal { (ended : ℕ) → IsLegal nearly_full ended filling_script lower_than_full → ⊥ }
+{}
+
+/// A commit of one client waits for the other one's stop to be given back, and is accepted.
+pub fn waited_out()
+    ensures legal { IsLegal two_clients 0 waiting_script waited_out }
+{}
+
+/// The same outcome isn't legal where the delay of the commit's group was told of the stop and nobody looked again.
+pub fn written_while_stopped()
+    ensures not_legal { (ended : ℕ) (trace : Trace) (attempts : List (List Attempt))
+        → trace.controller_calls ≡ told_of_a_stop
+        → IsLegalIn two_clients ended waiting_script trace attempts waited_out → ⊥ }
+{}

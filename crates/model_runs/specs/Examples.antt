@@ -1,0 +1,54 @@
+-- Two batches of one client, of which the first was to be synced; and calls that may have written a log.
+use Rattle.std.specs.Prelude.{ℕ, Bool, true, false, List, [], ◌∷◌, codes, replicate, Option, Some, None}
+use Rattle.model_base.specs.declared.history.Flag.{Flag}
+use Rattle.model_base.specs.declared.history.Flag.TheVariants.{Log, Sync}
+use Rattle.model_base.specs.Batch.{Record, value}
+use Rattle.model_base.specs.Log.{text}
+use Rattle.model_base.specs.History.{Entry}
+use Rattle.model_base.specs.LogContents.{GroupCall, records_of}
+use Rattle.model_runs.specs.Crashes.{text_through}
+
+-- batches of one record: `put a 1` and `put b 2`
+abbrev pub put_a : List Record
+put_a = value (codes "a") (codes "1") ∷ []
+
+abbrev pub put_b : List Record
+put_b = value (codes "b") (codes "2") ∷ []
+
+-- the client numbered 1 committed such a batch
+abbrev pub entry_of : ℕ → Flag → List Record → Entry
+entry_of n flag records =
+    record { client = 1; ordinal = n; first = n; count = 1; flag = flag; records = records }
+
+-- `put a 1` with `commit sync`, and then `put b 2` with `commit`, each in a group of its own
+abbrev pub two_groups : List (List Entry)
+two_groups = (entry_of 1 Sync put_a ∷ []) ∷ (entry_of 2 Log put_b ∷ []) ∷ []
+
+abbrev pub two_entries : List Entry
+two_entries = entry_of 1 Sync put_a ∷ entry_of 2 Log put_b ∷ []
+
+-- the text of both, and of the first, which has 24 bytes
+abbrev pub text_of_both : List ℕ
+text_of_both = text None (records_of two_groups)
+
+abbrev pub text_of_first : List ℕ
+text_of_first = text_through two_groups 0
+
+-- as many zeros
+abbrev pub zeros : ℕ → List ℕ
+zeros n = replicate n 0
+
+-- a call of the log writer, and the count of the fault that it was answered, if it failed
+abbrev pub call_of : ℕ → List (List Record) → Bool → Option ℕ → GroupCall
+call_of first batches sync failed = record { first = first; batches = batches; sync = sync; failed = failed }
+
+-- the write of one batch failed, and after it that of another worked
+abbrev pub failed_then_worked : List GroupCall
+failed_then_worked = call_of 1 (put_a ∷ []) false (Some 1) ∷ call_of 1 (put_b ∷ []) false None ∷ []
+
+-- both batches in one record, and each in one of its own
+abbrev pub in_one_record : List GroupCall
+in_one_record = call_of 1 (put_a ∷ put_b ∷ []) true None ∷ []
+
+abbrev pub in_two_records : List GroupCall
+in_two_records = call_of 1 (put_a ∷ []) true None ∷ call_of 2 (put_b ∷ []) false None ∷ []

@@ -1,0 +1,42 @@
+//! Images of a log of two groups, of which the first was to be synced; and calls that may have written a log.
+
+ghost use Rattle.std.specs.Prelude.{◌≡◌, ◌++◌, ℕ, List, [], Option, None};
+ghost use Rattle.model_base.specs.Trace.{Trace};
+ghost use Rattle.model_base.specs.Attempts.{Attempt};
+ghost use Rattle.model_base.specs.Calls.{Outcome};
+ghost use Rattle.model_runs.specs.Crashes.{HoldsSynced, IsCrashSafe};
+ghost use Rattle.model_runs.specs.Written.{WritesLog};
+ghost use Rattle.model_runs.specs.Examples.{two_groups, two_entries, text_of_both, text_of_first, zeros, failed_then_worked, in_one_record, in_two_records};
+
+/// A run may not put the second group into the log before the first one is safe.
+pub fn synced_before_the_next_group()
+    // Until the first group is safe anything may stand in its place.
+    ensures torn_before { HoldsSynced two_groups 0 (zeros 24) }
+    // Then anything may stand in the place of the second one.
+    ensures torn_after { HoldsSynced two_groups 0 (text_of_first ++ zeros 9) }
+    // But where anything stands there, the first group stands before it,
+    ensures nothing_before { HoldsSynced two_groups 0 (zeros 25) → ⊥ }
+    // unless it may have come there before the run.
+    ensures reached_before { HoldsSynced two_groups 25 (zeros 25) }
+    // So a run that may leave such an image isn't safe, though at its end all is synced: it synced at its end alone.
+    ensures synced_at_the_end { (group_bytes : ℕ) (attempts : List (List Attempt)) (o : Outcome)
+        → IsCrashSafe group_bytes attempts o two_groups text_of_both [] 0 (λ image. image ≡ zeros 25)
+        (λ image. image ≡ text_of_both) → ⊥ }
+{}
+
+/// A run writes one record for each group, as the group is accepted, and none after a write that failed.
+pub fn written_group_by_group()
+    // Client 1 commits `put a 1`, and client 2 `put b 2`. Printed are `no logfault 1` and `ok 1 1`: the run went on
+    // after the failed write. No log was written so, whatever the trace, the commits and the fault are said to be.
+    ensures accepted_after_a_failed_write { (group_bytes : ℕ) (trace : Trace) (attempts : List (List Attempt))
+        (fault : Option ℕ) → WritesLog group_bytes (λ calls. calls ≡ failed_then_worked) trace attempts fault → ⊥ }
+    // A client commits `put a 1`, to be synced, and then `put b 2`. Printed are `ok 1 1` and `ok 2 2`, and both were
+    // written as one record: when the first was acknowledged nothing stood in the log.
+    ensures one_record_at_the_end { (group_bytes : ℕ) (trace : Trace) (attempts : List (List Attempt))
+        (fault : Option ℕ) → trace.entries ≡ two_entries
+        → WritesLog group_bytes (λ calls. calls ≡ in_one_record) trace attempts fault → ⊥ }
+    // In two records they are written as they should be.
+    ensures a_record_for_each { (group_bytes : ℕ) (trace : Trace) (attempts : List (List Attempt))
+        → trace.entries ≡ two_entries
+        → WritesLog group_bytes (λ calls. calls ≡ in_two_records) trace attempts None }
+{}

@@ -1,6 +1,0 @@
--- Each byte is two digits.
-use Rattle.printed_text.proofs.Words.{encoded}
-use Rattle.printed_text.proofs.lines.put_piece.Goals as goal
-
-pub returns : goal.returns
-returns c = let digits = encoded c.args.bytes.now (λ k. c.type_inv.bytes k) in rw (← digits, ← c.in-Ok.ensures.written) c.append.ensures.ok

@@ -1,8 +1,0 @@
-use Rattle.std.proofs.Common.{◌≡◌, ◌++◌, take, flat_map}
-use Rattle.std.specs.List.{enumerate_from}
-use Rattle.printed_text.specs.ShownText.{client_lines}
-use Rattle.printed_text.proofs.parts.put_clients.Given as goal
-
--- the sections of the clients so far stand behind the text
-abbrev pub invariant-loop-before : goal.invariant-loop-before
-invariant-loop-before l = l.text ≡ l.initial.text ++ flat_map client_lines (take l.before (enumerate_from 1 l.transcripts))

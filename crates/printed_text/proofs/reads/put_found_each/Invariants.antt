@@ -1,8 +1,0 @@
-use Rattle.std.proofs.Common.{◌≡◌, ◌∷◌, ◌++◌, take, flat_map}
-use Rattle.wp_model.specs.Text.{found_word}
-use Rattle.wp_coding.specs.Answers.{found_value}
-use Rattle.printed_text.proofs.reads.put_found_each.Given as goal
-
--- the words of the keys so far stand behind the text
-abbrev pub invariant-loop-found : goal.invariant-loop-found
-invariant-loop-found l = l.text ≡ l.initial.text ++ flat_map (λ v. 32 ∷ found_word (found_value v)) (take l.found-index l.found-items)

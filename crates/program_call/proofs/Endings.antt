@@ -1,0 +1,162 @@
+-- How a run ended: what stands printed at each status, and what the devices tell.
+use Rattle.std.proofs.Common.{◌≡◌, inl, inr, ℕ, ◌<◌, ◌≤◌, Bool, true, false, eqb, List, [], length, Option, Some, None, IfSome, le_trans, refl, sym, ◌∙◌, subst}
+use Rattle.std.specs.Prelude.{IsSome, ⊤}
+use Rattle.base_devices.specs.Disk.{Disk, Told}
+use Rattle.model_base.specs.Counts.{Rose}
+use Rattle.model_base.specs.Calls as calls
+use Rattle.model_base.specs.LogContents.{GroupCall}
+use Rattle.model_base.specs.History.{IsHistory}
+use Rattle.model_base.specs.Map.{Pairs}
+use Rattle.model_base.specs.Script.{Script}
+use Rattle.run_outcome.specs.declared.outcome.Outcome.{Outcome}
+use Rattle.run_calls.specs.declared.options.Options.{Options}
+use Rattle.run_outcome.specs.Running.{Execution, execution_of, IsRunOf, HasRun, LeavesSafeLog, IsReached}
+use Rattle.run_execution.specs.declared.end.End.{End}
+use Rattle.run_execution.specs.declared.end.End.TheVariants as end
+use Rattle.run_execution.specs.Ends.{IsEnd}
+use Rattle.program_text.specs.Refusals.{not_empty, disk_fault}
+use Rattle.program_call.specs.declared.reading.ReadError.{ReadError}
+use Rattle.program_call.specs.declared.reading.ReadError.TheVariants as read
+use Rattle.program_call.specs.declared.telling.Form.{Form}
+use Rattle.program_call.specs.declared.telling.Status.{Status}
+use Rattle.program_call.specs.declared.telling.Status.TheVariants as status
+use Rattle.program_call.specs.Texts.{SaysTo}
+use Rattle.program_call.specs.Telling.{Refuses, EndsSo, TellsEnd, TellsReadError, text_of, code}
+use Rattle.program_call.specs.Outcomes.{Observed, IsScript, RanScript, RanWhole, DiskFailed, RanToSinkFault, RanOutOfMemory}
+use Rattle.program_call.proofs.Memory.{all_whole, short_of}
+
+abbrev either : Bool → Type 0 → Type 0 → Type 0
+either true A B = A
+either false A B = B
+
+-- What comes with each status of a run. `failed` to `fails` are the disk's counts of faults, `kf` to `kfs` the sink's.
+module _ (seen : Observed) (failed fails kf kfs : ℕ) where
+  pub record AtWhole : Type 0 where
+    pub whole : RanWhole seen
+    pub empty : IfSome seen.opened (λ d. d.content ≡ [])
+    pub disk : fails ≡ failed
+    pub sink : kfs ≡ kf
+
+  pub record AtFault : Type 0 where
+    pub told : DiskFailed seen failed fails kf kfs
+    pub rose : Rose failed fails
+
+  pub record AtSinkFault : Type 0 where
+    pub front : RanToSinkFault seen
+    pub empty : IfSome seen.opened (λ d. d.content ≡ [])
+    pub rose : Rose kf kfs
+
+  pub record AtNotEmpty : Type 0 where
+    pub len : ℕ
+    pub some : 0 < len
+    pub of_disk : IfSome seen.opened (λ d. length d.content ≡ len)
+    pub says : SaysTo seen.before seen.after (not_empty len) kf kfs
+    pub as_before : seen.ended ≡ seen.opened
+
+  -- of a status that no run has nothing is said
+  abbrev pub AtStatus : ℕ → Type 0
+  AtStatus n = either (eqb n 0) AtWhole (either (eqb n 3) AtFault (either (eqb n 5) AtSinkFault (either (eqb n 6) (RanOutOfMemory seen) (either (eqb n 7) AtNotEmpty ⊤))))
+
+  -- nothing was run or printed for lack of memory
+  pub nothing : (given : Status) → given ≡ status.Memory → seen.ended ≡ seen.opened → seen.after ≡ seen.before → AtStatus (code given)
+  nothing given is same quiet = subst (λ s. AtStatus (code s)) (sym is) (inl (record { untouched = same; silent = quiet }))
+
+  -- no script was read
+  refused : (text : List ℕ) (wanted given : Status) → AtStatus (code wanted) → seen.ended ≡ seen.opened → Refuses seen.before seen.after kf kfs text wanted given → AtStatus (code given)
+  refused text wanted given there same (inl said) = subst (λ s. AtStatus (code s)) (sym said.0) there
+  refused text wanted given there same (inr none) = nothing given none.0 same none.1
+
+  pub unread : (why : ReadError) (given : Status) → seen.ended ≡ seen.opened → TellsReadError seen.before seen.after kf kfs why given → AtStatus (code given)
+  unread (read.Fault count) given same tells = refused _ status.Source given tt same tells
+  unread (read.Script line kind) given same tells = refused _ status.Script given tt same tells
+  unread read.NoMemory given same tells = nothing given tells.0 same tells.1
+
+-- A script was to be run: `here` is what the devices tell.
+module _ (options : Options) (script : Script) (form : Form) (failed fails : ℕ) (images : List ℕ → Type 0) (wrote : List GroupCall → Type 0) (kf kfs : ℕ) (sold snew : Option (List ℕ)) (old new : Option Disk) where
+  abbrev here : Observed
+  here = record { says = IsScript script; form = form; before = sold; after = snew; opened = old; ended = new; execution = λ s. execution_of options s failed fails images wrote }
+
+  abbrev execution : Execution
+  execution = execution_of options script failed fails images wrote
+
+  abbrev At : ℕ → Type 0
+  At n = AtStatus here failed fails kf kfs n
+
+  disk_refused : (count : ℕ) (given : Status) → new ≡ old → IsReached failed count fails → Refuses sold snew kf kfs (disk_fault count) status.Disk given → At (code given)
+  disk_refused count given same reached (inl said) =
+      let there : AtFault here failed fails kf kfs = record {
+        told = inl (record { script = script; said = refl; count = count; reached = reached; untouched = same; refused = said.1 });
+        rose = le_trans reached.0 reached.1;
+      } in
+      subst (λ s. At (code s)) (sym said.0) there
+  disk_refused count given same reached (inr none) = nothing here failed fails kf kfs given none.0 same none.1
+
+  has_bytes : (len : ℕ) (given : Status) → new ≡ old → 0 < len → IfSome old (λ d. length d.content ≡ len) → Refuses sold snew kf kfs (not_empty len) status.NotEmpty given → At (code given)
+  has_bytes len given same some is (inl said) =
+      let there : AtNotEmpty here failed fails kf kfs = record { len = len; some = some; of_disk = is; says = said.1; as_before = same } in
+      subst (λ s. At (code s)) (sym said.0) there
+  has_bytes len given same some is (inr none) = nothing here failed fails kf kfs given none.0 same none.1
+
+  found_empty : (was is : Option Disk) (o : calls.Outcome) (run : IsRunOf execution o) → Told was is (LeavesSafeLog execution o run) → IfSome was (λ d. d.content ≡ [])
+  found_empty None is o run log = tt
+  found_empty (Some d) (Some e) o run log = log.found_empty
+  found_empty (Some d) None o run log = absurd log
+
+  rose_so : (fault : Option ℕ) → IsSome fault → IfSome fault (λ count. Rose failed count × (count ≤ fails)) → Rose failed fails
+  rose_so (Some count) some both = le_trans both.0 both.1
+  rose_so None some both = absurd (cc some)
+
+  ran_script : (shown : Outcome Pairs) (ran : HasRun execution old new shown) → RanScript here ran.outcome
+  ran_script shown ran = record {
+    script = script;
+    said = refl;
+    is_outcome = record { run = ran.run; log = ran.log };
+    refusals = λ alive. ran.refusals (sym ran.shows.fault ∙ alive);
+  }
+
+  ran_so : (shown : Outcome Pairs) (ran : HasRun execution old new shown) (given : Status) → EndsSo sold snew kf kfs shown (text_of form ran.outcome) given → At (code given)
+  ran_so shown ran status.Done so = record {
+    whole = record {
+      outcome = ran.outcome;
+      ran = ran_script shown ran;
+      printed = so.0;
+      no_fault = ran.shows.fault ∙ so.1;
+      whole = all_whole shown.transcripts.items ran.outcome.transcripts ran.shows.transcripts so.2;
+    };
+    empty = found_empty old new ran.outcome ran.run ran.log;
+    disk = ran.counted so.1;
+    sink = so.3;
+  }
+  ran_so shown ran status.Disk so =
+      let fault : IsSome ran.outcome.fault = subst IsSome (sym ran.shows.fault) so.1 in
+      record {
+        told = inr (record { outcome = ran.outcome; ran = ran_script shown ran; printed = so.0; fault = fault });
+        rose = rose_so ran.outcome.fault fault ran.run.legal.fault;
+      }
+  ran_so shown ran status.Sink so = record {
+    front = record { outcome = ran.outcome; ran = ran_script shown ran; printed = (so.1, so.2) };
+    empty = found_empty old new ran.outcome ran.run ran.log;
+    rose = so.0;
+  }
+  ran_so shown ran status.Memory (inl none) = inr (inl (record { outcome = ran.outcome; ran = ran_script shown ran; silent = none }))
+  ran_so shown ran status.Memory (inr so) = inr (inr (record {
+    outcome = ran.outcome;
+    ran = ran_script shown ran;
+    printed = so.0;
+    no_fault = ran.shows.fault ∙ so.1;
+    short = short_of shown ran.outcome ran.shows so.2;
+  }))
+  ran_so shown ran other so = absurd so
+
+  pub ended_so : (e : End) (given : Status) → IsEnd options script old new failed fails images wrote e → TellsEnd form sold snew kf kfs e given → At (code given)
+  ended_so (end.DiskFault count) given ends tells = disk_refused count given ends.0 ends.1 tells
+  ended_so (end.NotEmpty len) given ends tells = has_bytes len given ends.0 ends.1 ends.2 tells
+  ended_so end.NoMemory given ends tells = nothing here failed fails kf kfs given tells.0 ends tells.1
+  ended_so end.NoOutcome given ends tells =
+      let ran : RanScript here ends.outcome = record { script = script; said = refl; is_outcome = record { run = ends.run; log = ends.log }; refusals = ends.refusals } in
+      subst (λ s. At (code s)) (sym tells.0) (inr (inl (record { outcome = ends.outcome; ran = ran; silent = tells.1 })))
+  ended_so (end.Ran shown) given ran tells =
+      let legal = ran.run.legal in
+      let start = ran.run.trace.start in
+      let history : IsHistory start ran.outcome.history = subst (λ entries. IsHistory start entries) (sym legal.history) legal.is_trace.entries in
+      ran_so shown ran given (tells ran.outcome start history ran.shows)

@@ -1,0 +1,95 @@
+-- There was no memory to read the words: nothing was done and nothing printed.
+use Rattle.std.proofs.Common.{◌≡◌, ◌⊎◌, inl, inr, ℕ, List, Option, Some, None, IfSome, refl, sym, subst, arith}
+use Rattle.base_devices.specs.Disk.{Disk}
+use Rattle.base_devices.specs.declared.source.Source as source
+use Rattle.base_devices.specs.declared.disk.Disk as disk
+use Rattle.base_devices.specs.declared.sink.Sink as sink
+use Rattle.model_base.specs.Script.{Script}
+use Rattle.run_calls.specs.declared.options.Options.{Options}
+use Rattle.replay_core.specs.declared.state.CoreOptions.{CoreOptions}
+use Rattle.program_call.specs.declared.telling.Form.{Form}
+use Rattle.program_call.specs.declared.telling.Form.TheVariants as form
+use Rattle.program_call.specs.Asking.{usual_options}
+use Rattle.program_call.specs.Outcomes.{observed, SaysScript, IsGenerated}
+use Rattle.program_call.specs.Recovers.{TellsDisk, Recovers, RecoversFront}
+use Rattle.program_call.specs.Answers.{RunsScript, AnswersRun, AnswersGenerate, AnswersRecover, AnswersReplay}
+use Rattle.program_call.proofs.Endings.{AtStatus}
+use Rattle.program_call.proofs.Runs.{runs_script}
+
+if_some : {T : Type 0} (P : T → Type 0) (o : Option T) → ((x : T) → P x) → IfSome o P
+if_some P None all = tt
+if_some P (Some x) all = all x
+
+tells_disk : (s t : Option (List ℕ)) (d : Option Disk) (P : List ℕ → List ℕ → Disk → Type 0) → ((x y : List ℕ) (e : Disk) → P x y e) → TellsDisk s t d P
+tells_disk (Some x) (Some y) (Some e) P all = all x y e
+tells_disk s t d P all = tt
+
+no_device : (n : ℕ) → n ≡ 6 → (n ≡ 0) ⊎ (n ≡ 3) ⊎ (n ≡ 5) ⊎ (n ≡ 7) → ⊥
+no_device n six (inl e) = omega (arith, six, e)
+no_device n six (inr (inl e)) = omega (arith, six, e)
+no_device n six (inr (inr (inl e))) = omega (arith, six, e)
+no_device n six (inr (inr (inr e))) = omega (arith, six, e)
+
+no_text : (n : ℕ) → n ≡ 6 → (n ≡ 0) ⊎ (n ≡ 5) → ⊥
+no_text n six (inl e) = omega (arith, six, e)
+no_text n six (inr e) = omega (arith, six, e)
+
+module _ {S D K : Type 0} (source : source.Ghosts S) (disk : disk.Ghosts D) (sink : sink.Ghosts K) (had : S) (opened : D) (before : K) (n : ℕ) (six : n ≡ 6) where
+  runs_none : (says : Script → Type 0) (form : Form) (options : Options) → RunsScript disk sink (observed disk sink says form options opened opened before before) opened opened before before n
+  runs_none says form options =
+      let At : ℕ → Type 0 = λ m. AtStatus (observed disk sink says form options opened opened before before) (disk.faults opened) (disk.faults opened) (sink.faults before) (sink.faults before) m in
+      let none : At 6 = inl (record { untouched = refl; silent = refl }) in
+      runs_script disk sink says form options opened opened before before n (subst At (sym six) none)
+
+  pub none_run : (options : Options) → AnswersRun source disk sink had had opened opened before before options n
+  none_run options = record {
+    other = (omega (arith, six), λ e. omega (arith, six, e));
+    script = λ e. absurd (omega (arith, six, e));
+    other_script = λ e. absurd (e six);
+    source_failed = λ e. absurd (omega (arith, six, e));
+    source_stood = λ e. absurd (omega (arith, six, e));
+    read_to_end = λ e. absurd (no_device n six e);
+    disk_untouched = λ e. refl;
+    runs = runs_none (SaysScript (source.left had)) form.Whole options;
+    completes = λ a b c. if_some _ (source.left had) (λ text. if_some _ (disk.told opened) (λ d script said none. inr six));
+  }
+
+  pub none_generated : (seed clients batches : ℕ) → AnswersGenerate source disk sink had had opened opened before before seed clients batches n
+  none_generated seed clients batches = record {
+    one = inr (inr (inr (inl six)));
+    source_untouched = refl;
+    runs = runs_none (IsGenerated seed clients batches) form.Summary usual_options;
+    completes = λ a b. if_some _ (disk.told opened) (λ d none. inr six);
+    one_summary = λ e. absurd (omega (arith, six, e));
+  }
+
+  pub none_recovered : AnswersRecover source disk sink had had opened opened before before n
+  none_recovered = record {
+    one = inr (inr (inr six));
+    source_untouched = refl;
+    as_before = refl;
+    no_fault = λ e. absurd (omega (arith, six, e));
+    disk_failed = λ e. absurd (omega (arith, six, e));
+    sink_failed = λ e. absurd (omega (arith, six, e));
+    recovered = tells_disk (sink.taken before) (sink.taken before) (disk.told opened) (λ x y d. n ≡ 0 → Recovers x y d.content) (λ x y d e. absurd (omega (arith, six, e)));
+    recovered_prefix = tells_disk (sink.taken before) (sink.taken before) (disk.told opened) (λ x y d. n ≡ 5 → RecoversFront x y d.content) (λ x y d e. absurd (omega (arith, six, e)));
+    refused = λ e. absurd (omega (arith, six, e));
+    silent = λ e. refl;
+    completes = λ a b. inr six;
+  }
+
+  pub none_replayed : (options : CoreOptions) → AnswersReplay source disk sink had had opened opened before before options n
+  none_replayed options = record {
+    one = inr (inr (inr (inr six)));
+    disk_untouched = refl;
+    schedule = λ e. absurd (omega (arith, six, e));
+    other_schedule = λ e. absurd (e six);
+    no_fault = λ e. absurd (omega (arith, six, e));
+    source_failed = λ e. absurd (omega (arith, six, e));
+    sink_failed = λ e. absurd (omega (arith, six, e));
+    read_to_end = λ e. absurd (no_text n six e);
+    replayed = λ e. absurd (omega (arith, six, e));
+    replayed_prefix = λ e. absurd (omega (arith, six, e));
+    silent = λ e. refl;
+    completes = λ a b. if_some _ (source.left had) (λ text schedule said. inr six);
+  }

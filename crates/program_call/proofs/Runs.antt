@@ -1,0 +1,114 @@
+-- What a run of a script promises, put together from what its status comes with.
+use Rattle.std.proofs.Common.{◌≡◌, ◌≢◌, ◌⊎◌, inl, inr, ℕ, ◌<◌, List, [], length, Option, Some, None, IfSome, ap, subst, arith}
+use Rattle.base_devices.specs.declared.disk.Disk as disk
+use Rattle.base_devices.specs.declared.sink.Sink as sink
+use Rattle.base_devices.specs.Disk.{Disk}
+use Rattle.model_base.specs.Calls as calls
+use Rattle.model_base.specs.Script.{Script}
+use Rattle.run_calls.specs.declared.options.Options.{Options}
+use Rattle.program_call.specs.declared.telling.Form.{Form}
+use Rattle.program_call.specs.Texts.{Stood}
+use Rattle.program_call.specs.Outcomes.{Observed, observed, RanScript, RanWhole, DiskFailed, RanOutOfMemory}
+use Rattle.program_call.specs.Answers.{RunsScript}
+use Rattle.program_call.proofs.Endings.{AtStatus, AtWhole, AtFault, AtSinkFault, AtNotEmpty}
+
+not_some : (xs : List ℕ) → xs ≡ [] → 0 < length xs → ⊥
+not_some xs e some = let a : length xs ≡ 0 = ap length e in omega (arith, a, some)
+
+empty_so : (told : Option Disk) (n : ℕ) → (n ≡ 0 → IfSome told (λ d. d.content ≡ [])) → (n ≡ 5 → IfSome told (λ d. d.content ≡ []))
+    → IfSome told (λ d. 0 < length d.content → (n ≢ 0) × (n ≢ 5))
+empty_so None n at_0 at_5 = tt
+empty_so (Some d) n at_0 at_5 = λ some. (λ zero. not_some d.content (at_0 zero) some, λ five. not_some d.content (at_5 five) some)
+
+module _ {D K : Type 0} (disk : disk.Ghosts D) (sink : sink.Ghosts K) (seen : Observed) (opened ended : D) (before after : K) where
+  abbrev At : ℕ → Type 0
+  At n = AtStatus seen (disk.faults opened) (disk.faults ended) (sink.faults before) (sink.faults after) n
+
+  at_whole : (n : ℕ) → At n → n ≡ 0 → AtWhole seen (disk.faults opened) (disk.faults ended) (sink.faults before) (sink.faults after)
+  at_whole n at is = subst At is at
+
+  at_fault : (n : ℕ) → At n → n ≡ 3 → AtFault seen (disk.faults opened) (disk.faults ended) (sink.faults before) (sink.faults after)
+  at_fault n at is = subst At is at
+
+  at_sink_fault : (n : ℕ) → At n → n ≡ 5 → AtSinkFault seen (disk.faults opened) (disk.faults ended) (sink.faults before) (sink.faults after)
+  at_sink_fault n at is = subst At is at
+
+  at_not_empty : (n : ℕ) → At n → n ≡ 7 → AtNotEmpty seen (disk.faults opened) (disk.faults ended) (sink.faults before) (sink.faults after)
+  at_not_empty n at is = subst At is at
+
+-- at a status that comes with so much
+pub runs_script : {D K : Type 0} (disk : disk.Ghosts D) (sink : sink.Ghosts K) (says : Script → Type 0) (form : Form) (options : Options) (opened ended : D) (before after : K) (n : ℕ)
+    → AtStatus (observed disk sink says form options opened ended before after) (disk.faults opened) (disk.faults ended) (sink.faults before) (sink.faults after) n
+    → RunsScript disk sink (observed disk sink says form options opened ended before after) opened ended before after n
+runs_script disk sink says form options opened ended before after n at =
+    let seen : Observed = observed disk sink says form options opened ended before after in
+    record {
+      no_fault = λ e. let whole = at_whole disk sink seen opened ended before after n at e in (whole.disk, whole.sink);
+      disk_failed = λ e. (at_fault disk sink seen opened ended before after n at e).rose;
+      sink_failed = λ e. (at_sink_fault disk sink seen opened ended before after n at e).rose;
+      not_empty = λ e. let told = at_not_empty disk sink seen opened ended before after n at e in (told.len, told.some, told.of_disk, told.says);
+      as_before = λ e. (at_not_empty disk sink seen opened ended before after n at e).as_before;
+      empty = empty_so (disk.told opened) n (λ e. (at_whole disk sink seen opened ended before after n at e).empty) (λ e. (at_sink_fault disk sink seen opened ended before after n at e).empty);
+      ran = λ e. (at_whole disk sink seen opened ended before after n at e).whole;
+      ran_to_fault = λ e. (at_fault disk sink seen opened ended before after n at e).told;
+      ran_to_sink_fault = λ e. (at_sink_fault disk sink seen opened ended before after n at e).front;
+      out_of_memory = λ e. subst (λ m. AtStatus seen (disk.faults opened) (disk.faults ended) (sink.faults before) (sink.faults after) m) e at;
+    }
+
+-- where no device fails a run over an empty log ends well, lack of memory aside
+completes_so : (told : Option Disk) (n : ℕ) (Says : ℕ → Type 0) → (n ≡ 0) ⊎ (n ≡ 3) ⊎ (n ≡ 5) ⊎ (n ≡ 6) ⊎ (n ≡ 7) → (n ≡ 3 → ⊥) → (n ≡ 5 → ⊥)
+    → (n ≡ 7 → (len : ℕ) × (0 < len) × IfSome told (λ d. length d.content ≡ len) × Says len) → IfSome told (λ d. length d.content ≡ 0 → (n ≡ 0) ⊎ (n ≡ 6))
+completes_so None n Says one not_3 not_5 at_7 = tt
+completes_so (Some d) n Says (inl e) not_3 not_5 at_7 = λ none. inl e
+completes_so (Some d) n Says (inr (inl e)) not_3 not_5 at_7 = λ none. absurd (not_3 e)
+completes_so (Some d) n Says (inr (inr (inl e))) not_3 not_5 at_7 = λ none. absurd (not_5 e)
+completes_so (Some d) n Says (inr (inr (inr (inl e)))) not_3 not_5 at_7 = λ none. inr e
+completes_so (Some d) n Says (inr (inr (inr (inr e)))) not_3 not_5 at_7 = λ none. absurd (let seven = at_7 e in omega (arith, seven.1, seven.2, none))
+
+pub completes : {D K : Type 0} (disk : disk.Ghosts D) (sink : sink.Ghosts K) (seen : Observed) (opened ended : D) (before after : K) (n : ℕ) → RunsScript disk sink seen opened ended before after n
+    → (n ≡ 0) ⊎ (n ≡ 3) ⊎ (n ≡ 5) ⊎ (n ≡ 6) ⊎ (n ≡ 7) → Stood (sink.faults before) (sink.faults after) → Stood (disk.faults opened) (disk.faults ended)
+    → IfSome (disk.told opened) (λ d. length d.content ≡ 0 → (n ≡ 0) ⊎ (n ≡ 6))
+completes disk sink seen opened ended before after n runs one sink_stood disk_stood =
+    completes_so (disk.told opened) n _ one (λ e. disk_stood (runs.disk_failed e)) (λ e. sink_stood (runs.sink_failed e)) runs.not_empty
+
+-- What says more of a script says it of the one that was run.
+module _ (seen : Observed) (says : Script → Type 0) (tells : (s : Script) → seen.says s → says s) where
+  abbrev retold : Observed
+  retold = record { says = says; form = seen.form; before = seen.before; after = seen.after; opened = seen.opened; ended = seen.ended; execution = seen.execution }
+
+  ran_script : (o : calls.Outcome) → RanScript seen o → RanScript retold o
+  ran_script o ran = record { script = ran.script; said = tells ran.script ran.said; is_outcome = ran.is_outcome; refusals = ran.refusals }
+
+  ran_whole : RanWhole seen → RanWhole retold
+  ran_whole r = record { outcome = r.outcome; ran = ran_script r.outcome r.ran; printed = r.printed; no_fault = r.no_fault; whole = r.whole }
+
+  disk_failed : (failed fails kf kfs : ℕ) → DiskFailed seen failed fails kf kfs → DiskFailed retold failed fails kf kfs
+  disk_failed failed fails kf kfs (inl r) = inl (record {
+    script = r.script;
+    said = tells r.script r.said;
+    count = r.count;
+    reached = r.reached;
+    untouched = r.untouched;
+    refused = r.refused;
+  })
+  disk_failed failed fails kf kfs (inr r) = inr (record { outcome = r.outcome; ran = ran_script r.outcome r.ran; printed = r.printed; fault = r.fault })
+
+  ran_out : RanOutOfMemory seen → RanOutOfMemory retold
+  ran_out (inl r) = inl (record { untouched = r.untouched; silent = r.silent })
+  ran_out (inr (inl r)) = inr (inl (record { outcome = r.outcome; ran = ran_script r.outcome r.ran; silent = r.silent }))
+  ran_out (inr (inr r)) = inr (inr (record { outcome = r.outcome; ran = ran_script r.outcome r.ran; printed = r.printed; no_fault = r.no_fault; short = r.short }))
+
+  pub runs_retold : {D K : Type 0} (disk : disk.Ghosts D) (sink : sink.Ghosts K) (opened ended : D) (before after : K) (n : ℕ) → RunsScript disk sink seen opened ended before after n
+      → RunsScript disk sink retold opened ended before after n
+  runs_retold disk sink opened ended before after n runs = record {
+    no_fault = runs.no_fault;
+    disk_failed = runs.disk_failed;
+    sink_failed = runs.sink_failed;
+    not_empty = runs.not_empty;
+    as_before = runs.as_before;
+    empty = runs.empty;
+    ran = λ e. ran_whole (runs.ran e);
+    ran_to_fault = λ e. disk_failed _ _ _ _ (runs.ran_to_fault e);
+    ran_to_sink_fault = λ e. let r = runs.ran_to_sink_fault e in record { outcome = r.outcome; ran = ran_script r.outcome r.ran; printed = r.printed };
+    out_of_memory = λ e. ran_out (runs.out_of_memory e);
+  }

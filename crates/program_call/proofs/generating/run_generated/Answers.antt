@@ -1,0 +1,49 @@
+-- The run's promises, of the script that the seed makes. It has as many clients as are asked for, and its outcome's
+-- summary is that of all legal outcomes.
+use Rattle.std.proofs.Common.{◌≡◌, ℕ, length, refl, sym, ap, subst, ◌∙◌, arith}
+use Rattle.std.proofs.lemmas.List.{length-map}
+use Rattle.std.proofs.lemmas.List.FromFn.{length-range_with_len}
+use Rattle.std.specs.List.{range_with_len}
+use Rattle.std.specs.Io.KnownBytes.{Appends}
+use Rattle.model_base.specs.Generator.{generated, batches_drawn, first_state}
+use Rattle.model_base.specs.Outcomes.{IsLegal}
+use Rattle.run_calls.specs.Settings.{settings_of}
+use Rattle.run_scripts.specs.declared.script.Script.{Script}
+use Rattle.run_scripts.specs.Scripts.{commands_of}
+use Rattle.program_call.specs.Asking.{usual_options}
+use Rattle.program_call.specs.Outcomes.{IsGenerated}
+use Rattle.program_call.proofs.Runs.{runs_retold, completes}
+use Rattle.program_call.proofs.generating.run_generated.Goals as goal
+
+has_clients : (script : Script) (seed clients batches : ℕ) → commands_of script ≡ generated seed clients batches → length script.clients.items ≡ clients
+has_clients script seed clients batches e =
+    ap length e ∙ length-map (range_with_len 1 clients) (λ client. batches_drawn batches client (first_state seed client)) ∙ length-range_with_len 1 clients
+
+pub run_and_tell-requires-clause-clients : goal.run_and_tell-requires-clause-clients
+run_and_tell-requires-clause-clients g c κs within =
+    let count = has_clients c.in-Ok.script c.args.seed c.args.clients c.args.batches c.in-Ok.ensures.ok in
+    (omega (arith, count), omega (arith, count))
+
+pub returns-clause-runs : goal.returns-clause-runs
+returns-clause-runs g c =
+    runs_retold _ (IsGenerated c.args.seed c.args.clients c.args.batches) (λ s is. is ∙ c.in-Ok.ensures.ok) _ _ _ _ _ _ _ c.run_and_tell.ensures.runs
+
+pub returns-clause-completes : goal.returns-clause-completes
+returns-clause-completes g c = λ sink_stood disk_stood.
+    completes _ _ _ _ _ _ _ _ c.run_and_tell.ensures.runs c.run_and_tell.ensures.status sink_stood disk_stood
+
+pub returns-clause-one_summary : goal.returns-clause-one_summary
+returns-clause-one_summary g c = λ zero.
+    let seed = c.args.seed in
+    let clients = c.args.clients in
+    let batches = c.args.batches in
+    let whole = c.run_and_tell.ensures.runs.ran zero in
+    let o = whole.outcome in
+    let opened = g.D.Disk.faults c.args.disk in
+    let ended = g.D.Disk.faults c.run_and_tell.result.disk in
+    let same : whole.ran.script ≡ generated seed clients batches = whole.ran.said ∙ c.in-Ok.ensures.ok in
+    let run = whole.ran.is_outcome.run in
+    let legal = subst (λ s. IsLegal (settings_of usual_options (length s) opened) ended s o) same (record { trace = run.trace; attempts = run.attempts; legal = run.legal }) in
+    let one = c.summaries_are_one.ensures.one_summary seed clients batches ended (settings_of usual_options (length (generated seed clients batches)) opened) o
+    (omega arith) (omega arith) refl refl legal whole.no_fault whole.whole in
+    subst (λ text. Appends (g.K.Sink.taken c.args.sink.now) (g.K.Sink.taken c.run_and_tell.new.sink) text) one whole.printed

@@ -1,0 +1,143 @@
+-- What a call promises of each command, by its status and by what the devices tell.
+use Rattle.std.specs.Prelude.{◌≡◌, ◌≢◌, ◌⊎◌, ℕ, ◌<◌, List, [], length, Ok, Err, IfSome}
+use Rattle.std.specs.Io.KnownBytes.{Appends}
+use Rattle.base_devices.specs.declared.source.Source as source
+use Rattle.base_devices.specs.declared.disk.Disk as disk
+use Rattle.base_devices.specs.declared.sink.Sink as sink
+use Rattle.model_base.specs.Counts.{Rose}
+use Rattle.model_base.specs.Script.{Script, Fault, script_of, whole_grammar}
+use Rattle.model_base.specs.Generator.{generated}
+use Rattle.model_core.specs.Schedule.{Schedule, schedule_of}
+use Rattle.run_scripts.specs.ReplayLanguage.{replay_grammar, event_words}
+use Rattle.run_calls.specs.declared.options.Options.{Options}
+use Rattle.replay_core.specs.declared.state.CoreOptions.{CoreOptions}
+use Rattle.program_text.specs.Refusals.{usage, script_fault, source_fault, disk_fault, not_empty}
+use Rattle.run_outcome.specs.Running.{IsReached}
+use Rattle.run_summary_laws.specs.Summaries.{summary_of}
+use Rattle.program_call.specs.declared.telling.Form.TheVariants as form
+use Rattle.program_call.specs.Asking.{usual_options}
+use Rattle.program_call.specs.Outcomes.{Observed, observed, SaysScript, IsGenerated, RanWhole, DiskFailed, RanToSinkFault, RanOutOfMemory}
+use Rattle.program_call.specs.Recovers.{TellsDisk, Recovers, RecoversFront}
+use Rattle.program_call.specs.Replays.{Replays, ReplaysFront}
+use Rattle.program_call.specs.Texts.{Stood, SaysTo}
+
+-- A script was run over the log of a disk, or would have been.
+module _ {D K : Type 0} (disk : disk.Ghosts D) (sink : sink.Ghosts K) (seen : Observed) (opened ended : D)
+    (before after : K) (status : ℕ) where
+  pub record RunsScript : Type 0 where
+    -- 0: no device failed. 3, 5: one did.
+    pub no_fault : status ≡ 0 → (disk.faults ended ≡ disk.faults opened) × (sink.faults after ≡ sink.faults before)
+    pub disk_failed : status ≡ 3 → Rose (disk.faults opened) (disk.faults ended)
+    pub sink_failed : status ≡ 5 → Rose (sink.faults before) (sink.faults after)
+    -- 7: The log isn't empty, and stays as it was. Then no other status comes, but of a fault of the disk or for lack
+    -- of memory.
+    pub not_empty : status ≡ 7 → (len : ℕ) × (0 < len) × IfSome (disk.told opened) (λ d. length d.content ≡ len)
+        × SaysTo (sink.taken before) (sink.taken after) (not_empty len) (sink.faults before) (sink.faults after)
+    pub as_before : status ≡ 7 → disk.told ended ≡ disk.told opened
+    pub empty : IfSome (disk.told opened) (λ d. 0 < length d.content → (status ≢ 0) × (status ≢ 5))
+    -- However the clients' threads interleave, every reply in the output is that of a plain map at its point of one
+    -- printed history of whole batches, in which each client's acknowledged batches stand once, in its order, each
+    -- under its own run of sequences; and a crash at any moment of the run leaves a log that recovers a prefix of the
+    -- logged batches, with every acknowledged synced one that the log goes past, and at the run's end with all of them.
+    pub ran : status ≡ 0 → RanWhole seen
+    pub ran_to_fault : status ≡ 3
+        → DiskFailed seen (disk.faults opened) (disk.faults ended) (sink.faults before) (sink.faults after)
+    pub ran_to_sink_fault : status ≡ 5 → RanToSinkFault seen
+    pub out_of_memory : status ≡ 6 → RanOutOfMemory seen
+
+module _ {S D K : Type 0} (source : source.Ghosts S) (disk : disk.Ghosts D) (sink : sink.Ghosts K) (had has : S)
+    (opened ended : D) (before after : K) where
+  -- of a refusal this text was printed
+  abbrev Says : List ℕ → Type 0
+  Says text = SaysTo (sink.taken before) (sink.taken after) text (sink.faults before) (sink.faults after)
+
+  -- the source failed, and that was said
+  pub record SourceFailed : Type 0 where
+    pub failed : Rose (source.faults had) (source.faults has)
+    pub count : ℕ
+    pub reached : IsReached (source.faults had) count (source.faults has)
+    pub said : Says (source_fault count)
+
+  -- The words aren't lawful: 1, or 6 and nothing is said. No device but the sink was touched.
+  pub record AnswersNothing (status : ℕ) : Type 0 where
+    pub one : (status ≡ 1) ⊎ (status ≡ 6)
+    pub said : status ≡ 1 → Says usage
+    pub silent : status ≡ 6 → sink.taken after ≡ sink.taken before
+    pub source_untouched : has ≡ had
+    pub disk_untouched : ended ≡ opened
+
+  -- `run`
+  pub record AnswersRun (options : Options) (status : ℕ) : Type 0 where
+    pub other : (status < 8) × (status ≢ 1)
+    -- 2: the text isn't a script, and its first fault is told
+    pub script : status ≡ 2 → (f : Fault)
+        × IfSome (source.left had) (λ text. script_of whole_grammar text ≡ Err f) × Says (script_fault f)
+    pub other_script : status ≢ 6 → Stood (source.faults had) (source.faults has)
+        → IfSome (source.left had) (λ text. (f : Fault) → script_of whole_grammar text ≡ Err f → status ≡ 2)
+    -- 4: the source failed
+    pub source_failed : status ≡ 4 → SourceFailed
+    pub source_stood : status ≡ 0 → source.faults has ≡ source.faults had
+    -- where the script was run, or would have been, the source was read to its end
+    pub read_to_end : (status ≡ 0) ⊎ (status ≡ 3) ⊎ (status ≡ 5) ⊎ (status ≡ 7)
+        → IfSome (source.left has) (λ left. left ≡ [])
+    -- a refusal of the text never comes to the disk
+    pub disk_untouched : (status ≡ 2) ⊎ (status ≡ 4) → ended ≡ opened
+    pub runs : RunsScript disk sink (observed disk sink (SaysScript (source.left had)) form.Whole options opened ended
+        before after) opened ended before after status
+    -- where no device fails, a script over an empty log ends well, lack of memory aside
+    pub completes : Stood (source.faults had) (source.faults has) → Stood (sink.faults before) (sink.faults after)
+        → Stood (disk.faults opened) (disk.faults ended)
+        → IfSome (source.left had) (λ text. IfSome (disk.told opened) (λ d. (script : Script)
+        → script_of whole_grammar text ≡ Ok script → length d.content ≡ 0 → (status ≡ 0) ⊎ (status ≡ 6)))
+
+  -- `gen`
+  pub record AnswersGenerate (seed clients batches : ℕ) (status : ℕ) : Type 0 where
+    pub one : (status ≡ 0) ⊎ (status ≡ 3) ⊎ (status ≡ 5) ⊎ (status ≡ 6) ⊎ (status ≡ 7)
+    pub source_untouched : has ≡ had
+    pub runs : RunsScript disk sink (observed disk sink (IsGenerated seed clients batches) form.Summary usual_options
+        opened ended before after) opened ended before after status
+    -- where no device fails a run over an empty log ends well, lack of memory aside
+    pub completes : Stood (sink.faults before) (sink.faults after) → Stood (disk.faults opened) (disk.faults ended)
+        → IfSome (disk.told opened) (λ d. length d.content ≡ 0 → (status ≡ 0) ⊎ (status ≡ 6))
+    -- the printed summary is the same whatever the schedule
+    pub one_summary : status ≡ 0
+        → Appends (sink.taken before) (sink.taken after) (summary_of (generated seed clients batches))
+
+  -- `recover`: what the log recovers is printed, whatever its bytes are, and nothing else is touched
+  pub record AnswersRecover (status : ℕ) : Type 0 where
+    pub one : (status ≡ 0) ⊎ (status ≡ 3) ⊎ (status ≡ 5) ⊎ (status ≡ 6)
+    pub source_untouched : has ≡ had
+    pub as_before : disk.told ended ≡ disk.told opened
+    pub no_fault : status ≡ 0 → (disk.faults ended ≡ disk.faults opened) × (sink.faults after ≡ sink.faults before)
+    pub disk_failed : status ≡ 3 → Rose (disk.faults opened) (disk.faults ended)
+    pub sink_failed : status ≡ 5 → Rose (sink.faults before) (sink.faults after)
+    pub recovered : TellsDisk (sink.taken before) (sink.taken after) (disk.told opened)
+        (λ x y d. status ≡ 0 → Recovers x y d.content)
+    pub recovered_prefix : TellsDisk (sink.taken before) (sink.taken after) (disk.told opened)
+        (λ x y d. status ≡ 5 → RecoversFront x y d.content)
+    pub refused : status ≡ 3 → (count : ℕ) × IsReached (disk.faults opened) count (disk.faults ended)
+        × Says (disk_fault count)
+    pub silent : status ≡ 6 → sink.taken after ≡ sink.taken before
+    -- where no device fails it ends well, lack of memory aside
+    pub completes : Stood (sink.faults before) (sink.faults after) → Stood (disk.faults opened) (disk.faults ended)
+        → (status ≡ 0) ⊎ (status ≡ 6)
+
+  -- `replay`: what a schedule comes to on the core is printed, and the disk isn't looked at
+  pub record AnswersReplay (options : CoreOptions) (status : ℕ) : Type 0 where
+    pub one : (status ≡ 0) ⊎ (status ≡ 2) ⊎ (status ≡ 4) ⊎ (status ≡ 5) ⊎ (status ≡ 6)
+    pub disk_untouched : ended ≡ opened
+    pub schedule : status ≡ 2 → (f : Fault)
+        × IfSome (source.left had) (λ text. schedule_of replay_grammar event_words text ≡ Err f) × Says (script_fault f)
+    pub other_schedule : status ≢ 6 → Stood (source.faults had) (source.faults has) → IfSome (source.left had)
+        (λ text. (f : Fault) → schedule_of replay_grammar event_words text ≡ Err f → status ≡ 2)
+    pub no_fault : status ≡ 0 → (source.faults has ≡ source.faults had) × (sink.faults after ≡ sink.faults before)
+    pub source_failed : status ≡ 4 → SourceFailed
+    pub sink_failed : status ≡ 5 → Rose (sink.faults before) (sink.faults after)
+    pub read_to_end : (status ≡ 0) ⊎ (status ≡ 5) → IfSome (source.left has) (λ left. left ≡ [])
+    pub replayed : status ≡ 0 → Replays options (source.left had) (sink.taken before) (sink.taken after)
+    pub replayed_prefix : status ≡ 5 → ReplaysFront options (source.left had) (sink.taken before) (sink.taken after)
+    pub silent : status ≡ 6 → sink.taken after ≡ sink.taken before
+    -- where no device fails a schedule ends well, lack of memory aside
+    pub completes : Stood (source.faults had) (source.faults has) → Stood (sink.faults before) (sink.faults after)
+        → IfSome (source.left had) (λ text. (schedule : Schedule)
+        → schedule_of replay_grammar event_words text ≡ Ok schedule → (status ≡ 0) ⊎ (status ≡ 6))

@@ -1,0 +1,145 @@
+-- What the commands that run a script promise: every reply that is printed is that of a plain map at its point of one
+-- printed history. Each device tells its bytes, or it doesn't (`None`). What is said of one stands whatever the others
+-- tell.
+use Rattle.std.specs.Prelude.{◌≡◌, ◌⊎◌, ℕ, List, Option, Some, None, Ok, IfSome, IsSome, slice_get}
+use Rattle.std.specs.List.{AllByRecursion}
+use Rattle.std.specs.Io.KnownBytes.{Appends}
+use Rattle.base_devices.specs.Disk.{Disk, Told}
+use Rattle.base_devices.specs.declared.disk.Disk as disk
+use Rattle.base_devices.specs.declared.sink.Sink as sink
+use Rattle.model_base.specs.Calls as calls
+use Rattle.model_base.specs.Script.{Script, script_of, whole_grammar}
+use Rattle.model_base.specs.Generator.{generated}
+use Rattle.model_base.specs.Runs.{NoneWithoutMemory}
+use Rattle.run_calls.specs.declared.options.Options.{Options}
+use Rattle.model_runs.specs.Crashes.{IsImageSince}
+use Rattle.run_outcome.specs.Running.{Execution, execution_of, IsRunOf, LeavesSafeLog, IsReached}
+use Rattle.model_runs.specs.Refusals.{AreRefusedForThemselves}
+use Rattle.log_writer.specs.Written.{IsWrittenFrom}
+use Rattle.program_text.specs.Refusals.{disk_fault}
+use Rattle.program_call.specs.declared.telling.Form.{Form}
+use Rattle.program_call.specs.Telling.{text_of}
+use Rattle.program_call.specs.Texts.{SaysTo, TakesPrefix}
+
+-- The outcome of a run: it is legal, and the log was written by just the calls that wrote its history's groups. Where
+-- the disk tells its bytes the run found the log empty and left the batches of this outcome there, and a crash at any
+-- moment of it leaves a prefix of them to recover.
+pub record IsOutcome (execution : Execution) (opened ended : Option Disk) (o : calls.Outcome) : Type 0 where
+  pub run : IsRunOf execution o
+  pub log : Told opened ended (LeavesSafeLog execution o run)
+
+-- where the log has no fault commits were refused for themselves alone
+abbrev pub RefusesForThemselves : calls.Outcome → Type 0
+RefusesForThemselves o = o.fault ≡ None → AllByRecursion AreRefusedForThemselves o.transcripts
+
+-- Which script was to be run, how an outcome is printed, what the devices tell of the call, where they do, and how a
+-- script is run there
+pub record Observed : Type 1 where
+  pub says : Script → Type 0
+  pub form : Form
+  -- what the sink had taken before the call, and after it
+  pub before : Option (List ℕ)
+  pub after : Option (List ℕ)
+  -- the log's disk before the call, and after it
+  pub opened : Option Disk
+  pub ended : Option Disk
+  pub execution : Script → Execution
+
+abbrev pub observed : {D K : Type 0} → disk.Ghosts D → sink.Ghosts K → (Script → Type 0) → Form → Options → D → D → K
+    → K → Observed
+observed disk sink says form options opened ended before after = record {
+  says = says;
+  form = form;
+  before = sink.taken before;
+  after = sink.taken after;
+  opened = disk.told opened;
+  ended = disk.told ended;
+  execution = λ script. execution_of options script (disk.faults opened) (disk.faults ended)
+      (IsImageSince disk.moment disk.from disk.since opened ended) (IsWrittenFrom disk opened ended);
+}
+
+-- the script of a text, where it is told
+abbrev pub SaysScript : Option (List ℕ) → Script → Type 0
+SaysScript text script = IfSome text (λ t. script_of whole_grammar t ≡ Ok script)
+
+-- this very script
+abbrev pub IsScript : Script → Script → Type 0
+IsScript this script = script ≡ this
+
+-- the script that a seed makes
+abbrev pub IsGenerated : ℕ → ℕ → ℕ → Script → Type 0
+IsGenerated seed clients batches script = script ≡ generated seed clients batches
+
+-- some client's call found no memory
+pub record LacksMemory (o : calls.Outcome) : Type 0 where
+  pub client : ℕ
+  pub transcript : List calls.Call
+  pub of_client : slice_get o.transcripts client ≡ Some transcript
+  pub place : ℕ
+  pub call : calls.Call
+  pub there : slice_get transcript place ≡ Some call
+  pub reply : call.reply ≡ calls.no_memory
+
+module _ (seen : Observed) where
+  -- A script was run, and this is its outcome.
+  pub record RanScript (o : calls.Outcome) : Type 0 where
+    pub script : Script
+    pub said : seen.says script
+    pub is_outcome : IsOutcome (seen.execution script) seen.opened seen.ended o
+    pub refusals : RefusesForThemselves o
+
+  -- status 0: it was printed, no write of the log failed, and no client ran out of memory
+  pub record RanWhole : Type 0 where
+    pub outcome : calls.Outcome
+    pub ran : RanScript outcome
+    pub printed : Appends seen.before seen.after (text_of seen.form outcome)
+    pub no_fault : outcome.fault ≡ None
+    pub whole : AllByRecursion NoneWithoutMemory outcome.transcripts
+
+  -- status 3, where the log was opened: it was printed, and a write of the log failed
+  pub record RanToFault : Type 0 where
+    pub outcome : calls.Outcome
+    pub ran : RanScript outcome
+    pub printed : Appends seen.before seen.after (text_of seen.form outcome)
+    pub fault : IsSome outcome.fault
+
+  -- and where it wasn't: the disk tells what it told before
+  pub record DiskRefused (failed fails sink_failed sink_fails : ℕ) : Type 0 where
+    pub script : Script
+    pub said : seen.says script
+    pub count : ℕ
+    pub reached : IsReached failed count fails
+    pub untouched : seen.ended ≡ seen.opened
+    pub refused : SaysTo seen.before seen.after (disk_fault count) sink_failed sink_fails
+
+  -- status 3
+  abbrev pub DiskFailed : ℕ → ℕ → ℕ → ℕ → Type 0
+  DiskFailed failed fails sink_failed sink_fails = DiskRefused failed fails sink_failed sink_fails ⊎ RanToFault
+
+  -- status 5: a prefix of it was taken
+  pub record RanToSinkFault : Type 0 where
+    pub outcome : calls.Outcome
+    pub ran : RanScript outcome
+    pub printed : TakesPrefix seen.before seen.after (text_of seen.form outcome)
+
+  -- status 6: nothing was run or printed, and the disk tells what it told before
+  pub record RanNothing : Type 0 where
+    pub untouched : seen.ended ≡ seen.opened
+    pub silent : seen.after ≡ seen.before
+
+  -- or a script was run, and there was no memory for its outcome, or for the text
+  pub record RanSilent : Type 0 where
+    pub outcome : calls.Outcome
+    pub ran : RanScript outcome
+    pub silent : seen.after ≡ seen.before
+
+  -- or its outcome was printed, and a client alone ran out of memory
+  pub record RanShort : Type 0 where
+    pub outcome : calls.Outcome
+    pub ran : RanScript outcome
+    pub printed : Appends seen.before seen.after (text_of seen.form outcome)
+    pub no_fault : outcome.fault ≡ None
+    pub short : LacksMemory outcome
+
+  abbrev pub RanOutOfMemory : Type 0
+  RanOutOfMemory = RanNothing ⊎ RanSilent ⊎ RanShort

@@ -1,0 +1,23 @@
+-- What the command `recover` promises.
+use Rattle.std.specs.Prelude.{ℕ, List, Option, Some, None, ⊤}
+use Rattle.base_devices.specs.Disk.{Disk}
+use Rattle.model_base.specs.Recovery.{Recovered, IsRecovered}
+use Rattle.model_base.specs.Text.{recovered_text}
+use Rattle.program_call.specs.Texts.{Prints, PrintsFront}
+
+-- the sink's bytes before and after a call, and the disk, where they are told
+abbrev pub TellsDisk : Option (List ℕ) → Option (List ℕ) → Option Disk → (List ℕ → List ℕ → Disk → Type 0) → Type 0
+TellsDisk (Some before) (Some after) (Some disk) P = P before after disk
+TellsDisk before after disk P = ⊤
+
+-- status 0: the text of what the file recovers was printed
+pub record Recovers (before after file : List ℕ) : Type 0 where
+  pub recovered : Recovered
+  pub is_recovered : IsRecovered None file recovered
+  pub printed : Prints before after (recovered_text recovered)
+
+-- status 5: a front of it was taken
+pub record RecoversFront (before after file : List ℕ) : Type 0 where
+  pub recovered : Recovered
+  pub is_recovered : IsRecovered None file recovered
+  pub printed : PrintsFront before after (recovered_text recovered)

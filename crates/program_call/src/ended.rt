@@ -1,0 +1,35 @@
+//! How a call ended.
+
+ghost use Rattle.std.specs.Prelude.{◌≡◌};
+ghost use Rattle.program_call.specs.Telling.{code};
+
+use crate::telling::Status;
+
+/// How a call ended, and the disk that it was handed.
+pub struct Ended<D> {
+    /// The program's exit status. Where the table says outcome, `gen` prints its summary.
+    ///
+    /// | Status | Comes where | Text |
+    /// |---|---|---|
+    /// | 0 | none of the others; the script was read to its end | the outcome |
+    /// | 1 | the words aren't lawful, `--help` and `--version` among them | `usage` |
+    /// | 2 | the text isn't a script, or has no schedule under `replay` | `script LINE KIND` |
+    /// | 3 | the disk failed | `disk fault COUNT`, or the outcome where the log was opened |
+    /// | 4 | the source failed | `source fault COUNT` |
+    /// | 5 | the sink failed | a prefix of the outcome |
+    /// | 6 | there was no memory | nothing, or the outcome where clients alone lacked it |
+    /// | 7 | the log isn't empty | `log not empty LEN` |
+    pub status: u8,
+    pub disk: D,
+}
+
+/// The end of a call with a status.
+pub fn end_with<D>(status: Status, disk: D) -> Ended<D>
+    ensures status { result.status ≡ code status }
+    ensures disk { result.disk ≡ disk }
+{
+    Ended {
+        status: status as u8,
+        disk,
+    }
+}

@@ -1,0 +1,36 @@
+//! The command `recover`: what a log recovers is printed.
+
+ghost use Rattle.std.specs.Prelude.{◌≡◌, ◌⊎◌, ℕ};
+ghost use Rattle.model_base.specs.Counts.{Rose};
+ghost use Rattle.program_text.specs.Refusals.{disk_fault};
+ghost use Rattle.run_outcome.specs.Running.{IsReached};
+ghost use Rattle.program_call.specs.Recovers.{TellsDisk, Recovers, RecoversFront};
+ghost use Rattle.program_call.specs.Texts.{Stood, SaysTo};
+
+use crate::ended::{Ended, end_with};
+use crate::telling::tell_recovery;
+use base_devices::{Disk, Sink};
+use log_recovery::recover;
+use std::alloc::Global;
+
+/// Prints what the log of a disk recovers.
+pub fn recover_log<D: Disk, K: Sink>(alloc: Global, mut disk: D, sink: &mut K) -> Ended<D>
+    ensures status { (result.status ≡ 0) ⊎ (result.status ≡ 3) ⊎ (result.status ≡ 5) ⊎ (result.status ≡ 6) }
+    ensures no_fault { result.status ≡ 0 → (D.faults result.disk ≡ D.faults disk)
+        × (K.faults sink.new ≡ K.faults sink.old) }
+    ensures disk_failed { result.status ≡ 3 → Rose (D.faults disk) (D.faults result.disk) }
+    ensures sink_failed { result.status ≡ 5 → Rose (K.faults sink.old) (K.faults sink.new) }
+    ensures disk_as_before { D.told result.disk ≡ D.told disk }
+    ensures recovered { TellsDisk (K.taken sink.old) (K.taken sink.new) (D.told disk)
+        (λ before after d. result.status ≡ 0 → Recovers before after d.content) }
+    ensures recovered_prefix { TellsDisk (K.taken sink.old) (K.taken sink.new) (D.told disk)
+        (λ before after d. result.status ≡ 5 → RecoversFront before after d.content) }
+    ensures refused { result.status ≡ 3 → (count : ℕ) × IsReached (D.faults disk) count (D.faults result.disk)
+        × SaysTo (K.taken sink.old) (K.taken sink.new) (disk_fault count) (K.faults sink.old) (K.faults sink.new) }
+    ensures silent { result.status ≡ 6 → K.taken sink.new ≡ K.taken sink.old }
+    ensures completes { Stood (K.faults sink.old) (K.faults sink.new)
+        → Stood (D.faults disk) (D.faults result.disk) → (result.status ≡ 0) ⊎ (result.status ≡ 6) }
+{
+    let found = recover(alloc, &mut disk);
+    end_with(tell_recovery(alloc, sink, &found), disk)
+}

@@ -1,0 +1,27 @@
+-- What a caller sees of what is recovered has the text of what is recovered.
+use Rattle.std.proofs.Common.{◌≡◌, List, [], ◌∷◌, ◌++◌, length, map, refl, ◌∙◌, ap}
+use Rattle.std.specs.Prelude.{flat_map, decimal, codes}
+use Rattle.std.proofs.lemmas.List.{length-map}
+use Rattle.std.proofs.lemmas.List.Folds.{flat_map-map}
+use Rattle.model_base.specs.Recovery as recovery
+use Rattle.model_base.specs.Text.{line, hex_word, state_text, group_text, recovered_text}
+use Rattle.log_recovery.specs.declared.recovery.Recovered.{Recovered}
+use Rattle.log_recovery.specs.Keeping.{note_of}
+use Rattle.log_recovery.specs.Recovering.{ShowsRecovered}
+use Rattle.program_text.specs.ShownText.{group_line, groups_lines, end_line, shown_recovered_text}
+
+-- the notes of batches have the batches' lines
+groups_shown : (bs : List recovery.Logged) → groups_lines (map note_of bs) ≡ line (codes "groups" ∷ decimal (length bs) ∷ []) ++ flat_map group_text bs
+groups_shown bs = rw (length-map bs note_of, flat_map-map group_line note_of bs) refl
+
+-- of all that is recovered
+pub recovered_shown : (v : Recovered) (r : recovery.Recovered) → ShowsRecovered v r → shown_recovered_text v ≡ recovered_text r
+recovered_shown v r shows =
+    let head = line (codes "groups" ∷ decimal (length r.batches) ∷ []) ++ flat_map group_text r.batches in
+    let state = state_text hex_word (recovery.recovered_last r) (recovery.recovered_map r) in
+    ap (λ groups. groups_lines groups ++ state_text hex_word v.last v.map ++ end_line v.end.at v.end.why) shows.groups
+    ∙ ap (λ t. t ++ state_text hex_word v.last v.map ++ end_line v.end.at v.end.why) (groups_shown r.batches)
+    ∙ ap (λ map. head ++ state_text hex_word v.last map ++ end_line v.end.at v.end.why) shows.map_is
+    ∙ ap (λ last. head ++ state_text hex_word last (recovery.recovered_map r) ++ end_line v.end.at v.end.why) shows.last
+    ∙ ap (λ at. head ++ state ++ end_line at v.end.why) shows.at
+    ∙ ap (λ why. head ++ state ++ end_line r.at why) shows.why

@@ -1,0 +1,8 @@
+use Rattle.std.proofs.Common.{◌≡◌, ◌++◌, flat_map}
+use Rattle.model_base.specs.Text.{hex_word}
+use Rattle.program_text.specs.ShownText.{pair_line}
+use Rattle.program_text.proofs.recovered_state.put_recovered_map.Given as goal
+
+-- with the lines of the pairs that are left, the lines of all pairs stand behind the text
+abbrev pub invariant-loop-key : goal.invariant-loop-key
+invariant-loop-key l = l.text ++ flat_map (pair_line hex_word) l.key-iterator ≡ l.initial.text ++ flat_map (pair_line hex_word) l.map

@@ -1,0 +1,19 @@
+-- The texts of refusals: one line each.
+use Rattle.std.specs.Prelude.{ℕ, List, [], ◌∷◌, codes, decimal}
+use Rattle.model_base.specs.Text.{line}
+use Rattle.model_base.specs.Script.{Fault, fault_word}
+
+abbrev pub usage : List ℕ
+usage = line (codes "usage" ∷ [])
+
+abbrev pub script_fault : Fault → List ℕ
+script_fault f = line (codes "script" ∷ decimal f.line ∷ fault_word f.kind ∷ [])
+
+abbrev pub source_fault : ℕ → List ℕ
+source_fault count = line (codes "source" ∷ codes "fault" ∷ decimal count ∷ [])
+
+abbrev pub disk_fault : ℕ → List ℕ
+disk_fault count = line (codes "disk" ∷ codes "fault" ∷ decimal count ∷ [])
+
+abbrev pub not_empty : ℕ → List ℕ
+not_empty len = line (codes "log" ∷ codes "not" ∷ codes "empty" ∷ decimal len ∷ [])

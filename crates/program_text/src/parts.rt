@@ -1,0 +1,140 @@
+//! The parts of an outcome's text.
+
+ghost use Rattle.std.specs.Prelude.{◌≡◌, ◌++◌, [], ◌∷◌, codes, decimal, OnOk};
+ghost use Rattle.model_base.specs.Text.{line, refusal_words, flag_word, log_text};
+ghost use Rattle.program_text.specs.ShownText.{reply_line, client_lines, clients_lines, line_of, history_lines};
+
+use crate::lines::{put_hex, put_line, put_number, put_numbers};
+use crate::reads::{put_found_each, put_rows};
+use base_bytes::Bytes;
+use log_batch::Batch;
+use model_base::{Flag, NoMemory, Refusal};
+use run_calls::Entry;
+use run_outcome::{History, Reply};
+
+fn put_refusal(text: &mut Bytes, why: Refusal) -> Result<(), NoMemory>
+    ensures { OnOk result (text.new ≡ text.old ++ line (codes "no" ∷ refusal_words why)) }
+{
+    match why {
+        Refusal::Empty => put_line(text, b"no empty", &[]),
+        Refusal::TooLarge { size } => put_line(text, b"no large", &[size]),
+        Refusal::SyncWithoutLog => put_line(text, b"no syncwithoutlog", &[]),
+        Refusal::SelfStop => put_line(text, b"no selfstop", &[]),
+        Refusal::NoMemory => put_line(text, b"no memory", &[]),
+        Refusal::Incomplete {
+            stops,
+            delays,
+            wait,
+        } => put_line(text, b"no incomplete", &[stops, delays, wait]),
+        Refusal::LogFault { count } => put_line(text, b"no logfault", &[count]),
+        Refusal::SequenceFull { last } => put_line(text, b"no full", &[last]),
+    }
+}
+
+fn put_value(text: &mut Bytes, at: u64, value: &[u8]) -> Result<(), NoMemory>
+    ensures { OnOk result (text.new ≡ text.old ++ line (codes "val" ∷ decimal at ∷ value.now ∷ [])) }
+{
+    text.append(b"val")?;
+    put_numbers(text, &[at])?;
+    text.append(b" ")?;
+    text.append(value)?;
+    text.append(b"\n")
+}
+
+fn put_reply(text: &mut Bytes, reply: &Reply) -> Result<(), NoMemory>
+    ensures { OnOk result (text.new ≡ text.old ++ reply_line reply.now) }
+{
+    match reply {
+        Reply::Accepted { first, last } => put_line(text, b"ok", &[*first, *last]),
+        Reply::Refused(why) => put_refusal(text, *why),
+        Reply::Found {
+            at,
+            value: Some(value),
+        } => put_value(text, *at, value.as_slice()),
+        Reply::Found { at, value: None } => put_line(text, b"nil", &[*at]),
+        Reply::FoundEach { at, values } => put_found_each(text, *at, values),
+        Reply::Rows { at, rows } => put_rows(text, *at, rows),
+        Reply::Done => put_line(text, b"done", &[]),
+        Reply::Held => put_line(text, b"held", &[]),
+        Reply::NotHeld => put_line(text, b"notheld", &[]),
+        Reply::NoMemory => put_line(text, b"no memory", &[]),
+    }
+}
+
+fn put_client(text: &mut Bytes, number: u64, replies: &Vec<Reply>) -> Result<(), NoMemory>
+    ensures { OnOk result (text.new ≡ text.old ++ client_lines (number, replies.now)) }
+{
+    put_line(text, b"client", &[number])?;
+    for reply in replies {
+        put_reply(text, reply)?;
+    }
+    Ok(())
+}
+
+/// Puts each client's number and replies behind the text.
+pub fn put_clients(text: &mut Bytes, transcripts: &[Vec<Reply>]) -> Result<(), NoMemory>
+    ensures { OnOk result (text.new ≡ text.old ++ clients_lines transcripts.now) }
+{
+    for (before, replies) in transcripts.iter().enumerate() {
+        put_client(text, before as u64 + 1, replies)?;
+    }
+    Ok(())
+}
+
+fn flag_word(flag: Flag) -> &'static [u8]
+    ensures { result.now ≡ flag_word flag }
+{
+    match flag {
+        Flag::Log => b"log",
+        Flag::NoLog => b"nolog",
+        Flag::Sync => b"sync",
+    }
+}
+
+/// Puts a batch's line behind the text. `B` is what stands for the batch, which has these bytes.
+fn put_entry<B>(text: &mut Bytes, entry: &Entry<B>, bytes: &[u8]) -> Result<(), NoMemory>
+    ensures { OnOk result (text.new ≡ text.old ++ line_of entry.now bytes.now) }
+{
+    put_number(text, entry.first)?;
+    put_numbers(text, &[entry.last, u64::from(entry.client), entry.ordinal])?;
+    text.append(b" ")?;
+    text.append(flag_word(entry.flag))?;
+    text.append(b" ")?;
+    put_hex(text, bytes)?;
+    text.append(b"\n")
+}
+
+/// Puts the history of a run behind the text: how many batches there are, and a line for each.
+pub fn put_history(text: &mut Bytes, history: &History) -> Result<(), NoMemory>
+    ensures { OnOk result (text.new ≡ text.old ++ history_lines history.now) }
+{
+    put_line(text, b"history", &[history.len() as u64])?;
+    for at in 0..history.len() {
+        let entry = history.entry(at);
+        put_entry(text, &entry, entry.batch.bytes())?;
+    }
+    Ok(())
+}
+
+/// Puts the history of a schedule behind the text, as that of a run.
+pub fn put_entries(text: &mut Bytes, entries: &[Entry<Batch>]) -> Result<(), NoMemory>
+    ensures { OnOk result (text.new ≡ text.old ++ history_lines entries.now) }
+{
+    put_line(text, b"history", &[entries.len() as u64])?;
+    for entry in entries {
+        put_entry(text, entry, entry.batch.bytes())?;
+    }
+    Ok(())
+}
+
+/// Puts the log's length behind the text, and the count of its fault.
+pub fn put_log(text: &mut Bytes, len: u64, fault: Option<u64>) -> Result<(), NoMemory>
+    ensures { OnOk result (text.new ≡ text.old ++ log_text len fault) }
+{
+    let Some(count) = fault else {
+        return put_line(text, b"log", &[len]);
+    };
+    text.append(b"log")?;
+    put_numbers(text, &[len])?;
+    put_line(text, b" fault", &[count])
+}

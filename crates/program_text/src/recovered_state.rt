@@ -1,0 +1,41 @@
+//! The text of the state that a log recovers, whose keys and values are any bytes: they are printed in digits.
+
+ghost use Rattle.std.specs.Prelude.{◌≡◌, ◌++◌, OnOk};
+ghost use Rattle.model_base.specs.Text.{hex_word, state_text};
+ghost use Rattle.program_text.specs.ShownText.{pair_line};
+
+use crate::lines::{put_hex, put_line};
+use base_bytes::Bytes;
+use log_recovery::RecoveredMap;
+use model_base::NoMemory;
+
+/// Puts bytes behind the text in lower-case digits, and `-` for no byte.
+fn put_hex_word(text: &mut Bytes, word: &[u8]) -> Result<(), NoMemory>
+    ensures { OnOk result (text.new ≡ text.old ++ hex_word word.now) }
+{
+    if word.is_empty() {
+        text.append(b"-")
+    } else {
+        put_hex(text, word)
+    }
+}
+
+fn put_hex_pair(text: &mut Bytes, key: &[u8], value: &[u8]) -> Result<(), NoMemory>
+    ensures { OnOk result (text.new ≡ text.old ++ pair_line hex_word (key.now, value.now)) }
+{
+    put_hex_word(text, key)?;
+    text.append(b" ")?;
+    put_hex_word(text, value)?;
+    text.append(b"\n")
+}
+
+/// Puts the state that is recovered behind the text.
+pub fn put_recovered_map(text: &mut Bytes, last: u64, map: &RecoveredMap) -> Result<(), NoMemory>
+    ensures { OnOk result (text.new ≡ text.old ++ state_text hex_word last map.now) }
+{
+    put_line(text, b"state", &[last, map.len() as u64])?;
+    for (key, value) in map.iter() {
+        put_hex_pair(text, key, value)?;
+    }
+    Ok(())
+}

@@ -1,0 +1,58 @@
+//! The summary of the outcome of a script that was made: six lines, each a word and a number. It is the same for every
+//! order of the clients' batches, since no key is of two clients.
+
+ghost use Rattle.std.specs.Prelude.{◌≡◌, ◌++◌, ℕ, sum_by, OnOk, IfOk};
+ghost use Rattle.model_base.specs.Batch.{count_of};
+ghost use Rattle.model_base.specs.Calls as calls;
+ghost use Rattle.model_base.specs.Generator.{number_line};
+ghost use Rattle.model_base.specs.Generator as model;
+ghost use Rattle.model_base.specs.History.{IsHistory};
+ghost use Rattle.model_base.specs.Script.{value_of_digits};
+ghost use Rattle.run_outcome.specs.Shows.{ShowsOutcome};
+
+use base_bytes::{Bytes, PairList};
+use itoa::Buffer;
+use model_base::NoMemory;
+use run_outcome::{History, Outcome};
+use std::alloc::Global;
+
+/// The summary of an outcome, whose map's values have this sum as numbers.
+pub fn summary_text(
+    alloc: Global,
+    outcome: &Outcome<PairList>,
+    sum: u128,
+) -> Result<Bytes, NoMemory>
+    ensures { (o : calls.Outcome) (start : ℕ) → IsHistory start o.history → ShowsOutcome outcome.now o
+        → sum ≡ sum_by (λ p. value_of_digits p.1) o.state → IfOk result (λ t. t ≡ model.summary_text o) }
+{
+    let mut text = Bytes::new(alloc);
+    put_number_line(&mut text, b"clients", outcome.transcripts.len() as u128)?;
+    put_number_line(&mut text, b"batches", outcome.history.len() as u128)?;
+    put_number_line(&mut text, b"records", record_count(&outcome.history))?;
+    put_number_line(&mut text, b"last", u128::from(outcome.last))?;
+    put_number_line(&mut text, b"keys", outcome.state.len() as u128)?;
+    put_number_line(&mut text, b"sum", sum)?;
+    Ok(text)
+}
+
+/// How many records the batches of a history count, all together.
+fn record_count(history: &History) -> u128
+    ensures { result ≡ sum_by (λ entry. count_of entry.batch.records) history.now }
+{
+    let mut count = 0;
+    for at in 0..history.len() {
+        count += u128::from(history.entry(at).batch.count());
+    }
+    count
+}
+
+/// Puts a line behind the text: a word and a number.
+fn put_number_line(text: &mut Bytes, word: &[u8], number: u128) -> Result<(), NoMemory>
+    ensures { OnOk result (text.new ≡ text.old ++ number_line word.now number) }
+{
+    let mut buffer = Buffer::new();
+    text.append(word)?;
+    text.append(b" ")?;
+    text.append(buffer.format(number).as_bytes())?;
+    text.append(b"\n")
+}

@@ -1,0 +1,20 @@
+use Rattle.std.proofs.Common.{◌∙◌, ap}
+use Rattle.std.proofs.lemmas.Result.{IfOk-weaker}
+use Rattle.clap.specs.Words.{App, with_rule}
+use Rattle.program_words.specs.Definition.{batch_bytes, group_bytes, last, shards, table}
+use Rattle.program_words.proofs.Additions.{with_argument}
+use Rattle.program_words.proofs.definition.run.Goals as goal
+
+pub with_table-requires : goal.with_table-requires
+with_table-requires c =
+    (with_argument _ _ _ _ _ c.in_ok-staged.ensures c.pipelined.ensures.local c.pipelined.ensures.rule (record { app = c.new.ensures.app; local = c.new.ensures.local })).local
+
+pub returns : goal.returns
+returns c =
+    let staged = with_argument _ _ _ _ _ c.in_ok-staged.ensures c.pipelined.ensures.local c.pipelined.ensures.rule (record { app = c.new.ensures.app; local = c.new.ensures.local }) in
+    let with_table = c.in_ok-with_table.ensures.app ∙ ap (λ (a : App). with_rule (with_rule a table) shards) staged.app in
+    record {
+      app = IfOk-weaker c.with_limits.result _ _
+          (λ command is. is ∙ ap (λ (a : App). with_rule (with_rule (with_rule a group_bytes) batch_bytes) last) with_table) c.with_limits.ensures.app;
+      local = c.with_limits.ensures.local;
+    }

@@ -1,0 +1,7 @@
+use Rattle.std.proofs.Common.{refl}
+use Rattle.std.specs.Fmt.{digits}
+use Rattle.program_words.proofs.laws.words_that_are_lawful.Goals as goal
+
+pub returns : goal.returns
+unfolding digits
+returns c = record { run = refl; recover = refl; replay = refl; generate = refl }

@@ -1,0 +1,157 @@
+-- The lawful words of a call, in plain words: the program's name, a command, and its options in any order, each at most
+-- once, and with its value in a word of its own where it has one. Behind the options of `gen` stand its three numbers.
+use Rattle.std.specs.Prelude.{ℕ, ◌-◌, ◌^◌, ◌++◌, ◌&&◌, ◌||◌, Bool, true, false, List, [], ◌∷◌, Option, Some, None, String, string_bytes, map, find, length, take, drop, codes, bytes_eq, nat_le, if◌then◌else◌, unwrap_or, is_some, option_and_then, option_map}
+use Rattle.std.specs.declared.alloc.Global.{Global}
+use Rattle.model_base.specs.Script.{number_of}
+use Rattle.program_words.specs.declared.asked.Asked.{Asked}
+use Rattle.program_words.specs.declared.asked.Asked.TheVariants.{Run, Recover, Replay, Generate}
+
+-- the bytes of a word
+abbrev pub Word : Type 0
+Word = List ℕ
+
+-- a number in its shortest decimal digits, and within its range
+abbrev pub within : ℕ → ℕ → Word → Option ℕ
+within least most word = option_and_then
+    (λ n. if nat_le least n && nat_le n most then Some n else None) (number_of word)
+
+-- ---- the options
+
+-- an option `--name`, and which words may be its value; a flag has none, and stands for `true`
+pub record Known : Type 0 where
+  pub name : Word
+  pub is_flag : Bool
+  pub takes : Word → Bool
+
+abbrev pub flag : Word → Known
+flag name = record { name = name; is_flag = true; takes = λ value. bytes_eq value (codes "true") }
+
+abbrev pub number : Word → ℕ → ℕ → Known
+number name least most =
+    record { name = name; is_flag = false; takes = λ value. is_some (within least most value) }
+
+-- what the table is made of: one tree, or trees in shards
+abbrev pub table : Known
+table = record {
+  name = codes "table";
+  is_flag = false;
+  takes = λ value. bytes_eq value (codes "one") || bytes_eq value (codes "shards");
+}
+
+abbrev pub shards : Known
+shards = number (codes "shards") 1 64
+
+abbrev pub pipelined : Known
+pipelined = flag (codes "pipelined")
+
+abbrev pub group_bytes : Known
+group_bytes = number (codes "group-bytes") 1 16777216
+
+abbrev pub batch_bytes : Known
+batch_bytes = number (codes "batch-bytes") 12 16777216
+
+abbrev pub last : Known
+last = number (codes "last") 0 (2 ^ 56 - 1)
+
+-- what each command takes
+
+abbrev pub run_options : List Known
+run_options = pipelined ∷ table ∷ shards ∷ group_bytes ∷ batch_bytes ∷ last ∷ []
+
+abbrev pub recover_options : List Known
+recover_options = []
+
+abbrev pub replay_options : List Known
+replay_options = pipelined ∷ group_bytes ∷ batch_bytes ∷ last ∷ []
+
+abbrev pub generate_options : List Known
+generate_options = pipelined ∷ table ∷ shards ∷ []
+
+-- ---- the options that words give
+
+-- names and values
+abbrev pub Given : Type 0
+Given = List (Word × Word)
+
+-- the value of an option, where it was given
+abbrev pub value_of : Word → Given → Option Word
+value_of name given = option_map (λ g. g.1) (find (λ g. bytes_eq g.0 name) given)
+
+abbrev pub word_of : Known → Word
+word_of option = codes "--" ++ option.name
+
+-- the option that a word names, where it has not come before
+abbrev pub named : List Known → Given → Word → Option Known
+named known given word =
+    option_and_then (λ option. if is_some (value_of option.name given) then None else Some option)
+    (find (λ option. bytes_eq (word_of option) word) known)
+
+-- the words are options of these, and nothing else; they come behind those that were given
+abbrev pub with_options : List Known → List Word → Given → Option Given
+with_options known [] given = Some given
+with_options known (word ∷ []) given =
+    option_and_then (λ option. if option.is_flag then Some (given ++ (option.name, codes "true") ∷ []) else None)
+    (named known given word)
+with_options known (word ∷ value ∷ words) given =
+    option_and_then (λ option. if option.is_flag
+    then with_options known (value ∷ words) (given ++ (option.name, codes "true") ∷ [])
+    else if option.takes value then with_options known words (given ++ (option.name, value) ∷ []) else None)
+    (named known given word)
+
+abbrev pub options_of : List Known → List Word → Option Given
+options_of known words = with_options known words []
+
+-- ---- what a command asks for
+
+-- an option that is not given has its default
+abbrev pub number_or : ℕ → Known → Given → ℕ
+number_or default option given =
+    unwrap_or (option_and_then number_of (value_of option.name given)) default
+
+-- how many shards the table has; none where it is one tree
+abbrev pub shards_given : Given → Option ℕ
+shards_given given =
+    if bytes_eq (unwrap_or (value_of table.name given) (codes "one")) (codes "shards")
+    then Some (number_or 16 shards given) else None
+
+abbrev pub run_with : Given → Asked
+run_with given = Run (is_some (value_of pipelined.name given)) (shards_given given)
+    (number_or 1048576 group_bytes given) (number_or 16777216 batch_bytes given) (number_or 0 last given)
+
+abbrev pub replay_with : Given → Asked
+replay_with given = Replay (is_some (value_of pipelined.name given)) (number_or 1048576 group_bytes given)
+    (number_or 16777216 batch_bytes given) (number_or 0 last given)
+
+-- `gen` wants a seed below 2^31, up to 16 clients, and up to 100000 batches of each
+abbrev pub generate_with : Bool → Option ℕ → List Word → Option Asked
+generate_with in_stages in_shards (seed ∷ clients ∷ batches ∷ []) =
+    option_and_then (λ s. option_and_then (λ c. option_map (λ b. Generate in_stages in_shards s c b)
+    (within 1 100000 batches)) (within 1 16 clients)) (within 0 (2 ^ 31 - 1) seed)
+generate_with in_stages in_shards _ = None
+
+-- its last three words are these numbers
+abbrev pub generate_asked : List Word → Option Asked
+generate_asked words =
+    let before = length words - 3 in
+    option_and_then (λ given. generate_with (is_some (value_of pipelined.name given)) (shards_given given)
+    (drop before words))
+    (options_of generate_options (take before words))
+
+-- what a command asks for with the words behind it
+abbrev pub command_asked : Word → List Word → Option Asked
+command_asked command words =
+    if bytes_eq command (codes "run") then option_map run_with (options_of run_options words)
+    else if bytes_eq command (codes "recover") then option_map (λ _. Recover) (options_of recover_options words)
+    else if bytes_eq command (codes "replay") then option_map replay_with (options_of replay_options words)
+    else if bytes_eq command (codes "gen") then generate_asked words
+    else None
+
+-- the program's name comes first, whatever it is
+abbrev pub lawful_in : List Word → Option Asked
+lawful_in [] = None
+lawful_in (name ∷ []) = None
+lawful_in (name ∷ command ∷ words) = command_asked command words
+
+-- what lawful words ask for
+abbrev pub lawful_of : List (String Global) → Option Asked
+lawful_of words = lawful_in (map (λ w. string_bytes w) words)

@@ -1,6 +1,0 @@
-use Rattle.recovery_laws.proofs.Recovering.{recovers_some}
-use Rattle.recovery_laws.proofs.OneRecovery.{recovers_one}
-use Rattle.recovery_laws.proofs.recovery_is_a_function.Goals as goal
-
-pub returns : goal.returns
-returns c = record { some = recovers_some; at_most_one = recovers_one }

@@ -1,0 +1,106 @@
+-- Which lines are reads, and what they are answered.
+use Rattle.std.proofs.Common.{◌≡◌, ◌⊎◌, inl, inr, ℕ, zero, suc, ◌+◌, ◌-◌, ◌<◌, ◌≤◌, true, false, List, length, slice_get, slice_set, Option, Some, None, refl, sym, ap, ◌∙◌, subst, arith}
+use Rattle.std.proofs.lemmas.List.{length-drop}
+use Rattle.std.specs.Prelude.{if◌then◌else◌}
+use Rattle.std.proofs.lemmas.Option.{slice_get_past}
+use Rattle.std.specs.Option.{option_map_or}
+use Rattle.model_base.specs.Calls.{Command, get, many, scan, Reply}
+use Rattle.model_core.specs.Core as core
+use Rattle.model_core.specs.Step as event
+use Rattle.replay_core.specs.declared.writer.CoreReply.TheVariants.{ReadAt}
+use Rattle.replay_plans.specs.declared.plan.ClientPlan.{ClientPlan}
+use Rattle.replay_core.specs.declared.state.Seat.{Seat}
+use Rattle.replay_plans.specs.declared.ahead.Ahead.{Ahead}
+use Rattle.replay_core.proofs.ClientLemmas.{lines_fewer}
+use Rattle.replay_core.specs.Mirrors.{IsClient, lines_left}
+use Rattle.replay_plans.specs.Answers.{is_answer}
+use Rattle.replay_core.specs.Replies.{IsReply}
+use Rattle.replay_plans.specs.Ahead.{is_read, IsAhead}
+
+pub not_read : (s : core.State) (c : ℕ) (client : core.Client) (o : Option Command) → option_map_or is_read o false ≡ false → event.read_call s c client o ≡ None
+not_read s c client None e = refl
+not_read s c client (Some (get key)) e = absurd (cc e)
+not_read s c client (Some (many keys)) e = absurd (cc e)
+not_read s c client (Some (scan lo hi)) e = absurd (cc e)
+not_read s c client (Some other) e = refl
+
+-- a read and its answer
+pub record IsRead (s : core.State) (o : Option Command) : Type 0 where
+  pub command : Command
+  pub reply : Reply
+  pub line : o ≡ Some command
+  pub answered : core.read_reply s command ≡ Some reply
+  pub loud : is_answer reply ≡ Some reply
+  pub at : IsReply (ReadAt s.last) reply
+
+pub read_is : (s : core.State) (o : Option Command) → option_map_or is_read o false ≡ true → IsRead s o
+read_is s None e = cc
+read_is s (Some (get key)) e = record { command = get key; reply = _; line = refl; answered = refl; loud = refl; at = refl }
+read_is s (Some (many keys)) e = record { command = many keys; reply = _; line = refl; answered = refl; loud = refl; at = refl }
+read_is s (Some (scan lo hi)) e = record { command = scan lo hi; reply = _; line = refl; answered = refl; loud = refl; at = refl }
+read_is s (Some other) e = absurd (cc e)
+
+-- behind its call a client has fewer lines left
+pub fewer_left : (plan : ClientPlan) (seat : Seat) (client : core.Client) (a : Ahead) (v : core.Ahead) → IsClient plan seat client → IsAhead plan seat.next a client.calls client v → a.call < length plan
+    → length v.client.left + 1 ≤ length client.left
+fewer_left plan seat client a v is ahead there =
+    let old : length client.left ≡ length plan - seat.next = ap length is.left ∙ length-drop seat.next plan in
+    let new : length v.client.left ≡ length plan - a.next = ap length ahead.left ∙ length-drop a.next plan in
+    omega (arith, old, new, ahead.goes_on there, ahead.onward)
+
+pub lines_after : (clients : List core.Client) (i j : ℕ) (old new : core.Client) → j ≡ i → i < length clients → slice_get clients i ≡ Some old → length new.left + 1 ≤ length old.left → lines_left (slice_set clients j new) ≤ lines_left clients
+lines_after clients i j old new e h there fewer =
+    let P : ℕ → Type 0 = λ k. lines_left (slice_set clients k new) ≤ lines_left clients in
+    subst P (sym e) (lines_fewer clients i old new h there (omega arith))
+
+pub more_room : (a left less cap : ℕ) → a + left ≤ cap → less ≤ left → a + less ≤ cap
+more_room a left less cap h k = omega arith
+
+-- a number that no client has
+pub nobody_at : (s : core.State) (n c : ℕ) → length s.clients ≡ n → (c ≡ 0) ⊎ (n < c) → core.client_at s c ≡ None
+nobody_at s n zero e h = refl
+nobody_at s n (suc c) e (inl z) = absurd (omega arith)
+nobody_at s n (suc c) e (inr lt) = slice_get_past s.clients c (omega arith)
+
+-- a client that waits comes to no read
+pub read_waits : (s : core.State) (c : ℕ) (client : core.Client) → core.client_at s c ≡ Some client → client.idle ≡ false → event.read s c (core.client_at s c) ≡ None
+read_waits s c client there busy =
+    ap (event.read s c) there ∙ ap (λ b. if b then event.read_call s c (core.next_call client).client (core.next_call client).call else None) busy
+
+-- the client after its read, with this seat
+pub record Answered (s : core.State) (c : ℕ) (client : core.Client) (plan : ClientPlan) (seat : Seat) (line : Option Command) : Type 0 where
+  pub new : core.Client
+  pub comes : event.read s c (core.client_at s c) ≡ Some (core.with_client s c new)
+  pub is : IsClient plan seat new
+  pub left : new.left ≡ (core.next_call client).client.left
+  pub command : Command
+  pub there : line ≡ Some command
+
+pub read_answered : (s : core.State) (c n : ℕ) (client : core.Client) (plan : ClientPlan) (seat : Seat) (line : Option Command) → option_map_or is_read line false ≡ true → s.last ≡ n
+    → core.client_at s c ≡ Some client → client.idle ≡ true → (core.next_call client).call ≡ line
+    → ((command : Command) (reply : Reply) → line ≡ Some command → IsReply (ReadAt n) reply → is_answer reply ≡ Some reply → IsClient plan seat (core.told (core.next_call client).client command reply))
+    → Answered s c client plan seat line
+read_answered s c n client plan seat line reads last there idle call told =
+    let read : IsRead s line = read_is s line reads in
+    let P : ℕ → Type 0 = λ k. IsReply (ReadAt k) read.reply in
+    record {
+      new = core.told (core.next_call client).client read.command read.reply;
+      comes = ap (event.read s c) there ∙ ap (λ b. if b then event.read_call s c (core.next_call client).client (core.next_call client).call else None) idle
+          ∙ ap (event.read_call s c (core.next_call client).client) (call ∙ read.line)
+          ∙ ap (event.read_with s c (core.next_call client).client read.command) read.answered;
+      is = told read.command read.reply read.line (subst P last read.at) read.loud;
+      left = refl;
+      command = read.command;
+      there = read.line;
+    }
+
+-- a client whose next call is no read
+pub read_passed : (s : core.State) (c : ℕ) (client : core.Client) (line : Option Command) → core.client_at s c ≡ Some client → client.idle ≡ true → (core.next_call client).call ≡ line
+    → option_map_or is_read line false ≡ false → event.read s c (core.client_at s c) ≡ None
+read_passed s c client line there idle call e =
+    ap (event.read s c) there ∙ ap (λ b. if b then event.read_call s c (core.next_call client).client (core.next_call client).call else None) idle
+    ∙ ap (event.read_call s c (core.next_call client).client) call ∙ not_read s c (core.next_call client).client line e
+
+-- a proof from a value of which only its type is known
+pub from_any : {A P : Type 0} → A → ((x : A) → P) → P
+from_any x proof = proof x

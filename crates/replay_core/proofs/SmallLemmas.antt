@@ -1,0 +1,65 @@
+-- Clients whose plans are small, on their way.
+use Rattle.std.proofs.Common.{◌≡◌, ◌+◌, ◌≤◌, List, [], ◌∷◌, ◌++◌, length, Some, ◌∙◌, arith}
+use Rattle.std.proofs.lemmas.List.{length-append}
+use Rattle.model_base.specs.declared.write.WriteOptions.{WriteOptions}
+use Rattle.model_base.specs.Batch.{Record, count_of, record_bytes, header, body, size_of_batch}
+use Rattle.model_base.specs.Calls.{Command, add, clear, commit, get, many, scan, stop, unstop, slow, unslow, quiet, Call}
+use Rattle.model_core.specs.Core as core
+use Rattle.replay_plans.specs.Small.{AreSmall}
+
+body_push : (rs : List Record) (r : Record) → length (body (rs ++ r ∷ [])) ≡ length (body rs) + length (record_bytes r)
+body_push [] r = length-append (record_bytes r) [] ∙ (let e : length (record_bytes r) + 0 ≡ 0 + length (record_bytes r) = omega arith in e)
+body_push (x ∷ rs) r = length-append (record_bytes x) (body (rs ++ r ∷ [])) ∙ (let e : length (record_bytes x) + length (body (rs ++ r ∷ [])) ≡ length (record_bytes x ++ body rs) + length (record_bytes r) = omega (arith, body_push rs r, length-append (record_bytes x) (body rs)) in e)
+
+pub size_is : (rs : List Record) → size_of_batch rs ≡ 12 + length (body rs)
+size_is rs = length-append (header 0 (count_of rs)) (body rs)
+
+pub size_push : (rs : List Record) (r : Record) → size_of_batch (rs ++ r ∷ []) ≡ size_of_batch rs + length (record_bytes r)
+size_push rs r = omega (arith, size_is rs, size_is (rs ++ r ∷ []), body_push rs r)
+
+-- A plan that is small with a batch is small with a smaller one.
+small_less : (less more : List Record) (left : List Command) → size_of_batch less ≤ size_of_batch more → AreSmall more left → AreSmall less left
+small_less less more [] h small = tt
+small_less less more (add r ∷ left) h small = small_less (less ++ r ∷ []) (more ++ r ∷ []) left (omega (arith, h, size_push less r, size_push more r)) small
+small_less less more (clear ∷ left) h small = small
+small_less less more (commit how ∷ left) h small = (omega (arith, h, small.0), small_less less more left h small.1)
+small_less less more (get key ∷ left) h small = small_less less more left h small
+small_less less more (many keys ∷ left) h small = small_less less more left h small
+small_less less more (scan lo hi ∷ left) h small = small_less less more left h small
+small_less less more (stop ∷ left) h small = small_less less more left h small
+small_less less more (unstop ∷ left) h small = small_less less more left h small
+small_less less more (slow rate ∷ left) h small = small_less less more left h small
+small_less less more (unslow ∷ left) h small = small_less less more left h small
+
+pub small_empty : (added : List Record) (left : List Command) → AreSmall added left → AreSmall [] left
+small_empty added left small = small_less [] added left (omega (arith, size_is [], size_is added)) small
+
+-- On the way to its next call a client's plan stays small.
+pub small_ahead : (calls : List Call) (added : List Record) (left : List Command) (client : core.Client) → AreSmall added left
+    → AreSmall ((core.ahead calls added left client).client.added) ((core.ahead calls added left client).client.left)
+small_ahead calls added [] client small = tt
+small_ahead calls added (add r ∷ left) client small = small_ahead (calls ++ record { command = add r; reply = quiet } ∷ []) (added ++ r ∷ []) left client small
+small_ahead calls added (clear ∷ left) client small = small_ahead (calls ++ record { command = clear; reply = quiet } ∷ []) [] left client small
+small_ahead calls added (commit how ∷ left) client small = small.1
+small_ahead calls added (get key ∷ left) client small = small
+small_ahead calls added (many keys ∷ left) client small = small
+small_ahead calls added (scan lo hi ∷ left) client small = small
+small_ahead calls added (stop ∷ left) client small = small
+small_ahead calls added (unstop ∷ left) client small = small
+small_ahead calls added (slow rate ∷ left) client small = small
+small_ahead calls added (unslow ∷ left) client small = small
+
+-- A commit that is next finds a small batch.
+pub commit_small : (calls : List Call) (added : List Record) (left : List Command) (client : core.Client) (how : WriteOptions) → AreSmall added left
+    → (core.ahead calls added left client).call ≡ Some (commit how) → size_of_batch ((core.ahead calls added left client).client.added) ≤ 16777216
+commit_small calls added [] client how small e = cc
+commit_small calls added (add r ∷ left) client how small e = commit_small (calls ++ record { command = add r; reply = quiet } ∷ []) (added ++ r ∷ []) left client how small e
+commit_small calls added (clear ∷ left) client how small e = commit_small (calls ++ record { command = clear; reply = quiet } ∷ []) [] left client how small e
+commit_small calls added (commit this ∷ left) client how small e = small.0
+commit_small calls added (get key ∷ left) client how small e = cc
+commit_small calls added (many keys ∷ left) client how small e = cc
+commit_small calls added (scan lo hi ∷ left) client how small e = cc
+commit_small calls added (stop ∷ left) client how small e = cc
+commit_small calls added (unstop ∷ left) client how small e = cc
+commit_small calls added (slow rate ∷ left) client how small e = cc
+commit_small calls added (unslow ∷ left) client how small e = cc

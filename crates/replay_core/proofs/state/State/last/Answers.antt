@@ -1,0 +1,6 @@
+use Rattle.std.proofs.Common.{sym}
+use Rattle.replay_core.proofs.ShowsLemmas.{mirrors}
+use Rattle.replay_core.proofs.state.State.last.Goals as goal
+
+pub returns : goal.returns
+returns c = λ o s shown. sym (mirrors c.args.self.now o s shown).last

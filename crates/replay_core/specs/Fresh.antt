@@ -1,0 +1,12 @@
+-- A client before its first line.
+use Rattle.std.specs.Prelude.{◌≡◌, ◌≤◌, true, [], length, vec_capacity}
+use Rattle.replay_plans.specs.declared.plan.ClientPlan.{ClientPlan}
+use Rattle.replay_core.specs.declared.state.Seat.{Seat}
+
+-- the client has come to no line, and has room for a reply to each
+pub record IsFresh (plan : ClientPlan) (seat : Seat) : Type 0 where
+  pub next : seat.next ≡ 0
+  pub from : seat.from ≡ 0
+  pub idle : seat.idle ≡ true
+  pub replies : seat.replies.items ≡ []
+  pub room : length plan ≤ vec_capacity seat.replies

@@ -1,0 +1,22 @@
+-- What a client is told of its commits and reads: in short by the code, in full by the machine of events.
+use Rattle.std.specs.Prelude.{◌≡◌, List, [], ◌∷◌}
+use Rattle.model_base.specs.Calls.{Reply, accepted, refused, found, found_each, rows}
+use Rattle.replay_core.specs.declared.writer.CoreReply.{CoreReply}
+use Rattle.replay_core.specs.declared.writer.CoreReply.TheVariants.{Accepted, Refused, ReadAt}
+
+-- what a client was told in short and in full
+abbrev pub IsReply : CoreReply → Reply → Type 0
+IsReply (Accepted a b) (accepted first last records) = (a ≡ first) × (b ≡ last)
+IsReply (Refused why) (refused r) = why ≡ r
+IsReply (ReadAt n) (found at v) = n ≡ at
+IsReply (ReadAt n) (found_each at vs) = n ≡ at
+IsReply (ReadAt n) (rows at pairs) = n ≡ at
+IsReply (Accepted a b) other = ⊥
+IsReply (Refused why) other = ⊥
+IsReply (ReadAt n) other = ⊥
+
+abbrev pub AreReplies : List CoreReply → List Reply → Type 0
+AreReplies [] [] = Unit {0}
+AreReplies [] (r ∷ rs) = ⊥
+AreReplies (x ∷ xs) [] = ⊥
+AreReplies (x ∷ xs) (r ∷ rs) = IsReply x r × AreReplies xs rs

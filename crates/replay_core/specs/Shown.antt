@@ -1,0 +1,77 @@
+-- What the values of the code stand for in the machine of events.
+use Rattle.std.specs.Prelude.{ℕ, zero, suc, ◌+◌, List, [], ◌∷◌, take, drop, Option, Some, None, slice_get}
+use Rattle.model_base.specs.Batch.{Record}
+use Rattle.model_base.specs.History as history
+use Rattle.model_base.specs.Calls.{Reply, accepted, refused}
+use Rattle.model_core.specs.Core as core
+use Rattle.run_calls.specs.declared.entry.Entry.{Entry}
+use Rattle.run_calls.specs.Entries.{entry_of}
+use Rattle.replay_plans.specs.Plans.{records_of}
+use Rattle.replay_plans.specs.declared.plan.ClientPlan.{ClientPlan}
+use Rattle.replay_core.specs.declared.phases.LogPhase.{LogPhase}
+use Rattle.replay_core.specs.declared.phases.LogPhase.TheVariants.{Free, Led, Built, InLog, Marked, Handed}
+use Rattle.replay_plans.specs.declared.plan.Lines.{Lines}
+use Rattle.replay_core.specs.declared.writer.Writer.{Writer}
+use Rattle.replay_core.specs.declared.writer.Answer.{Answer}
+use Rattle.replay_core.specs.declared.writer.Answer.TheVariants.{Accepted, Refused}
+use Rattle.replay_core.specs.declared.state.CoreOptions.{CoreOptions}
+use Rattle.replay_core.specs.declared.state.State.{State}
+
+abbrev pub options_of : CoreOptions → core.Options
+options_of o = record {
+  pipelined = o.pipelined;
+  group_bytes = o.group_bytes;
+  batch_bytes = o.batch_bytes;
+  start = o.last;
+}
+
+-- the clients' plans, the first that of client 1
+abbrev pub plans_in : State → List ClientPlan
+plans_in r = r.plans.items
+
+abbrev pub shown_reply : List Record → Answer → Reply
+shown_reply records (Accepted first last) = accepted first last records
+shown_reply records (Refused why) = refused why
+
+abbrev pub shown_answer : List Record → Option Answer → Option Reply
+shown_answer records None = None
+shown_answer records (Some (Accepted first last)) = Some (accepted first last records)
+shown_answer records (Some (Refused why)) = Some (refused why)
+
+abbrev pub shown_writer : List ClientPlan → Writer → core.Writer
+shown_writer plans w = record {
+  client = w.client;
+  options = w.options;
+  records = records_of plans w.client w.batch;
+  answer = shown_answer (records_of plans w.client w.batch) w.answer;
+}
+
+-- an entry of the history, of a batch that stands in its client's plan
+abbrev pub CoreEntry : Type 0
+CoreEntry = Entry Lines
+
+abbrev pub shown_entry : List ClientPlan → CoreEntry → history.Entry
+shown_entry plans e = entry_of (λ (x : CoreEntry). records_of plans x.client x.batch) e
+
+-- the log's phase, with the group in hand
+abbrev pub shown_log : LogPhase → List core.Writer → core.LogPhase
+shown_log Free ws = core.free
+shown_log (Led c) ws = core.led c
+shown_log Built ws = core.built ws
+shown_log InLog ws = core.in_log ws
+shown_log Marked ws = core.marked ws
+shown_log (Handed c) ws = core.handed c
+
+-- a list cut into groups of these lengths, from its first item on
+abbrev pub cut : {A : Type 0} → List ℕ → List A → List (List A)
+cut [] xs = []
+cut (n ∷ ns) xs = take n xs ∷ cut ns (drop n xs)
+
+-- what stands for a client, by its number
+abbrev pub of_client : {A : Type 0} → List A → ℕ → Option A
+of_client xs zero = None
+of_client xs (suc c) = slice_get xs c
+
+abbrev pub total : List ℕ → ℕ
+total [] = 0
+total (n ∷ ns) = n + total ns

@@ -1,0 +1,13 @@
+-- What is known of the entries.
+use Rattle.std.specs.Prelude.{◌<◌, ◌≤◌, List, length}
+use Rattle.model_base.specs.History.{max_sequence}
+use Rattle.replay_plans.specs.declared.plan.ClientPlan.{ClientPlan}
+use Rattle.replay_core.specs.Shown.{CoreEntry}
+
+-- an entry is of a client that has a plan, its batch has lines, and its run is one of sequences
+pub record IsWithinPlans (plans : List ClientPlan) (e : CoreEntry) : Type 0 where
+  pub from_one : 1 ≤ e.client
+  pub few : e.client ≤ length plans
+  pub some_lines : e.batch.from < e.batch.to
+  pub some : e.first ≤ e.last
+  pub fits : e.last ≤ max_sequence

@@ -1,0 +1,133 @@
+//! The events of clients: `link`, `complete` and `read`.
+
+ghost use Rattle.std.specs.Prelude.{◌≡◌, false, None};
+
+use crate::leaving::{done_of, set_done};
+use crate::room::push_both;
+use crate::seats::{answer, next_call, settle, wait};
+use crate::state::State;
+use crate::writer::{CoreReply, Writer};
+use model_base::{Item, WriteOptions};
+use replay_plans::{Lines, commit_at, is_read, measure_batch};
+use run_calls::refusal_at_once;
+
+impl State<'_> {
+    ghost use Rattle.std.specs.Prelude.{find, ◌==◌, ◌<◌, vec_len};
+    ghost use Rattle.model_core.specs.Core as core;
+    ghost use Rattle.model_core.specs.Step as event;
+    ghost use Rattle.replay_core.specs.Shown.{plans_in};
+    ghost use Rattle.replay_core.specs.Steps.{Steps};
+
+    /// The client is idle, and its next call is a commit. It is refused at once, or its batch goes to the end of the
+    /// queue.
+    pub(crate) fn link(&mut self, client: u32) -> bool
+        ensures steps { Steps (λ o s. event.link o s client (core.client_at s client)) self.old result self.new }
+        ensures unchanged { result ≡ false → self.new ≡ self.old }
+        ensures plans { plans_in self.new ≡ plans_in self.old }
+    {
+        let Some(place) = self.place_of(client) else {
+            return false;
+        };
+        let Some(ahead) = next_call(&self.plans[place], &self.seats[place]) else {
+            return false;
+        };
+        let Some(options) = commit_at(&self.plans[place], ahead.call) else {
+            return false;
+        };
+        let batch = Lines {
+            from: ahead.from,
+            to: ahead.call,
+        };
+        let measured = measure_batch(&self.plans[place], batch);
+        match refusal_at_once(measured, options, self.options.batch_bytes, false) {
+            Some(why) => answer(&mut self.seats[place], ahead, CoreReply::Refused { why }),
+            None => {
+                wait(&mut self.seats[place], ahead);
+                push_both(
+                    &mut self.linked,
+                    &mut self.items,
+                    new_writer(client, options, batch, measured.count),
+                    item_of(options, measured.size),
+                );
+            }
+        }
+        true
+    }
+
+    /// The client's writer has left with its answer. The client is told, and is idle again. After an accepted commit
+    /// its batch is empty.
+    pub(crate) fn complete(&mut self, client: u32) -> bool
+        ensures steps { Steps (λ o s. event.complete s client
+            (find (λ (w : core.Writer). w.client == client) s.leaving))
+            self.old result self.new }
+        ensures unchanged { result ≡ false → self.new ≡ self.old }
+        ensures plans { plans_in self.new ≡ plans_in self.old }
+    {
+        let Some(place) = self.place_of(client) else {
+            return false;
+        };
+        let Some(writer) = done_of(&self.done, client) else {
+            return false;
+        };
+        let Some(answer) = writer.answer else {
+            return false;
+        };
+        set_done(&mut self.done, client, None);
+        settle(&mut self.seats[place], answer);
+        true
+    }
+
+    /// The client is idle, and its next call is a read. It is answered at the published sequence.
+    pub(crate) fn read(&mut self, client: u32) -> bool
+        ensures steps { Steps (λ o s. event.read s client (core.client_at s client)) self.old result self.new }
+        ensures unchanged { result ≡ false → self.new ≡ self.old }
+        ensures plans { plans_in self.new ≡ plans_in self.old }
+    {
+        let Some(place) = self.place_of(client) else {
+            return false;
+        };
+        let Some(ahead) = next_call(&self.plans[place], &self.seats[place]) else {
+            return false;
+        };
+        if !is_read(&self.plans[place], ahead.call) {
+            return false;
+        }
+        answer(
+            &mut self.seats[place],
+            ahead,
+            CoreReply::ReadAt { at: self.last },
+        );
+        true
+    }
+}
+
+/// A writer without an answer.
+fn new_writer(client: u32, options: WriteOptions, batch: Lines, count: u64) -> Writer
+    ensures { result ≡ record { client = client; options = options; batch = batch; count = count; answer = None } }
+{
+    Writer {
+        client,
+        options,
+        batch,
+        count,
+        answer: None,
+    }
+}
+
+/// What grouping sees of a writer.
+fn item_of(options: WriteOptions, size: u64) -> Item
+    ensures { result ≡ record {
+      size = size;
+      sync = options.sync;
+      no_log = options.no_log;
+      no_slowdown =
+          options.no_slowdown;
+    } }
+{
+    Item {
+        size,
+        sync: options.sync,
+        no_log: options.no_log,
+        no_slowdown: options.no_slowdown,
+    }
+}

@@ -1,0 +1,92 @@
+//! Runs of sequences for the writers of a group.
+
+ghost use Rattle.std.specs.Prelude.{◌≡◌, ◌<◌, ◌≤◌, ◌+◌, ◌-◌, ◌^◌, ◌∷◌, [], List, length, map, take, vec_len, vec_capacity};
+ghost use Rattle.std.specs.List.{AllByRecursion};
+ghost use Rattle.model_core.specs.Core as core;
+ghost use Rattle.replay_plans.specs.declared.plan.ClientPlan.{ClientPlan};
+ghost use Rattle.replay_core.specs.Shown.{shown_entry};
+ghost use Rattle.replay_core.specs.Ordinals.{AreCounts};
+ghost use Rattle.replay_core.specs.Runs.{GotRuns, IsCounted, unanswered};
+
+use crate::ordinals::accepted_before;
+use crate::room::push_within;
+use crate::writer::{Answer, Writer};
+use replay_plans::Lines;
+use run_calls::{Entry, flag_of, next_run};
+
+/// Gives the writers of a group their runs in order, after the sequence `last`, and an entry to each that has one. A
+/// writer whose run doesn't fit is refused, and later ones that fit get theirs. `counts` are the clients' entries so
+/// far. The result is the sequence given last.
+pub(crate) fn give_runs(
+    group: &mut [Writer],
+    entries: &mut Vec<Entry<Lines>>,
+    counts: &[u64],
+    last: u64,
+) -> u64
+    requires last_fits { last ≤ 2 ^ 56 - 1 }
+    requires counts { AreCounts counts.now entries.old.items }
+    ensures got { (plans : List ClientPlan) (s : core.State) → AllByRecursion (IsCounted plans) group.old
+        → s.entries ≡ map (shown_entry plans) entries.old.items
+        → vec_len entries.old + length group.old ≤ vec_capacity entries.old
+        → GotRuns plans s s.entries last group.old group.new entries.new.items result }
+    ensures writers { map unanswered group.new ≡ map unanswered group.old }
+    ensures fits { result ≤ 2 ^ 56 - 1 }
+    ensures front { take (vec_len entries.old) entries.new.items ≡ entries.old.items }
+    ensures lower { vec_len entries.old ≤ vec_len entries.new }
+    ensures upper { vec_len entries.new ≤ vec_len entries.old + length group.old }
+    ensures capacity { vec_capacity entries.new ≡ vec_capacity entries.old }
+{
+    let before = entries.len();
+    let mut given = last;
+    for writer in group.iter_mut() {
+        given = give_run(writer, entries, counts, before, given);
+    }
+    given
+}
+
+/// Gives a writer its run after the sequence `last`, and an entry, or refuses it. Entries from `before` on are those of
+/// its own group, and `counts` are those before. The result is the sequence given last.
+fn give_run(
+    writer: &mut Writer,
+    entries: &mut Vec<Entry<Lines>>,
+    counts: &[u64],
+    before: usize,
+    last: u64,
+) -> u64
+    requires known { before ≤ vec_len entries.old }
+    requires counts { AreCounts counts.now (take before entries.old.items) }
+    requires last_fits { last ≤ 2 ^ 56 - 1 }
+    ensures got { (plans : List ClientPlan) (s : core.State) → IsCounted plans writer.old
+        → s.entries ≡ map (shown_entry plans) (take before entries.old.items)
+        → vec_len entries.old < vec_capacity entries.old
+        → GotRuns plans s (map (shown_entry plans) entries.old.items) last (writer.old ∷ [])
+        (writer.new ∷ []) entries.new.items result }
+    ensures writer { unanswered writer.new ≡ unanswered writer.old }
+    ensures fits { result ≤ 2 ^ 56 - 1 }
+    ensures front { take before entries.new.items ≡ take before entries.old.items }
+    ensures lower { vec_len entries.old ≤ vec_len entries.new }
+    ensures upper { vec_len entries.new ≤ vec_len entries.old + 1 }
+    ensures capacity { vec_capacity entries.new ≡ vec_capacity entries.old }
+{
+    let run = match next_run(last, writer.count) {
+        Ok(run) => run,
+        Err(why) => {
+            writer.answer = Some(Answer::Refused { why });
+            return last;
+        }
+    };
+    let entry = Entry {
+        client: writer.client,
+        ordinal: accepted_before(counts, entries, before, writer.client) + 1,
+        first: run.first,
+        last: run.last,
+        flag: flag_of(writer.options),
+        batch: writer.batch,
+    };
+    push_within(entries, entry);
+    writer.answer = Some(Answer::Accepted {
+        first: run.first,
+        last: run.last,
+    });
+    run.last
+}

@@ -1,0 +1,44 @@
+//! Batches on their way, and what becomes of them.
+
+use model_base::{Refusal, WriteOptions};
+use replay_plans::Lines;
+
+/// What a client was told of a commit or a read.
+#[derive(Clone, Copy, Debug, PartialEq, Eq)]
+pub enum CoreReply {
+    /// The first and the last sequence of the batch.
+    Accepted { first: u64, last: u64 },
+    Refused { why: Refusal },
+    /// The published sequence at which a read was answered.
+    ReadAt { at: u64 },
+}
+
+/// The answer that a writer leaves with.
+#[derive(Clone, Copy)]
+pub(crate) enum Answer {
+    Accepted { first: u64, last: u64 },
+    Refused { why: Refusal },
+}
+
+/// A batch that waits: whose, how it is to be written, how many records of it count, and its answer, once it has
+/// one.
+#[derive(Clone, Copy)]
+pub(crate) struct Writer {
+    pub(crate) client: u32,
+    pub(crate) options: WriteOptions,
+    pub(crate) batch: Lines,
+    pub(crate) count: u64,
+    pub(crate) answer: Option<Answer>,
+}
+
+impl Writer {
+    ghost use Rattle.std.specs.Prelude.{◌≡◌};
+    ghost use Rattle.replay_core.specs.Leads.{has_run};
+
+    /// Whether it has a run of sequences.
+    pub(crate) fn has_run(&self) -> bool
+        ensures { result ≡ has_run self.now.answer }
+    {
+        matches!(self.answer, Some(Answer::Accepted { .. }))
+    }
+}

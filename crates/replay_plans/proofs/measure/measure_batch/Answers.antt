@@ -1,0 +1,30 @@
+use Rattle.std.proofs.Common.{◌≡◌, ℕ, ◌+◌, ◌<◌, ◌≤◌, ◌^◌, [], ◌++◌, ap, ◌∙◌, arith}
+use Rattle.std.specs.List.{cons_option}
+use Rattle.model_base.specs.Batch.{count_of, size_of_batch}
+use Rattle.run_command_list.specs.Kinds.{record_added}
+use Rattle.run_command_list.specs.Views.{command_of}
+use Rattle.replay_plans.specs.Small.{record_size, record_count}
+use Rattle.replay_plans.specs.Plans.{added_between}
+use Rattle.replay_plans.proofs.LineLemmas.{added_more}
+use Rattle.replay_plans.proofs.SizeLemmas.{size_more, count_more, count_below}
+use Rattle.replay_plans.proofs.measure.measure_batch.Goals as goal
+
+pub loop-place-preserved : goal.loop-place-preserved
+loop-place-preserved c = λ begun within fits.
+    let plan = c.args.plan.now in
+    let from : ℕ = c.args.batch.from in
+    let place : ℕ = c.loop-place.place in
+    let o = record_added (command_of c.line.result.now) in
+    let more : added_between from (place + 1) plan ≡ added_between from place plan ++ cons_option o [] = added_more from place plan (command_of c.line.result.now) (omega arith) c.line.ensures in
+    let size : size_of_batch (added_between from (place + 1) plan) ≡ size_of_batch (added_between from place plan) + record_size o = ap size_of_batch more ∙ size_more (added_between from place plan) o in
+    let count : count_of (added_between from (place + 1) plan) ≡ count_of (added_between from place plan) + record_count o = ap count_of more ∙ count_more (added_between from place plan) o in
+    let old = c.loop-place.invariant begun within (omega (arith, size, fits)) in
+    let below : record_count o ≤ record_size o = count_below o in
+    let room : c.loop-place.measure.size + record_size o < 2 ^ 64 = omega (arith, old.0, size, fits) in
+    let count_room : c.loop-place.measure.count + record_count o < 2 ^ 64 = omega (arith, old.2, room, below) in
+    let new_size = c.with_line-measure.ensures.size room in
+    let new_count = c.with_line-measure.ensures.count count_room in (
+      omega (arith, new_size, old.0, size),
+      omega (arith, new_count, old.1, count),
+      omega (arith, new_size, new_count, old.2, below),
+    )

@@ -1,0 +1,93 @@
+//! The batches that lines of a plan make.
+
+ghost use Rattle.std.specs.Prelude.{◌≡◌, ◌<◌, ◌≤◌, ◌+◌, ◌-◌, ◌^◌, length, min};
+ghost use Rattle.model_base.specs.Batch.{record_bytes, size_of_batch};
+ghost use Rattle.model_base.specs.Varint.{varint};
+ghost use Rattle.log_batch.specs.View.{record_of};
+ghost use Rattle.run_calls.specs.Measures.{measure_of};
+ghost use Rattle.run_command_list.specs.Kinds.{record_added};
+ghost use Rattle.run_command_list.specs.Views.{command_of};
+ghost use Rattle.replay_plans.specs.Small.{record_size, record_count};
+ghost use Rattle.replay_plans.specs.Plans.{added_between};
+
+use crate::plan::{ClientPlan, Lines};
+use base_bytes::varint32_len;
+use log_batch::RecordView;
+use run_calls::{BATCH_HEADER_LEN, Measure};
+use run_command_list::CommandView;
+
+/// Measures the batch of some lines. A size that passes `u64::MAX` stays there.
+pub fn measure_batch(plan: &ClientPlan<'_>, batch: Lines) -> Measure
+    ensures { batch.from ≤ batch.to → batch.to ≤ length plan.now
+        → size_of_batch (added_between batch.from batch.to plan.now) < 2 ^ 64
+        → result ≡ measure_of (added_between batch.from batch.to plan.now) }
+{
+    let mut measure = Measure {
+        size: BATCH_HEADER_LEN,
+        count: 0,
+    };
+    let end = batch.to.min(plan.len());
+    for place in batch.from..end {
+        measure = with_line(measure, plan.line(place));
+    }
+    measure
+}
+
+/// The measure of a batch and the record that a line adds.
+fn with_line(measure: Measure, line: &CommandView<'_>) -> Measure
+    ensures size { measure.size + record_size (record_added (command_of line.now)) < 2 ^ 64
+        → result.size ≡ measure.size + record_size (record_added (command_of line.now)) }
+    ensures count { measure.count + record_count (record_added (command_of line.now)) < 2 ^ 64
+        → result.count ≡ measure.count + record_count (record_added (command_of line.now)) }
+{
+    Measure {
+        size: measure.size.saturating_add(line_size(line)),
+        count: measure.count.saturating_add(line_count(line)),
+    }
+}
+
+/// The bytes of the record that a line adds. A size that passes `u64::MAX` stays there.
+pub(crate) fn line_size(line: &CommandView<'_>) -> u64
+    ensures { result ≡ min (record_size (record_added (command_of line.now))) (2 ^ 64 - 1) }
+{
+    match line.record() {
+        Some(view) => size_of(view),
+        None => 0,
+    }
+}
+
+/// The bytes of a record.
+fn size_of(view: RecordView<'_>) -> u64
+    ensures { result ≡ min (length (record_bytes (record_of view.entry))) (2 ^ 64 - 1) }
+{
+    match view {
+        RecordView::Value { key, value } => string_size(key.len())
+            .saturating_add(string_size(value.len()))
+            .saturating_add(1),
+        RecordView::Deletion { key } | RecordView::SingleDeletion { key } => {
+            string_size(key.len()).saturating_add(1)
+        }
+        RecordView::LogData { blob } => string_size(blob.len()).saturating_add(1),
+    }
+}
+
+/// The bytes of a string after its length, and of the length.
+fn string_size(len: usize) -> u64
+    ensures { result ≡ min (len + length (varint len)) (2 ^ 64 - 1) }
+{
+    (len as u64).saturating_add(varint32_len(len as u64))
+}
+
+/// How many sequences the record that a line adds takes.
+fn line_count(line: &CommandView<'_>) -> u64
+    ensures { result ≡ record_count (record_added (command_of line.now)) }
+{
+    match line.record() {
+        Some(
+            RecordView::Value { .. }
+            | RecordView::Deletion { .. }
+            | RecordView::SingleDeletion { .. },
+        ) => 1,
+        Some(RecordView::LogData { .. }) | None => 0,
+    }
+}

@@ -1,0 +1,62 @@
+//! Plans whose batches aren't too large.
+
+ghost use Rattle.std.specs.Prelude.{◌≡◌, ◌↔◌, [], true};
+ghost use Rattle.std.specs.List.{AllByRecursion};
+ghost use Rattle.run_command_list.specs.Views.{command_of};
+ghost use Rattle.replay_plans.specs.Small.{AreSmall, IsSmallPlan, fits, size_after};
+
+use crate::measure::line_size;
+use crate::plan::ClientPlan;
+use run_calls::BATCH_HEADER_LEN;
+use run_command_list::{CommandKind, CommandView};
+
+/// The most bytes of a batch that a commit may come to: 16 MiB.
+const MOST_BYTES: u64 = 16777216;
+
+/// Whether no commit of these plans comes to a batch of more than 16 MiB, even if none before it is accepted.
+/// The core requires it of its clients' plans.
+pub fn are_small(plans: &[ClientPlan<'_>]) -> bool
+    ensures { result ≡ true ↔ AllByRecursion IsSmallPlan plans.now }
+{
+    for plan in plans {
+        if !is_small(plan) {
+            return false;
+        }
+    }
+    true
+}
+
+/// Whether no commit of a plan comes to a batch that is too large.
+fn is_small(plan: &ClientPlan<'_>) -> bool
+    ensures { result ≡ true ↔ AreSmall [] plan.now }
+{
+    let mut size = BATCH_HEADER_LEN;
+    for place in 0..plan.len() {
+        let line = plan.line(place);
+        if !fits(line, size) {
+            return false;
+        }
+        size = size_after(line, size);
+    }
+    true
+}
+
+/// Whether a line may come to a batch of this size.
+fn fits(line: &CommandView<'_>, size: u64) -> bool
+    ensures { result ≡ fits (command_of line.now) size }
+{
+    match line.kind() {
+        CommandKind::Commit => size <= MOST_BYTES,
+        _ => true,
+    }
+}
+
+/// The size of the batch after a line.
+fn size_after(line: &CommandView<'_>, size: u64) -> u64
+    ensures { result ≡ size_after (command_of line.now) size }
+{
+    match line.kind() {
+        CommandKind::Clear => BATCH_HEADER_LEN,
+        _ => size.saturating_add(line_size(line)),
+    }
+}

@@ -1,0 +1,249 @@
+-- What the clients of a schedule were told is what the machine's clients were told.
+use Rattle.std.proofs.Common.{◌≡◌, ◌⊎◌, inl, inr, ℕ, zero, suc, ◌+◌, ◌<◌, ◌≤◌, true, false, List, [], ◌∷◌, ◌++◌, length, map, take_while, nat_le, drop, get_or, Option, Some, None, slice_get, Vec, refl, ap, sym, ◌∙◌, subst, arith, append_assoc, append-nil, length-append}
+use Rattle.std.specs.Prelude.{MatchOption, ⊤}
+use Rattle.std.specs.List.{AllByRecursion, AllZip}
+use Rattle.std.specs.Option.{option_map_or}
+use Rattle.std.specs.declared.alloc.Global.{Global}
+use Rattle.std.proofs.lemmas.Bool.{lt-leb, le-leb}
+use Rattle.std.proofs.lemmas.List.{at_drop_more, at_drop_all, drop-drop}
+use Rattle.std.proofs.lemmas.List.Sums.{take_while-cons}
+use Rattle.std.proofs.lemmas.Option.{MatchOption-at_some, same_Some, slice_get_read, slice_get_within, get_or_from_slice_get}
+use Rattle.model_base.specs.declared.write.Refusal.{Refusal}
+use Rattle.model_base.specs.declared.write.WriteOptions.{WriteOptions}
+use Rattle.model_base.specs.Map.{rows_within, value_at}
+use Rattle.model_base.specs.History.{Entry, IsHistory, IsUpTo, last_sequence, last_of, map_of}
+use Rattle.model_base.specs.Progress.{early_refusal, batch_after}
+use Rattle.model_base.specs.Calls as calls
+use Rattle.model_base.specs.Calls.{Command, add, clear, commit, get, many, scan}
+use Rattle.model_base.specs.Runs.{commands_of}
+use Rattle.model_core.specs.Core.{Options, Client, State}
+use Rattle.model_core.specs.Replies.{AreRight, AreRepliesOf, IsAnswered, IsHandled, MayReply, Gets, GetsMany, Scans}
+use Rattle.model_core_laws.proofs.Histories.{history_rises, history_front}
+use Rattle.run_outcome.specs.declared.reply.Reply.{Reply}
+use Rattle.run_scripts.specs.Scripts.{IsClientsCommand}
+use Rattle.replay_plans.specs.declared.plan.ClientPlan.{ClientPlan}
+use Rattle.replay_core.specs.declared.writer.CoreReply.{CoreReply}
+use Rattle.replay_core.specs.declared.writer.CoreReply.TheVariants.{Accepted, Refused, ReadAt}
+use Rattle.replay_plans.specs.Answers.{answers_of}
+use Rattle.replay_core.specs.Replies.{AreReplies}
+use Rattle.replay_views.specs.Maps.{map_up_to}
+use Rattle.run_outcome.specs.Shows.{ShowsReply, ShowsReplies}
+use Rattle.replay_schedules.specs.Replaying.{reply_by, first_reply, replies_by, next_reply, IsTranscript, AreTranscripts}
+
+-- A read's map
+
+-- the entries up to a boundary are those of its front
+up_to_front : (start : ℕ) (front rest : List Entry) (last : ℕ) → IsHistory start (front ++ rest) → last ≡ last_sequence start front → take_while (λ (x : Entry). nat_le (last_of x) last) (front ++ rest) ≡ front
+up_to_front start [] [] last history ends = refl
+up_to_front start [] (x ∷ rest) last history ends =
+    let a = history.0.first in let b = history.0.some in let past : nat_le (last_of x) last ≡ false = lt-leb (last_of x) last (omega (arith, a, b, ends)) in
+    take_while-cons (λ (x : Entry). nat_le (last_of x) last) x rest ∙ rw past refl
+up_to_front start (x ∷ front) rest last history ends =
+    let rises = history_rises (last_of x) front (history_front (last_of x) front rest history.1) in let up_to : nat_le (last_of x) last ≡ true = le-leb (last_of x) last (omega (arith, rises, ends)) in
+    take_while-cons (λ (x : Entry). nat_le (last_of x) last) x (front ++ rest) ∙ rw up_to (ap (λ xs. x ∷ xs) (up_to_front (last_of x) front rest last history.1 ends))
+
+map_at : (start : ℕ) (entries front : List Entry) (at : ℕ) → IsHistory start entries → IsUpTo start entries at front → map_of front ≡ map_up_to at entries
+map_at start entries front at history up =
+    let whole : IsHistory start (front ++ up.rest) = subst (IsHistory start) up.split history in
+    sym (ap map_of (ap (take_while (λ (x : Entry). nat_le (last_of x) at)) up.split ∙ up_to_front start front up.rest at whole up.ends))
+
+-- One client
+
+-- what a command is answered with
+abbrev IsTold : List Entry → Command → calls.Reply → Type 0
+IsTold entries (add r) calls.quiet = ⊤
+IsTold entries clear calls.quiet = ⊤
+IsTold entries (commit how) (calls.accepted a b records) = ⊤
+IsTold entries (commit how) (calls.refused why) = ⊤
+IsTold entries (get key) (calls.found at v) = v ≡ value_at (map_up_to at entries) key
+IsTold entries (many keys) (calls.found_each at vs) = vs ≡ map (value_at (map_up_to at entries)) keys
+IsTold entries (scan lo hi) (calls.rows at pairs) = pairs ≡ rows_within lo hi (map_up_to at entries)
+IsTold entries x r = ⊥
+
+attempts : (o : Options) (s : State) (before : List calls.Call) (how : WriteOptions) (r : calls.Reply) → IsHandled o s before how r → IsTold s.entries (commit how) r
+attempts o s before how (calls.accepted a b records) is = tt
+attempts o s before how (calls.refused why) is = tt
+attempts o s before how other is = absurd is
+
+committed : (o : Options) (s : State) (before : List calls.Call) (how : WriteOptions) (r : calls.Reply) (early : Option Refusal)
+    → MatchOption early (IsHandled o s before how r) (λ why. r ≡ calls.refused why) → IsTold s.entries (commit how) r
+committed o s before how r None is = attempts o s before how r is
+committed o s before how r (Some why) is = subst (IsTold s.entries (commit how)) (sym is) tt
+
+got : (o : Options) (s : State) (before : List calls.Call) (key : List ℕ) (r : calls.Reply) → IsHistory o.start s.entries → Gets o s before key r → IsTold s.entries (get key) r
+got o s before key (calls.found at v) history is = is.answer ∙ ap (λ m. value_at m key) (map_at o.start s.entries is.front at history is.is_front)
+got o s before key other history is = absurd is
+
+got_many : (o : Options) (s : State) (before : List calls.Call) (keys : List (List ℕ)) (r : calls.Reply) → IsHistory o.start s.entries → GetsMany o s before keys r → IsTold s.entries (many keys) r
+got_many o s before keys (calls.found_each at vs) history is = is.answer ∙ ap (λ m. map (value_at m) keys) (map_at o.start s.entries is.front at history is.is_front)
+got_many o s before keys other history is = absurd is
+
+scanned : (o : Options) (s : State) (before : List calls.Call) (lo hi : List ℕ) (r : calls.Reply) → IsHistory o.start s.entries → Scans o s before lo hi r → IsTold s.entries (scan lo hi) r
+scanned o s before lo hi (calls.rows at pairs) history is = is.answer ∙ ap (λ m. rows_within lo hi m) (map_at o.start s.entries is.front at history is.is_front)
+scanned o s before lo hi other history is = absurd is
+
+told_of : (o : Options) (s : State) (before : List calls.Call) (x : Command) (r : calls.Reply) → IsHistory o.start s.entries → IsClientsCommand x → MayReply o s before x r → IsTold s.entries x r
+told_of o s before (add a) r history said may = subst (IsTold s.entries (add a)) (sym may) tt
+told_of o s before clear r history said may = subst (IsTold s.entries clear) (sym may) tt
+told_of o s before (commit how) r history said may = committed o s before how r (early_refusal o.batch_bytes false (batch_after before) how) may
+told_of o s before (get key) r history said may = got o s before key r history may
+told_of o s before (many keys) r history said may = got_many o s before keys r history may
+told_of o s before (scan lo hi) r history said may = scanned o s before lo hi r history may
+told_of o s before other r history said may = absurd said
+
+none_told : (entries : List Entry) (xs : List Command) → replies_by entries xs [] ≡ []
+none_told entries [] = refl
+none_told entries (add r ∷ xs) = none_told entries xs
+none_told entries (other ∷ xs) = none_told entries xs
+
+-- a call more, where the others are shown
+one_shown : (entries : List Entry) (x : Command) (xs : List Command) (command : calls.Command) (r : calls.Reply) (cs : List calls.Call) (told : List CoreReply) → IsTold entries x r
+    → AreReplies told (answers_of (record { command = command; reply = r } ∷ cs))
+    → ((left : List CoreReply) → AreReplies left (answers_of cs) → ShowsReplies (replies_by entries xs left) cs)
+    → ShowsReplies (replies_by entries (x ∷ xs) told) (record { command = command; reply = r } ∷ cs)
+one_shown entries (add a) xs command calls.quiet cs told is are rest = rest told are
+one_shown entries clear xs command calls.quiet cs told is are rest = rest told are
+one_shown entries (commit how) xs command (calls.accepted a b records) cs (Accepted first last ∷ ts) is are rest = let e : (first ≡ a) × (last ≡ b) = are.0 in ((records, cc (e.0, e.1)), rest ts are.1)
+one_shown entries (commit how) xs command (calls.accepted a b records) cs (t ∷ ts) is are rest = absurd are.0
+one_shown entries (commit how) xs command (calls.accepted a b records) cs [] is are rest = absurd are
+one_shown entries (commit how) xs command (calls.refused why) cs (Refused w ∷ ts) is are rest = let e : w ≡ why = are.0 in (ap calls.refused (sym e), rest ts are.1)
+one_shown entries (commit how) xs command (calls.refused why) cs (t ∷ ts) is are rest = absurd are.0
+one_shown entries (commit how) xs command (calls.refused why) cs [] is are rest = absurd are
+one_shown entries (get key) xs command (calls.found at v) cs (ReadAt n ∷ ts) is are rest =
+    (subst (λ m. calls.found at v ≡ calls.found m (value_at (map_up_to m entries) key)) (sym are.0) (ap (calls.found at) is), rest ts are.1)
+one_shown entries (get key) xs command (calls.found at v) cs (t ∷ ts) is are rest = absurd are.0
+one_shown entries (get key) xs command (calls.found at v) cs [] is are rest = absurd are
+one_shown entries (many keys) xs command (calls.found_each at vs) cs (ReadAt n ∷ ts) is are rest =
+    (subst (λ m. calls.found_each at vs ≡ calls.found_each m (map (value_at (map_up_to m entries)) keys)) (sym are.0) (ap (calls.found_each at) is), rest ts are.1)
+one_shown entries (many keys) xs command (calls.found_each at vs) cs (t ∷ ts) is are rest = absurd are.0
+one_shown entries (many keys) xs command (calls.found_each at vs) cs [] is are rest = absurd are
+one_shown entries (scan lo hi) xs command (calls.rows at pairs) cs (ReadAt n ∷ ts) is are rest =
+    (subst (λ m. calls.rows at pairs ≡ calls.rows m (rows_within lo hi (map_up_to m entries))) (sym are.0) (ap (calls.rows at) is), rest ts are.1)
+one_shown entries (scan lo hi) xs command (calls.rows at pairs) cs (t ∷ ts) is are rest = absurd are.0
+one_shown entries (scan lo hi) xs command (calls.rows at pairs) cs [] is are rest = absurd are
+one_shown entries x xs command r cs told is are rest = absurd is
+
+told_shown : (o : Options) (s : State) (whole before cs : List calls.Call) (xs : List Command) (rest : List calls.Command) (told : List CoreReply) → IsHistory o.start s.entries → AreRight o s whole
+    → AllByRecursion IsClientsCommand xs → whole ≡ before ++ cs → xs ≡ commands_of cs ++ rest → AreReplies told (answers_of cs) → ShowsReplies (replies_by s.entries xs told) cs
+told_shown o s whole before [] xs rest [] history right said split same are = subst (λ rs. AllZip ShowsReply rs []) (sym (none_told s.entries xs)) tt
+told_shown o s whole before [] xs rest (t ∷ ts) history right said split same are = absurd are
+told_shown o s whole before (c ∷ cs) [] rest told history right said split same are = absurd (cc same)
+told_shown o s whole before (c ∷ cs) (x ∷ xs) rest told history right said split same are =
+    let first : c.command ≡ x = cc same in
+    let others : xs ≡ commands_of cs ++ rest = cc same in
+    let next : whole ≡ (before ++ c ∷ []) ++ cs = split ∙ sym (append_assoc before (c ∷ []) cs) in
+    let may : MayReply o s before x c.reply = subst (λ command. MayReply o s before command c.reply) first (right before c cs split) in
+    one_shown s.entries x xs c.command c.reply cs told (told_of o s before x c.reply history said.0 may) are
+    (λ left all. told_shown o s whole (before ++ c ∷ []) cs xs rest left history right said.1 next others all)
+
+client_shown : (o : Options) (s : State) (n : ℕ) (commands : List Command) (replies : List Reply) (client : Client) → IsHistory o.start s.entries → AllByRecursion IsClientsCommand commands
+    → slice_get s.clients n ≡ Some client → IsAnswered o s (suc n) commands client → IsTranscript s (suc n) commands replies → ShowsReplies replies client.calls
+client_shown o s n commands replies client history said there answered t =
+    let are : AreReplies t.told (answers_of client.calls) = MatchOption-at_some (t.told ≡ []) (λ (c : Client). AreReplies t.told (answers_of c.calls)) client there t.is_told in
+    subst (λ rs. ShowsReplies rs client.calls) (sym t.replies_are) (told_shown o s client.calls [] client.calls commands answered.rest t.told history answered.right said refl answered.asked are)
+
+-- All clients
+
+all_shown : (ts : List (Vec Reply Global)) (cs : List Client) → length ts ≡ length cs
+    → ((i : ℕ) (v : Vec Reply Global) (client : Client) → slice_get ts i ≡ Some v → slice_get cs i ≡ Some client → ShowsReplies v.items client.calls)
+    → AllZip (λ (v : Vec Reply Global). ShowsReplies v.items) ts (map (λ (c : Client). c.calls) cs)
+all_shown [] [] e each = tt
+all_shown [] (c ∷ cs) e each = absurd (omega (arith, e))
+all_shown (t ∷ ts) [] e each = absurd (omega (arith, e))
+all_shown (t ∷ ts) (c ∷ cs) e each = (each 0 t c refl refl, all_shown ts cs (omega (arith, e)) (λ i v client a b. each (suc i) v client a b))
+
+some_at : {A : Type 0} (xs : List A) (i : ℕ) → i < length xs → (x : A) × (slice_get xs i ≡ Some x)
+some_at [] i lt = absurd (omega (arith, lt))
+some_at (x ∷ xs) zero lt = (x, refl)
+some_at (x ∷ xs) (suc i) lt = some_at xs i (omega (arith, lt))
+
+-- each command is one that a script may say
+abbrev pub AreSaid : ClientPlan → Type 0
+AreSaid plan = AllByRecursion IsClientsCommand plan
+
+all_at : {A : Type 0} (P : A → Type 0) (xs : List A) (i : ℕ) (x : A) → AllByRecursion P xs → slice_get xs i ≡ Some x → P x
+all_at P [] i x all e = absurd (cc e)
+all_at P (y ∷ xs) zero x all e = subst P (same_Some y x e) all.0
+all_at P (y ∷ xs) (suc i) x all e = all_at P xs i x all.1 e
+
+pub transcripts_shown : (o : Options) (s : State) (clients : List ClientPlan) (ts : List (Vec Reply Global)) → AllByRecursion AreSaid clients → AreRepliesOf o clients s
+    → AreTranscripts s clients (length clients) ts → AllZip (λ (v : Vec Reply Global). ShowsReplies v.items) ts (map (λ (c : Client). c.calls) s.clients)
+transcripts_shown o s clients ts said of t = all_shown ts s.clients (t.each ∙ sym of.count) each
+  where
+    each : (i : ℕ) (v : Vec Reply Global) (client : Client) → slice_get ts i ≡ Some v → slice_get s.clients i ≡ Some client → ShowsReplies v.items client.calls
+    each i v client at there =
+        let within = slice_get_within ts i v at in
+        let found : (x : ClientPlan) × (slice_get clients i ≡ Some x) = some_at clients i (omega (arith, within, t.each)) in
+        client_shown o s i found.0 v.items client of.is_history (all_at AreSaid clients i found.0 said found.1) there (of.each (suc i) found.0 client found.1 there)
+        (t.right i found.0 v found.1 at)
+
+push_get : {A : Type 0} (xs : List A) (y z : A) (k : ℕ) → slice_get (xs ++ y ∷ []) k ≡ Some z → (slice_get xs k ≡ Some z) ⊎ ((k ≡ length xs) × (y ≡ z))
+push_get [] y z zero e = inr (refl, cc e)
+push_get [] y z (suc k) e = absurd (cc e)
+push_get (x ∷ xs) y z zero e = inl e
+push_get (x ∷ xs) y z (suc k) e = elim (push_get xs y z k e) [ inl there ↦ inl there | inr last ↦ inr (ap suc last.0, last.1) ]
+
+-- one client more
+pub transcript_more : (s : State) (clients : List ClientPlan) (ts : List (Vec Reply Global)) (i : ℕ) (x : ClientPlan) (v : Vec Reply Global) → i < length clients → x ≡ get_or clients i x
+    → AreTranscripts s clients i ts → IsTranscript s (i + 1) x v.items → AreTranscripts s clients (i + 1) (ts ++ v ∷ [])
+transcript_more s clients ts i x v here is t new = record {
+  each = omega (arith, t.each, length-append ts (v ∷ []));
+  right = right;
+}
+  where
+    right : (k : ℕ) (plan : ClientPlan) (replies : Vec Reply Global) → slice_get clients k ≡ Some plan → slice_get (ts ++ v ∷ []) k ≡ Some replies → IsTranscript s (suc k) plan replies.items
+    right k plan replies found at = elim (push_get ts v replies k at) [
+      | inl there ↦ t.right k plan replies found there
+      | inr last ↦
+          let place : k ≡ i = last.0 ∙ t.each in
+          let next : i + 1 ≡ suc k = omega (arith, place) in
+          let same : x ≡ plan = same_Some x plan (sym (slice_get_read clients (length clients) i x refl here is) ∙ ap (slice_get clients) (sym place) ∙ found) in
+          subst (λ n. IsTranscript s n plan replies.items) next (subst (λ (c : ClientPlan). IsTranscript s (i + 1) c replies.items) same (subst (λ (r : Vec Reply Global). IsTranscript s (i + 1) x r.items) last.1 new))
+    ]
+
+-- One client's replies
+
+abbrev one : Reply → List Reply
+one said = said ∷ []
+
+-- the reply at a place is the first of those from there on
+first_at : (entries : List Entry) (command : Command) (told : List CoreReply) (n : ℕ) (t : CoreReply) → slice_get told n ≡ Some t → first_reply entries command (drop n told) ≡ option_map_or one (reply_by entries command t) []
+first_at entries command [] zero t e = absurd (cc e)
+first_at entries command [] (suc n) t e = absurd (cc e)
+first_at entries command (r ∷ rs) zero t e = let same : r ≡ t = same_Some r t e in ap (λ x. option_map_or one (reply_by entries command x) []) same
+first_at entries command (r ∷ rs) (suc n) t e = first_at entries command rs n t e
+
+-- it stands behind those before it, where its command has it
+pub reply_at : (entries : List Entry) (command : Command) (told : List CoreReply) (replies new : List Reply) (t : CoreReply) (r : Reply) → slice_get told (length replies) ≡ Some t → reply_by entries command t ≡ Some r → new ≡ replies ++ r ∷ []
+    → new ≡ replies ++ first_reply entries command (drop (length replies) told)
+reply_at entries command told replies new t r at is e =
+    e ∙ ap (λ (rs : List Reply). replies ++ rs) (sym (first_at entries command told (length replies) t at ∙ ap (λ (said : Option Reply). option_map_or one said []) is))
+
+pub no_reply_at : (entries : List Entry) (command : Command) (told : List CoreReply) (replies : List Reply) (t : CoreReply) → slice_get told (length replies) ≡ Some t → reply_by entries command t ≡ None
+    → replies ≡ replies ++ first_reply entries command (drop (length replies) told)
+no_reply_at entries command told replies t at is =
+    sym (append-nil replies) ∙ ap (λ (rs : List Reply). replies ++ rs) (sym (first_at entries command told (length replies) t at ∙ ap (λ (said : Option Reply). option_map_or one said []) is))
+
+pub none_at : (entries : List Entry) (command : Command) (told : List CoreReply) (replies : List Reply) (n : ℕ) → slice_get told n ≡ None → replies ≡ replies ++ first_reply entries command (drop n told)
+none_at entries command [] replies zero e = sym (append-nil replies)
+none_at entries command [] replies (suc n) e = sym (append-nil replies)
+none_at entries command (r ∷ rs) replies zero e = absurd (cc e)
+none_at entries command (r ∷ rs) replies (suc n) e = none_at entries command rs replies n e
+
+-- a command more
+pub reply_more : (entries : List Entry) (commands : List Command) (told : List CoreReply) (replies new : List Reply) (i : ℕ) (x : Command) → slice_get commands i ≡ Some x
+    → replies ++ replies_by entries (drop i commands) (drop (length replies) told) ≡ replies_by entries commands told → new ≡ replies ++ next_reply entries (drop (length replies) told) x
+    → new ++ replies_by entries (drop (i + 1) commands) (drop (length new) told) ≡ replies_by entries commands told
+reply_more entries commands told replies new i x here so_far e =
+    let left : List CoreReply = drop (length replies) told in
+    let r : List Reply = next_reply entries left x in
+    let at : drop i commands ≡ x ∷ drop (i + 1) commands = at_drop_more (λ (cs : List Command). cs) commands i x (slice_get_within commands i x here) ∙ ap (λ y. y ∷ drop (i + 1) commands) (get_or_from_slice_get commands i x x here) in
+    let len : length new ≡ length replies + length r = ap length e ∙ length-append replies r in
+    let behind : drop (length new) told ≡ drop (length r) left = ap (λ n. drop n told) len ∙ sym (drop-drop (length r) (length replies) told) in
+    ap (λ (l : List CoreReply). new ++ replies_by entries (drop (i + 1) commands) l) behind ∙ ap (λ (n : List Reply). n ++ replies_by entries (drop (i + 1) commands) (drop (length r) left)) e
+    ∙ append_assoc replies r (replies_by entries (drop (i + 1) commands) (drop (length r) left)) ∙ ap (λ (cs : List Command). replies ++ replies_by entries cs left) (sym at) ∙ so_far
+
+pub replies_all : (entries : List Entry) (commands : List Command) (told : List CoreReply) (replies : List Reply) (i : ℕ) → length commands ≤ i
+    → replies ++ replies_by entries (drop i commands) (drop (length replies) told) ≡ replies_by entries commands told → replies ≡ replies_by entries commands told
+replies_all entries commands told replies i past so_far =
+    sym (append-nil replies) ∙ ap (λ (cs : List Command). replies ++ replies_by entries cs (drop (length replies) told)) (sym (at_drop_all (λ (cs : List Command). cs) commands i past)) ∙ so_far

@@ -1,0 +1,12 @@
+use Rattle.std.proofs.Common.{◌≡◌, ◌++◌, drop, length}
+use Rattle.replay_views.specs.Maps.{IsMapOf}
+use Rattle.replay_schedules.specs.Replaying.{InEachShown, replies_by}
+use Rattle.replay_schedules.proofs.replies.replies_of.Given as goal
+
+-- with the replies to the commands that are left they are those to all
+abbrev pub invariant-loop-place : goal.invariant-loop-place
+invariant-loop-place l = record {
+  reads : InEachShown l.core (λ s. IsMapOf s.entries l.reads);
+  so_far : InEachShown l.core (λ s.
+      l.replies.items ++ replies_by s.entries (drop l.place l.plan) (drop (length l.replies.items) l.told) ≡ replies_by s.entries l.plan l.told);
+}

@@ -1,0 +1,88 @@
+-- What a schedule's clients were told, and the history of their batches, from what the core shows.
+use Rattle.std.specs.Prelude.{◌≡◌, ℕ, suc, List, [], ◌∷◌, ◌++◌, length, map, drop, Option, Some, None, slice_get, MatchOption, Vec}
+use Rattle.std.specs.Option.{option_map_or}
+use Rattle.std.specs.declared.alloc.Global.{Global}
+use Rattle.model_base.specs.Map.{rows_within, value_at}
+use Rattle.model_base.specs.History as history
+use Rattle.model_core.specs.Core as machine
+use Rattle.model_core.specs.Core.{client_at}
+use Rattle.model_core.specs.CoreLaw.{IsCore}
+use Rattle.model_base.specs.Calls.{Command, commit, get, many, scan}
+use Rattle.run_outcome.specs.declared.reply.Reply.{Reply}
+use Rattle.run_outcome.specs.declared.reply.Reply.TheVariants as reply
+use Rattle.run_calls.specs.declared.entry.Entry.{Entry}
+use Rattle.log_batch.specs.Contents.{Contents}
+use Rattle.replay_plans.specs.declared.plan.ClientPlan.{ClientPlan}
+use Rattle.replay_core.specs.declared.state.State.{State}
+use Rattle.replay_core.specs.declared.writer.CoreReply.{CoreReply}
+use Rattle.replay_core.specs.declared.writer.CoreReply.TheVariants.{Accepted, Refused, ReadAt}
+use Rattle.replay_plans.specs.Answers.{answers_of}
+use Rattle.replay_core.specs.Replies.{AreReplies}
+use Rattle.replay_plans.specs.Plans.{records_of}
+use Rattle.replay_core.specs.Shown.{CoreEntry}
+use Rattle.replay_core.specs.Shows.{Shows}
+use Rattle.replay_views.specs.Maps.{map_up_to}
+
+-- it is so in each state of the machine of events that the core shows
+abbrev pub InEachShown : State → (machine.State → Type 0) → Type 0
+InEachShown core is = (o : machine.Options) (s : machine.State) → IsCore o s → Shows core o s → is s
+
+-- Replies
+
+-- a read is answered by the map at its sequence, also one of several keys; no other command is read
+abbrev pub read_by : List history.Entry → ℕ → Command → Option Reply
+read_by entries at (get key) = Some (reply.Found at (value_at (map_up_to at entries) key))
+read_by entries at (many keys) = Some (reply.FoundEach at (map (value_at (map_up_to at entries)) keys))
+read_by entries at (scan lo hi) = Some (reply.Rows at (rows_within lo hi (map_up_to at entries)))
+read_by entries at other = None
+
+abbrev pub reply_by : List history.Entry → Command → CoreReply → Option Reply
+reply_by entries command (Accepted first last) = Some (reply.Accepted first last)
+reply_by entries command (Refused why) = Some (reply.Refused why)
+reply_by entries command (ReadAt at) = read_by entries at command
+
+abbrev pub first_reply : List history.Entry → Command → List CoreReply → List Reply
+first_reply entries command [] = []
+first_reply entries command (r ∷ rs) = option_map_or (λ (said : Reply). said ∷ []) (reply_by entries command r) []
+
+-- the reply to the next command, if that has one by now: commits and reads alone have one, the first of those that are
+-- left
+abbrev pub next_reply : List history.Entry → List CoreReply → Command → List Reply
+next_reply entries told (commit options) = first_reply entries (commit options) told
+next_reply entries told (get key) = first_reply entries (get key) told
+next_reply entries told (many keys) = first_reply entries (many keys) told
+next_reply entries told (scan lo hi) = first_reply entries (scan lo hi) told
+next_reply entries told other = []
+
+-- commits and reads have these replies, in order
+abbrev pub replies_by : List history.Entry → List Command → List CoreReply → List Reply
+replies_by entries [] told = []
+replies_by entries (c ∷ cs) told = next_reply entries told c
+    ++ replies_by entries cs (drop (length (next_reply entries told c)) told)
+
+-- what a client was told of its commands, by its number
+pub record IsTranscript (s : machine.State) (client : ℕ) (commands : List Command) (replies : List Reply) : Type 0 where
+  pub told : List CoreReply
+  pub is_told : MatchOption (client_at s client) (told ≡ []) (λ c. AreReplies told (answers_of c.calls))
+  pub replies_are : replies ≡ replies_by s.entries commands told
+
+-- what so many clients were told, from the first on
+pub record AreTranscripts (s : machine.State) (plans : List ClientPlan) (count : ℕ)
+    (transcripts : List (Vec Reply Global)) : Type 0 where
+  pub each : length transcripts ≡ count
+  pub right : (i : ℕ) (plan : ClientPlan) (replies : Vec Reply Global) → slice_get plans i ≡ Some plan
+      → slice_get transcripts i ≡ Some replies
+      → IsTranscript s (suc i) plan replies.items
+
+-- The history
+
+-- an entry of the core, with its batch
+abbrev pub entry_by : List ClientPlan → CoreEntry → Entry Contents
+entry_by plans e = record {
+  client = e.client;
+  ordinal = e.ordinal;
+  first = e.first;
+  last = e.last;
+  flag = e.flag;
+  batch = record { sequence = e.first; records = records_of plans e.client e.batch };
+}

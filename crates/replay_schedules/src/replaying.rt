@@ -1,0 +1,63 @@
+//! A schedule of events, run on the write path's core.
+
+ghost use Rattle.std.specs.Prelude.{◌≡◌, ◌≤◌, ◌-◌, ◌^◌, length, IfOk};
+ghost use Rattle.run_scripts.specs.Schedules.{schedule_of};
+ghost use Rattle.run_scripts.specs.Scripts.{FitsBatches, HasClientsCommands};
+ghost use Rattle.replay_schedules.specs.Replayed.{ShowsReplayed, replayed_of};
+
+use crate::history::history_of;
+use crate::plans::plans_of;
+use crate::replies::transcripts_of;
+use base_bytes::PairMap;
+use log_batch::Batch;
+use model_base::NoMemory;
+use replay_core::{CoreOptions, Counts, State, replay};
+use replay_views::map;
+use run_calls::Entry;
+use run_outcome::Reply;
+use run_scripts::Schedule;
+use std::alloc::Global;
+
+/// What a schedule came to.
+#[derive(Drop)]
+pub struct Replayed {
+    /// How many of its events came, and how many could not come where they stood.
+    pub counts: Counts,
+    /// The replies of each client to its commits and reads so far, in order of the clients' numbers.
+    pub transcripts: Vec<Vec<Reply>>,
+    /// The batches that were given runs, in order of their sequences.
+    pub history: Vec<Entry<Batch>>,
+    /// The published sequence, and the map there.
+    pub last: u64,
+    pub map: PairMap,
+    /// How many groups were logged.
+    pub groups: u64,
+}
+
+/// Runs a schedule on the core of its script's clients, of which there are 1 to 16. Their commands are
+/// those that a script may say, and all that each adds fits one batch of 16 MiB.
+pub fn replay_schedule(
+    alloc: Global,
+    schedule: Schedule,
+    options: CoreOptions,
+) -> Result<Replayed, NoMemory>
+    requires some { 1 ≤ length schedule.script.clients.items }
+    requires few { length schedule.script.clients.items ≤ 16 }
+    requires fits { FitsBatches schedule.script }
+    requires commands { HasClientsCommands schedule.script }
+    requires last { options.last ≤ 2 ^ 56 - 1 }
+    ensures { IfOk result (λ shown. ShowsReplayed shown (replayed_of options (schedule_of schedule))) }
+{
+    let Schedule { script, events } = schedule;
+    let plans = plans_of(alloc, &script)?;
+    let mut core = State::new(alloc, plans, options)?;
+    let counts = replay(&mut core, &events);
+    Ok(Replayed {
+        counts,
+        transcripts: transcripts_of(alloc, &core)?,
+        history: history_of(alloc, &core)?,
+        last: core.last(),
+        map: map(&core, alloc)?,
+        groups: core.logged().len() as u64,
+    })
+}

@@ -1,0 +1,159 @@
+//! What the clients of a script were told on the core.
+
+ghost use Rattle.std.specs.Prelude.{◌≡◌, ◌++◌, ◌≤◌, length, drop, slice_get, IfOk, OnOk};
+ghost use Rattle.base_bytes.specs.Answers.{found_value};
+ghost use Rattle.run_command_list.specs.Views.{command_of};
+ghost use Rattle.replay_core.specs.Shown.{plans_in};
+ghost use Rattle.replay_views.specs.Maps.{IsMapOf};
+ghost use Rattle.replay_schedules.specs.Replaying.{InEachShown, read_by, reply_by, first_reply, next_reply, replies_by, AreTranscripts};
+
+use base_bytes::{Bytes, Found};
+use model_base::NoMemory;
+use replay_core::{CoreReply, State};
+use replay_plans::ClientPlan;
+use replay_views::MapUpTo;
+use run_command_list::{CommandKind, CommandView};
+use run_outcome::Reply;
+use std::alloc::Global;
+
+/// What each client was told.
+pub fn transcripts_of(alloc: Global, core: &State<'_>) -> Result<Vec<Vec<Reply>>, NoMemory>
+    requires { length (plans_in core.now) ≤ 16 }
+    ensures { InEachShown core.now (λ s. IfOk result (λ t.
+        AreTranscripts s (plans_in core.now) (length (plans_in core.now)) t.items)) }
+{
+    let plans = core.plans();
+    let mut transcripts = Vec::with_capacity(alloc, plans.len())?;
+    for (before, plan) in plans.iter().enumerate() {
+        let told = core.replies(before as u32 + 1);
+        transcripts.push(replies_of(alloc, plan, told, core)?)?;
+    }
+    Ok(transcripts)
+}
+
+/// What a client was told of its commands: these replies to its commits and reads, in order.
+fn replies_of(
+    alloc: Global,
+    plan: &ClientPlan<'_>,
+    told: &[CoreReply],
+    core: &State<'_>,
+) -> Result<Vec<Reply>, NoMemory>
+    ensures { InEachShown core.now (λ s. IfOk result (λ replies.
+        replies.items ≡ replies_by s.entries plan.now told.now)) }
+{
+    let mut reads = MapUpTo::new(alloc);
+    let mut replies = Vec::with_capacity(alloc, told.len())?;
+    for place in 0..plan.len() {
+        add_reply(&mut replies, &mut reads, plan.line(place), told, core)?;
+    }
+    Ok(replies)
+}
+
+/// Adds the reply to a client's next command, if that has one by now.
+fn add_reply(
+    replies: &mut Vec<Reply>,
+    reads: &mut MapUpTo,
+    command: &CommandView<'_>,
+    told: &[CoreReply],
+    core: &State<'_>,
+) -> Result<(), NoMemory>
+    ensures reads { InEachShown core.now (λ s. IsMapOf s.entries reads.old → IsMapOf s.entries reads.new) }
+    ensures replies { InEachShown core.now (λ s. IsMapOf s.entries reads.old → OnOk result (replies.new.items
+        ≡ replies.old.items ++ next_reply s.entries (drop (length replies.old.items) told.now)
+        (command_of command.now))) }
+{
+    match command.kind() {
+        CommandKind::Commit | CommandKind::Read => add_next(replies, reads, command, told, core),
+        CommandKind::Addition | CommandKind::Clear => Ok(()),
+        // The core knows no write controller, so no script with a schedule says this.
+        CommandKind::Token => Ok(()),
+    }
+}
+
+/// Adds the first of the replies that are left, to a commit or a read.
+fn add_next(
+    replies: &mut Vec<Reply>,
+    reads: &mut MapUpTo,
+    command: &CommandView<'_>,
+    told: &[CoreReply],
+    core: &State<'_>,
+) -> Result<(), NoMemory>
+    ensures reads { InEachShown core.now (λ s. IsMapOf s.entries reads.old → IsMapOf s.entries reads.new) }
+    ensures replies { InEachShown core.now (λ s. IsMapOf s.entries reads.old → OnOk result (replies.new.items
+        ≡ replies.old.items ++ first_reply s.entries (command_of command.now)
+        (drop (length replies.old.items) told.now))) }
+{
+    let Some(next) = reply_at(told, replies.len()) else {
+        return Ok(());
+    };
+    if let Some(reply) = reply_of(reads, command, next, core)? {
+        replies.push(reply)?;
+    }
+    Ok(())
+}
+
+fn reply_at(told: &[CoreReply], at: usize) -> Option<CoreReply>
+    ensures { result ≡ slice_get told.now at }
+{
+    if at < told.len() {
+        Some(told[at])
+    } else {
+        None
+    }
+}
+
+/// The reply to a command, of which the core tells all but what was read. It is `None` where a command that reads
+/// nothing is said to have been read, which the core never says.
+fn reply_of(
+    reads: &mut MapUpTo,
+    command: &CommandView<'_>,
+    told: CoreReply,
+    core: &State<'_>,
+) -> Result<Option<Reply>, NoMemory>
+    ensures reads { InEachShown core.now (λ s. IsMapOf s.entries reads.old → IsMapOf s.entries reads.new) }
+    ensures reply { InEachShown core.now (λ s. IsMapOf s.entries reads.old
+        → IfOk result (λ reply. reply ≡ reply_by s.entries (command_of command.now) told)) }
+{
+    match told {
+        CoreReply::Accepted { first, last } => Ok(Some(Reply::Accepted { first, last })),
+        CoreReply::Refused { why } => Ok(Some(Reply::Refused(why))),
+        CoreReply::ReadAt { at } => read_of(reads, command, at, core),
+    }
+}
+
+/// The reply to a command that was read at a sequence, if it is one that reads.
+fn read_of(
+    reads: &mut MapUpTo,
+    command: &CommandView<'_>,
+    at: u64,
+    core: &State<'_>,
+) -> Result<Option<Reply>, NoMemory>
+    ensures reads { InEachShown core.now (λ s. IsMapOf s.entries reads.old → IsMapOf s.entries reads.new) }
+    ensures reply { InEachShown core.now (λ s. IsMapOf s.entries reads.old
+        → IfOk result (λ reply. reply ≡ read_by s.entries at (command_of command.now))) }
+{
+    match command {
+        CommandView::Get { key } => Ok(Some(Reply::Found {
+            at,
+            value: found(reads.value(core, key, at)?),
+        })),
+        CommandView::Many { keys } => Ok(Some(Reply::FoundEach {
+            at,
+            values: reads.values(core, keys.again(), at)?,
+        })),
+        CommandView::Scan { lo, hi } => Ok(Some(Reply::Rows {
+            at,
+            rows: reads.rows(core, lo, hi, at)?,
+        })),
+        _ => Ok(None),
+    }
+}
+
+fn found(answer: Found) -> Option<Bytes>
+    ensures { result ≡ found_value answer }
+{
+    match answer {
+        Found::Value(bytes) => Some(bytes),
+        Found::Absent => None,
+    }
+}

@@ -1,0 +1,114 @@
+//! The list of batches.
+
+ghost use Rattle.std.specs.Prelude.{◌≡◌, ◌<◌, ◌≤◌, ◌++◌, ◌∷◌, [], length, take, Some, slice_get, slice_index, slice_range, OnOk, OnErr};
+ghost use Rattle.run_batches.specs.OneList.{AreBatches, AreBatches-prop};
+
+use crate::layout::{byte_of, bytes_of, flag_of};
+use crate::{Kept, KeptBatch};
+use log_batch::Batch;
+use model_base::{Flag, NoMemory};
+use std::alloc::Global;
+use std::marker::Model;
+
+/// The accepted batches of a client, from the first on, each with how it was committed. Contracts see the list of them.
+#[derive(Drop)]
+pub struct BatchList {
+    bytes: Vec<u8>,
+    ends: Vec<u32>,
+    ghost holds: { AreBatches bytes.items ends.items } by { AreBatches-prop bytes.items ends.items },
+}
+
+impl Model for BatchList {
+    ghost use Rattle.std.specs.Prelude.{List};
+    ghost use Rattle.log_batch.specs.Contents.{Contents};
+    ghost use Rattle.run_batches.specs.declared.kept.Kept.{Kept};
+
+    ghost Value = { List (Kept Contents) };
+
+    ghost view = { λ l. l.holds.batches };
+}
+
+impl BatchList {
+    /// No batches. This takes no memory.
+    pub fn new(alloc: Global) -> BatchList
+        ensures { result ≡ [] }
+    {
+        BatchList {
+            bytes: Vec::new(alloc),
+            ends: Vec::new(alloc),
+        }
+    }
+
+    /// Makes room for so many batches more, of so many bytes in all: each has its own, and one for its flag. That only
+    /// spares growth: the list asks for more by itself.
+    pub fn reserve(&mut self, batches: usize, bytes: usize) -> Result<(), NoMemory>
+        ensures { self.new ≡ self.old }
+    {
+        self.bytes.reserve(bytes)?;
+        self.ends.reserve(batches)?;
+        Ok(())
+    }
+
+    /// Puts a copy of a batch behind the others. Where memory fails, the list stays as it was. There is none for a list
+    /// of 2^32 bytes or more.
+    pub fn push(&mut self, flag: Flag, batch: &Batch) -> Result<(), NoMemory>
+        ensures ok { OnOk result (self.new ≡ self.old ++ record { flag = flag; batch = batch.now } ∷ []) }
+        ensures err { OnErr result (self.new ≡ self.old) }
+    {
+        let begin = self.bytes.len();
+        let flag = byte_of(flag);
+        let own = bytes_of(batch);
+        if append(&mut self.bytes, &mut self.ends, flag, own).is_err() {
+            self.bytes.truncate(begin);
+            return Err(NoMemory);
+        }
+        Ok(())
+    }
+
+    /// How many batches there are.
+    pub fn len(&self) -> usize
+        ensures { result ≡ length self.now }
+    {
+        self.ends.len()
+    }
+
+    /// The batch at a place, from 0 on.
+    pub fn get(&self, at: usize) -> Kept<KeptBatch<'_>>
+        requires { at < length self.now }
+        ensures { slice_get self.now at ≡ Some result }
+    {
+        let part = part_at(&self.bytes, &self.ends, at);
+        Kept {
+            flag: flag_of(part[0]),
+            batch: KeptBatch::of(&part[1..]),
+        }
+    }
+}
+
+/// Puts a flag's byte and a batch's bytes behind the others, and then their end behind the other ends. Where memory
+/// fails, the ends stay as they were, and a part may stand behind the bytes.
+fn append(bytes: &mut Vec<u8>, ends: &mut Vec<u32>, flag: u8, batch: &[u8]) -> Result<(), NoMemory>
+    ensures ok { OnOk result (bytes.new.items ≡ bytes.old.items ++ flag ∷ batch.now) }
+    ensures end { OnOk result (ends.new.items ≡ ends.old.items ++ length bytes.new.items ∷ []) }
+    ensures err { OnErr result (take (length bytes.old.items) bytes.new.items ≡ bytes.old.items) }
+    ensures no_end { OnErr result (ends.new.items ≡ ends.old.items) }
+{
+    bytes.push(flag)?;
+    bytes.extend_from_slice(batch)?;
+    let Ok(end) = u32::try_from(bytes.len()) else {
+        return Err(NoMemory);
+    };
+    ends.push(end)?;
+    Ok(())
+}
+
+/// The part of the bytes that stands for the batch at a place: from where the one before it ends to where it ends.
+fn part_at<'a>(bytes: &'a [u8], ends: &[u32], at: usize) -> &'a [u8]
+    requires at_in { at < length ends.now }
+    requires rising { slice_index (0 ∷ ends.now) at ≤ slice_index ends.now at }
+    requires within { slice_index ends.now at ≤ length bytes.now }
+    ensures { result.now ≡ slice_range bytes.now (slice_index (0 ∷ ends.now) at) (slice_index ends.now at) }
+{
+    let begin = if at == 0 { 0 } else { ends[at - 1] as usize };
+    &bytes[begin..ends[at] as usize]
+}

@@ -1,0 +1,41 @@
+use Rattle.std.proofs.Common.{◌≡◌, arith, rules}
+use Rattle.run_command_list.specs.Contents.{AreWords}
+use Rattle.run_command_list.proofs.Steps.{walked_none, walked_more, walked_cut, walked_all, walked_front, walked_fewer, walked_as_many}
+use Rattle.run_command_list.proofs.Additions.{words_are}
+use Rattle.run_command_list.proofs.words.Words.split.Goals as goal
+
+pub loop-found-init : goal.loop-found-init
+loop-found-init c = record { walked = walked_none c.args.bytes.now; few = omega arith }
+
+pub returns-in_err-behind : goal.returns-in_err-behind
+returns-in_err-behind c =
+    rw c.from_residual.ensures (walked_cut c.args.bytes.now c.loop-found.rest.now c.loop-found.found c.args.count c.loop-found.invariant.walked (omega arith) (search rules))
+
+pub loop-found-preserved : goal.loop-found-preserved
+loop-found-preserved c = record {
+  walked = walked_more c.args.bytes.now c.loop-found.rest.now c.loop-found.found c.in_ok-behind.field-0-0.now c.in_ok-behind.behind.now c.loop-found.invariant.walked c.in_ok-behind.ensures.short c.in_ok-behind.ensures.spelled;
+  few = omega arith;
+}
+
+pub overflow_sub-bytes : goal.overflow_sub-bytes
+overflow_sub-bytes c = walked_fewer c.args.bytes.now c.loop-found.rest.now c.loop-found.found c.loop-found.invariant.walked
+
+pub invariant_of-result : goal.invariant_of-result
+invariant_of-result c =
+    let w = walked_as_many c.args.bytes.now c.loop-found.rest.now c.loop-found.found c.args.count c.loop-found.invariant.walked c.loop-found.invariant.few c.loop-found-test.false in (
+      record {
+        words = w.words;
+        short = w.short;
+        counted = w.counted;
+        spelled = walked_front c.args.bytes.now c.loop-found.rest.now c.split_at.result.0.now c.args.count w c.split_at.ensures.front;
+      },
+      tt,
+    )
+
+pub returns : goal.returns
+returns c =
+    let w = walked_as_many c.args.bytes.now c.loop-found.rest.now c.loop-found.found c.args.count c.loop-found.invariant.walked c.loop-found.invariant.few c.loop-found-test.false in
+    let are : (h : AreWords c.split_at.result.0.now c.args.count) → h.words ≡ w.words =
+    λ h. words_are c.split_at.result.0.now c.args.count h w.words w.short w.counted
+    (walked_front c.args.bytes.now c.loop-found.rest.now c.split_at.result.0.now c.args.count w c.split_at.ensures.front) in
+    rw are (walked_all c.args.bytes.now c.loop-found.rest.now c.args.count w)

@@ -1,0 +1,85 @@
+-- Bytes are of one list of words, and of one list of commands, at most.
+use Rattle.std.proofs.Common.{◌≡◌, ℕ, List, [], ◌∷◌, ◌++◌, length, refl, sym, ap, ◌∙◌}
+use Rattle.std.specs.Prelude.{Some, None}
+use Rattle.std.specs.List.{AllByRecursion, AllByRecursion-prop}
+use Rattle.std.specs.Coded.{le_prop, Coded-set, coded_ℕ, coded_list}
+use mathlib.Core.HLevel.{is_prop→PathP}
+use Rattle.model_base.specs.Calls.{Command}
+use Rattle.run_command_list.specs.Layout.{bytes_of_words, bytes_of, body}
+use Rattle.run_command_list.specs.Contents.{words_of, commits_in, AreShort, Fits, AreWords, AreCommands, IsList}
+use Rattle.run_command_list.specs.Reading.{Read, read_byte, read_words, read_command}
+use Rattle.run_command_list.specs.ReadBack.{words_back, command_back}
+
+-- the same that is read, with the same behind it
+pub one_read : {A : Type 0} (p q : A × List ℕ) → Some p ≡ Some q → (p.0 ≡ q.0) × (p.1 ≡ q.1)
+one_read {A} p q same = (ap (λ (r : A × List ℕ). r.0) pairs, ap (λ (r : A × List ℕ). r.1) pairs) where
+  pairs : p ≡ q
+  pairs = cc
+
+pub one_words : (a b : List (List ℕ)) → AreShort a → AreShort b → length a ≡ length b
+    → bytes_of_words a ≡ bytes_of_words b → a ≡ b
+one_words a b short_a short_b as_many same =
+    (one_read {A = List (List ℕ)} (a, []) (b, []) (sym (words_back a [] short_a)
+    ∙ ap (λ (n : ℕ). read_words n (bytes_of_words a ++ [])) as_many
+    ∙ ap (λ (l : List ℕ). read_words (length b) (l ++ [])) same ∙ words_back b [] short_b)).0
+
+no_bytes : (c : Command) (x : List ℕ) → Fits c → [] ≡ bytes_of c ++ x → ⊥
+unfolding read_command read_byte
+no_bytes c x fits same = absurd (nothing (ap read_command same ∙ command_back c x fits)) where
+  nothing : ◌≡◌ {A = Read Command} None (Some (c, x)) → ⊥
+  nothing e = cc
+
+pub one_body : (a b : List Command) → AllByRecursion Fits a → AllByRecursion Fits b → body a ≡ body b → a ≡ b
+one_body [] [] fit_a fit_b same = refl
+one_body [] (d ∷ b) fit_a fit_b same = absurd (no_bytes d (body b) fit_b.0 same)
+one_body (c ∷ a) [] fit_a fit_b same = absurd (no_bytes c (body a) fit_a.0 (sym same))
+one_body (c ∷ a) (d ∷ b) fit_a fit_b same =
+    let first = one_read {A = Command} (c, body a) (d, body b)
+    (sym (command_back c (body a) fit_a.0) ∙ ap read_command same ∙ command_back d (body b) fit_b.0) in
+    let rest = one_body a b fit_a.1 fit_b.1 first.1 in
+    ap (λ (v : Command). v ∷ a) first.0 ∙ ap (λ (l : List Command). d ∷ l) rest
+
+Fits-prop : (c : Command) → IsProp (Fits c)
+Fits-prop c x y = λ i. record {
+  words = AllByRecursion-prop _ (λ w. le_prop) (words_of c) x.words y.words i;
+  count = le_prop x.count y.count i;
+  rate = le_prop x.rate y.rate i;
+}
+
+-- words of so many bytes are one list
+pub same_words : (bytes : List ℕ) (count : ℕ) (x y : AreWords bytes count) → x.words ≡ y.words
+same_words bytes count x y =
+    one_words x.words y.words x.short y.short (sym x.counted ∙ y.counted) (sym x.spelled ∙ y.spelled)
+
+pub AreWords-prop : (bytes : List ℕ) (count : ℕ) → IsProp (AreWords bytes count)
+AreWords-prop bytes count x y = λ i. record {
+  words = same_words bytes count x y i;
+  short = is_prop→PathP (λ j. AreShort (same_words bytes count x y j))
+      (λ j. AllByRecursion-prop _ (λ w. le_prop) (same_words bytes count x y j)) x.short y.short i;
+  counted = is_prop→PathP (λ j. count ≡ length (same_words bytes count x y j))
+      (λ j. Coded-set coded_ℕ count (length (same_words bytes count x y j))) x.counted y.counted i;
+  spelled = is_prop→PathP (λ j. bytes ≡ bytes_of_words (same_words bytes count x y j))
+      (λ j. Coded-set (coded_list coded_ℕ) bytes (bytes_of_words (same_words bytes count x y j))) x.spelled y.spelled i;
+}
+
+pub same_commands : (bytes : List ℕ) (x y : AreCommands bytes) → x.commands ≡ y.commands
+same_commands bytes x y = one_body x.commands y.commands x.fit y.fit (sym x.spelled ∙ y.spelled)
+
+pub AreCommands-prop : (bytes : List ℕ) → IsProp (AreCommands bytes)
+AreCommands-prop bytes x y = λ i. record {
+  commands = same_commands bytes x y i;
+  fit = is_prop→PathP (λ j. AllByRecursion Fits (same_commands bytes x y j))
+      (λ j. AllByRecursion-prop Fits Fits-prop (same_commands bytes x y j)) x.fit y.fit i;
+  spelled = is_prop→PathP (λ j. bytes ≡ body (same_commands bytes x y j))
+      (λ j. Coded-set (coded_list coded_ℕ) bytes (body (same_commands bytes x y j))) x.spelled y.spelled i;
+}
+
+pub IsList-prop : (bytes : List ℕ) (len commits : ℕ) → IsProp (IsList bytes len commits)
+IsList-prop bytes len commits x y = λ i. record {
+  are = AreCommands-prop bytes x.are y.are i;
+  len_is = is_prop→PathP (λ j. len ≡ length (AreCommands-prop bytes x.are y.are j).commands)
+      (λ j. Coded-set coded_ℕ len (length (AreCommands-prop bytes x.are y.are j).commands)) x.len_is y.len_is i;
+  commits_is = is_prop→PathP (λ j. commits ≡ commits_in (AreCommands-prop bytes x.are y.are j).commands)
+      (λ j. Coded-set coded_ℕ commits (commits_in (AreCommands-prop bytes x.are y.are j).commands))
+      x.commits_is y.commits_is i;
+}

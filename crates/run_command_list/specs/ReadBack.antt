@@ -1,0 +1,116 @@
+-- What is put in front of bytes is read back.
+use Rattle.std.proofs.Common.{◌≡◌, ℕ, ◌<◌, ◌^◌, Bool, true, false, List, [], ◌∷◌, ◌++◌, length, refl, ap, arith, append_assoc, length-append}
+use Rattle.std.specs.Prelude.{Some}
+use Rattle.std.proofs.Math.Seq.{take-append_seam, drop-append_seam}
+use Rattle.std.proofs.lemmas.Bool.{le-ltb}
+use Rattle.std.proofs.lemmas.Nat.{from_le_bytes-to_le_bytes_4, from_le_bytes-to_le_bytes_8}
+use Rattle.std.specs.Int.{w32, w64, to_le_bytes}
+use Rattle.model_base.specs.declared.write.WriteOptions.{WriteOptions}
+use Rattle.model_base.specs.Batch.{value, deletion, single_deletion, log_data}
+use Rattle.model_base.specs.Calls.{Command, add, clear, commit, get, many, scan, stop, unstop, slow, unslow}
+use Rattle.run_command_list.specs.Layout.{bytes_of_word, bytes_of_words, flags_of, bytes_of}
+use Rattle.run_command_list.specs.Contents.{AreShort, Fits}
+use Rattle.run_command_list.specs.Reading.{read_byte, read_fixed32, read_fixed64, read_front, read_word, read_words, options_of, one_word, two_words, some_flags, many_words, some_rate, read_command}
+
+pub fixed32_back : (n : ℕ) (x : List ℕ) → n < 2 ^ 32 → read_fixed32 (to_le_bytes w32 n ++ x) ≡ Some (n, x)
+unfolding read_fixed32
+fixed32_back n x fits =
+    rw (
+      le-ltb (length (to_le_bytes w32 n ++ x)) 4 (omega (arith, length-append (to_le_bytes w32 n) x)),
+      from_le_bytes-to_le_bytes_4 n fits,
+    ) refl
+
+pub fixed64_back : (n : ℕ) (x : List ℕ) → n < 2 ^ 64 → read_fixed64 (to_le_bytes w64 n ++ x) ≡ Some (n, x)
+unfolding read_fixed64
+fixed64_back n x fits =
+    rw (
+      le-ltb (length (to_le_bytes w64 n ++ x)) 8 (omega (arith, length-append (to_le_bytes w64 n) x)),
+      from_le_bytes-to_le_bytes_8 n fits,
+    ) refl
+
+pub front_back : (w x : List ℕ) → read_front (length w) (w ++ x) ≡ Some (w, x)
+front_back w x =
+    rw (
+      le-ltb (length (w ++ x)) (length w) (omega (arith, length-append w x)),
+      take-append_seam w x,
+      drop-append_seam w x,
+    ) refl
+
+pub word_back : (w x : List ℕ) → length w < 2 ^ 32 → read_word (bytes_of_word w ++ x) ≡ Some (w, x)
+unfolding read_word
+word_back w x short =
+    rw (append_assoc (to_le_bytes w32 (length w)) w x, fixed32_back (length w) (w ++ x) short) (front_back w x)
+
+pub words_back : (ws : List (List ℕ)) (x : List ℕ) → AreShort ws
+    → read_words (length ws) (bytes_of_words ws ++ x) ≡ Some (ws, x)
+unfolding read_words
+words_back [] x short = refl
+words_back (w ∷ ws) x short =
+    rw (
+      append_assoc (bytes_of_word w) (bytes_of_words ws) x,
+      word_back w (bytes_of_words ws ++ x) short.0,
+      words_back ws x short.1,
+    ) refl
+
+pub flags_back : (o : WriteOptions) → options_of (flags_of o) ≡ o
+flags_back o = go o.sync o.no_log o.no_slowdown where
+  go : (a b c : Bool) → options_of (flags_of (record { sync = a; no_log = b; no_slowdown = c }))
+      ≡ record { sync = a; no_log = b; no_slowdown = c }
+  go true true true = refl
+  go true true false = refl
+  go true false true = refl
+  go true false false = refl
+  go false true true = refl
+  go false true false = refl
+  go false false true = refl
+  go false false false = refl
+
+one_back : (made : List ℕ → Command) (w x : List ℕ) → length w < 2 ^ 32
+    → one_word made (bytes_of_word w ++ x) ≡ Some (made w, x)
+unfolding one_word
+one_back made w x short = rw (word_back w x short) refl
+
+two_back : (made : List ℕ → List ℕ → Command) (v w x : List ℕ) → length v < 2 ^ 32 → length w < 2 ^ 32
+    → two_words made ((bytes_of_word v ++ bytes_of_word w) ++ x) ≡ Some (made v w, x)
+unfolding two_words
+two_back made v w x short_v short_w =
+    rw (
+      append_assoc (bytes_of_word v) (bytes_of_word w) x,
+      word_back v (bytes_of_word w ++ x) short_v,
+      word_back w x short_w,
+    ) refl
+
+many_back : (ws : List (List ℕ)) (x : List ℕ) → length ws < 2 ^ 32 → AreShort ws
+    → many_words ((to_le_bytes w32 (length ws) ++ bytes_of_words ws) ++ x) ≡ Some (many ws, x)
+unfolding many_words
+many_back ws x few short =
+    rw (
+      append_assoc (to_le_bytes w32 (length ws)) (bytes_of_words ws) x,
+      fixed32_back (length ws) (bytes_of_words ws ++ x) few,
+      words_back ws x short,
+    ) refl
+
+rate_back : (rate : ℕ) (x : List ℕ) → rate < 2 ^ 64 → some_rate (to_le_bytes w64 rate ++ x) ≡ Some (slow rate, x)
+unfolding some_rate
+rate_back rate x fits = rw (fixed64_back rate x fits) refl
+
+options_back : (o : WriteOptions) (x : List ℕ) → some_flags (flags_of o ∷ x) ≡ Some (commit o, x)
+unfolding some_flags read_byte
+options_back o x = ap (λ (p : WriteOptions). Some (commit p, x)) (flags_back o)
+
+-- A command that fits is read back.
+pub command_back : (c : Command) (x : List ℕ) → Fits c → read_command (bytes_of c ++ x) ≡ Some (c, x)
+unfolding read_command read_byte
+command_back (add (value key v)) x fits = two_back (λ k v. add (value k v)) key v x fits.words.0 fits.words.1.0
+command_back (add (deletion key)) x fits = one_back (λ k. add (deletion k)) key x fits.words.0
+command_back (add (single_deletion key)) x fits = one_back (λ k. add (single_deletion k)) key x fits.words.0
+command_back (add (log_data text)) x fits = one_back (λ t. add (log_data t)) text x fits.words.0
+command_back clear x fits = refl
+command_back (commit o) x fits = options_back o x
+command_back (get key) x fits = one_back get key x fits.words.0
+command_back (many keys) x fits = many_back keys x fits.count fits.words
+command_back (scan lo hi) x fits = two_back scan lo hi x fits.words.0 fits.words.1.0
+command_back stop x fits = refl
+command_back unstop x fits = refl
+command_back (slow rate) x fits = rate_back rate x fits.rate
+command_back unslow x fits = refl

@@ -1,0 +1,58 @@
+//! The commands of a list, in order.
+
+ghost use Rattle.std.specs.Prelude.{◌≡◌, ◌<◌, ◌^◌, length};
+ghost use Rattle.std.specs.List.{AllByRecursion};
+ghost use Rattle.run_command_list.specs.Layout.{body};
+ghost use Rattle.run_command_list.specs.Contents.{Fits, AreCommands};
+ghost use Rattle.run_command_list.specs.OneList.{AreCommands-prop};
+
+use crate::CommandView;
+use crate::reading::split_command;
+use std::marker::Model;
+
+/// The commands that bytes are, from the first on. Contracts see those that are left.
+///
+/// Each is taken apart anew, and none is copied.
+#[derive(Debug, Drop)]
+pub struct Commands<'a> {
+    bytes: &'a [u8],
+    ghost are: { AreCommands bytes.now } by { AreCommands-prop bytes.now },
+}
+
+impl<'a> Model for Commands<'a> {
+    ghost use Rattle.std.specs.Prelude.{List};
+    ghost use Rattle.model_base.specs.Calls.{Command};
+
+    ghost Value = { List Command };
+
+    ghost view = { λ c. c.are.commands };
+}
+
+impl<'a> Iterator for Commands<'a> {
+    type Item = CommandView<'a>;
+
+    ghost use Rattle.std.specs.Iterator.{YieldsFirstBy, item_count};
+    ghost use Rattle.run_command_list.specs.Views.{command_of};
+
+    ghost next_gives = { YieldsFirstBy command_of (λ left. left) };
+
+    ghost remaining = { item_count (λ left. left) };
+
+    fn next(&mut self) -> Option<CommandView<'a>> {
+        let (command, rest) = split_command(self.bytes)?;
+        self.bytes = rest;
+        Some(command)
+    }
+}
+
+impl<'a> Commands<'a> {
+    /// Those that bytes are.
+    pub(crate) fn of_body(bytes: &'a [u8]) -> Commands<'a>
+        requires { AreCommands bytes.now }
+        ensures spelled { bytes.now ≡ body result }
+        ensures fit { AllByRecursion Fits result }
+        ensures bound { length result < 2 ^ 64 }
+    {
+        Commands { bytes }
+    }
+}

@@ -1,0 +1,106 @@
+//! The bytes of a command: a tag, and what stands behind it.
+
+ghost use Rattle.std.specs.Prelude.{◌≡◌, ◌<◌, ◌^◌, ◌++◌, ◌∷◌, [], length, take, OnOk, OnErr};
+ghost use Rattle.run_command_list.specs.Layout.{bytes_of_word, bit_of, flags_of, bytes_of};
+ghost use Rattle.run_command_list.specs.Contents.{Fits};
+ghost use Rattle.run_command_list.specs.Views.{command_of, HasShortWords};
+
+use crate::CommandView;
+use base_bytes::{Bytes, put_fixed32, put_fixed64};
+use model_base::{NoMemory, WriteOptions};
+
+pub const PUT: u8 = 1;
+
+pub const DELETE: u8 = 2;
+
+pub const SINGLE_DELETE: u8 = 3;
+
+pub const NOTE: u8 = 4;
+
+pub const CLEAR: u8 = 5;
+
+pub const COMMIT: u8 = 6;
+
+pub const GET: u8 = 7;
+
+pub const MANY: u8 = 8;
+
+pub const SCAN: u8 = 9;
+
+pub const STOP: u8 = 10;
+
+pub const UNSTOP: u8 = 11;
+
+pub const SLOW: u8 = 12;
+
+pub const UNSLOW: u8 = 13;
+
+fn bit_of(flag: bool) -> u8
+    ensures value { result ≡ bit_of flag }
+    ensures limit { result < 2 }
+{
+    if flag { 1 } else { 0 }
+}
+
+/// The flags of a commit as a byte.
+fn flags_of(options: WriteOptions) -> u8
+    ensures { result ≡ flags_of options }
+{
+    bit_of(options.sync) + 2 * bit_of(options.no_log) + 4 * bit_of(options.no_slowdown)
+}
+
+/// Puts a word behind the bytes, and its length before it. Where memory fails, a part of it may stand there, as in
+/// all that follow.
+pub fn append_word(bytes: &mut Bytes, word: &[u8]) -> Result<(), NoMemory>
+    requires { length word.now < 2 ^ 32 }
+    ensures ok { OnOk result (bytes.new ≡ bytes.old ++ bytes_of_word word.now) }
+    ensures err { OnErr result (take (length bytes.old) bytes.new ≡ bytes.old) }
+{
+    put_fixed32(bytes, word.len() as u32)?;
+    bytes.append(word)
+}
+
+fn append_tagged(bytes: &mut Bytes, tag: u8, word: &[u8]) -> Result<(), NoMemory>
+    requires { length word.now < 2 ^ 32 }
+    ensures ok { OnOk result (bytes.new ≡ bytes.old ++ (tag ∷ bytes_of_word word.now)) }
+    ensures err { OnErr result (take (length bytes.old) bytes.new ≡ bytes.old) }
+{
+    bytes.append(&[tag])?;
+    append_word(bytes, word)
+}
+
+/// Puts a command behind the bytes.
+pub fn append_command(bytes: &mut Bytes, command: &CommandView<'_>) -> Result<(), NoMemory>
+    requires { HasShortWords command.now }
+    ensures ok { OnOk result (bytes.new ≡ bytes.old ++ bytes_of (command_of command.now)) }
+    ensures err { OnErr result (take (length bytes.old) bytes.new ≡ bytes.old) }
+    ensures fits { OnOk result (Fits (command_of command.now)) }
+{
+    match command {
+        CommandView::Put { key, value } => {
+            append_tagged(bytes, PUT, key)?;
+            append_word(bytes, value)
+        }
+        CommandView::Delete { key } => append_tagged(bytes, DELETE, key),
+        CommandView::SingleDelete { key } => append_tagged(bytes, SINGLE_DELETE, key),
+        CommandView::Note { text } => append_tagged(bytes, NOTE, text),
+        CommandView::Clear => bytes.append(&[CLEAR]),
+        CommandView::Commit { options } => bytes.append(&[COMMIT, flags_of(*options)]),
+        CommandView::Get { key } => append_tagged(bytes, GET, key),
+        CommandView::Many { keys } => {
+            bytes.append(&[MANY])?;
+            keys.append_to(bytes)
+        }
+        CommandView::Scan { lo, hi } => {
+            append_tagged(bytes, SCAN, lo)?;
+            append_word(bytes, hi)
+        }
+        CommandView::Stop => bytes.append(&[STOP]),
+        CommandView::Unstop => bytes.append(&[UNSTOP]),
+        CommandView::Slow { rate } => {
+            bytes.append(&[SLOW])?;
+            put_fixed64(bytes, *rate)
+        }
+        CommandView::Unslow => bytes.append(&[UNSLOW]),
+    }
+}

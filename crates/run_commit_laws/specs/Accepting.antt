@@ -1,0 +1,71 @@
+-- What may stand against a commit, by the script and the clients' calls.
+use Rattle.std.specs.Prelude.{◌≡◌, ℕ, ◌+◌, ◌≤◌, Bool, true, false, List, [], ◌∷◌, ◌++◌, fold, sum_by, Some, slice_get}
+use Rattle.std.specs.List.{AllByRecursion}
+use Rattle.model_base.specs.declared.write.WriteOptions.{WriteOptions}
+use Rattle.model_base.specs.Batch.{Record, count_of, size_of_batch}
+use Rattle.model_base.specs.History.{max_sequence}
+use Rattle.model_base.specs.Controller as controller
+use Rattle.model_base.specs.Controller.{Action}
+use Rattle.model_base.specs.Tokens.{holds_stop}
+use Rattle.model_base.specs.Trace.{Settings}
+use Rattle.model_base.specs.Progress.{added_by, batch_after}
+use Rattle.model_base.specs.Calls.{Command, commit, stop, unstop, slow, unslow, Reply, accepted, done, Call, Outcome}
+use Rattle.model_base.specs.Script.{Script}
+
+-- how many records a command commits of the batch at hand: all that count, where it is a commit
+abbrev pub count_committed : List Record → Command → ℕ
+count_committed batch (commit how) = count_of batch
+count_committed batch other = 0
+
+-- how many a client's calls commit, from this batch on: each commit all of the batch that it then has. So a batch that
+-- was refused and is committed again counts again.
+abbrev pub count_of_commits : List Record → List Call → ℕ
+count_of_commits batch [] = 0
+count_of_commits batch (c ∷ calls) =
+    count_committed batch c.command + count_of_commits (added_by batch c.command c.reply) calls
+
+-- There are sequences for all batches that the clients came to commit, each as often as it was committed.
+abbrev pub HasRoom : Settings → Outcome → Type 0
+HasRoom settings o = settings.start + sum_by (count_of_commits []) o.transcripts ≤ max_sequence
+
+-- a command that asks the controller to stop or to slow writes
+abbrev pub asks_to_wait : Command → Bool
+asks_to_wait stop = true
+asks_to_wait (slow rate) = true
+asks_to_wait other = false
+
+-- no client of a script does
+abbrev pub HoldsNothingUp : Script → Type 0
+HoldsNothingUp script = AllByRecursion (AllByRecursion (λ command. asks_to_wait command ≡ false)) script
+
+-- The tokens that a client took and gave back, by its calls that were answered `done`: with one more call, and after
+-- all of them
+abbrev pub asked_with : List Action → Command → Reply → List Action
+asked_with asked stop done = asked ++ controller.stop ∷ []
+asked_with asked unstop done = asked ++ controller.unstop ∷ []
+asked_with asked (slow rate) done = asked ++ controller.slow rate ∷ []
+asked_with asked unslow done = asked ++ controller.unslow ∷ []
+asked_with asked other reply = asked
+
+abbrev pub asked_by : List Call → List Action
+asked_by calls = fold (λ asked c. asked_with asked c.command c.reply) [] calls
+
+-- The client of this number (from 0) comes to a commit: after these calls it commits so, and is told that.
+pub record ComesTo (o : Outcome) (client : ℕ) (before : List Call) (how : WriteOptions) (reply : Reply)
+    : Type 0 where
+  pub calls : List Call
+  pub there : slice_get o.transcripts client ≡ Some calls
+  pub after : List Call
+  pub split : calls ≡ before ++ record { command = commit how; reply = reply } ∷ after
+
+-- the batch after these calls has a counted record and isn't too large, a sync is of a batch that the log has, and the
+-- client doesn't itself hold a stop
+pub record PassesChecks (settings : Settings) (before : List Call) (how : WriteOptions) : Type 0 where
+  pub some : 1 ≤ count_of (batch_after before)
+  pub fits : size_of_batch (batch_after before) ≤ settings.batch_bytes
+  pub logged : how.sync ≡ true → how.no_log ≡ false
+  pub no_stop : holds_stop (asked_by before) ≡ false
+
+-- just this batch was accepted, under some run of sequences
+abbrev pub IsAccepted : List Record → Reply → Type 0
+IsAccepted batch reply = (first : ℕ) × (last : ℕ) × (reply ≡ accepted first last batch)

@@ -1,0 +1,244 @@
+-- What each step of a client's calls keeps: no accepted batch is larger than the settings let it be, and where no fault
+-- of the log ended one of the client's commits, each commit was refused for itself alone.
+use Rattle.std.proofs.Common.{◌≡◌, ℕ, ◌+◌, ◌≤◌, ◌==◌, nat_lt, Bool, true, false, not, ◌&&◌, cond, Option, Some, None, List, [], ◌∷◌, ◌++◌, MatchOption, refl, ap, sym, ◌∙◌, subst}
+use Rattle.std.specs.List.{AllByRecursion}
+use Rattle.std.proofs.lemmas.Bool.{ltb-false}
+use Rattle.model_base.specs.declared.write.WriteOptions.{WriteOptions}
+use Rattle.model_base.specs.declared.write.Refusal.{Refusal}
+use Rattle.model_base.specs.declared.write.Refusal.TheVariants as no
+use Rattle.model_base.specs.Batch.{Record, count_of, size_of_batch}
+use Rattle.model_base.specs.Map.{Pairs}
+use Rattle.model_base.specs.History.{Entry}
+use Rattle.model_base.specs.Controller.{ControllerCall, Action}
+use Rattle.model_base.specs.Tokens.{holds_stop}
+use Rattle.model_base.specs.Trace.{Trace, Settings}
+use Rattle.model_base.specs.Attempts.{Attempt, WriteStatus, succeeded, slowed, faulted, full, is_faulted, with_attempt}
+use Rattle.model_base.specs.Groups.{Group, IsStatus, AreStatuses}
+use Rattle.model_base.specs.Progress.{Progress, fresh, next_entry, early_refusal}
+use Rattle.model_base.specs.Replies.{MayRefuse, IsAttempted, Commits, ReadsAt, IsDone, Stays, Adds, Clears, Gets, GetsMany, Scans, Stops, Unstops, Slows, Unslows, Replies}
+use Rattle.model_base.specs.Runs.{Run, IsTranscript, whole, cut_off}
+use Rattle.model_base.specs.Calls.{Command, add, clear, commit, get, many, scan, stop, unstop, slow, unslow, Reply, quiet, accepted, refused, found, found_each, rows, done, held, not_held, no_memory, Call}
+use Rattle.model_runs.specs.Refusals.{is_for_itself, RefusesForItself, AreRefusedForThemselves}
+
+-- Each element of a list
+
+all_append : {X : Type 0} (P : X → Type 0) (xs ys : List X) → AllByRecursion P xs → AllByRecursion P ys → AllByRecursion P (xs ++ ys)
+all_append P [] ys a b = b
+all_append P (x ∷ xs) ys a b = (a.0, all_append P xs ys a.1 b)
+
+all_front : {X : Type 0} (P : X → Type 0) (xs ys : List X) → AllByRecursion P (xs ++ ys) → AllByRecursion P xs
+all_front P [] ys a = tt
+all_front P (x ∷ xs) ys a = (a.0, all_front P xs ys a.1)
+
+all_back : {X : Type 0} (P : X → Type 0) (xs ys : List X) → AllByRecursion P (xs ++ ys) → AllByRecursion P ys
+all_back P [] ys a = a
+all_back P (x ∷ xs) ys a = all_back P xs ys a.1
+
+-- The early checks, of which the second is that of the size
+
+passed_second : (a b c d : Bool) (s t u v : Refusal) → cond a (Some s) (cond b (Some t) (cond c (Some u) (cond d (Some v) None))) ≡ None → b ≡ false
+passed_second true b c d s t u v e = absurd (cc e)
+passed_second false true c d s t u v e = absurd (cc e)
+passed_second false false c d s t u v e = refl
+
+passed_size : (bytes : ℕ) (stopping : Bool) (records : List Record) (how : WriteOptions) → early_refusal bytes stopping records how ≡ None → size_of_batch records ≤ bytes
+passed_size bytes stopping records how e = ltb-false bytes (size_of_batch records)
+    (passed_second (count_of records == 0) (nat_lt bytes (size_of_batch records)) (how.sync && how.no_log) (stopping && not how.no_slowdown) no.Empty (no.TooLarge (size_of_batch records)) no.SyncWithoutLog no.SelfStop e)
+
+is_early : (a b c d : Bool) (n : ℕ) (why : Refusal) → cond a (Some no.Empty) (cond b (Some (no.TooLarge n)) (cond c (Some no.SyncWithoutLog) (cond d (Some no.SelfStop) None))) ≡ Some why → is_for_itself why ≡ true
+is_early true b c d n why e = let same : no.Empty ≡ why = cc e in ap is_for_itself (sym same)
+is_early false true c d n why e = let same : no.TooLarge n ≡ why = cc e in ap is_for_itself (sym same)
+is_early false false true d n why e = let same : no.SyncWithoutLog ≡ why = cc e in ap is_for_itself (sym same)
+is_early false false false true n why e = let same : no.SelfStop ≡ why = cc e in ap is_for_itself (sym same)
+is_early false false false false n why e = absurd (cc e)
+
+early_for_itself : (bytes : ℕ) (stopping : Bool) (records : List Record) (how : WriteOptions) (why : Refusal) → early_refusal bytes stopping records how ≡ Some why → is_for_itself why ≡ true
+early_for_itself bytes stopping records how why e = is_early (count_of records == 0) (nat_lt bytes (size_of_batch records)) (how.sync && how.no_log) (stopping && not how.no_slowdown) (size_of_batch records) why e
+
+-- Commits that no fault of the log ended
+
+abbrev pub NoneFaulted : List Attempt → Type 0
+NoneFaulted attempts = AllByRecursion (λ (h : Attempt). is_faulted h.status ≡ false) attempts
+
+status_without_fault : (trace : Trace) (groups : List Group) (client call : ℕ) (status : WriteStatus) → IsStatus trace groups None client call status → is_faulted status ≡ false
+status_without_fault trace groups client call succeeded is = refl
+status_without_fault trace groups client call (slowed place) is = refl
+status_without_fault trace groups client call (faulted count) is = absurd (cc is)
+status_without_fault trace groups client call (full last) is = refl
+
+pub none_faulted : (trace : Trace) (groups : List Group) (client call : ℕ) (attempts : List Attempt) → AreStatuses trace groups None client call attempts → NoneFaulted attempts
+none_faulted trace groups client call [] are = tt
+none_faulted trace groups client call (h ∷ attempts) are = (status_without_fault trace groups client call h.status are.0, none_faulted trace groups client (call + 1) attempts are.1)
+
+earlier : (attempts : List Attempt) (records : List Record) (how : WriteOptions) (status : Option WriteStatus) → NoneFaulted (with_attempt attempts records how status) → NoneFaulted attempts
+earlier attempts records how None none = none
+earlier attempts records how (Some status) none = all_front (λ (h : Attempt). is_faulted h.status ≡ false) attempts (record { records = records; options = how; status = status } ∷ []) none
+
+last_faulted : (attempts : List Attempt) (records : List Record) (how : WriteOptions) (count : ℕ) → NoneFaulted (with_attempt attempts records how (Some (faulted count))) → ⊥
+last_faulted attempts records how count none = let last = (all_back (λ (h : Attempt). is_faulted h.status ≡ false) attempts (record { records = records; options = how; status = faulted count } ∷ []) none).0 in cc last
+
+for_itself : (controller_calls : List ControllerCall) (p : Progress) (knows : ℕ) (how : WriteOptions) (why : Refusal) (status : Option WriteStatus)
+    → MayRefuse controller_calls p knows how why status → NoneFaulted (with_attempt p.attempts p.pending how status) → is_for_itself why ≡ true
+for_itself controller_calls p knows how (no.Incomplete stops delays wait) status may none = refl
+for_itself controller_calls p knows how (no.LogFault count) status may none = absurd (last_faulted p.attempts p.pending how count (subst (λ (o : Option WriteStatus). NoneFaulted (with_attempt p.attempts p.pending how o)) may none))
+for_itself controller_calls p knows how (no.SequenceFull last) status may none = refl
+for_itself controller_calls p knows how no.Empty status may none = absurd may
+for_itself controller_calls p knows how (no.TooLarge size) status may none = absurd may
+for_itself controller_calls p knows how no.SyncWithoutLog status may none = absurd may
+for_itself controller_calls p knows how no.SelfStop status may none = absurd may
+for_itself controller_calls p knows how no.NoMemory status may none = absurd may
+
+-- Steps
+
+abbrev pub AreSmall : ℕ → List Entry → Type 0
+AreSmall bytes mine = AllByRecursion (λ (e : Entry). size_of_batch e.records ≤ bytes) mine
+
+-- From one place of a client to a later one no batch was accepted that is too large. Where no commit up to the later
+-- was ended by a fault, none up to the earlier was, and the replies between them are as said.
+pub record Keeps (bytes : ℕ) (p : Progress) (Says : Type 0) (q : Progress) : Type 0 where
+  pub small : AreSmall bytes p.mine → AreSmall bytes q.mine
+  pub told : NoneFaulted q.attempts → NoneFaulted p.attempts × Says
+
+abbrev IsNoRefusal : Reply → Type 0
+IsNoRefusal reply = (why : Refusal) → reply ≡ refused why → ⊥
+
+-- the case of an option, with what it is
+by_option : {A : Type 0} (P R : Type 0) (Q : A → Type 0) (o : Option A) → (o ≡ None → P → R) → ((a : A) → o ≡ Some a → Q a → R) → MatchOption o P Q → R
+by_option P R Q None f g h = f refl h
+by_option P R Q (Some a) f g h = g a refl h
+
+module _ (settings : Settings) (trace : Trace) (client : ℕ) where
+  -- after a step with this reply
+  abbrev KeepsBy : Progress → Reply → Progress → Type 0
+  KeepsBy p r q = Keeps settings.batch_bytes p (RefusesForItself r) q
+
+  unchanged : (p : Progress) (r : Reply) (q : Progress) {m : Progress} → IsNoRefusal r → q ≡ m → m.mine ≡ p.mine → m.attempts ≡ p.attempts → KeepsBy p r q
+  unchanged p r q never is mine attempts = record {
+    small = λ are. subst (AreSmall settings.batch_bytes) (sym (ap (λ (x : Progress). x.mine) is ∙ mine)) are;
+    told = λ none. (subst NoneFaulted (ap (λ (x : Progress). x.attempts) is ∙ attempts) none, λ why e. absurd (never why e));
+  }
+
+  stays : (p : Progress) (r : Reply) (q : Progress) → IsNoRefusal r → Stays p q → KeepsBy p r q
+  stays p r q never s = unchanged p r q never s refl refl
+
+  adds : (p : Progress) (x : Record) (r : Reply) (q : Progress) → Adds p x r q → KeepsBy p r q
+  adds p x quiet q s = unchanged p quiet q (λ why e. cc e) s refl refl
+  adds p x _ q s = absurd s
+
+  clears : (p : Progress) (r : Reply) (q : Progress) → Clears p r q → KeepsBy p r q
+  clears p quiet q s = unchanged p quiet q (λ why e. cc e) s refl refl
+  clears p _ q s = absurd s
+
+  attempted : (p : Progress) (how : WriteOptions) (r : Reply) (q : Progress) → size_of_batch p.pending ≤ settings.batch_bytes → IsAttempted trace client p how r q → KeepsBy p r q
+  attempted p how (accepted first last records) q fits s = record {
+    small = λ are. subst (AreSmall settings.batch_bytes) (sym (ap (λ (x : Progress). x.mine) s.after))
+        (all_append (λ (e : Entry). size_of_batch e.records ≤ settings.batch_bytes) p.mine (next_entry client p.mine how first p.pending ∷ []) are (fits, tt));
+    told = λ none. (earlier p.attempts p.pending how (Some succeeded) (subst NoneFaulted (ap (λ (x : Progress). x.attempts) s.after) none), λ why e. absurd (cc e));
+  }
+  attempted p how (refused why) q fits s = record {
+    small = λ are. subst (AreSmall settings.batch_bytes) (sym (ap (λ (x : Progress). x.mine) s.2)) are;
+    told = λ none. (
+        let none_before = subst NoneFaulted (ap (λ (x : Progress). x.attempts) s.2) none in (
+          earlier p.attempts p.pending how s.0 none_before,
+          λ other e. (
+              let same : why ≡ other = cc e in
+              subst (λ (w : Refusal). is_for_itself w ≡ true) same (for_itself trace.controller_calls p q.known how why s.0 s.1 none_before)),
+        ));
+  }
+  attempted p how _ q fits s = absurd s
+
+  refuses_early : (p : Progress) (how : WriteOptions) (r : Reply) (q : Progress) (why : Refusal) → early_refusal settings.batch_bytes (holds_stop p.asked) p.pending how ≡ Some why
+      → (r ≡ refused why) × Stays p q → KeepsBy p r q
+  refuses_early p how r q why early s = record {
+    small = λ are. subst (AreSmall settings.batch_bytes) (sym (ap (λ (x : Progress). x.mine) s.1)) are;
+    told = λ none. (
+      subst NoneFaulted (ap (λ (x : Progress). x.attempts) s.1) none,
+      λ other e. (
+          let same : why ≡ other = cc (s.0, e) in
+          subst (λ (w : Refusal). is_for_itself w ≡ true) same (early_for_itself settings.batch_bytes (holds_stop p.asked) p.pending how why early)),
+    );
+  }
+
+  commits : (p : Progress) (how : WriteOptions) (r : Reply) (q : Progress) → Commits settings trace client p how r q → KeepsBy p r q
+  commits p how r q s =
+      let early = early_refusal settings.batch_bytes (holds_stop p.asked) p.pending how in
+      by_option {A = Refusal} (IsAttempted trace client p how r q) (KeepsBy p r q) (λ why. (r ≡ refused why) × Stays p q) early
+      (λ passes is. attempted p how r q (passed_size settings.batch_bytes (holds_stop p.asked) p.pending how passes) is)
+      (λ why is both. refuses_early p how r q why is both) s
+
+  reads : (p : Progress) (r : Reply) (q : Progress) → IsNoRefusal r → (at : ℕ) (answers : Pairs → Type 0) → ReadsAt trace p at answers q → KeepsBy p r q
+  reads p r q never at answers s = unchanged p r q never s.after refl refl
+
+  gets : (p : Progress) (key : List ℕ) (r : Reply) (q : Progress) → Gets trace p key r q → KeepsBy p r q
+  gets p key (found at v) q s = reads p (found at v) q (λ why e. cc e) at _ s
+  gets p key _ q s = absurd s
+
+  gets_many : (p : Progress) (keys : List (List ℕ)) (r : Reply) (q : Progress) → GetsMany trace p keys r q → KeepsBy p r q
+  gets_many p keys (found_each at vs) q s = reads p (found_each at vs) q (λ why e. cc e) at _ s
+  gets_many p keys _ q s = absurd s
+
+  scans : (p : Progress) (lo hi : List ℕ) (r : Reply) (q : Progress) → Scans trace p lo hi r q → KeepsBy p r q
+  scans p lo hi (rows at pairs) q s = reads p (rows at pairs) q (λ why e. cc e) at _ s
+  scans p lo hi _ q s = absurd s
+
+  token : (p : Progress) (r : Reply) (q : Progress) → IsNoRefusal r → (action : Action) → IsDone trace client p action q → KeepsBy p r q
+  token p r q never action s = unchanged p r q never s.after refl refl
+
+  stops : (p : Progress) (r : Reply) (q : Progress) → Stops trace client p r q → KeepsBy p r q
+  stops p done q s = token p done q (λ why e. cc e) _ s.1
+  stops p held q s = stays p held q (λ why e. cc e) s.1
+  stops p _ q s = absurd s
+
+  unstops : (p : Progress) (r : Reply) (q : Progress) → Unstops trace client p r q → KeepsBy p r q
+  unstops p done q s = token p done q (λ why e. cc e) _ s.1
+  unstops p not_held q s = stays p not_held q (λ why e. cc e) s.1
+  unstops p _ q s = absurd s
+
+  slows : (p : Progress) (rate : ℕ) (r : Reply) (q : Progress) → Slows trace client p rate r q → KeepsBy p r q
+  slows p rate done q s = token p done q (λ why e. cc e) _ s.1
+  slows p rate held q s = stays p held q (λ why e. cc e) s.1
+  slows p rate _ q s = absurd s
+
+  unslows : (p : Progress) (r : Reply) (q : Progress) → Unslows trace client p r q → KeepsBy p r q
+  unslows p done q s = token p done q (λ why e. cc e) _ s.1
+  unslows p not_held q s = stays p not_held q (λ why e. cc e) s.1
+  unslows p _ q s = absurd s
+
+  replied : (p : Progress) (c : Command) (r : Reply) (q : Progress) → Replies settings trace client p c r q → KeepsBy p r q
+  replied p (add x) r q s = adds p x r q s
+  replied p clear r q s = clears p r q s
+  replied p (commit how) r q s = commits p how r q s
+  replied p (get key) r q s = gets p key r q s
+  replied p (many keys) r q s = gets_many p keys r q s
+  replied p (scan lo hi) r q s = scans p lo hi r q s
+  replied p stop r q s = stops p r q s
+  replied p unstop r q s = unstops p r q s
+  replied p (slow rate) r q s = slows p rate r q s
+  replied p unslow r q s = unslows p r q s
+
+  -- Runs
+
+  ran : (p : Progress) (calls : List Call) (q : Progress) → Run settings trace client p calls q → Keeps settings.batch_bytes p (AreRefusedForThemselves calls) q
+  ran p [] q s = record {
+    small = λ are. subst (AreSmall settings.batch_bytes) (sym (ap (λ (x : Progress). x.mine) s)) are;
+    told = λ none. (subst NoneFaulted (ap (λ (x : Progress). x.attempts) s) none, tt);
+  }
+  ran p (c ∷ calls) q s =
+      let one = replied p c.command c.reply s.0 s.1.replies in let rest = ran s.0 calls q s.2 in
+      record {
+        small = λ are. rest.small (one.small are);
+        told = λ none. (let behind = rest.told none in let here = one.told behind.0 in (here.0, (here.1, behind.1)));
+      }
+
+  pub transcribed : (commands : List Command) (calls : List Call) (end : Progress) → IsTranscript settings trace client commands calls end → Keeps settings.batch_bytes fresh (AreRefusedForThemselves calls) end
+  transcribed commands calls end (whole all run) = ran fresh calls end run
+  transcribed commands calls end (cut_off front last rest are from run lacks) =
+      let before = ran fresh front end run in
+      record {
+        small = before.small;
+        told = λ none. (
+          tt,
+          subst AreRefusedForThemselves (sym are)
+              (all_append (λ (c : Call). RefusesForItself c.reply) front (record { command = last; reply = no_memory } ∷ []) (before.told none).1 ((λ why e. absurd (cc e)), tt)),
+        );
+      }

@@ -1,0 +1,247 @@
+-- The records of a log's groups are batches that recovery reads, and their runs rise.
+use Rattle.std.proofs.Common.{◌≡◌, ◌≢◌, inl, inr, ℕ, zero, suc, ◌+◌, ◌-◌, ◌*◌, ◌^◌, ◌<◌, ◌≤◌, Bool, true, false, eqb, IsTrue, List, [], ◌∷◌, ◌++◌, length, take, map, flat_map, cond, ◌==◌, refl, ap, sym, ◌∙◌, subst, arith, length-append}
+use Rattle.std.proofs.lemmas.Bool.{eqb-true, ne_eqb, or_cases}
+use Rattle.std.proofs.lemmas.Grind.{flat_map-append}
+use Rattle.std.proofs.lemmas.List.{length-map, take-map}
+use Rattle.std.proofs.lemmas.List.Sums.{count_by-le-length, sum_by-append}
+use Rattle.std.proofs.lemmas.Map.Steps.{length-le_from_distinct_below}
+use Rattle.std.specs.List.{AllByRecursion, AllZip, IsDistinct, list_any}
+use Rattle.model_base.specs.Varint.{varint}
+use Rattle.model_base.specs.Batch.{Record, value, deletion, single_deletion, log_data, tag_of, is_tag, strings_of, is_counted, count_of, varstring, record_bytes, header, body, size_of_batch, IsReadable, IsBatch}
+use Rattle.model_base.specs.History.{Entry, max_sequence, last_of, IsHistory, RunsFollow, last_sequence, is_logged, logged}
+use Rattle.model_base.specs.LogContents.{GroupCall, record_of_entries, records_of}
+use Rattle.model_base.specs.Recovery.{Logged, logged_bytes, last_after, AreInOrder}
+use Rattle.log_writer.specs.Crashes.{AreRisingBatches}
+use Rattle.model_runs.specs.Written.{AreOfOwnClients, WroteEntries}
+
+-- A small batch is read
+
+strings_short : (strings : List (List ℕ)) → length (flat_map varstring strings) < 2 ^ 32 → AllByRecursion (λ s. length s < 2 ^ 32) strings
+strings_short [] few = tt
+strings_short (s ∷ strings) few =
+    let all = length-append (varstring s) (flat_map varstring strings) in
+    (omega (arith, few, all, length-append (varint (length s)) s), strings_short strings (omega (arith, few, all)))
+
+each_tag : (r : Record) → IsTrue (is_tag (tag_of r))
+each_tag (value key v) = refl
+each_tag (deletion key) = refl
+each_tag (single_deletion key) = refl
+each_tag (log_data blob) = refl
+
+readable : (records : List Record) → length (body records) < 2 ^ 32 → AllByRecursion IsReadable records
+readable [] few = tt
+readable (r ∷ records) few =
+    let all = length-append (record_bytes r) (body records) in
+    (record { tag = each_tag r; lengths = strings_short (strings_of r) (omega (arith, few, all)) }, readable records (omega (arith, few, all)))
+
+-- each record has a byte at least
+few_records : (records : List Record) → length records ≤ length (body records)
+few_records [] = omega arith
+few_records (r ∷ records) = omega (arith, few_records records, length-append (record_bytes r) (body records))
+
+-- A group is read as one batch of all its records
+
+abbrev joined : List Entry → List Record
+joined entries = flat_map (λ (records : List Record). records) (map (λ (e : Entry). e.records) entries)
+
+abbrev as_logged : List Entry → Logged
+as_logged [] = record { first = 0; records = [] }
+as_logged (e ∷ entries) = record { first = e.first; records = joined (e ∷ entries) }
+
+abbrev HasEntries : List Entry → Type 0
+HasEntries group = 0 < length group
+
+same_records : (groups : List (List Entry)) → AllByRecursion HasEntries groups → map logged_bytes (map as_logged groups) ≡ records_of groups
+same_records [] some = refl
+same_records ([] ∷ groups) some = absurd (omega (arith, some.0))
+same_records ((e ∷ entries) ∷ groups) some = ap (λ l. record_of_entries (e ∷ entries) ∷ l) (same_records groups some.1)
+
+-- a batch of 16 MiB at most, of one of 16 clients
+abbrev pub Suits : Entry → Type 0
+Suits e = (size_of_batch e.records ≤ 16777216) × (e.client ≤ 16)
+
+body_joined : (entries : List Entry) → AllByRecursion Suits entries → length (body (joined entries)) ≤ 16777216 * length entries
+body_joined [] suit = omega arith
+body_joined (e ∷ entries) suit =
+    let small : size_of_batch e.records ≤ 16777216 = suit.0.0 in
+    omega (arith, small, length-append (header 0 (count_of e.records)) (body e.records), ap length (flat_map-append record_bytes e.records (joined entries)), length-append (body e.records) (body (joined entries)), body_joined entries suit.1)
+
+-- No client has two entries of a group. So a group has no more entries than there are numbers below 17, and its batches
+-- have less than 2 ^ 32 bytes together.
+
+distinct : (entries : List Entry) → AreOfOwnClients entries → IsDistinct eqb (map (λ (e : Entry). e.client) entries)
+unfolding IsDistinct
+distinct [] apart = tt
+distinct (e ∷ entries) apart = (each entries apart.0, distinct entries apart.1)
+  where
+    each : (others : List Entry) → AllByRecursion (λ (other : Entry). e.client ≢ other.client) others → AllByRecursion (λ (n : ℕ). eqb e.client n ≡ false) (map (λ (x : Entry). x.client) others)
+    each [] all = tt
+    each (x ∷ others) all = (ne_eqb e.client x.client all.0, each others all.1)
+
+below : (entries : List Entry) → AllByRecursion Suits entries → (q : ℕ) → list_any (eqb q) (map (λ (e : Entry). e.client) entries) ≡ true → q < 17
+below [] suit q among = absurd (cc among)
+below (e ∷ entries) suit q among = elim (or_cases (eqb q e.client) (list_any (eqb q) (map (λ (x : Entry). x.client) entries)) among) [
+  | inl here ↦ (let client = suit.0.1 in omega (arith, eqb-true q e.client here, client))
+  | inr later ↦ below entries suit.1 q later
+]
+
+few_entries : (entries : List Entry) → AreOfOwnClients entries → AllByRecursion Suits entries → length entries ≤ 17
+few_entries entries apart suit = omega (arith, length-map entries (λ (e : Entry). e.client), length-le_from_distinct_below (map (λ (e : Entry). e.client) entries) 17 (distinct entries apart) (below entries suit))
+
+-- The runs of the logged entries rise, whatever stands between them
+
+record Above (low : ℕ) (e : Entry) : Type 0 where
+  first : low < e.first
+  some : 1 ≤ e.count
+  counted : e.count ≡ count_of e.records
+  fits : last_of e ≤ max_sequence
+
+Rise : ℕ → List Entry → Type 0
+Rise low [] = Unit {0}
+Rise low (e ∷ entries) = Above low e × Rise (last_of e) entries
+
+logged_rise : (low start : ℕ) (entries : List Entry) → low ≤ start → IsHistory start entries → Rise low (logged entries)
+unfolding Rise
+logged_rise low start [] le is = tt
+logged_rise low start (e ∷ entries) le is =
+    let follows = is.0 in
+    by_flag (is_logged e.flag) (record { first = let first = follows.first in omega (arith, first, le); some = follows.some; counted = follows.counted; fits = follows.fits })
+    (λ before within. logged_rise before (last_of e) entries within is.1)
+  where
+    by_flag : (b : Bool) → Above low e → ((before : ℕ) → before ≤ last_of e → Rise before (logged entries)) → Rise low (cond b (e ∷ logged entries) (logged entries))
+    by_flag true above later = (above, later (last_of e) (omega arith))
+    by_flag false above later = let follows = is.0 in later low (let first = follows.first in let some = follows.some in omega (arith, first, some, le))
+
+rise_parts : (low : ℕ) (xs ys : List Entry) → Rise low (xs ++ ys) → Rise low xs × Rise (last_sequence low xs) ys
+unfolding Rise
+rise_parts low [] ys rise = (tt, rise)
+rise_parts low (e ∷ xs) ys rise = let parts = rise_parts (last_of e) xs ys rise.1 in ((rise.0, parts.0), parts.1)
+
+rise_ends : (low : ℕ) (entries : List Entry) → low ≤ max_sequence → Rise low entries → last_sequence low entries ≤ max_sequence
+unfolding Rise
+rise_ends low [] within rise = within
+rise_ends low (e ∷ entries) within rise = rise_ends (last_of e) entries (rise.0).fits rise.1
+
+-- the counts of entries whose runs follow sum up to the last of the runs
+count_joined : (e : Entry) (entries : List Entry) → count_of (joined (e ∷ entries)) ≡ count_of e.records + count_of (joined entries)
+count_joined e entries = sum_by-append (λ r. cond (is_counted r) 1 0) e.records (joined entries)
+
+run_ends : (last : ℕ) (entries : List Entry) → IsHistory last entries → last + count_of (joined entries) ≡ last_sequence last entries
+run_ends last [] is = omega arith
+run_ends last (e ∷ entries) is =
+    let follows = is.0 in
+    let first = follows.first in
+    let counted = follows.counted in
+    omega (arith, first, counted, count_joined e entries, run_ends (last_of e) entries is.1)
+
+-- Each group is a batch, and each comes after the one before it
+
+abbrev IsOwnBatch : Logged → Type 0
+IsOwnBatch b = IsBatch (logged_bytes b) b.first b.records
+
+-- what is known of a group that a call wrote
+record IsSmall (group : List Entry) : Type 0 where
+  some : HasEntries group
+  suit : AllByRecursion Suits group
+  apart : AreOfOwnClients group
+  runs : RunsFollow group
+
+is_own : (low : ℕ) (e : Entry) (entries : List Entry) → IsSmall (e ∷ entries) → Above low e → IsOwnBatch (as_logged (e ∷ entries))
+is_own low e entries small above =
+    let records : List Record = joined (e ∷ entries) in
+    let few : length (body records) < 2 ^ 32 = omega (arith, body_joined (e ∷ entries) small.suit, few_entries (e ∷ entries) small.apart small.suit) in
+    record {
+      spelled = refl;
+      readable = readable records few;
+      sequence_fits = omega (arith, above.fits, above.some);
+      count_fits = omega (arith, few, few_records records, count_by-le-length is_counted records);
+    }
+
+last_within : (low last end n : ℕ) → low ≤ end → last ≤ end → cond (n == 0) low last ≤ end
+last_within low last end n before after = by_count (n == 0)
+  where
+    by_count : (b : Bool) → cond b low last ≤ end
+    by_count true = before
+    by_count false = after
+
+abbrev pub all_of : List (List Entry) → List Entry
+all_of groups = flat_map (λ (group : List Entry). group) groups
+
+are_own : (low : ℕ) (groups : List (List Entry)) → AllByRecursion IsSmall groups → Rise low (all_of groups) → AllByRecursion IsOwnBatch (map as_logged groups)
+unfolding Rise
+are_own low [] small rise = tt
+are_own low ([] ∷ groups) small rise = absurd (let some = (small.0).some in omega (arith, some))
+are_own low ((e ∷ entries) ∷ groups) small rise =
+    (is_own low e entries small.0 rise.0, are_own (last_sequence low (e ∷ entries)) groups small.1 (rise_parts low (e ∷ entries) (all_of groups) rise).1)
+
+in_order : (low start : ℕ) (groups : List (List Entry)) → low ≤ start → AllByRecursion IsSmall groups → Rise start (all_of groups) → AreInOrder low (map as_logged groups)
+unfolding Rise
+in_order low start [] le small rise = tt
+in_order low start ([] ∷ groups) le small rise = absurd (let some = (small.0).some in omega (arith, some))
+in_order low start ((e ∷ entries) ∷ groups) le small rise =
+    let above = rise.0 in
+    let first : start < e.first = above.first in
+    let some : 1 ≤ e.count = above.some in
+    let counted : e.count ≡ count_of e.records = above.counted in
+    let parts = rise_parts start (e ∷ entries) (all_of groups) rise in
+    let n : ℕ = count_of (joined (e ∷ entries)) in
+    let end : ℕ = last_sequence (last_of e) entries in
+    let is_end : e.first + n - 1 ≡ end = omega (arith, counted, some, count_joined e entries, run_ends (last_of e) entries (small.0).runs) in (
+      λ counts. (omega (arith, first, le), omega (arith, is_end, rise_ends (last_of e) entries above.fits (parts.0).1)),
+      in_order (last_after low (as_logged (e ∷ entries))) end groups
+          (last_within low (e.first + n - 1) end n (omega (arith, le, first, is_end, some, counted, count_joined e entries)) (omega (arith, is_end))) small.1 parts.1,
+    )
+
+-- What holds of all entries holds of those of the groups
+
+all_logged : (P : Entry → Type 0) (entries : List Entry) → AllByRecursion P entries → AllByRecursion P (logged entries)
+all_logged P [] all = tt
+all_logged P (e ∷ entries) all = by_flag (is_logged e.flag) (all_logged P entries all.1)
+  where
+    by_flag : (b : Bool) → AllByRecursion P (logged entries) → AllByRecursion P (cond b (e ∷ logged entries) (logged entries))
+    by_flag true later = (all.0, later)
+    by_flag false later = later
+
+all_parts : (P : Entry → Type 0) (xs ys : List Entry) → AllByRecursion P (xs ++ ys) → AllByRecursion P xs × AllByRecursion P ys
+all_parts P [] ys all = (tt, all)
+all_parts P (x ∷ xs) ys all = let parts = all_parts P xs ys all.1 in ((all.0, parts.0), parts.1)
+
+has_entries : (group : List Entry) (c : GroupCall) → WroteEntries group c → HasEntries group
+has_entries [] c wrote = absurd (cc wrote.some)
+has_entries (e ∷ entries) c wrote = omega arith
+
+pub each_has_entries : (groups : List (List Entry)) (calls : List GroupCall) → AllZip WroteEntries groups calls → AllByRecursion HasEntries groups
+each_has_entries [] calls each = tt
+each_has_entries (group ∷ groups) [] each = absurd each
+each_has_entries (group ∷ groups) (c ∷ calls) each = (has_entries group c each.0, each_has_entries groups calls each.1)
+
+are_small : (groups : List (List Entry)) (calls : List GroupCall) → AllZip WroteEntries groups calls → AllByRecursion RunsFollow groups → AllByRecursion Suits (all_of groups) → AllByRecursion IsSmall groups
+are_small [] calls each runs suit = tt
+are_small (group ∷ groups) [] each runs suit = absurd each
+are_small (group ∷ groups) (c ∷ calls) each runs suit =
+    let parts = all_parts Suits group (all_of groups) suit in
+    (record { some = has_entries group c each.0; suit = parts.0; apart = (each.0).apart; runs = runs.0 }, are_small groups calls each.1 runs.1 parts.1)
+
+all_take : {A : Type 0} (P : A → Type 0) (n : ℕ) (xs : List A) → AllByRecursion P xs → AllByRecursion P (take n xs)
+all_take P zero xs all = tt
+all_take P (suc n) [] all = tt
+all_take P (suc n) (x ∷ xs) all = (all.0, all_take P n xs all.1)
+
+order_take : (last n : ℕ) (batches : List Logged) → AreInOrder last batches → AreInOrder last (take n batches)
+order_take last zero batches ordered = tt
+order_take last (suc n) [] ordered = tt
+order_take last (suc n) (b ∷ batches) ordered = (ordered.0, order_take (last_after last b) n batches ordered.1)
+
+-- the first of the log's records, so many
+pub rising_groups : (start : ℕ) (entries : List Entry) (groups : List (List Entry)) (calls : List GroupCall) (n : ℕ) → IsHistory start entries → AllByRecursion Suits entries
+    → all_of groups ≡ logged entries → AllByRecursion RunsFollow groups → AllZip WroteEntries groups calls → AreRisingBatches (take n (records_of groups))
+rising_groups start entries groups calls n is suit cut runs each =
+    let small = are_small groups calls each runs (subst (AllByRecursion Suits) (sym cut) (all_logged Suits entries suit)) in
+    let rise = subst (Rise 0) (sym cut) (logged_rise 0 start entries (omega arith) is) in
+    let batches : List Logged = map as_logged groups in
+    record {
+      batches = take n batches;
+      same = sym (take-map logged_bytes n batches) ∙ ap (take n) (same_records groups (each_has_entries groups calls each));
+      each = all_take IsOwnBatch n batches (are_own 0 groups small rise);
+      rising = order_take 0 n batches (in_order 0 0 groups (omega arith) small rise);
+    }

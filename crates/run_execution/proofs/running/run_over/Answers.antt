@@ -1,0 +1,49 @@
+-- The engine and its clients go to threads; and what the run came to over it is what it came to over the log.
+use denote.Exit.{yes}
+use denote.Param.{param}
+use denote.Param.Send.{param_send, arg_send}
+use Rattle.std.proofs.Common.{ℕ, length, ap, ◌∙◌, arith}
+use Rattle.run_calls.specs.Settings.{settings_of}
+use Rattle.run_scripts.specs.Scripts.{commands_of}
+use Rattle.log_writer.specs.declared.writer.LogWriter.{LogWriter}
+use Rattle.log_writer.specs.Words.{disk_of, fault_of}
+use Rattle.log_writer.specs.Written.{Wrote}
+use Rattle.engine_memory.proofs.Crossing.{client_send, engine_sync}
+use Rattle.run_execution.proofs.RunEnds.{comes_to}
+use Rattle.run_execution.proofs.running.run_over.Goals as goal
+
+pub run_engine-requires-send-E-Client : goal.run_engine-requires-send-E-Client
+run_engine-requires-send-E-Client g c κs within = param_send 3 _ (arg_send _ yes _ (client_send (param 0 g.row.D) (param 1 g.row.C) (param 2 g.row.H) g.D.Disk c.type_bounds.send-D c.type_bounds.send-C))
+
+pub run_engine-requires-sync-E : goal.run_engine-requires-sync-E
+run_engine-requires-sync-E g c κs within = record { shared = (engine_sync (param 0 g.row.D) (param 1 g.row.C) (param 2 g.row.H) g.D.Disk c.type_bounds.send-D c.type_bounds.send-C c.type_bounds.sync-H).shared }
+
+pub returns-in-Ok-clause-end : goal.returns-in-Ok-clause-end
+returns-in-Ok-clause-end g c = λ disk has_opened.
+    let script = commands_of c.args.script.now in
+    let options = c.args.options in
+    let ran = c.run_engine.result in
+    let value = c.as_slice-commands.ensures.value in
+    let settings = c.in-Ok.ensures.engine.1 ∙ ap (λ (n : ℕ). settings_of options n (g.D.Disk.faults (disk_of c.args.log))) (ap length value) ∙ ap (settings_of options (length script)) has_opened.no_fault in
+    let comes = comes_to fault_of (λ (l : LogWriter g.row.D.Denot g.D.Disk). g.D.Disk.faults (disk_of l)) ran.log ran.last ran.parts _ _ _ _ _ _ settings value (ap Wrote c.in-Ok.ensures.engine.0) c.run_engine.ensures in
+    rw (c.ended.ensures.end, c.ended.ensures.disk) (c.runs_leave_safe_logs.ensures.ends disk c.args.log ran.log options script ran.last ran.parts has_opened (omega (arith, c.requires.clients)) c.requires.options.1 comes)
+
+pub returns-in-Ok-clause-later : goal.returns-in-Ok-clause-later
+returns-in-Ok-clause-later g c =
+    let script = commands_of c.args.script.now in
+    let options = c.args.options in
+    let ran = c.run_engine.result in
+    let value = c.as_slice-commands.ensures.value in
+    let settings = c.in-Ok.ensures.engine.1 ∙ ap (λ (n : ℕ). settings_of options n (g.D.Disk.faults (disk_of c.args.log))) (ap length value) in
+    let comes = comes_to fault_of (λ (l : LogWriter g.row.D.Denot g.D.Disk). g.D.Disk.faults (disk_of l)) ran.log ran.last ran.parts _ _ _ _ _ _ settings value (ap Wrote c.in-Ok.ensures.engine.0) c.run_engine.ensures in
+    rw c.ended.ensures.disk (c.runs_leave_safe_logs.ensures.time c.args.log ran.log options script (g.D.Disk.faults (disk_of c.args.log)) ran.last ran.parts comes).1
+
+pub returns-in-Ok-clause-time : goal.returns-in-Ok-clause-time
+returns-in-Ok-clause-time g c =
+    let script = commands_of c.args.script.now in
+    let options = c.args.options in
+    let ran = c.run_engine.result in
+    let value = c.as_slice-commands.ensures.value in
+    let settings = c.in-Ok.ensures.engine.1 ∙ ap (λ (n : ℕ). settings_of options n (g.D.Disk.faults (disk_of c.args.log))) (ap length value) in
+    let comes = comes_to fault_of (λ (l : LogWriter g.row.D.Denot g.D.Disk). g.D.Disk.faults (disk_of l)) ran.log ran.last ran.parts _ _ _ _ _ _ settings value (ap Wrote c.in-Ok.ensures.engine.0) c.run_engine.ensures in
+    rw c.ended.ensures.disk (c.runs_leave_safe_logs.ensures.time c.args.log ran.log options script (g.D.Disk.faults (disk_of c.args.log)) ran.last ran.parts comes).0

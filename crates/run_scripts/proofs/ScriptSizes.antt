@@ -1,0 +1,95 @@
+-- All that a client adds fits one batch, since each record is shorter than its line.
+use Rattle.std.proofs.Common.{suc, ◌/◌, ◌%◌, ◌*◌, Bool, true, false, cond, nat_lt, ◌≡◌, ℕ, ◌+◌, ◌<◌, ◌≤◌, List, [], ◌∷◌, ◌++◌, length, sum_by, ap, arith, length-append}
+use Rattle.std.specs.List.{AllByRecursion}
+use Rattle.std.proofs.lemmas.Bool.{cond-true, lt-ltb}
+use Rattle.std.proofs.lemmas.List.{append-nil}
+use Rattle.std.proofs.lemmas.List.Sums.{sum_by-cons}
+use Rattle.model_base.specs.Varint.{varint, varint_within}
+use Rattle.model_base.specs.Batch.{Record, value, deletion, single_deletion, log_data, count_of, varstring, record_bytes, header, body, size_of_batch}
+use Rattle.model_base.specs.Calls.{Command, add, clear, commit, get, many, scan, stop, unstop, slow, unslow}
+use Rattle.run_scripts.specs.declared.script.Script.{Script}
+use Rattle.run_scripts.specs.declared.language.Language.{Language}
+use Rattle.run_scripts.specs.Languages.{IsCommandOf, HasCommandsOf}
+use Rattle.run_scripts.specs.Scripts.{additions_of, FitsBatches, line_len, lines_len, script_len, IsShort}
+
+-- a length of two bytes at most is spelled in two
+one_byte : (k n : ℕ) → n < 128 → length (varint_within (suc k) n) ≡ 1
+unfolding varint_within
+one_byte k n small = ap length (cond-true (nat_lt n 128) (n ∷ []) ((128 + n % 128) ∷ varint_within k (n / 128)) (lt-ltb n 128 small))
+
+two_bytes : (n : ℕ) → n ≤ 1024 → length (varint n) ≤ 2
+unfolding varint_within
+two_bytes n short = by_size (nat_lt n 128) (one_byte 3 (n / 128) (omega arith))
+  where
+    by_size : (b : Bool) → length (varint_within 4 (n / 128)) ≡ 1 → length (cond b (n ∷ []) ((128 + n % 128) ∷ varint_within 4 (n / 128))) ≤ 2
+    by_size true one = omega arith
+    by_size false one = omega arith
+
+-- a word behind its length
+word_len : (w : List ℕ) → IsShort w → (length (varstring w) ≤ length w + 2) × (length w ≤ 1024)
+word_len w short = (omega (arith, two_bytes (length w) short.1, length-append (varint (length w)) w), short.1)
+
+-- a record of one string and of two
+one_len : (tag : ℕ) (w : List ℕ) → length (tag ∷ (varstring w ++ [])) ≡ 1 + length (varstring w)
+one_len tag w = omega (arith, ap length (append-nil (varstring w)))
+
+two_len : (tag : ℕ) (w v : List ℕ) → length (tag ∷ (varstring w ++ (varstring v ++ []))) ≡ 1 + length (varstring w) + length (varstring v)
+two_len tag w v = omega (arith, length-append (varstring w) (varstring v ++ []), ap length (append-nil (varstring v)))
+
+-- how long records are together, at lines of this length
+record IsWithin (rs : List Record) (len : ℕ) : Type 0 where
+  lines : length (body rs) + length rs ≤ len
+  words : length (body rs) ≤ 2053 * length rs
+
+-- a command that adds a record, and one that adds none
+with_record : (r : Record) (c : Command) (cs : List Command) (rs : List Record) → length (record_bytes r) + 1 ≤ line_len c → length (record_bytes r) ≤ 2053 → IsWithin rs (lines_len cs) → IsWithin (r ∷ rs) (lines_len (c ∷ cs))
+with_record r c cs rs line words rest = record {
+  lines = omega (arith, line, rest.lines, length-append (record_bytes r) (body rs), sum_by-cons line_len c cs);
+  words = omega (arith, words, rest.words, length-append (record_bytes r) (body rs));
+}
+
+without_record : (c : Command) (cs : List Command) (rs : List Record) → IsWithin rs (lines_len cs) → IsWithin rs (lines_len (c ∷ cs))
+without_record c cs rs rest = record { lines = omega (arith, rest.lines, sum_by-cons line_len c cs); words = rest.words }
+
+within : (language : Language) (cs : List Command) → AllByRecursion (IsCommandOf language) cs → IsWithin (additions_of cs) (lines_len cs)
+within language [] short = record { lines = omega arith; words = omega arith }
+within language (add (value key v) ∷ cs) short =
+    let k = word_len key short.0.0 in
+    let w = word_len v short.0.1 in
+    with_record (value key v) (add (value key v)) cs _ (omega (arith, k, w, two_len 1 key v)) (omega (arith, k, w, two_len 1 key v)) (within language cs short.1)
+within language (add (deletion key) ∷ cs) short =
+    let k = word_len key short.0 in
+    with_record (deletion key) (add (deletion key)) cs _ (omega (arith, k, one_len 0 key)) (omega (arith, k, one_len 0 key)) (within language cs short.1)
+within language (add (single_deletion key) ∷ cs) short =
+    let k = word_len key short.0 in
+    with_record (single_deletion key) (add (single_deletion key)) cs _ (omega (arith, k, one_len 7 key)) (omega (arith, k, one_len 7 key)) (within language cs short.1)
+within language (add (log_data text) ∷ cs) short =
+    let k = word_len text short.0 in
+    with_record (log_data text) (add (log_data text)) cs _ (omega (arith, k, one_len 3 text)) (omega (arith, k, one_len 3 text)) (within language cs short.1)
+within language (clear ∷ cs) short = without_record clear cs _ (within language cs short.1)
+within language (commit options ∷ cs) short = without_record (commit options) cs _ (within language cs short.1)
+within language (get key ∷ cs) short = without_record (get key) cs _ (within language cs short.1)
+within language (many keys ∷ cs) short = without_record (many keys) cs _ (within language cs short.1)
+within language (scan lo hi ∷ cs) short = without_record (scan lo hi) cs _ (within language cs short.1)
+within language (stop ∷ cs) short = without_record stop cs _ (within language cs short.1)
+within language (unstop ∷ cs) short = without_record unstop cs _ (within language cs short.1)
+within language (slow rate ∷ cs) short = without_record (slow rate) cs _ (within language cs short.1)
+within language (unslow ∷ cs) short = without_record unslow cs _ (within language cs short.1)
+
+-- Many records are shorter than their lines by as much as a header has; few are short.
+client_fits : (language : Language) (cs : List Command) → AllByRecursion (IsCommandOf language) cs → lines_len cs ≤ 16777217 → size_of_batch (additions_of cs) ≤ 16777216
+client_fits language cs short lines =
+    let rs = additions_of cs in
+    let small = within language cs short in
+    omega (arith, small.lines, small.words, lines, length-append (header 0 (count_of rs)) (body rs))
+
+clients_fit : (language : Language) (clients : List (List Command)) → AllByRecursion (AllByRecursion (IsCommandOf language)) clients → sum_by lines_len clients ≤ 16777217
+    → AllByRecursion (λ cs. size_of_batch (additions_of cs) ≤ 16777216) clients
+clients_fit language [] short lines = tt
+clients_fit language (cs ∷ rest) short lines =
+    let sum = sum_by-cons lines_len cs rest in
+    (client_fits language cs short.0 (omega (arith, lines, sum)), clients_fit language rest short.1 (omega (arith, lines, sum)))
+
+-- what is read of a text of 16 MiB
+pub fits_batches : (language : Language) (script : Script) → HasCommandsOf language script → script_len script ≤ 16777217 → FitsBatches script
+fits_batches language script short lines = clients_fit language script.clients.items short lines

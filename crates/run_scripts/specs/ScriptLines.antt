@@ -1,0 +1,67 @@
+-- What a line of a script says, as the parser holds it.
+use Rattle.std.specs.Prelude.{◌≡◌, ℕ, List, Result, Ok, Err, if◌then◌else◌}
+use Rattle.std.specs.List.{list_all}
+use Rattle.model_base.specs.declared.script.ScriptFault.TheVariants.{Form}
+use Rattle.model_base.specs.Calls.{many}
+use Rattle.model_base.specs.Script as model
+use Rattle.model_base.specs.Script.{Grammar, section, command, line_of, with_line, ◌>>=◌}
+use Rattle.run_scripts.specs.declared.script.ScriptError.{ScriptError}
+use Rattle.run_scripts.specs.declared.script.ScriptError.TheVariants as script_error
+use Rattle.run_scripts.specs.declared.lines.Line.{Line}
+use Rattle.run_scripts.specs.declared.lines.Line.TheVariants as line
+use Rattle.run_scripts.specs.declared.lines.LineError.{LineError}
+use Rattle.run_scripts.specs.declared.lines.LineError.TheVariants.{Fault, NoMemory}
+use Rattle.run_command_list.specs.Views.{command_of}
+use Rattle.run_scripts.specs.declared.language.Language.{Language}
+use Rattle.run_scripts.specs.Languages.{IsCommandOf}
+use Rattle.run_scripts.specs.ScriptWords.{alone}
+use Rattle.run_scripts.specs.Scripts.{line_len}
+
+-- what a line says, in the definition's words
+abbrev pub line_said : Line → model.Line
+line_said (line.Section n) = section n
+line_said (line.Command c) = command (command_of c)
+line_said (line.Many keys) = command (many keys)
+
+-- how long the line is if it adds a record, with its line feed
+abbrev pub said_len : Line → ℕ
+said_len (line.Section n) = 0
+said_len (line.Command c) = line_len (command_of c)
+said_len (line.Many keys) = 0
+
+-- a command is one that a line of the language may say
+abbrev pub MayBeSaid : Language → Line → Type 0
+MayBeSaid language (line.Section n) = Unit {0}
+MayBeSaid language (line.Command c) = IsCommandOf language (command_of c)
+MayBeSaid language (line.Many keys) = IsCommandOf language (many keys)
+
+-- What is read is what the definition gives, and so is a fault. Want of memory says nothing of the text.
+abbrev pub Reads : {A B : Type 0} → (A → B) → model.Read B → Result A LineError → Type 0
+Reads view given (Ok x) = given ≡ Ok (view x)
+Reads view given (Err (Fault kind)) = given ≡ Err kind
+Reads view given (Err NoMemory) = Unit {0}
+
+-- all these parts, if each is a word
+abbrev pub all_words : List (List ℕ) → model.Read (List (List ℕ))
+all_words ws = if list_all model.is_word ws then Ok ws else Err Form
+
+-- the number that one word is, where there is no other
+abbrev pub number_alone : List (List ℕ) → model.Read ℕ
+number_alone ws = model.or_form (alone ws) >>= λ w. model.or_form (model.number_of w)
+
+-- what is read after the first word of a form
+abbrev pub behind_word : (List (List ℕ) → model.Read model.Line) → List (List ℕ) → model.Read model.Line
+behind_word rest ws = if list_all model.is_word ws then rest ws else Err Form
+
+-- a script in this grammar, and one more line, which isn't passed over
+abbrev pub said_added : Grammar → model.Script → List ℕ → model.Read model.Script
+said_added g script l = line_of g.forms l >>= with_line g.client_limit script
+
+-- the same of any line
+abbrev pub line_added : Grammar → model.Script → List ℕ → model.Read model.Script
+line_added g script l = if model.is_passed_over l then Ok script else said_added g script l
+
+-- the error in a script that is one in its line of this number
+abbrev pub error_at : ℕ → LineError → ScriptError
+error_at n (Fault kind) = script_error.Fault n kind
+error_at n NoMemory = script_error.NoMemory

@@ -1,0 +1,89 @@
+-- The commands that a parsed script holds.
+use Rattle.std.specs.Prelude.{◌≡◌, ℕ, ◌+◌, ◌≤◌, List, [], ◌∷◌, length, sum_by, Result, Err}
+use Rattle.std.specs.List.{AllByRecursion}
+use Rattle.model_base.specs.Batch.{Record, value, deletion, single_deletion, log_data, size_of_batch}
+use Rattle.model_base.specs.Calls.{Command, add, clear, commit, get, many, scan, stop, unstop, slow, unslow}
+use Rattle.model_base.specs.Script as model
+use Rattle.run_scripts.specs.declared.script.Script.{Script}
+use Rattle.run_scripts.specs.declared.script.ScriptError.{ScriptError}
+use Rattle.run_scripts.specs.declared.script.ScriptError.TheVariants.{Fault, NoMemory}
+
+abbrev pub commands_of : Script → List (List Command)
+commands_of script = script.clients.items
+
+-- all records that commands add, clears and commits aside
+abbrev pub additions_of : List Command → List Record
+additions_of [] = []
+additions_of (add r ∷ cs) = r ∷ additions_of cs
+additions_of (other ∷ cs) = additions_of cs
+
+-- all that a client adds fits one batch of 16 MiB, even if no commit is accepted
+abbrev pub FitsBatches : Script → Type 0
+FitsBatches script = AllByRecursion (λ cs. size_of_batch (additions_of cs) ≤ 16777216) (commands_of script)
+
+-- how long a line is that adds a record, with its line feed; other lines aside
+abbrev pub line_len : Command → ℕ
+line_len (add (value key v)) = length key + length v + 6
+line_len (add (deletion key)) = length key + 5
+line_len (add (single_deletion key)) = length key + 6
+line_len (add (log_data text)) = length text + 6
+line_len clear = 0
+line_len (commit options) = 0
+line_len (get key) = 0
+line_len (many keys) = 0
+line_len (scan lo hi) = 0
+line_len stop = 0
+line_len unstop = 0
+line_len (slow rate) = 0
+line_len unslow = 0
+
+-- a word of a script has at least one byte, and no more than these
+abbrev pub IsShort : List ℕ → Type 0
+IsShort word = (1 ≤ length word) × (length word ≤ 1024)
+
+-- the words of a record are short
+abbrev pub AddsShort : Record → Type 0
+AddsShort (value key v) = IsShort key × IsShort v
+AddsShort (deletion key) = IsShort key
+AddsShort (single_deletion key) = IsShort key
+AddsShort (log_data text) = IsShort text
+
+-- a command that writes or commits, or reads one key, its words short
+abbrev pub IsScriptCommand : Command → Type 0
+IsScriptCommand (add r) = AddsShort r
+IsScriptCommand clear = Unit {0}
+IsScriptCommand (commit options) = Unit {0}
+IsScriptCommand (get key) = IsShort key
+IsScriptCommand (many keys) = ⊥
+IsScriptCommand (scan lo hi) = ⊥
+IsScriptCommand stop = ⊥
+IsScriptCommand unstop = ⊥
+IsScriptCommand (slow rate) = ⊥
+IsScriptCommand unslow = ⊥
+
+-- or one that reads several keys
+abbrev pub IsClientsCommand : Command → Type 0
+IsClientsCommand (many keys) = AllByRecursion IsShort keys
+IsClientsCommand (scan lo hi) = IsShort lo × IsShort hi
+IsClientsCommand other = IsScriptCommand other
+
+-- how long the lines of a client are that add records
+abbrev pub lines_len : List Command → ℕ
+lines_len cs = sum_by line_len cs
+
+-- how long those of all clients are
+abbrev pub script_len : Script → ℕ
+script_len script = sum_by lines_len (commands_of script)
+
+-- each command is of the first kind
+abbrev pub HasScriptCommands : Script → Type 0
+HasScriptCommands script = AllByRecursion (AllByRecursion IsScriptCommand) (commands_of script)
+
+-- each command is of one of the two
+abbrev pub HasClientsCommands : Script → Type 0
+HasClientsCommands script = AllByRecursion (AllByRecursion IsClientsCommand) (commands_of script)
+
+-- A fault and its line are those that are given. Want of memory says nothing of the text.
+abbrev pub IsFaultOf : Result model.Script model.Fault → ScriptError → Type 0
+IsFaultOf given (Fault line kind) = given ≡ Err (record { line = line; kind = kind })
+IsFaultOf given NoMemory = Unit {0}

@@ -1,0 +1,260 @@
+//! A script with a schedule after it: the events of the write path's core, one a line.
+//!
+//! The script's lines are those that `parser` tells. After them stands the line `schedule`, and after
+//! that a line for each event: its word and the number of a client of the script, as `link 1`. The
+//! words are `link`, `elect`, `build`, `log`, `fault`, `boundary`, `second`, `next`, `launch`, `insert`,
+//! `finish`, `publish`, `exit`, `complete` and `read`. Empty lines and comments are passed over there
+//! too.
+
+ghost use Rattle.std.specs.Prelude.{◌≡◌, ◌+◌, ◌≤◌, ◌==◌, [], Ok, Err, length, if◌then◌else◌, IfOk, IfErr, OnOk, drop, option_copied};
+ghost use Rattle.model_core.specs.Schedule as model;
+ghost use Rattle.model_base.specs.Script.{words_of};
+ghost use Rattle.model_base.specs.declared.script.ScriptFault.TheVariants.{Form};
+ghost use Rattle.run_scripts.specs.Languages.{HasCommandsOf};
+ghost use Rattle.run_scripts.specs.Scripts.{commands_of, FitsBatches, script_len, HasClientsCommands};
+ghost use Rattle.run_scripts.specs.ScriptLines.{Reads};
+ghost use Rattle.run_scripts.specs.ScriptWords.{parts_of};
+ghost use Rattle.run_scripts.specs.Schedules.{draft_of, schedule_of, event_named, line_added, event_added, IsScheduleFaultOf};
+ghost use Rattle.run_scripts.specs.ReplayLanguage.{replay_grammar, event_words};
+
+use crate::language::Language;
+use crate::lines::{LineError, are_plain, is_passed_over};
+use crate::numbers::number_of;
+use crate::parser::{TEXT_LIMIT, add_said};
+use crate::script::{Script, ScriptError};
+use crate::words::split_once;
+use model_base::ScriptFault;
+use model_core::Event;
+use std::alloc::Global;
+
+/// A script, and the events of its schedule in order.
+#[derive(Debug, Drop)]
+pub struct Schedule {
+    pub script: Script,
+    pub events: Vec<Event>,
+}
+
+/// What was read so far: the script, and the events once the line `schedule` has come.
+#[derive(Drop)]
+struct Draft {
+    script: Script,
+    events: Option<Vec<Event>>,
+}
+
+/// Parses a script of 1 to 16 clients and its schedule. Faults come as in [`parse_clients`](crate::parse_clients);
+/// without the line `schedule` the fault is `schedule`, after all others.
+pub fn parse_schedule(alloc: Global, text: &[u8]) -> Result<Schedule, ScriptError>
+    ensures schedule { IfOk result (λ s. model.schedule_of replay_grammar event_words text.now
+        ≡ Ok (schedule_of s)) }
+    ensures fault { IfErr result (IsScheduleFaultOf
+        (model.schedule_of replay_grammar event_words text.now)) }
+
+    // It has a client at least, all that each adds fits one batch, whatever becomes of its commits,
+    // and no command is of another form than one that a script of several clients may say.
+    ensures clients { IfOk result (λ s. (1 ≤ length s.script.clients.items)
+        × (length s.script.clients.items ≤ 16)) }
+    ensures fits { IfOk result (λ s. FitsBatches s.script) }
+    ensures commands { IfOk result (λ s. HasClientsCommands s.script) }
+{
+    if text.len() > TEXT_LIMIT {
+        return Err(ScriptError::Fault {
+            line: 0,
+            kind: ScriptFault::Long,
+        });
+    }
+    let Draft { script, events } = read_lines(alloc, text)?;
+    if script.clients.is_empty() {
+        return Err(ScriptError::Fault {
+            line: 0,
+            kind: ScriptFault::NoClient,
+        });
+    }
+    match events {
+        Some(events) => Ok(Schedule { script, events }),
+        None => Err(ScriptError::Fault {
+            line: 0,
+            kind: ScriptFault::NoSchedule,
+        }),
+    }
+}
+
+/// Reads all lines of a text, whatever its length.
+fn read_lines(alloc: Global, text: &[u8]) -> Result<Draft, ScriptError>
+    ensures draft { IfOk result (λ d. model.lines_read replay_grammar event_words text.now
+        ≡ Ok (draft_of d)) }
+    ensures fault { IfErr result (IsScheduleFaultOf
+        (model.lines_read replay_grammar event_words text.now)) }
+    ensures few { IfOk result (λ d. length d.script.clients.items ≤ 16) }
+    ensures small { IfOk result (λ d. script_len d.script ≤ length text.now + 1) }
+    ensures commands { IfOk result (λ d. HasCommandsOf Language.Replay d.script) }
+{
+    let mut draft = Draft {
+        script: Script {
+            clients: Vec::new(alloc),
+        },
+        events: None,
+    };
+    let mut number: u64 = 0;
+    let mut rest = Some(text);
+    while let Some(lines) = rest {
+        let (line, behind) = split_once(lines, b'\n');
+        number += 1;
+        if let Err(error) = add_line(alloc, &mut draft, line) {
+            return Err(error.at_line(number));
+        }
+        rest = behind;
+    }
+    Ok(draft)
+}
+
+/// Reads one more line. After an error the draft is not used.
+fn add_line(alloc: Global, draft: &mut Draft, line: &[u8]) -> Result<(), LineError>
+    requires few { length draft.old.script.clients.items ≤ 16 }
+    ensures draft { Reads (λ _. draft_of draft.new) (line_added (draft_of draft.old) line.now) result }
+    ensures few { OnOk result (length draft.new.script.clients.items ≤ 16) }
+    ensures len { OnOk result
+        (script_len draft.new.script ≤ script_len draft.old.script + length line.now + 1) }
+    ensures commands { HasCommandsOf Language.Replay draft.old.script
+        → OnOk result (HasCommandsOf Language.Replay draft.new.script) }
+{
+    if is_passed_over(line) {
+        return Ok(());
+    }
+    match &mut draft.events {
+        Some(events) => add_event(events, draft.script.clients.len(), line),
+        None if begins_schedule(line) => {
+            draft.events = Some(no_events(alloc, line)?);
+            Ok(())
+        }
+        None => add_said(alloc, Language::Replay, &mut draft.script, line),
+    }
+}
+
+/// Whether a line's first word is `schedule`.
+fn begins_schedule(line: &[u8]) -> bool
+    ensures { result ≡ model.begins_schedule line.now }
+{
+    are_plain(line) && split_once(line, b' ').0 == b"schedule".as_slice()
+}
+
+/// The events at the begin of a schedule, after the line of whose words the first is `schedule`.
+fn no_events(alloc: Global, line: &[u8]) -> Result<Vec<Event>, LineError>
+    ensures events { IfOk result (λ events. (events.items ≡ []) × (length (words_of line.now) ≡ 1)) }
+    ensures fault { Reads (λ _. tt {0}) (if length (words_of line.now) == 1 then Ok (tt {0}) else Err Form) result }
+{
+    if split_once(line, b' ').1.is_some() {
+        return Err(LineError::FORM);
+    }
+    Ok(Vec::new(alloc))
+}
+
+/// Reads one more event of a script with so many clients.
+fn add_event(events: &mut Vec<Event>, clients: usize, line: &[u8]) -> Result<(), LineError>
+    requires { clients ≤ 16 }
+    ensures { Reads (λ _. events.new.items) (event_added clients events.old.items line.now) result }
+{
+    let event = read_event(clients, line)?;
+    events.push(event)?;
+    Ok(())
+}
+
+/// Reads a line of a schedule for a script with so many clients.
+fn read_event(clients: usize, line: &[u8]) -> Result<Event, LineError>
+    requires { clients ≤ 16 }
+    ensures { Reads (λ event. event) (model.event_of clients event_words line.now) result }
+{
+    if !are_plain(line) {
+        return Err(LineError::Fault(ScriptFault::Byte));
+    }
+    let (word, rest) = split_once(line, b' ');
+    let client = client_alone(clients, rest);
+    let Some(event) = event_named(word, client.unwrap_or(0)) else {
+        return Err(LineError::Fault(ScriptFault::Word));
+    };
+    if client.is_none() {
+        return Err(LineError::FORM);
+    }
+    Ok(event)
+}
+
+/// The one word that is left of a line, as the number of a client of so many.
+fn client_alone(clients: usize, rest: Option<&[u8]>) -> Option<u32>
+    requires { clients ≤ 16 }
+    ensures { result ≡ model.client_alone clients (parts_of 32 (option_copied rest.entry)) }
+{
+    let (word, behind) = split_once(rest?, b' ');
+    if behind.is_some() {
+        return None;
+    }
+    let number = number_of(word)?;
+    if number == 0 || number > clients as u64 {
+        return None;
+    }
+    Some(number as u32)
+}
+
+/// The event that a word says of a client, if it is an event's.
+fn event_named(word: &[u8], client: u32) -> Option<Event>
+    ensures { result ≡ event_named event_words word.now client }
+{
+    if word == b"link".as_slice() {
+        return Some(Event::Link(client));
+    }
+    if word == b"elect".as_slice() {
+        return Some(Event::Elect(client));
+    }
+    if word == b"build".as_slice() {
+        return Some(Event::Build(client));
+    }
+    if word == b"log".as_slice() {
+        return Some(Event::Log(client));
+    }
+    if word == b"fault".as_slice() {
+        return Some(Event::Fault(client));
+    }
+    applied_event_named(word, client)
+}
+
+/// The event of one who writes to the table and leaves, and of the others that are told of below.
+fn applied_event_named(word: &[u8], client: u32) -> Option<Event>
+    ensures { result ≡ event_named (drop 5 event_words) word.now client }
+{
+    if word == b"launch".as_slice() {
+        return Some(Event::Launch(client));
+    }
+    if word == b"insert".as_slice() {
+        return Some(Event::Insert(client));
+    }
+    if word == b"finish".as_slice() {
+        return Some(Event::Finish(client));
+    }
+    if word == b"publish".as_slice() {
+        return Some(Event::Publish(client));
+    }
+    if word == b"exit".as_slice() {
+        return Some(Event::Exit(client));
+    }
+    other_event_named(word, client)
+}
+
+/// The event of a follower that is done, of a read, and those of a pipelined path alone.
+fn other_event_named(word: &[u8], client: u32) -> Option<Event>
+    ensures { result ≡ event_named (drop 10 event_words) word.now client }
+{
+    if word == b"complete".as_slice() {
+        return Some(Event::Complete(client));
+    }
+    if word == b"read".as_slice() {
+        return Some(Event::Read(client));
+    }
+    if word == b"boundary".as_slice() {
+        return Some(Event::Boundary(client));
+    }
+    if word == b"second".as_slice() {
+        return Some(Event::Second(client));
+    }
+    if word == b"next".as_slice() {
+        return Some(Event::Next(client));
+    }
+    None
+}

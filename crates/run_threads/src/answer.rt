@@ -1,0 +1,59 @@
+//! A client's commands, one by one.
+
+ghost use Rattle.std.specs.Prelude.{◌≡◌, ◌≤◌, [], ◌∷◌, OnOk};
+ghost use Rattle.run_command_list.specs.Views.{command_of};
+ghost use Rattle.run_threads.specs.Answers.{records_in, kept_in, Answers, ShowsKept, HasRoom, IsLeft};
+
+use crate::adding::{add, clear};
+use crate::batches::Batches;
+use crate::committing::commit;
+use crate::reading::{get, get_many, scan};
+use crate::tokens::{slow, stop, unslow, unstop};
+use engine_calls::Engine;
+use log_batch::RecordView;
+use model_base::NoMemory;
+use run_command_list::CommandView;
+use run_outcome::Reply;
+use std::alloc::Global;
+use std::sync::Wait;
+
+/// What a client is told of one command.
+pub fn answer<E: Engine, R: Wait>(
+    rt: &R,
+    alloc: Global,
+    engine: &E,
+    client: &mut E::Client,
+    batches: &mut Batches,
+    command: CommandView<'_>,
+) -> Result<Option<Reply>, NoMemory>
+    requires belongs { E.belongs engine.now client.old }
+    requires entries { ShowsKept (E.account client.old).number (kept_in batches.old) (E.account client.old).mine }
+    requires fits { HasRoom (records_in batches.old.at_hand) (command_of command ∷ []) }
+    ensures belongs { E.belongs engine.now client.new }
+    ensures answers { Answers (E.settings engine.now) (E.account client.old) (records_in batches.old.at_hand)
+        (command_of command.entry) result (E.account client.new) (records_in batches.new.at_hand) }
+    ensures left { OnOk result (IsLeft (records_in batches.old.at_hand) (command_of command.entry)
+        (records_in batches.new.at_hand)) }
+    ensures entries { ShowsKept (E.account client.old).number (kept_in batches.new) (E.account client.new).mine }
+{
+    match command {
+        CommandView::Put { key, value } => add(alloc, batches, RecordView::Value { key, value }),
+        CommandView::Delete { key } => add(alloc, batches, RecordView::Deletion { key }),
+        CommandView::SingleDelete { key } => {
+            add(alloc, batches, RecordView::SingleDeletion { key })
+        }
+        CommandView::Note { text } => add(alloc, batches, RecordView::LogData { blob: text }),
+        CommandView::Clear => {
+            clear(batches);
+            Ok(None)
+        }
+        CommandView::Commit { options } => commit(rt, engine, client, batches, options),
+        CommandView::Get { key } => get(rt, engine, client, key),
+        CommandView::Many { keys } => get_many(rt, alloc, engine, client, keys),
+        CommandView::Scan { lo, hi } => scan(rt, engine, client, lo, hi),
+        CommandView::Stop => Ok(Some(stop(rt, engine, client))),
+        CommandView::Unstop => Ok(Some(unstop(rt, engine, client))),
+        CommandView::Slow { rate } => Ok(Some(slow(rt, engine, client, rate))),
+        CommandView::Unslow => Ok(Some(unslow(rt, engine, client))),
+    }
+}

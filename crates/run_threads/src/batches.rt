@@ -1,0 +1,22 @@
+//! A client's batches.
+
+use log_batch::Batch;
+use run_batches::{BatchList, Kept};
+
+/// What a client has at hand: nothing, the batch in the making, or the last one that was accepted.
+#[derive(Drop)]
+pub enum AtHand {
+    Nothing,
+    Pending(Batch),
+    Accepted(Kept<Batch>),
+}
+
+/// A client's batches: those that were accepted, and what it has at hand.
+///
+/// The last accepted batch stays at hand until the next one is begun, which may find no memory; so no batch that was
+/// written is lost for want of it. Then it goes into the list, and is emptied for the next one.
+#[derive(Drop)]
+pub struct Batches {
+    pub list: BatchList,
+    pub at_hand: AtHand,
+}

@@ -1,0 +1,114 @@
+-- From what the clients and the closing say to a legal outcome.
+use Rattle.std.proofs.Common.{◌≡◌, ℕ, zero, suc, ◌+◌, ◌≤◌, Option, Some, None, List, [], ◌∷◌, length, map, slice_get, refl, ap, sym, ◌∙◌, subst, inl, inr, Vec, Global}
+use Rattle.std.specs.List.{AllByRecursion, AllZip}
+use Rattle.std.specs.Option.{option_map}
+use Rattle.std.proofs.lemmas.Option.{slice_get-map, slice_get_cases}
+use Rattle.std.proofs.lemmas.Slice.Zip.{AllZip-long}
+use Rattle.model_base.specs.History as history
+use Rattle.model_base.specs.Trace.{Trace, Settings}
+use Rattle.model_base.specs.Groups.{Group}
+use Rattle.model_base.specs.Calls as calls
+use Rattle.model_base.specs.LogContents.{GroupCall}
+use Rattle.model_base.specs.Outcomes.{IsLegalIn, outcome_of, entries_of_client}
+use Rattle.log_batch.specs.Contents.{Contents}
+use Rattle.run_batches.specs.declared.kept.Kept.{Kept}
+use Rattle.run_outcome.specs.declared.reply.Reply.{Reply}
+use Rattle.run_outcome.specs.Shows.{ShowsReplies}
+use Rattle.model_accounts.specs.Accounts.{Account}
+use Rattle.model_accounts.specs.Closing.{AreOurs, IsClosing, all_attempts}
+use Rattle.model_accounts.specs.ClientRuns as clients
+use Rattle.model_runs.specs.Written.{WritesLog}
+use Rattle.run_threads.specs.declared.batches.Batches.{Batches}
+use Rattle.run_threads.specs.Answers.{kept_in, ShowsEntries, ShowsKept}
+use Rattle.run_threads.specs.Jobs.{HaveTold, HaveEntries}
+use Rattle.run_threads_outcome.specs.declared.run.Parts.{Parts}
+use Rattle.run_threads_outcome.specs.Histories.{MakeUp}
+use Rattle.run_threads_outcome.specs.Runs.{HaveRun}
+
+-- what stands beside the element at a place
+record Beside {A B : Type 0} (R : A → B → Type 0) (x : A) (ys : List B) (i : ℕ) : Type 0 where
+  pub other : B
+  pub at : slice_get ys i ≡ Some other
+  pub related : R x other
+
+beside : {A B : Type 0} (R : A → B → Type 0) (xs : List A) (ys : List B) (i : ℕ) (x : A) → AllZip R xs ys → slice_get xs i ≡ Some x → Beside R x ys i
+beside R [] [] i x all at = absurd (cc at)
+beside R [] (v ∷ ys) i x all at = absurd all
+beside R (u ∷ xs) [] i x all at = absurd all
+beside R (u ∷ xs) (v ∷ ys) zero x all at = let same : u ≡ x = cc at in record { other = v; at = refl; related = subst (λ w. R w v) same all.0 }
+beside R (u ∷ xs) (v ∷ ys) (suc i) x all at = let rest = beside R xs ys i x all.1 at in record { other = rest.other; at = rest.at; related = rest.related }
+
+-- what stands beside each element of a list stands beside what a function gives of it
+zip_mapped : {A B C : Type 0} (f : A → B) (R : B → C → Type 0) (xs : List A) (ys : List C) → AllZip (λ x y. R (f x) y) xs ys → AllZip R (map f xs) ys
+zip_mapped f R [] [] all = tt
+zip_mapped f R [] (y ∷ ys) all = absurd all
+zip_mapped f R (x ∷ xs) [] all = absurd all
+zip_mapped f R (x ∷ xs) (y ∷ ys) all = (all.0, zip_mapped f R xs ys all.1)
+
+-- each account has batches
+pub as_many : (batches : List Batches) (accounts : List Account) → HaveEntries batches accounts → length batches ≡ length accounts
+as_many batches accounts have = sym (AllZip-long (λ (b : Batches) (a : Account). ShowsKept a.number (kept_in b) a.mine) batches accounts have)
+
+-- the numbers of the clients' accounts
+pub number_at : {C : Type 0} (belongs : C → Type 0) (account : C → Account) (n : ℕ) (clients : List C) → AreOurs belongs account n clients
+    → (i : ℕ) (a : Account) → slice_get (map account clients) i ≡ Some a → a.number ≡ i + 1
+number_at belongs account n clients ours i a at =
+    let e = slice_get-map account clients i in
+    elim (slice_get_cases clients i).1 [
+      | inl w ↦ (let is : account w.0 ≡ a = cc (sym e ∙ at, ap (option_map account) w.2) in ap (λ (b : Account). b.number) (sym is) ∙ (ours.each i w.0 w.2).1)
+      | inr w ↦ absurd (cc (sym e ∙ at, ap (option_map account) w.1))
+    ]
+
+module _ {L : Type 0} (settings : Settings) (wrote : List GroupCall → L → Type 0) (fault : L → Option ℕ) (faults : L → ℕ) (log : L) (trace : Trace) (groups : List Group) (accounts : List Account) (last : ℕ)
+    (closing : IsClosing settings (faults log) trace groups accounts last (fault log)) where
+  -- the clients' batches make up the trace's history
+  pub makes_up : (batches : List Batches) → HaveEntries batches accounts → length accounts ≡ settings.clients
+      → ((i : ℕ) (a : Account) → slice_get accounts i ≡ Some a → a.number ≡ i + 1) → MakeUp trace.start (map kept_in batches) trace.entries
+  makes_up batches have count number =
+      let Shows = λ (kept : List (Kept Contents)) (a : Account). ShowsKept a.number kept a.mine in
+      let accepted = map kept_in batches in
+      let shown : AllZip Shows accepted accounts = zip_mapped kept_in Shows batches accounts have in
+      record {
+        is_history = closing.is_trace.entries;
+        clients = subst (λ (n : ℕ). AllByRecursion (λ (e : history.Entry). (1 ≤ e.client) × (e.client ≤ n)) trace.entries)
+            (sym count ∙ AllZip-long Shows accepted accounts shown) closing.is_trace.clients;
+        each = λ i kept at.
+            let b = beside Shows accepted accounts i kept shown at in
+            let part = closing.each i b.other b.at in
+            let is = number i b.other b.at in
+            let own : b.other.mine ≡ entries_of_client (i + 1) trace.entries = sym part.accepted ∙ ap (λ n. entries_of_client n trace.entries) is in
+            subst (ShowsKept (i + 1) kept) own (subst (λ (n : ℕ). ShowsKept n kept b.other.mine) is b.related);
+      }
+
+  -- the clients' replies, put together or not, tell a legal outcome of the trace
+  module _ (script : List (List calls.Command)) (replies : Vec (Vec Reply Global) Global) (told : HaveTold settings script replies.items accounts)
+      (legal : (transcripts : List (List calls.Call)) (log_len : ℕ) → clients.HaveRun settings script transcripts accounts
+      → IsLegalIn settings (faults log) script trace (all_attempts accounts) (outcome_of trace transcripts last log_len (fault log)))
+      (writes : WritesLog settings.group_bytes (λ calls. wrote calls log) trace (all_attempts accounts) (fault log)) where
+    pub with_parts : (parts : Parts) → parts.transcripts ≡ replies → ShowsEntries parts.history trace.entries → parts.state ≡ history.map_of trace.entries
+        → HaveRun settings script wrote fault faults log last (Some parts)
+    with_parts parts same shown state = record {
+      trace = trace;
+      attempts = all_attempts accounts;
+      transcripts = told.transcripts;
+      writes = writes;
+      legal = λ log_len. legal told.transcripts log_len told.run;
+      shows = λ log_len. record {
+        transcripts = subst (λ (v : Vec (Vec Reply Global) Global). AllZip (λ (w : Vec Reply Global). ShowsReplies w.items) v.items told.transcripts) (sym same) told.show;
+        history = shown;
+        last = refl;
+        state = sym state;
+        log_len = refl;
+        fault = refl;
+      };
+    }
+
+    pub without_parts : HaveRun settings script wrote fault faults log last None
+    without_parts = record {
+      trace = trace;
+      attempts = all_attempts accounts;
+      transcripts = told.transcripts;
+      writes = writes;
+      legal = λ log_len. legal told.transcripts log_len told.run;
+      shows = tt;
+    }

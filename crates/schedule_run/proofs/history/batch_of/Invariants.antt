@@ -1,7 +1,0 @@
-use Rattle.std.proofs.Common.{◌≡◌, take}
-use Rattle.core_views.specs.Maps.{added_by}
-use Rattle.schedule_run.proofs.history.batch_of.Given as goal
-
--- what the lines so far add
-abbrev pub invariant-loop-line : goal.invariant-loop-line
-invariant-loop-line l = l.batch.records ≡ added_by (take l.line-index l.lines)

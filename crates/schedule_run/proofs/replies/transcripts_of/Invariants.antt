@@ -1,6 +1,0 @@
-use Rattle.schedule_run.specs.Replaying.{InEachShown, AreTranscripts}
-use Rattle.schedule_run.proofs.replies.transcripts_of.Given as goal
-
--- the clients so far have been told so
-abbrev pub invariant-loop-before : goal.invariant-loop-before
-invariant-loop-before l = InEachShown l.core (λ s. AreTranscripts s l.plans l.before l.transcripts.items)

@@ -1,9 +1,0 @@
-use Rattle.std.proofs.Common.{◌≡◌, map}
-use Rattle.std.specs.List.{range_with_len}
-use Rattle.wp_model.specs.Generator.{first_state, batches_drawn}
-use Rattle.client_script.specs.Scripts.{commands_of}
-use Rattle.script_generator.proofs.clients.generate.Given as goal
-
--- the clients so far have their batches
-abbrev pub invariant-loop-before : goal.invariant-loop-before
-invariant-loop-before l = commands_of l.script ≡ map (λ client. batches_drawn l.batches client (first_state l.seed client)) (range_with_len 1 l.before)

@@ -1,5 +1,0 @@
-use Rattle.second_list_tests.specs.Clients.{HasAsked}
-use Rattle.second_list_tests.proofs.tests.threads.finish.Given as goal
-
-abbrev pub invariant-loop : goal.invariant-loop
-invariant-loop g l = (goal.iterator-loop g).can_next l.iterator' × (goal.iterator-loop g).is_finite l.iterator' × HasAsked l.list l.initial.client.writer.client l.client

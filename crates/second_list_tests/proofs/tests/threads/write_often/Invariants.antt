@@ -1,5 +1,0 @@
-use Rattle.second_list_tests.specs.Clients.{MayWrite}
-use Rattle.second_list_tests.proofs.tests.threads.write_often.Given as goal
-
-abbrev pub invariant-loop-time : goal.invariant-loop-time
-invariant-loop-time g l = MayWrite l.list l.initial.client.writer.client l.client

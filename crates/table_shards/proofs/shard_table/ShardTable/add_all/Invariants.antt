@@ -1,0 +1,18 @@
+use Rattle.std.proofs.Common.{◌≡◌, List, [], length}
+use Rattle.table_rule.specs.declared.content.Version.{Version}
+use Rattle.table_rule.specs.declared.view.Launched.{Launched}
+use Rattle.table_rule.specs.declared.view.Stage.TheVariants.{Holding}
+use Rattle.table_rule.specs.Steps.{work}
+use Rattle.table_calls.specs.Account.{Steps}
+use Rattle.table_steps.specs.Accounts.{account}
+use Rattle.table_shards.specs.Meaning.{IsOurs}
+use Rattle.table_shards.proofs.shard_table.ShardTable.add_all.Given as goal
+
+-- the nodes that are left are those that the client still has to insert
+abbrev pub invariant-loop-shard : goal.invariant-loop-shard
+invariant-loop-shard g l = IsOurs l.self l.seat
+    × ((u : Launched) → (account l.fn.seat).stage ≡ Holding (work u [] (g.N.Versioned.versions l.fn.nodes))
+    → (done : List Version) × Steps (account l.fn.seat) (Holding (work u done (g.N.Versioned.versions l.nodes))) (account l.seat))
+
+abbrev pub decreases-loop-shard : goal.decreases-loop-shard
+decreases-loop-shard g l = length (g.N.Versioned.versions l.nodes)

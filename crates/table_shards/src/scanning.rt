@@ -1,0 +1,78 @@
+//! The rows of all shards, in byte order.
+ghost use Rattle.std.specs.Prelude.{◌≡◌, IfOk};
+ghost use Rattle.std.specs.List.Sorted.{IsPermutation};
+ghost use Rattle.model_base.specs.Map.{Pairs, rows_within};
+ghost use Rattle.table_rule.specs.Histories.{IsHistory, last_of, map_after};
+ghost use Rattle.table_steps.specs.Accounts.{account};
+ghost use Rattle.table_shards.specs.Meaning.{opening_of, IsOurs};
+ghost use Rattle.table_shards.specs.Rows.{AreRising};
+
+use crate::keyed::KeyedNodes;
+use crate::shard_table::ShardTable;
+use base_bytes::{Bytes, PairList, Rows};
+use model_base::NoMemory;
+use std::alloc::Global;
+use std::sync::Wait;
+use table_calls::VersionTree;
+use table_steps::TableSeat;
+
+/// Rows of different keys, in the byte order of these.
+fn in_byte_order(mut rows: Vec<(Bytes, Bytes)>) -> PairList
+    ensures { (rising : Pairs) → AreRising rising → IsPermutation rising rows.items → result ≡ rising }
+{
+    rows.sort_unstable_by(|a, b| a.0.as_slice().cmp(b.0.as_slice()));
+    PairList::from_vec(rows)
+}
+
+impl<T: VersionTree<N::Node> + Drop, N: KeyedNodes + Drop> ShardTable<T, N> {
+    /// The keys from `lo` on and below `hi` with their values, as of `at`, the end of what the seat has seen.
+    pub(crate) fn rows<R: Wait>(
+        &self,
+        alloc: Global,
+        rt: &R,
+        seat: &mut TableSeat<T, N>,
+        lo: &[u8],
+        hi: &[u8],
+        at: u64,
+    ) -> Result<Rows, NoMemory>
+        requires ours { IsOurs self.now seat.old }
+        requires history { IsHistory (opening_of self.now).start (account seat.old).seen }
+        requires at { at ≡ last_of (opening_of self.now).start (account seat.old).seen }
+        ensures ours { IsOurs self.now seat.new }
+        ensures same { account seat.new ≡ account seat.old }
+        ensures at { IfOk result (λ rows. rows.at ≡ at) }
+        ensures rows { IfOk result (λ rows. rows.rows ≡ rows_within lo.now hi.now (map_after (account seat.old).seen)) }
+    {
+        let found = self.gather(alloc, rt, seat, lo, hi, at)?;
+        let rows = in_byte_order(found);
+        Ok(Rows { at, rows })
+    }
+
+    // The same rows, shard after shard.
+    fn gather<R: Wait>(
+        &self,
+        alloc: Global,
+        rt: &R,
+        seat: &mut TableSeat<T, N>,
+        lo: &[u8],
+        hi: &[u8],
+        at: u64,
+    ) -> Result<Vec<(Bytes, Bytes)>, NoMemory>
+        requires ours { IsOurs self.now seat.old }
+        requires history { IsHistory (opening_of self.now).start (account seat.old).seen }
+        requires at { at ≡ last_of (opening_of self.now).start (account seat.old).seen }
+        ensures ours { IsOurs self.now seat.new }
+        ensures same { account seat.new ≡ account seat.old }
+        ensures rows { IfOk result (λ rows. IsPermutation
+            (rows_within lo.now hi.now (map_after (account seat.old).seen)) rows.items) }
+    {
+        let mut rows = Vec::new(alloc);
+        let shards = self.steps.shards();
+        for shard in 0..shards {
+            let found = seat.find_rows(&self.steps, alloc, rt, shard, lo, hi, at)?;
+            let mut more = found.rows.into_vec();
+            rows.append(&mut more)?;
+        }
+        Ok(rows)
+    }
+}

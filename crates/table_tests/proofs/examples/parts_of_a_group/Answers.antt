@@ -1,6 +1,0 @@
--- By computing.
-use Rattle.std.proofs.Common.{refl}
-use Rattle.table_tests.proofs.examples.parts_of_a_group.Goals as goal
-
-pub returns : goal.returns
-returns c = refl

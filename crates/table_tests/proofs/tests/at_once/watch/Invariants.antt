@@ -1,5 +1,0 @@
-use Rattle.memory_engine.specs.Tables.{IsOurs}
-use Rattle.table_tests.proofs.tests.at_once.watch.Given as goal
-
-abbrev pub invariant-loop : goal.invariant-loop
-invariant-loop g l = (goal.iterator-loop g).can_next l.iterator' × (goal.iterator-loop g).is_finite l.iterator' × IsOurs l.table l.seat

@@ -1,6 +1,0 @@
--- The seat has nothing to do between two reads.
-use Rattle.table_tests.specs.Clients.{IsIdle}
-use Rattle.table_tests.proofs.tests.tables.check_each.Given as goal
-
-abbrev pub invariant-loop-i : goal.invariant-loop-i
-invariant-loop-i g l = IsIdle l.table l.seat

@@ -1,8 +1,0 @@
--- The versions so far have the sequences so far.
-use Rattle.std.proofs.Common.{◌+◌}
-use Rattle.mem_table.specs.Versions.{AreBelow}
-use Rattle.mem_table.specs.Shapes.{versions_in}
-use Rattle.table_tests.proofs.tests.tree.tree_of.Given as goal
-
-abbrev pub invariant-loop-i : goal.invariant-loop-i
-invariant-loop-i g l = AreBelow (l.i + 1) (versions_in l.tree)

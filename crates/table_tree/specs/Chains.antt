@@ -1,0 +1,59 @@
+-- The versions of keys in chains, one chain a key: its newest version, and behind it the older ones, the newer first.
+use Rattle.std.specs.Prelude.{◌≡◌, ℕ, nat_le, List, [], ◌∷◌, ◌++◌, if◌then◌else◌}
+use Rattle.std.specs.List.{AllByRecursion}
+use Rattle.std.specs.List.Sorted.{IsStrictlySortedBy}
+use Rattle.std.specs.Ordering.{match_ordering}
+use Rattle.std.specs.declared.cmp.Ordering.{Ordering}
+use Rattle.model_base.specs.Map.{byte_order}
+use Rattle.table_rule.specs.declared.content.Version.{Version}
+
+pub record Chain : Type 0 where
+  pub newest : Version
+  pub older : List Version
+
+abbrev pub key_of : Chain → List ℕ
+key_of chain = chain.newest.key
+
+abbrev pub chain_versions : Chain → List Version
+chain_versions chain = chain.newest ∷ chain.older
+
+-- the versions of chains, one chain after another
+abbrev pub versions_of : List Chain → List Version
+versions_of [] = []
+versions_of (chain ∷ chains) = chain.newest ∷ (chain.older ++ versions_of chains)
+
+abbrev pub HasOneKey : Chain → Type 0
+HasOneKey chain = AllByRecursion (λ (v : Version). v.key ≡ key_of chain) chain.older
+
+-- chains in the byte order of their keys
+abbrev pub chain_order : Chain → Chain → Ordering
+chain_order chain other = byte_order (key_of chain) (key_of other)
+
+abbrev pub AreSorted : List Chain → Type 0
+AreSorted chains = IsStrictlySortedBy chain_order chains
+
+-- Each chain has the versions of one key, and no two have the same key.
+pub record AreKeyed (chains : List Chain) : Type 0 where
+  pub sorted : AreSorted chains
+  pub each : AllByRecursion HasOneKey chains
+
+-- a version behind those that are newer
+abbrev pub insert_older : List Version → Version → List Version
+insert_older [] v = v ∷ []
+insert_older (w ∷ older) v = if nat_le w.sequence v.sequence then v ∷ w ∷ older else w ∷ insert_older older v
+
+-- the chain with a version more
+abbrev pub with_version : Chain → Version → Chain
+with_version chain v =
+    if nat_le v.sequence chain.newest.sequence then record chain { older = insert_older chain.older v }
+    else record { newest = v; older = chain_versions chain }
+
+abbrev pub alone : Version → Chain
+alone v = record { newest = v; older = [] }
+
+-- a version more: in the chain of its key, or as a chain of its own at its place
+abbrev pub insert_in_chains : List Chain → Version → List Chain
+insert_in_chains [] v = alone v ∷ []
+insert_in_chains (chain ∷ chains) v =
+    match_ordering (byte_order v.key (key_of chain)) (alone v ∷ chain ∷ chains) (with_version chain v ∷ chains)
+    (chain ∷ insert_in_chains chains v)

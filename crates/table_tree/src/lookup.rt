@@ -1,0 +1,68 @@
+//! How a key is looked up at a sequence.
+
+ghost use Rattle.std.specs.Prelude.{◌≡◌};
+ghost use Rattle.std.specs.Option.{option_copied, option_map};
+ghost use Rattle.table_tree.specs.Chains.{AreKeyed, AreSorted, chain_versions};
+ghost use Rattle.table_tree.specs.Shapes.{chains_in, versions_in};
+ghost use Rattle.table_tree.specs.Nodes.{chain_of};
+ghost use Rattle.table_tree.specs.Newest.{newest, first_up_to, chain_at};
+
+use crate::node::{Node, Nodes, Subtree};
+use crate::value::Value;
+use base_maps::Front;
+use std::cmp::Ordering;
+
+impl Subtree {
+    /// What the newest version of a key up to a sequence says, if there is one.
+    pub(crate) fn newest(&self, key: &[u8], at: u64) -> Option<&Option<Value>>
+        requires { AreKeyed (chains_in self.now) }
+        ensures { option_copied result ≡ newest key.now at (versions_in self.now) }
+    {
+        self.find(key)?.said_at(at)
+    }
+
+    /// The node of a key, if there is one.
+    fn find(&self, key: &[u8]) -> Option<&Node>
+        requires { AreSorted (chains_in self.now) }
+        ensures { option_map chain_of (option_copied result) ≡ chain_at key.now (chains_in self.now) }
+    {
+        let front = Front::of(key);
+        let mut below = self;
+        while let Some(node) = &below.root {
+            match node.key.order_of(key, front) {
+                Ordering::Less => below = &node.left,
+                Ordering::Equal => return Some(node),
+                Ordering::Greater => below = &node.right,
+            }
+        }
+        None
+    }
+}
+
+impl Node {
+    /// What the newest version in its chain up to a sequence says, if there is one.
+    pub(crate) fn said_at(&self, at: u64) -> Option<&Option<Value>>
+        ensures { option_copied result ≡ first_up_to at (chain_versions (chain_of self.now)) }
+    {
+        if self.sequence <= at {
+            return Some(&self.value);
+        }
+        self.next.said_at(at)
+    }
+}
+
+impl Nodes {
+    /// The same of the first of these that isn't above the sequence.
+    fn said_at(&self, at: u64) -> Option<&Option<Value>>
+        ensures { option_copied result ≡ first_up_to at self.now }
+    {
+        let mut rest = self;
+        while let Some(node) = &rest.first {
+            if node.sequence <= at {
+                return Some(&node.value);
+            }
+            rest = &node.next;
+        }
+        None
+    }
+}

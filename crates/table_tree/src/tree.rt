@@ -1,0 +1,96 @@
+//! The multi-version tree.
+
+ghost use Rattle.std.specs.Prelude.{◌≡◌, ℕ, List, IfOk};
+ghost use Rattle.std.specs.Option.{option_copied};
+ghost use Rattle.model_base.specs.Map.{value_at, rows_within};
+ghost use Rattle.table_rule.specs.declared.content.Version.{Version};
+ghost use Rattle.table_rule.specs.Histories.{IsOrderUpTo, map_of};
+ghost use Rattle.table_tree.specs.Versions.{IsNew, insert_version, AreOrdered};
+ghost use Rattle.table_tree.specs.Shapes.{leaf, chains_in, versions_in, IsBalanced};
+ghost use Rattle.table_tree.specs.Chains.{AreKeyed};
+ghost use Rattle.table_tree.specs.Nodes.{version_of};
+
+use crate::node::{Node, Subtree};
+use crate::range::Range;
+use base_bytes::{PairList, Rows};
+use model_base::NoMemory;
+use std::alloc::Global;
+use std::marker::Model;
+
+/// Versions of keys, by key and then the newer first, in a balanced tree with one node for each key. Contracts see its
+/// shape.
+#[derive(Drop)]
+pub struct Tree {
+    pub(crate) root: Subtree,
+}
+
+impl Model for Tree {
+    ghost use Rattle.table_tree.specs.Shapes.{Shape, chains_in, versions_in};
+    ghost use Rattle.table_tree.specs.ShapeCode.{shape_code};
+    ghost use Rattle.table_tree.specs.Versions.{AreOrdered};
+    ghost use Rattle.table_tree.specs.Chains.{AreKeyed};
+
+    ghost Value = { Shape };
+
+    ghost coded = { shape_code };
+
+    ghost view = { λ t. t.root };
+
+    ghost invariant = { λ t. AreOrdered (versions_in t.root) × AreKeyed (chains_in t.root) };
+}
+
+impl Tree {
+    /// No versions.
+    pub fn new() -> Tree
+        ensures { result ≡ leaf }
+    {
+        Tree {
+            root: Subtree::new(),
+        }
+    }
+
+    /// Inserts a version, whose key has none of the same sequence. This takes no memory.
+    pub fn insert(&mut self, node: Box<Node>)
+        requires { IsNew (version_of node.value) (versions_in self.old) }
+        ensures versions { versions_in self.new ≡ insert_version (versions_in self.old) (version_of node.value) }
+        ensures ordered { AreOrdered (versions_in self.new) }
+        ensures keyed { AreKeyed (chains_in self.new) }
+        ensures balanced { IsBalanced self.new }
+    {
+        self.root.insert(node);
+    }
+
+    /// The value of a key at a sequence, if it has one there: what the key's newest version up to the
+    /// sequence says.
+    pub fn lookup(&self, key: &[u8], at: u64) -> Option<&[u8]>
+        ensures { (history : List Version) → IsOrderUpTo at (versions_in self.now) history
+            → option_copied result ≡ value_at (map_of history) key.now }
+    {
+        match self.root.newest(key, at) {
+            Some(Some(value)) => Some(value.as_slice()),
+            Some(None) => None,
+            None => None,
+        }
+    }
+
+    /// The keys from `lo` on and below `hi` that have a value at a sequence, with it, in the byte order of
+    /// the keys.
+    pub fn range(&self, alloc: Global, lo: &[u8], hi: &[u8], at: u64) -> Result<Rows, NoMemory>
+        ensures at { IfOk result (λ rows. rows.at ≡ at) }
+        ensures rows { IfOk result (λ rows. (history : List Version) → IsOrderUpTo at (versions_in self.now) history
+            → rows.rows ≡ rows_within lo.now hi.now (map_of history)) }
+    {
+        let range = Range { lo, hi, at };
+        // Room for a row of each key at once.
+        let room = self.root.count_within(range);
+        let mut rows = PairList::from_vec(Vec::with_capacity(alloc, room)?);
+        self.root.gather(alloc, range, &mut rows)?;
+        Ok(Rows { at, rows })
+    }
+}
+
+/// The versions of any tree up to a sequence have an order in which they may have come, so that `lookup` and `range`
+/// say what they answer for each tree.
+pub fn orders_of_versions()
+    ensures { (versions : List Version) (at : ℕ) → (order : List Version) × IsOrderUpTo at versions order }
+{}

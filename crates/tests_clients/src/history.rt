@@ -1,0 +1,86 @@
+//! Two clients' batches: their history, and the map at its end.
+
+use log_batch::Batch;
+use model_base::Flag;
+use run_batches::BatchList;
+use run_outcome::History;
+use run_threads_outcome::{history_of, state_of};
+use std::alloc::Global;
+use std::test::Fail;
+
+/// A record: a value, or none where the key is deleted.
+type Row = (&'static [u8], Option<&'static [u8]>);
+
+/// An accepted batch: whose, the how many-th of that client, its run from the first sequence to the last, and its
+/// records.
+type Commit = ((u32, u64), (u64, u64), &'static [Row]);
+
+/// The runs of two clients take turns. The key `a` is set by both and deleted by the first.
+const COMMITS: [Commit; 4] = [
+    ((1, 1), (1, 2), &[(b"c", Some(b"1")), (b"a", Some(b"2"))]),
+    ((2, 1), (3, 3), &[(b"a", Some(b"3"))]),
+    ((1, 2), (4, 4), &[(b"a", None)]),
+    ((2, 2), (5, 6), &[(b"b", Some(b"4")), (b"c", Some(b"5"))]),
+];
+
+/// The keys that the history leaves, each before its value.
+const LEFT: [&[u8]; 4] = [b"b", b"4", b"c", b"5"];
+
+fn batch_of(alloc: Global, sequence: u64, rows: &[Row]) -> Result<Batch, Fail> {
+    let mut batch = Batch::new(alloc)?;
+    for (key, value) in rows {
+        match value {
+            Some(value) => batch.put(key, value)?,
+            None => batch.delete(key)?,
+        }
+    }
+    batch.set_sequence(sequence);
+    Ok(batch)
+}
+
+/// The accepted batches of a client.
+fn accepted(alloc: Global, of: u32) -> Result<BatchList, Fail> {
+    let mut list = BatchList::new(alloc);
+    for ((client, _), (first, _), rows) in COMMITS {
+        if client == of {
+            let batch = batch_of(alloc, first, rows)?;
+            list.push(Flag::Log, &batch)?;
+        }
+    }
+    Ok(list)
+}
+
+/// The history of both clients.
+fn whole(alloc: Global) -> Result<History, Fail> {
+    let both = vec![in alloc; accepted(alloc, 1)?, accepted(alloc, 2)?]?;
+    Ok(history_of(alloc, both)?)
+}
+
+#[test]
+fn history_is_in_order_of_sequences(rt: HostRuntime) -> Result<(), Fail> {
+    let history = whole(rt.alloc())?;
+    assert_eq!(rt; history.len(), COMMITS.len());
+    for at in 0..history.len() {
+        let (owner, run, _) = COMMITS[at];
+        let entry = history.entry(at);
+        let shown = (
+            (entry.client, entry.ordinal),
+            (entry.first, entry.last),
+            entry.batch.sequence(),
+        );
+        assert_eq!(rt; shown, (owner, run, run.0));
+    }
+    Ok(())
+}
+
+#[test]
+fn map_is_that_of_the_whole_history(rt: HostRuntime) -> Result<(), Fail> {
+    let history = whole(rt.alloc())?;
+    let state = state_of(rt.alloc(), &history)?;
+    let [(b, four), (c, five)] = state.as_slice() else {
+        return Err(Fail::new("not two pairs"));
+    };
+    let left = [b.as_slice(), four.as_slice(), c.as_slice(), five.as_slice()];
+    assert_eq!(rt; left, LEFT);
+    Ok(())
+}

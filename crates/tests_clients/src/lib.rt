@@ -1,0 +1,16 @@
+//! Tests of the clients: the checks of their commits, their commands over a write path that finds no memory, the
+//! history and the map of all of them, and the script of a seed. They stand in a crate of their own, so that
+//! `run_calls`, `run_outcome`, `run_threads`, `run_threads_outcome` and `run_generator` are proved once and not with
+//! their tests again.
+#![tactic(auto)]
+
+#[cfg(test)]
+mod checks;
+#[cfg(test)]
+mod generated;
+#[cfg(test)]
+mod history;
+#[cfg(test)]
+mod mute;
+#[cfg(test)]
+mod no_memory;

@@ -1,0 +1,157 @@
+//! A write path that finds no memory for anything past the checks of a commit.
+
+use base_bytes::{Bytes, Read, Reads, Rows};
+use engine_calls::{Clients, Closed, Engine, Held, NotHeld, Receipt, Refused};
+use log_batch::Batch;
+use model_accounts::earlier_sights;
+use model_base::{NoMemory, Refusal, WriteOptions};
+use run_calls::{Measure, refusal_at_once};
+use std::sync::Wait;
+use std::sync::atomic::{AtomicU64, Ordering};
+
+/// It counts how many clients were ended. Nobody gets a token: who asks for one waits, as does who closes it.
+#[derive(Drop)]
+pub struct Mute {
+    pub clients: u64,
+    pub batch_bytes: u64,
+    pub ended: AtomicU64,
+}
+
+#[derive(Drop)]
+pub struct MuteClient {
+    pub number: u32,
+}
+
+/// It has no log.
+pub struct NoLog;
+
+impl Engine for Mute {
+    type Client = MuteClient;
+
+    type Room = ();
+
+    type Log = NoLog;
+
+    ghost use Rattle.std.specs.Prelude.{⊤, List, None, map};
+    ghost use Rattle.model_base.specs.Trace.{Trace};
+    ghost use Rattle.model_base.specs.Groups.{Group};
+    ghost use Rattle.model_accounts.specs.Accounts.{newcomer};
+    ghost use Rattle.model_accounts.specs.Closing.{AreOurs, all_attempts, IsClosing};
+    ghost use Rattle.model_runs.specs.Written.{WritesLog};
+
+    ghost settings = { λ e. record {
+      start = 0;
+      clients = e.clients;
+      group_bytes = 0;
+      batch_bytes = e.batch_bytes;
+      opened = 0;
+    } };
+
+    ghost account = { λ c. newcomer 0 c.number };
+
+    ghost belongs = { λ e c. ⊤ };
+
+    ghost closes = { λ e room. ⊤ };
+
+    ghost wrote = { λ e calls log. ⊤ };
+
+    ghost fault = { λ log. None };
+
+    ghost faults = { λ log. 0 };
+
+    fn write<R: Wait>(
+        &self,
+        _rt: &R,
+        _client: &mut MuteClient,
+        batch: Batch,
+        options: WriteOptions,
+    ) -> Result<Receipt, Refused> {
+        earlier_sights();
+        let measure = Measure::of(&batch);
+        match refusal_at_once(measure, options, self.batch_bytes, false) {
+            Some(why) => Err(Refused { batch, why }),
+            None => Err(Refused {
+                batch,
+                why: Refusal::NoMemory,
+            }),
+        }
+    }
+
+    fn get<R: Wait>(
+        &self,
+        _rt: &R,
+        _client: &mut MuteClient,
+        _key: &[u8],
+    ) -> Result<Read, NoMemory> {
+        earlier_sights();
+        Err(NoMemory)
+    }
+
+    fn get_many<R: Wait>(
+        &self,
+        _rt: &R,
+        _client: &mut MuteClient,
+        _keys: &[Bytes],
+    ) -> Result<Reads, NoMemory> {
+        earlier_sights();
+        Err(NoMemory)
+    }
+
+    fn scan<R: Wait>(
+        &self,
+        _rt: &R,
+        _client: &mut MuteClient,
+        _lo: &[u8],
+        _hi: &[u8],
+    ) -> Result<Rows, NoMemory> {
+        earlier_sights();
+        Err(NoMemory)
+    }
+
+    fn stop<R: Wait>(&self, rt: &R, _client: &mut MuteClient) -> Result<(), Held> {
+        for _ in rt.forever() {}
+        unreachable!()
+    }
+
+    fn unstop<R: Wait>(&self, _rt: &R, _client: &mut MuteClient) -> Result<(), NotHeld> {
+        earlier_sights();
+        Err(NotHeld)
+    }
+
+    fn slow<R: Wait>(&self, rt: &R, _client: &mut MuteClient, _rate: u64) -> Result<(), Held> {
+        for _ in rt.forever() {}
+        unreachable!()
+    }
+
+    fn unslow<R: Wait>(&self, _rt: &R, _client: &mut MuteClient) -> Result<(), NotHeld> {
+        earlier_sights();
+        Err(NotHeld)
+    }
+
+    fn end<R: Wait>(&self, _rt: &R, _client: &mut MuteClient) {
+        earlier_sights();
+        self.ended.fetch_add(1, Ordering::SeqCst);
+    }
+
+    fn close<R: Wait>(self, rt: &R, clients: Clients<MuteClient, ()>) -> Closed<NoLog>
+        requires all { AreOurs (λ c. ⊤) (λ c. newcomer 0 c.number) self.clients clients.clients.items }
+        requires room { ⊤ }
+        ensures { let accounts = map (λ c. newcomer 0 c.number) clients.clients.items in
+            (trace : Trace) × (groups : List Group)
+            × IsClosing (record {
+              start = 0;
+              clients = self.clients;
+              group_bytes = 0;
+              batch_bytes = self.batch_bytes;
+              opened = 0;
+            }) 0 trace groups accounts result.last None
+            × WritesLog 0 (λ calls. ⊤) trace (all_attempts accounts) None }
+    {
+        let Clients {
+            clients: _,
+            room: _,
+        } = clients;
+        for _ in rt.forever() {}
+        unreachable!()
+    }
+}

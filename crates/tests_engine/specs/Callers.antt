@@ -1,0 +1,48 @@
+-- Who may call an engine whose table is in memory.
+use Rattle.std.specs.Prelude.{◌≡◌, ℕ, ◌+◌, ◌<◌, List, length, slice_index_or}
+use Rattle.base_devices.specs.declared.disk.Disk.{Ghosts}
+use Rattle.base_devices.specs.declared.stepped_clock.SteppedClock.{SteppedClock}
+use Rattle.table_tree.specs.declared.node.Nodes.{Nodes}
+use Rattle.engine_memory.specs.declared.memory_table.MemoryTable.{MemoryTable}
+use Rattle.engine_memory.specs.Tables.{Seat, Turn, opening_of, account_of, IsOurs}
+use Rattle.line_writers.specs.Seats.{clients_of}
+use Rattle.engine_calls.specs.declared.engine.Clients.{Clients}
+use Rattle.engine_calls.specs.declared.gate.OpenGate.{OpenGate}
+use Rattle.engine_groups.specs.declared.engine.GroupEngine.{GroupEngine}
+use Rattle.engine_groups.specs.declared.engine.Client.{Client}
+use Rattle.engine_groups.specs.declared.engine.Room.{Room}
+use Rattle.engine_groups.specs.Clients.{IsClientOf, HasRoomToClose, account_in}
+
+-- an engine over a disk, one of its clients, and all of them
+abbrev pub Path : (D : Type 0) → Ghosts D → Type 0
+Path D ghosts = GroupEngine D MemoryTable SteppedClock OpenGate Seat Turn Nodes ghosts
+
+abbrev pub Member : (D : Type 0) → Ghosts D → Type 0
+Member D ghosts = Client D MemoryTable SteppedClock Seat Turn Nodes ghosts
+
+abbrev pub Members : (D : Type 0) → Ghosts D → Type 0
+Members D ghosts = Clients (Member D ghosts) (Room D MemoryTable SteppedClock Seat Turn Nodes ghosts)
+
+module _ {D : Type 0} {ghosts : Ghosts D} where
+  -- the number of a client's account
+  abbrev pub number_of : Member D ghosts → ℕ
+  number_of c = (account_in opening_of IsOurs account_of c).number
+
+  -- it is one of the engine's clients, between two of its calls
+  abbrev pub MayCall : Path D ghosts → Member D ghosts → Type 0
+  MayCall e c = IsClientOf opening_of IsOurs account_of e c
+
+  -- it is the engine's client of this number, between two of its calls
+  pub record IsCaller (e : Path D ghosts) (n : ℕ) (c : Member D ghosts) : Type 0 where
+    pub belongs : MayCall e c
+    pub number : number_of c ≡ n
+
+  -- the clients from 1 on may call
+  pub record AllMayCall (e : Path D ghosts) (cs : List (Member D ghosts)) : Type 0 where
+    pub each : (i : ℕ) (d : Member D ghosts) → i < length cs → IsCaller e (i + 1) (slice_index_or cs i d)
+
+  -- these are all its clients, and they may call and close it
+  pub record AreAll (e : Path D ghosts) (all : Members D ghosts) : Type 0 where
+    pub may : AllMayCall e all.clients.items
+    pub len : length all.clients.items ≡ clients_of e.list
+    pub room : HasRoomToClose e.controller (clients_of e.list) all.room

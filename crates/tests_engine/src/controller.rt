@@ -1,0 +1,136 @@
+//! The write controller on one thread: waits worked by hand, and each call once.
+
+ghost use Rattle.std.specs.Prelude.{IfSome};
+ghost use Rattle.engine_controller.specs.Passes.{IsPassOf, AreNew};
+
+use base_devices::SteppedClock;
+use engine_controller::{Controller, Held, NotHeld, Pass, Passes};
+use std::process::Abort;
+use std::rt::HostRuntime;
+use std::sync::Wait;
+use std::test::Fail;
+
+type Stepped = Controller<SteppedClock>;
+
+/// At a moment a client slows writes to a rate, and asks for bytes three times, then with no slow token any more.
+#[derive(Clone, Copy)]
+struct Row {
+    moment: u64,
+    rate: u64,
+    asked: [u64; 3],
+    waits: [u64; 4],
+}
+
+const ROWS: [Row; 5] = [
+    // A rate of a byte a microsecond. The first delay refills a millisecond's bytes and spends 500 of these 1000. The
+    // next one has 500 and lacks 1000, which are owed: the refill at 2000 moves on by a millisecond. One byte more is
+    // owed at once, so that no credit was left, and moves it on by a microsecond.
+    Row {
+        moment: 1000,
+        rate: 1_000_000,
+        asked: [500, 1500, 1],
+        waits: [0, 2000, 2001, 0],
+    },
+    // The other 500 of the 1000 are there, and no more.
+    Row {
+        moment: 1000,
+        rate: 1_000_000,
+        asked: [500, 500, 1],
+        waits: [0, 0, 1001, 0],
+    },
+    // One more than the other 500 is owed.
+    Row {
+        moment: 1000,
+        rate: 1_000_000,
+        asked: [500, 501, 1],
+        waits: [0, 1001, 1002, 0],
+    },
+    // One byte a second: a millisecond's refill is one byte, and the other 16 are owed, from a millisecond on.
+    Row {
+        moment: 1000,
+        rate: 1,
+        asked: [17, 17, 1],
+        waits: [16_001_000, 33_001_000, 34_001_000, 0],
+    },
+    // Moments stop at the greatest: the first delay moves the refill there, and the others find it there, with no
+    // credit.
+    Row {
+        moment: 0,
+        rate: 1,
+        asked: [u64::MAX, u64::MAX, 1],
+        waits: [u64::MAX, u64::MAX, u64::MAX, 0],
+    },
+];
+
+// The last client's pass.
+fn last_of(controller: &Stepped, mut passes: Passes, clients: u32) -> Option<Pass>
+    requires new { AreNew controller.now clients passes }
+    ensures own { IfSome result (λ p. IsPassOf controller.now p) }
+{
+    passes.clients.pop()
+}
+
+fn check_row<R: Wait + Abort>(rt: &R, controller: &Stepped, pass: &mut Pass, row: &Row)
+    requires own { IsPassOf controller.now pass.old }
+{
+    let mut clock = SteppedClock::new(row.moment);
+    let slowed = controller.slow(rt, pass, row.rate);
+    let told = controller.delay(rt, pass, &mut clock, row.asked[0]);
+    let second = controller.delay(rt, pass, &mut clock, row.asked[1]).wait();
+    let third = controller.delay(rt, pass, &mut clock, row.asked[2]).wait();
+    let unslowed = controller.unslow(rt, pass);
+    let free = controller.delay(rt, pass, &mut clock, 17).wait();
+    let answers = (slowed, told.stops(), told.delays(), unslowed);
+    assert_eq!(rt; answers, (Ok(()), 0, 1, Ok(())));
+    assert_eq!(rt; [told.wait(), second, third, free], row.waits);
+}
+
+#[test]
+fn slowed_writes_wait(rt: HostRuntime) -> Result<(), Fail> {
+    for row in &ROWS {
+        let (controller, passes) = Stepped::open(rt.alloc(), 1)?;
+        let Some(mut pass) = last_of(&controller, passes, 1) else {
+            panic!(rt; "no pass")
+        };
+        check_row(&rt, &controller, &mut pass, row);
+    }
+    Ok(())
+}
+
+#[test]
+fn a_client_holds_one_stop_token(rt: HostRuntime) -> Result<(), Fail> {
+    let (controller, passes) = Stepped::open(rt.alloc(), 2)?;
+    let Some(mut pass) = last_of(&controller, passes, 2) else {
+        panic!(rt; "no pass")
+    };
+    let stopped = controller.stop(&rt, &mut pass);
+    let stops = controller.look(&rt, &mut pass).stops();
+    let again = controller.stop(&rt, &mut pass);
+    assert_eq!(rt; (stopped, stops, again), (Ok(()), 1, Err(Held)));
+    let unstopped = controller.unstop(&rt, &mut pass);
+    let none = controller.unstop(&rt, &mut pass);
+    assert_eq!(rt; (unstopped, none), (Ok(()), Err(NotHeld)));
+    Ok(())
+}
+
+#[test]
+fn who_ends_slows_no_more(rt: HostRuntime) -> Result<(), Fail> {
+    let (controller, passes) = Stepped::open(rt.alloc(), 2)?;
+    let Some(mut pass) = last_of(&controller, passes, 2) else {
+        panic!(rt; "no pass")
+    };
+    let slowed = controller.slow(&rt, &mut pass, 0);
+    controller.end(&rt, &mut pass);
+    let delays = controller.look(&rt, &mut pass).delays();
+    assert_eq!(rt; (slowed, delays), (Ok(()), 0));
+    let note = controller.note(&mut pass);
+    controller.learn(&rt, &mut pass, note);
+    Ok(())
+}
+
+#[test]
+fn opens_and_closes(rt: HostRuntime) -> Result<(), Fail> {
+    let (controller, passes) = Stepped::open(rt.alloc(), 16)?;
+    controller.close(&rt, passes);
+    Ok(())
+}

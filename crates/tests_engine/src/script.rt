@@ -1,0 +1,61 @@
+// What a client of a test does, and what it is told.
+
+use model_base::{Refusal, WriteOptions};
+
+/// A call of a client.
+#[derive(Drop, Clone, Copy)]
+pub enum Step {
+    /// A batch that puts each of the values at the key before it.
+    Write {
+        rows: &'static [(&'static [u8], &'static [u8])],
+        options: WriteOptions,
+    },
+    /// The batch that the last refused write gave back.
+    Again {
+        options: WriteOptions,
+    },
+    Read {
+        key: &'static [u8],
+    },
+    Stop,
+    Unstop,
+    Slow {
+        rate: u64,
+    },
+    Unslow,
+}
+
+/// What a call answered.
+#[derive(Clone, Copy, Debug, PartialEq, Eq)]
+pub enum Note {
+    /// The batch was written under so many sequences from the first on, in a group that ends at `group_last`. It came
+    /// back with this sequence set.
+    Wrote {
+        first: u64,
+        count: u32,
+        group_last: u64,
+        sequence: u64,
+    },
+    Refused(Refusal),
+    /// A read at this sequence found a value of this one byte.
+    Saw {
+        at: u64,
+        byte: u8,
+    },
+    /// A read at this sequence found a value that no test writes.
+    SawAnother {
+        at: u64,
+    },
+    /// A read at this sequence found no value.
+    SawNone {
+        at: u64,
+    },
+    /// A read had no memory.
+    NoMemory,
+    /// A token was taken or given back.
+    Done,
+    /// The client holds such a token.
+    Held,
+    /// The client holds no such token.
+    NotHeld,
+}

@@ -1,0 +1,140 @@
+//! The write path on one thread, and threads that write and read at once.
+//!
+//! - `alone`: what one client is told, and what its log has then
+//! - `at_once`: runs and reads of clients that write at once
+//! - `faults`: clients that write at once, while a call of the disk fails
+//! - `stops`: a client that stops writes, beside one that writes
+
+ghost use Rattle.std.specs.Prelude.{◌≤◌};
+ghost use Rattle.model_base.specs.History.{max_sequence};
+ghost use Rattle.engine_memory.specs.Tables.{HasShards};
+
+mod alone;
+mod at_once;
+mod faults;
+mod playing;
+mod stops;
+
+use crate::script::{Note, Step};
+use base_devices::MemDisk;
+use engine_memory::TableKind;
+use model_base::WriteOptions;
+use playing::{closed, opened, play_at_once};
+use run_calls::Options;
+use std::alloc::Global;
+use std::process::Abort;
+use std::sync::{Mutex, Wait};
+use std::thread::Threads;
+
+const PLAIN: WriteOptions = WriteOptions {
+    sync: false,
+    no_log: false,
+    no_slowdown: false,
+};
+
+/// A write that may not wait.
+const HASTY: WriteOptions = WriteOptions {
+    no_slowdown: true,
+    ..PLAIN
+};
+
+const PUT_A: Step = Step::Write {
+    rows: &[(b"a", b"1")],
+    options: PLAIN,
+};
+
+const PUT_B: Step = Step::Write {
+    rows: &[(b"b", b"2")],
+    options: PLAIN,
+};
+
+const HASTY_PUT: Step = Step::Write {
+    rows: &[(b"a", b"1")],
+    options: HASTY,
+};
+
+const READ_A: Step = Step::Read { key: b"a" };
+
+const READ_B: Step = Step::Read { key: b"b" };
+
+// What came of an engine: what each client was told, the disk, the log's length and fault, and the last published
+// sequence.
+#[derive(Drop)]
+struct Outcome {
+    notes: Vec<Vec<Note>>,
+    disk: MemDisk,
+    len: u64,
+    fault: Option<u64>,
+    last: u64,
+}
+
+// Opens an engine over a table of this kind, in one stage or two, with a client for each script, lets all play at once,
+// and closes it. The disk has much room, and its calls with a number in the list fail. The first batch is written after
+// this sequence.
+fn ended<R: Threads + Wait + Abort + Sync>(
+    rt: &R,
+    alloc: Global,
+    fails: &[u64],
+    start: u64,
+    kind: TableKind,
+    pipelined: bool,
+    scripts: &[Vec<Step>],
+) -> Outcome
+    requires start { start ≤ max_sequence }
+    requires kind { HasShards kind }
+{
+    let options = Options {
+        last: start,
+        group_bytes: 1048576,
+        batch_bytes: 16777216,
+    };
+    let count = scripts.len();
+    assert!(rt; 0 < count && count <= 16);
+    let mut shared = Vec::with_capacity(alloc, count).expect(rt, "memory");
+    for _ in 0..count {
+        shared
+            .push(Mutex::new(Vec::new(alloc)))
+            .expect(rt, "memory");
+    }
+    let (engine, mut all) = opened(
+        rt,
+        alloc,
+        65536,
+        fails,
+        count as u32,
+        options,
+        kind,
+        pipelined,
+    );
+    play_at_once(
+        rt,
+        alloc,
+        &engine,
+        all.clients.as_mut_slice(),
+        scripts,
+        shared.as_slice(),
+    );
+    let (log, last) = closed(rt, engine, all);
+    let len = log.len();
+    let fault = log.fault();
+    let mut notes = Vec::with_capacity(alloc, count).expect(rt, "memory");
+    for told in shared {
+        notes.push(told.into_inner()).expect(rt, "memory");
+    }
+    Outcome {
+        notes,
+        disk: log.into_disk(),
+        len,
+        fault,
+        last,
+    }
+}
+
+// A script of these steps, so many times over.
+fn script(rt: &impl Abort, alloc: Global, steps: &[Step], times: usize) -> Vec<Step> {
+    let mut all = Vec::new(alloc);
+    for _ in 0..times {
+        all.extend_from_slice(steps).expect(rt, "memory");
+    }
+    all
+}

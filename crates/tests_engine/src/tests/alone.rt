@@ -1,0 +1,171 @@
+// One client on its own, which writes one record. The clock stands at 1000.
+
+use super::{HASTY_PUT, PLAIN, PUT_A, PUT_B, READ_A, READ_B, ended, script};
+use crate::script::{Note, Step};
+use engine_memory::TableKind;
+use log_recovery::recover;
+use model_base::Refusal;
+use run_calls::MAX_SEQUENCE;
+use std::alloc::Global;
+use std::process::Abort;
+use std::rt::HostRuntime;
+use std::sync::Wait;
+use std::thread::Threads;
+
+const AGAIN: Step = Step::Again { options: PLAIN };
+
+const PUT_BOTH: Step = Step::Write {
+    rows: &[(b"a", b"1"), (b"b", b"2")],
+    options: PLAIN,
+};
+
+/// The first sequence of all.
+const FIRST: Note = Note::Wrote {
+    first: 1,
+    count: 1,
+    group_last: 1,
+    sequence: 1,
+};
+
+/// A sequence and the count 1, as a batch has them.
+const AT_FIRST: &[u8] = b"\x01\x00\x00\x00\x00\x00\x00\x00\x01\x00\x00\x00";
+
+const AT_LAST: &[u8] = b"\xff\xff\xff\xff\xff\xff\xff\x00\x01\x00\x00\x00";
+
+/// What a client does, and what it is told.
+#[derive(Clone, Copy)]
+struct Row {
+    /// The sequence before the first batch.
+    last: u64,
+    /// Which calls of the disk fail.
+    fails: &'static [u64],
+    steps: &'static [Step],
+    notes: &'static [Note],
+    /// The count of the log's fault.
+    fault: Option<u64>,
+    /// The sequence and the count of the record that is written.
+    start: &'static [u8],
+}
+
+const ROWS: [Row; 4] = [
+    // The disk's third call, the second append, fails. The length of the log stands, and recovery finds the first
+    // record.
+    Row {
+        last: 0,
+        fails: &[3],
+        steps: &[PUT_A, PUT_B, PUT_B, READ_B, READ_A],
+        notes: &[
+            FIRST,
+            Note::Refused(Refusal::LogFault { count: 1 }),
+            Note::Refused(Refusal::LogFault { count: 1 }),
+            Note::SawNone { at: 1 },
+            Note::Saw { at: 1, byte: b'1' },
+        ],
+        fault: Some(1),
+        start: AT_FIRST,
+    },
+    // Two sequences are left for three, and one for one.
+    Row {
+        last: 72057594037927934,
+        fails: &[],
+        steps: &[PUT_BOTH, PUT_A, PUT_B],
+        notes: &[
+            Note::Refused(Refusal::SequenceFull {
+                last: 72057594037927934,
+            }),
+            Note::Wrote {
+                first: 72057594037927935,
+                count: 1,
+                group_last: 72057594037927935,
+                sequence: 72057594037927935,
+            },
+            Note::Refused(Refusal::SequenceFull {
+                last: 72057594037927935,
+            }),
+        ],
+        fault: None,
+        start: AT_LAST,
+    },
+    // A client that stops writes is told so where its write may not wait, and where it may, that it would wait for
+    // itself.
+    Row {
+        last: 0,
+        fails: &[],
+        steps: &[
+            Step::Stop,
+            HASTY_PUT,
+            AGAIN,
+            Step::Stop,
+            Step::Unstop,
+            Step::Unstop,
+            AGAIN,
+        ],
+        notes: &[
+            Note::Done,
+            Note::Refused(Refusal::Incomplete {
+                stops: 1,
+                delays: 0,
+                wait: 0,
+            }),
+            Note::Refused(Refusal::SelfStop),
+            Note::Held,
+            Note::Done,
+            Note::NotHeld,
+            FIRST,
+        ],
+        fault: None,
+        start: AT_FIRST,
+    },
+    // At a byte a second, a millisecond's refill is one byte of 17, and the other 16 are owed from a millisecond on.
+    Row {
+        last: 0,
+        fails: &[],
+        steps: &[Step::Slow { rate: 1 }, HASTY_PUT, Step::Unslow, AGAIN],
+        notes: &[
+            Note::Done,
+            Note::Refused(Refusal::Incomplete {
+                stops: 0,
+                delays: 1,
+                wait: 16_001_000,
+            }),
+            Note::Done,
+            FIRST,
+        ],
+        fault: None,
+        start: AT_FIRST,
+    },
+];
+
+// The record of a batch that puts one byte at a key of one byte has 24 bytes. The batch begins behind the first seven.
+fn check_row<R: Threads + Wait + Abort + Sync>(rt: &R, alloc: Global, row: &Row, pipelined: bool) {
+    assert!(rt; row.last < MAX_SEQUENCE);
+    let scripts = vec![in alloc; script(rt, alloc, row.steps, 1)].expect(rt, "memory");
+    let ended = ended(
+        rt,
+        alloc,
+        row.fails,
+        row.last,
+        TableKind::One,
+        pipelined,
+        &scripts,
+    );
+    let told = ended.notes.first().expect(rt, "notes");
+    assert_eq!(rt; told.as_slice(), row.notes);
+    let last = row.last + 1;
+    assert_eq!(rt; (ended.len, ended.fault, ended.last), (24, row.fault, last));
+    let mut disk = ended.disk;
+    let content = disk.content();
+    assert_eq!(rt; (content.len(), content.get(7..19)), (24, Some(row.start)));
+    let Ok(found) = recover(alloc, &mut disk) else {
+        panic!(rt; "not recovered")
+    };
+    assert_eq!(rt; (found.groups.len(), found.last, found.kept), (1, last, 24));
+}
+
+#[test]
+fn one_client_is_told_how_its_calls_ended(rt: HostRuntime) {
+    for row in &ROWS {
+        check_row(&rt, rt.alloc(), row, false);
+        check_row(&rt, rt.alloc(), row, true);
+    }
+}

@@ -1,0 +1,188 @@
+// Clients that write at once: the runs that they are given, and what their reads see.
+
+ghost use Rattle.engine_memory.specs.Tables.{HasShards};
+
+use super::{PLAIN, PUT_A, READ_A, READ_B, ended, script};
+use crate::script::{Note, Step};
+use engine_memory::TableKind;
+use std::alloc::Global;
+use std::process::Abort;
+use std::rt::HostRuntime;
+use std::sync::Wait;
+use std::thread::Threads;
+
+/// What clients do at once.
+#[derive(Clone, Copy)]
+struct Round {
+    /// How many calls each makes, and how many of all are writes.
+    calls: usize,
+    writes: usize,
+    /// How many sequences each batch takes.
+    count: u32,
+    /// The last sequence that is given.
+    last: u64,
+}
+
+// At the end of each run the number of its write, where the clients' writes are counted from 1, client by client. All
+// that aren't reads are writes. Each has its run, which no other has.
+fn owners(rt: &impl Abort, notes: &[Vec<Note>], round: Round) -> [usize; 201] {
+    let mut owner = [0usize; 201];
+    let mut write = 0usize;
+    for told in notes {
+        assert_eq!(rt; told.len(), round.calls);
+        for note in told {
+            if let Note::Wrote {
+                first,
+                count,
+                group_last,
+                sequence,
+            } = *note
+            {
+                write = write.wrapping_add(1);
+                let end = first.wrapping_add(u64::from(count)).wrapping_sub(1);
+                let place = owner.get_mut(end as usize).expect(rt, "one of 200");
+                assert!(rt;
+                    *place == 0
+                        && count == round.count
+                        && 1 <= first
+                        && sequence == first
+                        && end <= group_last
+                        && group_last <= round.last,
+                    "write {write} ends at {end}"
+                );
+                *place = write;
+            }
+        }
+    }
+    assert_eq!(rt; write, round.writes);
+    owner
+}
+
+// Two clients write a hundred times each: the runs 1 to 200 are given once each.
+fn two_write<R: Threads + Wait + Abort + Sync>(rt: &R, alloc: Global, pipelined: bool) {
+    let round = Round {
+        calls: 100,
+        writes: 200,
+        count: 1,
+        last: 200,
+    };
+    let own = script(rt, alloc, &[PUT_A], 100);
+    let others = script(rt, alloc, &[PUT_A], 100);
+    let ended = ended(rt, alloc, &[], 0, TableKind::One, pipelined, &[own, others]);
+    assert_eq!(rt; (ended.last, ended.fault), (round.last, None));
+    owners(rt, &ended.notes, round);
+}
+
+#[test]
+fn two_write_at_once(rt: HostRuntime) {
+    let alloc = rt.alloc();
+    two_write(&rt, alloc, false);
+    two_write(&rt, alloc, true);
+}
+
+/// What four clients write, four times each: both keys with a name of the write's own, which is one byte.
+const NAMED: [[&[(&[u8], &[u8])]; 4]; 4] = [
+    [
+        &[(b"a", b"A"), (b"b", b"A")],
+        &[(b"a", b"B"), (b"b", b"B")],
+        &[(b"a", b"C"), (b"b", b"C")],
+        &[(b"a", b"D"), (b"b", b"D")],
+    ],
+    [
+        &[(b"a", b"E"), (b"b", b"E")],
+        &[(b"a", b"F"), (b"b", b"F")],
+        &[(b"a", b"G"), (b"b", b"G")],
+        &[(b"a", b"H"), (b"b", b"H")],
+    ],
+    [
+        &[(b"a", b"I"), (b"b", b"I")],
+        &[(b"a", b"J"), (b"b", b"J")],
+        &[(b"a", b"K"), (b"b", b"K")],
+        &[(b"a", b"L"), (b"b", b"L")],
+    ],
+    [
+        &[(b"a", b"M"), (b"b", b"M")],
+        &[(b"a", b"N"), (b"b", b"N")],
+        &[(b"a", b"O"), (b"b", b"O")],
+        &[(b"a", b"P"), (b"b", b"P")],
+    ],
+];
+
+/// The byte before the first name.
+const BEFORE_NAMES: usize = b'@' as usize;
+
+const FOUR: Round = Round {
+    calls: 12,
+    writes: 16,
+    count: 2,
+    last: 32,
+};
+
+// A client writes both keys with a name of its own and reads them, four times.
+fn writes_and_reads(
+    rt: &impl Abort,
+    alloc: Global,
+    names: &[&'static [(&'static [u8], &'static [u8])]],
+) -> Vec<Step> {
+    let mut steps = Vec::new(alloc);
+    for rows in names {
+        let write = Step::Write {
+            rows: *rows,
+            options: PLAIN,
+        };
+        steps
+            .extend_from_slice(&[write, READ_A, READ_B])
+            .expect(rt, "memory");
+    }
+    steps
+}
+
+// A read at the end of a batch sees that batch's name at each of both keys. No read is within a batch.
+fn check_read(rt: &impl Abort, owner: &[usize; 201], note: Note) {
+    match note {
+        Note::Wrote { .. } => {}
+        Note::Saw { at, byte } => {
+            let write = owner.get(at as usize).expect(rt, "one of 200");
+            assert!(rt;
+                at % 2 == 0 && byte as usize == write.wrapping_add(BEFORE_NAMES),
+                "{byte} at {at}"
+            );
+        }
+        _ => panic!(rt; "another answer"),
+    }
+}
+
+// Four clients write both keys and read them, over a table of any kind, in one stage or two.
+fn write_and_read_both<R: Threads + Wait + Abort + Sync>(
+    rt: &R,
+    alloc: Global,
+    kind: TableKind,
+    pipelined: bool,
+)
+    requires { HasShards kind }
+{
+    let mut scripts = Vec::with_capacity(alloc, 4).expect(rt, "memory");
+    for names in &NAMED {
+        scripts
+            .push(writes_and_reads(rt, alloc, names))
+            .expect(rt, "memory");
+    }
+    let ended = ended(rt, alloc, &[], 0, kind, pipelined, &scripts);
+    assert_eq!(rt; (ended.last, ended.fault), (FOUR.last, None));
+    let owner = owners(rt, &ended.notes, FOUR);
+    for told in &ended.notes {
+        for note in told {
+            check_read(rt, &owner, *note);
+        }
+    }
+}
+
+// Of three shards, the keys are in the first and in the last.
+#[test]
+fn no_read_sees_one_key_without_the_other(rt: HostRuntime) {
+    let alloc = rt.alloc();
+    for pipelined in [false, true] {
+        write_and_read_both(&rt, alloc, TableKind::One, pipelined);
+        write_and_read_both(&rt, alloc, TableKind::Shards(3), pipelined);
+    }
+}

@@ -1,0 +1,264 @@
+// Clients that call an engine over a disk in memory, each allowed where it calls.
+
+ghost use Rattle.std.specs.Prelude.{◌≡◌, ◌+◌, ◌<◌, ◌≤◌, length};
+ghost use Rattle.model_base.specs.History.{max_sequence};
+ghost use Rattle.engine_memory.specs.Tables.{HasShards};
+ghost use Rattle.line_writers.specs.Seats.{clients_of};
+ghost use Rattle.tests_engine.specs.Callers.{number_of, MayCall, IsCaller, AllMayCall, AreAll};
+
+use crate::script::{Note, Step};
+use base_bytes::{Found, Read};
+use base_devices::{MemDisk, SteppedClock};
+use engine_calls::{Clients, Closed, OpenGate, Receipt};
+use engine_groups::{Client, GroupEngine, Room};
+use engine_memory::{MemoryTable, TableKind, open_engine};
+use log_batch::Batch;
+use log_writer::LogWriter;
+use model_base::WriteOptions;
+use run_calls::Options;
+use std::alloc::Global;
+use std::process::Abort;
+use std::sync::{Mutex, Wait};
+use std::thread;
+use std::thread::Threads;
+
+pub(super) type Path = GroupEngine<MemDisk, MemoryTable, SteppedClock, OpenGate>;
+
+pub(super) type Member = Client<MemDisk, MemoryTable, SteppedClock>;
+
+pub(super) type Members = Clients<Member, Room<MemDisk, MemoryTable, SteppedClock>>;
+
+pub(super) type Notes = Mutex<Vec<Note>>;
+
+// Opens an engine with a table of this kind, in one stage or two, over an empty disk with so much room, of whose calls
+// those of a list fail. The first looks at the disk's length. The clock stands at 1000.
+pub(super) fn opened(
+    rt: &impl Abort,
+    alloc: Global,
+    room: usize,
+    fails: &[u64],
+    clients: u32,
+    options: Options,
+    kind: TableKind,
+    pipelined: bool,
+) -> (Path, Members)
+    requires options { (options.last ≤ max_sequence) × (options.batch_bytes ≤ 16777216) }
+    requires clients { (0 < clients) × (clients ≤ 16) }
+    requires kind { HasShards kind }
+    ensures all { AreAll result.0 result.1 }
+    ensures clients { clients_of result.0.list ≡ clients }
+{
+    let disk = MemDisk::new(alloc, room, b"", fails).expect(rt, "memory");
+    let Ok(log) = LogWriter::open(alloc, disk) else {
+        panic!(rt; "the log isn't opened")
+    };
+    match open_engine(
+        alloc,
+        log,
+        SteppedClock::new(1000),
+        clients,
+        OpenGate,
+        options,
+        kind,
+        pipelined,
+    ) {
+        Ok(opened) => opened,
+        Err(_) => panic!(rt; "no memory"),
+    }
+}
+
+// The batch that puts each of the values at the key before it.
+fn batch_of(rt: &impl Abort, alloc: Global, rows: &[(&[u8], &[u8])]) -> Batch {
+    let mut batch = Batch::new(alloc).expect(rt, "memory");
+    for (key, value) in rows {
+        batch.put(key, value).expect(rt, "room");
+    }
+    batch
+}
+
+// The note of a batch that was written.
+fn wrote(receipt: &Receipt) -> Note {
+    Note::Wrote {
+        first: receipt.first,
+        count: receipt.count,
+        group_last: receipt.group_last,
+        sequence: receipt.batch.sequence(),
+    }
+}
+
+// The note of a read.
+fn saw(read: &Read) -> Note {
+    let at = read.at;
+    match &read.value {
+        Found::Absent => Note::SawNone { at },
+        Found::Value(value) => match value.as_slice() {
+            [byte] => Note::Saw { at, byte: *byte },
+            _ => Note::SawAnother { at },
+        },
+    }
+}
+
+// Where the write is refused, the batch is what was given back last.
+fn write<R: Wait>(
+    rt: &R,
+    engine: &Path,
+    client: &mut Member,
+    batch: Batch,
+    options: WriteOptions,
+    back: &mut Option<Batch>,
+) -> Note
+    requires { MayCall engine.now client.old }
+    ensures { MayCall engine.now client.new × (number_of client.new ≡ number_of client.old) }
+{
+    match engine.write(rt, client, batch, options) {
+        Ok(receipt) => wrote(&receipt),
+        Err(refused) => {
+            *back = Some(refused.batch);
+            Note::Refused(refused.why)
+        }
+    }
+}
+
+fn read<R: Wait>(rt: &R, engine: &Path, client: &mut Member, key: &[u8]) -> Note
+    requires { MayCall engine.now client.old }
+    ensures { MayCall engine.now client.new × (number_of client.new ≡ number_of client.old) }
+{
+    match engine.get(rt, client, key) {
+        Ok(read) => saw(&read),
+        Err(_) => Note::NoMemory,
+    }
+}
+
+fn stop<R: Wait>(rt: &R, engine: &Path, client: &mut Member) -> Note
+    requires { MayCall engine.now client.old }
+    ensures { MayCall engine.now client.new × (number_of client.new ≡ number_of client.old) }
+{
+    match engine.stop(rt, client) {
+        Ok(()) => Note::Done,
+        Err(_) => Note::Held,
+    }
+}
+
+fn unstop<R: Wait>(rt: &R, engine: &Path, client: &mut Member) -> Note
+    requires { MayCall engine.now client.old }
+    ensures { MayCall engine.now client.new × (number_of client.new ≡ number_of client.old) }
+{
+    match engine.unstop(rt, client) {
+        Ok(()) => Note::Done,
+        Err(_) => Note::NotHeld,
+    }
+}
+
+fn slow<R: Wait>(rt: &R, engine: &Path, client: &mut Member, rate: u64) -> Note
+    requires { MayCall engine.now client.old }
+    ensures { MayCall engine.now client.new × (number_of client.new ≡ number_of client.old) }
+{
+    match engine.slow(rt, client, rate) {
+        Ok(()) => Note::Done,
+        Err(_) => Note::Held,
+    }
+}
+
+fn unslow<R: Wait>(rt: &R, engine: &Path, client: &mut Member) -> Note
+    requires { MayCall engine.now client.old }
+    ensures { MayCall engine.now client.new × (number_of client.new ≡ number_of client.old) }
+{
+    match engine.unslow(rt, client) {
+        Ok(()) => Note::Done,
+        Err(_) => Note::NotHeld,
+    }
+}
+
+fn step<R: Wait + Abort>(
+    rt: &R,
+    alloc: Global,
+    engine: &Path,
+    client: &mut Member,
+    step: Step,
+    back: &mut Option<Batch>,
+) -> Note
+    requires { MayCall engine.now client.old }
+    ensures { MayCall engine.now client.new × (number_of client.new ≡ number_of client.old) }
+{
+    match step {
+        Step::Write { rows, options } => {
+            let batch = batch_of(rt, alloc, rows);
+            write(rt, engine, client, batch, options, back)
+        }
+        Step::Again { options } => {
+            let batch = back.take().expect(rt, "a refused batch");
+            write(rt, engine, client, batch, options, back)
+        }
+        Step::Read { key } => read(rt, engine, client, key),
+        Step::Stop => stop(rt, engine, client),
+        Step::Unstop => unstop(rt, engine, client),
+        Step::Slow { rate } => slow(rt, engine, client, rate),
+        Step::Unslow => unslow(rt, engine, client),
+    }
+}
+
+// Takes the steps one after the other, and notes what it is told.
+fn play<R: Wait + Abort>(
+    rt: &R,
+    alloc: Global,
+    engine: &Path,
+    client: &mut Member,
+    steps: &[Step],
+    notes: &Notes,
+)
+    requires { MayCall engine.now client.old }
+    ensures { MayCall engine.now client.new × (number_of client.new ≡ number_of client.old) }
+{
+    let mut back = None;
+    for i in 0..steps.len() {
+        let note = step(rt, alloc, engine, client, steps[i], &mut back);
+        notes.lock(rt).push(note).expect(rt, "memory");
+    }
+}
+
+// The script and the notes of one of the clients.
+fn play_own<R: Wait + Abort>(
+    rt: &R,
+    alloc: Global,
+    engine: &Path,
+    client: &mut Member,
+    scripts: &[Vec<Step>],
+    notes: &[Notes],
+    i: usize,
+)
+    requires { IsCaller engine.now (i + 1) client.old }
+    ensures { IsCaller engine.now (i + 1) client.new }
+{
+    let (Some(steps), Some(notes)) = (scripts.get(i), notes.get(i)) else {
+        panic!(rt; "no script")
+    };
+    play(rt, alloc, engine, client, steps.as_slice(), notes);
+}
+
+// All clients play at once, each on a thread of its own.
+pub(super) fn play_at_once<R: Threads + Wait + Abort + Sync>(
+    rt: &R,
+    alloc: Global,
+    engine: &Path,
+    clients: &mut [Member],
+    scripts: &[Vec<Step>],
+    notes: &[Notes],
+)
+    requires { AllMayCall engine.now clients.old × (0 < length clients.old) }
+    ensures { AllMayCall engine.now clients.new × (length clients.new ≡ length clients.old) }
+{
+    let threads = clients.len();
+    let each = |i: usize, client: &mut Member|
+        requires { IsCaller engine.now (i + 1) client.now }
+        ensures { IsCaller engine.entry.now (i + 1) client.exit.now }
+    { play_own(rt, alloc, engine, client, scripts, notes, i) };
+    thread::for_each_mut(rt, clients, threads, &each);
+}
+
+// The log and the last published sequence.
+pub(super) fn closed<R: Wait>(rt: &R, engine: Path, all: Members) -> (LogWriter<MemDisk>, u64)
+    requires { AreAll engine all }
+{
+    let Closed { log, last } = engine.close(rt, all);
+    (log, last)
+}

@@ -1,0 +1,67 @@
+// A client that stops writes, beside one that writes.
+
+use super::{HASTY_PUT, PUT_B, ended, script};
+use crate::script::{Note, Step};
+use engine_memory::TableKind;
+use model_base::Refusal;
+use std::alloc::Global;
+use std::process::Abort;
+use std::rt::HostRuntime;
+use std::sync::Wait;
+use std::thread::Threads;
+
+// Each second write may wait and has its run, and of the others those that meet a stop are refused. The runs have no
+// gap: this is the last sequence.
+fn last_written(rt: &impl Abort, told: &[Note]) -> u64 {
+    let mut last = 0u64;
+    for (i, note) in told.iter().enumerate() {
+        let is_lawful = match *note {
+            Note::Wrote {
+                first,
+                count,
+                group_last,
+                sequence,
+            } => {
+                last = last.wrapping_add(1);
+                (first, count, group_last, sequence) == (last, 1, last, last)
+            }
+            Note::Refused(
+                Refusal::Incomplete {
+                    stops,
+                    delays,
+                    wait,
+                },
+            ) => i % 2 == 0 && (stops > 0 || (delays > 0 && wait > 0)),
+            _ => false,
+        };
+        assert!(rt; is_lawful, "{i}");
+    }
+    last
+}
+
+// One client stops and unstops, and never writes between. Another writes.
+fn stop_and_write<R: Threads + Wait + Abort + Sync>(rt: &R, alloc: Global, pipelined: bool) {
+    let stops = script(rt, alloc, &[Step::Stop, Step::Unstop], 20);
+    let writes = script(rt, alloc, &[HASTY_PUT, PUT_B], 20);
+    let ended = ended(
+        rt,
+        alloc,
+        &[],
+        0,
+        TableKind::One,
+        pipelined,
+        &[stops, writes],
+    );
+    let stopping = ended.notes.first().expect(rt, "notes");
+    assert_eq!(rt; stopping.as_slice(), [Note::Done; 40].as_slice());
+    let told = ended.notes.get(1).expect(rt, "notes");
+    let last = last_written(rt, told);
+    assert_eq!(rt; (told.len(), ended.last, ended.fault), (40, last, None));
+}
+
+#[test]
+fn one_stops_and_another_writes(rt: HostRuntime) {
+    let alloc = rt.alloc();
+    stop_and_write(&rt, alloc, false);
+    stop_and_write(&rt, alloc, true);
+}

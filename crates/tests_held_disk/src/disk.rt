@@ -1,0 +1,183 @@
+//! A disk that holds one append back.
+
+ghost use Rattle.std.specs.Prelude.{◌≡◌, ◌≢◌, ◌+◌, ◌-◌, ◌^◌, ◌<◌, ◌≤◌, length, false, IfOk, IfSome};
+
+use crate::Hold;
+use base_devices::{Disk, Failed, MemDisk};
+
+/// Where a disk stands to the append that is held.
+#[derive(Clone, Copy)]
+enum Turn {
+    /// The held append comes after so many others.
+    Ahead(u64),
+    /// The held append was let through, or no append is held.
+    Past,
+    /// The held append waited in vain. It tried to come so far; after the next sync this is 0.
+    Late(u64),
+}
+
+/// A disk in memory, one of whose appends waits until a [`Hold`] is open. All else is handed on to the disk in memory,
+/// and so is that append then.
+///
+/// An append that waits in vain fails and writes nothing. Then the disk tells nothing more of crashes before now.
+#[derive(Drop)]
+pub struct HeldDisk<'h> {
+    inner: MemDisk,
+    hold: &'h Hold,
+    turn: Turn,
+}
+
+impl<'h> HeldDisk<'h> {
+    ghost use Rattle.tests_held_disk.specs.HeldDisk.{inner_of, left_of, hold_need, need_of};
+    ghost use Rattle.tests_held_disk.specs.HeldDisk.{held_told, held_from, held_faults};
+    ghost use Rattle.base_devices.specs.MemDisk.{told_of, from_of, disk_calls};
+
+    /// Holds the `at`-th append to `inner` from now on, counted from 1. No append is held where `at` is 0.
+    pub fn new(inner: MemDisk, hold: &'h Hold, at: u64) -> HeldDisk<'h>
+        ensures inner { inner_of result ≡ inner }
+        ensures left { left_of result ≡ at }
+        ensures need { hold_need result ≡ need_of hold.now }
+        ensures told { held_told result ≡ told_of inner }
+        ensures from { held_from result ≡ from_of inner }
+        ensures faults { held_faults result ≡ (disk_calls inner).faults }
+    {
+        match at.checked_sub(1) {
+            Some(others) => HeldDisk {
+                inner,
+                hold,
+                turn: Turn::Ahead(others),
+            },
+            None => HeldDisk {
+                inner,
+                hold,
+                turn: Turn::Past,
+            },
+        }
+    }
+
+    /// The disk in memory again.
+    pub fn into_disk(self) -> MemDisk
+        ensures { result ≡ inner_of self.entry }
+    {
+        self.inner
+    }
+}
+
+impl<'h> Disk for HeldDisk<'h> {
+    ghost use Rattle.base_devices.specs.Disk.{Appended, GrowsBy, Synced, ReadsAt, Told, TimePasses};
+    ghost use Rattle.base_devices.specs.Faults.{HasCause};
+    ghost use Rattle.base_devices.specs.MemDisk.{has_no_room};
+    ghost use Rattle.tests_held_disk.specs.HeldDisk.{inner_of, left_of, hold_need, FailsAsInner};
+    ghost use Rattle.tests_held_disk.specs.HeldDisk.{held_told, held_added, held_moment, held_from, held_since, held_faults};
+    ghost use Rattle.tests_held_disk.specs.HeldDiskLaws.{held_is_disk, held_added_small, held_counts_now, held_only_now};
+
+    ghost told = { held_told };
+
+    ghost added = { held_added };
+
+    ghost moment = { held_moment };
+
+    ghost from = { held_from };
+
+    ghost since = { held_since };
+
+    ghost faults = { held_faults };
+
+    ghost is_disk = { held_is_disk };
+
+    ghost added_small = { held_added_small };
+
+    ghost counts_now = { held_counts_now };
+
+    ghost only_now = { held_only_now };
+
+    fn faults(&self) -> u64 {
+        match self.turn {
+            Turn::Late(_) => self.inner.faults().saturating_add(1),
+            Turn::Ahead(_) | Turn::Past => self.inner.faults(),
+        }
+    }
+
+    // It fails just as the disk in memory does.
+    fn len(&mut self) -> Result<u64, Failed>
+        ensures len { IfSome (held_told self.old) (λ d. IfOk result (λ n. n ≡ length d.content)) }
+        ensures small { IfOk result (λ n. n < 2 ^ 63) }
+        ensures same { held_told self.new ≡ held_told self.old }
+        ensures adds_none { held_added self.new ≡ held_added self.old }
+        ensures time { TimePasses held_told held_moment held_from held_since self.old self.new }
+        ensures left { left_of self.new ≡ left_of self.old }
+        ensures need { hold_need self.new ≡ hold_need self.old }
+        ensures handed_on { FailsAsInner self.old self.new false result }
+        ensures cause { HasCause (held_faults self.old) (held_faults self.new) result }
+    {
+        self.inner.len()
+    }
+
+    // It fails just as the disk in memory does.
+    fn read(&mut self, at: u64, buf: &mut [u8]) -> Result<usize, Failed>
+        ensures bytes { IfSome (held_told self.old) (λ d. ReadsAt d at buf.new result) }
+        ensures at_most { IfOk result (λ n. n ≤ length buf.new) }
+        ensures small { IfOk result (λ n. 0 < n → at + n < 2 ^ 63) }
+        ensures same { held_told self.new ≡ held_told self.old }
+        ensures adds_none { held_added self.new ≡ held_added self.old }
+        ensures time { TimePasses held_told held_moment held_from held_since self.old self.new }
+        ensures left { left_of self.new ≡ left_of self.old }
+        ensures need { hold_need self.new ≡ hold_need self.old }
+        ensures handed_on { FailsAsInner self.old self.new false result }
+        ensures cause { HasCause (held_faults self.old) (held_faults self.new) result }
+    {
+        self.inner.read(at, buf)
+    }
+
+    // One that isn't held fails just as the disk in memory does, and so does each where nobody has to arrive.
+    fn append(&mut self, piece: &[u8]) -> Result<(), Failed>
+        ensures appended { Told (held_told self.old) (held_told self.new)
+            (λ old new. Appended old new piece.now result) }
+        ensures added { GrowsBy (held_added self.old) (held_added self.new) (length piece.now) result }
+        ensures time { TimePasses held_told held_moment held_from held_since self.old self.new }
+        ensures left { left_of self.new ≡ left_of self.old - 1 }
+        ensures need { hold_need self.new ≡ hold_need self.old }
+        ensures handed_on { left_of self.old ≢ 1 → FailsAsInner self.old self.new
+            (has_no_room (inner_of self.old) (length piece.now)) result }
+        ensures open_at_once { hold_need self.old ≡ 0 → FailsAsInner self.old self.new
+            (has_no_room (inner_of self.old) (length piece.now)) result }
+        ensures cause { HasCause (held_faults self.old) (held_faults self.new) result }
+    {
+        match self.turn {
+            Turn::Ahead(0) => {
+                if self.hold.enter() {
+                    self.turn = Turn::Past;
+                    self.inner.append(piece)
+                } else {
+                    // The count can rise, or stands at the greatest `u64`.
+                    let _faults = self.inner.faults();
+                    let end = self.inner.content().len() as u64 + piece.len() as u64;
+                    self.turn = Turn::Late(end);
+                    Err(Failed)
+                }
+            }
+            Turn::Ahead(others) => {
+                self.turn = Turn::Ahead(others - 1);
+                self.inner.append(piece)
+            }
+            Turn::Past | Turn::Late(_) => self.inner.append(piece),
+        }
+    }
+
+    // It fails just as the disk in memory does.
+    fn sync(&mut self) -> Result<(), Failed>
+        ensures synced { Told (held_told self.old) (held_told self.new) (λ old new. Synced old new result) }
+        ensures adds_none { held_added self.new ≡ held_added self.old }
+        ensures time { TimePasses held_told held_moment held_from held_since self.old self.new }
+        ensures left { left_of self.new ≡ left_of self.old }
+        ensures need { hold_need self.new ≡ hold_need self.old }
+        ensures handed_on { FailsAsInner self.old self.new false result }
+        ensures cause { HasCause (held_faults self.old) (held_faults self.new) result }
+    {
+        self.inner.sync()?;
+        if let Turn::Late(_) = self.turn {
+            self.turn = Turn::Late(0);
+        }
+        Ok(())
+    }
+}

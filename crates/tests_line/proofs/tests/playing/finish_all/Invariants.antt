@@ -1,0 +1,10 @@
+use Rattle.std.proofs.Common.{ℕ, ◌+◌, ◌<◌, ◌≤◌, length, slice_index_or}
+use Rattle.tests_line.specs.declared.counter.Player.{Player}
+use Rattle.tests_line.specs.Players.{MayWrite, HasAsked}
+use Rattle.tests_line.proofs.tests.playing.finish_all.Given as goal
+
+abbrev pub invariant-loop-i : goal.invariant-loop-i
+invariant-loop-i g l = record {
+  out : (j : ℕ) (d : Player) → j < l.i → MayWrite l.list (j + 1) (slice_index_or l.players j d);
+  asked : (j : ℕ) (d : Player) → l.i ≤ j → j < length l.players → HasAsked l.list (j + 1) (slice_index_or l.players j d);
+}

@@ -1,0 +1,12 @@
+//! Tests of the line of writers, over a plain counter as its log: who goes with whom, what each is told, who leads
+//! next, and threads that write at once; and of the bells that its writers sleep on. They stand in a crate of their
+//! own, so that `line_writers` and `base_waiting` are proved once and not with their tests again.
+#![tactic(auto)]
+
+#[cfg(test)]
+mod bells;
+mod counter;
+#[cfg(test)]
+mod tests;
+
+pub use counter::{Answer, Ask, Counter, Nothing, Player};

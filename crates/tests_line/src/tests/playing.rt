@@ -1,0 +1,342 @@
+// Steps of those who take part, each allowed where it is made.
+
+ghost use Rattle.std.specs.Prelude.{◌≡◌, ℕ, ◌+◌, ◌<◌, ◌≤◌, [], vec_len, vec_capacity, length};
+ghost use Rattle.line_writers.specs.Roles.{firsts};
+ghost use Rattle.line_writers.specs.Rooms.{AreReady, AllReady};
+ghost use Rattle.line_writers.specs.Seats.{clients_of, AllNew, Belongs, IsOut};
+ghost use Rattle.tests_line.specs.Players.{IsPlain, IsSat, IsAsking, Leads, HasRequests, MayWrite, HasAsked, AllMayWrite, AllHaveAsked, AreSat};
+
+use crate::counter::{Answer, Ask, Counter, Nothing, Player};
+use line_rule::Start;
+use line_writers::{Lists, Replies, Requests, Role, Writer, WriterList, replies_in_order};
+use model_base::Item;
+use std::alloc::Global;
+use std::process::Abort;
+use std::sync::{Barrier, Wait};
+use std::thread;
+use std::thread::Threads;
+
+/// The greatest size that a request may have.
+const LARGEST: u64 = 16777216;
+
+/// The bound that the grouping rule's worked examples take.
+pub(super) const MAX: u64 = 1048576;
+
+pub(super) const PLAIN: Item = Item {
+    size: 100,
+    sync: false,
+    no_log: false,
+    no_slowdown: false,
+};
+
+pub(super) type Counted = WriterList<Ask, Answer, Counter, Nothing>;
+
+type Seat = Writer<Ask, Answer, Counter, Nothing>;
+
+// Answers each request with the counter's next number and its own size.
+pub(super) fn answer_all(
+    counter: &mut Counter,
+    requests: &mut Requests<Ask>,
+    replies: &mut Replies<Answer>,
+)
+    requires room { (replies.old.list.items ≡ []) × (vec_len replies.old.list ≡ 0)
+        × (vec_len requests.old.list ≤ vec_capacity replies.old.list) }
+    ensures replies { firsts replies.new.list.items ≡ firsts requests.old.list.items }
+    ensures len { vec_len replies.new.list ≡ vec_len requests.old.list }
+    ensures cleared { (requests.new.list.items ≡ []) × (vec_len requests.new.list ≡ 0) }
+    ensures room { (vec_capacity requests.new.list ≡ vec_capacity requests.old.list)
+        × (vec_capacity replies.new.list ≡ vec_capacity replies.old.list) }
+{
+    for i in 0..requests.list.len() {
+        let client = requests.list[i].0;
+        let size = requests.list[i].1.item.size;
+        replies.list.push_reserved((
+            client,
+            Answer {
+                number: counter.count,
+                size,
+            },
+        ));
+        counter.count = counter.count.wrapping_add(1);
+        counter.sum = counter.sum.wrapping_add(size);
+    }
+    requests.list.clear();
+}
+
+// Takes the requests of the group.
+pub(super) fn grouped(list: &Counted, writer: &mut Seat, lists: &mut Lists<Ask, Answer>)
+    requires leads { Leads list.now writer.old }
+    requires ready { AreReady (clients_of list.now) lists.old }
+    ensures client { writer.new.client ≡ writer.old.client }
+    ensures group { HasRequests list.now writer.new lists.new }
+{
+    list.group(writer, &mut lists.requests, &mut lists.room);
+}
+
+// Answers the group and leaves: the writer's own answer, and the group's size.
+pub(super) fn left(
+    list: &Counted,
+    writer: &mut Seat,
+    lists: &mut Lists<Ask, Answer>,
+    mut counter: Counter,
+) -> (Answer, usize)
+    requires group { HasRequests list.now writer.old lists.old }
+    requires plain { IsPlain list.now }
+    ensures out { IsSat list.now writer.old.client writer.new }
+    ensures ready { AreReady (clients_of list.now) lists.new }
+{
+    answer_all(&mut counter, &mut lists.requests, &mut lists.replies);
+    let size = lists.replies.list.len();
+    replies_in_order::<Ask, Answer>();
+    let answer = list.exit(writer, counter, &mut lists.replies, &mut lists.room);
+    (answer, size)
+}
+
+pub(super) fn lead(
+    list: &Counted,
+    writer: &mut Seat,
+    lists: &mut Lists<Ask, Answer>,
+    counter: Counter,
+) -> (Answer, usize)
+    requires leads { Leads list.now writer.old }
+    requires ready { AreReady (clients_of list.now) lists.old }
+    requires plain { IsPlain list.now }
+    ensures out { IsSat list.now writer.old.client writer.new }
+    ensures ready { AreReady (clients_of list.now) lists.new }
+{
+    grouped(list, writer, lists);
+    left(list, writer, lists, counter)
+}
+
+// Links the writer with a request.
+pub(super) fn ask<R: Wait>(rt: &R, list: &Counted, writer: &mut Seat, item: Item)
+    requires out { Belongs list.now writer.old × IsOut writer.old × (item.size ≤ 16777216) }
+    ensures linked { Belongs list.now writer.new × IsAsking list.now writer.new
+        × (writer.new.client ≡ writer.old.client) }
+{
+    list.link(rt, writer, item, Ask { item });
+}
+
+// The answer, and the size of the group where the writer led.
+pub(super) fn served<R: Wait>(
+    rt: &R,
+    list: &Counted,
+    writer: &mut Seat,
+    lists: &mut Lists<Ask, Answer>,
+) -> (Answer, usize)
+    requires linked { Belongs list.now writer.old × IsAsking list.now writer.old }
+    requires ready { AreReady (clients_of list.now) lists.old }
+    requires plain { IsPlain list.now }
+    ensures out { IsSat list.now writer.old.client writer.new }
+    ensures ready { AreReady (clients_of list.now) lists.new }
+{
+    match list.await_role(rt, writer) {
+        Role::Done(answer) => (answer, 0),
+        Role::LogLeader(counter) => lead(list, writer, lists, counter),
+    }
+}
+
+// Waits for the role, leads where it is to, and notes what it was told.
+pub(super) fn finish<R: Wait>(rt: &R, list: &Counted, player: &mut Player)
+    requires asked { HasAsked list.now player.old.writer.client player.old }
+    requires plain { IsPlain list.now }
+    ensures { MayWrite list.now player.old.writer.client player.new }
+{
+    let (answer, led) = served(rt, list, &mut player.writer, &mut player.lists);
+    player.led = led;
+    note(&mut player.told, answer);
+}
+
+pub(super) fn note(told: &mut Vec<Answer>, answer: Answer) {
+    if told.len() < told.capacity() {
+        told.push_reserved(answer);
+    }
+}
+
+// Each links itself, one after the other, with its item.
+pub(super) fn ask_all<R: Wait + Abort>(
+    rt: &R,
+    list: &Counted,
+    players: &mut [Player],
+    items: &[Item],
+)
+    requires out { AllMayWrite list.now players.old }
+    requires len { length items.now ≡ length players.old }
+    ensures { AllHaveAsked list.now players.new × (length players.new ≡ length players.old) }
+{
+    for i in 0..players.len() {
+        let item = items[i];
+        assert!(rt; item.size <= LARGEST);
+        ask(rt, list, &mut players[i].writer, item);
+    }
+}
+
+// Each waits for its role, one after the other.
+pub(super) fn finish_all<R: Wait>(rt: &R, list: &Counted, players: &mut [Player])
+    requires asked { AllHaveAsked list.now players.old }
+    requires plain { IsPlain list.now }
+    ensures { AllMayWrite list.now players.new × (length players.new ≡ length players.old) }
+{
+    for i in 0..players.len() {
+        finish(rt, list, &mut players[i]);
+    }
+}
+
+// Waits for the others, where there is a barrier.
+fn meet<R: Wait>(rt: &R, linked: &Option<Barrier>) {
+    if let Some(barrier) = linked {
+        barrier.wait(rt);
+    }
+}
+
+// Writes so many times. With a barrier it waits there for the others when it is linked.
+pub(super) fn write_often<R: Wait>(
+    rt: &R,
+    list: &Counted,
+    player: &mut Player,
+    item: Item,
+    times: u64,
+    linked: &Option<Barrier>,
+)
+    requires out { MayWrite list.now player.old.writer.client player.old }
+    requires item { item.size ≤ 16777216 }
+    requires plain { IsPlain list.now }
+    ensures { MayWrite list.now player.old.writer.client player.new }
+{
+    for time in 0..times {
+        ask(rt, list, &mut player.writer, item);
+        meet(rt, linked);
+        finish(rt, list, player);
+    }
+}
+
+// All write so many times at once, each on a thread of its own. The sizes are the clients' numbers. With a barrier for
+// all of them each group is made when all are linked.
+pub(super) fn write_at_once<R: Threads + Wait + Sync>(
+    rt: &R,
+    list: &Counted,
+    players: &mut [Player],
+    times: u64,
+    linked: &Option<Barrier>,
+)
+    requires out { AllMayWrite list.now players.old × (0 < length players.old) × (length players.old < 255) }
+    requires plain { IsPlain list.now }
+    ensures { AllMayWrite list.now players.new × (length players.new ≡ length players.old) }
+{
+    let threads = players.len();
+    let each = |i: usize, player: &mut Player|
+        requires { MayWrite list.now (i + 1) player.now × (i < 255) × IsPlain list.now }
+        ensures { MayWrite list.entry.now (i + 1) player.exit.now }
+    { write_often(rt, list, player, sized(i as u64 + 1), times, linked) };
+    thread::for_each_mut(rt, players, threads, &each);
+}
+
+pub(super) fn sized(size: u64) -> Item
+    ensures { result.size ≡ size }
+{
+    Item { size, ..PLAIN }
+}
+
+// A list over a counter at 0, whose groups are built under this bound, and its clients in their order, each with room
+// for so many answers.
+pub(super) fn opened(
+    rt: &impl Abort,
+    alloc: Global,
+    clients: u32,
+    group_bytes: u64,
+    room: usize,
+) -> (Counted, Vec<Player>)
+    requires { (0 < clients) × (clients < 255) }
+    ensures list { IsPlain result.0 × (clients_of result.0 ≡ clients) }
+    ensures players { AllMayWrite result.0 result.1.items × (vec_len result.1 ≡ clients) }
+{
+    let start = Start {
+        clients,
+        log: 0,
+        pipelined: false,
+        group_bytes,
+        about: 0,
+    };
+    let Ok((list, writers, lists)) = WriterList::open(
+        alloc,
+        &start,
+        Counter { count: 0, sum: 0 },
+        Nothing { mark: 7 },
+    ) else {
+        panic!(rt; "no memory")
+    };
+    let players = seated(rt, alloc, &list, writers, lists, room);
+    (list, players)
+}
+
+pub(super) fn seated(
+    rt: &impl Abort,
+    alloc: Global,
+    list: &Counted,
+    mut writers: Vec<Seat>,
+    mut lists: Vec<Lists<Ask, Answer>>,
+    room: usize,
+) -> Vec<Player>
+    requires new { AllNew list.now writers.items × AllReady (clients_of list.now) lists.items }
+    requires len { (vec_len writers ≡ clients_of list.now) × (vec_len lists ≡ clients_of list.now) }
+    ensures { AllMayWrite list.now result.items × (vec_len result ≡ clients_of list.now) }
+{
+    let count = writers.len();
+    let mut players = Vec::with_capacity(alloc, count).expect(rt, "memory");
+    for made in 0..count {
+        let Some(writer) = writers.pop() else {
+            unreachable!()
+        };
+        let Some(lists) = lists.pop() else {
+            unreachable!()
+        };
+        let told = Vec::with_capacity(alloc, room).expect(rt, "memory");
+        players.push_reserved(Player {
+            writer,
+            lists,
+            told,
+            led: 0,
+        });
+    }
+    players
+}
+
+// What comes back where the list is closed.
+pub(super) fn closed(
+    rt: &impl Abort,
+    alloc: Global,
+    list: Counted,
+    mut players: Vec<Player>,
+) -> (Counter, Nothing)
+    requires { AllMayWrite list players.items × (vec_len players ≡ clients_of list) }
+{
+    let mut writers = Vec::with_capacity(alloc, players.len()).expect(rt, "memory");
+    unseat(&list, &mut players, &mut writers);
+    list.close(writers)
+}
+
+// The writers, of the greatest number first.
+pub(super) fn unseat(list: &Counted, players: &mut Vec<Player>, writers: &mut Vec<Seat>)
+    requires out { AllMayWrite list.now players.old.items }
+    requires room { (writers.old.items ≡ []) × (vec_len writers.old ≡ 0)
+        × (vec_len players.old ≤ vec_capacity writers.old) }
+    ensures { AreSat list.now (vec_len players.old) writers.new.items × (vec_len writers.new ≡ vec_len players.old) }
+{
+    for i in 0..players.len() {
+        let Some(player) = players.pop() else {
+            unreachable!()
+        };
+        writers.push_reserved(player.writer);
+    }
+}
+
+// Takes the client with the greatest number that is left.
+pub(super) fn taken(rt: &impl Abort, list: &Counted, players: &mut Vec<Player>) -> Player
+    requires { AllMayWrite list.now players.old.items }
+    ensures { AllMayWrite list.now players.new.items × MayWrite list.now (vec_len players.new + 1) result }
+{
+    match players.pop() {
+        Some(player) => player,
+        None => panic!(rt; "no player"),
+    }
+}

@@ -1,0 +1,148 @@
+// How clients come to a list, ask and leave it, each step allowed where it is made.
+
+ghost use Rattle.std.specs.Prelude.{◌≡◌, ◌<◌, ◌≤◌, [], vec_len, vec_capacity};
+ghost use Rattle.line_writers.specs.Rooms.{AllReady};
+ghost use Rattle.line_writers.specs.Seats.{clients_of, AllNew, Belongs, IsOut};
+ghost use Rattle.tests_line_stages.specs.Clients.{IsPipelined, IsAsking, AllMayWrite, AllStand, AreIdle};
+
+use super::leading::MAX;
+use crate::client::{Client, Stage};
+use crate::counter::{Answer, Ask, Counter, Right};
+use line_rule::Start;
+use line_writers::{Lists, Writer, WriterList};
+use model_base::Item;
+use std::alloc::Global;
+use std::process::Abort;
+use std::sync::Wait;
+
+const PLAIN: Item = Item {
+    size: 100,
+    sync: false,
+    no_log: false,
+    no_slowdown: false,
+};
+
+pub(super) type Counted = WriterList<Ask, Answer, Counter, Right>;
+
+pub(super) type Seat = Writer<Ask, Answer, Counter, Right>;
+
+// A list over a counter at 0, and its clients in their order, each with room for so many answers.
+pub(super) fn opened(
+    rt: &impl Abort,
+    alloc: Global,
+    count: u32,
+    room: usize,
+) -> (Counted, Vec<Client>)
+    requires { (0 < count) × (count < 255) }
+    ensures list { IsPipelined result.0 × (clients_of result.0 ≡ count) }
+    ensures out { AllMayWrite result.0 result.1.items × AllStand result.0 result.1.items
+        × (vec_len result.1 ≡ count) }
+{
+    let start = Start {
+        clients: count,
+        log: 0,
+        pipelined: true,
+        group_bytes: MAX,
+        about: 0,
+    };
+    let counter = Counter { count: 0, sum: 0 };
+    let right = Right {
+        next: 0,
+        groups: 0,
+        wrong: 0,
+        helped: 0,
+    };
+    let Ok((list, writers, lists)) = WriterList::open(alloc, &start, counter, right) else {
+        panic!(rt; "no memory")
+    };
+    let clients = seated(rt, alloc, &list, writers, lists, room);
+    (list, clients)
+}
+
+fn room_for(rt: &impl Abort, alloc: Global, count: usize) -> Vec<u32>
+    ensures { count ≤ vec_capacity result }
+{
+    Vec::with_capacity(alloc, count).expect(rt, "memory")
+}
+
+fn seated(
+    rt: &impl Abort,
+    alloc: Global,
+    list: &Counted,
+    mut writers: Vec<Seat>,
+    mut lists: Vec<Lists<Ask, Answer>>,
+    room: usize,
+) -> Vec<Client>
+    requires new { AllNew list.now writers.items × AllReady (clients_of list.now) lists.items }
+    requires len { (vec_len writers ≡ clients_of list.now) × (vec_len lists ≡ clients_of list.now) }
+    ensures { AllMayWrite list.now result.items × AllStand list.now result.items
+        × (vec_len result ≡ clients_of list.now) }
+{
+    let count = writers.len();
+    let mut clients = Vec::with_capacity(alloc, count).expect(rt, "memory");
+    // The clients so far may all write, and those of the writers that are left come next.
+    for made in 0..count {
+        let Some(writer) = writers.pop() else {
+            unreachable!()
+        };
+        let Some(lists) = lists.pop() else {
+            unreachable!()
+        };
+        let told = Vec::with_capacity(alloc, room).expect(rt, "memory");
+        let members = room_for(rt, alloc, count);
+        clients.push_reserved(Client {
+            writer,
+            lists,
+            members,
+            told,
+            stage: Stage::Out,
+        });
+    }
+    clients
+}
+
+// What comes back where the list is closed.
+pub(super) fn closed(
+    rt: &impl Abort,
+    alloc: Global,
+    list: Counted,
+    mut clients: Vec<Client>,
+) -> (Counter, Right)
+    requires { AllMayWrite list clients.items × (vec_len clients ≡ clients_of list) }
+{
+    let mut writers = Vec::with_capacity(alloc, clients.len()).expect(rt, "memory");
+    unseat(&list, &mut clients, &mut writers);
+    list.close(writers)
+}
+
+// The writers, of the greatest number first.
+fn unseat(list: &Counted, clients: &mut Vec<Client>, writers: &mut Vec<Seat>)
+    requires out { AllMayWrite list.now clients.old.items }
+    requires room { (writers.old.items ≡ []) × (vec_len writers.old ≡ 0)
+        × (vec_len clients.old ≤ vec_capacity writers.old) }
+    ensures { AreIdle list.now (vec_len clients.old) writers.new.items
+        × (vec_len writers.new ≡ vec_len clients.old) }
+{
+    // The writers so far are those of the clients taken out, and each of these is in no list.
+    for i in 0..clients.len() {
+        let Some(client) = clients.pop() else {
+            unreachable!()
+        };
+        writers.push_reserved(client.writer);
+    }
+}
+
+// Links the writer with a request.
+pub(super) fn ask<R: Wait>(rt: &R, list: &Counted, writer: &mut Seat, item: Item)
+    requires out { Belongs list.now writer.old × IsOut writer.old × (item.size ≤ 16777216) }
+    ensures linked { Belongs list.now writer.new × IsAsking list.now writer.new
+        × (writer.new.client ≡ writer.old.client) }
+{
+    list.link(rt, writer, item, Ask { item });
+}
+
+pub(super) fn sized(size: u64) -> Item
+    ensures { result.size ≡ size }
+{
+    Item { size, ..PLAIN }
+}

@@ -1,0 +1,165 @@
+// How a leader makes its group, answers it, and serves it, each step allowed where it is made.
+
+ghost use Rattle.std.specs.Prelude.{◌≡◌, ℕ, ◌≤◌, List, [], vec_len, vec_capacity};
+ghost use Rattle.line_rule.specs.declared.view.Entry.{Entry};
+ghost use Rattle.line_rule.specs.Chain.{heads, Within};
+ghost use Rattle.line_writers.specs.Roles.{firsts, pays, AreMembers};
+ghost use Rattle.line_writers.specs.Rooms.{AreReady};
+ghost use Rattle.line_writers.specs.Seats.{clients_of};
+ghost use Rattle.tests_line_stages.specs.Clients.{IsPipelined, IsIdle, IsLeader, HasRequests, IsSentOn, MayServe, MayWrite};
+
+use super::clients::{Counted, Seat};
+use crate::client::Client;
+use crate::counter::{Answer, Ask, Counter, Right};
+use line_writers::{Lists, PipelinedRole, Replies, Requests, members_in_order, replies_in_order};
+use std::sync::Wait;
+
+/// The bound that the grouping rule's worked examples take.
+pub(super) const MAX: u64 = 1048576;
+
+// Answers each request with the counter's next number and its own size.
+fn answer_all(counter: &mut Counter, requests: &mut Requests<Ask>, replies: &mut Replies<Answer>)
+    requires room { (replies.old.list.items ≡ []) × (vec_len replies.old.list ≡ 0)
+        × (vec_len requests.old.list ≤ vec_capacity replies.old.list) }
+    ensures replies { firsts replies.new.list.items ≡ firsts requests.old.list.items }
+    ensures len { vec_len replies.new.list ≡ vec_len requests.old.list }
+    ensures cleared { (requests.new.list.items ≡ []) × (vec_len requests.new.list ≡ 0) }
+    ensures room { (vec_capacity requests.new.list ≡ vec_capacity requests.old.list)
+        × (vec_capacity replies.new.list ≡ vec_capacity replies.old.list) }
+{
+    // The first `i` requests are answered, in their order.
+    for i in 0..requests.list.len() {
+        let client = requests.list[i].0;
+        let size = requests.list[i].1.item.size;
+        replies.list.push_reserved((
+            client,
+            Answer {
+                number: counter.count,
+                size,
+            },
+        ));
+        counter.count = counter.count.wrapping_add(1);
+        counter.sum = counter.sum.wrapping_add(size);
+    }
+    requests.list.clear();
+}
+
+// Takes the requests of the group.
+pub(super) fn grouped(list: &Counted, writer: &mut Seat, lists: &mut Lists<Ask, Answer>)
+    requires leads { IsLeader list.now writer.old }
+    requires ready { AreReady (clients_of list.now) lists.old }
+    ensures client { writer.new.client ≡ writer.old.client }
+    ensures group { HasRequests list.now writer.new lists.new }
+{
+    list.group(writer, &mut lists.requests, &mut lists.room);
+}
+
+// Notes the members of a group beside its leader.
+fn note_members(replies: &Replies<Answer>, members: &mut Vec<u32>)
+    requires room { vec_len replies.now.list ≤ vec_capacity members.old }
+    ensures room { vec_capacity members.new ≡ vec_capacity members.old }
+    ensures members { (n : ℕ) (own : Entry Ask) (p : Answer) (gs : List (Entry Ask × Answer))
+        → replies.now.list.items ≡ pays own p gs → Within n (heads gs) → AreMembers n members.new.items gs }
+{
+    members_in_order::<Ask, Answer>();
+    members.clear();
+    // The members before `i` are noted, but for the leader.
+    for i in 1..replies.list.len() {
+        members.push_reserved(replies.list[i].0);
+    }
+}
+
+// Answers the group, and sends it on to the second list: the counter before it and after it.
+pub(super) fn sent<R: Wait>(
+    rt: &R,
+    list: &Counted,
+    client: &mut Client,
+    mut counter: Counter,
+) -> (u64, u64)
+    requires group { HasRequests list.now client.old.writer client.old.lists }
+    requires pipelined { IsPipelined list.now × (clients_of list.now ≤ vec_capacity client.old.members) }
+    ensures client { client.new.writer.client ≡ client.old.writer.client }
+    ensures sent { IsSentOn list.now client.new }
+{
+    let first = counter.count;
+    answer_all(
+        &mut counter,
+        &mut client.lists.requests,
+        &mut client.lists.replies,
+    );
+    let next = counter.count;
+    note_members(&client.lists.replies, &mut client.members);
+    replies_in_order::<Ask, Answer>();
+    list.exit_pipelined(
+        rt,
+        &mut client.writer,
+        counter,
+        &mut client.lists.replies,
+        &mut client.lists.room,
+    );
+    (first, next)
+}
+
+// Answers the group, which is refused, and leaves with a log that doesn't count it.
+pub(super) fn refused(
+    list: &Counted,
+    writer: &mut Seat,
+    lists: &mut Lists<Ask, Answer>,
+    counter: Counter,
+) -> Answer
+    requires group { HasRequests list.now writer.old lists.old }
+    requires pipelined { IsPipelined list.now }
+    ensures out { IsIdle list.now writer.old.client writer.new }
+    ensures ready { AreReady (clients_of list.now) lists.new }
+{
+    let mut uncounted = Counter {
+        count: counter.count,
+        sum: counter.sum,
+    };
+    answer_all(&mut uncounted, &mut lists.requests, &mut lists.replies);
+    replies_in_order::<Ask, Answer>();
+    list.exit(writer, counter, &mut lists.replies, &mut lists.room)
+}
+
+// Waits until the group, which is sent on, is the first of the second list.
+pub(super) fn right_for<R: Wait>(rt: &R, list: &Counted, client: &mut Client) -> Right
+    requires sent { IsSentOn list.now client.old }
+    requires pipelined { IsPipelined list.now }
+    ensures client { client.new.writer.client ≡ client.old.writer.client }
+    ensures serves { MayServe list.now client.new }
+{
+    match list.await_pipelined_role(rt, &mut client.writer) {
+        PipelinedRole::MemLeader(right) => right,
+        PipelinedRole::LogLeader(_) => unreachable!(),
+        PipelinedRole::Parallel => unreachable!(),
+        PipelinedRole::Done(_) => unreachable!(),
+    }
+}
+
+// Tells all other members of the group to work beside their leader.
+pub(super) fn launched(list: &Counted, client: &mut Client)
+    requires serves { MayServe list.now client.old }
+    ensures client { client.new.writer.client ≡ client.old.writer.client }
+    ensures serves { MayServe list.now client.new }
+{
+    list.launch_roles(&mut client.writer, client.members.as_slice());
+}
+
+// Leaves the second list: the client's own answer.
+pub(super) fn served(list: &Counted, client: &mut Client, right: Right) -> Answer
+    requires serves { MayServe list.now client.old }
+    requires pipelined { IsPipelined list.now }
+    ensures { MayWrite list.now client.old.writer.client client.new }
+{
+    list.exit_memtable(&mut client.writer, right, &mut client.lists.room)
+}
+
+// Notes a group of these numbers in the right, of whose writers so many work beside the leader.
+pub(super) fn note_group(right: &mut Right, (first, next): (u64, u64), helpers: usize) {
+    if right.next != first {
+        right.wrong = right.wrong.wrapping_add(1);
+    }
+    right.next = next;
+    right.groups = right.groups.wrapping_add(1);
+    right.helped = right.helped.wrapping_add(helpers as u64);
+}

@@ -1,0 +1,145 @@
+// Clients that write at once, each on a thread of its own, and whose members all work beside their leaders.
+
+ghost use Rattle.std.specs.Prelude.{◌≡◌, ◌+◌, ◌<◌, ◌≤◌, vec_capacity, length};
+ghost use Rattle.line_writers.specs.Rooms.{AreReady};
+ghost use Rattle.line_writers.specs.Seats.{clients_of};
+ghost use Rattle.tests_line_stages.specs.Clients.{IsPipelined, IsLeader, IsSentOn, MayWrite, HasAsked, AllMayWrite};
+
+use super::clients::{Counted, ask, sized};
+use super::leading::{grouped, launched, note_group, right_for, sent, served};
+use crate::client::Client;
+use crate::counter::{Answer, Counter};
+use crossbeam_utils::Backoff;
+use line_writers::PipelinedRole;
+use model_base::Item;
+use std::sync::Wait;
+use std::sync::atomic::AtomicU64;
+use std::sync::atomic::Ordering::SeqCst;
+use std::thread;
+use std::thread::Threads;
+
+// Waits until all members have worked.
+fn await_members<R: Wait>(rt: &R, pending: &AtomicU64) {
+    let backoff = Backoff::new();
+    // `pending` is how many members have yet to work.
+    for _ in rt.forever() {
+        if pending.load(SeqCst) == 0 {
+            return;
+        }
+        backoff.snooze();
+    }
+    unreachable!()
+}
+
+// Serves the group, which is sent on, when it is the first, with all members beside the leader.
+fn serve<R: Wait>(
+    rt: &R,
+    list: &Counted,
+    client: &mut Client,
+    numbers: (u64, u64),
+    pending: &AtomicU64,
+) -> Answer
+    requires sent { IsSentOn list.now client.old }
+    requires pipelined { IsPipelined list.now }
+    ensures { MayWrite list.now client.old.writer.client client.new }
+{
+    let mut right = right_for(rt, list, client);
+    let helpers = client.members.len();
+    note_group(&mut right, numbers, helpers);
+    pending.store(helpers as u64, SeqCst);
+    launched(list, client);
+    await_members(rt, pending);
+    served(list, client, right)
+}
+
+fn lead<R: Wait>(
+    rt: &R,
+    list: &Counted,
+    client: &mut Client,
+    counter: Counter,
+    pending: &AtomicU64,
+) -> Answer
+    requires leads { IsLeader list.now client.old.writer }
+    requires ready { AreReady (clients_of list.now) client.old.lists
+        × (clients_of list.now ≤ vec_capacity client.old.members) }
+    requires pipelined { IsPipelined list.now }
+    ensures { MayWrite list.now client.old.writer.client client.new }
+{
+    grouped(list, &mut client.writer, &mut client.lists);
+    let numbers = sent(rt, list, client, counter);
+    serve(rt, list, client, numbers, pending)
+}
+
+fn note(told: &mut Vec<Answer>, answer: Answer) {
+    if told.len() < told.capacity() {
+        told.push_reserved(answer);
+    }
+}
+
+// Waits for the role, and works beside its leader or leads where it is to, until it is done.
+fn finish<R: Wait>(rt: &R, list: &Counted, client: &mut Client, pending: &AtomicU64)
+    requires asked { HasAsked list.now client.old.writer.client client.old }
+    requires pipelined { IsPipelined list.now }
+    ensures { MayWrite list.now client.old.writer.client client.new }
+{
+    // The client's request is in the list, and whatever it was asked to do beside its leader is done.
+    for _ in rt.forever() {
+        match list.await_pipelined_role(rt, &mut client.writer) {
+            PipelinedRole::Done(answer) => {
+                note(&mut client.told, answer);
+                return;
+            }
+            PipelinedRole::LogLeader(counter) => {
+                let answer = lead(rt, list, client, counter, pending);
+                note(&mut client.told, answer);
+                return;
+            }
+            PipelinedRole::Parallel => {
+                pending.fetch_sub(1, SeqCst);
+            }
+            PipelinedRole::MemLeader(_) => unreachable!(),
+        }
+    }
+    unreachable!()
+}
+
+// Writes so many times.
+fn write_often<R: Wait>(
+    rt: &R,
+    list: &Counted,
+    client: &mut Client,
+    item: Item,
+    times: u64,
+    pending: &AtomicU64,
+)
+    requires out { MayWrite list.now client.old.writer.client client.old }
+    requires item { item.size ≤ 16777216 }
+    requires pipelined { IsPipelined list.now }
+    ensures { MayWrite list.now client.old.writer.client client.new }
+{
+    // The client is in no list, and was told the numbers of `time` writes.
+    for time in 0..times {
+        ask(rt, list, &mut client.writer, item);
+        finish(rt, list, client, pending);
+    }
+}
+
+// All write so many times at once. The sizes are the clients' numbers.
+pub(super) fn write_at_once<R: Threads + Wait + Sync>(
+    rt: &R,
+    list: &Counted,
+    clients: &mut [Client],
+    times: u64,
+    pending: &AtomicU64,
+)
+    requires out { AllMayWrite list.now clients.old × (0 < length clients.old) × (length clients.old < 255) }
+    requires pipelined { IsPipelined list.now }
+    ensures { AllMayWrite list.now clients.new × (length clients.new ≡ length clients.old) }
+{
+    let threads = clients.len();
+    let each = |i: usize, client: &mut Client|
+        requires { MayWrite list.now (i + 1) client.now × (i < 255) × IsPipelined list.now }
+        ensures { MayWrite list.entry.now (i + 1) client.exit.now }
+    { write_often(rt, list, client, sized(i as u64 + 1), times, pending) };
+    thread::for_each_mut(rt, clients, threads, &each);
+}

@@ -1,0 +1,164 @@
+//! Batches: the bytes of their additions, the limit on their size, and batches read from bytes.
+
+use crate::checks::check;
+use crate::logs::{PUT, add_all, batch_bytes};
+use log_batch::RecordView::{Deletion, LogData, SingleDeletion, Value};
+use log_batch::{AddError, Batch, BatchView, MAX_SIZE, RecordView, read_batch};
+use model_base::BatchError;
+use std::alloc::{AllocError, Global};
+use std::process::Abort;
+use std::test::Fail;
+
+const TWO_PUTS_AND_A_DELETION: [u8; 25] = [
+    1, 0, 0, 0, 0, 0, 0, 0, 3, 0, 0, 0, 1, 1, 0x61, 1, 0x31, 1, 1, 0x61, 1, 0x32, 0, 1, 0x61,
+];
+
+const LOG_DATA_AND_A_PUT: [u8; 20] = [
+    1, 0, 0, 0, 0, 0, 0, 0, 1, 0, 0, 0, 3, 1, 0x78, 1, 1, 0x61, 1, 0x31,
+];
+
+const A_SINGLE_DELETION: [u8; 15] = [3, 0, 0, 0, 0, 0, 0, 0, 1, 0, 0, 0, 7, 1, 0x61];
+
+const PUTS: [RecordView<'static>; 3] = [
+    Value {
+        key: b"a",
+        value: b"1",
+    },
+    Value {
+        key: b"a",
+        value: b"2",
+    },
+    Deletion { key: b"a" },
+];
+
+const NOTED: [RecordView<'static>; 2] = [
+    LogData { blob: b"x" },
+    Value {
+        key: b"a",
+        value: b"1",
+    },
+];
+
+const DELETED: [RecordView<'static>; 1] = [SingleDeletion { key: b"a" }];
+
+// A batch's bytes, its sequence, how many of its additions count, and its size.
+type Facts<'a> = (&'a [u8], u64, u32, u64);
+
+// Additions, and what the batch of them is. Log data isn't counted.
+const MADE: [(&[RecordView<'static>], Facts<'static>); 3] = [
+    (&PUTS, (&TWO_PUTS_AND_A_DELETION, 1, 3, 25)),
+    (&DELETED, (&A_SINGLE_DELETION, 3, 1, 15)),
+    (&NOTED, (&LOG_DATA_AND_A_PUT, 1, 1, 20)),
+];
+
+fn facts(batch: &Batch) -> Facts<'_> {
+    (batch.bytes(), batch.sequence(), batch.count(), batch.size())
+}
+
+// One batch has the additions of each row after it was new or cleared.
+#[test]
+fn has_the_bytes_of_its_additions(rt: HostRuntime) -> Result<(), Fail> {
+    let mut batch = Batch::new(rt.alloc())?;
+    for (row, (records, wanted)) in MADE.iter().enumerate() {
+        check(&rt, row, &facts(&batch), &(&[0; 12], 0, 0, 12));
+        add_all(&mut batch, records)?;
+        batch.set_sequence(wanted.1);
+        check(&rt, row, &facts(&batch), wanted);
+        batch.clear();
+    }
+    Ok(())
+}
+
+// What putting so many zeros at a key comes to, how many additions count then, and the size.
+fn put_zeros(
+    alloc: Global,
+    batch: &mut Batch,
+    len: usize,
+) -> Result<(Result<(), AddError>, u32, u64), AllocError> {
+    let value = vec![in alloc; 0u8; len]?;
+    let done = batch.put(b"k", &value);
+    Ok((done, batch.count(), batch.size()))
+}
+
+#[test]
+fn takes_no_more_than_the_limit(rt: HostRuntime) -> Result<(), Fail> {
+    let mut batch = Batch::new(rt.alloc())?;
+    let refused = put_zeros(rt.alloc(), &mut batch, 16_777_198)?;
+    let too_large = AddError::TooLarge { size: 16_777_217 };
+    check(&rt, 0, &refused, &(Err(too_large), 0, 12));
+    let taken = put_zeros(rt.alloc(), &mut batch, 16_777_197)?;
+    check(&rt, 1, &taken, &(Ok(()), 1, MAX_SIZE));
+    Ok(())
+}
+
+const READ: [RecordView<'static>; 4] = [
+    Value {
+        key: b"a",
+        value: b"1",
+    },
+    LogData { blob: b"x" },
+    Deletion { key: b"b" },
+    SingleDeletion { key: b"c" },
+];
+
+fn check_read(rt: &impl Abort, view: &BatchView<'_>) {
+    let found = (view.sequence(), view.count(), view.records().count());
+    check(rt, 0, &found, &(1, 3, 4));
+    let mut wanted = READ.iter();
+    for record in view.records() {
+        check(rt, 1, &Some(&record), &wanted.next());
+    }
+}
+
+#[test]
+fn reads_a_batch(rt: HostRuntime) -> Result<(), Fail> {
+    let records = [1, 1, 0x61, 1, 0x31, 3, 1, 0x78, 0, 1, 0x62, 7, 1, 0x63];
+    let bytes = batch_bytes(rt.alloc(), 1, 3, &records)?;
+    check_read(&rt, &read_batch(&bytes)?);
+    Ok(())
+}
+
+// How many additions count in a batch that is read.
+fn counted(bytes: &[u8]) -> Result<u32, BatchError> {
+    Ok(read_batch(bytes)?.count())
+}
+
+// What the header says that counts, the records, and why they are no batch.
+const NO_BATCHES: [(u32, &[u8], BatchError); 8] = [
+    (1, &[2, 1, 0x61, 1, 0x31], BatchError::Tag(2)),
+    (2, &PUT, BatchError::Count { said: 2, found: 1 }),
+    (0, &PUT, BatchError::Count { said: 0, found: 1 }),
+    (1, &[3, 1, 0x78], BatchError::Count { said: 1, found: 0 }),
+    (1, &[1, 1, 0x61, 5], BatchError::Short),
+    (1, &[1, 0x80, 0], BatchError::BadVarint),
+    (1, &[1, 0xff, 0xff, 0xff, 0xff, 0x1f], BatchError::BadVarint),
+    (9, &[0xff, 0x80], BatchError::Tag(255)),
+];
+
+#[test]
+fn refuses_what_is_no_batch(rt: HostRuntime) -> Result<(), Fail> {
+    for (row, (count, records, error)) in NO_BATCHES.iter().enumerate() {
+        let bytes = batch_bytes(rt.alloc(), 1, *count, records)?;
+        check(&rt, row, &counted(&bytes), &Err(*error));
+    }
+    Ok(())
+}
+
+// What is read of the first so many bytes of the batch of two puts and a deletion.
+fn counted_of_cut(len: usize) -> Result<u32, BatchError> {
+    match len {
+        12 => Err(BatchError::Count { said: 3, found: 0 }),
+        17 => Err(BatchError::Count { said: 3, found: 1 }),
+        22 => Err(BatchError::Count { said: 3, found: 2 }),
+        25 => Ok(3),
+        _ => Err(BatchError::Short),
+    }
+}
+
+#[test]
+fn says_where_a_cut_batch_breaks_off(rt: HostRuntime) {
+    for len in 0..26 {
+        let cut = counted(&TWO_PUTS_AND_A_DELETION[..len]);
+        check(&rt, len, &cut, &counted_of_cut(len));
+    }
+}

@@ -1,0 +1,216 @@
+//! Fragments, and how a record is cut into them.
+
+ghost use Rattle.std.specs.Prelude.{◌≡◌, ◌≤◌, length, IfOk, vec_len};
+
+use crate::checks::check;
+use crate::logs::EMPTY;
+use log_block::{BLOCK_LEN, FIRST, FULL, Fragmenter, LAST, MIDDLE, Seen, header, read_fragment};
+use model_base::Damage;
+use std::alloc::{AllocError, Global};
+use std::test::Fail;
+
+// The checksums were computed by another program.
+const ABC: [u8; 10] = [0xf2, 0x70, 0xe8, 0x9d, 0x03, 0x00, 0x01, b'a', b'b', b'c'];
+
+const FIRST_ABC: [u8; 10] = [0x37, 0x2d, 0x9a, 0x8b, 0x03, 0x00, 0x02, b'a', b'b', b'c'];
+
+const MIDDLE_ABC: [u8; 10] = [0xac, 0xe3, 0xe9, 0x5e, 0x03, 0x00, 0x03, b'a', b'b', b'c'];
+
+const LAST_ABC: [u8; 10] = [0xad, 0xb5, 0x75, 0x70, 0x03, 0x00, 0x04, b'a', b'b', b'c'];
+
+// The checksum of another part.
+const FALSE_ABC: [u8; 10] = [0xf2, 0x70, 0xe8, 0x9d, 0x03, 0x00, 0x01, b'a', b'b', b'd'];
+
+// No fragments have these types, whatever the checksum.
+const TYPE_0_ABC: [u8; 10] = [0x37, 0x2d, 0x9a, 0x8b, 0x03, 0x00, 0x00, b'a', b'b', b'c'];
+
+const TYPE_5_ABC: [u8; 10] = [0x37, 0x2d, 0x9a, 0x8b, 0x03, 0x00, 0x05, b'a', b'b', b'c'];
+
+#[test]
+fn makes_headers(rt: HostRuntime) {
+    check(&rt, 0, &header(FULL, &[]), &EMPTY);
+    check(&rt, 1, &header(FULL, b"abc").as_slice(), &&ABC[..7]);
+}
+
+// What is seen at the start of a block, of which the file has so many of these bytes.
+fn seen_first(bytes: &[u8], len: usize) -> Seen {
+    read_fragment(&bytes[..len.min(bytes.len()).min(BLOCK_LEN)], 0)
+}
+
+// A fragment, its type, and how many bytes it has.
+const FRAGMENTS: [(&[u8], u8, usize); 5] = [
+    (&EMPTY, FULL, 7),
+    (&ABC, FULL, 10),
+    (&FIRST_ABC, FIRST, 10),
+    (&MIDDLE_ABC, MIDDLE, 10),
+    (&LAST_ABC, LAST, 10),
+];
+
+#[test]
+fn reads_fragments(rt: HostRuntime) {
+    for (row, (bytes, kind, end)) in FRAGMENTS.iter().enumerate() {
+        let wanted = Seen::Fragment {
+            kind: *kind,
+            start: 7,
+            end: *end,
+        };
+        check(&rt, row, &seen_first(bytes, *end), &wanted);
+    }
+}
+
+// Bytes, of which the file has so many, and what is seen.
+const NO_FRAGMENTS: [(&[u8], usize, Seen); 9] = [
+    (&[], 0, Seen::End),
+    (&ABC, 1, Seen::Damage(Damage::ShortHeader)),
+    (&ABC, 6, Seen::Damage(Damage::ShortHeader)),
+    (&ABC, 7, Seen::Damage(Damage::BadLength)),
+    (&ABC, 9, Seen::Damage(Damage::BadLength)),
+    (&[0; 10], 10, Seen::Damage(Damage::Zeros)),
+    (&TYPE_0_ABC, 10, Seen::Damage(Damage::BadType(0))),
+    (&TYPE_5_ABC, 10, Seen::Damage(Damage::BadType(5))),
+    (&FALSE_ABC, 10, Seen::Damage(Damage::BadChecksum)),
+];
+
+#[test]
+fn reads_what_is_no_fragment(rt: HostRuntime) {
+    for (row, (bytes, len, wanted)) in NO_FRAGMENTS.iter().enumerate() {
+        check(&rt, row, &seen_first(bytes, *len), wanted);
+    }
+}
+
+// A block of zeros.
+fn zeros(alloc: Global) -> Result<Vec<u8>, AllocError>
+    ensures { IfOk result (λ block. vec_len block ≡ BLOCK_LEN) }
+{
+    vec![in alloc; 0u8; BLOCK_LEN]
+}
+
+// What is seen at a place of a block, of which the file has so many bytes.
+fn seen_in(block: &[u8], there: usize, at: usize) -> Seen
+    requires whole { length block.now ≡ BLOCK_LEN }
+    requires in_block { there ≤ BLOCK_LEN }
+    requires in_file { at ≤ there }
+{
+    read_fragment(&block[..there], at)
+}
+
+// What is seen at a block's last six bytes, at its last one, behind it, and at the last six where the file
+// lacks three of them.
+fn seen_at_the_end(block: &[u8]) -> [Seen; 4]
+    requires { length block.now ≡ BLOCK_LEN }
+{
+    [
+        seen_in(block, BLOCK_LEN, BLOCK_LEN - 6),
+        seen_in(block, BLOCK_LEN, BLOCK_LEN - 1),
+        seen_in(block, BLOCK_LEN, BLOCK_LEN),
+        seen_in(block, BLOCK_LEN - 3, BLOCK_LEN - 6),
+    ]
+}
+
+// The block with a fragment in its last seven bytes.
+fn put_at_the_end(block: &mut [u8], fragment: [u8; 7])
+    requires { length block.old ≡ BLOCK_LEN }
+{
+    block[BLOCK_LEN - 7..].copy_from_slice(&fragment);
+}
+
+// In zeros, and behind a fragment that begins seven bytes before the end.
+#[test]
+fn reads_the_end_of_a_block(rt: HostRuntime) -> Result<(), Fail> {
+    let mut block = zeros(rt.alloc())?;
+    check(&rt, 0, &seen_at_the_end(&block), &[Seen::End; 4]);
+    put_at_the_end(&mut block, EMPTY);
+    let damage = Seen::Damage(Damage::BadTrailer);
+    let wanted = [damage, damage, Seen::End, damage];
+    check(&rt, 1, &seen_at_the_end(&block), &wanted);
+    let fragment = Seen::Fragment {
+        kind: FULL,
+        start: BLOCK_LEN,
+        end: BLOCK_LEN,
+    };
+    check(
+        &rt,
+        2,
+        &seen_in(&block, BLOCK_LEN, BLOCK_LEN - 7),
+        &fragment,
+    );
+    Ok(())
+}
+
+// A piece: the zeros before it, its type, and where in the record its part begins and ends.
+type Cut = Option<(usize, u8, usize, usize)>;
+
+fn next_cut(pieces: &mut Fragmenter) -> Cut {
+    let piece = pieces.next()?;
+    Some((piece.zeros, piece.kind, piece.start, piece.end))
+}
+
+// The first pieces of a record of `len` bytes that is written at that place of a block.
+fn cuts(place: usize, len: usize) -> [Cut; 4] {
+    let mut pieces = Fragmenter::new(place % BLOCK_LEN, len);
+    [
+        next_cut(&mut pieces),
+        next_cut(&mut pieces),
+        next_cut(&mut pieces),
+        next_cut(&mut pieces),
+    ]
+}
+
+// A place, the length of a record that is written there, and its pieces: one of 97270 bytes behind one of 1000, one
+// whose first fragment has room for its header alone, and one that is too long for a block by a byte.
+const SEVERAL: [(usize, usize, [Cut; 4]); 3] = [
+    (
+        1007,
+        97270,
+        [
+            Some((0, FIRST, 0, 31754)),
+            Some((0, MIDDLE, 31754, 64515)),
+            Some((0, LAST, 64515, 97270)),
+            None,
+        ],
+    ),
+    (
+        32761,
+        5,
+        [Some((0, FIRST, 0, 0)), Some((0, LAST, 0, 5)), None, None],
+    ),
+    (
+        0,
+        32762,
+        [
+            Some((0, FIRST, 0, 32761)),
+            Some((0, LAST, 32761, 32762)),
+            None,
+            None,
+        ],
+    ),
+];
+
+#[test]
+fn cuts_records_into_several(rt: HostRuntime) {
+    for (row, (place, len, wanted)) in SEVERAL.iter().enumerate() {
+        check(&rt, row, &cuts(*place, *len), wanted);
+    }
+}
+
+// The place, the length, and the zeros before the one fragment. At first the records of 1000 and 8000 bytes around that
+// of 97270, then records in the last bytes of a block, and then those that leave 7, 6, 1 and 0 bytes of it.
+const ONE: [(usize, usize, usize); 9] = [
+    (0, 1000, 0),
+    (32762, 8000, 6),
+    (32761, 0, 0),
+    (32762, 5, 6),
+    (32767, 5, 1),
+    (0, 32754, 0),
+    (0, 32755, 0),
+    (0, 32760, 0),
+    (0, 32761, 0),
+];
+
+#[test]
+fn cuts_records_into_one(rt: HostRuntime) {
+    for (row, (place, len, zeros)) in ONE.iter().enumerate() {
+        let wanted = [Some((*zeros, FULL, 0, *len)), None, None, None];
+        check(&rt, row, &cuts(*place, *len), &wanted);
+    }
+}

@@ -1,0 +1,110 @@
+//! What logs recover that were cut or changed: the log of two records at each of its bytes, an empty record, and a log
+//! with a trailer.
+
+use crate::checks::check;
+use crate::logs::{EMPTY, LOG, Summary, check_cuts, recovered};
+use log_block::BLOCK_LEN;
+use model_base::{Damage, EndReason};
+use std::alloc::{AllocError, Global};
+use std::test::Fail;
+
+const SHORT_HEADER: EndReason = EndReason::Broken(Damage::ShortHeader);
+
+// Why the first so many bytes of the log end.
+fn why_cut(len: usize) -> EndReason {
+    match len % 24 {
+        0 => EndReason::Clean,
+        1..=6 => SHORT_HEADER,
+        _ => EndReason::Broken(Damage::BadLength),
+    }
+}
+
+// What the log recovers that is whole up to that byte, where both records have 24 bytes.
+fn whole_up_to(at: usize, why: EndReason) -> Summary {
+    match at {
+        0..=23 => (0, 0, 0, 0, why),
+        24..=47 => (1, 1, 24, 24, why),
+        _ => (2, 2, 48, 48, why),
+    }
+}
+
+#[test]
+fn stops_where_the_log_is_cut(rt: HostRuntime) {
+    for len in 0..49 {
+        let left = recovered(rt.alloc(), &LOG[..len]);
+        check(&rt, len, &left, &Ok(whole_up_to(len, why_cut(len))));
+    }
+}
+
+// What is wrong with a fragment whose byte there is inverted. A header is a checksum, a length of two bytes and a kind.
+fn inverted(at: usize) -> Damage {
+    match at {
+        4 | 5 => Damage::BadLength,
+        6 => Damage::BadType(254),
+        _ => Damage::BadChecksum,
+    }
+}
+
+#[test]
+fn stops_at_an_inverted_byte(rt: HostRuntime) {
+    for at in 0..48 {
+        let mut log = LOG;
+        log[at] ^= 0xff;
+        let left = recovered(rt.alloc(), &log);
+        let why = EndReason::Broken(inverted(at % 24));
+        check(&rt, at, &left, &Ok(whole_up_to(at, why)));
+    }
+}
+
+#[test]
+fn stops_where_no_record_follows(rt: HostRuntime) {
+    let empty = recovered(rt.alloc(), &EMPTY);
+    check(&rt, 0, &empty, &Ok((0, 0, 0, 0, EndReason::Short)));
+    let mut zeros = [0; 31];
+    zeros[..24].copy_from_slice(&LOG[..24]);
+    let why = EndReason::Broken(Damage::Zeros);
+    check(
+        &rt,
+        1,
+        &recovered(rt.alloc(), &zeros),
+        &Ok((1, 1, 24, 24, why)),
+    );
+}
+
+// The log with another last byte.
+#[test]
+fn stops_at_another_byte(rt: HostRuntime) {
+    let mut changed = LOG;
+    changed[47] = b'3';
+    let left = recovered(rt.alloc(), &changed);
+    let why = EndReason::Broken(Damage::BadChecksum);
+    check(&rt, 0, &left, &Ok((1, 1, 24, 24, why)));
+}
+
+// The beginning of a record that puts 32740 zeros at `a`. With its fragment's header it has 32765 bytes.
+const LONG: [u8; 25] = [
+    0x58, 0x87, 0x9c, 0xa3, 0xf6, 0x7f, 0x01, // the header
+    0x01, 0x00, 0x00, 0x00, 0x00, 0x00, 0x00, 0x00, // sequence 1
+    0x01, 0x00, 0x00, 0x00, // count 1
+    0x01, 0x01, b'a', 0xe4, 0xff, 0x01, // put a, 32740 bytes
+];
+
+// A log of this beginning, zeros up to the end of the block, and the second record.
+fn log_of_two_blocks(alloc: Global) -> Result<Vec<u8>, AllocError> {
+    let mut log = Vec::from_slice(alloc, &LONG)?;
+    log.resize(BLOCK_LEN, 0)?;
+    log.extend_from_slice(&LOG[24..])?;
+    Ok(log)
+}
+
+// Whole, and without its last 20 bytes.
+const BEHIND_TRAILER: [(usize, Summary); 2] = [
+    (32792, (2, 2, 32792, 32792, EndReason::Clean)),
+    (32772, (1, 1, 32765, 32768, SHORT_HEADER)),
+];
+
+#[test]
+fn passes_over_a_trailer(rt: HostRuntime) -> Result<(), Fail> {
+    let log = log_of_two_blocks(rt.alloc())?;
+    check_cuts(&rt, rt.alloc(), &log, &BEHIND_TRAILER)
+}

@@ -1,0 +1,30 @@
+//! Tests of the log: its fragments and records, batches, the writer and recovery. They stand in a crate of their own,
+//! so that `log_block`, `log_reader`, `log_batch`, `log_writer` and `log_recovery` are proved once and not with their
+//! tests again.
+//!
+//! - `checks`: a comparison, for the others
+//! - `logs`: logs and batches that several tests make, and what a log recovers, for the others
+//! - `blocks`: fragments, and how a record is cut into them
+//! - `reading`: a log's records one after another
+//! - `batches`: batches made and read
+//! - `writing`: groups on a disk, its faults and its crashes
+//! - `recovery`: what whole logs and those with another last record recover
+//! - `damage`: what logs recover that were cut or changed
+#![tactic(auto)]
+
+#[cfg(test)]
+mod batches;
+#[cfg(test)]
+mod blocks;
+#[cfg(test)]
+mod checks;
+#[cfg(test)]
+mod damage;
+#[cfg(test)]
+mod logs;
+#[cfg(test)]
+mod reading;
+#[cfg(test)]
+mod recovery;
+#[cfg(test)]
+mod writing;

@@ -1,0 +1,116 @@
+//! Logs and batches that several tests make, and what a log recovers.
+
+use crate::checks::check;
+use base_devices::MemDisk;
+use log_batch::RecordView::{Deletion, LogData, SingleDeletion, Value};
+use log_batch::{AddError, Batch, RecordView};
+use log_block::{BLOCK_LEN, Fragmenter, MAX_PART_LEN, header};
+use log_recovery::{End, RecoverError, RecoveredMap, recover};
+use model_base::EndReason;
+use std::alloc::{AllocError, Global};
+use std::process::Abort;
+use std::test::Fail;
+
+/// The record `put a 1`.
+pub(crate) const PUT: [u8; 5] = [1, 1, b'a', 1, b'1'];
+
+/// The fragment of an empty record. The checksum was computed by another program.
+pub(crate) const EMPTY: [u8; 7] = [0x05, 0x2b, 0x28, 0x43, 0x00, 0x00, 0x01];
+
+/// A log of `put a 1` and `put b 2`, each in a record of its own. The checksums were computed by another program.
+pub(crate) const LOG: [u8; 48] = [
+    0xe9, 0x9f, 0x78, 0x19, 0x11, 0x00, 0x01, // the header of the first
+    0x01, 0x00, 0x00, 0x00, 0x00, 0x00, 0x00, 0x00, // sequence 1
+    0x01, 0x00, 0x00, 0x00, // count 1
+    0x01, 0x01, b'a', 0x01, b'1', // put a 1
+    0x8f, 0x72, 0xbc, 0x7a, 0x11, 0x00, 0x01, // the header of the second
+    0x02, 0x00, 0x00, 0x00, 0x00, 0x00, 0x00, 0x00, // sequence 2
+    0x01, 0x00, 0x00, 0x00, // count 1
+    0x01, 0x01, b'b', 0x01, b'2', // put b 2
+];
+
+/// Puts a fragment of this type behind a log. It leaves the log as it is where the part is too long for one.
+pub(crate) fn put_fragment(log: &mut Vec<u8>, kind: u8, part: &[u8]) -> Result<(), AllocError> {
+    if part.len() <= MAX_PART_LEN {
+        log.extend_from_slice(&header(kind, part))?;
+        log.extend_from_slice(part)?;
+    }
+    Ok(())
+}
+
+/// Puts a record behind a log, in its fragments, with the checksums that they should have.
+pub(crate) fn put_record(log: &mut Vec<u8>, bytes: &[u8]) -> Result<(), AllocError> {
+    for piece in Fragmenter::new(log.len() % BLOCK_LEN, bytes.len()) {
+        log.resize(log.len().saturating_add(piece.zeros), 0)?;
+        if let Some(part) = bytes.get(piece.start..piece.end) {
+            put_fragment(log, piece.kind, part)?;
+        }
+    }
+    Ok(())
+}
+
+/// The bytes of a batch with this header and these records, which may be none.
+pub(crate) fn batch_bytes(
+    alloc: Global,
+    first: u64,
+    count: u32,
+    records: &[u8],
+) -> Result<Vec<u8>, AllocError> {
+    let mut bytes = Vec::new(alloc);
+    bytes.extend_from_slice(&first.to_le_bytes())?;
+    bytes.extend_from_slice(&count.to_le_bytes())?;
+    bytes.extend_from_slice(records)?;
+    Ok(bytes)
+}
+
+/// Adds a record to a batch.
+fn add(batch: &mut Batch, record: RecordView<'_>) -> Result<(), AddError> {
+    match record {
+        Value { key, value } => batch.put(key, value),
+        Deletion { key } => batch.delete(key),
+        SingleDeletion { key } => batch.single_delete(key),
+        LogData { blob } => batch.log_data(blob),
+    }
+}
+
+/// Adds records to a batch.
+pub(crate) fn add_all(batch: &mut Batch, records: &[RecordView<'_>]) -> Result<(), AddError> {
+    for record in records {
+        add(batch, *record)?;
+    }
+    Ok(())
+}
+
+/// What a log recovers: how many groups, the last sequence, how many bytes are kept, where recovery ends, and why.
+pub(crate) type Summary = (usize, u64, u64, u64, EndReason);
+
+/// What these bytes recover.
+pub(crate) fn recovered(alloc: Global, bytes: &[u8]) -> Result<Summary, RecoverError> {
+    let mut disk = MemDisk::new(alloc, bytes.len(), bytes, &[])?;
+    let log = recover(alloc, &mut disk)?;
+    let End { at, why } = log.end;
+    Ok((log.groups.len(), log.last, log.kept, at, why))
+}
+
+/// Compares what a log recovers that is cut after so many bytes.
+pub(crate) fn check_cuts(
+    rt: &impl Abort,
+    alloc: Global,
+    log: &[u8],
+    rows: &[(usize, Summary)],
+) -> Result<(), Fail> {
+    for (row, (len, wanted)) in rows.iter().enumerate() {
+        let front = log.get(..*len).ok_or("too short")?;
+        check(rt, row, &recovered(alloc, front), &Ok(*wanted));
+    }
+    Ok(())
+}
+
+/// Compares the pairs of a map.
+pub(crate) fn check_map(rt: &impl Abort, map: &RecoveredMap, pairs: &[(&[u8], &[u8])]) {
+    check(rt, 0, &map.len(), &pairs.len());
+    let mut wanted = pairs.iter();
+    for pair in map.iter() {
+        check(rt, 1, &Some(&pair), &wanted.next());
+    }
+}

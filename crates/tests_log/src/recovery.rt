@@ -1,0 +1,239 @@
+//! What logs recover: whole ones, with records in one part and in several, those with one more record that may follow
+//! or may not, and those whose disk fails. That a log which isn't there is a fault shows in `tests/real_file`.
+
+use crate::checks::check;
+use crate::logs::{
+    LOG, PUT, Summary, add_all, batch_bytes, check_cuts, check_map, put_record, recovered,
+};
+use base_devices::MemDisk;
+use log_batch::RecordView::{Deletion, LogData, SingleDeletion, Value};
+use log_batch::{Batch, RecordView};
+use log_recovery::{GroupNote, RecoverError, RecoveredMap, recover};
+use model_base::{Damage, EndReason, NoMemory};
+use std::alloc::{AllocError, Global};
+use std::test::Fail;
+
+fn batch_of(alloc: Global, sequence: u64, records: &[RecordView<'_>]) -> Result<Batch, Fail> {
+    let mut batch = Batch::new(alloc)?;
+    batch.set_sequence(sequence);
+    add_all(&mut batch, records)?;
+    Ok(batch)
+}
+
+// Puts a batch of these records behind a log.
+fn put_batch(
+    alloc: Global,
+    log: &mut Vec<u8>,
+    sequence: u64,
+    records: &[RecordView<'_>],
+) -> Result<(), Fail> {
+    let batch = batch_of(alloc, sequence, records)?;
+    put_record(log, batch.bytes())?;
+    Ok(())
+}
+
+const SECOND_BATCH: [RecordView<'static>; 4] = [
+    Deletion { key: b"a" },
+    LogData { blob: b"x" },
+    Value {
+        key: b"c",
+        value: b"3",
+    },
+    SingleDeletion { key: b"d" },
+];
+
+// The log of two batches, of which the first puts this value, which has 40,000 bytes, and stands in two fragments.
+fn log_of_two(alloc: Global, value: &[u8]) -> Result<Vec<u8>, Fail> {
+    let small = Value {
+        key: b"a",
+        value: b"1",
+    };
+    let mut log = Vec::new(alloc);
+    put_batch(alloc, &mut log, 1, &[small, Value { key: b"b", value }])?;
+    put_batch(alloc, &mut log, 3, &SECOND_BATCH)?;
+    Ok(log)
+}
+
+// The groups that a log recovers, and its map.
+fn whole(alloc: Global, log: &[u8]) -> Result<(Vec<GroupNote>, RecoveredMap), RecoverError> {
+    let mut disk = MemDisk::new(alloc, log.len(), log, &[])?;
+    let found = recover(alloc, &mut disk)?;
+    Ok((found.groups, found.map))
+}
+
+const SMALL_NOTES: [GroupNote; 2] = [
+    GroupNote {
+        first: 1,
+        count: 1,
+        size: 17,
+    },
+    GroupNote {
+        first: 2,
+        count: 1,
+        size: 17,
+    },
+];
+
+const SMALL_PAIRS: [(&[u8], &[u8]); 2] = [(b"a", b"1"), (b"b", b"2")];
+
+#[test]
+fn recovers_a_small_log(rt: HostRuntime) -> Result<(), Fail> {
+    let (notes, map) = whole(rt.alloc(), &LOG)?;
+    check(&rt, 0, &notes.as_slice(), &SMALL_NOTES.as_slice());
+    check_map(&rt, &map, &SMALL_PAIRS);
+    Ok(())
+}
+
+const LARGE_NOTES: [GroupNote; 2] = [
+    GroupNote {
+        first: 1,
+        count: 2,
+        size: 40_023,
+    },
+    GroupNote {
+        first: 3,
+        count: 3,
+        size: 26,
+    },
+];
+
+#[test]
+fn recovers_a_record_in_parts(rt: HostRuntime) -> Result<(), Fail> {
+    let value = vec![in rt.alloc(); 7u8; 40_000]?;
+    let log = log_of_two(rt.alloc(), &value)?;
+    let (notes, map) = whole(rt.alloc(), &log)?;
+    check(&rt, 0, &notes.as_slice(), &LARGE_NOTES.as_slice());
+    check_map(&rt, &map, &[(b"b", &value), (b"c", b"3")]);
+    Ok(())
+}
+
+const SHORT_HEADER: EndReason = EndReason::Broken(Damage::ShortHeader);
+
+const CUT: [(usize, Summary); 5] = [
+    (32_768, (0, 0, 0, 0, EndReason::Unfinished)),
+    (32_771, (0, 0, 0, 32_768, SHORT_HEADER)),
+    (40_037, (1, 2, 40_037, 40_037, EndReason::Clean)),
+    (40_040, (1, 2, 40_037, 40_037, SHORT_HEADER)),
+    (40_070, (2, 5, 40_070, 40_070, EndReason::Clean)),
+];
+
+#[test]
+fn ends_inside_a_record(rt: HostRuntime) -> Result<(), Fail> {
+    let value = vec![in rt.alloc(); 7u8; 40_000]?;
+    let log = log_of_two(rt.alloc(), &value)?;
+    check_cuts(&rt, rt.alloc(), &log, &CUT)
+}
+
+const MAX_SEQUENCE: u64 = 72_057_594_037_927_935;
+
+// A record that may not follow: its first sequence, what its header says that counts, its records, and why it isn't
+// kept.
+const STOPPED: [(u64, u32, &[u8], EndReason); 6] = [
+    (2, 1, &[2, 1, 0x61, 1, 0x31], EndReason::Tag(2)),
+    (2, 2, &PUT, EndReason::Count { said: 2, found: 1 }),
+    (2, 1, &[1, 1, 0x61, 5], EndReason::Short),
+    (2, 1, &[1, 0x80, 0], EndReason::BadVarint),
+    (1, 1, &PUT, EndReason::Order { first: 1, last: 1 }),
+    (
+        MAX_SEQUENCE,
+        2,
+        &[0, 0, 0, 0],
+        EndReason::High {
+            first: MAX_SEQUENCE,
+            count: 2,
+        },
+    ),
+];
+
+// A record that may follow, and what is recovered then.
+const KEPT: [(u64, u32, &[u8], Summary); 2] = [
+    (
+        MAX_SEQUENCE,
+        1,
+        &PUT,
+        (2, MAX_SEQUENCE, 48, 48, EndReason::Clean),
+    ),
+    (1, 0, &[3, 1, 0x78], (2, 1, 46, 46, EndReason::Clean)),
+];
+
+// The log of the first record, and this one behind it.
+fn log_behind(
+    alloc: Global,
+    first: u64,
+    count: u32,
+    records: &[u8],
+) -> Result<Vec<u8>, AllocError> {
+    let mut log = Vec::from_slice(alloc, &LOG[..24])?;
+    let bytes = batch_bytes(alloc, first, count, records)?;
+    put_record(&mut log, &bytes)?;
+    Ok(log)
+}
+
+#[test]
+fn stops_at_what_may_not_follow(rt: HostRuntime) -> Result<(), Fail> {
+    for (row, (first, count, records, why)) in STOPPED.iter().enumerate() {
+        let log = log_behind(rt.alloc(), *first, *count, records)?;
+        let found = recovered(rt.alloc(), &log);
+        check(&rt, row, &found, &Ok((1, 1, 24, 24, *why)));
+    }
+    Ok(())
+}
+
+#[test]
+fn keeps_what_may_follow(rt: HostRuntime) -> Result<(), Fail> {
+    for (row, (first, count, records, wanted)) in KEPT.iter().enumerate() {
+        let log = log_behind(rt.alloc(), *first, *count, records)?;
+        check(&rt, row, &recovered(rt.alloc(), &log), &Ok(*wanted));
+    }
+    Ok(())
+}
+
+// The error where that call of the disk fails.
+fn fault_at(alloc: Global, call: u64) -> Result<Option<RecoverError>, NoMemory> {
+    let mut disk = MemDisk::new(alloc, 24, &LOG[..24], &[call])?;
+    Ok(recover(alloc, &mut disk).err())
+}
+
+#[test]
+fn a_fault_is_answered(rt: HostRuntime) -> Result<(), Fail> {
+    for call in 1..3 {
+        let error = fault_at(rt.alloc(), call)?;
+        check(&rt, 0, &error, &Some(RecoverError::Fault { count: 1 }));
+    }
+    Ok(())
+}
+
+const INSERTED: [(&[u8], &[u8]); 7] = [
+    (b"sixteen bytes of", b"1"),
+    (b"sixteen bytes of it", b"2"),
+    (b"", b"3"),
+    (b"sixteen bytes of all", b"4"),
+    (b"s\0", b"5"),
+    (b"s", b"6"),
+    (b"sixteen bytes of", b"7"),
+];
+
+const LEFT: [(&[u8], &[u8]); 5] = [
+    (b"", b"3"),
+    (b"s", b"6"),
+    (b"s\0", b"5"),
+    (b"sixteen bytes of", b"7"),
+    (b"sixteen bytes of all", b"4"),
+];
+
+// The map of all pairs, without two keys, of which one isn't there.
+fn map_of_five(alloc: Global) -> Result<RecoveredMap, NoMemory> {
+    let mut map = RecoveredMap::new(alloc);
+    for (key, value) in &INSERTED {
+        map.insert(key, value)?;
+    }
+    map.remove(b"sixteen bytes of it")?;
+    map.remove(b"sixteen bytes of i")?;
+    Ok(map)
+}
+
+#[test]
+fn orders_keys_that_begin_alike(rt: HostRuntime) -> Result<(), Fail> {
+    check_map(&rt, &map_of_five(rt.alloc())?, &LEFT);
+    Ok(())
+}

@@ -1,0 +1,283 @@
+//! Scripts of one client, what is refused, devices that fail, and generated scripts.
+
+use super::Fails::{Disk, Nothing, Sink, Source};
+use super::{
+    Fails, Given, ONE_TREE, OUTCOME, PATHS, PLAIN, RECORD, Row, SCRIPT, TWO_RECORDS, WritePath,
+    check_rows, ended,
+};
+use run_scripts::TEXT_LIMIT;
+use std::alloc::Global;
+use std::process::Abort;
+use std::rt::HostRuntime;
+use std::sync::Wait;
+use std::thread::Threads;
+
+/// Of other words `tests/real_file` has more.
+const WORDS: [Row; 5] = [
+    ("", SCRIPT, "usage\n"),
+    ("walk", SCRIPT, "usage\n"),
+    ("--help", SCRIPT, "usage\n"),
+    ("--version", SCRIPT, "usage\n"),
+    ("run --last -1", SCRIPT, "usage\n"),
+];
+
+const FAULTY: [Row; 13] = [
+    ("run", b"", "script 0 none\n"),
+    ("run", b"put a 1\n", "script 1 client\n"),
+    ("run", b"client 1\npot a 1\n", "script 2 word\n"),
+    ("run", b"client 1\nschedule\n", "script 2 word\n"),
+    ("run", b"client 1\nget\ta\n", "script 2 byte\n"),
+    ("run", b"client 1\nput a\n", "script 2 form\n"),
+    ("run", b"client 1\nmany\n", "script 2 form\n"),
+    ("run", b"client 1\nscan a\n", "script 2 form\n"),
+    ("run", b"client 1\nslow 01\n", "script 2 form\n"),
+    ("run", b"client 1\nunstop 1\n", "script 2 form\n"),
+    ("run", b"client 1\ncommit noslow sync\n", "script 2 form\n"),
+    ("run", b"client 1\n\n# x\nclient 3\n", "script 4 client\n"),
+    (
+        "run",
+        b"client 1\nclient 2\nclient 3\nclient 4\nclient 5\nclient 6\nclient 7\nclient 8\nclient 9\n\
+            client 10\nclient 11\nclient 12\nclient 13\nclient 14\nclient 15\nclient 16\nclient 17\n",
+        "script 17 clients\n",
+    ),
+];
+
+#[test]
+fn words_and_scripts_are_refused(rt: HostRuntime) {
+    let alloc = rt.alloc();
+    check_rows(&rt, alloc, ONE_TREE, 1, &WORDS);
+    for path in PATHS {
+        check_rows(&rt, alloc, path, 2, &FAULTY);
+    }
+    let long = vec![in alloc; b'#'; TEXT_LIMIT + 1].expect(&rt, "memory");
+    let given = Given {
+        text: long.as_slice(),
+        ..PLAIN
+    };
+    ended(&rt, alloc, given, 2, "script 0 long\n");
+}
+
+const OUTCOMES: [Row; 13] = [
+    ("run", b"# x\nclient 1\nput a 1\ncommit\nget a\n", OUTCOME),
+    (
+        "run",
+        b"client 1\ncommit\n",
+        "client 1\nno empty\nhistory 0\nstate 0 0\nlog 0\n",
+    ),
+    (
+        "run",
+        b"client 1\nput a 1\nput a 2\ndel a\ncommit\nget a\n",
+        "client 1\nok 1 3\nnil 3\n\
+            history 1\n1 3 1 1 log 01000000000000000300000001016101310101610132000161\nstate 3 0\nlog 32\n",
+    ),
+    (
+        "run",
+        b"client 1\nnote x\ncommit\nput a 1\ncommit\n",
+        "client 1\nno empty\nok 1 1\n\
+            history 1\n1 1 1 1 log 0100000000000000010000000301780101610131\nstate 1 1\na 1\nlog 27\n",
+    ),
+    (
+        "run",
+        b"client 1\nput a 1\ncommit\nput a 2\ncommit\nget a\n",
+        "client 1\nok 1 1\nok 2 2\nval 2 2\n\
+            history 2\n1 1 1 1 log 0100000000000000010000000101610131\n\
+            2 2 1 2 log 0200000000000000010000000101610132\nstate 2 1\na 2\nlog 48\n",
+    ),
+    (
+        "run",
+        b"client 1\nput a 1\nput b 2\ncommit nolog\nsdel a\ncommit sync\nscan a z\nscan b b\nmany b a\n",
+        "client 1\nok 1 2\nok 3 3\nscan 3 1 b 2\nscan 3 0\nmany 3 2 =2 -\n\
+            history 2\n1 2 1 1 nolog 01000000000000000200000001016101310101620132\n\
+            3 3 1 2 sync 030000000000000001000000070161\nstate 3 1\nb 2\nlog 22\n",
+    ),
+    (
+        "run",
+        b"client 1\nput a 1\ncommit sync nolog\n",
+        "client 1\nno syncwithoutlog\nhistory 0\nstate 0 0\nlog 0\n",
+    ),
+    // Who holds a stop token isn't kept waiting.
+    (
+        "run",
+        b"client 1\nstop\nput a 1\ncommit noslow\ncommit\nstop\nunstop\nunstop\ncommit\n",
+        "client 1\ndone\nno incomplete 1 0 0\nno selfstop\nheld\ndone\nnotheld\nok 1 1\n\
+            history 1\n1 1 1 1 log 0100000000000000010000000101610131\nstate 1 1\na 1\nlog 24\n",
+    ),
+    // At a byte a second, a millisecond brings one byte of 17, and the other 16 are owed from a millisecond on.
+    (
+        "run",
+        b"client 1\nslow 1\nput a 1\ncommit noslow\nunslow\ncommit\n",
+        "client 1\ndone\nno incomplete 0 1 16001000\ndone\nok 1 1\n\
+            history 1\n1 1 1 1 log 0100000000000000010000000101610131\nstate 1 1\na 1\nlog 24\n",
+    ),
+    // The first one's commit waits where the third holds its token, which is given back as that client ends.
+    (
+        "run",
+        b"client 1\nput a 1\ncommit sync\nget a\nclient 2\nunstop\ncommit\nput b 2\ncommit sync nolog\n\
+            client 3\nstop\nput c 3\ncommit noslow\ncommit\nstop\n",
+        "client 1\nok 1 1\nval 1 1\nclient 2\nnotheld\nno empty\nno syncwithoutlog\nclient 3\ndone\n\
+            no incomplete 1 0 0\nno selfstop\nheld\n\
+            history 1\n1 1 1 1 sync 0100000000000000010000000101610131\nstate 1 1\na 1\nlog 24\n",
+    ),
+    (
+        "run --batch-bytes 20",
+        b"client 1\nput a 1\nput b 2\ncommit\nclear\nput a 1\ncommit\n",
+        "client 1\nno large 22\nok 1 1\n\
+            history 1\n1 1 1 1 log 0100000000000000010000000101610131\nstate 1 1\na 1\nlog 24\n",
+    ),
+    (
+        "run --last 72057594037927934",
+        b"client 1\nput a 1\nput b 2\ncommit\nclear\nput a 1\ncommit\nput c 3\ncommit\n",
+        "client 1\nno full 72057594037927934\nok 72057594037927935 72057594037927935\n\
+            no full 72057594037927935\n\
+            history 1\n72057594037927935 72057594037927935 1 1 log ffffffffffffff00010000000101610131\n\
+            state 72057594037927935 1\na 1\nlog 24\n",
+    ),
+    // A leader is in its group, however large its batch is.
+    ("run --group-bytes 1", SCRIPT, OUTCOME),
+];
+
+const SMALL_SUMMARY: &str = "clients 1\nbatches 2\nrecords 3\nlast 3\nkeys 2\nsum 1445\n";
+
+/// Reckoned by another program, as the one below.
+const MIDDLE_SUMMARY: &str =
+    "clients 16\nbatches 1600\nrecords 3947\nlast 3947\nkeys 1090\nsum 528519\n";
+
+const LARGE_SUMMARY: &str =
+    "clients 16\nbatches 16000\nrecords 39946\nlast 39946\nkeys 1175\nsum 580970\n";
+
+/// However the sixteen clients meet, whatever the table is made of, and in one stage or two.
+const SUMMARIES: [Row; 8] = [
+    ("gen 1 1 2", b"", SMALL_SUMMARY),
+    ("gen 7 16 1000", b"", LARGE_SUMMARY),
+    ("gen --table shards 7 16 1000", b"", LARGE_SUMMARY),
+    ("gen --pipelined 7 16 100", b"", MIDDLE_SUMMARY),
+    (
+        "gen --table shards --shards 2 --pipelined 7 16 100",
+        b"",
+        MIDDLE_SUMMARY,
+    ),
+    (
+        "gen --table shards --shards 1 7 16 100",
+        b"",
+        MIDDLE_SUMMARY,
+    ),
+    (
+        "gen --shards 2 --table shards 7 16 100",
+        b"",
+        MIDDLE_SUMMARY,
+    ),
+    (
+        "gen --table shards --shards 64 7 16 100",
+        b"",
+        MIDDLE_SUMMARY,
+    ),
+];
+
+#[test]
+fn prints_what_came_of_a_script(rt: HostRuntime) {
+    let alloc = rt.alloc();
+    for path in PATHS {
+        check_rows(&rt, alloc, path, 0, &OUTCOMES);
+    }
+    check_rows(&rt, alloc, ONE_TREE, 0, &SUMMARIES);
+}
+
+const ONE_BATCH: &str = "clients 1\nbatches 1\nrecords 1\nlast 1\nkeys 1\nsum 914\n";
+
+/// Words, what the disk holds, which call of a device fails, the status, and all that is printed then.
+type Device = (&'static str, &'static [u8], Fails, u8, &'static str);
+
+/// Neither `recover` nor `gen` looks at the source.
+const DEVICES: [Device; 15] = [
+    ("run", b"", Disk(1), 3, "disk fault 1\n"),
+    ("run", b"", Source(1), 4, "source fault 1\n"),
+    ("run", b"", Sink(1), 5, ""),
+    ("run", b"x", Nothing, 7, "log not empty 1\n"),
+    ("run --pipelined", b"", Disk(1), 3, "disk fault 1\n"),
+    ("run --pipelined", b"", Source(1), 4, "source fault 1\n"),
+    ("run --pipelined", b"", Sink(1), 5, ""),
+    ("run --pipelined", b"x", Nothing, 7, "log not empty 1\n"),
+    ("recover", RECORD, Disk(1), 3, "disk fault 1\n"),
+    ("recover", RECORD, Sink(1), 5, ""),
+    (
+        "recover",
+        b"x",
+        Source(1),
+        0,
+        "groups 0\nstate 0 0\nend 0 shortheader\n",
+    ),
+    ("gen 1 1 2", RECORD, Nothing, 7, "log not empty 24\n"),
+    ("gen 1 1 2", b"", Source(1), 0, SMALL_SUMMARY),
+    ("gen 1 1 2", b"", Disk(3), 3, ONE_BATCH),
+    ("gen --pipelined 1 1 2", b"", Disk(3), 3, ONE_BATCH),
+];
+
+#[test]
+fn devices_fail_or_are_not_empty(rt: HostRuntime) {
+    for (words, content, fails, status, want) in DEVICES {
+        let given = Given {
+            words,
+            content,
+            fails,
+            ..PLAIN
+        };
+        ended(&rt, rt.alloc(), given, status, want);
+    }
+}
+
+/// A text, which call of a device fails, the status and all that is printed then, and what the disk holds.
+type Left = (&'static [u8], Fails, u8, &'static str, &'static [u8]);
+
+const FAULTS: [Left; 4] = [
+    (SCRIPT, Nothing, 0, OUTCOME, RECORD),
+    (
+        SCRIPT,
+        Disk(2),
+        3,
+        "client 1\nno logfault 1\nnil 0\nhistory 0\nstate 0 0\nlog 0 fault 1\n",
+        b"",
+    ),
+    (
+        b"client 1\nput a 1\ncommit\nput b 2\ncommit\ncommit\nget b\nget a\n",
+        Disk(3),
+        3,
+        "client 1\nok 1 1\nno logfault 1\nno logfault 1\nnil 1\nval 1 1\n\
+            history 1\n1 1 1 1 log 0100000000000000010000000101610131\nstate 1 1\na 1\nlog 24 fault 1\n",
+        RECORD,
+    ),
+    // Two records are written. They aren't synced.
+    (
+        b"client 1\nput a 1\ncommit\nput b 2\ncommit sync\nget b\n",
+        Disk(4),
+        3,
+        "client 1\nok 1 1\nno logfault 1\nnil 1\n\
+            history 1\n1 1 1 1 log 0100000000000000010000000101610131\nstate 1 1\na 1\nlog 24 fault 1\n",
+        TWO_RECORDS,
+    ),
+];
+
+/// Runs scripts over such a write path, and compares what they leave on the disk too.
+fn check_left<R: Threads + Wait + Abort + Sync>(
+    rt: &R,
+    alloc: Global,
+    path: WritePath,
+    rows: &[Left],
+) {
+    for (text, fails, status, want, left) in rows {
+        let given = Given {
+            path,
+            text: *text,
+            fails: *fails,
+            ..PLAIN
+        };
+        let disk = ended(rt, alloc, given, *status, want);
+        assert_eq!(rt; disk.content(), *left, "for {want}");
+    }
+}
+
+#[test]
+fn writes_up_to_a_fault(rt: HostRuntime) {
+    for path in PATHS {
+        check_left(&rt, rt.alloc(), path, &FAULTS);
+    }
+}

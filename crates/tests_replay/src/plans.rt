@@ -1,0 +1,46 @@
+//! The way of a plan to its next call.
+
+use crate::opening::PLAIN;
+use model_base::{NoMemory, WriteOptions};
+use replay_plans::{ClientPlan, Lines, are_small, commit_at, is_read, look_ahead, measure_batch};
+use run_calls::Measure;
+use run_command_list::{CommandKind, CommandList, CommandView};
+use std::alloc::Global;
+use std::test::Fail;
+
+const SYNCED: WriteOptions = WriteOptions {
+    sync: true,
+    ..PLAIN
+};
+
+/// A client puts `a`, notes it, commits, and stops writes.
+fn commands_of(alloc: Global) -> Result<CommandList, NoMemory> {
+    let mut commands = CommandList::new(alloc);
+    commands.push(CommandView::Put {
+        key: b"a",
+        value: b"1",
+    })?;
+    commands.push(CommandView::Note { text: b"n" })?;
+    commands.push(CommandView::Commit { options: SYNCED })?;
+    commands.push(CommandView::Stop)?;
+    Ok(commands)
+}
+
+#[test]
+fn finds_the_next_call(rt: HostRuntime) -> Result<(), Fail> {
+    let commands = commands_of(rt.alloc())?;
+    let plan = ClientPlan::of(rt.alloc(), &commands)?;
+    let ahead = look_ahead(&plan, 0, 0);
+    let batch = measure_batch(&plan, Lines { from: 0, to: 2 });
+    let measure = Measure { size: 20, count: 1 };
+    assert_eq!(rt;
+        (ahead.from, ahead.call, ahead.next, batch),
+        (0, 2, 3, measure)
+    );
+    assert_eq!(rt; (plan.len(), plan.lines().len()), (4, 4));
+    assert_eq!(rt; plan.line(3).kind(), CommandKind::Token);
+    let called = (commit_at(&plan, 2), is_read(&plan, 3));
+    let plans = vec![in rt.alloc(); plan]?;
+    assert_eq!(rt; (called, are_small(&plans)), ((Some(SYNCED), false), true));
+    Ok(())
+}

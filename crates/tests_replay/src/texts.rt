@@ -1,0 +1,76 @@
+//! Texts that no call comes to.
+
+use base_bytes::{Bytes, PairList};
+use log_recovery::{End, Recovered, RecoveredMap};
+use model_base::{Damage, EndReason, NoMemory, Refusal};
+use program_text::{disk_fault, outcome_text, recovered_text, summary_text};
+use run_batches::BatchList;
+use run_outcome::{History, Outcome, Reply};
+use std::alloc::Global;
+use std::process::Abort;
+use std::test::Fail;
+
+/// A commit that the log's fault refuses, and a read that finds no memory.
+fn one_fault(alloc: Global) -> Result<Outcome<PairList>, NoMemory> {
+    let replies = vec![in alloc;
+        Reply::Refused(Refusal::LogFault { count: 1 }),
+        Reply::Found { at: 0, value: None },
+        Reply::NoMemory,
+    ]?;
+    Ok(Outcome {
+        transcripts: vec![in alloc; replies]?,
+        history: History::of_one(BatchList::new(alloc)),
+        last: 0,
+        state: PairList::new(alloc),
+        log_len: 0,
+        fault: Some(1),
+    })
+}
+
+/// A log that ends where one with another number begins. None is read so yet.
+fn old_log(alloc: Global) -> Recovered {
+    Recovered {
+        groups: Vec::new(alloc),
+        map: RecoveredMap::new(alloc),
+        last: 0,
+        kept: 0,
+        end: End {
+            at: 24,
+            why: EndReason::Broken(Damage::OldLog(7)),
+        },
+    }
+}
+
+fn check(rt: &impl Abort, text: Result<Bytes, NoMemory>, want: &str) -> Result<(), Fail> {
+    let text = text?;
+    assert_eq!(rt; text.as_slice(), want.as_bytes());
+    Ok(())
+}
+
+fn outcome(alloc: Global) -> Result<Bytes, NoMemory> {
+    outcome_text(alloc, &one_fault(alloc)?)
+}
+
+fn summary(alloc: Global) -> Result<Bytes, NoMemory> {
+    summary_text(alloc, &one_fault(alloc)?, 18_446_744_073_709_551_616)
+}
+
+fn recovered(alloc: Global) -> Result<Bytes, NoMemory> {
+    recovered_text(alloc, &old_log(alloc))
+}
+
+const OUTCOME: &str =
+    "client 1\nno logfault 1\nnil 0\nno memory\nhistory 0\nstate 0 0\nlog 0 fault 1\n";
+
+const SUMMARY: &str = "clients 1\nbatches 0\nrecords 0\nlast 0\nkeys 0\nsum 18446744073709551616\n";
+
+const RECOVERED: &str = "groups 0\nstate 0 0\nend 24 oldlog 7\n";
+
+#[test]
+fn prints_what_no_call_comes_to(rt: HostRuntime) -> Result<(), Fail> {
+    let alloc = rt.alloc();
+    check(&rt, outcome(alloc), OUTCOME)?;
+    check(&rt, summary(alloc), SUMMARY)?;
+    check(&rt, recovered(alloc), RECOVERED)?;
+    check(&rt, disk_fault(alloc, 2), "disk fault 2\n")
+}

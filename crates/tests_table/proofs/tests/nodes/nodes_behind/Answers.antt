@@ -1,0 +1,16 @@
+-- A batch makes a node for each record that counts, and their sequences are one run. Its count is a u32.
+use Rattle.std.proofs.Common.{◌≡◌, ◌+◌, length, ◌∙◌, sym, ap, subst, arith}
+use Rattle.table_rule.specs.Histories.{Runs}
+use Rattle.engine_rule.proofs.Plans.{made_length, numbered_length}
+use Rattle.tests_table.proofs.Numbering.{numbered_runs}
+use Rattle.tests_table.proofs.tests.nodes.nodes_behind.Goals as goal
+
+pub number-requires : goal.number-requires
+number-requires g c =
+    let few : length c.in-Ok.nodes ≡ c.count-records.result = ap length c.in-Ok.ensures ∙ made_length c.batch_of-batch.result.records ∙ sym c.count-records.ensures in
+    omega (arith, few)
+
+pub returns-clause-run : goal.returns-clause-run
+returns-clause-run g c =
+    let few : length c.in-Ok.nodes ≡ c.count-records.result = ap length c.in-Ok.ensures ∙ made_length c.batch_of-batch.result.records ∙ sym c.count-records.ensures in
+    (subst (Runs c.args.last) (sym c.number.ensures) (numbered_runs c.args.last c.in-Ok.nodes), ap length c.number.ensures ∙ numbered_length (c.args.last + 1) c.in-Ok.nodes ∙ few)

@@ -1,0 +1,23 @@
+-- A batch with a record of each kind, and the versions that it makes.
+use Rattle.std.specs.Prelude.{ℕ, List, [], ◌∷◌, Some, None, codes}
+use Rattle.model_base.specs.Batch.{Record, value, deletion, single_deletion, log_data}
+use Rattle.table_rule.specs.declared.content.Version.{Version}
+use Rattle.table_rule.specs.Batches.{made, numbered}
+
+abbrev pub one_of_each : List Record
+one_of_each =
+    log_data (codes "note") ∷ value (codes "a") (codes "1") ∷ deletion (codes "b") ∷ single_deletion (codes "c")
+    ∷ []
+
+-- its versions, with sequences from one on
+abbrev pub versions_from : ℕ → List Version
+versions_from first = numbered first (made one_of_each)
+
+abbrev pub put_a : ℕ → Version
+put_a sequence = record { key = codes "a"; value = Some (codes "1"); sequence = sequence }
+
+abbrev pub delete_b : ℕ → Version
+delete_b sequence = record { key = codes "b"; value = None; sequence = sequence }
+
+abbrev pub delete_c : ℕ → Version
+delete_c sequence = record { key = codes "c"; value = None; sequence = sequence }

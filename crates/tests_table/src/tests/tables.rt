@@ -1,0 +1,263 @@
+// A client launches groups through a table over the memtable's tree, and another publishes them, and reads after each.
+
+ghost use Rattle.std.specs.Prelude.{◌≡◌, ◌+◌, ◌<◌, ◌^◌, length, IfOk};
+ghost use Rattle.table_rule.specs.declared.view.Stage.TheVariants.{Idle};
+ghost use Rattle.table_rule.specs.Histories.{In, last_of, Runs};
+ghost use Rattle.table_rule.specs.Steps.{MayTake};
+ghost use Rattle.table_steps.specs.Accounts.{history_of};
+ghost use Rattle.engine_memory.specs.Tables.{opening_of, account_of, IsOurs, MayLaunch, HasShards};
+ghost use Rattle.tests_table.specs.Clients.{IsIdle};
+
+use super::nodes::nodes_behind;
+use super::rows::{are_found, are_rows, is_found, keys_of, value_of};
+use base_bytes::Bytes;
+use engine_memory::{MemoryTable, TableKind};
+use std::alloc::Global;
+use std::process::Abort;
+use std::sync::Wait;
+use std::test::Fail;
+use table_calls::{Finished, Seats, Table};
+use table_steps::{TableSeat, Turn};
+use table_tree::{Nodes, Parts, Tree};
+
+pub(super) type MemSeat = TableSeat<Tree, Nodes>;
+
+pub(super) type MemTurn = Turn<Tree, Nodes>;
+
+// A group of one client, and what is there behind it.
+#[derive(Drop, Clone, Copy)]
+struct Round {
+    // Keys, each with the value that it gets, or none where it is deleted.
+    writes: &'static [(&'static [u8], Option<&'static [u8]>)],
+    // The keys that have a value then, with it, in byte order.
+    rows: &'static [(&'static [u8], &'static [u8])],
+}
+
+// `a` gets two values and is deleted, `b` gets one, and then four keys get one at once. Of three shards, the last two
+// of these are of one, and the others of one each.
+const ROUNDS: [Round; 5] = [
+    Round {
+        writes: &[(b"a", Some(b"1"))],
+        rows: &[(b"a", b"1")],
+    },
+    Round {
+        writes: &[(b"a", Some(b"2"))],
+        rows: &[(b"a", b"2")],
+    },
+    Round {
+        writes: &[(b"a", None)],
+        rows: &[],
+    },
+    Round {
+        writes: &[(b"b", Some(b"x"))],
+        rows: &[(b"b", b"x")],
+    },
+    Round {
+        writes: &[
+            (b"c", Some(b"1")),
+            (b"b", Some(b"2")),
+            (b"d", Some(b"3")),
+            (b"a", Some(b"4")),
+        ],
+        rows: &[(b"a", b"4"), (b"b", b"2"), (b"c", b"1"), (b"d", b"3")],
+    },
+];
+
+// Takes the client's part of a launched group, and inserts and finishes it. Whether it was the last to finish, and
+// published the group.
+pub(super) fn complete<R: Wait>(rt: &R, table: &MemoryTable, seat: &mut MemSeat) -> bool
+    requires ours { IsOurs table.now seat.old }
+    requires free { MayTake (account_of seat.old).stage }
+    ensures ours { IsOurs table.now seat.new }
+    ensures idle { (account_of seat.new).stage ≡ Idle }
+    ensures same { ((account_of seat.new).launched ≡ (account_of seat.old).launched)
+        × ((account_of seat.new).number ≡ (account_of seat.old).number) }
+{
+    let part = Table::<Nodes, Parts>::take(table, rt, seat);
+    Table::<Nodes, Parts>::insert(table, rt, seat, part);
+    match Table::<Nodes, Parts>::finish(table, seat) {
+        Finished::Last => {
+            Table::<Nodes, Parts>::publish(table, seat);
+            true
+        }
+        Finished::Others => false,
+    }
+}
+
+// A group of so many nodes behind the sequence `last` is launched by a client that has no part of it, and published.
+// Its only member is the last to finish: else nobody would publish it, and this wouldn't return.
+fn write<R: Wait + Abort>(
+    rt: &R,
+    alloc: Global,
+    table: &MemoryTable,
+    leader: &mut MemSeat,
+    member: &mut MemSeat,
+    turn: MemTurn,
+    last: u64,
+    nodes: Nodes,
+    count: u64,
+) -> MemTurn
+    requires clients { (opening_of table.now).clients ≡ 2 }
+    requires leader { IsIdle table.now leader.old × ((account_of leader.old).number ≡ 1) }
+    requires member { IsIdle table.now member.old }
+    requires turn { MayLaunch table.now turn }
+    requires last { (last_of (opening_of table.now).start (history_of turn) ≡ last) × (last + count < 2 ^ 56) }
+    requires nodes { Runs last nodes × (length nodes ≡ count) × (0 < count) }
+    ensures leader { IsIdle table.now leader.new × ((account_of leader.new).number ≡ 1) }
+    ensures member { IsIdle table.now member.new }
+    ensures turn { MayLaunch table.now result
+        × (last_of (opening_of table.now).start (history_of result) ≡ last + count) }
+{
+    let mut parts = Parts::new(alloc, 2).expect(rt, "memory");
+    parts.add(2, nodes);
+    Table::<Nodes, Parts>::launch(table, leader, turn, &mut parts);
+    complete(rt, table, member);
+    Table::<Nodes, Parts>::await_published(table, rt, leader, last + count)
+}
+
+// Takes the last seat out, of seats that have nothing to do.
+pub(super) fn taken(table: &MemoryTable, seats: &mut Vec<MemSeat>) -> Result<MemSeat, Fail>
+    requires { (seat : _) → In seat seats.old.items → IsIdle table.now seat }
+    ensures seat { IfOk result (λ seat. IsIdle table.now seat) }
+    ensures others { IfOk result (λ _. (seat : _) → In seat seats.new.items → IsIdle table.now seat) }
+{
+    let seat = seats.pop().ok_or("a seat")?;
+    Ok(seat)
+}
+
+// A table of this kind for two clients, with its turn and their seats, from the first on.
+fn open_for_two(
+    alloc: Global,
+    kind: TableKind,
+) -> Result<(MemoryTable, MemTurn, MemSeat, MemSeat), Fail>
+    requires { HasShards kind }
+    ensures clients { IfOk result (λ opened. (opening_of opened.0).clients ≡ 2) }
+    ensures turn { IfOk result (λ opened. MayLaunch opened.0 opened.1
+        × (last_of (opening_of opened.0).start (history_of opened.1) ≡ 0)) }
+    ensures first { IfOk result (λ opened. IsIdle opened.0 opened.2) }
+    ensures second { IfOk result (λ opened. IsIdle opened.0 opened.3) }
+{
+    let (table, mut seats) = MemoryTable::open(alloc, 2, 0, kind)?;
+    let second = taken(&table, &mut seats.clients)?;
+    let first = taken(&table, &mut seats.clients)?;
+    Ok((table, seats.turn, first, second))
+}
+
+// Gives the table up.
+fn close(
+    alloc: Global,
+    table: MemoryTable,
+    turn: MemTurn,
+    first: MemSeat,
+    second: MemSeat,
+) -> Result<(), Fail>
+    requires turn { MayLaunch table turn }
+    requires first { IsIdle table first }
+    requires second { IsIdle table second }
+{
+    let clients = vec![in alloc; first, second]?;
+    Table::<Nodes, Parts>::close(table, Seats { turn, clients });
+    Ok(())
+}
+
+// Each key, read alone, has what its row says, as of this sequence.
+fn check_each<R: Wait + Abort>(
+    rt: &R,
+    alloc: Global,
+    table: &MemoryTable,
+    seat: &mut MemSeat,
+    keys: &[Bytes],
+    rows: &[(&[u8], &[u8])],
+    at: u64,
+)
+    requires { IsIdle table.now seat.old }
+    ensures { IsIdle table.now seat.new }
+{
+    for i in 0..keys.len() {
+        let key = keys[i].as_slice();
+        let read = Table::<Nodes, Parts>::read(table, alloc, rt, seat, key).expect(rt, "memory");
+        let same = is_found(rows, key, value_of(&read.value));
+        assert_eq!(rt; (read.at, same), (at, true), "key {i} at {at}");
+    }
+}
+
+// The keys read together, those from `a` on and below `z`, and each alone, have what their rows say, as of this
+// sequence. `e` has no row.
+fn check<R: Wait + Abort>(
+    rt: &R,
+    alloc: Global,
+    table: &MemoryTable,
+    seat: &mut MemSeat,
+    rows: &[(&[u8], &[u8])],
+    at: u64,
+)
+    requires { IsIdle table.now seat.old }
+    ensures { IsIdle table.now seat.new }
+{
+    let keys = keys_of(rt, alloc, &[b"a", b"b", b"c", b"d", b"e"]);
+    check_each(rt, alloc, table, seat, keys.as_slice(), rows, at);
+    let scanned = Table::<Nodes, Parts>::scan(table, alloc, rt, seat, b"a", b"z").expect(
+        rt, "memory",
+    );
+    let many = Table::<Nodes, Parts>::read_many(table, alloc, rt, seat, keys.as_slice()).expect(
+        rt, "memory",
+    );
+    let last = Table::<Nodes, Parts>::last(table, seat);
+    let (scanned_at, many_at) = (scanned.at, many.at);
+    let scan_is_right = are_rows(&scanned.rows, rows);
+    let reads_are_right = are_found(rows, keys.as_slice(), many.values.as_slice());
+    assert_eq!(rt;
+        (scanned_at, scan_is_right, many_at, reads_are_right, last),
+        (at, true, at, true, at),
+        "at {at}"
+    );
+}
+
+// Client 1 launches the group of each round, and the other one publishes it, and reads after it.
+fn play<R: Wait + Abort>(
+    rt: &R,
+    alloc: Global,
+    table: &MemoryTable,
+    leader: &mut MemSeat,
+    member: &mut MemSeat,
+    mut turn: MemTurn,
+    rounds: &[Round],
+) -> MemTurn
+    requires clients { (opening_of table.now).clients ≡ 2 }
+    requires leader { IsIdle table.now leader.old × ((account_of leader.old).number ≡ 1) }
+    requires member { IsIdle table.now member.old }
+    requires turn { MayLaunch table.now turn × (last_of (opening_of table.now).start (history_of turn) ≡ 0) }
+    ensures leader { IsIdle table.now leader.new }
+    ensures member { IsIdle table.now member.new }
+    ensures turn { MayLaunch table.now result }
+{
+    let mut last = 0u64;
+    for i in 0..rounds.len() {
+        let round = rounds[i];
+        let (nodes, count) = nodes_behind(rt, alloc, last, round.writes);
+        turn = write(rt, alloc, table, leader, member, turn, last, nodes, count);
+        last += count;
+        check(rt, alloc, table, member, round.rows, last);
+    }
+    turn
+}
+
+// All rounds over a table of this kind, which has so many locks.
+fn try_over<R: Wait + Abort>(rt: &R, alloc: Global, kind: TableKind, locks: u64) -> Result<(), Fail>
+    requires { HasShards kind }
+{
+    let (table, turn, mut leader, mut member) = open_for_two(alloc, kind)?;
+    assert!(rt; leader.number() == 1);
+    assert_eq!(rt; Table::<Nodes, Parts>::locks(&table), locks);
+    let turn = play(rt, alloc, &table, &mut leader, &mut member, turn, &ROUNDS);
+    close(alloc, table, turn, leader, member)
+}
+
+#[test]
+fn reads_what_is_published(rt: HostRuntime) -> Result<(), Fail> {
+    let alloc = rt.alloc();
+    try_over(&rt, alloc, TableKind::One, 1)?;
+    try_over(&rt, alloc, TableKind::Shards(1), 1)?;
+    try_over(&rt, alloc, TableKind::Shards(3), 3)?;
+    try_over(&rt, alloc, TableKind::Shards(64), 64)
+}

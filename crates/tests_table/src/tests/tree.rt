@@ -1,0 +1,224 @@
+// The tree by hand and against a plain list, and a batch's nodes as parts of a group.
+//
+// That the tree stays low has no test: an insertion is proved to leave at each key two sides whose heights differ by at
+// most one.
+
+ghost use Rattle.std.specs.Prelude.{◌+◌, ◌<◌, ◌≤◌, ◌^◌, length};
+ghost use Rattle.table_tree.specs.Versions.{AreBelow};
+ghost use Rattle.table_tree.specs.Shapes.{versions_in};
+
+use super::nodes::node_of;
+use super::rows::{are_rows, is_found};
+use base_bytes::Rows;
+use log_batch::Batch;
+use std::alloc::Global;
+use std::process::Abort;
+use table_tree::{MemberNodes, Nodes, Parts, Tree};
+
+// How many keys the random versions have, and how many versions there are.
+const KEYS: u16 = 300;
+
+const VERSIONS: u64 = 3000;
+
+// Inserts a version of a sequence above those in the tree.
+fn put(
+    rt: &impl Abort,
+    alloc: Global,
+    tree: &mut Tree,
+    sequence: u64,
+    key: &[u8],
+    value: Option<&[u8]>,
+)
+    requires below { AreBelow sequence (versions_in tree.old) }
+    requires sequence { sequence < 2 ^ 56 }
+    ensures { AreBelow (sequence + 1) (versions_in tree.new) }
+{
+    let mut nodes = node_of(rt, alloc, key, value, sequence);
+    let Some(node) = nodes.pop() else {
+        panic!(rt; "no node")
+    };
+    tree.insert(node);
+}
+
+// A tree of these versions, whose sequences are those from 1 on.
+fn tree_of(rt: &impl Abort, alloc: Global, versions: &[(&[u8], Option<&[u8]>)]) -> Tree
+    requires { length versions.now ≤ 1000 }
+{
+    let mut tree = Tree::new();
+    for i in 0..versions.len() {
+        let (key, value) = versions[i];
+        put(rt, alloc, &mut tree, i as u64 + 1, key, value);
+    }
+    tree
+}
+
+// At a sequence these are the rows from `a` on and below `c`, and `a` and `b` are found by them.
+fn check_tree(rt: &impl Abort, alloc: Global, tree: &Tree, at: u64, rows: &[(&[u8], &[u8])]) {
+    let range = tree.range(alloc, b"a", b"c", at).expect(rt, "memory");
+    let range_at = range.at;
+    let same = are_rows(&range.rows, rows);
+    let a = is_found(rows, b"a", tree.lookup(b"a", at));
+    let b = is_found(rows, b"b", tree.lookup(b"b", at));
+    assert_eq!(rt; (range_at, same, a, b), (at, true, true, true), "at {at}");
+}
+
+#[test]
+fn reads_what_was_there_at_a_sequence(rt: HostRuntime) {
+    let alloc = rt.alloc();
+    let versions: [(&[u8], Option<&[u8]>); 4] = [
+        (b"a", Some(b"1")),
+        (b"a", Some(b"2")),
+        (b"a", None),
+        (b"b", Some(b"x")),
+    ];
+    let tree = tree_of(&rt, alloc, &versions);
+    let wanted: [(u64, &[(&[u8], &[u8])]); 6] = [
+        (0, &[]),
+        (1, &[(b"a", b"1")]),
+        (2, &[(b"a", b"2")]),
+        (3, &[]),
+        (4, &[(b"b", b"x")]),
+        (5, &[(b"b", b"x")]),
+    ];
+    for (at, rows) in wanted {
+        check_tree(&rt, alloc, &tree, at, rows);
+    }
+}
+
+// The next number of a linear congruential generator.
+fn next_random(state: u64) -> u64 {
+    state
+        .wrapping_mul(6_364_136_223_846_793_005)
+        .wrapping_add(1_442_695_040_888_963_407)
+}
+
+// What the last of these says of a key.
+fn last_of(history: &[(u16, Option<u8>)], key: u16) -> Option<u8> {
+    let mut said = None;
+    for (other, value) in history {
+        if *other == key {
+            said = *value;
+        }
+    }
+    said
+}
+
+// Inserts random versions of few keys, and says what they were, in order.
+fn fill(rt: &impl Abort, alloc: Global, tree: &mut Tree) -> Vec<(u16, Option<u8>)>
+    requires { AreBelow 0 (versions_in tree.old) }
+{
+    let mut history = Vec::new(alloc);
+    let mut state = 1;
+    for sequence in 0..VERSIONS {
+        state = next_random(state);
+        let key = ((state >> 33) % u64::from(KEYS)) as u16;
+        let byte = [((state >> 50) % 256) as u8];
+        let value = if byte[0] < 64 { None } else { Some(byte[0]) };
+        let bytes = if value.is_some() {
+            Some(byte.as_slice())
+        } else {
+            None
+        };
+        put(rt, alloc, tree, sequence, &key.to_be_bytes(), bytes);
+        history.push((key, value)).expect(rt, "memory");
+    }
+    history
+}
+
+// Whether a look-up of a key finds what the history says of it.
+fn finds_last(tree: &Tree, history: &[(u16, Option<u8>)], key: u16, at: u64) -> bool {
+    match (tree.lookup(&key.to_be_bytes(), at), last_of(history, key)) {
+        (Some(found), Some(value)) => found == [value].as_slice(),
+        (None, None) => true,
+        _ => false,
+    }
+}
+
+// Whether these are the keys that have a value by the history, with it.
+fn are_rows_of(rows: &Rows, history: &[(u16, Option<u8>)]) -> bool {
+    let rows = rows.rows.as_slice();
+    let mut passed = 0;
+    for key in 0..KEYS {
+        if let Some(value) = last_of(history, key) {
+            let Some((row, said)) = rows.get(passed) else {
+                return false;
+            };
+            if row.as_slice() != key.to_be_bytes().as_slice()
+                || said.as_slice() != [value].as_slice()
+            {
+                return false;
+            }
+            passed += 1;
+        }
+    }
+    passed == rows.len()
+}
+
+#[test]
+fn agrees_with_a_plain_list(rt: HostRuntime) {
+    let alloc = rt.alloc();
+    let mut tree = Tree::new();
+    let history = fill(&rt, alloc, &mut tree);
+    for at in [0, 1, 700, 1500, 2999] {
+        let seen = history.get(..=at).expect(&rt, "that many versions");
+        for key in 0..KEYS {
+            assert!(rt; finds_last(&tree, seen, key, at as u64), "{key} at {at}");
+        }
+        let rows = tree
+            .range(alloc, &[0, 0], &KEYS.to_be_bytes(), at as u64)
+            .expect(&rt, "memory");
+        assert!(rt; are_rows_of(&rows, seen), "at {at}");
+    }
+}
+
+// The nodes of a batch with a record of each kind, with the sequences from `first` on. Their versions are those of the
+// example of this crate.
+fn nodes_of_each_kind(rt: &impl Abort, alloc: Global, first: u64) -> Nodes
+    requires { first ≤ 1000 }
+{
+    let mut batch = Batch::new(alloc).expect(rt, "memory");
+    batch.log_data(b"note").expect(rt, "room");
+    batch.put(b"a", b"1").expect(rt, "room");
+    batch.delete(b"b").expect(rt, "room");
+    batch.single_delete(b"c").expect(rt, "room");
+    let mut nodes = Nodes::make(alloc, &batch).expect(rt, "memory");
+    nodes.number(first);
+    nodes
+}
+
+// Whether the next node is of this key, and alone in a tree says this from the sequence on, and nothing before.
+fn is_next(nodes: &mut Nodes, key: &[u8], value: Option<&[u8]>, sequence: u64) -> bool {
+    let is_key = nodes.first_key() == Some(key);
+    let Some(node) = nodes.pop() else {
+        return false;
+    };
+    let mut tree = Tree::new();
+    tree.insert(node);
+    let before = tree.lookup(key, sequence.saturating_sub(1));
+    is_key && before.is_none() && tree.lookup(key, sequence) == value
+}
+
+// A part is of this member, and has the nodes of such batches, whose first sequences these are, and no more.
+fn check_part(rt: &impl Abort, part: Option<MemberNodes>, member: u32, firsts: &[u64]) {
+    let mut part = part.expect(rt, "a part");
+    let nodes = &mut part.nodes;
+    for first in firsts {
+        let put = is_next(nodes, b"a", Some(b"1"), *first);
+        let deleted = is_next(nodes, b"b", None, first.wrapping_add(1));
+        let single = is_next(nodes, b"c", None, first.wrapping_add(2));
+        assert_eq!(rt; (put, deleted, single), (true, true, true), "from {first}");
+    }
+    assert_eq!(rt; (part.member, part.nodes.first_key()), (member, None));
+}
+
+#[test]
+fn makes_nodes_and_parts(rt: HostRuntime) {
+    let alloc = rt.alloc();
+    let mut parts = Parts::new(alloc, 2).expect(&rt, "memory");
+    parts.add(2, nodes_of_each_kind(&rt, alloc, 7));
+    parts.add(1, nodes_of_each_kind(&rt, alloc, 20));
+    parts.add(2, nodes_of_each_kind(&rt, alloc, 30));
+    check_part(&rt, parts.pop(), 2, &[7, 30]);
+    check_part(&rt, parts.pop(), 1, &[20]);
+    assert!(rt; parts.pop().is_none());
+}

@@ -1,8 +1,0 @@
-use Rattle.std.proofs.Common.{arith}
-use Rattle.wp_coding.specs.declared.far_tables.TheConstants.{TABLE_11, TABLE_10, TABLE_9, TABLE_8}
-use Rattle.wp_coding.proofs.Crc.Tables.{table_11, table_10, table_9, table_8}
-use Rattle.wp_coding.proofs.Crc.Slices.{by_tables}
-use Rattle.wp_coding.proofs.checksum.over_12_bytes.Goals as goal
-
-pub returns : goal.returns
-returns c = by_tables 8 TABLE_11 TABLE_10 TABLE_9 TABLE_8 table_11 table_10 table_9 table_8 c.args.register (omega arith)

@@ -1,8 +1,0 @@
-use Rattle.std.proofs.Common.{arith}
-use Rattle.wp_coding.specs.declared.tables.TheConstants.{TABLE_3, TABLE_2, TABLE_1, TABLE_0}
-use Rattle.wp_coding.proofs.Crc.Tables.{table_3, table_2, table_1, table_0}
-use Rattle.wp_coding.proofs.Crc.Slices.{by_tables}
-use Rattle.wp_coding.proofs.checksum.over_4_bytes.Goals as goal
-
-pub returns : goal.returns
-returns c = by_tables 0 TABLE_3 TABLE_2 TABLE_1 TABLE_0 table_3 table_2 table_1 table_0 c.args.register (omega arith)

@@ -1,8 +1,0 @@
-use Rattle.std.proofs.Common.{arith}
-use Rattle.wp_coding.specs.declared.tables.TheConstants.{TABLE_7, TABLE_6, TABLE_5, TABLE_4}
-use Rattle.wp_coding.proofs.Crc.Tables.{table_7, table_6, table_5, table_4}
-use Rattle.wp_coding.proofs.Crc.Slices.{by_tables}
-use Rattle.wp_coding.proofs.checksum.over_8_bytes.Goals as goal
-
-pub returns : goal.returns
-returns c = by_tables 4 TABLE_7 TABLE_6 TABLE_5 TABLE_4 table_7 table_6 table_5 table_4 c.args.register (omega arith)

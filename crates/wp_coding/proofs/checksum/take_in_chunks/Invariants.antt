@@ -1,7 +1,0 @@
-use Rattle.std.proofs.Common.{◌≡◌, take, fold}
-use Rattle.wp_coding.specs.Register.{take_in_byte}
-use Rattle.wp_coding.proofs.checksum.take_in_chunks.Given as goal
-
--- the register has taken in the chunks so far
-abbrev pub invariant-loop-chunk : goal.invariant-loop-chunk
-invariant-loop-chunk l = l.register ≡ fold (fold take_in_byte) l.first (take l.chunk-index l.chunks)

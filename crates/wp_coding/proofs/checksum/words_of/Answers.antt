@@ -1,5 +1,0 @@
-use Rattle.wp_coding.proofs.Crc.Slices.{digits-words_in, are_bytes}
-use Rattle.wp_coding.proofs.checksum.words_of.Goals as goal
-
-pub returns : goal.returns
-returns c = digits-words_in c.args.chunk.now c.told-chunk (are_bytes c.args.chunk.now c.requires.bytes)

@@ -1,4 +1,0 @@
-use Rattle.wp_edge.proofs.failed.count_fault.Goals as goal
-
-pub returns-clause-counted : goal.returns-clause-counted
-returns-clause-counted c = c.saturating_add.ensures

@@ -1,8 +1,0 @@
-use Rattle.wp_edge.proofs.Eras.{elapses_sync}
-use Rattle.wp_edge.proofs.mem_disk.MemDiskDisk.sync.Goals as goal
-
-pub returns-clause-time : goal.returns-clause-time
-returns-clause-time c =
-    let disk = c.args.self.now in
-    let len = c.len-len.result in
-    elapses_sync disk.content.items (record { synced = disk.synced; reach = disk.reach }) (record { synced = len; reach = len }) disk.forgot disk.past.items c.push.new.self.items c.in-Ok.ensures.items

@@ -1,7 +1,0 @@
--- What the system's clock shows.
-use Rattle.std.specs.Prelude.{ℕ, Option}
-use Rattle.wp_edge.specs.declared.real_clock.RealClock.{RealClock}
-
--- the last moment that it answered
-abbrev pub real_answered : {R : Type 0} → RealClock R → Option ℕ
-real_answered c = c.answered

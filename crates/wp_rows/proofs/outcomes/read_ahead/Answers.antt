@@ -1,5 +1,0 @@
-use Rattle.wp_rows.proofs.Stale.{not_ahead}
-use Rattle.wp_rows.proofs.outcomes.read_ahead.Goals as goal
-
-pub returns : goal.returns
-returns c = record { not_legal = not_ahead }

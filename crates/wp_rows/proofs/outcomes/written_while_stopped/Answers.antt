@@ -1,5 +1,0 @@
-use Rattle.wp_rows.proofs.NoLook.{not_written}
-use Rattle.wp_rows.proofs.outcomes.written_while_stopped.Goals as goal
-
-pub returns : goal.returns
-returns c = record { not_legal = not_written }

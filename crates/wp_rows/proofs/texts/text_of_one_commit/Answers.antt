@@ -1,8 +1,0 @@
-use Rattle.std.proofs.Common.{refl}
-use Rattle.wp_model.specs.Varint.{varint_within}
-use Rattle.std.specs.Fmt.{digits}
-use Rattle.wp_rows.proofs.texts.text_of_one_commit.Goals as goal
-
-pub returns : goal.returns
-unfolding varint_within digits
-returns c = record { text = refl }

@@ -1,7 +1,0 @@
-use Rattle.std.proofs.Common.{◌≡◌, take, vec_len}
-use Rattle.std.specs.List.{AllZip}
-use Rattle.write_core.specs.Fresh.{IsFresh}
-use Rattle.write_core.proofs.opening.new_seats.Given as goal
-
-abbrev pub invariant-loop-plan : goal.invariant-loop-plan
-invariant-loop-plan l = AllZip IsFresh (take l.plan-index l.plans) l.seats.items × (vec_len l.seats ≡ l.plan-index)

@@ -1,6 +1,0 @@
-use Rattle.std.proofs.Common.{sym, ◌∙◌}
-use Rattle.write_core.proofs.ShowsLemmas.{mirrors}
-use Rattle.write_core.proofs.state.State.logged.Goals as goal
-
-pub returns : goal.returns
-returns c = λ o s shown. c.deref.ensures.value ∙ sym (mirrors c.args.self.now o s shown).groups

@@ -1,8 +1,0 @@
--- How many events of a list came.
-use Rattle.std.specs.Prelude.{◌+◌, Bool, true, false}
-use Rattle.write_core.specs.declared.step.Counts.{Counts}
-
--- the counts after one more event, which came or not
-abbrev pub counted : Bool → Counts → Counts
-counted true counts = record counts { taken = counts.taken + 1 }
-counted false counts = record counts { skipped = counts.skipped + 1 }

@@ -1,8 +1,0 @@
--- The lists of all clients.
-use Rattle.std.proofs.Common.{ℕ, List, [], ◌∷◌, ◌++◌}
-use Rattle.writer_list.specs.declared.room.Lists.{Lists}
-use Rattle.writer_list.specs.Rooms.{AreReady, AllReady}
-
-pub ready_snoc : {Q P : Type 0} (n : ℕ) (xs : List (Lists Q P)) (x : Lists Q P) → AllReady n xs → AreReady n x → AllReady n (xs ++ x ∷ [])
-ready_snoc n [] x all ready = (ready, tt)
-ready_snoc n (y ∷ ys) x all ready = (all.0, ready_snoc n ys x all.1 ready)

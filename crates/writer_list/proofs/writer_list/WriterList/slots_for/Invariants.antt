@@ -1,6 +1,0 @@
-use Rattle.std.proofs.Common.{◌≡◌, ◌+◌, ◌<◌, ◌∷◌, replicate, vec_capacity, vec_len}
-use Rattle.list_rule.specs.declared.content.Content.TheVariants.{Empty, Log}
-use Rattle.writer_list.proofs.writer_list.WriterList.slots_for.Given as goal
-
-abbrev pub invariant-loop-made : goal.invariant-loop-made
-invariant-loop-made g l = (l.slots.items ≡ Log l.fn.log ∷ replicate l.made Empty) × (vec_len l.slots ≡ l.made + 1) × (l.clients + 1 < vec_capacity l.slots)

@@ -1,7 +1,0 @@
-use Rattle.std.proofs.Common.{◌≡◌, ◌-◌, ◌∷◌, replicate}
-use Rattle.list_rule.specs.declared.content.Content.TheVariants.{Empty, Log}
-use Rattle.writer_list.proofs.Contents.{at_start}
-use Rattle.writer_list.proofs.writer_list.WriterList.unmade.Given as goal
-
-abbrev pub invariant-loop-done : goal.invariant-loop-done
-invariant-loop-done g l = (x : g.row.L.Denot) × (y : g.row.M.Denot) × (l.fn.slots.items ≡ at_start l.clients x y) × (l.slots.items ≡ Log x ∷ replicate (l.clients - l.done) Empty)
