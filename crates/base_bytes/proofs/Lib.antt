@@ -1,6 +1,5 @@
 pub mod Crc
 pub mod Spellings
 pub mod Records
-pub mod MapPairs
 pub mod OneAnswer
 pub mod LongVarints

@@ -1,12 +1,16 @@
-//! Bytes, and the numbers that stand in them.
+//! Bytes, the numbers that stand in them, their checksum, and what reads answer:
+//!
+//! - `Bytes`, a list of bytes on the heap;
+//! - fixed and variable length numbers in bytes, as in LevelDB's `util/coding.h`;
+//! - CRC-32C by tables, and its mask, as in LevelDB's `util/crc32c.h`;
+//! - `Found`, `Read`, `Reads` and `Rows`, the answers of look-ups and scans, in the same words in each layer.
 #![tactic(auto)]
 
 mod answers;
 mod bytes;
 mod checksum;
-mod far_tables;
+mod crc_tables_8_to_15;
 mod numbers;
-mod pair_map;
 mod reading;
 mod tables;
 
@@ -14,5 +18,4 @@ pub use answers::{Found, FoundList, PairList, Read, Reads, Rows};
 pub use bytes::Bytes;
 pub use checksum::{crc32c, extend, mask};
 pub use numbers::{one_spelling, put_fixed32, put_fixed64, put_varint32, varint32_len};
-pub use pair_map::{PairIter, PairMap};
 pub use reading::{fixed_numbers_read_back, get_fixed32, get_fixed64, get_varint32};

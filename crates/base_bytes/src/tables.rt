@@ -2,9 +2,9 @@
 //!
 //! `TABLE_k` has what eight steps of the division make of each byte at the low end of the register, and eight steps
 //! more for each of the k bytes after it. The register has the coefficient of the highest power as its lowest bit, so
-//! the divisor stands in it as 0x82F63B78. Those for eight bytes and more stand in `far_tables`.
+//! the divisor stands in it as 0x82F63B78. Those for eight bytes and more stand in `crc_tables_8_to_15`.
 
-use crate::far_tables::{
+use crate::crc_tables_8_to_15::{
     TABLE_8, TABLE_9, TABLE_10, TABLE_11, TABLE_12, TABLE_13, TABLE_14, TABLE_15,
 };
 

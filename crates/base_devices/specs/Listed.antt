@@ -13,8 +13,8 @@ abbrev pub fresh : List ℕ → Listed
 fresh fails = record { fails = fails; calls = 0; faults = 0 }
 
 -- a count of faults after a call that failed or didn't; it stays at the greatest u64
-abbrev pub counted : Bool → ℕ → ℕ
-counted failed faults = if failed then min (faults + 1) (2 ^ 64 - 1) else faults
+abbrev pub faults_after_call : Bool → ℕ → ℕ
+faults_after_call failed faults = if failed then min (faults + 1) (2 ^ 64 - 1) else faults
 
 -- A call fails just where its number is listed or the device is full, and is then counted as a fault.
 -- Calls are numbered from 1. Both counts stay at the greatest u64.
@@ -22,4 +22,4 @@ pub record FailsAsListed {T E : Type 0} (old new : Listed) (full : Bool) (result
   pub list : new.fails ≡ old.fails
   pub number : new.calls ≡ min (old.calls + 1) (2 ^ 64 - 1)
   pub fails : is_err result ≡ (list_any (λ n. n == new.calls) old.fails || full)
-  pub faults : new.faults ≡ counted (is_err result) old.faults
+  pub faults : new.faults ≡ faults_after_call (is_err result) old.faults

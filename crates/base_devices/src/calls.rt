@@ -2,7 +2,7 @@
 
 ghost use Rattle.std.specs.Prelude.{◌≡◌, ◌==◌, ◌+◌, ◌-◌, ◌^◌, ◌≤◌, min, is_err, IfOk};
 ghost use Rattle.std.specs.List.{list_any};
-ghost use Rattle.base_devices.specs.Listed.{Listed, fresh, counted};
+ghost use Rattle.base_devices.specs.Listed.{Listed, fresh, faults_after_call};
 
 use crate::Failed;
 use crate::failed::count_fault;
@@ -47,7 +47,7 @@ impl Calls {
         ensures fails { self.new.fails ≡ self.old.fails }
         ensures numbered { self.new.calls ≡ min (self.old.calls + 1) (2 ^ 64 - 1) }
         ensures listed { is_err result ≡ list_any (λ n. n == self.new.calls) self.old.fails }
-        ensures faults { self.new.faults ≡ counted (is_err result) self.old.faults }
+        ensures faults { self.new.faults ≡ faults_after_call (is_err result) self.old.faults }
         ensures later { self.old.faults ≤ self.new.faults }
     {
         self.made = self.made.saturating_add(1);

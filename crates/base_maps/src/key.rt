@@ -1,6 +1,6 @@
 //! A key, compared mostly by bytes that stand in place.
 
-ghost use Rattle.std.specs.Prelude.{◌≡◌, ◌+◌, ◌≤◌, IfOk};
+ghost use Rattle.std.specs.Prelude.{◌≡◌, ◌+◌, ◌≤◌, length, IfOk};
 ghost use Rattle.std.specs.Slice.Scan.{big_endian};
 ghost use lib.Lanes.{chunk};
 ghost use Rattle.model_base.specs.Map.{byte_order};
@@ -12,7 +12,7 @@ use std::cmp::Ordering;
 use std::marker::Model;
 
 /// How many bytes of a key stand in place.
-const FRONT_LEN: usize = 16;
+pub(crate) const FRONT_LEN: usize = 16;
 
 /// The first bytes of a key, and zeros behind those of a shorter one. Contracts see these 16 bytes.
 #[derive(Clone, Copy, Debug)]
@@ -93,7 +93,7 @@ fn order_behind(key: &[u8], other: &[u8]) -> Ordering
 
 /// A key. Contracts see its bytes.
 #[derive(Debug, Drop)]
-pub struct Key {
+pub struct ByteKey {
     front: Front,
     /// How many bytes the key has.
     len: usize,
@@ -101,7 +101,7 @@ pub struct Key {
     whole: Vec<u8>,
 }
 
-impl Model for Key {
+impl Model for ByteKey {
     ghost use Rattle.std.specs.Prelude.{◌≡◌, List, ℕ};
     ghost use Rattle.base_maps.specs.Fronts.{bytes_in, front_of};
 
@@ -112,21 +112,31 @@ impl Model for Key {
     ghost invariant = { λ k. front_of 16 (bytes_in k.front k.len k.whole.items) ≡ k.front };
 }
 
-impl Key {
+impl ByteKey {
     /// The key of these bytes. One of at most 16 takes no memory.
-    pub fn copy(alloc: Global, bytes: &[u8]) -> Result<Key, NoMemory>
+    pub fn copy(alloc: Global, bytes: &[u8]) -> Result<ByteKey, NoMemory>
         ensures { IfOk result (λ key. key ≡ bytes.now) }
     {
-        let whole = if bytes.len() <= FRONT_LEN {
-            Vec::new(alloc)
-        } else {
-            bytes.to_vec(alloc)?
-        };
-        Ok(Key {
+        if bytes.len() <= FRONT_LEN {
+            return Ok(ByteKey::short(alloc, bytes));
+        }
+        Ok(ByteKey {
             front: Front::of(bytes),
             len: bytes.len(),
-            whole,
+            whole: bytes.to_vec(alloc)?,
         })
+    }
+
+    /// The key of at most 16 bytes. This takes no memory.
+    pub(crate) fn short(alloc: Global, bytes: &[u8]) -> ByteKey
+        requires { length bytes.now ≤ FRONT_LEN }
+        ensures { result ≡ bytes.now }
+    {
+        ByteKey {
+            front: Front::of(bytes),
+            len: bytes.len(),
+            whole: Vec::new(alloc),
+        }
     }
 
     /// Its bytes.
@@ -141,7 +151,7 @@ impl Key {
     }
 
     /// How it compares to another in byte order.
-    pub fn order(&self, other: &Key) -> Ordering
+    pub fn order(&self, other: &ByteKey) -> Ordering
         ensures { result ≡ byte_order self.now other.now }
     {
         let order = self.front.order(&other.front);
@@ -164,7 +174,7 @@ impl Key {
     }
 }
 
-impl PartialEq for Key {
+impl PartialEq for ByteKey {
     ghost use Rattle.std.specs.Prelude.{◌==◌};
     ghost use Rattle.std.specs.Cmp.{partial_equiv_from_equiv};
     ghost use Rattle.std.specs.Cmp.Lexicographic.{pointwise};
@@ -174,18 +184,18 @@ impl PartialEq for Key {
 
     ghost laws = { partial_equiv_from_equiv nat_list_eq_equiv };
 
-    fn eq(&self, other: &Key) -> bool {
+    fn eq(&self, other: &ByteKey) -> bool {
         self.as_slice() == other.as_slice()
     }
 }
 
-impl Eq for Key {
+impl Eq for ByteKey {
     ghost use Rattle.std.proofs.lemmas.Cmp.{nat_list_eq_equiv};
 
     ghost laws = { nat_list_eq_equiv };
 }
 
-impl PartialOrd for Key {
+impl PartialOrd for ByteKey {
     ghost use Rattle.std.specs.Prelude.{Some};
     ghost use Rattle.model_base.specs.Map.{byte_order};
     ghost use Rattle.std.specs.Cmp.Lexicographic.{texts_po};
@@ -194,12 +204,12 @@ impl PartialOrd for Key {
 
     ghost laws = { texts_po };
 
-    fn partial_cmp(&self, other: &Key) -> Option<Ordering> {
+    fn partial_cmp(&self, other: &ByteKey) -> Option<Ordering> {
         Some(self.order(other))
     }
 }
 
-impl Ord for Key {
+impl Ord for ByteKey {
     ghost use Rattle.std.specs.Prelude.{refl};
     ghost use Rattle.std.specs.Cmp.Lexicographic.{texts_ties};
     ghost use Rattle.model_base.specs.Map.{byte_order};
@@ -213,7 +223,7 @@ impl Ord for Key {
 
     ghost matches_eq = { texts_ties };
 
-    fn cmp(&self, other: &Key) -> Ordering {
+    fn cmp(&self, other: &ByteKey) -> Ordering {
         self.order(other)
     }
 }

@@ -1,5 +1,5 @@
-//! The keys of the maps: of the memtable's tree, and of the map that recovery makes. Keys are lists of bytes, and a
-//! search compares one with many others. Most of them differ in their first bytes:
+//! The keys of the maps, of the memtable's tree and of `ByteMap`, and that map. Keys are lists of bytes, and a search
+//! compares one with many others. Most of them differ in their first bytes:
 //!
 //! - the first 16 bytes of a key, its front, stand in place, with zeros behind those of a shorter key, and are compared
 //!   as two numbers, the first byte of each counting most;
@@ -10,6 +10,8 @@
 //! `BytewiseComparator`.
 #![tactic(auto)]
 
+mod byte_map;
 mod key;
 
-pub use key::{Front, Key};
+pub use byte_map::{ByteMap, BytePairs};
+pub use key::{ByteKey, Front};

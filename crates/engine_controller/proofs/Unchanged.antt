@@ -1,7 +1,7 @@
 -- What no call of the controller changes.
 use Rattle.std.proofs.Common.{◌≡◌, ℕ, ◌+◌, ◌≤◌, Bool, true, false, sym, refl, subst, arith}
 use Rattle.std.specs.Prelude.{if◌then◌else◌, ◌==◌, nat_le, nat_lt, ◌||◌}
-use Rattle.model_base.specs.Controller.{Numbers, Action, stop, unstop, slow, unslow, delay, look, numbers_after, delayed, slowed, After, refilled, spending, begun, refilling}
+use Rattle.model_base.specs.Controller.{Numbers, Action, stop, unstop, slow, unslow, delay, look, numbers_after, after_delay, after_slow, After, after_refill, after_payment, after_start, after_due_refill}
 
 on_if : {A : Type 0} (P : A → Type 0) (b : Bool) (x y : A) → P x → P y → P (if b then x else y)
 on_if P true x y p q = p
@@ -14,24 +14,24 @@ Leaves n m = (m.stops ≡ n.stops) × (m.delays ≡ n.delays) × (m.rate ≡ n.r
 abbrev LeavesAfter : Numbers → After → Type 0
 LeavesAfter n a = Leaves n a.numbers
 
-leaves_spending : (n m : Numbers) (now bytes : ℕ) → Leaves n m → LeavesAfter n (spending m now bytes)
+leaves_spending : (n m : Numbers) (now bytes : ℕ) → Leaves n m → LeavesAfter n (after_payment m now bytes)
 leaves_spending n m now bytes l = on_if (LeavesAfter n) (nat_le bytes m.credit) _ _ l l
 
-leaves_begun : (n : Numbers) (now : ℕ) → Leaves n (begun n now)
+leaves_begun : (n : Numbers) (now : ℕ) → Leaves n (after_start n now)
 leaves_begun n now = on_if (Leaves n) (n.next == 0) (record n { next = now }) n (refl, refl, refl) (refl, refl, refl)
 
-leaves_refilling : (n m : Numbers) (now bytes : ℕ) → Leaves n m → LeavesAfter n (refilling m now bytes)
-leaves_refilling n m now bytes l = on_if (LeavesAfter n) (nat_le m.next now) _ _ (leaves_spending n (refilled m now) now bytes l) l
+leaves_refilling : (n m : Numbers) (now bytes : ℕ) → Leaves n m → LeavesAfter n (after_due_refill m now bytes)
+leaves_refilling n m now bytes l = on_if (LeavesAfter n) (nat_le m.next now) _ _ (leaves_spending n (after_refill m now) now bytes l) l
 
-pub leaves_delayed : (n : Numbers) (now bytes : ℕ) → Leaves n (delayed n now bytes).numbers
+pub leaves_delayed : (n : Numbers) (now bytes : ℕ) → Leaves n (after_delay n now bytes).numbers
 leaves_delayed n now bytes =
     on_if (LeavesAfter n) (nat_lt 0 n.stops || (n.delays == 0)) _ _ (refl, refl, refl)
-    (on_if (LeavesAfter n) (nat_le bytes n.credit) _ _ (refl, refl, refl) (leaves_refilling n (begun n now) now bytes (leaves_begun n now)))
+    (on_if (LeavesAfter n) (nat_le bytes n.credit) _ _ (refl, refl, refl) (leaves_refilling n (after_start n now) now bytes (leaves_begun n now)))
 
-pub slowed_stops : (n : Numbers) (rate : ℕ) → (slowed n rate).stops ≡ n.stops
+pub slowed_stops : (n : Numbers) (rate : ℕ) → (after_slow n rate).stops ≡ n.stops
 slowed_stops n rate = on_if (λ (m : Numbers). m.stops ≡ n.stops) (n.delays == 0) (record n { credit = 0; next = 0 }) n refl refl
 
-pub slowed_delays : (n : Numbers) (rate : ℕ) → (slowed n rate).delays ≡ n.delays + 1
+pub slowed_delays : (n : Numbers) (rate : ℕ) → (after_slow n rate).delays ≡ n.delays + 1
 slowed_delays n rate = refl
 
 -- a rate is at least 1

@@ -1,7 +1,7 @@
 -- The five words as the numbers of the write controller's equations, and its calls.
 use Rattle.std.specs.Prelude.{ℕ, List, [], ◌∷◌}
 use Rattle.model_base.specs.Controller as controller
-use Rattle.model_base.specs.Controller.{stop, unstop, slow, unslow, delay, look, delayed}
+use Rattle.model_base.specs.Controller.{stop, unstop, slow, unslow, delay, look, after_delay}
 use Rattle.engine_controller.specs.declared.numbers.Numbers.{Numbers}
 use Rattle.engine_controller.specs.declared.numbers.Action.{Action}
 use Rattle.engine_controller.specs.declared.numbers.Action.TheVariants as call
@@ -23,5 +23,5 @@ action_of call.Look = look
 
 -- the wait that a call answers: 0 but for a delay
 abbrev pub wait_after : controller.Numbers → controller.Action → ℕ
-wait_after n (delay now bytes) = (delayed n now bytes).wait
+wait_after n (delay now bytes) = (after_delay n now bytes).wait
 wait_after n other = 0

@@ -21,8 +21,8 @@ client_of pass = client_in (cell_view pass.seat)
 abbrev pub seen_by : Pass → List ControllerCall
 seen_by pass = history_of (seen_in (cell_view pass.seat))
 
-abbrev pub noted : Note → List ControllerCall
-noted note = history_of (seen_in (cell_view note.seat))
+abbrev pub seen_by_note : Note → List ControllerCall
+seen_by_note note = history_of (seen_in (cell_view note.seat))
 
 -- the client's own calls that took a token or gave one back
 abbrev pub asked_by : Pass → List Action

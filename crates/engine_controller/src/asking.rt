@@ -5,7 +5,7 @@ ghost use mathlib.Core.List.{IsPrefix};
 ghost use Rattle.model_base.specs.Controller.{delay, look};
 ghost use Rattle.model_base.specs.Tokens.{holds_stop};
 ghost use Rattle.engine_controller.specs.Looks.{look_of};
-ghost use Rattle.engine_controller.specs.Passes.{client_of, seen_by, asked_by, noted};
+ghost use Rattle.engine_controller.specs.Passes.{client_of, seen_by, asked_by, seen_by_note};
 ghost use Rattle.engine_controller.specs.Passes.{IsPassOf, IsNoteOf, GoesOn, EndsWith};
 
 use crate::controller::Controller;
@@ -47,7 +47,7 @@ impl<C: Clock> Controller<C> {
         requires own { IsPassOf self.now pass.old }
         ensures own { IsPassOf self.now pass.new × (client_of pass.new ≡ client_of pass.old) }
         ensures seen { seen_by pass.new ≡ seen_by pass.old }
-        ensures note { IsNoteOf self.now result × (noted result ≡ seen_by pass.old) }
+        ensures note { IsNoteOf self.now result × (seen_by_note result ≡ seen_by pass.old) }
     {
         Note {
             seat: split::<Copied>(&self.cell, &mut pass.seat),
@@ -60,7 +60,7 @@ impl<C: Clock> Controller<C> {
         requires note { IsNoteOf self.now note }
         ensures own { IsPassOf self.now pass.new × (client_of pass.new ≡ client_of pass.old) }
         ensures seen { GoesOn (client_of pass.old) (seen_by pass.old) (seen_by pass.new) }
-        ensures noted { IsPrefix (noted note) (seen_by pass.new) }
+        ensures noted { IsPrefix (seen_by_note note) (seen_by pass.new) }
     {
         join(&self.cell, &mut pass.seat, note.seat);
         // Only a step tells that both are beginnings of one history.

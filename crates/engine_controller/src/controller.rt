@@ -36,6 +36,7 @@ impl<C: Clock> Controller<C> {
             × (look_of result ≡ look_at (numbers_of found) (action_of action)) }
     {
         let mut found = load::<Sight, R>(&self.cell, rt, seat);
+        // No call was made so far, and the numbers found last are those of the history that the seat has seen.
         for _ in rt.forever() {
             let (new, wait) = found.after(action);
             match exchange::<Brand, R>(&self.cell, rt, seat, action, found, new) {

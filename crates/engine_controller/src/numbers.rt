@@ -1,7 +1,7 @@
 //! The controller's five numbers, and what each call makes of them, by the equations of `model_base`.
 
 ghost use Rattle.std.specs.Prelude.{◌≡◌, ◌+◌, ◌<◌, ◌≤◌, ◌^◌};
-ghost use Rattle.model_base.specs.Controller.{numbers_after, slow, delayed, owing, refilled, spending, capped};
+ghost use Rattle.model_base.specs.Controller.{numbers_after, slow, after_delay, after_debt, after_refill, after_payment, at_most_u64};
 ghost use Rattle.engine_controller.specs.Numbers.{numbers_of, action_of, wait_after};
 
 use crossbeam_utils::atomic::seq_cell::Words;
@@ -85,19 +85,19 @@ impl Numbers {
                 stops: self.stops.saturating_sub(1),
                 ..self
             },
-            Action::Slow { rate } => self.slowed(rate),
+            Action::Slow { rate } => self.after_slow(rate),
             Action::Unslow => Numbers {
                 delays: self.delays.saturating_sub(1),
                 ..self
             },
-            Action::Delay { now, bytes } => return self.delayed(now, bytes),
+            Action::Delay { now, bytes } => return self.after_delay(now, bytes),
             Action::Look => self,
         };
         (numbers, 0)
     }
 
     // The first slow token begins with no credit and no refill set.
-    fn slowed(self, rate: u64) -> Numbers
+    fn after_slow(self, rate: u64) -> Numbers
         requires { self.delays + 1 < 2 ^ 64 }
         ensures { numbers_of result ≡ numbers_after (numbers_of self) (slow rate) }
     {
@@ -117,33 +117,33 @@ impl Numbers {
         }
     }
 
-    fn delayed(self, now: u64, bytes: u64) -> (Numbers, u64)
+    fn after_delay(self, now: u64, bytes: u64) -> (Numbers, u64)
         requires { 1 ≤ self.rate }
-        ensures numbers { numbers_of result.0 ≡ (delayed (numbers_of self) now bytes).numbers }
-        ensures wait { result.1 ≡ (delayed (numbers_of self) now bytes).wait }
+        ensures numbers { numbers_of result.0 ≡ (after_delay (numbers_of self) now bytes).numbers }
+        ensures wait { result.1 ≡ (after_delay (numbers_of self) now bytes).wait }
     {
         if self.stops > 0 || self.delays == 0 {
             return (self, 0);
         }
         if bytes <= self.credit {
-            return self.spending(now, bytes);
+            return self.after_payment(now, bytes);
         }
-        let begun = if self.next == 0 {
+        let started = if self.next == 0 {
             Numbers { next: now, ..self }
         } else {
             self
         };
-        if begun.next <= now {
-            begun.refilled(now).spending(now, bytes)
+        if started.next <= now {
+            started.after_refill(now).after_payment(now, bytes)
         } else {
-            begun.owing(now, bytes)
+            started.after_debt(now, bytes)
         }
     }
 
     // A refill is due: the credit of the time since the last one, and of a millisecond.
-    fn refilled(self, now: u64) -> Numbers
+    fn after_refill(self, now: u64) -> Numbers
         requires { self.next ≤ now }
-        ensures numbers { numbers_of result ≡ refilled (numbers_of self) now }
+        ensures numbers { numbers_of result ≡ after_refill (numbers_of self) now }
         ensures rate { result.rate ≡ self.rate }
     {
         let elapsed = (now - self.next).saturating_add(MILLISECOND);
@@ -155,13 +155,13 @@ impl Numbers {
         }
     }
 
-    fn spending(self, now: u64, bytes: u64) -> (Numbers, u64)
+    fn after_payment(self, now: u64, bytes: u64) -> (Numbers, u64)
         requires { 1 ≤ self.rate }
-        ensures numbers { numbers_of result.0 ≡ (spending (numbers_of self) now bytes).numbers }
-        ensures wait { result.1 ≡ (spending (numbers_of self) now bytes).wait }
+        ensures numbers { numbers_of result.0 ≡ (after_payment (numbers_of self) now bytes).numbers }
+        ensures wait { result.1 ≡ (after_payment (numbers_of self) now bytes).wait }
     {
         if bytes > self.credit {
-            return self.owing(now, bytes);
+            return self.after_debt(now, bytes);
         }
         let left = Numbers {
             credit: self.credit - bytes,
@@ -171,10 +171,10 @@ impl Numbers {
     }
 
     // What the credit lacks is owed: the next refill moves on by the time of these bytes.
-    fn owing(self, now: u64, bytes: u64) -> (Numbers, u64)
+    fn after_debt(self, now: u64, bytes: u64) -> (Numbers, u64)
         requires { 1 ≤ self.rate }
-        ensures numbers { numbers_of result.0 ≡ (owing (numbers_of self) now bytes).numbers }
-        ensures wait { result.1 ≡ (owing (numbers_of self) now bytes).wait }
+        ensures numbers { numbers_of result.0 ≡ (after_debt (numbers_of self) now bytes).numbers }
+        ensures wait { result.1 ≡ (after_debt (numbers_of self) now bytes).wait }
     {
         let owed = u128::from(bytes.saturating_sub(self.credit));
         let time = owed * u128::from(SECOND) / u128::from(self.rate);
@@ -190,7 +190,7 @@ impl Numbers {
 
 // The number, or the greatest `u64` where it is above that.
 fn saturated(number: u128) -> u64
-    ensures { result ≡ capped number }
+    ensures { result ≡ at_most_u64 number }
 {
     u64::try_from(number).unwrap_or(u64::MAX)
 }

@@ -10,7 +10,7 @@ use crate::pass::{Others, Pass, Passes};
 use crate::rule::{Cell, Closing, Moved, NextClient};
 use crate::words::{join, load, split};
 use base_devices::Clock;
-use model_base::NoMemory;
+use model_base::{MAX_CLIENTS, NoMemory};
 use std::alloc::Global;
 use std::marker::PhantomData;
 use std::sync::Wait;
@@ -18,11 +18,12 @@ use std::sync::Wait;
 impl<C: Clock> Controller<C> {
     /// A controller for 1 to 16 clients, with a pass for each. Nobody holds a token.
     pub fn open(alloc: Global, clients: u32) -> Result<(Controller<C>, Passes), NoMemory>
-        requires clients { (1 ≤ clients) × (clients ≤ 16) }
+        requires clients { (1 ≤ clients) × (clients ≤ MAX_CLIENTS) }
         ensures new { IfOk result (λ r. AreNew r.0 clients r.1) }
     {
         let mut passes = Vec::with_capacity(alloc, clients as usize)?;
         let (cell, mut rest) = Cell::ruled(alloc, Numbers::OPENING)?;
+        // Each client so far has a pass, and the others' seat covers the clients after it.
         for _known in 0..clients {
             let seat = split::<NextClient>(&cell, &mut rest);
             passes.push(Pass {
@@ -56,6 +57,7 @@ impl<C: Clock> Controller<C> {
         } = self;
         let Passes { clients, others } = passes;
         let mut rest = others.seat;
+        // The passes so far are joined into the others' seat.
         for mut pass in clients {
             let seat = split::<Moved>(&cell, &mut pass.seat);
             join(&cell, &mut rest, seat);

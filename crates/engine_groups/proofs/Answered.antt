@@ -29,31 +29,31 @@ use Rattle.line_rule.specs.declared.view.Handling.{Handling}
 use Rattle.line_rule.specs.Chain.{of}
 use Rattle.engine_controller.specs.declared.controller.Controller.{Controller}
 use Rattle.engine_controller.specs.declared.pass.Note.{Note}
-use Rattle.engine_controller.specs.Passes.{noted, IsNoteOf}
-use Rattle.engine_groups.specs.declared.requests.Request.{Request}
+use Rattle.engine_controller.specs.Passes.{seen_by_note, IsNoteOf}
+use Rattle.engine_parts.specs.declared.requests.Request.{Request}
 use Rattle.engine_calls.specs.declared.answers.Receipt.{Receipt}
 use Rattle.engine_calls.specs.declared.answers.Refused.{Refused}
-use Rattle.engine_groups.specs.declared.requests.Reply.{Reply}
+use Rattle.engine_parts.specs.declared.requests.Answer.{Answer}
 use Rattle.model_accounts.specs.Accounts.{Account, IsRefused, IsRefusedLate, Keeps, Refuses, Wrote}
 use Rattle.model_runs.specs.Written.{IsSyncedBy}
 use Rattle.engine_groups.specs.Clients.{own_commits}
-use Rattle.engine_groups.specs.Handled.{AreHandled, ComesBack, HandsBack, IsLate, ShowsDelay, answer_in, answer_of_refusal, commit_of, noted_in, seen_for}
-use Rattle.engine_groups.specs.Runs.{IsAbove}
+use Rattle.engine_parts.specs.Handled.{AreHandled, ComesBack, HandsBack, IsLate, ShowsDelay, answer_in, answer_of_refusal, commit_of, noted_in, seen_for}
+use Rattle.engine_parts.specs.Runs.{IsAbove}
 use Rattle.engine_rule.specs.Commits.{Commit, commits_of, held_up}
 use Rattle.engine_rule.specs.Entries.{account_of, SeesMore}
 use Rattle.engine_rule.proofs.Own.{refused_failed, refused_full, refused_held_up, wrote}
 use Rattle.engine_rule.proofs.Synced.{have_synced}
 
-abbrev pub commit : ℕ → Request → Reply → Commit
+abbrev pub commit : ℕ → Request → Answer → Commit
 commit k q p = commit_of (record { by = k; asked = q; reply = p })
 
-pub commits_told : (k : ℕ) (hs : List (Handling Request Reply)) → commits_of k (map commit_of hs) ≡ own_commits k (of k hs)
+pub commits_told : (k : ℕ) (hs : List (Handling Request Answer)) → commits_of k (map commit_of hs) ≡ own_commits k (of k hs)
 commits_told k [] = refl
 commits_told k (h ∷ hs) = dite (ℕ_discrete h.by k)
     (λ same. rw (eq-eqb h.by k same) (λ i. commit (same i) h.asked h.reply ∷ commits_told k hs i))
     (λ other. rw (ne_eqb h.by k other) (commits_told k hs))
 
-pub own_more : (k : ℕ) (mine : List (Request × Reply)) (q : Request) (p : Reply) → own_commits k (mine ++ (q, p) ∷ []) ≡ own_commits k mine ++ commit k q p ∷ []
+pub own_more : (k : ℕ) (mine : List (Request × Answer)) (q : Request) (p : Answer) → own_commits k (mine ++ (q, p) ∷ []) ≡ own_commits k mine ++ commit k q p ∷ []
 own_more k [] q p = refl
 own_more k (t ∷ mine) q p = ap (λ l. commit k t.0 t.1 ∷ l) (own_more k mine q p)
 
@@ -61,9 +61,9 @@ one_pair : {A : Type 0} (x y : A) (xs ys : List A) → x ∷ xs ≡ y ∷ ys →
 one_pair x y xs ys e = (cc, cc)
 
 -- the newest of what was handled for a client
-back_by : (P : Handling Request Reply → Type 0) (k : ℕ) (h : Handling Request Reply) (hs : List (Handling Request Reply)) (mine : List (Request × Reply)) (q : Request) (p : Reply) (b : Bool) → cond b ((h.asked, h.reply) ∷ of k hs) (of k hs) ≡ mine ++ (q, p) ∷ [] → P h
-    → ((m : List (Request × Reply)) → of k hs ≡ m ++ (q, p) ∷ [] → (by : ℕ) × P (record { by = by; asked = q; reply = p })) → (by : ℕ) × P (record { by = by; asked = q; reply = p })
-back_by P k h hs [] q p true e holds more = let t = (one_pair (h.asked, h.reply) (q, p) (of k hs) [] e).0 in (h.by, subst (λ (z : Request × Reply). P (record { by = h.by; asked = z.0; reply = z.1 })) t holds)
+back_by : (P : Handling Request Answer → Type 0) (k : ℕ) (h : Handling Request Answer) (hs : List (Handling Request Answer)) (mine : List (Request × Answer)) (q : Request) (p : Answer) (b : Bool) → cond b ((h.asked, h.reply) ∷ of k hs) (of k hs) ≡ mine ++ (q, p) ∷ [] → P h
+    → ((m : List (Request × Answer)) → of k hs ≡ m ++ (q, p) ∷ [] → (by : ℕ) × P (record { by = by; asked = q; reply = p })) → (by : ℕ) × P (record { by = by; asked = q; reply = p })
+back_by P k h hs [] q p true e holds more = let t = (one_pair (h.asked, h.reply) (q, p) (of k hs) [] e).0 in (h.by, subst (λ (z : Request × Answer). P (record { by = h.by; asked = z.0; reply = z.1 })) t holds)
 back_by P k h hs (m ∷ mine) q p true e holds more = more mine (one_pair (h.asked, h.reply) m (of k hs) (mine ++ (q, p) ∷ []) e).1
 back_by P k h hs mine q p false e holds more = more mine e
 
@@ -71,11 +71,11 @@ nothing_last : {A : Type 0} (l : List A) (x : A) → [] ≡ l ++ x ∷ [] → �
 nothing_last [] x e = absurd (cc)
 nothing_last (y ∷ ys) x e = absurd (cc)
 
-pub newest : (P : Handling Request Reply → Type 0) (k : ℕ) (hs : List (Handling Request Reply)) (mine : List (Request × Reply)) (q : Request) (p : Reply) → of k hs ≡ mine ++ (q, p) ∷ [] → AllByRecursion P hs → (by : ℕ) × P (record { by = by; asked = q; reply = p })
+pub newest : (P : Handling Request Answer → Type 0) (k : ℕ) (hs : List (Handling Request Answer)) (mine : List (Request × Answer)) (q : Request) (p : Answer) → of k hs ≡ mine ++ (q, p) ∷ [] → AllByRecursion P hs → (by : ℕ) × P (record { by = by; asked = q; reply = p })
 newest P k [] mine q p e all = absurd (nothing_last mine (q, p) e)
 newest P k (h ∷ hs) mine q p e all = back_by P k h hs mine q p (h.by == k) e all.0 (λ m is. newest P k hs m q p is all.1)
 
-pub last_back : (k : ℕ) (hs : List (Handling Request Reply)) (mine : List (Request × Reply)) (q : Request) (p : Reply) → of k hs ≡ mine ++ (q, p) ∷ [] → AllByRecursion HandsBack hs → ComesBack q.batch p.answer
+pub last_back : (k : ℕ) (hs : List (Handling Request Answer)) (mine : List (Request × Answer)) (q : Request) (p : Answer) → of k hs ≡ mine ++ (q, p) ∷ [] → AllByRecursion HandsBack hs → ComesBack q.batch p.answer
 last_back k hs mine q p e handed_back = (newest HandsBack k hs mine q p e handed_back).1
 
 -- what passed the early checks is logged where it is to be synced, and may not wait where its client stops writes
@@ -110,6 +110,7 @@ pub keeps_self : (v : Account) → Keeps v v
 keeps_self v = record {
   number = refl;
   mine = refl;
+  ends = refl;
   asked = refl;
   attempts = refl;
   seen = record { start = refl; published = begins_self v.seen.published; controller_calls = prefix_self v.seen.controller_calls };
@@ -133,8 +134,8 @@ pub record Concludes {D : Type 0} {ghosts : Ghosts D} (opened : LogWriter D ghos
   pub refused : IfErr answer (λ (e : Refused). Refuses settings v batch.records how e.why w)
   pub unchanged : IfErr answer (λ (e : Refused). e.batch ≡ batch)
 
-module _ {C D : Type 0} {ghosts : Ghosts D} (controller : Controller C) (opened : LogWriter D ghosts) (start k : ℕ) (settings : Settings) (q : Request) (p : Reply) (mine : List (Request × Reply)) (handled : List (Handling Request Reply)) (kept : AreHandled controller opened start handled) (own : of k handled ≡ mine ++ (q, p) ∷ []) (seen now : List (List MemberVersions)) (sees : Begins seen now)
-    (known after : List ControllerCall) (more : SeesMore k known after) (noted_known : noted_in q.note ≡ known) (sees_note : IfSome p.note (λ (n : Note). IsPrefix (noted n) after))
+module _ {C D : Type 0} {ghosts : Ghosts D} (controller : Controller C) (opened : LogWriter D ghosts) (start k : ℕ) (settings : Settings) (q : Request) (p : Answer) (mine : List (Request × Answer)) (handled : List (Handling Request Answer)) (kept : AreHandled controller opened start handled) (own : of k handled ≡ mine ++ (q, p) ∷ []) (seen now : List (List MemberVersions)) (sees : Begins seen now)
+    (known after : List ControllerCall) (more : SeesMore k known after) (noted_known : noted_in q.note ≡ known) (sees_note : IfSome p.note (λ (n : Note). IsPrefix (seen_by_note n) after))
     (passed : early_refusal settings.batch_bytes (holds_stop (tokens_of k known)) q.batch.records q.options ≡ None) (above : IsAbove (last_of start seen) p.answer) where
   is : commits_of k (map commit_of handled) ≡ own_commits k mine ++ commit k q p ∷ []
   is = commits_told k handled ∙ (ap (own_commits k) own ∙ own_more k mine q p)
@@ -153,7 +154,7 @@ module _ {C D : Type 0} {ghosts : Ghosts D} (controller : Controller C) (opened 
       (wrote start k (own_commits k mine) (commit k q p) seen now sees known after more (map commit_of handled) kept.answered is settings r.first r.group_last (ap answer_in ok) passed (subst (IsAbove (last_of start seen)) ok above) reached)
 
   -- the note of a reply is seen, and so is the delay that it shows
-  noted_after : (note : Option Note) → IfSome note (λ (n : Note). IsNoteOf controller n × (noted n ≡ seen_for p)) → IfSome note (λ (n : Note). IsPrefix (noted n) after) → (n : Note) → note ≡ Some n → IsPrefix (seen_for p) after
+  noted_after : (note : Option Note) → IfSome note (λ (n : Note). IsNoteOf controller n × (seen_by_note n ≡ seen_for p)) → IfSome note (λ (n : Note). IsPrefix (seen_by_note n) after) → (n : Note) → note ≡ Some n → IsPrefix (seen_for p) after
   noted_after None a b n e = absurd (cc)
   noted_after (Some m) a b n e = subst (λ (l : List ControllerCall). IsPrefix l after) a.1 b
 
@@ -198,7 +199,7 @@ module _ {C D : Type 0} {ghosts : Ghosts D} (controller : Controller C) (opened 
   concludes (Err e) err reached = let b = subst (ComesBack q.batch) err back in record { accepted = tt; back = tt; synced = tt; refused = answered_err e err; unchanged = b.0 }
 
 -- the note of a reply is the controller's
-pub note_of : {C : Type 0} (controller : Controller C) (note : Option Note) (seen : List ControllerCall) → IfSome note (λ (n : Note). IsNoteOf controller n × (noted n ≡ seen)) → IfSome note (IsNoteOf controller)
+pub note_of : {C : Type 0} (controller : Controller C) (note : Option Note) (seen : List ControllerCall) → IfSome note (λ (n : Note). IsNoteOf controller n × (seen_by_note n ≡ seen)) → IfSome note (IsNoteOf controller)
 note_of controller None seen h = tt
 note_of controller (Some n) seen h = h.0
 

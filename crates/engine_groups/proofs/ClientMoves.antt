@@ -1,4 +1,4 @@
--- A client whose seat or whose pass went on, and its account then.
+-- A client whose seat or whose pass went on, and its meaning.account then.
 use Rattle.std.proofs.Common.{◌≡◌, ℕ, ◌-◌, Bool, true, false, List, [], ◌∷◌, ◌++◌, Option, None, Result, Ok, Err, IfOk, OnOk, OnErr, length, refl, ap, sym, ◌∙◌, subst, append-nil}
 use Rattle.std.specs.List.{AllByRecursion}
 use mathlib.Core.List.{IsPrefix}
@@ -8,9 +8,8 @@ use Rattle.model_base.specs.Groups.{is_delay}
 use Rattle.model_base.specs.Map.{Pairs}
 use Rattle.model_base.specs.Tokens.{tokens_of, given_back}
 use Rattle.model_base.proofs.Prefixes.{prefix_self, prefix_trans}
-use Rattle.table_rule.specs.declared.view.Opening.{Opening}
 use Rattle.table_rule.specs.Histories.{Begins, In, last_of, map_after}
-use Rattle.table_calls.specs.Account.{Account as TableAccount, Learns}
+use Rattle.table_calls.specs.Account.{Learns}
 use Rattle.model_accounts.specs.Accounts.{Keeps, Asks, GivesBack, Reads as ReadsAtEnd}
 use Rattle.engine_controller.specs.declared.pass.Pass.{Pass}
 use Rattle.engine_controller.specs.Delays.{delays_of, place_if}
@@ -20,8 +19,9 @@ use Rattle.engine_controller.proofs.Places.{ends_delays, goes_delays}
 use Rattle.engine_rule.specs.Asked.{place_of}
 use Rattle.engine_rule.specs.Commits.{Commit}
 use Rattle.engine_rule.specs.Entries.{SeesMore}
+use Rattle.engine_groups.specs.Meaning.{Meaning}
 use Rattle.engine_groups.specs.declared.engine.GroupEngine.{GroupEngine}
-use Rattle.engine_groups.specs.declared.engine.Client.{Client}
+use Rattle.engine_groups.specs.declared.engine.EngineClient.{EngineClient}
 use Rattle.engine_groups.specs.Clients.{IsClientOf, account_in, own_commits, told_of}
 use Rattle.engine_groups.proofs.Answered.{begins_self}
 
@@ -42,9 +42,9 @@ back_no_delays : (b : Bool) (client : ℕ) (seen : List ControllerCall) (action 
 back_no_delays true client seen action after still h = ends_delays client seen action None after h ∙ (ap (λ (d : Bool). delays_of client seen ++ place_if d (length after - 1)) still ∙ append-nil (delays_of client seen))
 back_no_delays false client seen action after still h = ap (delays_of client) h
 
-module _ {D T C G S U P : Type 0} {ghosts : Ghosts D} (opening : T → Opening) (ours : T → S → Type 0) (account : S → TableAccount) (e : GroupEngine D T C G S U P ghosts) (c : Client D T C S U P ghosts) (fits : IsClientOf opening ours account e c) where
+module _ {D T C G S U P : Type 0} {ghosts : Ghosts D} (meaning : Meaning T S U P) (e : GroupEngine D T C G S U P ghosts) (c : EngineClient D T C S U P ghosts) (fits : IsClientOf meaning e c) where
   -- its seat has seen more
-  pub seat_moved : (seat : S) → ours e.table seat → Learns (opening e.table).start (account c.seat) (account seat) → IsClientOf opening ours account e (record c { seat = seat })
+  pub seat_moved : (seat : S) → meaning.ours e.table seat → Learns (meaning.opening e.table).start (meaning.account c.seat) (meaning.account seat) → IsClientOf meaning e (record c { seat = seat })
   seat_moved seat our learns = let s = fits.seated in record {
     seated = record {
       is_engine = s.is_engine;
@@ -62,23 +62,24 @@ module _ {D T C G S U P : Type 0} {ghosts : Ghosts D} (opening : T → Opening) 
     has_asked = fits.has_asked;
   }
 
-  pub seat_keeps : (seat : S) → Begins (account c.seat).seen (account seat).seen → Keeps (account_in opening ours account c) (account_in opening ours account (record c { seat = seat }))
+  pub seat_keeps : (seat : S) → Begins (meaning.account c.seat).seen (meaning.account seat).seen → Keeps (account_in meaning c) (account_in meaning (record c { seat = seat }))
   seat_keeps seat seen = record {
     number = refl;
     mine = refl;
+    ends = refl;
     asked = refl;
     attempts = refl;
     seen = record { start = refl; published = seen; controller_calls = prefix_self (seen_by c.pass) };
   }
 
   -- what the seat read is so at the end of what the client has seen
-  pub seat_reads : {A B : Type 0} (r : Result A B) (at : A → ℕ) (answers : A → Pairs → Type 0) (seat : S) → IfOk r (λ x. at x ≡ last_of (opening e.table).start (account seat).seen)
-      → IfOk r (λ x. answers x (map_after (account seat).seen)) → IfOk r (λ x. ReadsAtEnd (at x) (answers x) (account_in opening ours account (record c { seat = seat })))
-  seat_reads (Ok x) at answers seat is answer = record { at_is = is ∙ ap (λ (start : ℕ). last_of start (account seat).seen) (sym fits.seated.start); answer = answer }
+  pub seat_reads : {A B : Type 0} (r : Result A B) (at : A → ℕ) (answers : A → Pairs → Type 0) (seat : S) → IfOk r (λ x. at x ≡ last_of (meaning.opening e.table).start (meaning.account seat).seen)
+      → IfOk r (λ x. answers x (map_after (meaning.account seat).seen)) → IfOk r (λ x. ReadsAtEnd (at x) (answers x) (account_in meaning (record c { seat = seat })))
+  seat_reads (Ok x) at answers seat is answer = record { at_is = is ∙ ap (λ (start : ℕ). last_of start (meaning.account seat).seen) (sym fits.seated.start); answer = answer }
   seat_reads (Err x) at answers seat is answer = tt
 
   -- its pass has seen more, with no delay of its own
-  pub pass_moved : (pass : Pass) → IsPassOf e.controller pass → pass_client pass ≡ pass_client c.pass → delays_of c.number (seen_by pass) ≡ delays_of c.number (seen_by c.pass) → IsClientOf opening ours account e (record c { pass = pass })
+  pub pass_moved : (pass : Pass) → IsPassOf e.controller pass → pass_client pass ≡ pass_client c.pass → delays_of c.number (seen_by pass) ≡ delays_of c.number (seen_by c.pass) → IsClientOf meaning e (record c { pass = pass })
   pass_moved pass own same delays = let s = fits.seated in record {
     seated = record {
       is_engine = s.is_engine;
@@ -101,13 +102,14 @@ module _ {D T C G S U P : Type 0} {ghosts : Ghosts D} (opening : T → Opening) 
   same_tokens = ap (λ (k : ℕ). tokens_of k (seen_by c.pass)) fits.seated.pass_number
 
   -- it saw and asked nothing
-  pub pass_keeps : (pass : Pass) → seen_by pass ≡ seen_by c.pass → Keeps (account_in opening ours account c) (account_in opening ours account (record c { pass = pass }))
+  pub pass_keeps : (pass : Pass) → seen_by pass ≡ seen_by c.pass → Keeps (account_in meaning c) (account_in meaning (record c { pass = pass }))
   pass_keeps pass same = record {
     number = refl;
     mine = refl;
+    ends = refl;
     asked = ap (tokens_of c.number) same;
     attempts = refl;
-    seen = record { start = refl; published = begins_self (account c.seat).seen; controller_calls = subst (IsPrefix (seen_by c.pass)) (sym same) (prefix_self (seen_by c.pass)) };
+    seen = record { start = refl; published = begins_self (meaning.account c.seat).seen; controller_calls = subst (IsPrefix (seen_by c.pass)) (sym same) (prefix_self (seen_by c.pass)) };
   }
 
   -- it made a call that is no delay
@@ -121,25 +123,26 @@ module _ {D T C G S U P : Type 0} {ghosts : Ghosts D} (opening : T → Opening) 
     ends_own : EndsWith c.number (seen_by c.pass) action None (seen_by pass)
     ends_own = subst (λ (k : ℕ). EndsWith k (seen_by c.pass) action None (seen_by pass)) fits.seated.pass_number ends
 
-    pub pass_asks : token_in action ≡ action ∷ [] → Asks (account_in opening ours account c) action (account_in opening ours account (record c { pass = pass }))
+    pub pass_asks : token_in action ≡ action ∷ [] → Asks (account_in meaning c) action (account_in meaning (record c { pass = pass }))
     pass_asks is =
         let last = ends_last c.number (seen_by c.pass) action None (seen_by pass) ends_own in record {
           number = refl;
           mine = refl;
+          ends = refl;
           asked = ends_tokens c.number (seen_by c.pass) action None (seen_by pass) ends_own ∙ ap (λ (l : List Action). tokens_of c.number (seen_by c.pass) ++ l) is;
           attempts = refl;
-          seen = record { start = refl; published = begins_self (account c.seat).seen; controller_calls = ends_begins c.number (seen_by c.pass) action None (seen_by pass) ends_own };
+          seen = record { start = refl; published = begins_self (meaning.account c.seat).seen; controller_calls = ends_begins c.number (seen_by c.pass) action None (seen_by pass) ends_own };
           place = last.place;
           is_later = last.is_later;
         }
 
     -- with what the client held before
     pub asks_if : (holds : List Action → Bool) (b : Bool) → token_in action ≡ action ∷ [] → holds (asked_by c.pass) ≡ b
-        → (holds (account_in opening ours account c).asked ≡ b) × Asks (account_in opening ours account c) action (account_in opening ours account (record c { pass = pass }))
+        → (holds (account_in meaning c).asked ≡ b) × Asks (account_in meaning c) action (account_in meaning (record c { pass = pass }))
     asks_if holds b is held = (ap holds (sym same_tokens) ∙ held, pass_asks is)
 
   pub keeps_if : (pass : Pass) (holds : List Action → Bool) (b : Bool) → holds (asked_by c.pass) ≡ b → seen_by pass ≡ seen_by c.pass
-      → (holds (account_in opening ours account c).asked ≡ b) × Keeps (account_in opening ours account c) (account_in opening ours account (record c { pass = pass }))
+      → (holds (account_in meaning c).asked ≡ b) × Keeps (account_in meaning c) (account_in meaning (record c { pass = pass }))
   keeps_if pass holds b held same = (ap holds (sym same_tokens) ∙ held, pass_keeps pass same)
 
   -- a call was done, or refused
@@ -155,18 +158,19 @@ module _ {D T C G S U P : Type 0} {ghosts : Ghosts D} (opening : T → Opening) 
     back_delays k is f s = subst (λ (n : ℕ). delays_of n (seen_by pass) ≡ delays_of n (seen_by c.pass)) is
         (back_no_delays b k middle unslow (seen_by pass) refl s ∙ back_no_delays a k (seen_by c.pass) unstop middle refl f)
 
-    pub end_moved : IsPassOf e.controller pass → pass_client pass ≡ pass_client c.pass → IsClientOf opening ours account e (record c { pass = pass })
+    pub end_moved : IsPassOf e.controller pass → pass_client pass ≡ pass_client c.pass → IsClientOf meaning e (record c { pass = pass })
     end_moved own same = pass_moved pass own same (back_delays (pass_client c.pass) fits.seated.pass_number first second)
 
-    pub end_gives : pass_client pass ≡ pass_client c.pass → asked_by pass ≡ asked_by c.pass ++ given_back (asked_by c.pass) → GivesBack (account_in opening ours account c) (account_in opening ours account (record c { pass = pass }))
+    pub end_gives : pass_client pass ≡ pass_client c.pass → asked_by pass ≡ asked_by c.pass ++ given_back (asked_by c.pass) → GivesBack (account_in meaning c) (account_in meaning (record c { pass = pass }))
     end_gives same tokens = record {
       number = refl;
       mine = refl;
+      ends = refl;
       asked = ap (λ (k : ℕ). tokens_of k (seen_by pass)) (sym (same ∙ fits.seated.pass_number)) ∙ (tokens ∙ ap (λ (l : List Action). l ++ given_back l) same_tokens);
       attempts = refl;
       seen = record {
         start = refl;
-        published = begins_self (account c.seat).seen;
+        published = begins_self (meaning.account c.seat).seen;
         controller_calls = prefix_trans (seen_by c.pass) middle (seen_by pass) (back_begins a (pass_client c.pass) (seen_by c.pass) unstop middle first) (back_begins b (pass_client c.pass) middle unslow (seen_by pass) second);
       };
     }
@@ -176,7 +180,7 @@ module _ {D T C G S U P : Type 0} {ghosts : Ghosts D} (opening : T → Opening) 
     goes_own : GoesOn c.number (seen_by c.pass) (seen_by pass)
     goes_own = subst (λ (k : ℕ). GoesOn k (seen_by c.pass) (seen_by pass)) fits.seated.pass_number goes
 
-    pub learn_moved : IsPassOf e.controller pass → pass_client pass ≡ pass_client c.pass → IsClientOf opening ours account e (record c { pass = pass })
+    pub learn_moved : IsPassOf e.controller pass → pass_client pass ≡ pass_client c.pass → IsClientOf meaning e (record c { pass = pass })
     learn_moved own same = pass_moved pass own same (goes_delays c.number (seen_by c.pass) (seen_by pass) goes_own)
 
     pub learn_sees : SeesMore c.number (seen_by c.pass) (seen_by pass)

@@ -9,17 +9,17 @@ use Rattle.model_base.specs.Attempts.{Attempt}
 use Rattle.model_base.specs.Controller.{ControllerCall}
 use Rattle.model_base.specs.LogContents.{GroupCall}
 use Rattle.model_base.specs.Trace.{Trace}
-use Rattle.table_rule.specs.declared.view.Opening.{Opening}
 use Rattle.table_rule.specs.declared.content.MemberVersions.{MemberVersions}
 use Rattle.table_rule.specs.Histories.{In}
-use Rattle.table_calls.specs.Account.{Account as TableAccount, IsReady, IsClosing as IsTableClosing}
+use Rattle.table_calls.specs.Account.{IsReady, IsClosing as IsTableClosing}
 use Rattle.line_rule.specs.declared.view.Handling.{Handling}
 use Rattle.line_rule.specs.Chain.{of}
 use Rattle.line_writers.specs.Seats.{bound_of, table_of, clients_of, about_of, told, AllOut, HasClient, AllThere, Merged}
-use Rattle.engine_groups.specs.declared.requests.Request.{Request}
-use Rattle.engine_groups.specs.declared.requests.Reply.{Reply}
+use Rattle.engine_groups.specs.Meaning.{Meaning}
+use Rattle.engine_parts.specs.declared.requests.Request.{Request}
+use Rattle.engine_parts.specs.declared.requests.Answer.{Answer}
 use Rattle.engine_groups.specs.declared.engine.GroupEngine.{GroupEngine}
-use Rattle.engine_groups.specs.declared.engine.Client.{Client}
+use Rattle.engine_groups.specs.declared.engine.EngineClient.{EngineClient}
 use Rattle.model_accounts.specs.Accounts.{Account}
 use Rattle.model_accounts.specs.Closing.{AreOurs}
 use Rattle.model_runs.specs.Written.{WritesLog}
@@ -27,9 +27,9 @@ use Rattle.engine_controller.specs.declared.pass.Pass.{Pass}
 use Rattle.engine_controller.specs.declared.pass.Passes.{Passes}
 use Rattle.engine_controller.specs.Passes.{seen_by, AreAll, IsHistoryOf, IsOthersOf, IsPassOf, client_of as pass_client}
 use Rattle.log_writer.specs.declared.writer.LogWriter.{LogWriter}
-use Rattle.engine_groups.specs.Law.{StandsFor}
+use Rattle.engine_parts.specs.LogLaw.{StandsFor}
 use Rattle.engine_groups.specs.Clients.{IsClientOf, IsEngine, opened_log, account_in, own_commits, pass_in, seat_in, writer_in}
-use Rattle.engine_groups.specs.Handled.{commit_of}
+use Rattle.engine_parts.specs.Handled.{commit_of}
 use Rattle.engine_rule.specs.Asked.{HasAsked}
 use Rattle.engine_rule.specs.Commits.{Commit, commits_of}
 use Rattle.engine_rule.specs.Entries.{account_of, AreCallsOf, HasPart}
@@ -52,30 +52,30 @@ from_map : {A B : Type 0} (f : A → B) (P : A → Type 0) (xs : List A) → All
 from_map f P [] h y is = absurd is
 from_map f P (x ∷ xs) h y is = ⊎_elim (λ (e : f x ≡ y). (x, h.0, e)) (λ (t : In y (map f xs)). from_map f P xs h.1 y t) is
 
-module _ {D T C G S U P : Type 0} {ghosts : Ghosts D} (opening : T → Opening) (ours : T → S → Type 0) (account : S → TableAccount) (e : GroupEngine D T C G S U P ghosts) (cs : List (Client D T C S U P ghosts))
-    (all : AreOurs (IsClientOf opening ours account e) (account_in opening ours account) (clients_of e.list) cs) where
-  abbrev fit : (i : ℕ) (c : Client D T C S U P ghosts) → slice_get cs i ≡ Some c → IsClientOf opening ours account e c
+module _ {D T C G S U P : Type 0} {ghosts : Ghosts D} (meaning : Meaning T S U P) (e : GroupEngine D T C G S U P ghosts) (cs : List (EngineClient D T C S U P ghosts))
+    (all : AreOurs (IsClientOf meaning e) (account_in meaning) (clients_of e.list) cs) where
+  abbrev fit : (i : ℕ) (c : EngineClient D T C S U P ghosts) → slice_get cs i ≡ Some c → IsClientOf meaning e c
   fit i c at = (all.each i c at).0
 
-  pub is_engine : IsEngine opening ours account e
+  pub is_engine : IsEngine meaning e
   is_engine = elim (slice_get_cases cs 0).1 [
     | inl there ↦ (fit 0 there.0 there.2).seated.is_engine
     | inr gone ↦ absurd (let some = e.list.some in let n = all.number_of in let none = gone.0 in omega (arith, some, n, none))
   ]
 
-  pub all_fit : AllByRecursion (IsClientOf opening ours account e) cs
-  all_fit = each_all (IsClientOf opening ours account e) cs fit
+  pub all_fit : AllByRecursion (IsClientOf meaning e) cs
+  all_fit = each_all (IsClientOf meaning e) cs fit
 
-  out_of : (xs : List (Client D T C S U P ghosts)) → AllByRecursion (IsClientOf opening ours account e) xs → AllOut (table_of e.list) (map writer_in xs)
+  out_of : (xs : List (EngineClient D T C S U P ghosts)) → AllByRecursion (IsClientOf meaning e) xs → AllOut (table_of e.list) (map writer_in xs)
   out_of [] h = tt
   out_of (c ∷ xs) h = (h.0.seated.writer.0, h.0.out, out_of xs h.1)
 
   pub all_out : AllOut (table_of e.list) (map writer_in cs)
   all_out = out_of cs all_fit
 
-  has_at : (xs : List (Client D T C S U P ghosts)) (i : ℕ) (c : Client D T C S U P ghosts) → slice_get xs i ≡ Some c → HasClient c.writer.client (map writer_in xs)
+  has_at : (xs : List (EngineClient D T C S U P ghosts)) (i : ℕ) (c : EngineClient D T C S U P ghosts) → slice_get xs i ≡ Some c → HasClient c.writer.client (map writer_in xs)
   has_at [] i c at = absurd (cc)
-  has_at (x ∷ xs) zero c at = inl (let is : x ≡ c = cc in ap (λ (z : Client D T C S U P ghosts). z.writer.client) is)
+  has_at (x ∷ xs) zero c at = inl (let is : x ≡ c = cc in ap (λ (z : EngineClient D T C S U P ghosts). z.writer.client) is)
   has_at (x ∷ xs) (suc i) c at = inr (has_at xs i c at)
 
   pub all_there : AllThere (clients_of e.list) (map writer_in cs)
@@ -86,8 +86,8 @@ module _ {D T C G S U P : Type 0} {ghosts : Ghosts D} (opening : T → Opening) 
     | inr gone ↦ absurd (let a = gone.0 in let n = all.number_of in omega (arith, a, n, low, high))
   ]
 
-  pub seats_ready : (seat : S) → In seat (map seat_in cs) → ours e.table seat × IsReady (account seat)
-  seats_ready seat is = let t = from_map seat_in (IsClientOf opening ours account e) cs all_fit seat is in (subst (λ (s : S). ours e.table s × IsReady (account s)) t.2 (t.1.seated.seat, t.1.seated.ready))
+  pub seats_ready : (seat : S) → In seat (map seat_in cs) → meaning.ours e.table seat × IsReady (meaning.account seat)
+  seats_ready seat is = let t = from_map seat_in (IsClientOf meaning e) cs all_fit seat is in (subst (λ (s : S). meaning.ours e.table s × IsReady (meaning.account s)) t.2 (t.1.seated.seat, t.1.seated.ready))
 
   pass_at : (i : ℕ) (p : Pass) → slice_get (map pass_in cs) i ≡ Some p → IsPassOf e.controller p × (pass_client p ≡ i + 1)
   pass_at i p at = elim (slice_get_cases cs i).1 [
@@ -110,50 +110,50 @@ module _ {D T C G S U P : Type 0} {ghosts : Ghosts D} (opening : T → Opening) 
   }
 
   -- the engine's numbers are those that the list's law is about
-  pub stands_here : (our_turn : T → U → Type 0) (history : U → List (List MemberVersions)) (asked : List ControllerCall) (log : LogWriter D ghosts) (turn : U) (last : ℕ) (handled : List (Handling Request Reply))
+  pub stands_here : (our_turn : T → U → Type 0) (history : U → List (List MemberVersions)) (asked : List ControllerCall) (log : LogWriter D ghosts) (turn : U) (last : ℕ) (handled : List (Handling Request Answer))
       → StandsFor our_turn history (about_of e.list).table.value (opened_log e) (about_of e.list).start (about_of e.list).clients (about_of e.list).group_bytes asked log turn last handled
-      → StandsFor our_turn history e.table (opened_log e) (opening e.table).start (clients_of e.list) (bound_of e.list) asked log turn last handled
+      → StandsFor our_turn history e.table (opened_log e) (meaning.opening e.table).start (clients_of e.list) (bound_of e.list) asked log turn last handled
   stands_here our_turn history asked log turn last handled s =
       let set = is_engine in
       subst (λ (z : T × ℕ × ℕ × ℕ). StandsFor our_turn history z.0 (opened_log e) z.1 z.2 z.3 asked log turn last handled) (λ i. (set.table i, set.start i, set.about_clients i, set.group_bytes i)) s
 
-  merged_at : (handled : List (Handling Request Reply)) (xs : List (Client D T C S U P ghosts)) → Merged handled (map writer_in xs) → (i : ℕ) (c : Client D T C S U P ghosts) → slice_get xs i ≡ Some c → of c.writer.client handled ≡ told c.writer
+  merged_at : (handled : List (Handling Request Answer)) (xs : List (EngineClient D T C S U P ghosts)) → Merged handled (map writer_in xs) → (i : ℕ) (c : EngineClient D T C S U P ghosts) → slice_get xs i ≡ Some c → of c.writer.client handled ≡ told c.writer
   merged_at handled [] m i c at = absurd (cc)
-  merged_at handled (x ∷ xs) m zero c at = let is : x ≡ c = cc in subst (λ (z : Client D T C S U P ghosts). of z.writer.client handled ≡ told z.writer) is m.0
+  merged_at handled (x ∷ xs) m zero c at = let is : x ≡ c = cc in subst (λ (z : EngineClient D T C S U P ghosts). of z.writer.client handled ≡ told z.writer) is m.0
   merged_at handled (x ∷ xs) m (suc i) c at = merged_at handled xs m.1 i c at
 
-  pub accounts_number : length (map (account_in opening ours account) cs) ≡ clients_of e.list
-  accounts_number = length-map cs (account_in opening ours account) ∙ all.number_of
+  pub accounts_number : length (map (account_in meaning) cs) ≡ clients_of e.list
+  accounts_number = length-map cs (account_in meaning) ∙ all.number_of
 
   module _ (calls : List ControllerCall) (whole : IsHistoryOf (map pass_in cs) calls) where
-    -- the controller's one history has the clients' calls alone
+    -- the controller's one meaning.history has the clients' calls alone
     pub are_calls : AreCallsOf (clients_of e.list) calls
     are_calls = subst (λ n. AreCallsOf n calls) passes_number whole.clients
 
-    module _ (handled : List (Handling Request Reply)) (published : List (List MemberVersions))
-        (merged : Merged handled (map writer_in cs)) (seen : IsTableClosing (opening e.table).start published (map account (map seat_in cs))) where
-      part : (i : ℕ) (c : Client D T C S U P ghosts) → slice_get cs i ≡ Some c → HasPart (opening e.table).start (map commit_of handled) published calls i (account_in opening ours account c)
+    module _ (handled : List (Handling Request Answer)) (published : List (List MemberVersions))
+        (merged : Merged handled (map writer_in cs)) (seen : IsTableClosing (meaning.opening e.table).start published (map meaning.account (map seat_in cs))) where
+      part : (i : ℕ) (c : EngineClient D T C S U P ghosts) → slice_get cs i ≡ Some c → HasPart (meaning.opening e.table).start (map commit_of handled) published calls i (account_in meaning c)
       part i c at =
           let f = fit i c at in
           let number : c.number ≡ i + 1 = (all.each i c at).1 in
           let own : own_commits c.number (told c.writer) ≡ commits_of (i + 1) (map commit_of handled) =
           ap (own_commits c.number) (sym (ap (λ k. of k handled) (sym f.seated.number) ∙ merged_at handled cs merged i c at)) ∙ (sym (commits_told c.number handled) ∙ ap (λ k. commits_of k (map commit_of handled)) number) in
           record {
-            seen = (account c.seat).seen;
-            begins = seen.each (account c.seat) (in_map account c.seat (map seat_in cs) (in_map seat_in c cs (in_at cs i c at)));
+            seen = (meaning.account c.seat).seen;
+            begins = seen.each (meaning.account c.seat) (in_map meaning.account c.seat (map seat_in cs) (in_map seat_in c cs (in_at cs i c at)));
             known = seen_by c.pass;
             goes_on = whole.each i c.pass (slice_get-map pass_in cs i ∙ ap (option_map pass_in) at);
             has_asked = subst (λ (z : ℕ × List Commit). HasAsked z.0 z.1 (seen_by c.pass)) (λ j. (number j, own j)) f.has_asked;
-            is = (λ j. account_of (f.seated.start j) (number j) (own j) (account c.seat).seen (seen_by c.pass));
+            is = (λ j. account_of (f.seated.start j) (number j) (own j) (meaning.account c.seat).seen (seen_by c.pass));
           }
 
-      -- each client's account is its part of all
-      pub parts : (i : ℕ) (a : Account) → slice_get (map (account_in opening ours account) cs) i ≡ Some a → HasPart (opening e.table).start (map commit_of handled) published calls i a
+      -- each client's meaning.account is its part of all
+      pub parts : (i : ℕ) (a : Account) → slice_get (map (account_in meaning) cs) i ≡ Some a → HasPart (meaning.opening e.table).start (map commit_of handled) published calls i a
       parts i a at = elim (slice_get_cases cs i).1 [
         | inl there ↦ (
-            let is : account_in opening ours account there.0 ≡ a = cc (sym (slice_get-map (account_in opening ours account) cs i) ∙ at, ap (option_map (account_in opening ours account)) there.2) in
-            subst (HasPart (opening e.table).start (map commit_of handled) published calls i) is (part i there.0 there.2))
-        | inr gone ↦ absurd (cc (sym (slice_get-map (account_in opening ours account) cs i) ∙ at, ap (option_map (account_in opening ours account)) gone.1))
+            let is : account_in meaning there.0 ≡ a = cc (sym (slice_get-map (account_in meaning) cs i) ∙ at, ap (option_map (account_in meaning)) there.2) in
+            subst (HasPart (meaning.opening e.table).start (map commit_of handled) published calls i) is (part i there.0 there.2))
+        | inr gone ↦ absurd (cc (sym (slice_get-map (account_in meaning) cs i) ∙ at, ap (option_map (account_in meaning)) gone.1))
       ]
 
 -- the law of the log speaks of these calls, of which more is known

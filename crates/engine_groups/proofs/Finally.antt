@@ -5,17 +5,18 @@ use Rattle.table_rule.specs.declared.content.MemberVersions.{MemberVersions}
 use Rattle.line_rule.specs.declared.view.Handling.{Handling}
 use Rattle.line_rule.specs.Laws.{given_runs}
 use Rattle.log_writer.specs.Words.{fault_of}
-use Rattle.engine_controller.specs.Passes.{noted}
+use Rattle.engine_controller.specs.Passes.{seen_by_note}
 use Rattle.engine_stage_laws.specs.Served.{AreServed}
 use Rattle.engine_stage_laws.proofs.Serving.{consistent_served}
-use Rattle.engine_groups.specs.declared.held.About.{About}
-use Rattle.engine_groups.specs.declared.held.Held.{Held}
-use Rattle.engine_groups.specs.declared.held.Right.{Right}
-use Rattle.engine_groups.specs.declared.requests.Request.{Request}
-use Rattle.engine_groups.specs.declared.requests.Reply.{Reply}
-use Rattle.engine_groups.specs.Handled.{AreHandled, commit_of}
-use Rattle.engine_groups.specs.Law.{HeldStandsFor, RightStandsFor, ServesIs, TurnIs}
-use Rattle.engine_groups.specs.Runs.{run_of}
+use Rattle.engine_groups.specs.Meaning.{Meaning}
+use Rattle.engine_groups.specs.declared.leader.EngineAtOpening.{EngineAtOpening}
+use Rattle.engine_groups.specs.declared.leader.Leadership.{Leadership}
+use Rattle.engine_groups.specs.declared.leader.Right.{Right}
+use Rattle.engine_parts.specs.declared.requests.Request.{Request}
+use Rattle.engine_parts.specs.declared.requests.Answer.{Answer}
+use Rattle.engine_parts.specs.Handled.{AreHandled, commit_of}
+use Rattle.engine_groups.specs.Law.{LeadershipStandsFor, RightStandsFor, ServesIs, TurnIs}
+use Rattle.engine_parts.specs.Runs.{run_of}
 use Rattle.engine_groups.proofs.Leads.{LogIn}
 use Rattle.engine_groups.proofs.Onto.{given_accepted}
 
@@ -27,24 +28,24 @@ some_same : {U : Type 0} (a b : U) → Some a ≡ Some b → a ≡ b
 unfolding some_or
 some_same a b e = ap (some_or a) e
 
-module _ {D T C S U P : Type 0} {ghosts : Ghosts D} (our_turn : T → U → Type 0) (history : U → List (List MemberVersions)) (about : About D T C ghosts) (held : Held D T C S U P ghosts) (handled : List (Handling Request Reply)) where
+module _ {D T C S U P : Type 0} {ghosts : Ghosts D} (meaning : Meaning T S U P) (about : EngineAtOpening D T C ghosts) (leadership : Leadership D T C S U P ghosts) (handled : List (Handling Request Answer)) where
   pub record Ends (with_log apart : Option U) : Type 0 where
     pub turn : U
     pub place : ((with_log ≡ Some turn) × (apart ≡ None)) ⊎ ((with_log ≡ None) × (apart ≡ Some turn))
-    pub our : our_turn about.table.value turn
-    pub path : LogIn about held (history turn) handled
+    pub our : meaning.our_turn about.table.value turn
+    pub path : LogIn about leadership (meaning.history turn) handled
 
-  ends_by : (b : Bool) (apart : Option U) (published : List (List MemberVersions)) → LogIn about held published handled → AreHandled about.controller.value about.opened.value about.start handled → TurnIs our_turn history about.table.value b published held.turn
-      → (b ≡ false → ServesIs our_turn history about.table.value b [] apart) → (b ≡ true → ServesIs our_turn history about.table.value b (given_runs run_of handled) apart) → Ends held.turn apart
+  ends_by : (b : Bool) (apart : Option U) (published : List (List MemberVersions)) → LogIn about leadership published handled → AreHandled about.controller.value about.opened.value about.start handled → TurnIs meaning about.table.value b published leadership.turn
+      → (b ≡ false → ServesIs meaning about.table.value b [] apart) → (b ≡ true → ServesIs meaning about.table.value b (given_runs run_of handled) apart) → Ends leadership.turn apart
   ends_by false apart published path kept turn none served = record {
     turn = turn.0;
     place = inl (turn.1, none refl);
     our = turn.2;
-    path = subst (λ h. LogIn about held h handled) (sym turn.3) path;
+    path = subst (λ h. LogIn about leadership h handled) (sym turn.3) path;
   }
   ends_by true apart published path kept turn none served =
       let s = served refl in
-      let accepted = subst (λ cs. AreServed cs (history s.0)) (given_accepted about.start None handled kept.handed_back path.consistent.answered) s.3 in
+      let accepted = subst (λ cs. AreServed cs (meaning.history s.0)) (given_accepted about.start None handled kept.handed_back path.consistent.answered) s.3 in
       record {
         turn = s.0;
         place = inr (turn, s.1);
@@ -53,12 +54,12 @@ module _ {D T C S U P : Type 0} {ghosts : Ghosts D} (our_turn : T → U → Type
           our = tt;
           calls = path.calls;
           wrote = path.wrote;
-          consistent = consistent_served about.start about.clients about.group_bytes (noted held.asked) (map commit_of handled) held.path.last (fault_of held.path.log) published (history s.0) path.calls path.consistent accepted;
+          consistent = consistent_served about.start about.clients about.group_bytes (seen_by_note leadership.asked) (map commit_of handled) leadership.path.last (fault_of leadership.path.log) published (meaning.history s.0) path.calls path.consistent accepted;
         };
       }
 
-  pub ends_with : (right : Right T S U P) (piped : Bool) → about.pipelined ≡ piped → HeldStandsFor our_turn history about held handled → AreHandled about.controller.value about.opened.value about.start handled
-      → (piped ≡ false → RightStandsFor our_turn history about right []) → (piped ≡ true → RightStandsFor our_turn history about right (given_runs run_of handled)) → Ends held.turn right.turn
+  pub ends_with : (right : Right T S U P) (piped : Bool) → about.pipelined ≡ piped → LeadershipStandsFor meaning about leadership handled → AreHandled about.controller.value about.opened.value about.start handled
+      → (piped ≡ false → RightStandsFor meaning about right []) → (piped ≡ true → RightStandsFor meaning about right (given_runs run_of handled)) → Ends leadership.turn right.turn
   ends_with right piped same st kept none served = ends_by about.pipelined right.turn st.published st.path kept st.turn (λ is. none (sym same ∙ is)) (λ is. served (sym same ∙ is))
 
   pub one_place : (with_log apart : Option U) → Ends with_log apart → ((u : U) × (with_log ≡ Some u) × (apart ≡ None)) ⊎ ((u : U) × (with_log ≡ None) × (apart ≡ Some u))
@@ -70,5 +71,5 @@ module _ {D T C S U P : Type 0} {ghosts : Ghosts D} (our_turn : T → U → Type
       (λ (a : (with_log ≡ None) × (apart ≡ Some e.turn)). ⊎_elim {C = e.turn ≡ u} (λ (b : (with_log ≡ Some u) × (apart ≡ None)). absurd (let x : None ≡ Some u = sym a.0 ∙ b.0 in cc)) (λ (b : (with_log ≡ None) × (apart ≡ Some u)). some_same e.turn u (sym a.1 ∙ b.1)) at)
       e.place
 
-  pub ends_at : (with_log apart : Option U) (u : U) (e : Ends with_log apart) → ((with_log ≡ Some u) × (apart ≡ None)) ⊎ ((with_log ≡ None) × (apart ≡ Some u)) → our_turn about.table.value u × LogIn about held (history u) handled
-  ends_at with_log apart u e at = subst (λ (x : U). our_turn about.table.value x × LogIn about held (history x) handled) (turn_same with_log apart u e at) (e.our, e.path)
+  pub ends_at : (with_log apart : Option U) (u : U) (e : Ends with_log apart) → ((with_log ≡ Some u) × (apart ≡ None)) ⊎ ((with_log ≡ None) × (apart ≡ Some u)) → meaning.our_turn about.table.value u × LogIn about leadership (meaning.history u) handled
+  ends_at with_log apart u e at = subst (λ (x : U). meaning.our_turn about.table.value x × LogIn about leadership (meaning.history x) handled) (turn_same with_log apart u e at) (e.our, e.path)

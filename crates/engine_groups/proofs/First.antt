@@ -8,9 +8,11 @@ use Rattle.log_writer.specs.Written.{no_call}
 use Rattle.table_rule.specs.declared.content.MemberVersions.{MemberVersions}
 use Rattle.engine_controller.specs.declared.controller.Controller.{Controller}
 use Rattle.engine_rule.specs.Consistent.{AreConsistent}
-use Rattle.engine_groups.specs.Handled.{AreHandled}
+use Rattle.engine_groups.specs.Meaning.{Meaning}
+use Rattle.engine_parts.specs.Handled.{AreHandled}
 use Rattle.engine_stage_laws.specs.Served.{AreServed}
-use Rattle.engine_groups.specs.Law.{ServesIs, StandsFor, TurnIs}
+use Rattle.engine_parts.specs.LogLaw.{StandsFor}
+use Rattle.engine_groups.specs.Law.{ServesIs, TurnIs}
 
 -- an opened log, a table where nothing is published, its turn, and a controller that nobody has asked
 pub stands_first : {D : Type 0} {ghosts : Ghosts D} {T U : Type 0} (our_turn : T → U → Type 0) (history : U → List (List MemberVersions)) (table : T) (log : LogWriter D ghosts) (start clients group_bytes : ℕ) (turn : U) (asked : List ControllerCall)
@@ -50,8 +52,8 @@ unfolding some_or
 some_same a b e = ap (some_or a) e
 
 -- The right to launch at the beginning
-module _ {T U : Type 0} (our_turn : T → U → Type 0) (history : U → List (List MemberVersions)) (table : T) (turn : U) (our : our_turn table turn) (none : history turn ≡ []) (with_log apart : Option U) where
-  pub turn_first : (b : Bool) → (b ≡ false → (with_log ≡ Some turn) × (apart ≡ None)) → (b ≡ true → (with_log ≡ None) × (apart ≡ Some turn)) → TurnIs our_turn history table b [] with_log × ServesIs our_turn history table b [] apart
+module _ {T S U P : Type 0} (meaning : Meaning T S U P) (table : T) (turn : U) (our : meaning.our_turn table turn) (none : meaning.history turn ≡ []) (with_log apart : Option U) where
+  pub turn_first : (b : Bool) → (b ≡ false → (with_log ≡ Some turn) × (apart ≡ None)) → (b ≡ true → (with_log ≡ None) × (apart ≡ Some turn)) → TurnIs meaning table b [] with_log × ServesIs meaning table b [] apart
   turn_first false one two = let t = one refl in ((turn, t.0, our, none), t.1)
   turn_first true one two = let t = two refl in (t.0, (turn, t.1, our, subst (λ h. AreServed [] h) (sym none) refl))
 

@@ -29,7 +29,7 @@ each_after P [] q own h i x at = absurd (cc)
 each_after P (y ∷ ys) q own h zero x at = let is : q ≡ x = cc in subst (P 0) is own
 each_after P (y ∷ ys) q own h (suc i) x at = h (suc i) x at
 
--- How the controller's history goes on
+-- How the controller's meaning.history goes on
 
 others_append : (client : ℕ) (a b : List ControllerCall) → AreOfOthers client a → AreOfOthers client b → AreOfOthers client (a ++ b)
 others_append client [] b h k = k
@@ -46,7 +46,7 @@ goes_further client a b c g h = record {
 pub begins_further : (client : ℕ) (a b c : List ControllerCall) → IsPrefix a b → GoesOn client b c → IsPrefix a c
 begins_further client a b c p g = (p.0 ++ g.between, sym (append_assoc a p.0 g.between) ∙ (ap (λ l. l ++ g.between) p.1 ∙ sym g.is))
 
--- the history is that of the passes as they were before the first one learned something
+-- the meaning.history is that of the passes as they were before the first one learned something
 pub history_before : (xs : List Pass) (p q : Pass) (calls : List ControllerCall) → 0 < length xs → p ≡ get_or xs 0 p → GoesOn 1 (seen_by p) (seen_by q)
     → IsHistoryOf (set xs 0 q) calls → IsHistoryOf xs calls
 history_before [] p q calls some at g w = absurd (omega arith)
@@ -56,6 +56,6 @@ history_before (y ∷ ys) p q calls some at g w = record { legal = w.legal; clie
     each zero x is = let same : p ≡ x = cc in subst (λ (z : Pass). GoesOn 1 (seen_by z) calls) same (goes_further 1 (seen_by p) (seen_by q) calls g (w.each 0 q refl))
     each (suc i) x is = w.each (suc i) x is
 
-pub last_seen : (xs : List Pass) (q : Pass) (noted calls : List ControllerCall) → 0 < length xs → IsPrefix noted (seen_by q) → IsHistoryOf (set xs 0 q) calls → IsPrefix noted calls
-last_seen [] q noted calls some p w = absurd (omega arith)
-last_seen (y ∷ ys) q noted calls some p w = begins_further 1 noted (seen_by q) calls p (w.each 0 q refl)
+pub last_seen : (xs : List Pass) (q : Pass) (seen_by_note calls : List ControllerCall) → 0 < length xs → IsPrefix seen_by_note (seen_by q) → IsHistoryOf (set xs 0 q) calls → IsPrefix seen_by_note calls
+last_seen [] q seen_by_note calls some p w = absurd (omega arith)
+last_seen (y ∷ ys) q seen_by_note calls some p w = begins_further 1 seen_by_note (seen_by q) calls p (w.each 0 q refl)

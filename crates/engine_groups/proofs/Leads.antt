@@ -5,12 +5,11 @@ use Rattle.std.proofs.lemmas.Bool.{ne_eqb, eq-eqb}
 use Rattle.base_devices.specs.declared.disk.Disk.{Ghosts}
 use Rattle.model_base.specs.Controller.{ControllerCall}
 use Rattle.table_rule.specs.declared.content.MemberVersions.{MemberVersions}
-use Rattle.table_rule.specs.declared.view.Opening.{Opening}
 use Rattle.table_rule.specs.Histories.{In}
-use Rattle.line_rule.specs.declared.view.Entry.{Entry}
+use Rattle.line_rule.specs.declared.view.QueuedWriter.{QueuedWriter}
 use Rattle.line_rule.specs.declared.view.Handling.{Handling}
 use Rattle.line_rule.specs.Chain.{Absent, Distinct, heads, handling, answers, all_answers, of}
-use Rattle.line_rule.specs.declared.view.Stage.TheVariants.{Fresh}
+use Rattle.line_rule.specs.declared.view.LineStage.TheVariants.{Fresh}
 use Rattle.line_rule.specs.Rule.{asks_for, hold, last_run}
 use Rattle.line_rule.specs.Plays.{Sat}
 use Rattle.line_writers.specs.declared.writer.Role.{Role}
@@ -25,21 +24,23 @@ use Rattle.engine_controller.specs.declared.controller.Controller.{Controller}
 use Rattle.engine_controller.specs.Delays.{delays_of}
 use Rattle.engine_rule.specs.Asked.{HasAsked, place_of}
 use Rattle.engine_rule.specs.Commits.{Commit}
-use Rattle.engine_groups.specs.declared.requests.Request.{Request}
-use Rattle.engine_groups.specs.declared.requests.Reply.{Reply}
+use Rattle.engine_groups.specs.Meaning.{Meaning}
+use Rattle.engine_parts.specs.declared.requests.Request.{Request}
+use Rattle.engine_parts.specs.declared.requests.Answer.{Answer}
 use Rattle.engine_groups.specs.declared.engine.GroupEngine.{GroupEngine}
-use Rattle.engine_groups.specs.declared.held.About.{About}
-use Rattle.engine_groups.specs.declared.held.Held.{Held}
-use Rattle.engine_groups.specs.declared.held.Right.{Right}
+use Rattle.engine_groups.specs.declared.leader.EngineAtOpening.{EngineAtOpening}
+use Rattle.engine_groups.specs.declared.leader.Leadership.{Leadership}
+use Rattle.engine_groups.specs.declared.leader.Right.{Right}
 use Rattle.engine_groups.specs.Clients.{opened_log, own_commits}
-use Rattle.engine_groups.specs.Handled.{AreHandled, HandsBack, InOrder, IsNoted, ShowsDelay, handled_with, seen_for}
-use Rattle.engine_groups.specs.Items.{item_with}
-use Rattle.engine_groups.specs.Law.{LogStandsFor, kept_in}
-use Rattle.engine_controller.specs.Passes.{noted}
-use Rattle.engine_groups.specs.Led.{LeadsBy}
-use Rattle.engine_groups.specs.Serving.{IsReplyAt}
+use Rattle.engine_parts.specs.Handled.{AreHandled, HandsBack, InOrder, IsNoted, ShowsDelay, handled_with, seen_for}
+use Rattle.engine_parts.specs.Items.{item_with}
+use Rattle.engine_parts.specs.LogLaw.{LogStandsFor}
+use Rattle.engine_groups.specs.Law.{kept_in}
+use Rattle.engine_controller.specs.Passes.{seen_by_note}
+use Rattle.engine_parts.specs.Led.{LeadsBy}
+use Rattle.engine_parts.specs.Handled.{IsReplyAt}
 use Rattle.engine_groups.proofs.Answered.{commit, own_more}
-use Rattle.engine_groups.proofs.Paying.{Paid, number_is, paid, run}
+use Rattle.engine_parts.proofs.Paying.{Paid, number_is, paid, run}
 
 all_append : {A : Type 0} (P : A → Type 0) (xs ys : List A) → AllByRecursion P xs → AllByRecursion P ys → AllByRecursion P (xs ++ ys)
 all_append P [] ys a b = b
@@ -52,38 +53,38 @@ all_front P (x ∷ xs) ys h = (h.0, all_front P xs ys h.1)
 -- What the list's law is about, and what its leaders keep
 module _ {D T C S U P : Type 0} {ghosts : Ghosts D} where
   -- what is asked of a request and its code
-  abbrev pub wanted_in : WriterList Request Reply (Held D T C S U P ghosts) (Right T S U P) (About D T C ghosts) → Request → ℕ → Type 0
-  wanted_in list = asks_for (λ (q : Request). item_with q.batch.records q.options) (λ (a : About D T C ghosts) (q : Request). IsNoted a.controller.value q) (about_of list)
+  abbrev pub wanted_in : WriterList Request Answer (Leadership D T C S U P ghosts) (Right T S U P) (EngineAtOpening D T C ghosts) → Request → ℕ → Type 0
+  wanted_in list = asks_for (λ (q : Request). item_with q.batch.records q.options) (λ (a : EngineAtOpening D T C ghosts) (q : Request). IsNoted a.controller.value q) (about_of list)
 
-  -- the log, with the note, as it is held
-  abbrev pub LogIn : About D T C ghosts → Held D T C S U P ghosts → List (List MemberVersions) → List (Handling Request Reply) → Type 0
-  LogIn about held published handled = LogStandsFor about.opened.value about.start about.clients about.group_bytes (noted held.asked) held.path.log published held.path.last handled
+  -- the log, with the note, as it is leadership
+  abbrev pub LogIn : EngineAtOpening D T C ghosts → Leadership D T C S U P ghosts → List (List MemberVersions) → List (Handling Request Answer) → Type 0
+  LogIn about leadership published handled = LogStandsFor about.opened.value about.start about.clients about.group_bytes (seen_by_note leadership.asked) leadership.path.log published leadership.path.last handled
 
-  module _ (about : About D T C ghosts) (held : Held D T C S U P ghosts) (published : List (List MemberVersions)) where
+  module _ (about : EngineAtOpening D T C ghosts) (leadership : Leadership D T C S U P ghosts) (published : List (List MemberVersions)) where
     -- what holds once a leader has answered its group
-    pub record HasLed (own : Entry Request) (group : List (Entry Request)) (seen : List (Handling Request Reply)) (ys : List (ℕ × Reply)) : Type 0 where
+    pub record HasLed (own : QueuedWriter Request) (group : List (QueuedWriter Request)) (seen : List (Handling Request Answer)) (ys : List (ℕ × Answer)) : Type 0 where
       pub is_paid : Paid own group ys
-      pub path : LogIn about held published (seen ++ all_answers own is_paid.own_reply is_paid.gs)
+      pub path : LogIn about leadership published (seen ++ all_answers own is_paid.own_reply is_paid.gs)
       pub kept : AreHandled about.controller.value about.opened.value about.start (seen ++ all_answers own is_paid.own_reply is_paid.gs)
-      pub number : held.path.last ≡ last_run run about.start (seen ++ all_answers own is_paid.own_reply is_paid.gs)
+      pub number : leadership.path.last ≡ last_run run about.start (seen ++ all_answers own is_paid.own_reply is_paid.gs)
 
-    kept_now : (seen new : List (Handling Request Reply)) → LogIn about held published (seen ++ new) → AreHandled about.controller.value about.opened.value about.start seen
+    kept_now : (seen new : List (Handling Request Answer)) → LogIn about leadership published (seen ++ new) → AreHandled about.controller.value about.opened.value about.start seen
         → AllByRecursion HandsBack new → AllByRecursion (ShowsDelay about.controller.value) new → AreHandled about.controller.value about.opened.value about.start (seen ++ new)
     kept_now seen new path old handed_back shown = let w = path.consistent.written in record {
       answered = path.consistent.answered;
       handed_back = all_append HandsBack seen new old.handed_back handed_back;
       shown = all_append (ShowsDelay about.controller.value) seen new old.shown shown;
-      written = record { calls = path.calls; log = held.path.log; wrote = path.wrote; worked = w.worked; lost = w.lost; both = w.both; parts = w.parts };
+      written = record { calls = path.calls; log = leadership.path.log; wrote = path.wrote; worked = w.worked; lost = w.lost; both = w.both; parts = w.parts };
     }
 
-    pub has_led : (own : Entry Request) (group : List (Entry Request)) (seen : List (Handling Request Reply)) (xs : List (ℕ × Request)) (ys : List (ℕ × Reply)) → xs ≡ asks own group → InOrder xs ys
-        → LogIn about held published (seen ++ handled_with xs ys) → AreHandled about.controller.value about.opened.value about.start seen
+    pub has_led : (own : QueuedWriter Request) (group : List (QueuedWriter Request)) (seen : List (Handling Request Answer)) (xs : List (ℕ × Request)) (ys : List (ℕ × Answer)) → xs ≡ asks own group → InOrder xs ys
+        → LogIn about leadership published (seen ++ handled_with xs ys) → AreHandled about.controller.value about.opened.value about.start seen
         → AllByRecursion HandsBack (handled_with xs ys) → AllByRecursion (ShowsDelay about.controller.value) (handled_with xs ys) → HasLed own group seen ys
     has_led own group seen xs ys are pays path old handed_back shown =
         let t = paid own group ys (subst (λ (l : List (ℕ × Request)). InOrder l ys) are pays) in
         let new = all_answers own t.own_reply t.gs in
         let new_is : handled_with xs ys ≡ new = ap (λ (l : List (ℕ × Request)). handled_with l ys) are ∙ sym t.answers_are in
-        let path1 = subst (λ (hs : List (Handling Request Reply)). LogIn about held published (seen ++ hs)) new_is path in
+        let path1 = subst (λ (hs : List (Handling Request Answer)). LogIn about leadership published (seen ++ hs)) new_is path in
         let kept = kept_now seen new path1 old (subst (AllByRecursion HandsBack) new_is handed_back) (subst (AllByRecursion (ShowsDelay about.controller.value)) new_is shown) in
         record {
           is_paid = t;
@@ -93,11 +94,11 @@ module _ {D T C S U P : Type 0} {ghosts : Ghosts D} where
         }
 
 -- the engine's numbers are those that the list's law is about
-module _ {D T C G S U P : Type 0} {ghosts : Ghosts D} (opening : T → Opening) (e : GroupEngine D T C G S U P ghosts) (controller_is : (about_of e.list).controller.value ≡ e.controller) (start_is : (about_of e.list).start ≡ (opening e.table).start) (hs : List (Handling Request Reply)) where
-  pub of_engine : kept_in e.list hs → AreHandled e.controller (opened_log e) (opening e.table).start hs
+module _ {D T C G S U P : Type 0} {ghosts : Ghosts D} (meaning : Meaning T S U P) (e : GroupEngine D T C G S U P ghosts) (controller_is : (about_of e.list).controller.value ≡ e.controller) (start_is : (about_of e.list).start ≡ (meaning.opening e.table).start) (hs : List (Handling Request Answer)) where
+  pub of_engine : kept_in e.list hs → AreHandled e.controller (opened_log e) (meaning.opening e.table).start hs
   of_engine h = subst (λ (z : Controller C × ℕ). AreHandled z.0 (opened_log e) z.1 hs) (λ i. (controller_is i, start_is i)) h
 
-  pub of_list : AreHandled e.controller (opened_log e) (opening e.table).start hs → kept_in e.list hs
+  pub of_list : AreHandled e.controller (opened_log e) (meaning.opening e.table).start hs → kept_in e.list hs
   of_list h = subst (λ (z : Controller C × ℕ). AreHandled z.0 (opened_log e) z.1 hs) (λ i. (sym controller_is i, sym start_is i)) h
 
 -- Its delays
@@ -116,12 +117,12 @@ asked_front own c [] h = tt
 asked_front own c (p ∷ places) h = ((h.0.0, in_front h.0.0 own c h.0.1, h.0.2), asked_front own c places h.1)
 
 -- a client that has an answer more has asked for no delay
-pub asked_more : (k : ℕ) (mine now : List (Request × Reply)) (q : Request) (p : Reply) (known : List ControllerCall) → now ≡ mine ++ (q, p) ∷ [] → HasAsked k (own_commits k mine) known → HasAsked k (own_commits k now) known
+pub asked_more : (k : ℕ) (mine now : List (Request × Answer)) (q : Request) (p : Answer) (known : List ControllerCall) → now ≡ mine ++ (q, p) ∷ [] → HasAsked k (own_commits k mine) known → HasAsked k (own_commits k now) known
 asked_more k mine now q p known is h =
     subst (λ (own : List Commit). HasAsked k own known) (sym (ap (own_commits k) is ∙ own_more k mine q p)) (asked_front (own_commits k mine) (commit k q p) (delays_of k known) h)
 
 -- a leader has asked for one more, and has its own answer
-pub asked_own : (k : ℕ) (mine now : List (Request × Reply)) (q : Request) (p : Reply) (known after at : List ControllerCall) → now ≡ mine ++ (q, p) ∷ [] → HasAsked k (own_commits k mine) known
+pub asked_own : (k : ℕ) (mine now : List (Request × Answer)) (q : Request) (p : Answer) (known after at : List ControllerCall) → now ≡ mine ++ (q, p) ∷ [] → HasAsked k (own_commits k mine) known
     → delays_of k after ≡ delays_of k known ++ (length at - 1) ∷ [] → seen_for p ≡ at → HasAsked k (own_commits k now) after
 asked_own k mine now q p known after at is h delays own =
     let Has : List Commit → ℕ → Type 0 = λ (own : List Commit) (place : ℕ). (x : Commit) × In x own × (place_of x ≡ place) in
@@ -131,18 +132,18 @@ asked_own k mine now q p known after at is h delays own =
     ((commit k q p, in_last (own_commits k mine) (commit k q p), ap (λ (l : List ControllerCall). length l - 1) own), tt)))
 
 -- the leader's own reply is one of its group's
-pub own_reply_at : (known : List ControllerCall) (own : Entry Request) (p : Reply) (gs : List (Entry Request × Reply)) → AllByRecursion (IsReplyAt known) (pays own p gs) → seen_for p ≡ known
+pub own_reply_at : (known : List ControllerCall) (own : QueuedWriter Request) (p : Answer) (gs : List (QueuedWriter Request × Answer)) → AllByRecursion (IsReplyAt known) (pays own p gs) → seen_for p ≡ known
 own_reply_at known own p [] h = h.0
 own_reply_at known own p (g ∷ gs) h = own_reply_at known own p gs (all_front (IsReplyAt known) (pays own p gs) ((g.0.by, g.1) ∷ []) h)
 
 pub noted_as : {C : Type 0} (a b : Controller C) (xs : List (ℕ × Request)) → a ≡ b → AllByRecursion (λ (x : ℕ × Request). IsNoted a x.1) xs → AllByRecursion (λ (x : ℕ × Request). IsNoted b x.1) xs
 noted_as {C} a b xs is h = subst (λ (z : Controller C). AllByRecursion (λ (x : ℕ × Request). IsNoted z x.1) xs) is h
 
-pub shown_as : {C : Type 0} (a b : Controller C) (hs : List (Handling Request Reply)) → a ≡ b → AllByRecursion (ShowsDelay a) hs → AllByRecursion (ShowsDelay b) hs
+pub shown_as : {C : Type 0} (a b : Controller C) (hs : List (Handling Request Answer)) → a ≡ b → AllByRecursion (ShowsDelay a) hs → AllByRecursion (ShowsDelay b) hs
 shown_as {C} a b hs is h = subst (λ (z : Controller C). AllByRecursion (ShowsDelay z) hs) is h
 
 -- its own request stands first
-pub leads_by : (own : Entry Request) (group : List (Entry Request)) → LeadsBy own.by (asks own group)
+pub leads_by : (own : QueuedWriter Request) (group : List (QueuedWriter Request)) → LeadsBy own.by (asks own group)
 leads_by own [] = refl
 leads_by own (e ∷ es) = still (asks own es) (e.by, e.asked) (leads_by own es)
   where
@@ -151,7 +152,7 @@ leads_by own (e ∷ es) = still (asks own es) (e.by, e.asked) (leads_by own es)
     still (y ∷ ys) x h = h
 
 -- what was handled for one client
-of_append : (k : ℕ) (a b : List (Handling Request Reply)) → of k (a ++ b) ≡ of k a ++ of k b
+of_append : (k : ℕ) (a b : List (Handling Request Answer)) → of k (a ++ b) ≡ of k a ++ of k b
 of_append k [] b = refl
 of_append k (h ∷ a) b = by (h.by == k) (of_append k a b)
   where
@@ -159,30 +160,30 @@ of_append k (h ∷ a) b = by (h.by == k) (of_append k a b)
     by true e = ap (λ l. (h.asked, h.reply) ∷ l) e
     by false e = e
 
-of_none : (k : ℕ) (gs : List (Entry Request × Reply)) → Absent k (heads gs) → of k (answers gs) ≡ []
+of_none : (k : ℕ) (gs : List (QueuedWriter Request × Answer)) → Absent k (heads gs) → of k (answers gs) ≡ []
 of_none k [] out = refl
 of_none k (g ∷ gs) out = of_append k (answers gs) (handling g.0 g.1 ∷ []) ∙ ((λ i. of_none k gs out.1 i ++ of k (handling g.0 g.1 ∷ [])) ∙ rw (ne_eqb g.0.by k out.0) refl)
 
-of_own : (own : Entry Request) (p : Reply) (gs : List (Entry Request × Reply)) → Absent own.by (heads gs) → of own.by (all_answers own p gs) ≡ (own.asked, p) ∷ []
+of_own : (own : QueuedWriter Request) (p : Answer) (gs : List (QueuedWriter Request × Answer)) → Absent own.by (heads gs) → of own.by (all_answers own p gs) ≡ (own.asked, p) ∷ []
 of_own own p gs out = rw (eq-eqb own.by own.by refl) (ap (λ l. (own.asked, p) ∷ l) (of_none own.by gs out))
 
-distinct_last : (group : List (Entry Request)) (own : Entry Request) → Distinct (group ++ own ∷ []) → Absent own.by group
+distinct_last : (group : List (QueuedWriter Request)) (own : QueuedWriter Request) → Distinct (group ++ own ∷ []) → Absent own.by group
 distinct_last [] own h = tt
 distinct_last (e ∷ es) own h = ((λ is. last_absent e.by es own h.0 (sym is)), distinct_last es own h.1)
   where
-    last_absent : (k : ℕ) (fs : List (Entry Request)) (o : Entry Request) → Absent k (fs ++ o ∷ []) → o.by ≡ k → ⊥
+    last_absent : (k : ℕ) (fs : List (QueuedWriter Request)) (o : QueuedWriter Request) → Absent k (fs ++ o ∷ []) → o.by ≡ k → ⊥
     last_absent k [] o a = a.0
     last_absent k (f ∷ fs) o a = last_absent k fs o a.1
 
 -- the leader's own among what its group has handled
-pub own_now : (k : ℕ) (own : Entry Request) (group : List (Entry Request)) (ys : List (ℕ × Reply)) (t : Paid own group ys) (seen : List (Handling Request Reply)) (mine : List (Request × Reply)) → own.by ≡ k → Distinct (group ++ own ∷ []) → of k seen ≡ mine
+pub own_now : (k : ℕ) (own : QueuedWriter Request) (group : List (QueuedWriter Request)) (ys : List (ℕ × Answer)) (t : Paid own group ys) (seen : List (Handling Request Answer)) (mine : List (Request × Answer)) → own.by ≡ k → Distinct (group ++ own ∷ []) → of k seen ≡ mine
     → of k (seen ++ all_answers own t.own_reply t.gs) ≡ mine ++ (own.asked, t.own_reply) ∷ []
 own_now k own group ys t seen mine is apart before =
     let new = all_answers own t.own_reply t.gs in
     of_append k seen new ∙ (λ i. before i ++ ((λ j. of (sym is j) new) ∙ of_own own t.own_reply t.gs (subst (Absent own.by) (sym t.heads_are) (distinct_last group own apart))) i)
 
 -- a leader stands as one writer
-pub fresh_same : {Q P : Type 0} (c c' : ℕ) (own own' : Entry Q) (seen seen' : List (Handling Q P)) (mine mine' : List (Q × P)) → hold c (Fresh own seen) mine ∷ [] ≡ hold c' (Fresh own' seen') mine' ∷ [] → own ≡ own'
+pub fresh_same : {Q P : Type 0} (c c' : ℕ) (own own' : QueuedWriter Q) (seen seen' : List (Handling Q P)) (mine mine' : List (Q × P)) → hold c (Fresh own seen) mine ∷ [] ≡ hold c' (Fresh own' seen') mine' ∷ [] → own ≡ own'
 fresh_same c c' own own' seen seen' mine mine' e =
     let h : hold c (Fresh own seen) mine ≡ hold c' (Fresh own' seen') mine' = cc in
     let s : Fresh own seen ≡ Fresh own' seen' = ap (λ x. x.stage) h in
@@ -190,13 +191,13 @@ fresh_same c c' own own' seen seen' mine mine' e =
 
 -- the same writer by another name
 module _ {L M : Type 0} where
-  pub has_as : (wanted : Request → ℕ → Type 0) (n max : ℕ) (own : Entry Request) (group left : List (Entry Request)) (seen : List (Handling Request Reply)) (m : List (Request × Reply)) (w w' : Writer Request Reply L M) → w' ≡ w → told w ≡ m
+  pub has_as : (wanted : Request → ℕ → Type 0) (n max : ℕ) (own : QueuedWriter Request) (group left : List (QueuedWriter Request)) (seen : List (Handling Request Answer)) (m : List (Request × Answer)) (w w' : Writer Request Answer L M) → w' ≡ w → told w ≡ m
       → HasGroup wanted n max own group left seen m w → HasGroup wanted n max own group left seen (told w') w'
   has_as wanted n max own group left seen m w w' same told_is has =
-      subst (λ (x : Writer Request Reply L M). HasGroup wanted n max own group left seen (told x) x) (sym same) (subst (λ (y : List (Request × Reply)). HasGroup wanted n max own group left seen y w) (sym told_is) has)
+      subst (λ (x : Writer Request Answer L M). HasGroup wanted n max own group left seen (told x) x) (sym same) (subst (λ (y : List (Request × Answer)). HasGroup wanted n max own group left seen y w) (sym told_is) has)
 
-  pub belongs_as : {K : Type 0} (list : WriterList Request Reply L M K) (w w' : Writer Request Reply L M) → w' ≡ w → Belongs list w → Belongs list w'
-  belongs_as list w w' same h = subst (λ (x : Writer Request Reply L M). Belongs list x) (sym same) h
+  pub belongs_as : {K : Type 0} (list : WriterList Request Answer L M K) (w w' : Writer Request Answer L M) → w' ≡ w → Belongs list w → Belongs list w'
+  belongs_as list w w' same h = subst (λ (x : Writer Request Answer L M). Belongs list x) (sym same) h
 
 -- Where a writer stands
 module _ {Q P L M : Type 0} where

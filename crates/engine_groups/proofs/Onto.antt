@@ -23,16 +23,17 @@ use Rattle.engine_rule.specs.Commits.{AreAnswered, Commit, IsAnswer, fault_after
 use Rattle.engine_rule.specs.Entries.{versions_made}
 use Rattle.engine_stage_laws.specs.Served.{AreServed, accepted_of, if_accepted}
 use Rattle.engine_stage_laws.proofs.Serving.{accepted_append, made_accepted, served_end}
-use Rattle.engine_groups.specs.declared.held.About.{About}
-use Rattle.engine_groups.specs.declared.held.Right.{Right}
-use Rattle.engine_groups.specs.declared.requests.Request.{Request}
-use Rattle.engine_groups.specs.declared.requests.Reply.{Reply}
-use Rattle.engine_groups.specs.Handled.{ComesBack, HandsBack, answer_in, answer_of_refusal, commit_of}
-use Rattle.engine_groups.specs.Items.{run_in}
+use Rattle.engine_groups.specs.Meaning.{Meaning}
+use Rattle.engine_groups.specs.declared.leader.EngineAtOpening.{EngineAtOpening}
+use Rattle.engine_groups.specs.declared.leader.Right.{Right}
+use Rattle.engine_parts.specs.declared.requests.Request.{Request}
+use Rattle.engine_parts.specs.declared.requests.Answer.{Answer}
+use Rattle.engine_parts.specs.Handled.{ComesBack, HandsBack, answer_in, answer_of_refusal, commit_of}
+use Rattle.engine_parts.specs.Items.{run_in}
 use Rattle.engine_groups.specs.Law.{RightStandsFor, ServesIs}
-use Rattle.engine_groups.specs.Runs.{run_of}
+use Rattle.engine_parts.specs.Runs.{run_of}
 use Rattle.engine_groups.specs.Turns.{turn_of}
-use Rattle.engine_groups.proofs.Replies.{map_append}
+use Rattle.engine_parts.proofs.Replies.{map_append}
 
 refused_has_none : (c : Commit) (why : Refusal) (more : List Commit) → more ≡ if_accepted c (answer_of_refusal why) ++ more
 refused_has_none c Empty more = refl
@@ -44,7 +45,7 @@ refused_has_none c (Incomplete s d w) more = refl
 refused_has_none c (LogFault n) more = refl
 refused_has_none c (SequenceFull l) more = refl
 
-given_by : (h : Handling Request Reply) (gs : List (Handling Request Reply)) (more : List Commit) (last : ℕ) (dead : Option ℕ) (batch : Contents) (r : Result Receipt Refused) → map commit_of gs ≡ more → ComesBack batch r → IsAnswer last dead (count_of batch.records) (answer_in r)
+given_by : (h : Handling Request Answer) (gs : List (Handling Request Answer)) (more : List Commit) (last : ℕ) (dead : Option ℕ) (batch : Contents) (r : Result Receipt Refused) → map commit_of gs ≡ more → ComesBack batch r → IsAnswer last dead (count_of batch.records) (answer_in r)
     → map commit_of (cond ((run_in (λ (r : Receipt). (r.first, r.count)) r).1 == 0) gs (h ∷ gs)) ≡ if_accepted (commit_of h) (answer_in r) ++ more
 given_by h gs more last dead batch (Ok r) same back ok =
     let count : r.count ≡ count_of batch.records = back.1 in let some : 1 ≤ count_of batch.records = ok.1 in
@@ -52,19 +53,19 @@ given_by h gs more last dead batch (Ok r) same back ok =
 given_by h gs more last dead batch (Err e) same back ok = same ∙ refused_has_none (commit_of h) e.why more
 
 -- those of the handled that were given runs are those that were accepted
-pub given_accepted : (last : ℕ) (dead : Option ℕ) (hs : List (Handling Request Reply)) → AllByRecursion HandsBack hs → AreAnswered last dead (map commit_of hs) → map commit_of (given_runs run_of hs) ≡ accepted_of (map commit_of hs)
+pub given_accepted : (last : ℕ) (dead : Option ℕ) (hs : List (Handling Request Answer)) → AllByRecursion HandsBack hs → AreAnswered last dead (map commit_of hs) → map commit_of (given_runs run_of hs) ≡ accepted_of (map commit_of hs)
 given_accepted last dead [] back answered = refl
 given_accepted last dead (h ∷ hs) back answered =
     given_by h (given_runs run_of hs) (accepted_of (map commit_of hs)) last dead h.asked.batch h.reply.answer
     (given_accepted (last_after last (count_of h.asked.batch.records) (answer_in h.reply.answer)) (fault_after dead (answer_in h.reply.answer)) hs back.1 answered.1) back.0 answered.0
 
 -- what is published ends with the last sequence given before the group
-pub served_last : (start : ℕ) (seen : List (Handling Request Reply)) (published : List (List MemberVersions)) → AllByRecursion HandsBack seen → AreAnswered start None (map commit_of seen) → AreServed (map commit_of (given_runs run_of seen)) published
+pub served_last : (start : ℕ) (seen : List (Handling Request Answer)) (published : List (List MemberVersions)) → AllByRecursion HandsBack seen → AreAnswered start None (map commit_of seen) → AreServed (map commit_of (given_runs run_of seen)) published
     → last_of start published ≡ last_after_all start (map commit_of seen)
 served_last start seen published back answered served = served_end start None (map commit_of seen) published answered (subst (λ cs. AreServed cs published) (given_accepted start None seen back answered) served)
 
 -- and with the group, once it is published
-pub served_now : (start : ℕ) (seen new : List (Handling Request Reply)) (published : List (List MemberVersions)) (g : List MemberVersions) → AllByRecursion HandsBack seen → AreAnswered start None (map commit_of seen) → AllByRecursion HandsBack (seen ++ new) → AreAnswered start None (map commit_of (seen ++ new))
+pub served_now : (start : ℕ) (seen new : List (Handling Request Answer)) (published : List (List MemberVersions)) (g : List MemberVersions) → AllByRecursion HandsBack seen → AreAnswered start None (map commit_of seen) → AllByRecursion HandsBack (seen ++ new) → AreAnswered start None (map commit_of (seen ++ new))
     → versions_in g ≡ made_by versions_made (map commit_of new) → AreServed (map commit_of (given_runs run_of seen)) published → AreServed (map commit_of (given_runs run_of (seen ++ new))) (published ++ g ∷ [])
 served_now start seen new published g back answered back' answered' made served =
     let before = subst (λ cs. AreServed cs published) (given_accepted start None seen back answered) served in
@@ -80,28 +81,28 @@ unfolding some_or
 some_same a b e = ap (some_or a) e
 
 -- What a leader has that was given the right
-module _ {D T C S U P L : Type 0} {ghosts : Ghosts D} (our_turn : T → U → Type 0) (history : U → List (List MemberVersions)) (about : About D T C ghosts) (n : ℕ) (d : Debt Request Reply) (from to : List (Handling Request Reply)) (mine : List (Request × Reply)) (w : Writer Request Reply L (Right T S U P)) where
-  pub record HasTurn (role : PipelinedRole L (Right T S U P) Reply) : Type 0 where
+module _ {D T C S U P L : Type 0} {ghosts : Ghosts D} (meaning : Meaning T S U P) (about : EngineAtOpening D T C ghosts) (n : ℕ) (d : Debt Request Answer) (from to : List (Handling Request Answer)) (mine : List (Request × Answer)) (w : Writer Request Answer L (Right T S U P)) where
+  pub record HasTurn (role : PipelinedRole L (Right T S U P) Answer) : Type 0 where
     pub turn : U
     pub turn_is : turn_of role ≡ Some turn
-    pub our : our_turn about.table.value turn
-    pub served : AreServed (map commit_of from) (history turn)
+    pub our : meaning.our_turn about.table.value turn
+    pub served : AreServed (map commit_of from) (meaning.history turn)
     pub has_right : HasRight n d from to mine w
 
-  serves_true : (piped : Bool) (turn : Option U) → piped ≡ true → ServesIs our_turn history about.table.value piped from turn → (u : U) × (turn ≡ Some u) × our_turn about.table.value u × AreServed (map commit_of from) (history u)
+  serves_true : (piped : Bool) (turn : Option U) → piped ≡ true → ServesIs meaning about.table.value piped from turn → (u : U) × (turn ≡ Some u) × meaning.our_turn about.table.value u × AreServed (map commit_of from) (meaning.history u)
   serves_true true turn is h = h
   serves_true false turn is h = absurd (cc)
 
-  pub has_turn : about.pipelined ≡ true → (role : PipelinedRole L (Right T S U P) Reply) → GetsRight (λ right served. RightStandsFor our_turn history about right served) n d from to mine role w → HasTurn role
+  pub has_turn : about.pipelined ≡ true → (role : PipelinedRole L (Right T S U P) Answer) → GetsRight (λ right served. RightStandsFor meaning about right served) n d from to mine role w → HasTurn role
   has_turn piped (LogLeader l) h = absurd h
   has_turn piped (MemLeader right) h = let s = serves_true about.pipelined right.turn piped h.0 in record { turn = s.0; turn_is = s.1; our = s.2; served = s.3; has_right = h.1 }
   has_turn piped Parallel h = absurd h
   has_turn piped (Done p) h = absurd h
 
   -- the turn that was taken out is that one
-  pub turn_out : (role : PipelinedRole L (Right T S U P) Reply) (u : U) → turn_of role ≡ Some u → HasTurn role → our_turn about.table.value u × AreServed (map commit_of from) (history u)
-  turn_out role u is t = let same : t.turn ≡ u = some_same t.turn u (sym t.turn_is ∙ is) in subst (λ (x : U). our_turn about.table.value x × AreServed (map commit_of from) (history x)) same (t.our, t.served)
+  pub turn_out : (role : PipelinedRole L (Right T S U P) Answer) (u : U) → turn_of role ≡ Some u → HasTurn role → meaning.our_turn about.table.value u × AreServed (map commit_of from) (meaning.history u)
+  turn_out role u is t = let same : t.turn ≡ u = some_same t.turn u (sym t.turn_is ∙ is) in subst (λ (x : U). meaning.our_turn about.table.value x × AreServed (map commit_of from) (meaning.history x)) same (t.our, t.served)
 
-pub serves_again : {T U : Type 0} (our_turn : T → U → Type 0) (history : U → List (List MemberVersions)) (table : T) (piped : Bool) (served : List (Handling Request Reply)) (u : U) → piped ≡ true → our_turn table u → AreServed (map commit_of served) (history u) → ServesIs our_turn history table piped served (Some u)
-serves_again our_turn history table true served u is our ok = (u, refl, our, ok)
-serves_again our_turn history table false served u is our ok = absurd (cc)
+pub serves_again : {T S U P : Type 0} (meaning : Meaning T S U P) (table : T) (piped : Bool) (served : List (Handling Request Answer)) (u : U) → piped ≡ true → meaning.our_turn table u → AreServed (map commit_of served) (meaning.history u) → ServesIs meaning table piped served (Some u)
+serves_again meaning table true served u is our ok = (u, refl, our, ok)
+serves_again meaning table false served u is our ok = absurd (cc)

@@ -2,24 +2,18 @@
 use Rattle.std.proofs.Common.{◌≡◌, inl, inr, ℕ, zero, suc, ◌+◌, map, slice_get, List, [], ◌∷◌, ◌++◌, Some, length, vec_len, Vec, refl, ap, sym, ◌∙◌, subst, ⊎_elim, arith}
 use Rattle.std.specs.List.{range_with_len}
 use Rattle.base_devices.specs.declared.disk.Disk.{Ghosts}
-use Rattle.table_rule.specs.declared.view.Opening.{Opening}
 use Rattle.table_rule.specs.Histories.{In}
-use Rattle.table_calls.specs.Account.{Account as TableAccount, IsReady}
+use Rattle.table_calls.specs.Account.{IsReady}
 use Rattle.line_writers.specs.Seats.{clients_of}
 use Rattle.engine_controller.specs.declared.controller.Controller.{Controller}
 use Rattle.engine_controller.specs.declared.pass.Pass.{Pass}
 use Rattle.engine_controller.specs.Passes.{seen_by, IsPassOf, client_of as pass_client}
 use Rattle.model_accounts.specs.Closing.{AreOurs}
+use Rattle.engine_groups.specs.Meaning.{Meaning}
 use Rattle.engine_groups.specs.declared.engine.GroupEngine.{GroupEngine}
-use Rattle.engine_groups.specs.declared.engine.Client.{Client}
-use Rattle.engine_groups.specs.declared.layout.Layout.{Layout}
-use Rattle.engine_groups.specs.Layout.{IsRoomy, AreRoomy}
+use Rattle.engine_groups.specs.declared.engine.EngineClient.{EngineClient}
 use Rattle.engine_groups.specs.Clients.{IsClientOf, account_in}
 use Rattle.engine_groups.specs.AtStart.{AreSeatsAtStart, ArePassesAtStart, IsPassAtStart, IsNewcomer, AreNewcomers}
-
-pub roomy_more : (n : ℕ) (xs : List Layout) (x : Layout) → AreRoomy n xs → IsRoomy n x → AreRoomy n (xs ++ x ∷ [])
-roomy_more n [] x h one = (one, tt)
-roomy_more n (y ∷ ys) x h one = (h.0, roomy_more n ys x h.1 one)
 
 -- the numbers of the seats
 
@@ -55,20 +49,20 @@ in_last : {A : Type 0} (xs : List A) (x : A) → In x (xs ++ x ∷ [])
 in_last [] x = inl refl
 in_last (y ∷ ys) x = inr (in_last ys x)
 
-module _ {T S : Type 0} (ours : T → S → Type 0) (account : S → TableAccount) (table : T) where
+module _ {T S U P : Type 0} (meaning : Meaning T S U P) (table : T) where
   -- the last of the seats is that of the last client
-  pub seats_split : (count : ℕ) (front : List S) (s : S) → AreSeatsAtStart ours account table (suc count) (front ++ s ∷ [])
-      → AreSeatsAtStart ours account table count front × (ours table s × IsReady (account s) × ((account s).seen ≡ []) × ((account s).number ≡ suc count))
+  pub seats_split : (count : ℕ) (front : List S) (s : S) → AreSeatsAtStart meaning table (suc count) (front ++ s ∷ [])
+      → AreSeatsAtStart meaning table count front × (meaning.ours table s × IsReady (meaning.account s) × ((meaning.account s).seen ≡ []) × ((meaning.account s).number ≡ suc count))
   seats_split count front s h =
-      let f : S → ℕ = λ (x : S). (account x).number in
+      let f : S → ℕ = λ (x : S). (meaning.account x).number in
       let t = last_same (map f front) (range_with_len 1 count) (f s) (1 + count) (sym (map_last f front s) ∙ (h.numbers ∙ range_last 1 count)) in
       let own = h.each s (in_last front s) in (
         record { numbers = t.0; each = λ x is. h.each x (in_front x front s is) },
         (own.0, own.1, own.2, t.1 ∙ (let e : 1 + count ≡ suc count = omega arith in e)),
       )
 
-  pub seats_count : {Z : Type 0} (count : ℕ) (seats : Vec S Z) → AreSeatsAtStart ours account table count seats.items → vec_len seats ≡ count
-  seats_count count seats h = seats.ok.0 ∙ (sym (map_size (λ (x : S). (account x).number) seats.items) ∙ (ap length h.numbers ∙ range_size 1 count))
+  pub seats_count : {Z : Type 0} (count : ℕ) (seats : Vec S Z) → AreSeatsAtStart meaning table count seats.items → vec_len seats ≡ count
+  seats_count count seats h = seats.ok.0 ∙ (sym (map_size (λ (x : S). (meaning.account x).number) seats.items) ∙ (ap length h.numbers ∙ range_size 1 count))
 
 module _ {C : Type 0} (controller : Controller C) where
   -- the last of the passes is that of the last client
@@ -90,13 +84,13 @@ module _ {C : Type 0} (controller : Controller C) where
             (t.0, t.1 ∙ (let n : suc i + number ≡ i + (number + 1) = omega arith in n), t.2)),
       )
 
-module _ {D T C G S U P : Type 0} {ghosts : Ghosts D} (opening : T → Opening) (ours : T → S → Type 0) (account : S → TableAccount) (e : GroupEngine D T C G S U P ghosts) where
-  pub newcomer_at : (k i : ℕ) (cs : List (Client D T C S U P ghosts)) (c : Client D T C S U P ghosts) → AreNewcomers opening ours account e k cs → slice_get cs i ≡ Some c → IsNewcomer opening ours account e (k + i) c
+module _ {D T C G S U P : Type 0} {ghosts : Ghosts D} (meaning : Meaning T S U P) (e : GroupEngine D T C G S U P ghosts) where
+  pub newcomer_at : (k i : ℕ) (cs : List (EngineClient D T C S U P ghosts)) (c : EngineClient D T C S U P ghosts) → AreNewcomers meaning e k cs → slice_get cs i ≡ Some c → IsNewcomer meaning e (k + i) c
   newcomer_at k i [] c h at = absurd (cc)
-  newcomer_at k zero (x ∷ cs) c h at = let is : x ≡ c = cc in subst (λ (z : ℕ × Client D T C S U P ghosts). IsNewcomer opening ours account e z.0 z.1) (λ j. ((let n : k ≡ k + 0 = omega arith in n) j, is j)) h.0
-  newcomer_at k (suc i) (x ∷ cs) c h at = subst (λ n. IsNewcomer opening ours account e n c) (let n : k + 1 + i ≡ k + suc i = omega arith in n) (newcomer_at (k + 1) i cs c h.1 at)
+  newcomer_at k zero (x ∷ cs) c h at = let is : x ≡ c = cc in subst (λ (z : ℕ × EngineClient D T C S U P ghosts). IsNewcomer meaning e z.0 z.1) (λ j. ((let n : k ≡ k + 0 = omega arith in n) j, is j)) h.0
+  newcomer_at k (suc i) (x ∷ cs) c h at = subst (λ n. IsNewcomer meaning e n c) (let n : k + 1 + i ≡ k + suc i = omega arith in n) (newcomer_at (k + 1) i cs c h.1 at)
 
-  pub are_ours : (cs : List (Client D T C S U P ghosts)) → AreNewcomers opening ours account e 1 cs → length cs ≡ clients_of e.list → AreOurs (IsClientOf opening ours account e) (account_in opening ours account) (clients_of e.list) cs
+  pub are_ours : (cs : List (EngineClient D T C S U P ghosts)) → AreNewcomers meaning e 1 cs → length cs ≡ clients_of e.list → AreOurs (IsClientOf meaning e) (account_in meaning) (clients_of e.list) cs
   are_ours cs h count = record {
     number_of = count;
     each = λ i c at. let one = newcomer_at 1 i cs c h at in (one.is_client, ap (λ a. a.number) one.new ∙ (let n : 1 + i ≡ i + 1 = omega arith in n));

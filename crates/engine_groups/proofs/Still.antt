@@ -1,6 +1,6 @@
 -- A writer that stands where it stood.
 use Rattle.std.proofs.Common.{◌≡◌, ℕ, ◌<◌, ◌≤◌, List, sym, ap, ◌∙◌, subst}
-use Rattle.line_rule.specs.declared.view.Entry.{Entry}
+use Rattle.line_rule.specs.declared.view.QueuedWriter.{QueuedWriter}
 use Rattle.line_rule.specs.declared.view.Handling.{Handling}
 use Rattle.line_rule.specs.Plays.{Sat}
 use Rattle.line_writers.specs.declared.writer.Writer.{Writer}
@@ -16,7 +16,7 @@ module _ {Q P L M : Type 0} (new old : Writer Q P L M) (still : StandsStill new 
   pub told_still : told new ≡ told old
   told_still = ap (λ (m : Sat Q P L M). told_in_first m.0) still.2
 
-  pub chosen_still : (own : Entry Q) (seen : List (Handling Q P)) (mine : List (Q × P)) → IsChosen own seen mine old → IsChosen own seen mine new
+  pub chosen_still : (own : QueuedWriter Q) (seen : List (Handling Q P)) (mine : List (Q × P)) → IsChosen own seen mine old → IsChosen own seen mine new
   chosen_still own seen mine h = subst (λ (z : ℕ × Sat Q P L M). Chosen z.0 own seen mine z.1) (λ i. (sym still.0.1 i, sym still.2 i)) h
 
 module _ {Q P L M : Type 0} (a b c : Writer Q P L M) where

@@ -2,43 +2,46 @@
 use Rattle.std.specs.Prelude.{◌≡◌, ℕ, ◌+◌, List, [], ◌∷◌, map, ⊤}
 use Rattle.std.specs.List.{range_with_len}
 use Rattle.base_devices.specs.declared.disk.Disk.{Ghosts}
-use Rattle.table_rule.specs.declared.view.Opening.{Opening}
 use Rattle.table_rule.specs.Histories.{In}
-use Rattle.table_calls.specs.Account.{Account as TableAccount, IsReady}
+use Rattle.table_calls.specs.Account.{IsReady}
 use Rattle.engine_controller.specs.declared.controller.Controller.{Controller}
 use Rattle.engine_controller.specs.declared.pass.Pass.{Pass}
 use Rattle.engine_controller.specs.Passes.{client_of, seen_by, IsPassOf}
 use Rattle.model_accounts.specs.Accounts.{newcomer}
+use Rattle.engine_groups.specs.Meaning.{Meaning}
 use Rattle.engine_groups.specs.declared.engine.GroupEngine.{GroupEngine}
-use Rattle.engine_groups.specs.declared.engine.Client.{Client}
+use Rattle.engine_groups.specs.declared.engine.EngineClient.{EngineClient}
 use Rattle.engine_groups.specs.Clients.{IsClientOf, account_in}
 
 -- the seats of a table's clients from 1 on, who have seen nothing yet and have nothing to do
-pub record AreSeatsAtStart {T S : Type 0} (ours : T → S → Type 0) (account : S → TableAccount) (table : T) (count : ℕ)
-    (seats : List S) : Type 0 where
-  pub numbers : map (λ (s : S). (account s).number) seats ≡ range_with_len 1 count
-  pub each : (s : S) → In s seats → ours table s × IsReady (account s) × ((account s).seen ≡ [])
+pub record AreSeatsAtStart {Versions Seat Turn Part : Type 0} (meaning : Meaning Versions Seat Turn Part)
+    (table : Versions) (count : ℕ)
+    (seats : List Seat) : Type 0 where
+  pub numbers : map (λ (s : Seat). (meaning.account s).number) seats ≡ range_with_len 1 count
+  pub each : (s : Seat) → In s seats → meaning.ours table s × IsReady (meaning.account s)
+      × ((meaning.account s).seen ≡ [])
 
 -- it is this client's pass of the controller, of which it has seen nothing
-pub record IsPassAtStart {C : Type 0} (controller : Controller C) (number : ℕ) (pass : Pass) : Type 0 where
+pub record IsPassAtStart {Time : Type 0} (controller : Controller Time) (number : ℕ) (pass : Pass) : Type 0 where
   pub own : IsPassOf controller pass
   pub client : client_of pass ≡ number
   pub unseen : seen_by pass ≡ []
 
 -- the same for the clients' passes from a number on
-abbrev pub ArePassesAtStart : {C : Type 0} → Controller C → ℕ → List Pass → Type 0
+abbrev pub ArePassesAtStart : {Time : Type 0} → Controller Time → ℕ → List Pass → Type 0
 ArePassesAtStart controller number [] = ⊤
 ArePassesAtStart controller number (pass ∷ passes) = IsPassAtStart controller number pass
     × ArePassesAtStart controller (number + 1) passes
 
-module _ {D T C G S U P : Type 0} {ghosts : Ghosts D} (opening : T → Opening) (ours : T → S → Type 0)
-    (account : S → TableAccount) (e : GroupEngine D T C G S U P ghosts) where
-  -- it is a client of the engine with this number, that has done and seen nothing
-  pub record IsNewcomer (number : ℕ) (c : Client D T C S U P ghosts) : Type 0 where
-    pub is_client : IsClientOf opening ours account e c
-    pub new : account_in opening ours account c ≡ newcomer (opening e.table).start number
+module _ {Device Versions Time Watch Seat Turn Part : Type 0} {ghosts : Ghosts Device}
+    (meaning : Meaning Versions Seat Turn Part) (e : GroupEngine Device Versions Time Watch Seat Turn Part ghosts)
+  where
+    -- it is a client of the engine with this number, that has done and seen nothing
+    pub record IsNewcomer (number : ℕ) (c : EngineClient Device Versions Time Seat Turn Part ghosts) : Type 0 where
+      pub is_client : IsClientOf meaning e c
+      pub new : account_in meaning c ≡ newcomer (meaning.opening e.table).start number
 
-  -- they have the numbers from one on
-  abbrev pub AreNewcomers : ℕ → List (Client D T C S U P ghosts) → Type 0
-  AreNewcomers number [] = ⊤
-  AreNewcomers number (c ∷ clients) = IsNewcomer number c × AreNewcomers (number + 1) clients
+    -- they have the numbers from one on
+    abbrev pub AreNewcomers : ℕ → List (EngineClient Device Versions Time Seat Turn Part ghosts) → Type 0
+    AreNewcomers number [] = ⊤
+    AreNewcomers number (c ∷ clients) = IsNewcomer number c × AreNewcomers (number + 1) clients

@@ -1,13 +1,13 @@
 -- An engine and its clients, and a client's account.
 use Rattle.std.specs.Prelude.{◌≡◌, ℕ, ◌<◌, ◌≤◌, List, [], ◌∷◌, ◌++◌, vec_capacity}
 use Rattle.base_devices.specs.declared.disk.Disk.{Ghosts}
+use Rattle.model_base.specs.declared.limits.TheConstants.{MAX_SIZE}
 use Rattle.model_base.specs.History.{max_sequence}
 use Rattle.model_base.specs.Trace.{Settings}
 use Rattle.log_writer.specs.declared.writer.LogWriter.{LogWriter}
 use Rattle.log_writer.specs.Words.{disk_of}
 use Rattle.log_writer.specs.Opening.{HasOpened}
-use Rattle.table_rule.specs.declared.view.Opening.{Opening}
-use Rattle.table_calls.specs.Account.{Account as TableAccount, IsReady}
+use Rattle.table_calls.specs.Account.{IsReady}
 use Rattle.line_rule.specs.declared.view.Handling.{Handling}
 use Rattle.line_rule.specs.Chain.{of}
 use Rattle.line_writers.specs.declared.writer.Writer.{Writer}
@@ -20,79 +20,85 @@ use Rattle.model_accounts.specs.Accounts.{Account}
 use Rattle.engine_rule.specs.Commits.{Commit}
 use Rattle.engine_rule.specs.Asked.{HasAsked}
 use Rattle.engine_rule.specs.Entries.{account_of}
-use Rattle.engine_groups.specs.declared.requests.Request.{Request}
-use Rattle.engine_groups.specs.declared.requests.Reply.{Reply}
+use Rattle.engine_groups.specs.Meaning.{Meaning}
+use Rattle.engine_parts.specs.declared.requests.Request.{Request}
+use Rattle.engine_parts.specs.declared.requests.Answer.{Answer}
 use Rattle.engine_groups.specs.declared.engine.GroupEngine.{GroupEngine}
-use Rattle.engine_groups.specs.declared.engine.Client.{Client}
-use Rattle.engine_groups.specs.declared.engine.Room.{Room}
-use Rattle.engine_groups.specs.declared.held.Held.{Held}
-use Rattle.engine_groups.specs.declared.held.Right.{Right}
-use Rattle.engine_groups.specs.Handled.{commit_of, AreHandled}
-use Rattle.engine_groups.specs.Layout.{IsRoomy}
+use Rattle.engine_groups.specs.declared.engine.EngineClient.{EngineClient}
+use Rattle.engine_groups.specs.declared.engine.ClosingRoom.{ClosingRoom}
+use Rattle.engine_groups.specs.declared.leader.Leadership.{Leadership}
+use Rattle.engine_groups.specs.declared.leader.Right.{Right}
+use Rattle.engine_parts.specs.Handled.{commit_of, AreHandled}
+use Rattle.engine_parts.specs.Layout.{IsRoomy}
 
 -- a client's commits, from what it asked and was told
-abbrev pub own_commits : ℕ → List (Request × Reply) → List Commit
+abbrev pub own_commits : ℕ → List (Request × Answer) → List Commit
 own_commits client [] = []
 own_commits client (t ∷ ts) = commit_of (record { by = client; asked = t.0; reply = t.1 }) ∷ own_commits client ts
 
-module _ {D T C S U P : Type 0} {ghosts : Ghosts D} where
-  abbrev pub told_of : Client D T C S U P ghosts → List (Request × Reply)
+module _ {Device Versions Time Seat Turn Part : Type 0} {ghosts : Ghosts Device} where
+  abbrev pub told_of : EngineClient Device Versions Time Seat Turn Part ghosts → List (Request × Answer)
   told_of c = told c.writer
 
   -- the engine's log as it was opened
-  abbrev pub opened_log : {G : Type 0} → GroupEngine D T C G S U P ghosts → LogWriter D ghosts
+  abbrev pub opened_log : {Watch : Type 0} → GroupEngine Device Versions Time Watch Seat Turn Part ghosts
+      → LogWriter Device ghosts
   opened_log e = (about_of e.list).opened.value
 
   -- the client's lists are empty, and have room for all clients
-  pub record CanLead (clients : ℕ) (c : Client D T C S U P ghosts) : Type 0 where
+  pub record CanLead (clients : ℕ) (c : EngineClient Device Versions Time Seat Turn Part ghosts) : Type 0 where
     pub lists : AreReady clients c.lists
     pub layout : IsRoomy clients c.layout
 
-  module _ (opening : T → Opening) (ours : T → S → Type 0) (account : S → TableAccount) where
+  module _ (meaning : Meaning Versions Seat Turn Part) where
     -- the list, the table and the numbers of an engine belong together
-    pub record IsEngine {G : Type 0} (e : GroupEngine D T C G S U P ghosts) : Type 0 where
-      pub clients : (opening e.table).clients ≡ clients_of e.list
-      pub table : (about_of e.list).table.value ≡ e.table
-      pub controller : (about_of e.list).controller.value ≡ e.controller
-      pub controller_clients : controller_clients e.controller ≡ clients_of e.list
-      pub start : (about_of e.list).start ≡ (opening e.table).start
-      pub start_number : start_of e.list ≡ (opening e.table).start
-      pub about_clients : (about_of e.list).clients ≡ clients_of e.list
-      pub group_bytes : (about_of e.list).group_bytes ≡ bound_of e.list
-      pub pipelined : (about_of e.list).pipelined ≡ piped_of e.list
-      pub low : (opening e.table).start ≤ max_sequence
-      pub few : clients_of e.list < 255
-      pub batch_bytes : e.batch_bytes ≤ 16777216
-      pub disk : D
-      pub opened : HasOpened disk (opened_log e)
+    pub record IsEngine {Watch : Type 0} (e : GroupEngine Device Versions Time Watch Seat Turn Part ghosts) : Type 0
+      where
+        pub clients : (meaning.opening e.table).clients ≡ clients_of e.list
+        pub table : (about_of e.list).table.value ≡ e.table
+        pub controller : (about_of e.list).controller.value ≡ e.controller
+        pub controller_clients : controller_clients e.controller ≡ clients_of e.list
+        pub start : (about_of e.list).start ≡ (meaning.opening e.table).start
+        pub start_number : start_of e.list ≡ (meaning.opening e.table).start
+        pub about_clients : (about_of e.list).clients ≡ clients_of e.list
+        pub group_bytes : (about_of e.list).group_bytes ≡ bound_of e.list
+        pub pipelined : (about_of e.list).pipelined ≡ piped_of e.list
+        pub low : (meaning.opening e.table).start ≤ max_sequence
+        pub few : clients_of e.list < 255
+        pub batch_bytes : e.batch_bytes ≤ MAX_SIZE
+        pub disk : Device
+        pub opened : HasOpened disk (opened_log e)
 
     -- it is a client of the engine, but for where its writer and its pass stand
-    pub record IsSeated {G : Type 0} (e : GroupEngine D T C G S U P ghosts) (c : Client D T C S U P ghosts) : Type 0
+    pub record IsSeated {Watch : Type 0} (e : GroupEngine Device Versions Time Watch Seat Turn Part ghosts)
+        (c : EngineClient Device Versions Time Seat Turn Part ghosts) : Type 0
       where
         pub is_engine : IsEngine e
         pub writer : Belongs e.list c.writer
         pub number : client_of c.writer ≡ c.number
-        pub seat : ours e.table c.seat
-        pub ready : IsReady (account c.seat)
-        pub seat_number : (account c.seat).number ≡ c.number
-        pub start : c.start ≡ (opening e.table).start
+        pub seat : meaning.ours e.table c.seat
+        pub ready : IsReady (meaning.account c.seat)
+        pub seat_number : (meaning.account c.seat).number ≡ c.number
+        pub start : c.start ≡ (meaning.opening e.table).start
         pub pass : IsPassOf e.controller c.pass
         pub pass_number : pass_client c.pass ≡ c.number
         pub can_lead : CanLead (clients_of e.list) c
 
     -- it is a client of the engine, between two of its calls
-    pub record IsClientOf {G : Type 0} (e : GroupEngine D T C G S U P ghosts) (c : Client D T C S U P ghosts) : Type 0
+    pub record IsClientOf {Watch : Type 0} (e : GroupEngine Device Versions Time Watch Seat Turn Part ghosts)
+        (c : EngineClient Device Versions Time Seat Turn Part ghosts) : Type 0
       where
         pub seated : IsSeated e c
         pub out : IsOut c.writer
         pub has_asked : HasAsked c.number (own_commits c.number (told_of c)) (seen_by c.pass)
 
-    abbrev pub account_in : Client D T C S U P ghosts → Account
-    account_in c = account_of c.start c.number (own_commits c.number (told_of c)) (account c.seat).seen (seen_by c.pass)
+    abbrev pub account_in : EngineClient Device Versions Time Seat Turn Part ghosts → Account
+    account_in c = account_of c.start c.number (own_commits c.number (told_of c)) (meaning.account c.seat).seen
+        (seen_by c.pass)
 
-    abbrev pub settings_of : {G : Type 0} → GroupEngine D T C G S U P ghosts → Settings
+    abbrev pub settings_of : {Watch : Type 0} → GroupEngine Device Versions Time Watch Seat Turn Part ghosts → Settings
     settings_of e = record {
-      start = (opening e.table).start;
+      start = (meaning.opening e.table).start;
       clients = clients_of e.list;
       group_bytes = bound_of e.list;
       batch_bytes = e.batch_bytes;
@@ -100,7 +106,8 @@ module _ {D T C S U P : Type 0} {ghosts : Ghosts D} where
     }
 
   -- the room to close with is empty, and enough for all clients of a controller
-  pub record HasRoomToClose (controller : Controller C) (clients : ℕ) (room : Room D T C S U P ghosts) : Type 0 where
+  pub record HasRoomToClose (controller : Controller Time) (clients : ℕ)
+      (room : ClosingRoom Device Versions Time Seat Turn Part ghosts) : Type 0 where
     pub no_writers : room.writers.items ≡ []
     pub no_seats : room.seats.items ≡ []
     pub no_passes : room.passes.items ≡ []
@@ -110,20 +117,22 @@ module _ {D T C S U P : Type 0} {ghosts : Ghosts D} where
     pub others : IsOthersOf controller room.others
 
   -- A request was answered, and there is a list of all that was handled by then, with the client's own.
-  pub record IsAnswered (controller : Controller C) (opened : LogWriter D ghosts) (start : ℕ) (q : Request) (p : Reply)
-      (v w : Client D T C S U P ghosts) : Type 0 where
+  pub record IsAnswered (controller : Controller Time) (opened : LogWriter Device ghosts) (start : ℕ) (q : Request)
+      (p : Answer)
+      (v w : EngineClient Device Versions Time Seat Turn Part ghosts) : Type 0 where
     pub told_now : told_of w ≡ told_of v ++ (q, p) ∷ []
-    pub handled : List (Handling Request Reply)
+    pub handled : List (Handling Request Answer)
     pub are_handled : AreHandled controller opened start handled
     pub own : of v.number handled ≡ told_of v ++ (q, p) ∷ []
     pub number : w.number ≡ v.number
     pub start_same : w.start ≡ v.start
 
-  abbrev pub writer_in : Client D T C S U P ghosts → Writer Request Reply (Held D T C S U P ghosts) (Right T S U P)
+  abbrev pub writer_in : EngineClient Device Versions Time Seat Turn Part ghosts
+      → Writer Request Answer (Leadership Device Versions Time Seat Turn Part ghosts) (Right Versions Seat Turn Part)
   writer_in c = c.writer
 
-  abbrev pub seat_in : Client D T C S U P ghosts → S
+  abbrev pub seat_in : EngineClient Device Versions Time Seat Turn Part ghosts → Seat
   seat_in c = c.seat
 
-  abbrev pub pass_in : Client D T C S U P ghosts → Pass
+  abbrev pub pass_in : EngineClient Device Versions Time Seat Turn Part ghosts → Pass
   pass_in c = c.pass

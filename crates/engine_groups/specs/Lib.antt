@@ -1,12 +1,5 @@
-pub mod Items
-pub mod Runs
-pub mod Handled
-pub mod Asking
-pub mod Numbering
-pub mod Layout
-pub mod Staged
+pub mod Meaning
 pub mod Law
-pub mod Led
 pub mod Clients
 pub mod Serving
 pub mod Leaving

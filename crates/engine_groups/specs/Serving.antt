@@ -2,67 +2,63 @@
 use Rattle.std.specs.Prelude.{◌≡◌, ℕ, ◌-◌, ◌≤◌, List, [], ◌∷◌, ◌++◌, length, vec_capacity}
 use Rattle.std.specs.List.{AllByRecursion}
 use Rattle.base_devices.specs.declared.disk.Disk.{Ghosts}
-use Rattle.table_rule.specs.declared.view.Opening.{Opening}
-use Rattle.table_calls.specs.Account.{Account as TableAccount, IsReady}
+use Rattle.table_calls.specs.Account.{IsReady}
 use Rattle.line_writers.specs.Seats.{bound_of, clients_of}
 use Rattle.engine_controller.specs.Delays.{delays_of}
 use Rattle.engine_controller.specs.Passes.{seen_by, IsPassOf, client_of as pass_client}
 use Rattle.engine_rule.specs.Entries.{SeesMore}
+use Rattle.engine_groups.specs.Meaning.{Meaning}
 use Rattle.engine_groups.specs.declared.engine.GroupEngine.{GroupEngine}
-use Rattle.engine_groups.specs.declared.engine.Client.{Client}
+use Rattle.engine_groups.specs.declared.engine.EngineClient.{EngineClient}
 use Rattle.model_base.specs.Controller.{ControllerCall}
-use Rattle.engine_groups.specs.declared.requests.Request.{Request}
-use Rattle.engine_groups.specs.declared.requests.Reply.{Reply}
-use Rattle.engine_groups.specs.Handled.{HandsBack, ShowsDelay, IsNoted, seen_for, handled_with, InOrder}
-use Rattle.engine_groups.specs.Layout.{IsLaid, IsRoomy}
-use Rattle.engine_groups.specs.Led.{IsLedGroup, LeadsBy}
+use Rattle.engine_parts.specs.declared.requests.Request.{Request}
+use Rattle.engine_parts.specs.Handled.{HandsBack, IsReplyAt, ShowsDelay, IsNoted, handled_with, InOrder}
+use Rattle.engine_parts.specs.Layout.{IsLaid, IsRoomy}
+use Rattle.engine_parts.specs.Led.{IsLedGroup, LeadsBy}
 use Rattle.engine_groups.specs.Clients.{IsEngine}
 
--- the reply's delay is the last call that the client saw then
-abbrev pub IsReplyAt : List ControllerCall → ℕ × Reply → Type 0
-IsReplyAt known y = seen_for y.1 ≡ known
+module _ {Device Versions Time Watch Seat Turn Part : Type 0} {ghosts : Ghosts Device}
+    (meaning : Meaning Versions Seat Turn Part) (e : GroupEngine Device Versions Time Watch Seat Turn Part ghosts)
+  where
+    -- its seat and its pass are the engine's
+    pub record HasSeats (c : EngineClient Device Versions Time Seat Turn Part ghosts) : Type 0 where
+      pub is_engine : IsEngine meaning e
+      pub seat : meaning.ours e.table c.seat
+      pub ready : IsReady (meaning.account c.seat)
+      pub seat_number : (meaning.account c.seat).number ≡ c.number
+      pub pass : IsPassOf e.controller c.pass
+      pub pass_number : pass_client c.pass ≡ c.number
+      pub number : (1 ≤ c.number) × (c.number ≤ clients_of e.list)
 
-module _ {D T C G S U P : Type 0} {ghosts : Ghosts D} (opening : T → Opening) (ours : T → S → Type 0)
-    (account : S → TableAccount) (e : GroupEngine D T C G S U P ghosts) where
-  -- its seat and its pass are the engine's
-  pub record HasSeats (c : Client D T C S U P ghosts) : Type 0 where
-    pub is_engine : IsEngine opening ours account e
-    pub seat : ours e.table c.seat
-    pub ready : IsReady (account c.seat)
-    pub seat_number : (account c.seat).number ≡ c.number
-    pub pass : IsPassOf e.controller c.pass
-    pub pass_number : pass_client c.pass ≡ c.number
-    pub number : (1 ≤ c.number) × (c.number ≤ clients_of e.list)
+    -- it has the requests of a group that it leads, and room for their replies
+    pub record IsToServe (c : EngineClient Device Versions Time Seat Turn Part ghosts) : Type 0 where
+      pub seats : HasSeats c
+      pub layout : IsRoomy (clients_of e.list) c.layout
+      pub led : IsLedGroup (bound_of e.list) (clients_of e.list) c.lists.requests.list.items
+      pub leads : LeadsBy c.number c.lists.requests.list.items
+      pub notes : AllByRecursion (λ (x : ℕ × Request). IsNoted e.controller x.1) c.lists.requests.list.items
+      pub few : length c.lists.requests.list.items ≤ clients_of e.list
+      pub no_replies : c.lists.replies.list.items ≡ []
+      pub room : length c.lists.requests.list.items ≤ vec_capacity c.lists.replies.list
 
-  -- it has the requests of a group that it leads, and room for their replies
-  pub record IsToServe (c : Client D T C S U P ghosts) : Type 0 where
-    pub seats : HasSeats c
-    pub layout : IsRoomy (clients_of e.list) c.layout
-    pub led : IsLedGroup (bound_of e.list) (clients_of e.list) c.lists.requests.list.items
-    pub leads : LeadsBy c.number c.lists.requests.list.items
-    pub notes : AllByRecursion (λ (x : ℕ × Request). IsNoted e.controller x.1) c.lists.requests.list.items
-    pub few : length c.lists.requests.list.items ≤ clients_of e.list
-    pub no_replies : c.lists.replies.list.items ≡ []
-    pub room : length c.lists.requests.list.items ≤ vec_capacity c.lists.replies.list
-
-  -- it has answered them, and asked the controller for them once
-  pub record IsServed (v w : Client D T C S U P ghosts) : Type 0 where
-    pub seats : HasSeats w
-    pub layout : IsLaid (clients_of e.list) w.layout
-    pub seat : w.seat ≡ v.seat
-    pub number : w.number ≡ v.number
-    pub start : w.start ≡ v.start
-    pub writer : w.writer ≡ v.writer
-    pub room_same : w.lists.room ≡ v.lists.room
-    pub in_order : InOrder v.lists.requests.list.items w.lists.replies.list.items
-    pub handed_back : AllByRecursion HandsBack
-        (handled_with v.lists.requests.list.items w.lists.replies.list.items)
-    pub shown : AllByRecursion (ShowsDelay e.controller)
-        (handled_with v.lists.requests.list.items w.lists.replies.list.items)
-    pub taken : w.lists.requests.list.items ≡ []
-    pub requests_room : vec_capacity w.lists.requests.list ≡ vec_capacity v.lists.requests.list
-    pub replies_room : vec_capacity w.lists.replies.list ≡ vec_capacity v.lists.replies.list
-    pub sees_more : SeesMore v.number (seen_by v.pass) (seen_by w.pass)
-    pub known : List ControllerCall
-    pub delays : delays_of v.number (seen_by w.pass) ≡ delays_of v.number (seen_by v.pass) ++ (length known - 1) ∷ []
-    pub of_delay : AllByRecursion (IsReplyAt known) w.lists.replies.list.items
+    -- it has answered them, and asked the controller for them once
+    pub record IsServed (v w : EngineClient Device Versions Time Seat Turn Part ghosts) : Type 0 where
+      pub seats : HasSeats w
+      pub layout : IsLaid (clients_of e.list) w.layout
+      pub seat : w.seat ≡ v.seat
+      pub number : w.number ≡ v.number
+      pub start : w.start ≡ v.start
+      pub writer : w.writer ≡ v.writer
+      pub room_same : w.lists.room ≡ v.lists.room
+      pub in_order : InOrder v.lists.requests.list.items w.lists.replies.list.items
+      pub handed_back : AllByRecursion HandsBack
+          (handled_with v.lists.requests.list.items w.lists.replies.list.items)
+      pub shown : AllByRecursion (ShowsDelay e.controller)
+          (handled_with v.lists.requests.list.items w.lists.replies.list.items)
+      pub taken : w.lists.requests.list.items ≡ []
+      pub requests_room : vec_capacity w.lists.requests.list ≡ vec_capacity v.lists.requests.list
+      pub replies_room : vec_capacity w.lists.replies.list ≡ vec_capacity v.lists.replies.list
+      pub sees_more : SeesMore v.number (seen_by v.pass) (seen_by w.pass)
+      pub known : List ControllerCall
+      pub delays : delays_of v.number (seen_by w.pass) ≡ delays_of v.number (seen_by v.pass) ++ (length known - 1) ∷ []
+      pub of_delay : AllByRecursion (IsReplyAt known) w.lists.replies.list.items

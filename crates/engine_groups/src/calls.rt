@@ -2,7 +2,7 @@
 
 ghost use Rattle.std.specs.Prelude.{List, map};
 
-use crate::engine::{Client, GroupEngine, Room};
+use crate::engine::{ClosingRoom, EngineClient, GroupEngine};
 use base_bytes::{Bytes, Read, Reads, Rows};
 use base_devices::{Clock, Disk};
 use engine_calls::{Clients, Closed, Engine, Gate, Held, NotHeld, Receipt, Refused};
@@ -13,13 +13,13 @@ use std::sync::Wait;
 use table_calls::Table;
 use table_tree::{Nodes, Parts};
 
-impl<D: Disk, T: Table<Nodes, Parts>, C: Clock + Drop, G: Gate + Drop> Engine
-    for GroupEngine<D, T, C, G> {
-    type Client = Client<D, T, C>;
+impl<Device: Disk, Versions: Table<Nodes, Parts>, Time: Clock + Drop, Watch: Gate + Drop> Engine
+    for GroupEngine<Device, Versions, Time, Watch> {
+    type Client = EngineClient<Device, Versions, Time>;
 
-    type Room = Room<D, T, C>;
+    type Room = ClosingRoom<Device, Versions, Time>;
 
-    type Log = LogWriter<D>;
+    type Log = LogWriter<Device>;
 
     ghost use Rattle.model_base.specs.Trace.{Trace};
     ghost use Rattle.model_base.specs.Groups.{Group};
@@ -30,11 +30,11 @@ impl<D: Disk, T: Table<Nodes, Parts>, C: Clock + Drop, G: Gate + Drop> Engine
     ghost use Rattle.line_writers.specs.Seats.{bound_of, clients_of};
     ghost use Rattle.engine_groups.specs.Clients.{IsClientOf, HasRoomToClose, account_in, settings_of, opened_log};
 
-    ghost settings = { λ e. settings_of T.opening T.ours T.account e };
+    ghost settings = { λ e. settings_of Versions.Table e };
 
-    ghost account = { λ c. account_in T.opening T.ours T.account c };
+    ghost account = { λ c. account_in Versions.Table c };
 
-    ghost belongs = { λ e c. IsClientOf T.opening T.ours T.account e c };
+    ghost belongs = { λ e c. IsClientOf Versions.Table e c };
 
     ghost closes = { λ e room. HasRoomToClose e.controller (clients_of e.list) room };
 
@@ -42,12 +42,12 @@ impl<D: Disk, T: Table<Nodes, Parts>, C: Clock + Drop, G: Gate + Drop> Engine
 
     ghost fault = { λ log. fault_of log };
 
-    ghost faults = { λ log. D.faults (disk_of log) };
+    ghost faults = { λ log. Device.faults (disk_of log) };
 
     fn write<R: Wait>(
         &self,
         rt: &R,
-        client: &mut Client<D, T, C>,
+        client: &mut EngineClient<Device, Versions, Time>,
         batch: Batch,
         options: WriteOptions,
     ) -> Result<Receipt, Refused> {
@@ -57,7 +57,7 @@ impl<D: Disk, T: Table<Nodes, Parts>, C: Clock + Drop, G: Gate + Drop> Engine
     fn get<R: Wait>(
         &self,
         rt: &R,
-        client: &mut Client<D, T, C>,
+        client: &mut EngineClient<Device, Versions, Time>,
         key: &[u8],
     ) -> Result<Read, NoMemory> {
         self.get(rt, client, key)
@@ -66,7 +66,7 @@ impl<D: Disk, T: Table<Nodes, Parts>, C: Clock + Drop, G: Gate + Drop> Engine
     fn get_many<R: Wait>(
         &self,
         rt: &R,
-        client: &mut Client<D, T, C>,
+        client: &mut EngineClient<Device, Versions, Time>,
         keys: &[Bytes],
     ) -> Result<Reads, NoMemory> {
         self.get_many(rt, client, keys)
@@ -75,44 +75,61 @@ impl<D: Disk, T: Table<Nodes, Parts>, C: Clock + Drop, G: Gate + Drop> Engine
     fn scan<R: Wait>(
         &self,
         rt: &R,
-        client: &mut Client<D, T, C>,
+        client: &mut EngineClient<Device, Versions, Time>,
         lo: &[u8],
         hi: &[u8],
     ) -> Result<Rows, NoMemory> {
         self.scan(rt, client, lo, hi)
     }
 
-    fn stop<R: Wait>(&self, rt: &R, client: &mut Client<D, T, C>) -> Result<(), Held> {
+    fn stop<R: Wait>(
+        &self,
+        rt: &R,
+        client: &mut EngineClient<Device, Versions, Time>,
+    ) -> Result<(), Held> {
         self.stop(rt, client)
     }
 
-    fn unstop<R: Wait>(&self, rt: &R, client: &mut Client<D, T, C>) -> Result<(), NotHeld> {
+    fn unstop<R: Wait>(
+        &self,
+        rt: &R,
+        client: &mut EngineClient<Device, Versions, Time>,
+    ) -> Result<(), NotHeld> {
         self.unstop(rt, client)
     }
 
-    fn slow<R: Wait>(&self, rt: &R, client: &mut Client<D, T, C>, rate: u64) -> Result<(), Held> {
+    fn slow<R: Wait>(
+        &self,
+        rt: &R,
+        client: &mut EngineClient<Device, Versions, Time>,
+        rate: u64,
+    ) -> Result<(), Held> {
         self.slow(rt, client, rate)
     }
 
-    fn unslow<R: Wait>(&self, rt: &R, client: &mut Client<D, T, C>) -> Result<(), NotHeld> {
+    fn unslow<R: Wait>(
+        &self,
+        rt: &R,
+        client: &mut EngineClient<Device, Versions, Time>,
+    ) -> Result<(), NotHeld> {
         self.unslow(rt, client)
     }
 
-    fn end<R: Wait>(&self, rt: &R, client: &mut Client<D, T, C>) {
+    fn end<R: Wait>(&self, rt: &R, client: &mut EngineClient<Device, Versions, Time>) {
         self.end(rt, client);
     }
 
     fn close<R: Wait>(
         self,
         rt: &R,
-        clients: Clients<Client<D, T, C>, Room<D, T, C>>,
-    ) -> Closed<LogWriter<D>>
-        requires all { AreOurs (IsClientOf T.opening T.ours T.account self) (account_in T.opening T.ours T.account)
+        clients: Clients<EngineClient<Device, Versions, Time>, ClosingRoom<Device, Versions, Time>>,
+    ) -> Closed<LogWriter<Device>>
+        requires all { AreOurs (IsClientOf Versions.Table self) (account_in Versions.Table)
             (clients_of self.list) clients.clients.items }
         requires room { HasRoomToClose self.controller (clients_of self.list) clients.room }
-        ensures { let accounts = map (account_in T.opening T.ours T.account) clients.clients.items in
+        ensures { let accounts = map (account_in Versions.Table) clients.clients.items in
             (trace : Trace) × (groups : List Group)
-            × IsClosing (settings_of T.opening T.ours T.account self) (D.faults (disk_of result.log)) trace groups
+            × IsClosing (settings_of Versions.Table self) (Device.faults (disk_of result.log)) trace groups
             accounts result.last (fault_of result.log)
             × WritesLog (bound_of self.list) (λ calls. Wrote (opened_log self) calls result.log) trace
             (all_attempts accounts) (fault_of result.log) }

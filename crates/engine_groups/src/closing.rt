@@ -3,28 +3,27 @@
 ghost use Rattle.std.specs.Prelude.{◌≡◌, ◌≤◌, ◌+◌, ◌<◌, ℕ, List, [], ◌++◌, map, length, vec_len, vec_capacity};
 ghost use mathlib.Core.List.{IsPrefix};
 ghost use Rattle.model_base.specs.Controller.{ControllerCall};
-ghost use Rattle.engine_controller.specs.Passes.{noted, AreAll, IsNoteOf, IsHistoryOf};
+ghost use Rattle.engine_controller.specs.Passes.{seen_by_note, AreAll, IsNoteOf, IsHistoryOf};
 ghost use Rattle.engine_groups.specs.Clients.{writer_in, seat_in, pass_in};
 
-use crate::engine::{Client, GroupEngine, Room};
-use crate::held::{Held, LogPath, Right, one_turn};
-use crate::numbering::take_first;
-use crate::requests::{Reply, Request};
+use crate::engine::{ClosingRoom, EngineClient, GroupEngine};
+use crate::laws;
+use crate::leader::{Leadership, Right, one_turn};
 use base_devices::{Clock, Disk};
 use engine_calls::{Clients, Closed, Gate};
 use engine_controller::{Controller, Note, Pass, Passes};
-use engine_rule::closings;
+use engine_parts::{Answer, LogPath, Request, take_first};
 use line_writers::Writer;
-use log_writer::{LogWriter, written_by_calls};
+use log_writer::LogWriter;
 use std::sync::Wait;
 use table_calls::{Seats, Table};
 use table_tree::{Nodes, Parts};
 
 /// Takes the clients apart.
-pub(crate) fn part_all<D: Disk, T: Table<Nodes, Parts>, C>(
-    clients: &mut Vec<Client<D, T, C>>,
-    writers: &mut Vec<Writer<Request, Reply, Held<D, T, C>, Right<T>>>,
-    seats: &mut Vec<T::Seat>,
+pub(crate) fn part_all<Device: Disk, Versions: Table<Nodes, Parts>, Time>(
+    clients: &mut Vec<EngineClient<Device, Versions, Time>>,
+    writers: &mut Vec<Writer<Request, Answer, Leadership<Device, Versions, Time>, Right<Versions>>>,
+    seats: &mut Vec<Versions::Seat>,
     passes: &mut Vec<Pass>,
 )
     requires empty { (writers.old.items ≡ []) × (seats.old.items ≡ []) × (passes.old.items ≡ []) }
@@ -36,8 +35,9 @@ pub(crate) fn part_all<D: Disk, T: Table<Nodes, Parts>, C>(
     ensures passes { passes.new.items ≡ map pass_in clients.old.items }
     ensures parted { clients.new.items ≡ [] }
 {
+    // The parts so far, with those of the clients that are left, are all.
     while let Some(client) = take_first(clients) {
-        let Client {
+        let EngineClient {
             number: _,
             start: _,
             writer,
@@ -53,12 +53,17 @@ pub(crate) fn part_all<D: Disk, T: Table<Nodes, Parts>, C>(
 }
 
 /// Ends a controller. Its first pass learns what a note shows, so that this begins the one history too.
-fn end_controller<C: Clock, R: Wait>(rt: &R, controller: Controller<C>, passes: Passes, note: Note)
+fn end_controller<Time: Clock, R: Wait>(
+    rt: &R,
+    controller: Controller<Time>,
+    passes: Passes,
+    note: Note,
+)
     requires all { AreAll controller passes }
     requires some { 0 < length passes.clients.items }
     requires note { IsNoteOf controller note }
     ensures { (history : List ControllerCall) × IsHistoryOf passes.clients.items history
-        × IsPrefix (noted note) history }
+        × IsPrefix (seen_by_note note) history }
 {
     let Passes {
         clients: mut passes,
@@ -72,7 +77,12 @@ fn end_controller<C: Clock, R: Wait>(rt: &R, controller: Controller<C>, passes: 
     controller.close(rt, passes);
 }
 
-impl<D: Disk, T: Table<Nodes, Parts>, C: Clock + Drop, G: Gate + Drop> GroupEngine<D, T, C, G> {
+impl<
+    Device: Disk,
+    Versions: Table<Nodes, Parts>,
+    Time: Clock + Drop,
+    Watch: Gate + Drop,
+> GroupEngine<Device, Versions, Time, Watch> {
     ghost use Rattle.model_base.specs.Trace.{Trace};
     ghost use Rattle.model_base.specs.Groups.{Group};
     ghost use Rattle.log_writer.specs.Words.{fault_of, disk_of};
@@ -87,14 +97,14 @@ impl<D: Disk, T: Table<Nodes, Parts>, C: Clock + Drop, G: Gate + Drop> GroupEngi
     pub fn close<R: Wait>(
         self,
         rt: &R,
-        clients: Clients<Client<D, T, C>, Room<D, T, C>>,
-    ) -> Closed<LogWriter<D>>
-        requires all { AreOurs (IsClientOf T.opening T.ours T.account self) (account_in T.opening T.ours T.account)
+        clients: Clients<EngineClient<Device, Versions, Time>, ClosingRoom<Device, Versions, Time>>,
+    ) -> Closed<LogWriter<Device>>
+        requires all { AreOurs (IsClientOf Versions.Table self) (account_in Versions.Table)
             (clients_of self.list) clients.clients.items }
         requires room { HasRoomToClose self.controller (clients_of self.list) clients.room }
-        ensures { let accounts = map (account_in T.opening T.ours T.account) clients.clients.items in
+        ensures { let accounts = map (account_in Versions.Table) clients.clients.items in
             (trace : Trace) × (groups : List Group)
-            × IsClosing (settings_of T.opening T.ours T.account self) (D.faults (disk_of result.log)) trace groups
+            × IsClosing (settings_of Versions.Table self) (Device.faults (disk_of result.log)) trace groups
             accounts result.last (fault_of result.log)
             × WritesLog (bound_of self.list) (λ calls. Wrote (opened_log self) calls result.log) trace
             (all_attempts accounts) (fault_of result.log) }
@@ -109,7 +119,7 @@ impl<D: Disk, T: Table<Nodes, Parts>, C: Clock + Drop, G: Gate + Drop> GroupEngi
         } = self;
         let Clients {
             mut clients,
-            room: Room {
+            room: ClosingRoom {
                 mut writers,
                 mut seats,
                 mut passes,
@@ -118,13 +128,13 @@ impl<D: Disk, T: Table<Nodes, Parts>, C: Clock + Drop, G: Gate + Drop> GroupEngi
         } = clients;
         part_all(&mut clients, &mut writers, &mut seats, &mut passes);
         clients.destroy_empty();
-        let (held, right) = list.close(writers);
-        let Held {
+        let (leadership, right) = list.close(writers);
+        let Leadership {
             path: LogPath { log, last },
             turn,
             clock: _,
             asked,
-        } = held;
+        } = leadership;
         let Right { turn: apart } = right;
         let turn = one_turn(turn, apart);
         let passes = Passes {
@@ -136,8 +146,8 @@ impl<D: Disk, T: Table<Nodes, Parts>, C: Clock + Drop, G: Gate + Drop> GroupEngi
             turn,
             clients: seats,
         });
-        written_by_calls::<D>();
-        closings();
+        laws::written_by_calls::<Device>();
+        laws::closings();
         Closed { log, last }
     }
 }

@@ -2,48 +2,55 @@
 
 ghost use Rattle.std.specs.Prelude.{◌≡◌, [], ◌∷◌, ℕ, List, true};
 ghost use Rattle.table_rule.specs.Histories.{Begins};
-ghost use Rattle.line_rule.specs.declared.view.Entry.{Entry};
+ghost use Rattle.line_rule.specs.declared.view.QueuedWriter.{QueuedWriter};
 ghost use Rattle.line_rule.specs.declared.view.Handling.{Handling};
 ghost use Rattle.line_writers.specs.Seats.{piped_of};
-ghost use Rattle.engine_groups.specs.declared.requests.Request.{Request as Asked};
-ghost use Rattle.engine_groups.specs.declared.requests.Reply.{Reply as Told};
+ghost use Rattle.engine_parts.specs.declared.requests.Request.{Request as Asked};
+ghost use Rattle.engine_parts.specs.declared.requests.Answer.{Answer as Told};
 ghost use Rattle.engine_groups.specs.Clients.{IsClientOf, told_of, opened_log};
 ghost use Rattle.engine_groups.specs.Leaving.{HasAnswered, IsFlat, IsToHandOn, IsToLeave};
 
-use crate::engine::{Client, GroupEngine};
-use crate::held::{Held, Right, turn_in};
-use crate::requests::Reply;
+use crate::engine::{EngineClient, GroupEngine};
+use crate::leader::{Leadership, Right, turn_in};
 use base_devices::{Clock, Disk};
 use engine_calls::Gate;
 use engine_memtable::lead;
+use engine_parts::Answer;
 use std::sync::Wait;
 use table_calls::Table;
 use table_tree::{Nodes, Parts};
 
-impl<D: Disk, T: Table<Nodes, Parts>, C: Clock + Drop, G: Gate + Drop> GroupEngine<D, T, C, G> {
+impl<
+    Device: Disk,
+    Versions: Table<Nodes, Parts>,
+    Time: Clock + Drop,
+    Watch: Gate + Drop,
+> GroupEngine<Device, Versions, Time, Watch> {
     /// Gives the log back or on, and tells the members of the group their replies.
-    pub(crate) fn leave(&self, client: &mut Client<D, T, C>, held: Held<D, T, C>) -> Reply
-        requires leaves { (number start : ℕ) × (mine : List (Asked × Told)) × (own : Entry Asked)
+    pub(crate) fn leave(
+        &self,
+        client: &mut EngineClient<Device, Versions, Time>,
+        leadership: Leadership<Device, Versions, Time>,
+    ) -> Answer
+        requires leaves { (number start : ℕ) × (mine : List (Asked × Told)) × (own : QueuedWriter Asked)
             × (seen : List (Handling Asked Told))
-            × (l : IsToLeave T.opening T.ours T.account T.our_turn T.history self.now number start mine own seen
-            client.old held)
-            × IsFlat T.opening T.ours T.account T.our_turn T.history self.now number start mine own seen client.old
-            held l }
+            × (l : IsToLeave Versions.Table self.now number start mine own seen client.old leadership)
+            × IsFlat Versions.Table self.now number start mine own seen client.old leadership l }
         requires parts { client.old.layout.parts.parts ≡ [] }
-        ensures fits { IsClientOf T.opening T.ours T.account self.now client.new }
-        ensures answered { (number start : ℕ) (mine : List (Asked × Told)) (own : Entry Asked)
+        ensures fits { IsClientOf Versions.Table self.now client.new }
+        ensures answered { (number start : ℕ) (mine : List (Asked × Told)) (own : QueuedWriter Asked)
             (seen : List (Handling Asked Told))
-            → IsToLeave T.opening T.ours T.account T.our_turn T.history self.now number start mine own seen client.old
-            held
-            → HasAnswered self.now.controller (opened_log self.now) (T.opening self.now.table).start number mine
-            own.asked
-            result (told_of client.new) }
+            → IsToLeave Versions.Table self.now number start mine own seen client.old leadership
+            → HasAnswered self.now.controller (opened_log self.now) (Versions.opening self.now.table).start number mine
+            own.asked result (told_of client.new) }
         ensures same { (client.new.number ≡ client.old.number) × (client.new.start ≡ client.old.start)
             × (client.new.seat ≡ client.old.seat) × (client.new.pass ≡ client.old.pass) }
     {
+        // Each reply lies in its member's slot before the log goes on, so that who is told has it at once. The log goes on
+        // before any member is told: the next leader works while they wake.
         self.list.exit(
             &mut client.writer,
-            held,
+            leadership,
             &mut client.lists.replies,
             &mut client.lists.room,
         )
@@ -54,31 +61,29 @@ impl<D: Disk, T: Table<Nodes, Parts>, C: Clock + Drop, G: Gate + Drop> GroupEngi
     pub(crate) fn hand_on<R: Wait>(
         &self,
         rt: &R,
-        client: &mut Client<D, T, C>,
-        held: Held<D, T, C>,
+        client: &mut EngineClient<Device, Versions, Time>,
+        leadership: Leadership<Device, Versions, Time>,
         end: u64,
-    ) -> Reply
+    ) -> Answer
         requires piped { piped_of self.now.list ≡ true }
-        requires leaves { (number start : ℕ) × (mine : List (Asked × Told)) × (own : Entry Asked)
+        requires leaves { (number start : ℕ) × (mine : List (Asked × Told)) × (own : QueuedWriter Asked)
             × (seen : List (Handling Asked Told))
-            × IsToHandOn T.opening T.ours T.account T.our_turn T.history self.now number start mine own seen client.old
-            held end }
-        ensures fits { IsClientOf T.opening T.ours T.account self.now client.new }
-        ensures answered { (number start : ℕ) (mine : List (Asked × Told)) (own : Entry Asked)
+            × IsToHandOn Versions.Table self.now number start mine own seen client.old leadership end }
+        ensures fits { IsClientOf Versions.Table self.now client.new }
+        ensures answered { (number start : ℕ) (mine : List (Asked × Told)) (own : QueuedWriter Asked)
             (seen : List (Handling Asked Told))
-            → IsToHandOn T.opening T.ours T.account T.our_turn T.history self.now number start mine own seen client.old
-            held end
-            → HasAnswered self.now.controller (opened_log self.now) (T.opening self.now.table).start number mine
-            own.asked
-            result (told_of client.new) }
+            → IsToHandOn Versions.Table self.now number start mine own seen client.old leadership end
+            → HasAnswered self.now.controller (opened_log self.now) (Versions.opening self.now.table).start number mine
+            own.asked result (told_of client.new) }
         ensures same { (client.new.number ≡ client.old.number) × (client.new.start ≡ client.old.start)
             × (client.new.pass ≡ client.old.pass) }
-        ensures seen { Begins (T.account client.old.seat).seen (T.account client.new.seat).seen }
+        ensures seen { Begins (Versions.account client.old.seat).seen (Versions.account client.new.seat).seen }
     {
+        // The group stands in the second list before the log goes on, so that this list is in the order of the log.
         self.list.exit_pipelined(
             rt,
             &mut client.writer,
-            held,
+            leadership,
             &mut client.lists.replies,
             &mut client.lists.room,
         );
@@ -95,6 +100,7 @@ impl<D: Disk, T: Table<Nodes, Parts>, C: Clock + Drop, G: Gate + Drop> GroupEngi
             &mut client.layout.parts,
             end,
         );
+        // Members are told once their group is published, so that each sees its own write.
         let right = Right { turn: Some(turn) };
         self.list
             .exit_memtable(&mut client.writer, right, &mut client.lists.room)

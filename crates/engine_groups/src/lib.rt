@@ -8,35 +8,33 @@
 //! order of the log (`leaving`, `engine_memtable`). Which of the two it is, is where the right to launch is: with the
 //! log, or apart.
 //!
-//! - `specs/Handled`: requests that were handled, as commits of `engine_rule`.
-//! - `specs/Asking`: how a leader's view of the write controller goes on.
-//! - `specs/Serving`: a leader before and after its group is handled.
-//! - `specs/Numbering`: what a leader lays out while it gives runs.
+//! What a leader does that knows no engine is in `engine_parts`. A client's write is read from the outside in in
+//! `writing`.
+//!
+//! - `specs/Meaning`: what is said of a table.
 //! - `specs/Law`: what the things that a leader holds stand for.
-//! - `specs/Staged`, `Leaving`: a leader whose group is logged, and one that leaves or hands its group on.
 //! - `specs/Clients`: an engine and its clients, and a client's account.
+//! - `specs/Serving`: a leader before and after its group is handled.
+//! - `specs/Leaving`: a leader that leaves or hands its group on.
 //! - `specs/AtStart`: what an engine is opened with.
 #![tactic(auto)]
 
-mod asking;
 mod calls;
 mod closing;
 mod engine;
-mod held;
-mod layout;
+mod laws;
+mod leader;
 mod leading;
 mod leaving;
-mod logging;
-mod numbering;
 mod opening;
+mod pausing;
 mod reading;
-mod requests;
+mod roles;
 mod seeing;
 mod tokens;
 mod writing;
 
-pub use engine::{Client, GroupEngine, Room};
+pub use engine::{ClosingRoom, EngineClient, GroupEngine};
 pub use engine_calls::{Clients, Closed, Receipt, Refused};
-pub use held::{About, Held, LogPath, Right};
+pub use leader::{EngineAtOpening, Leadership, Right};
 pub use opening::OpenRefused;
-pub use requests::{Delay, Reply, Request};

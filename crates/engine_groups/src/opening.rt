@@ -1,6 +1,6 @@
 //! How an engine is opened.
 
-ghost use Rattle.std.specs.Prelude.{true, false, ◌≡◌, ◌≤◌, ◌<◌, ◌+◌, ℕ, [], ◌∷◌, ◌++◌, length, vec_len, vec_capacity, MatchOption, IfOk, IfErr, Some, slice_get};
+ghost use Rattle.std.specs.Prelude.{true, false, ◌≡◌, ◌⊎◌, ◌≤◌, ◌<◌, ◌+◌, ℕ, [], ◌∷◌, ◌++◌, length, vec_len, vec_capacity, MatchOption, IfOk, IfErr, None, Some, slice_get};
 ghost use Rattle.model_base.specs.History.{max_sequence};
 ghost use Rattle.log_writer.specs.Words.{disk_of};
 ghost use Rattle.log_writer.specs.Opening.{HasOpened};
@@ -8,43 +8,66 @@ ghost use Rattle.table_calls.specs.Account.{IsReady};
 ghost use Rattle.line_writers.specs.Roles.{IsNew, AreNew};
 ghost use Rattle.line_writers.specs.Rooms.{AreReady, AllReady};
 ghost use Rattle.line_writers.specs.Seats.{table_of, clients_of, piped_of};
-ghost use Rattle.engine_controller.specs.Passes.{AreNew as AreNewPasses, IsNoteOf, noted};
+ghost use Rattle.engine_controller.specs.Passes.{AreNew as AreNewPasses, IsNoteOf, IsOthersOf, seen_by_note};
 ghost use Rattle.model_accounts.specs.Accounts.{newcomer};
 ghost use Rattle.model_accounts.specs.Closing.{AreOurs};
-ghost use Rattle.run_calls.specs.Settings.{settings_of as settings_with};
-ghost use Rattle.engine_groups.specs.Layout.{IsRoomy, AreRoomy};
+ghost use Rattle.model_base.specs.Settings.{settings_of as settings_with};
+ghost use Rattle.engine_parts.specs.Layout.{IsRoomy, AreRoomy};
 ghost use Rattle.engine_groups.specs.Clients.{IsEngine, IsClientOf, HasRoomToClose, account_in, settings_of, opened_log};
 ghost use Rattle.engine_groups.specs.AtStart.{AreSeatsAtStart, ArePassesAtStart, IsPassAtStart, IsNewcomer, AreNewcomers};
 
-use crate::engine::{Client, GroupEngine, Room};
-use crate::held::{About, Held, LogPath, Right, one_turn};
-use crate::layout::Layout;
-use crate::numbering::take_first;
-use crate::requests::{Reply, Request};
+use crate::engine::{ClosingRoom, EngineClient, GroupEngine};
+use crate::laws;
+use crate::leader::{EngineAtOpening, Leadership, Right, one_turn};
 use base_devices::{Clock, Disk};
 use engine_calls::{Clients, Gate};
 use engine_controller::{Controller, Note, Pass, Passes};
-use engine_rule::groups_stay_consistent;
+use engine_parts::{Answer, Layout, LogPath, Request, take_first};
 use line_rule::Start;
 use line_writers::{Lists, Writer, WriterList};
 use log_writer::LogWriter;
-use run_calls::Options;
+use model_base::{MAX_CLIENTS, MAX_SIZE, Options};
 use std::alloc::Global;
 use std::snapshot::Snapshot;
 use table_calls::{Seats, Table};
 use table_tree::{Nodes, Parts};
 
 /// What an engine was to be opened with, as it was.
-pub struct OpenRefused<D: Disk, T: Table<Nodes, Parts>, C, G> {
-    pub log: LogWriter<D>,
-    pub clock: C,
-    pub table: T,
-    pub seats: Seats<T::Seat, T::Turn>,
-    pub gate: G,
+pub struct OpenRefused<Device: Disk, Versions: Table<Nodes, Parts>, Time, Watch> {
+    pub log: LogWriter<Device>,
+    pub clock: Time,
+    pub table: Versions,
+    pub seats: Seats<Versions::Seat, Versions::Turn>,
+    pub gate: Watch,
+}
+
+impl<Device: Disk, Versions: Table<Nodes, Parts>, Time, Watch> OpenRefused<
+    Device,
+    Versions,
+    Time,
+    Watch,
+> {
+    fn of(
+        log: LogWriter<Device>,
+        clock: Time,
+        table: Versions,
+        seats: Seats<Versions::Seat, Versions::Turn>,
+        gate: Watch,
+    ) -> OpenRefused<Device, Versions, Time, Watch>
+        ensures { result ≡ record { log = log; clock = clock; table = table; seats = seats; gate = gate } }
+    {
+        OpenRefused {
+            log,
+            clock,
+            table,
+            seats,
+            gate,
+        }
+    }
 }
 
 /// Takes the last item out.
-fn take_last<X>(items: &mut Vec<X>) -> Option<X>
+fn take_last<Element>(items: &mut Vec<Element>) -> Option<Element>
     ensures last { MatchOption result ((items.old.items ≡ []) × (items.new.items ≡ []))
         (λ x. items.old.items ≡ items.new.items ++ x ∷ []) }
     ensures room { vec_capacity items.new ≡ vec_capacity items.old }
@@ -53,7 +76,7 @@ fn take_last<X>(items: &mut Vec<X>) -> Option<X>
 }
 
 /// Puts an item before the others, for which there is room.
-fn put_first<X>(items: &mut Vec<X>, item: X)
+fn put_first<Element>(items: &mut Vec<Element>, item: Element)
     requires { vec_len items.old < vec_capacity items.old }
     ensures first { items.new.items ≡ item ∷ items.old.items }
     ensures room { vec_capacity items.new ≡ vec_capacity items.old }
@@ -65,17 +88,17 @@ fn put_first<X>(items: &mut Vec<X>, item: X)
 }
 
 /// A note for the first leader, of a pass that has seen nothing.
-fn first_note<C: Clock>(controller: &Controller<C>, passes: &mut Vec<Pass>) -> Note
+fn first_note<Time: Clock>(controller: &Controller<Time>, passes: &mut Vec<Pass>) -> Note
     requires passes { ArePassesAtStart controller.now 1 passes.old.items × (0 < length passes.old.items) }
     ensures passes { ArePassesAtStart controller.now 1 passes.new.items
         × (length passes.new.items ≡ length passes.old.items) }
-    ensures note { IsNoteOf controller.now result × (noted result ≡ []) }
+    ensures note { IsNoteOf controller.now result × (seen_by_note result ≡ []) }
 {
     controller.note(&mut passes[0])
 }
 
 /// The right to launch goes with the log where there is one stage, and is apart where there are two.
-fn part_turn<U>(pipelined: bool, turn: U) -> (Option<U>, Option<U>)
+fn part_turn<Turn>(pipelined: bool, turn: Turn) -> (Option<Turn>, Option<Turn>)
     ensures single { pipelined ≡ false → (result.0 ≡ Some turn) × (result.1 ≡ None) }
     ensures piped { pipelined ≡ true → (result.0 ≡ None) × (result.1 ≡ Some turn) }
 {
@@ -86,148 +109,195 @@ fn part_turn<U>(pipelined: bool, turn: U) -> (Option<U>, Option<U>)
     }
 }
 
-impl<D: Disk, T: Table<Nodes, Parts>, C: Clock + Drop, G: Gate + Drop> GroupEngine<D, T, C, G> {
+/// What the list of writers is made for: this engine, as it is opened.
+fn start_with<Device: Disk, Versions, Time>(
+    table: &Versions,
+    controller: &Controller<Time>,
+    log: &LogWriter<Device>,
+    options: Options,
+    clients: u32,
+    pipelined: bool,
+) -> Start<EngineAtOpening<Device, Versions, Time>>
+    ensures list { (result.clients ≡ clients) × (result.log ≡ options.last) × (result.pipelined ≡ pipelined)
+        × (result.group_bytes ≡ options.group_bytes) }
+    ensures engine { (result.about.table.value ≡ table.now) × (result.about.controller.value ≡ controller.now)
+        × (result.about.opened.value ≡ log.now) }
+    ensures numbers { (result.about.start ≡ options.last) × (result.about.clients ≡ clients)
+        × (result.about.group_bytes ≡ options.group_bytes) × (result.about.pipelined ≡ pipelined) }
+{
+    Start {
+        clients,
+        log: options.last,
+        pipelined,
+        group_bytes: options.group_bytes,
+        about: EngineAtOpening {
+            table: Snapshot::of(table),
+            controller: Snapshot::of(controller),
+            opened: Snapshot::of(log),
+            start: options.last,
+            clients: u64::from(clients),
+            group_bytes: options.group_bytes,
+            pipelined,
+        },
+    }
+}
+
+/// What was to be opened, from the leadership and the right that the list was to begin with.
+fn given_back<Device: Disk, Versions: Table<Nodes, Parts>, Time: Drop, Watch>(
+    leadership: Leadership<Device, Versions, Time>,
+    right: Right<Versions>,
+    table: Versions,
+    seats: Vec<Versions::Seat>,
+    gate: Watch,
+) -> OpenRefused<Device, Versions, Time, Watch>
+    requires turn { ((u : Versions.Turn) × (leadership.turn ≡ Some u) × (right.turn ≡ None))
+        ⊎ ((u : Versions.Turn) × (leadership.turn ≡ None) × (right.turn ≡ Some u)) }
+    ensures same { (result.log ≡ leadership.path.log) × (result.clock ≡ leadership.clock) × (result.table ≡ table)
+        × (result.seats.clients ≡ seats) × (result.gate ≡ gate) }
+    ensures turn { ((leadership.turn ≡ Some result.seats.turn) × (right.turn ≡ None))
+        ⊎ ((leadership.turn ≡ None) × (right.turn ≡ Some result.seats.turn)) }
+{
+    let Leadership {
+        path: LogPath { log, last: _ },
+        turn,
+        clock,
+        asked: _,
+    } = leadership;
+    let Right { turn: apart } = right;
+    let turn = one_turn(turn, apart);
+    OpenRefused {
+        log,
+        clock,
+        table,
+        seats: Seats {
+            turn,
+            clients: seats,
+        },
+        gate,
+    }
+}
+
+impl<
+    Device: Disk,
+    Versions: Table<Nodes, Parts>,
+    Time: Clock + Drop,
+    Watch: Gate + Drop,
+> GroupEngine<Device, Versions, Time, Watch> {
     /// An engine over an opened log and a table of which nothing is published, with a client for each of its seats.
     /// Where memory is short, all is handed back. Where it is pipelined a group goes into the table while later ones
     /// are logged, and its members may put their own parts in.
     pub fn open(
         alloc: Global,
-        log: LogWriter<D>,
-        clock: C,
-        table: T,
-        seats: Seats<T::Seat, T::Turn>,
-        gate: G,
+        log: LogWriter<Device>,
+        clock: Time,
+        table: Versions,
+        seats: Seats<Versions::Seat, Versions::Turn>,
+        gate: Watch,
         options: Options,
         pipelined: bool,
     ) -> Result<
         (
-            GroupEngine<D, T, C, G>,
-            Clients<Client<D, T, C>, Room<D, T, C>>,
+            GroupEngine<Device, Versions, Time, Watch>,
+            Clients<EngineClient<Device, Versions, Time>, ClosingRoom<Device, Versions, Time>>,
         ),
-        OpenRefused<D, T, C, G>,
+        OpenRefused<Device, Versions, Time, Watch>,
     >
-        requires options { (options.last ≡ (T.opening table).start) × (options.last ≤ max_sequence)
-            × (options.batch_bytes ≤ 16777216) }
-        requires clients { (0 < (T.opening table).clients) × ((T.opening table).clients ≤ 16) }
-        requires log { (disk : D) × HasOpened disk log }
-        requires turn { T.our_turn table seats.turn × (T.history seats.turn ≡ []) }
-        requires seats { AreSeatsAtStart T.ours T.account table (T.opening table).clients seats.clients.items }
+        requires options { (options.last ≡ (Versions.opening table).start) × (options.last ≤ max_sequence)
+            × (options.batch_bytes ≤ MAX_SIZE) }
+        requires clients { (0 < (Versions.opening table).clients) × ((Versions.opening table).clients ≤ MAX_CLIENTS) }
+        requires log { (disk : Device) × HasOpened disk log }
+        requires turn { Versions.our_turn table seats.turn × (Versions.history seats.turn ≡ []) }
+        requires seats { AreSeatsAtStart Versions.Table table (Versions.opening table).clients seats.clients.items }
         ensures engine { IfOk result (λ r. (r.0.table ≡ table) × (opened_log r.0 ≡ log)
-            × (settings_of T.opening T.ours T.account r.0
-            ≡ settings_with options (T.opening table).clients (D.faults (disk_of log)))) }
-        ensures clients { IfOk result (λ r. AreOurs (IsClientOf T.opening T.ours T.account r.0)
-            (account_in T.opening T.ours T.account) (clients_of r.0.list) r.1.clients.items) }
+            × (settings_of Versions.Table r.0
+            ≡ settings_with options (Versions.opening table).clients (Device.faults (disk_of log)))) }
+        ensures clients { IfOk result (λ r. AreOurs (IsClientOf Versions.Table r.0)
+            (account_in Versions.Table) (clients_of r.0.list) r.1.clients.items) }
         ensures new { IfOk result (λ r. (i : ℕ) (c : _) → slice_get r.1.clients.items i ≡ Some c
-            → account_in T.opening T.ours T.account c ≡ newcomer options.last (i + 1)) }
+            → account_in Versions.Table c ≡ newcomer options.last (i + 1)) }
         ensures room { IfOk result (λ r. HasRoomToClose r.0.controller (clients_of r.0.list) r.1.room) }
         ensures stages { IfOk result (λ r. piped_of r.0.list ≡ pipelined) }
         ensures err { IfErr result (λ e. (e.log ≡ log) × (e.clock ≡ clock) × (e.table ≡ table) × (e.seats ≡ seats)
             × (e.gate ≡ gate)) }
     {
-        let refused = OpenRefused {
-            log,
-            clock,
-            table,
-            seats,
-            gate,
-        };
-        let count = refused.seats.clients.len() as u32;
+        let count = seats.clients.len() as u32;
         let Ok((controller, passes)) = Controller::open(alloc, count) else {
-            return Err(refused);
+            return Err(OpenRefused::of(log, clock, table, seats, gate));
         };
         let Ok(layouts) = Layout::for_all(alloc, count) else {
-            return Err(refused);
+            return Err(OpenRefused::of(log, clock, table, seats, gate));
         };
         let Ok(clients) = Vec::with_capacity(alloc, count as usize) else {
-            return Err(refused);
+            return Err(OpenRefused::of(log, clock, table, seats, gate));
         };
         Self::open_with(
-            alloc, refused, options, pipelined, controller, passes, layouts, clients,
+            alloc, log, clock, table, seats, gate, options, pipelined, controller, passes, layouts,
+            clients,
         )
     }
 
     /// An engine with all that it needs but the list, and its clients.
     fn open_with(
         alloc: Global,
-        given: OpenRefused<D, T, C, G>,
+        log: LogWriter<Device>,
+        clock: Time,
+        table: Versions,
+        seats: Seats<Versions::Seat, Versions::Turn>,
+        gate: Watch,
         options: Options,
         pipelined: bool,
-        controller: Controller<C>,
-        passes: Passes,
-        mut layouts: Vec<Layout>,
-        mut clients: Vec<Client<D, T, C>>,
+        controller: Controller<Time>,
+        mut passes: Passes,
+        layouts: Vec<Layout>,
+        clients: Vec<EngineClient<Device, Versions, Time>>,
     ) -> Result<
         (
-            GroupEngine<D, T, C, G>,
-            Clients<Client<D, T, C>, Room<D, T, C>>,
+            GroupEngine<Device, Versions, Time, Watch>,
+            Clients<EngineClient<Device, Versions, Time>, ClosingRoom<Device, Versions, Time>>,
         ),
-        OpenRefused<D, T, C, G>,
+        OpenRefused<Device, Versions, Time, Watch>,
     >
-        requires options { (options.last ≡ (T.opening given.table).start) × (options.last ≤ max_sequence)
-            × (options.batch_bytes ≤ 16777216) }
-        requires clients { (0 < (T.opening given.table).clients) × ((T.opening given.table).clients ≤ 16) }
-        requires log { (disk : D) × HasOpened disk given.log }
-        requires turn { T.our_turn given.table given.seats.turn × (T.history given.seats.turn ≡ []) }
-        requires seats { AreSeatsAtStart T.ours T.account given.table (T.opening given.table).clients
-            given.seats.clients.items }
-        requires controller { AreNewPasses controller (T.opening given.table).clients passes }
-        requires layouts { AreRoomy (T.opening given.table).clients layouts.items
-            × (length layouts.items ≡ (T.opening given.table).clients) }
-        requires room { (clients.items ≡ []) × ((T.opening given.table).clients ≤ vec_capacity clients) }
-        ensures engine { IfOk result (λ r. (r.0.table ≡ given.table) × (opened_log r.0 ≡ given.log)
-            × (settings_of T.opening T.ours T.account r.0
-            ≡ settings_with options (T.opening given.table).clients (D.faults (disk_of given.log)))) }
-        ensures clients { IfOk result (λ r. AreOurs (IsClientOf T.opening T.ours T.account r.0)
-            (account_in T.opening T.ours T.account) (clients_of r.0.list) r.1.clients.items) }
+        requires options { (options.last ≡ (Versions.opening table).start) × (options.last ≤ max_sequence)
+            × (options.batch_bytes ≤ MAX_SIZE) }
+        requires clients { (0 < (Versions.opening table).clients)
+            × ((Versions.opening table).clients ≤ MAX_CLIENTS) }
+        requires log { (disk : Device) × HasOpened disk log }
+        requires turn { Versions.our_turn table seats.turn × (Versions.history seats.turn ≡ []) }
+        requires seats { AreSeatsAtStart Versions.Table table (Versions.opening table).clients
+            seats.clients.items }
+        requires controller { AreNewPasses controller (Versions.opening table).clients passes }
+        requires layouts { AreRoomy (Versions.opening table).clients layouts.items
+            × (length layouts.items ≡ (Versions.opening table).clients) }
+        requires room { (clients.items ≡ []) × ((Versions.opening table).clients ≤ vec_capacity clients) }
+        ensures engine { IfOk result (λ r. (r.0.table ≡ table) × (opened_log r.0 ≡ log)
+            × (settings_of Versions.Table r.0
+            ≡ settings_with options (Versions.opening table).clients (Device.faults (disk_of log)))) }
+        ensures clients { IfOk result (λ r. AreOurs (IsClientOf Versions.Table r.0)
+            (account_in Versions.Table) (clients_of r.0.list) r.1.clients.items) }
         ensures new { IfOk result (λ r. (i : ℕ) (c : _) → slice_get r.1.clients.items i ≡ Some c
-            → account_in T.opening T.ours T.account c ≡ newcomer options.last (i + 1)) }
+            → account_in Versions.Table c ≡ newcomer options.last (i + 1)) }
         ensures room { IfOk result (λ r. HasRoomToClose r.0.controller (clients_of r.0.list) r.1.room) }
         ensures stages { IfOk result (λ r. piped_of r.0.list ≡ pipelined) }
-        ensures err { IfErr result (λ e. e ≡ given) }
+        ensures err { IfErr result (λ e. (e.log ≡ log) × (e.clock ≡ clock) × (e.table ≡ table) × (e.seats ≡ seats)
+            × (e.gate ≡ gate)) }
     {
-        let OpenRefused {
-            log,
-            clock,
-            table,
-            seats: Seats {
-                turn,
-                clients: mut seats,
-            },
-            gate,
-        } = given;
+        let Seats {
+            turn,
+            clients: seats,
+        } = seats;
         let count = seats.len() as u32;
-        let Passes {
-            clients: mut passes,
-            others,
-        } = passes;
-        let start = Start {
-            clients: count,
-            log: options.last,
-            pipelined,
-            group_bytes: options.group_bytes,
-            about: About {
-                table: Snapshot::of(&table),
-                controller: Snapshot::of(&controller),
-                opened: Snapshot::of(&log),
-                start: options.last,
-                clients: u64::from(count),
-                group_bytes: options.group_bytes,
-                pipelined,
-            },
-        };
+        let start = start_with(&table, &controller, &log, options, count, pipelined);
         let (with_log, apart) = part_turn(pipelined, turn);
-        let held = Held {
-            path: LogPath {
-                log,
-                last: options.last,
-            },
+        let last = options.last;
+        let leadership = Leadership {
+            path: LogPath { log, last },
             turn: with_log,
             clock,
-            asked: first_note(&controller, &mut passes),
+            asked: first_note(&controller, &mut passes.clients),
         };
-        groups_stay_consistent();
-        match WriterList::open(alloc, &start, held, Right { turn: apart }) {
-            Ok((list, mut writers, mut lists)) => {
+        laws::groups_stay_consistent();
+        match WriterList::open(alloc, &start, leadership, Right { turn: apart }) {
+            Ok((list, writers, lists)) => {
                 let engine = GroupEngine {
                     list,
                     table,
@@ -237,97 +307,76 @@ impl<D: Disk, T: Table<Nodes, Parts>, C: Clock + Drop, G: Gate + Drop> GroupEngi
                     batch_bytes: options.batch_bytes,
                 };
                 engine.gate.opened(engine.table.locks());
-                engine.seat_all(
-                    options.last,
-                    &mut writers,
-                    &mut seats,
-                    &mut passes,
-                    &mut lists,
-                    &mut layouts,
-                    &mut clients,
+                let clients = engine.seat_all(
+                    last, writers, seats, passes, lists, layouts, clients,
                 );
-                let clients = Clients {
-                    clients,
-                    room: Room {
-                        writers,
-                        seats,
-                        passes,
-                        others,
-                    },
-                };
                 Ok((engine, clients))
             }
-            Err((held, right)) => {
+            Err((leadership, right)) => {
                 clients.destroy_empty();
-                let Held {
-                    path: LogPath { log, last: _ },
-                    turn,
-                    clock,
-                    asked: _,
-                } = held;
-                let Right { turn: apart } = right;
-                let turn = one_turn(turn, apart);
-                Err(OpenRefused {
-                    log,
-                    clock,
-                    table,
-                    seats: Seats {
-                        turn,
-                        clients: seats,
-                    },
-                    gate,
-                })
+                Err(given_back(leadership, right, table, seats, gate))
             }
         }
     }
 
     /// Makes a client of each writer, seat and pass. The writers come by falling numbers, and seats and passes by
-    /// rising ones.
+    /// rising ones. What they stood in is the room for closing.
     fn seat_all(
         &self,
         start: u64,
-        writers: &mut Vec<Writer<Request, Reply, Held<D, T, C>, Right<T>>>,
-        seats: &mut Vec<T::Seat>,
-        passes: &mut Vec<Pass>,
-        lists: &mut Vec<Lists<Request, Reply>>,
-        layouts: &mut Vec<Layout>,
-        clients: &mut Vec<Client<D, T, C>>,
-    )
-        requires engine { IsEngine T.opening T.ours T.account self.now × (start ≡ (T.opening self.now.table).start) }
-        requires writers { AreNew (table_of self.now.list) (clients_of self.now.list) writers.old.items
-            × (length writers.old.items ≡ clients_of self.now.list) }
-        requires seats { AreSeatsAtStart T.ours T.account self.now.table (clients_of self.now.list) seats.old.items }
-        requires passes { ArePassesAtStart self.now.controller 1 passes.old.items
-            × (length passes.old.items ≡ clients_of self.now.list) }
-        requires lists { AllReady (clients_of self.now.list) lists.old.items
-            × (length lists.old.items ≡ clients_of self.now.list) }
-        requires layouts { AreRoomy (clients_of self.now.list) layouts.old.items
-            × (length layouts.old.items ≡ clients_of self.now.list) }
-        requires clients { (clients.old.items ≡ []) × (clients_of self.now.list ≤ vec_capacity clients.old) }
-        ensures clients { AreNewcomers T.opening T.ours T.account self.now 1 clients.new.items
-            × (length clients.new.items ≡ clients_of self.now.list) }
-        ensures taken { (writers.new.items ≡ []) × (seats.new.items ≡ []) × (passes.new.items ≡ []) }
-        ensures room { (vec_capacity writers.new ≡ vec_capacity writers.old)
-            × (vec_capacity seats.new ≡ vec_capacity seats.old)
-            × (vec_capacity passes.new ≡ vec_capacity passes.old) }
+        mut writers: Vec<
+            Writer<Request, Answer, Leadership<Device, Versions, Time>, Right<Versions>>,
+        >,
+        mut seats: Vec<Versions::Seat>,
+        passes: Passes,
+        mut lists: Vec<Lists<Request, Answer>>,
+        mut layouts: Vec<Layout>,
+        mut clients: Vec<EngineClient<Device, Versions, Time>>,
+    ) -> Clients<EngineClient<Device, Versions, Time>, ClosingRoom<Device, Versions, Time>>
+        requires engine { IsEngine Versions.Table self.now × (start ≡ (Versions.opening self.now.table).start) }
+        requires writers { AreNew (table_of self.now.list) (clients_of self.now.list) writers.items
+            × (length writers.items ≡ clients_of self.now.list) }
+        requires seats { AreSeatsAtStart Versions.Table self.now.table (clients_of self.now.list) seats.items }
+        requires passes { ArePassesAtStart self.now.controller 1 passes.clients.items
+            × (length passes.clients.items ≡ clients_of self.now.list) × IsOthersOf self.now.controller passes.others }
+        requires lists { AllReady (clients_of self.now.list) lists.items
+            × (length lists.items ≡ clients_of self.now.list) }
+        requires layouts { AreRoomy (clients_of self.now.list) layouts.items
+            × (length layouts.items ≡ clients_of self.now.list) }
+        requires clients { (clients.items ≡ []) × (clients_of self.now.list ≤ vec_capacity clients) }
+        ensures clients { AreNewcomers Versions.Table self.now 1 result.clients.items
+            × (length result.clients.items ≡ clients_of self.now.list) }
+        ensures room { HasRoomToClose self.now.controller (clients_of self.now.list) result.room }
     {
-        while let Some(writer) = take_first(writers) {
-            let Some(seat) = take_last(seats) else {
+        let Passes {
+            clients: mut passes,
+            others,
+        } = passes;
+        // The clients so far are newcomers, and have the numbers above those of the writers that are left.
+        while let Some(writer) = take_first(&mut writers) {
+            let Some(seat) = take_last(&mut seats) else {
                 unreachable!()
             };
-            let Some(pass) = take_last(passes) else {
+            let Some(pass) = take_last(&mut passes) else {
                 unreachable!()
             };
-            let Some(lists) = take_first(lists) else {
+            let Some(lists) = take_first(&mut lists) else {
                 unreachable!()
             };
-            let Some(layout) = take_first(layouts) else {
+            let Some(layout) = take_first(&mut layouts) else {
                 unreachable!()
             };
             let number = writers.len() as u32 + 1;
             let client = self.seat_one(number, start, writer, seat, pass, lists, layout);
-            put_first(clients, client);
+            put_first(&mut clients, client);
         }
+        let room = ClosingRoom {
+            writers,
+            seats,
+            passes,
+            others,
+        };
+        Clients { clients, room }
     }
 
     /// A client with its seats at list and table, and its lists.
@@ -335,22 +384,23 @@ impl<D: Disk, T: Table<Nodes, Parts>, C: Clock + Drop, G: Gate + Drop> GroupEngi
         &self,
         number: u32,
         start: u64,
-        writer: Writer<Request, Reply, Held<D, T, C>, Right<T>>,
-        seat: T::Seat,
+        writer: Writer<Request, Answer, Leadership<Device, Versions, Time>, Right<Versions>>,
+        seat: Versions::Seat,
         pass: Pass,
-        lists: Lists<Request, Reply>,
+        lists: Lists<Request, Answer>,
         layout: Layout,
-    ) -> Client<D, T, C>
-        requires engine { IsEngine T.opening T.ours T.account self.now × (start ≡ (T.opening self.now.table).start) }
+    ) -> EngineClient<Device, Versions, Time>
+        requires engine { IsEngine Versions.Table self.now × (start ≡ (Versions.opening self.now.table).start) }
         requires number { (0 < number) × (number ≤ clients_of self.now.list) }
         requires writer { IsNew (table_of self.now.list) number writer }
-        requires seat { T.ours self.now.table seat × IsReady (T.account seat) × ((T.account seat).seen ≡ [])
-            × ((T.account seat).number ≡ number) }
+        requires seat { Versions.ours self.now.table seat × IsReady (Versions.account seat)
+            × ((Versions.account seat).seen ≡ [])
+            × ((Versions.account seat).number ≡ number) }
         requires pass { IsPassAtStart self.now.controller number pass }
         requires room { AreReady (clients_of self.now.list) lists × IsRoomy (clients_of self.now.list) layout }
-        ensures { IsNewcomer T.opening T.ours T.account self.now number result }
+        ensures { IsNewcomer Versions.Table self.now number result }
     {
-        Client {
+        EngineClient {
             number,
             start,
             writer,

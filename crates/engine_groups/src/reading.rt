@@ -4,7 +4,7 @@ ghost use Rattle.std.specs.Prelude.{◌≡◌, map, IfOk};
 ghost use Rattle.model_base.specs.Map.{value_at, rows_within};
 ghost use Rattle.base_bytes.specs.Answers.{found_value};
 
-use crate::engine::{Client, GroupEngine};
+use crate::engine::{EngineClient, GroupEngine};
 use base_bytes::{Bytes, Read, Reads, Rows};
 use base_devices::{Clock, Disk};
 use engine_calls::Gate;
@@ -13,7 +13,12 @@ use std::sync::Wait;
 use table_calls::Table;
 use table_tree::{Nodes, Parts};
 
-impl<D: Disk, T: Table<Nodes, Parts>, C: Clock + Drop, G: Gate + Drop> GroupEngine<D, T, C, G> {
+impl<
+    Device: Disk,
+    Versions: Table<Nodes, Parts>,
+    Time: Clock + Drop,
+    Watch: Gate + Drop,
+> GroupEngine<Device, Versions, Time, Watch> {
     ghost use Rattle.model_accounts.specs.Accounts.{Keeps, Reads as ReadsAtEnd};
     ghost use Rattle.engine_groups.specs.Clients.{IsClientOf, account_in};
 
@@ -21,15 +26,14 @@ impl<D: Disk, T: Table<Nodes, Parts>, C: Clock + Drop, G: Gate + Drop> GroupEngi
     pub fn get<R: Wait>(
         &self,
         rt: &R,
-        client: &mut Client<D, T, C>,
+        client: &mut EngineClient<Device, Versions, Time>,
         key: &[u8],
     ) -> Result<Read, NoMemory>
-        requires { IsClientOf T.opening T.ours T.account self.now client.old }
-        ensures belongs { IsClientOf T.opening T.ours T.account self.now client.new }
-        ensures keeps { Keeps (account_in T.opening T.ours T.account client.old)
-            (account_in T.opening T.ours T.account client.new) }
+        requires { IsClientOf Versions.Table self.now client.old }
+        ensures belongs { IsClientOf Versions.Table self.now client.new }
+        ensures keeps { Keeps (account_in Versions.Table client.old) (account_in Versions.Table client.new) }
         ensures ok { IfOk result (λ read. ReadsAtEnd read.at (λ m. found_value read.value ≡ value_at m key.now)
-            (account_in T.opening T.ours T.account client.new)) }
+            (account_in Versions.Table client.new)) }
     {
         self.table.read(self.alloc, rt, &mut client.seat, key)
     }
@@ -38,15 +42,14 @@ impl<D: Disk, T: Table<Nodes, Parts>, C: Clock + Drop, G: Gate + Drop> GroupEngi
     pub fn get_many<R: Wait>(
         &self,
         rt: &R,
-        client: &mut Client<D, T, C>,
+        client: &mut EngineClient<Device, Versions, Time>,
         keys: &[Bytes],
     ) -> Result<Reads, NoMemory>
-        requires { IsClientOf T.opening T.ours T.account self.now client.old }
-        ensures belongs { IsClientOf T.opening T.ours T.account self.now client.new }
-        ensures keeps { Keeps (account_in T.opening T.ours T.account client.old)
-            (account_in T.opening T.ours T.account client.new) }
+        requires { IsClientOf Versions.Table self.now client.old }
+        ensures belongs { IsClientOf Versions.Table self.now client.new }
+        ensures keeps { Keeps (account_in Versions.Table client.old) (account_in Versions.Table client.new) }
         ensures ok { IfOk result (λ reads. ReadsAtEnd reads.at (λ m. reads.values ≡ map (value_at m) keys.now)
-            (account_in T.opening T.ours T.account client.new)) }
+            (account_in Versions.Table client.new)) }
     {
         self.table.read_many(self.alloc, rt, &mut client.seat, keys)
     }
@@ -55,16 +58,15 @@ impl<D: Disk, T: Table<Nodes, Parts>, C: Clock + Drop, G: Gate + Drop> GroupEngi
     pub fn scan<R: Wait>(
         &self,
         rt: &R,
-        client: &mut Client<D, T, C>,
+        client: &mut EngineClient<Device, Versions, Time>,
         lo: &[u8],
         hi: &[u8],
     ) -> Result<Rows, NoMemory>
-        requires { IsClientOf T.opening T.ours T.account self.now client.old }
-        ensures belongs { IsClientOf T.opening T.ours T.account self.now client.new }
-        ensures keeps { Keeps (account_in T.opening T.ours T.account client.old)
-            (account_in T.opening T.ours T.account client.new) }
+        requires { IsClientOf Versions.Table self.now client.old }
+        ensures belongs { IsClientOf Versions.Table self.now client.new }
+        ensures keeps { Keeps (account_in Versions.Table client.old) (account_in Versions.Table client.new) }
         ensures ok { IfOk result (λ rows. ReadsAtEnd rows.at (λ m. rows.rows ≡ rows_within lo.now hi.now m)
-            (account_in T.opening T.ours T.account client.new)) }
+            (account_in Versions.Table client.new)) }
     {
         self.table.scan(self.alloc, rt, &mut client.seat, lo, hi)
     }

@@ -3,12 +3,12 @@
 ghost use Rattle.std.specs.Prelude.{◌≡◌, true, ◌≤◌, IfOk, IfSome};
 ghost use mathlib.Core.List.{IsPrefix};
 ghost use Rattle.table_rule.specs.Histories.{Begins, last_of};
-ghost use Rattle.engine_controller.specs.Passes.{seen_by, noted, IsNoteOf};
+ghost use Rattle.engine_controller.specs.Passes.{seen_by, seen_by_note, IsNoteOf};
 ghost use Rattle.engine_rule.specs.Entries.{SeesMore};
 ghost use Rattle.engine_groups.specs.Clients.{IsClientOf};
-ghost use Rattle.engine_groups.specs.Runs.{IsAbove};
+ghost use Rattle.engine_parts.specs.Runs.{IsAbove};
 
-use crate::engine::{Client, GroupEngine};
+use crate::engine::{EngineClient, GroupEngine};
 use base_devices::{Clock, Disk};
 use crossbeam_utils::Backoff;
 use engine_calls::{Gate, Receipt, Refused};
@@ -51,25 +51,30 @@ fn is_above(shown: u64, answer: &Result<Receipt, Refused>) -> bool
     }
 }
 
-impl<D: Disk, T: Table<Nodes, Parts>, C: Clock + Drop, G: Gate + Drop> GroupEngine<D, T, C, G> {
+impl<
+    Device: Disk,
+    Versions: Table<Nodes, Parts>,
+    Time: Clock + Drop,
+    Watch: Gate + Drop,
+> GroupEngine<Device, Versions, Time, Watch> {
     /// Lets the client see what its answer speaks of: its group published, or the delay that it was refused by.
     pub(crate) fn see<R: Wait>(
         &self,
         rt: &R,
-        client: &mut Client<D, T, C>,
+        client: &mut EngineClient<Device, Versions, Time>,
         answer: &Result<Receipt, Refused>,
         note: Option<Note>,
     )
-        requires client { IsClientOf T.opening T.ours T.account self.now client.old }
+        requires client { IsClientOf Versions.Table self.now client.old }
         requires note { IfSome note (IsNoteOf self.now.controller) }
-        ensures fits { IsClientOf T.opening T.ours T.account self.now client.new }
+        ensures fits { IsClientOf Versions.Table self.now client.new }
         ensures same { (client.new.number ≡ client.old.number) × (client.new.start ≡ client.old.start)
             × (client.new.writer ≡ client.old.writer) }
-        ensures seen { Begins (T.account client.old.seat).seen (T.account client.new.seat).seen
+        ensures seen { Begins (Versions.account client.old.seat).seen (Versions.account client.new.seat).seen
             × SeesMore client.old.number (seen_by client.old.pass) (seen_by client.new.pass) }
         ensures published { IfOk answer.now (λ r. r.group_last
-            ≤ last_of (T.opening self.now.table).start (T.account client.new.seat).seen) }
-        ensures noted { IfSome note (λ n. IsPrefix (noted n) (seen_by client.new.pass)) }
+            ≤ last_of (Versions.opening self.now.table).start (Versions.account client.new.seat).seen) }
+        ensures noted { IfSome note (λ n. IsPrefix (seen_by_note n) (seen_by client.new.pass)) }
     {
         self.await_answer(rt, client, answer);
         if let Some(note) = note {
@@ -81,16 +86,16 @@ impl<D: Disk, T: Table<Nodes, Parts>, C: Clock + Drop, G: Gate + Drop> GroupEngi
     fn await_answer<R: Wait>(
         &self,
         rt: &R,
-        client: &mut Client<D, T, C>,
+        client: &mut EngineClient<Device, Versions, Time>,
         answer: &Result<Receipt, Refused>,
     )
-        requires { IsClientOf T.opening T.ours T.account self.now client.old }
-        ensures fits { IsClientOf T.opening T.ours T.account self.now client.new }
+        requires { IsClientOf Versions.Table self.now client.old }
+        ensures fits { IsClientOf Versions.Table self.now client.new }
         ensures same { (client.new.number ≡ client.old.number) × (client.new.start ≡ client.old.start)
             × (client.new.writer ≡ client.old.writer) × (client.new.pass ≡ client.old.pass) }
-        ensures seen { Begins (T.account client.old.seat).seen (T.account client.new.seat).seen }
+        ensures seen { Begins (Versions.account client.old.seat).seen (Versions.account client.new.seat).seen }
         ensures published { IfOk answer.now (λ r. r.group_last
-            ≤ last_of (T.opening self.now.table).start (T.account client.new.seat).seen) }
+            ≤ last_of (Versions.opening self.now.table).start (Versions.account client.new.seat).seen) }
     {
         if let Ok(receipt) = answer {
             self.await_seen(rt, client, receipt.group_last);
@@ -98,21 +103,20 @@ impl<D: Disk, T: Table<Nodes, Parts>, C: Clock + Drop, G: Gate + Drop> GroupEngi
     }
 
     /// Waits until the client has seen what is published up to a sequence.
-    fn await_seen<R: Wait>(&self, rt: &R, client: &mut Client<D, T, C>, last: u64)
-        requires { IsClientOf T.opening T.ours T.account self.now client.old }
-        ensures fits { IsClientOf T.opening T.ours T.account self.now client.new }
+    fn await_seen<R: Wait>(
+        &self,
+        rt: &R,
+        client: &mut EngineClient<Device, Versions, Time>,
+        last: u64,
+    )
+        requires { IsClientOf Versions.Table self.now client.old }
+        ensures fits { IsClientOf Versions.Table self.now client.new }
         ensures same { (client.new.number ≡ client.old.number) × (client.new.start ≡ client.old.start)
             × (client.new.writer ≡ client.old.writer) × (client.new.pass ≡ client.old.pass) }
-        ensures seen { Begins (T.account client.old.seat).seen (T.account client.new.seat).seen }
-        ensures reached { last ≤ last_of (T.opening self.now.table).start (T.account client.new.seat).seen }
+        ensures seen { Begins (Versions.account client.old.seat).seen (Versions.account client.new.seat).seen }
+        ensures reached { last ≤ last_of (Versions.opening self.now.table).start
+            (Versions.account client.new.seat).seen }
     {
-        let backoff = Backoff::new();
-        for _ in rt.forever() {
-            if last <= self.table.last(&mut client.seat) {
-                return;
-            }
-            backoff.snooze();
-        }
-        unreachable!()
+        self.table.await_seen(rt, &mut client.seat, last);
     }
 }

@@ -6,76 +6,90 @@ ghost use Rattle.model_base.specs.Tokens.{holds_stop, holds_slow};
 ghost use Rattle.model_accounts.specs.Accounts.{Keeps, Asks, GivesBack};
 ghost use Rattle.engine_groups.specs.Clients.{IsClientOf, account_in};
 
-use crate::engine::{Client, GroupEngine};
+use crate::engine::{EngineClient, GroupEngine};
 use base_devices::{Clock, Disk};
 use engine_calls::{Gate, Held, NotHeld};
 use std::sync::Wait;
 use table_calls::Table;
 use table_tree::{Nodes, Parts};
 
-impl<D: Disk, T: Table<Nodes, Parts>, C: Clock + Drop, G: Gate + Drop> GroupEngine<D, T, C, G> {
+impl<
+    Device: Disk,
+    Versions: Table<Nodes, Parts>,
+    Time: Clock + Drop,
+    Watch: Gate + Drop,
+> GroupEngine<Device, Versions, Time, Watch> {
     /// Takes the client's stop token. While anybody holds one, all writes wait, and those that may not are refused.
-    pub fn stop<R: Wait>(&self, rt: &R, client: &mut Client<D, T, C>) -> Result<(), Held>
-        requires { IsClientOf T.opening T.ours T.account self.now client.old }
-        ensures belongs { IsClientOf T.opening T.ours T.account self.now client.new }
-        ensures done { OnOk result ((holds_stop (account_in T.opening T.ours T.account client.old).asked ≡ false)
-            × Asks (account_in T.opening T.ours T.account client.old) controller.stop
-            (account_in T.opening T.ours T.account client.new)) }
-        ensures held { OnErr result ((holds_stop (account_in T.opening T.ours T.account client.old).asked ≡ true)
-            × Keeps (account_in T.opening T.ours T.account client.old)
-            (account_in T.opening T.ours T.account client.new)) }
+    pub fn stop<R: Wait>(
+        &self,
+        rt: &R,
+        client: &mut EngineClient<Device, Versions, Time>,
+    ) -> Result<(), Held>
+        requires { IsClientOf Versions.Table self.now client.old }
+        ensures belongs { IsClientOf Versions.Table self.now client.new }
+        ensures done { OnOk result ((holds_stop (account_in Versions.Table client.old).asked ≡ false)
+            × Asks (account_in Versions.Table client.old) controller.stop (account_in Versions.Table client.new)) }
+        ensures held { OnErr result ((holds_stop (account_in Versions.Table client.old).asked ≡ true)
+            × Keeps (account_in Versions.Table client.old) (account_in Versions.Table client.new)) }
     {
         self.controller.stop(rt, &mut client.pass)
     }
 
     /// Gives the client's stop token back.
-    pub fn unstop<R: Wait>(&self, rt: &R, client: &mut Client<D, T, C>) -> Result<(), NotHeld>
-        requires { IsClientOf T.opening T.ours T.account self.now client.old }
-        ensures belongs { IsClientOf T.opening T.ours T.account self.now client.new }
-        ensures done { OnOk result ((holds_stop (account_in T.opening T.ours T.account client.old).asked ≡ true)
-            × Asks (account_in T.opening T.ours T.account client.old) controller.unstop
-            (account_in T.opening T.ours T.account client.new)) }
-        ensures not_held { OnErr result ((holds_stop (account_in T.opening T.ours T.account client.old).asked ≡ false)
-            × Keeps (account_in T.opening T.ours T.account client.old)
-            (account_in T.opening T.ours T.account client.new)) }
+    pub fn unstop<R: Wait>(
+        &self,
+        rt: &R,
+        client: &mut EngineClient<Device, Versions, Time>,
+    ) -> Result<(), NotHeld>
+        requires { IsClientOf Versions.Table self.now client.old }
+        ensures belongs { IsClientOf Versions.Table self.now client.new }
+        ensures done { OnOk result ((holds_stop (account_in Versions.Table client.old).asked ≡ true)
+            × Asks (account_in Versions.Table client.old) controller.unstop (account_in Versions.Table client.new)) }
+        ensures not_held { OnErr result ((holds_stop (account_in Versions.Table client.old).asked ≡ false)
+            × Keeps (account_in Versions.Table client.old) (account_in Versions.Table client.new)) }
     {
         self.controller.unstop(rt, &mut client.pass)
     }
 
     /// Takes the client's slow token, with a rate in bytes a second. While anybody holds one, writes are slowed down.
-    pub fn slow<R: Wait>(&self, rt: &R, client: &mut Client<D, T, C>, rate: u64) -> Result<(), Held>
-        requires { IsClientOf T.opening T.ours T.account self.now client.old }
-        ensures belongs { IsClientOf T.opening T.ours T.account self.now client.new }
-        ensures done { OnOk result ((holds_slow (account_in T.opening T.ours T.account client.old).asked ≡ false)
-            × Asks (account_in T.opening T.ours T.account client.old) (controller.slow rate)
-            (account_in T.opening T.ours T.account client.new)) }
-        ensures held { OnErr result ((holds_slow (account_in T.opening T.ours T.account client.old).asked ≡ true)
-            × Keeps (account_in T.opening T.ours T.account client.old)
-            (account_in T.opening T.ours T.account client.new)) }
+    pub fn slow<R: Wait>(
+        &self,
+        rt: &R,
+        client: &mut EngineClient<Device, Versions, Time>,
+        rate: u64,
+    ) -> Result<(), Held>
+        requires { IsClientOf Versions.Table self.now client.old }
+        ensures belongs { IsClientOf Versions.Table self.now client.new }
+        ensures done { OnOk result ((holds_slow (account_in Versions.Table client.old).asked ≡ false)
+            × Asks (account_in Versions.Table client.old) (controller.slow rate)
+            (account_in Versions.Table client.new)) }
+        ensures held { OnErr result ((holds_slow (account_in Versions.Table client.old).asked ≡ true)
+            × Keeps (account_in Versions.Table client.old) (account_in Versions.Table client.new)) }
     {
         self.controller.slow(rt, &mut client.pass, rate)
     }
 
     /// Gives the client's slow token back.
-    pub fn unslow<R: Wait>(&self, rt: &R, client: &mut Client<D, T, C>) -> Result<(), NotHeld>
-        requires { IsClientOf T.opening T.ours T.account self.now client.old }
-        ensures belongs { IsClientOf T.opening T.ours T.account self.now client.new }
-        ensures done { OnOk result ((holds_slow (account_in T.opening T.ours T.account client.old).asked ≡ true)
-            × Asks (account_in T.opening T.ours T.account client.old) controller.unslow
-            (account_in T.opening T.ours T.account client.new)) }
-        ensures not_held { OnErr result ((holds_slow (account_in T.opening T.ours T.account client.old).asked ≡ false)
-            × Keeps (account_in T.opening T.ours T.account client.old)
-            (account_in T.opening T.ours T.account client.new)) }
+    pub fn unslow<R: Wait>(
+        &self,
+        rt: &R,
+        client: &mut EngineClient<Device, Versions, Time>,
+    ) -> Result<(), NotHeld>
+        requires { IsClientOf Versions.Table self.now client.old }
+        ensures belongs { IsClientOf Versions.Table self.now client.new }
+        ensures done { OnOk result ((holds_slow (account_in Versions.Table client.old).asked ≡ true)
+            × Asks (account_in Versions.Table client.old) controller.unslow (account_in Versions.Table client.new)) }
+        ensures not_held { OnErr result ((holds_slow (account_in Versions.Table client.old).asked ≡ false)
+            × Keeps (account_in Versions.Table client.old) (account_in Versions.Table client.new)) }
     {
         self.controller.unslow(rt, &mut client.pass)
     }
 
     /// Gives back the tokens that the client holds.
-    pub fn end<R: Wait>(&self, rt: &R, client: &mut Client<D, T, C>)
-        requires { IsClientOf T.opening T.ours T.account self.now client.old }
-        ensures belongs { IsClientOf T.opening T.ours T.account self.now client.new }
-        ensures back { GivesBack (account_in T.opening T.ours T.account client.old)
-            (account_in T.opening T.ours T.account client.new) }
+    pub fn end<R: Wait>(&self, rt: &R, client: &mut EngineClient<Device, Versions, Time>)
+        requires { IsClientOf Versions.Table self.now client.old }
+        ensures belongs { IsClientOf Versions.Table self.now client.new }
+        ensures back { GivesBack (account_in Versions.Table client.old) (account_in Versions.Table client.new) }
     {
         self.controller.end(rt, &mut client.pass);
     }

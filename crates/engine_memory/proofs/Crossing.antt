@@ -2,8 +2,7 @@
 -- itself for a struct whose fields are few: here it gives up.
 use denote.RattleType.{RattleType}
 use denote.Struct.Declared.{shape, fields}
-use denote.Enum.Declared as enum
-use denote.Param.Send.{IsSend, IsSync, AllSend, AllSync, EachSync, struct_send, struct_sync, enum_sync, recorded_send, recorded_sync, sendable}
+use denote.Param.Send.{IsSend, IsSync, AllSend, AllSync, struct_send, struct_sync, recorded_send, recorded_sync, sendable}
 use Rattle.std.proofs.Crossing.{crosses, Vec-send}
 use Rattle.std.proofs.alloc.Global.TheSendSync as heap
 use Rattle.base_devices.specs.declared.disk.Disk.{Ghosts}
@@ -12,49 +11,34 @@ use Rattle.engine_calls.proofs.answers.Refused.TheSendSync as refused
 use Rattle.engine_controller.proofs.controller.Controller.TheSendSync as controller
 use Rattle.engine_controller.proofs.pass.Pass.TheSendSync as pass
 use Rattle.engine_controller.proofs.pass.Note.TheSendSync as note
-use Rattle.table_tree.proofs.value.Value.TheSendSync as value
 use Rattle.model_base.proofs.write.WriteOptions.TheSendSync as options
 use Rattle.log_batch.proofs.batch.Batch.TheSendSync as batch
 use Rattle.table_tree.specs.contracts.node.Nodes as nodes
 use Rattle.table_tree.specs.contracts.tree.Tree as tree
 use Rattle.table_tree.specs.contracts.parts.Parts as parts
 use Rattle.table_tree.specs.contracts.parts.MemberNodes as part
-use Rattle.table_tree.proofs.node.Nodes.TheLaws.TheKnot as knot
-use Rattle.table_tree.proofs.node.Balance.TheSendSync as balance
-use Rattle.base_maps.proofs.key.Key.TheSendSync as key
-use Rattle.table_tree.specs.contracts.calls.TreeVersioned.TheImpl as tree_ghosts
-use Rattle.table_tree.specs.contracts.calls.NodesVersioned.TheImpl as nodes_ghosts
 use Rattle.table_steps.specs.contracts.seat.TableSeat as seat_row
 use Rattle.table_steps.specs.contracts.launching.Turn as turn_row
-use Rattle.table_steps.proofs.seat.TableSeat.TheSendSync as seat
-use Rattle.table_steps.proofs.launching.Turn.TheSendSync as turn
-use Rattle.table_one.proofs.table_one.OneTable.TheSendSync as one
-use Rattle.table_shards.proofs.shard_table.ShardTable.TheSendSync as many
-use Rattle.engine_memory.specs.contracts.memory_table.MemoryTable as table
-use Rattle.engine_memory.specs.contracts.memory_table.MemoryTableTableNodesParts.TheImpl as table_ghosts
+use Rattle.table_memory.specs.contracts.memory_table.MemoryTable as table
+use Rattle.table_memory.specs.contracts.calls.MemoryTableTableNodesParts.TheImpl as table_ghosts
+use Rattle.table_memory.proofs.Crossing.{nodes_send, seat_send, turn_send, table_sync}
 use Rattle.line_writers.proofs.line_writers.WriterList.TheSendSync as list
 use Rattle.line_writers.proofs.writer.Writer.TheSendSync as writer
 use Rattle.line_writers.proofs.room.Lists.TheSendSync as lists
-use Rattle.engine_groups.specs.contracts.requests.Request as request
-use Rattle.engine_groups.specs.contracts.requests.Reply as reply_row
-use Rattle.engine_groups.specs.contracts.held.Held as held_row
-use Rattle.engine_groups.specs.contracts.held.Right as right_row
-use Rattle.engine_groups.specs.contracts.held.About as about_row
-use Rattle.engine_groups.specs.contracts.layout.Layout as layout
+use Rattle.engine_parts.specs.contracts.requests.Request as request
+use Rattle.engine_parts.specs.contracts.requests.Answer as answer_row
+use Rattle.engine_groups.specs.contracts.leader.Leadership as leader_row
+use Rattle.engine_groups.specs.contracts.leader.Right as right_row
+use Rattle.engine_groups.specs.contracts.leader.EngineAtOpening as about_row
+use Rattle.engine_parts.specs.contracts.layout.Layout as layout
 use Rattle.engine_groups.specs.contracts.engine.GroupEngine as engine
-use Rattle.engine_groups.specs.contracts.engine.Client as client
-use Rattle.engine_groups.specs.contracts.requests.RequestItemized.TheImpl as itemized
-use Rattle.engine_groups.specs.contracts.requests.ReplyGiven.TheImpl as given
-use Rattle.engine_groups.specs.contracts.held.HeldLedgerRequestReplyRight.TheImpl as ledger
-use Rattle.engine_groups.proofs.held.Held.TheSendSync as held
-use Rattle.engine_groups.proofs.held.Right.TheSendSync as right
-use Rattle.engine_groups.proofs.numbering.Plan.TheSendSync as plan
-
-nodes_send : IsSend nodes.the_row
-nodes_send = search (sendable, crosses, knot.send-Nodes, key.the_send, value.the_send, balance.the_send) depth 9
-
-tree_send : IsSend tree.the_row
-tree_send = search (sendable, crosses, knot.send-Subtree, key.the_send, value.the_send, balance.the_send) depth 12
+use Rattle.engine_groups.specs.contracts.engine.EngineClient as client
+use Rattle.engine_parts.specs.contracts.requests.RequestHasGroupingItem.TheImpl as itemized
+use Rattle.engine_parts.specs.contracts.requests.AnswerGivesRun.TheImpl as given
+use Rattle.engine_groups.specs.contracts.leader.LeadershipLogOfGroupsRequestAnswerRight.TheImpl as ledger
+use Rattle.engine_groups.proofs.leader.Leadership.TheSendSync as leader
+use Rattle.engine_groups.proofs.leader.Right.TheSendSync as right
+use Rattle.engine_parts.proofs.numbering.Numbering.TheSendSync as numbering
 
 request_fields : AllSend (fields request.the_type)
 request_fields = (batch.the_send, (nodes_send, (options.the_field_send, (search (sendable, note.the_send), tt))))
@@ -62,11 +46,11 @@ request_fields = (batch.the_send, (nodes_send, (options.the_field_send, (search 
 request_send : IsSend request.the_row
 request_send = let C = request.the_type in recorded_send request.the_field.row C.D C.to C.to_one (struct_send (shape C) request_fields)
 
-reply_fields : AllSend (fields reply_row.the_type)
-reply_fields = (search (sendable, receipt.the_send, refused.the_send), (search crosses, (search (sendable, note.the_send), tt)))
+answer_fields : AllSend (fields answer_row.the_type)
+answer_fields = (search (sendable, receipt.the_send, refused.the_send), (search crosses, (search (sendable, note.the_send), tt)))
 
-reply_send : IsSend reply_row.the_row
-reply_send = let C = reply_row.the_type in recorded_send reply_row.the_field.row C.D C.to C.to_one (struct_send (shape C) reply_fields)
+answer_send : IsSend answer_row.the_row
+answer_send = let C = answer_row.the_type in recorded_send answer_row.the_field.row C.D C.to C.to_one (struct_send (shape C) answer_fields)
 
 part_fields : AllSend (fields part.the_type)
 part_fields = (search sendable, (nodes_send, tt))
@@ -78,7 +62,7 @@ parts_send : IsSend parts.the_row
 parts_send = search (sendable, Vec-send, part_send) depth 9
 
 layout_fields : AllSend (fields layout.the_type)
-layout_fields = (Vec-send _ plan.the_send, (Vec-send _ batch.the_send, (parts_send, (search (sendable, Vec-send), tt))))
+layout_fields = (Vec-send _ numbering.the_send, (Vec-send _ batch.the_send, (parts_send, (search (sendable, Vec-send), tt))))
 
 abbrev S : RattleType
 S = seat_row.the_row tree.the_row nodes.the_row
@@ -86,26 +70,12 @@ S = seat_row.the_row tree.the_row nodes.the_row
 abbrev U : RattleType
 U = turn_row.the_row tree.the_row nodes.the_row
 
-seat_send : IsSend S
-seat_send = seat.the_send tree.the_row nodes.the_row tree_send nodes_send
-
-turn_send : IsSend U
-turn_send = turn.the_send tree.the_row nodes.the_row tree_send nodes_send
-
-table_sync : IsSync table.the_row
-table_sync =
-    let C = table.the_type in
-    let one_sync = one.the_field_sync tree.the_row nodes.the_row tree_ghosts.ghosts nodes_ghosts.ghosts tree_send nodes_send in
-    let many_sync = many.the_field_sync tree.the_row nodes.the_row tree_ghosts.ghosts nodes_ghosts.ghosts tree_send nodes_send in
-    let each : EachSync (enum.variants C) = ((one_sync, tt), ((many_sync, tt), tt)) in
-    recorded_sync table.the_field.row C.D C.to C.to_one (enum_sync (enum.shape C) each)
-
 module _ (D C G : RattleType) (ghosts : Ghosts (RattleType.Denot D)) (disk_send : IsSend D) (clock_send : IsSend C) where
   abbrev H : RattleType
-  H = held_row.the_row D table.the_row C S U nodes.the_row ghosts
+  H = leader_row.the_row D table.the_row C S U nodes.the_row ghosts
 
-  held_send : IsSend H
-  held_send = held.the_send D table.the_row C S U nodes.the_row ghosts disk_send clock_send turn_send
+  leader_send : IsSend H
+  leader_send = leader.the_send D table.the_row C S U nodes.the_row ghosts disk_send clock_send turn_send
 
   abbrev M : RattleType
   M = right_row.the_row table.the_row S U nodes.the_row
@@ -116,11 +86,11 @@ module _ (D C G : RattleType) (ghosts : Ghosts (RattleType.Denot D)) (disk_send 
   pub client_send : IsSend (client.the_row D table.the_row C S U nodes.the_row ghosts)
   client_send =
       let K = client.the_type D table.the_row C S U nodes.the_row ghosts in
-      let all : AllSend (fields K) = (search sendable, (search sendable, (writer.the_field_send request.the_row reply_row.the_row H M request_send reply_send held_send right_send, (seat_send, (pass.the_field_send, (lists.the_field_send request.the_row reply_row.the_row request_send reply_send, (struct_send (shape layout.the_type) layout_fields, tt))))))) in
+      let all : AllSend (fields K) = (search sendable, (search sendable, (writer.the_field_send request.the_row answer_row.the_row H M request_send answer_send leader_send right_send, (seat_send, (pass.the_field_send, (lists.the_field_send request.the_row answer_row.the_row request_send answer_send, (struct_send (shape layout.the_type) layout_fields, tt))))))) in
       recorded_send (client.the_field D table.the_row C S U nodes.the_row ghosts).row K.D K.to K.to_one (struct_send (shape K) all)
 
   pub engine_sync : IsSync G → IsSync (engine.the_row D table.the_row C G S U nodes.the_row ghosts table_ghosts.ghosts)
   engine_sync gate_sync =
       let K = engine.the_type D table.the_row C G S U nodes.the_row ghosts table_ghosts.ghosts in
-      let all : AllSync (fields K) = (list.the_field_sync request.the_row reply_row.the_row H M (about_row.the_row D table.the_row C ghosts) itemized.ghosts given.ghosts (ledger.ghosts D table.the_row C S U nodes.the_row ghosts ledger.no_dict table_ghosts.ghosts ledger.no_dict) request_send reply_send held_send right_send, (table_sync, (controller.the_field_sync C, (gate_sync, (heap.the_field_sync, (search sendable, tt)))))) in
+      let all : AllSync (fields K) = (list.the_field_sync request.the_row answer_row.the_row H M (about_row.the_row D table.the_row C ghosts) itemized.ghosts given.ghosts (ledger.ghosts D table.the_row C S U nodes.the_row ghosts ledger.no_dict table_ghosts.ghosts ledger.no_dict) request_send answer_send leader_send right_send, (table_sync, (controller.the_field_sync C, (gate_sync, (heap.the_field_sync, (search sendable, tt)))))) in
       recorded_sync (engine.the_field D table.the_row C G S U nodes.the_row ghosts table_ghosts.ghosts).row K.D K.to K.to_one (struct_sync (shape K) all)

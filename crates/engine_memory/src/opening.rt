@@ -7,22 +7,21 @@ ghost use Rattle.log_writer.specs.Opening.{HasOpened};
 ghost use Rattle.line_writers.specs.Seats.{clients_of, piped_of};
 ghost use Rattle.model_accounts.specs.Accounts.{newcomer};
 ghost use Rattle.model_accounts.specs.Closing.{AreOurs};
-ghost use Rattle.run_calls.specs.Settings.{settings_of as settings_with};
+ghost use Rattle.model_base.specs.Settings.{settings_of as settings_with};
 ghost use Rattle.engine_groups.specs.Clients.{IsClientOf, HasRoomToClose, account_in, settings_of, opened_log};
-ghost use Rattle.engine_memory.specs.Tables.{opening_of, account_of, IsOurs, shards_of, HasShards};
+ghost use Rattle.table_memory.specs.Meaning.{memory_table, opening_of};
 
-use crate::memory_table::MemoryTable;
-use crate::table_kind::TableKind;
 use base_devices::{Clock, Disk};
 use engine_calls::Gate;
-use engine_groups::{Client, Clients, GroupEngine, OpenRefused, Room};
+use engine_groups::{Clients, ClosingRoom, EngineClient, GroupEngine, OpenRefused};
 use log_writer::LogWriter;
-use run_calls::Options;
+use model_base::{MAX_CLIENTS, MAX_SIZE, Options};
 use std::alloc::Global;
+use table_memory::MemoryTable;
 
-/// An engine over an opened log and a table of this kind, with so many clients, of which none has done anything. Where
-/// memory is short, log, clock and gate come back. Its groups go into the table in a stage of their own where it is
-/// pipelined.
+/// An engine over an opened log and a table of so many shards, at least one, with so many clients, of which none has
+/// done anything. Where memory is short, log, clock and gate come back. Its groups go into the table in a stage of their
+/// own where it is pipelined.
 pub fn open_engine<D: Disk, C: Clock + Drop, G: Gate + Drop>(
     alloc: Global,
     log: LogWriter<D>,
@@ -30,32 +29,32 @@ pub fn open_engine<D: Disk, C: Clock + Drop, G: Gate + Drop>(
     clients: u32,
     gate: G,
     options: Options,
-    kind: TableKind,
+    shards: u32,
     pipelined: bool,
 ) -> Result<
     (
         GroupEngine<D, MemoryTable, C, G>,
-        Clients<Client<D, MemoryTable, C>, Room<D, MemoryTable, C>>,
+        Clients<EngineClient<D, MemoryTable, C>, ClosingRoom<D, MemoryTable, C>>,
     ),
     (LogWriter<D>, C, G),
 >
-    requires options { (options.last ≤ max_sequence) × (options.batch_bytes ≤ 16777216) }
-    requires clients { (0 < clients) × (clients ≤ 16) }
+    requires options { (options.last ≤ max_sequence) × (options.batch_bytes ≤ MAX_SIZE) }
+    requires clients { (0 < clients) × (clients ≤ MAX_CLIENTS) }
     requires log { (disk : D) × HasOpened disk log }
-    requires kind { HasShards kind }
+    requires shards { 0 < shards }
     ensures engine { IfOk result (λ r. (opened_log r.0 ≡ log)
-        × (settings_of opening_of IsOurs account_of r.0
+        × (settings_of memory_table r.0
         ≡ settings_with options clients (D.faults (disk_of log)))) }
-    ensures table { IfOk result (λ r. (opening_of r.0.table).shards ≡ shards_of kind) }
-    ensures clients { IfOk result (λ r. AreOurs (IsClientOf opening_of IsOurs account_of r.0)
-        (account_in opening_of IsOurs account_of) (clients_of r.0.list) r.1.clients.items) }
+    ensures table { IfOk result (λ r. (opening_of r.0.table).shards ≡ shards) }
+    ensures clients { IfOk result (λ r. AreOurs (IsClientOf memory_table r.0)
+        (account_in memory_table) (clients_of r.0.list) r.1.clients.items) }
     ensures new { IfOk result (λ r. (i : ℕ) (c : _) → slice_get r.1.clients.items i ≡ Some c
-        → account_in opening_of IsOurs account_of c ≡ newcomer options.last (i + 1)) }
+        → account_in memory_table c ≡ newcomer options.last (i + 1)) }
     ensures room { IfOk result (λ r. HasRoomToClose r.0.controller (clients_of r.0.list) r.1.room) }
     ensures stages { IfOk result (λ r. piped_of r.0.list ≡ pipelined) }
     ensures err { IfErr result (λ e. (e.0 ≡ log) × (e.1 ≡ clock) × (e.2 ≡ gate)) }
 {
-    let Ok((table, seats)) = MemoryTable::open(alloc, clients, options.last, kind) else {
+    let Ok((table, seats)) = MemoryTable::open(alloc, clients, options.last, shards) else {
         return Err((log, clock, gate));
     };
     match GroupEngine::open(alloc, log, clock, table, seats, gate, options, pipelined) {

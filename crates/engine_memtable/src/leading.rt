@@ -15,7 +15,7 @@ ghost use Rattle.line_writers.specs.Seats.{Belongs, client_of, clients_of};
 ghost use Rattle.line_writers.specs.Second.{HasRight};
 
 use crate::working::work;
-use line_rule::{Given, Itemized, Ledger};
+use line_rule::{GivesRun, HasGroupingItem, LogOfGroups};
 use line_writers::{Writer, WriterList};
 use std::sync::Wait;
 use table_calls::{GroupParts, Table};
@@ -50,18 +50,18 @@ pub fn await_group<N: Versioned, P: GroupParts<N>, T: Table<N, P>, R: Wait>(
 /// the leader, since who is told without a part waits for one forever, and the leader waits forever for one who has a
 /// part and isn't told. `end` is the group's last sequence.
 pub fn lead<
-    Q: Itemized,
-    A: Given,
-    L: Ledger<Q, A, M>,
-    M,
+    Request: HasGroupingItem,
+    Reply: GivesRun,
+    Log: LogOfGroups<Request, Reply, Right>,
+    Right,
     N: Versioned,
     P: GroupParts<N>,
     T: Table<N, P>,
     R: Wait,
 >(
     rt: &R,
-    list: &WriterList<Q, A, L, M>,
-    writer: &mut Writer<Q, A, L, M>,
+    list: &WriterList<Request, Reply, Log, Right>,
+    writer: &mut Writer<Request, Reply, Log, Right>,
     table: &T,
     seat: &mut T::Seat,
     turn: T::Turn,
@@ -69,8 +69,8 @@ pub fn lead<
     parts: &mut P,
     end: u64,
 ) -> T::Turn
-    requires leads { Belongs list.now writer.old × ((d : Debt Q A) × (from to : List (Handling Q A))
-        × (mine : List (Q × A)) × HasRight (clients_of list.now) d from to mine writer.old
+    requires leads { Belongs list.now writer.old × ((d : Debt Request Reply) × (from to : List (Handling Request Reply))
+        × (mine : List (Request × Reply)) × HasRight (clients_of list.now) d from to mine writer.old
         × AreMembers (clients_of list.now) members.now d.rest) }
     requires ours { T.ours table.now seat.old × T.our_turn table.now turn × IsReady (T.account seat.old) }
     requires next { IsNext (T.opening table.now) (T.history turn) (P.parts parts.old) }
@@ -78,7 +78,7 @@ pub fn lead<
     requires end { (end ≡ end_of (last_of (T.opening table.now).start (T.history turn)) (P.parts parts.old))
         × (end < 2 ^ 64) }
     ensures client { (client_of writer.new ≡ client_of writer.old) × Belongs list.now writer.new }
-    ensures leads { (d : Debt Q A) (from to : List (Handling Q A)) (mine : List (Q × A))
+    ensures leads { (d : Debt Request Reply) (from to : List (Handling Request Reply)) (mine : List (Request × Reply))
         → HasRight (clients_of list.now) d from to mine writer.old
         → HasRight (clients_of list.now) d from to mine writer.new }
     ensures ours { T.ours table.now seat.new × T.our_turn table.now result × IsReady (T.account seat.new) }

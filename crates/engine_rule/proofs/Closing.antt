@@ -18,21 +18,24 @@ use Rattle.model_base.specs.Counts.{Rose}
 use Rattle.model_base.specs.Grouping.{group_len}
 use Rattle.model_base.specs.LogContents.{GroupCall}
 use Rattle.table_rule.specs.declared.content.MemberVersions.{MemberVersions}
-use Rattle.model_runs.specs.Lost.{fitting, IsLost}
+use Rattle.model_runs.specs.Lost.{batches_that_fit, IsLost}
 use Rattle.model_accounts.specs.Sights.{Saw}
 use Rattle.model_accounts.specs.Accounts.{Account}
 use Rattle.model_accounts.specs.Closing.{IsAccountOf, IsClosing, all_attempts}
-use Rattle.model_accounts.specs.Led.{AreLed, Led, groups_of}
+use Rattle.model_accounts.specs.Led.{AreLed, Led, all_taken, groups_of}
+use Rattle.model_accounts.specs.Parts.{AreParts, ends_in}
 use Rattle.model_runs.specs.Written.{AreLost, IsLostCall, WritesLog}
 use Rattle.engine_rule.specs.Commits.{Answer, AreAnswered, AreOfClients, Commit, IsAnswer, accepted, held_up, commits_of, failed, fault_after, fault_after_all, last_after, last_after_all, no_room}
 use Rattle.engine_rule.specs.Consistent.{AreConsistent}
 use Rattle.engine_rule.specs.Asked.{HasAsked, place_of}
-use Rattle.engine_rule.specs.Entries.{AreCallsOf, HasPart, trace_of, attempt_of, entries_after, entries_of, entry_after, entry_with, status_of}
+use Rattle.engine_rule.specs.Entries.{AreCallsOf, HasPart, trace_of, attempt_of, ends_of, entries_after, entries_of, entry_after, entry_with, status_of}
 use Rattle.engine_rule.specs.LogCalls.{AreLostWrites, IsLostWrite}
-use Rattle.engine_rule.specs.Plans.{AreLogged, CommitRequest, HaveOwnClients, all_failed, answered, batches_from, item_of_request}
+use Rattle.engine_rule.specs.Plans.{AreLogged, CommitRequest, HaveOwnClients, all_failed, commit_of_request, batches_from, item_of_request}
 use Rattle.engine_rule.proofs.Chains.{entries_clients, entries_history, entries_own, images_entries}
+use Rattle.engine_rule.proofs.GroupParts.{ends_are, parts_after, parts_cut, parts_named}
 use Rattle.engine_rule.proofs.Leaders.{are_led, led_of}
 use Rattle.model_accounts.proofs.Leading.{groups_from_led, slowed_holds}
+use Rattle.model_accounts.proofs.Parts.{parts_made}
 use Rattle.model_accounts.proofs.Seeing.{saw_published}
 use Rattle.engine_controller.specs.Delays.{delays_of}
 use Rattle.engine_controller.proofs.Account.{goes_begins, goes_tokens}
@@ -134,34 +137,34 @@ handled_at (u ∷ before) c after = by (u.client == c.client) refl (handled_at b
 
 members_behind : List ControllerCall → List Commit → ℕ → List CommitRequest → List Member
 members_behind known before n [] = []
-members_behind known before n (a ∷ requests) = record { client = a.client; call = length (commits_of a.client before); item = item_of_request a } ∷ members_behind known (before ++ answered known a (failed n) ∷ []) n requests
+members_behind known before n (a ∷ requests) = record { client = a.client; call = length (commits_of a.client before); item = item_of_request a } ∷ members_behind known (before ++ commit_of_request known a (failed n) ∷ []) n requests
 
 items_behind : (known : List ControllerCall) (before : List Commit) (n : ℕ) (requests : List CommitRequest) → items_of (members_behind known before n requests) ≡ map item_of_request requests
 unfolding members_behind
 items_behind known before n [] = refl
-items_behind known before n (a ∷ requests) = ap (λ is. item_of_request a ∷ is) (items_behind known (before ++ answered known a (failed n) ∷ []) n requests)
+items_behind known before n (a ∷ requests) = ap (λ is. item_of_request a ∷ is) (items_behind known (before ++ commit_of_request known a (failed n) ∷ []) n requests)
 
 length_behind : (known : List ControllerCall) (before : List Commit) (n : ℕ) (requests : List CommitRequest) → length (members_behind known before n requests) ≡ length requests
 unfolding members_behind
 length_behind known before n [] = refl
-length_behind known before n (a ∷ requests) = ap suc (length_behind known (before ++ answered known a (failed n) ∷ []) n requests)
+length_behind known before n (a ∷ requests) = ap suc (length_behind known (before ++ commit_of_request known a (failed n) ∷ []) n requests)
 
 unlike_behind : (known : List ControllerCall) (client : ℕ) (before : List Commit) (n : ℕ) (requests : List CommitRequest) → AllByRecursion (λ (b : CommitRequest). client ≢ b.client) requests → AllByRecursion (λ (m : Member). client ≢ m.client) (members_behind known before n requests)
 unfolding members_behind
 unlike_behind known client before n [] h = tt
-unlike_behind known client before n (a ∷ requests) h = (h.0, unlike_behind known client (before ++ answered known a (failed n) ∷ []) n requests h.1)
+unlike_behind known client before n (a ∷ requests) h = (h.0, unlike_behind known client (before ++ commit_of_request known a (failed n) ∷ []) n requests h.1)
 
 others_behind : (known : List ControllerCall) (before : List Commit) (n : ℕ) (requests : List CommitRequest) → HaveOwnClients requests → AreOfOthers (members_behind known before n requests)
 unfolding members_behind
 others_behind known before n [] h = tt
-others_behind known before n (a ∷ requests) h = (unlike_behind known a.client (before ++ answered known a (failed n) ∷ []) n requests h.0, others_behind known (before ++ answered known a (failed n) ∷ []) n requests h.1)
+others_behind known before n (a ∷ requests) h = (unlike_behind known a.client (before ++ commit_of_request known a (failed n) ∷ []) n requests h.0, others_behind known (before ++ commit_of_request known a (failed n) ∷ []) n requests h.1)
 
-fitting_is : (last : ℕ) (requests : List CommitRequest) → fitting last (map (λ (a : CommitRequest). a.records) requests) ≡ batches_from last requests
+fitting_is : (last : ℕ) (requests : List CommitRequest) → batches_that_fit last (map (λ (a : CommitRequest). a.records) requests) ≡ batches_from last requests
 fitting_is last [] = refl
 fitting_is last (a ∷ requests) = by (nat_le (last + count_of a.records) max_sequence) refl (λ m. fitting_is m requests)
   where
-    by : (b : Bool) → nat_le (last + count_of a.records) max_sequence ≡ b → ((m : ℕ) → fitting m (map (λ (a : CommitRequest). a.records) requests) ≡ batches_from m requests)
-        → cond b (a.records ∷ fitting (last + count_of a.records) (map (λ (a : CommitRequest). a.records) requests)) (fitting last (map (λ (a : CommitRequest). a.records) requests)) ≡ cond b (a.records ∷ []) [] ++ batches_from (cond b (last + count_of a.records) last) requests
+    by : (b : Bool) → nat_le (last + count_of a.records) max_sequence ≡ b → ((m : ℕ) → batches_that_fit m (map (λ (a : CommitRequest). a.records) requests) ≡ batches_from m requests)
+        → cond b (a.records ∷ batches_that_fit (last + count_of a.records) (map (λ (a : CommitRequest). a.records) requests)) (batches_that_fit last (map (λ (a : CommitRequest). a.records) requests)) ≡ cond b (a.records ∷ []) [] ++ batches_from (cond b (last + count_of a.records) last) requests
     by true e more = ap (λ l. a.records ∷ l) (more (last + count_of a.records))
     by false e more = more last
 
@@ -171,7 +174,7 @@ module _ (cs : List Commit) (accounts : List Account) (clients : ℕ) (all : len
   unfolding members_behind
   lost_members known n before [] after split h named = tt
   lost_members known n before (a ∷ requests) after split h named =
-      let c : Commit = answered known a (failed n) in (
+      let c : Commit = commit_of_request known a (failed n) in (
         elim (slice_get_cases accounts (a.client - 1)).1 [
           | inl there ↦ (
               let number : a.client ≡ (a.client - 1) + 1 = (let low = named.0.0 in omega arith) in
@@ -249,12 +252,25 @@ module _ (settings : Settings) (cs : List Commit) (last : ℕ) (fault : Option �
     led = map led_of k.in_groups.groups
 
     is_led : AreLed settings.group_bytes history led (all_attempts accounts)
-    is_led = are_led settings.group_bytes asked history cs k.in_groups within settings.clients (all_attempts accounts) (some_length (λ (x : Account). x.attempts) accounts settings.clients all) k.of_clients calls_of have_asked own_is
+    is_led = are_led settings.start settings.group_bytes asked history cs k.in_groups within settings.clients (all_attempts accounts) (some_length (λ (x : Account). x.attempts) accounts settings.clients all) k.of_clients calls_of have_asked own_is
 
     statuses : AllByRecursion (HasStatus trace (groups_of led) fault) cs
     statuses = all_statuses trace (groups_of led) fault settings.start None [] cs k.answered k.fault_is refl refl
 
-    part_of : (i : ℕ) (a : Account) → slice_get accounts i ≡ Some a → IsAccountOf trace (groups_of led) fault a
+    abbrev parts : List (List Entry)
+    parts = parts_after [] k.in_groups.groups
+
+    are_parts : AreParts (all_attempts accounts) (groups_of led) (entries_of cs) parts
+    are_parts = record {
+      cut = parts_cut [] k.in_groups.groups ∙ ap entries_of k.in_groups.cut;
+      made = parts_made (all_attempts accounts) (all_taken led) is_led.of_client [] led parts refl is_led.clients (parts_named [] k.in_groups.groups);
+    }
+
+    ends_told : (client : ℕ) → ends_in client parts ≡ ends_of (commits_of client cs)
+    ends_told client =
+        ends_are client settings.start None [] k.in_groups.groups (subst (AreAnswered settings.start None) (sym k.in_groups.cut) k.answered) k.in_groups.name_ends ∙ ap (λ ds. ends_of (commits_of client ds)) k.in_groups.cut
+
+    part_of : (i : ℕ) (a : Account) → slice_get accounts i ≡ Some a → IsAccountOf trace (groups_of led) parts fault a
     part_of i a there =
         let h = are i a there in
         let number : a.number ≡ i + 1 = ap (λ b. b.number) h.is in
@@ -262,6 +278,7 @@ module _ (settings : Settings) (cs : List Commit) (last : ℕ) (fault : Option �
         λ j attempt place at is. subst (Holds (groups_of led) place (i + 1)) (from_none j) (slowed_holds settings.group_bytes history led (all_attempts accounts) is_led i (map attempt_of (commits_of (i + 1) cs)) j attempt place (attempts_at i a there) at is) in
         record {
           accepted = ap (λ n. entries_of_client n (entries_of cs)) number ∙ (entries_own (i + 1) [] [] cs refl ∙ sym (ap (λ b. b.mine) h.is));
+          ends = ap (λ b. b.ends) h.is ∙ (sym (ends_told (i + 1)) ∙ ap (λ n. ends_in n parts) (sym number));
           tokens = ap (λ n. tokens_of n history) number ∙ (goes_tokens (i + 1) h.known history h.goes_on ∙ sym (ap (λ b. b.asked) h.is));
           statuses = subst (λ (z : ℕ × List Attempt). AreStatuses trace (groups_of led) fault z.0 0 z.1) (λ j. (sym number j, sym (attempts_are i a there) j)) (own_statuses trace (groups_of led) fault (i + 1) 0 cs statuses held);
           seen = subst (λ (b : Account). Saw b.seen trace) (sym h.is)
@@ -281,6 +298,8 @@ module _ (settings : Settings) (cs : List Commit) (last : ℕ) (fault : Option �
       record {
         is_trace = record { start = refl; entries = is_history.0; controller_calls = legal; clients = entries_clients settings.clients [] cs k.of_clients; tokens = of_tokens settings.clients history calls_of };
         are_groups = groups_from_led settings.group_bytes history led (all_attempts accounts) is_led;
+        parts = parts;
+        are_parts = are_parts;
         each = part_of;
         last_is = last_is;
         fault_is = rose;
@@ -303,7 +322,7 @@ module _ (settings : Settings) (cs : List Commit) (last : ℕ) (fault : Option �
           };
           all = map (λ (a : CommitRequest). a.records) g.requests;
           each = lost_members cs accounts settings.clients all (λ i a there. ap (λ b. b.attempts) (are i a there).is) g.known n g.front g.requests g.rest g.split g.writes.to_log named;
-          batches_are = g.writes.batches ∙ (sym (fitting_is last g.requests) ∙ ap (λ m. fitting m (map (λ (a : CommitRequest). a.records) g.requests)) last_is);
+          batches_are = g.writes.batches ∙ (sym (fitting_is last g.requests) ∙ ap (λ m. batches_that_fit m (map (λ (a : CommitRequest). a.records) g.requests)) last_is);
           some = g.writes.some;
         };
       }

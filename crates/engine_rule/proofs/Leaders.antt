@@ -23,11 +23,20 @@ use Rattle.engine_rule.specs.Plans.{CommitRequest, HasLooked, HaveOwnClients, Le
 use Rattle.engine_rule.specs.Asked.{AreInGroups, AreTogether, HasAsked, IsLedGroup, LedGroup, Rise, is_held_up, place_of, request_of}
 use Rattle.engine_rule.specs.Entries.{attempt_of, status_of}
 
-abbrev taken_of : Commit → Taken
+abbrev pub taken_of : Commit → Taken
 taken_of c = record { client = c.client; attempt = attempt_of c }
 
 abbrev pub led_of : LedGroup → Led
 led_of g = record { place = length g.known - 1; commits = map taken_of g.commits }
+
+-- a client's commits among them
+pub attempts_taken : (client : ℕ) (ds : List Commit) → attempts_of client (map taken_of ds) ≡ map attempt_of (commits_of client ds)
+attempts_taken client [] = refl
+attempts_taken client (d ∷ ds) = by (d.client == client) refl (attempts_taken client ds)
+  where
+    by : (b : Bool) → (d.client == client) ≡ b → attempts_of client (map taken_of ds) ≡ map attempt_of (commits_of client ds) → attempts_of client (map taken_of (d ∷ ds)) ≡ map attempt_of (commits_of client (d ∷ ds))
+    by true e h = rw e (ap (λ l. attempt_of d ∷ l) h)
+    by false e h = rw e h
 
 -- Each group was asked for
 
@@ -117,7 +126,7 @@ last_there before t known history is p =
     let whole : before ++ t ∷ p.0 ≡ history = sym (append_assoc before (t ∷ []) p.0) ∙ (ap (λ l. l ++ p.0) (sym is) ∙ p.1) in
     subst (λ (z : List ControllerCall × ℕ). slice_get z.0 z.1 ≡ Some t) (λ i. (whole i, place i)) (get_behind before p.0 t)
 
-module _ (group_bytes : ℕ) (asked history : List ControllerCall) (cs : List Commit) (k : AreInGroups group_bytes asked cs) (within : IsPrefix asked history) where
+module _ (start group_bytes : ℕ) (asked history : List ControllerCall) (cs : List Commit) (k : AreInGroups start group_bytes asked cs) (within : IsPrefix asked history) where
   abbrev pub led : List Led
   led = map led_of k.groups
 
@@ -193,7 +202,7 @@ module _ (group_bytes : ℕ) (asked history : List ControllerCall) (cs : List Co
   may_proceed g h p clear leader numbers false (inr looked) = inr (saw_no_stop g h p clear leader looked)
 
   all_proceed : (g : LedGroup) → IsLedGroup group_bytes g → IsPrefix g.went asked → AllByRecursion (IsClear g) k.groups → (leader : ℕ) (numbers : Look) (ds : List Commit)
-      → AllByRecursion (λ (q : CommitRequest). LetsProceed leader numbers g.known g.went q.options.no_slowdown) (map request_of ds) → AllByRecursion (λ (i : Item). MayProceed history places_led leader (length g.known - 1) numbers i.no_slowdown) (items_in (map taken_of ds))
+      → AllByRecursion (λ (q : CommitRequest). LetsProceed leader numbers g.known g.went q.options.no_slowdown) (map request_of ds) → AllByRecursion (λ (i : Item). MayProceed history places_led leader (length g.known - 1) numbers i.options.no_slowdown) (items_in (map taken_of ds))
   all_proceed g h p clear leader numbers [] lets = tt
   all_proceed g h p clear leader numbers (d ∷ ds) lets = (may_proceed g h p clear leader numbers d.options.no_slowdown lets.0, all_proceed g h p clear leader numbers ds lets.1)
 
@@ -215,7 +224,7 @@ module _ (group_bytes : ℕ) (asked history : List ControllerCall) (cs : List Co
               bytes = size_of (items_in (map taken_of g.commits));
               numbers = h.numbers;
               there = delay_there g h p;
-              each = subst (λ (q : CommitRequest). AllByRecursion (λ (i : Item). MayProceed history places_led q.client (length g.known - 1) h.numbers i.no_slowdown) (items_in (map taken_of g.commits))) leader_is
+              each = subst (λ (q : CommitRequest). AllByRecursion (λ (i : Item). MayProceed history places_led q.client (length g.known - 1) h.numbers i.options.no_slowdown) (items_in (map taken_of g.commits))) leader_is
                   (all_proceed g h p clear t.1.leader.client h.numbers g.commits t.1.each);
             },
           )
@@ -237,14 +246,6 @@ module _ (group_bytes : ℕ) (asked history : List ControllerCall) (cs : List Co
   clients_of : (n : ℕ) (ds : List Commit) → AreOfClients n ds → AllByRecursion (λ (t : Taken). (1 ≤ t.client) × (t.client ≤ n)) (map taken_of ds)
   clients_of n [] h = tt
   clients_of n (d ∷ ds) h = (h.0, clients_of n ds h.1)
-
-  attempts_taken : (client : ℕ) (ds : List Commit) → attempts_of client (map taken_of ds) ≡ map attempt_of (commits_of client ds)
-  attempts_taken client [] = refl
-  attempts_taken client (d ∷ ds) = by (d.client == client) refl (attempts_taken client ds)
-    where
-      by : (b : Bool) → (d.client == client) ≡ b → attempts_of client (map taken_of ds) ≡ map attempt_of (commits_of client ds) → attempts_of client (map taken_of (d ∷ ds)) ≡ map attempt_of (commits_of client (d ∷ ds))
-      by true e h = rw e (ap (λ l. attempt_of d ∷ l) h)
-      by false e h = rw e h
 
   -- Each delay was asked for one of them
 

@@ -6,4 +6,5 @@ pub mod Own
 pub mod Synced
 pub mod Steps
 pub mod Leaders
+pub mod GroupParts
 pub mod Closing

@@ -1,5 +1,5 @@
 -- One group more, for which its leader asked the controller.
-use Rattle.std.proofs.Common.{◌≡◌, inl, inr, ℕ, ◌+◌, ◌<◌, Bool, true, false, nat_le, map, List, [], ◌∷◌, ◌++◌, length, refl, ap, sym, ◌∙◌, subst, arith, append_assoc, append-nil, length-append}
+use Rattle.std.proofs.Common.{◌≡◌, inl, inr, ℕ, ◌+◌, ◌<◌, Bool, true, false, nat_le, map, List, [], ◌∷◌, ◌++◌, flat_map, length, refl, ap, sym, ◌∙◌, subst, arith, append_assoc, append-nil, length-append}
 use Rattle.std.specs.List.{AllByRecursion}
 use Rattle.std.proofs.lemmas.Grind.{flat_map-append}
 use mathlib.Core.List.{IsPrefix}
@@ -8,9 +8,11 @@ use Rattle.model_base.specs.Controller.{ControllerCall, HoldUp, Look}
 use Rattle.model_base.specs.History.{max_sequence}
 use Rattle.model_base.proofs.Prefixes.{prefix_length, prefix_self}
 pub use Rattle.model_base.proofs.Prefixes.{prefix_trans}
-use Rattle.engine_rule.specs.Commits.{Answer, Commit, held_up, failed}
-use Rattle.engine_rule.specs.Plans.{ComesAfter, CommitRequest, IsAskedFor, IsWholeGroup, MayNotWait, ProceedsWith, all_failed, all_held_up, answer_with, answered, last_with, planned}
-use Rattle.engine_rule.specs.Asked.{AreInGroups, AreTogether, IsHeldUp, IsLedGroup, LedGroup, Rise, is_held_up, request_of}
+use Rattle.engine_rule.specs.Commits.{Answer, Commit, NamesEnd, held_up, failed, last_after_all}
+use Rattle.engine_rule.specs.Plans.{ComesAfter, CommitRequest, IsAskedFor, IsWholeGroup, MayNotWait, ProceedsWith, all_failed, all_held_up, answer_with, commit_of_request, last_with, last_with_all, commits_of_plan}
+use Rattle.engine_rule.specs.Asked.{AreInGroups, AreTogether, IsHeldUp, IsLedGroup, LedGroup, NameEnds, Rise, is_held_up, request_of}
+use Rattle.engine_rule.proofs.Chains.{end_append}
+use Rattle.engine_rule.proofs.Plans.{planned_end}
 
 pub all_append : {X : Type 0} (P : X → Type 0) (xs ys : List X) → AllByRecursion P xs → AllByRecursion P ys → AllByRecursion P (xs ++ ys)
 all_append P [] ys a b = b
@@ -19,6 +21,18 @@ all_append P (x ∷ xs) ys a b = (a.0, all_append P xs ys a.1 b)
 rise_more : (groups : List LedGroup) (g : LedGroup) → Rise groups → AllByRecursion (λ (h : LedGroup). length h.went < length g.known) groups → Rise (groups ++ g ∷ [])
 rise_more [] g r below = (tt, tt)
 rise_more (h ∷ groups) g r below = (all_append (λ (i : LedGroup). length h.went < length i.known) groups (g ∷ []) r.0 (below.0, tt), rise_more groups g r.1 below.1)
+
+-- its accepted members name what is given last after it
+abbrev pub NameEnd : ℕ → List Commit → Type 0
+NameEnd end cs = AllByRecursion (λ (c : Commit). NamesEnd end c.answer) cs
+
+ends_more : (last : ℕ) (groups : List LedGroup) (g : LedGroup) → NameEnds last groups → NameEnd (last_after_all (last_after_all last (flat_map (λ (h : LedGroup). h.commits) groups)) g.commits) g.commits → NameEnds last (groups ++ g ∷ [])
+ends_more last [] g r now = (now, tt)
+ends_more last (h ∷ groups) g r now = (
+  r.0,
+  ends_more (last_after_all last h.commits) groups g r.1
+      (subst (λ n. NameEnd (last_after_all n g.commits) g.commits) (end_append last h.commits (flat_map (λ (i : LedGroup). i.commits) groups)) now),
+)
 
 -- what the leaders before had seen begins what this one had seen when it asked, and is shorter
 module _ (asked known went : List ControllerCall) (comes : ComesAfter asked known) (goes : IsPrefix known went) where
@@ -41,14 +55,16 @@ module _ (asked known went : List ControllerCall) (comes : ComesAfter asked know
   all_shorter [] h = tt
   all_shorter (g ∷ groups) h = (shorter g.went h.0, all_shorter groups h.1)
 
-  group_more : (group_bytes : ℕ) (cs new : List Commit) → AreInGroups group_bytes asked cs → IsLedGroup group_bytes (record { known = known; went = went; commits = new }) → AreInGroups group_bytes went (cs ++ new)
-  group_more group_bytes cs new k led =
+  group_more : (start group_bytes : ℕ) (cs new : List Commit) → AreInGroups start group_bytes asked cs → IsLedGroup group_bytes (record { known = known; went = went; commits = new })
+      → NameEnd (last_after_all (last_after_all start cs) new) new → AreInGroups start group_bytes went (cs ++ new)
+  group_more start group_bytes cs new k led named =
       let g : LedGroup = record { known = known; went = went; commits = new } in record {
         groups = k.groups ++ g ∷ [];
         cut = flat_map-append (λ (h : LedGroup). h.commits) k.groups (g ∷ []) ∙ (λ i. k.cut i ++ append-nil new i);
         each = all_append (IsLedGroup group_bytes) k.groups (g ∷ []) k.each (led, tt);
         seen = all_append (λ (h : LedGroup). IsPrefix h.went went) k.groups (g ∷ []) (seen_later k.groups k.seen) (prefix_self went, tt);
         rise = rise_more k.groups g k.rise (all_shorter k.groups k.seen);
+        name_ends = ends_more start k.groups g k.name_ends (subst (λ ds. NameEnd (last_after_all (last_after_all start ds) new) new) (sym k.cut) named);
       }
 
 -- the leader's runs tell nobody that writes are held up
@@ -59,46 +75,62 @@ planned_not last end records = by (nat_le (last + count_of records) max_sequence
     by true t = rw t refl
     by false t = rw t refl
 
+-- and name its group's end
+plan_named : (last end : ℕ) (records : List Record) → NamesEnd end (answer_with last end records)
+plan_named last end records = by (nat_le (last + count_of records) max_sequence) refl
+  where
+    by : (b : Bool) → nat_le (last + count_of records) max_sequence ≡ b → NamesEnd end (answer_with last end records)
+    by true t = rw t refl
+    by false t = rw t tt
+
 -- who isn't held up tells of no numbers
 not_told : (numbers : Look) (cs : List Commit) → AllByRecursion (λ (c : Commit). is_held_up c.answer ≡ false) cs → AllByRecursion (IsHeldUp numbers) cs
 not_told numbers [] h = tt
 not_told numbers (c ∷ cs) h = ((λ told e. let is : true ≡ false = ap is_held_up (sym e) ∙ h.0 in absurd (cc)), not_told numbers cs h.1)
 
 module _ (known : List ControllerCall) where
-  planned_are : (last end : ℕ) (rs : List CommitRequest) → map request_of (planned known last end rs) ≡ rs
+  planned_are : (last end : ℕ) (rs : List CommitRequest) → map request_of (commits_of_plan known last end rs) ≡ rs
   planned_are last end [] = refl
   planned_are last end (q ∷ rs) = ap (λ l. q ∷ l) (planned_are (last_with last q.records) end rs)
 
-  planned_same : (last end : ℕ) (rs : List CommitRequest) → AllByRecursion (λ (c : Commit). c.controller_calls ≡ known) (planned known last end rs)
+  planned_same : (last end : ℕ) (rs : List CommitRequest) → AllByRecursion (λ (c : Commit). c.controller_calls ≡ known) (commits_of_plan known last end rs)
   planned_same last end [] = tt
   planned_same last end (q ∷ rs) = (refl, planned_same (last_with last q.records) end rs)
 
-  planned_go_on : (last end : ℕ) (rs : List CommitRequest) → AllByRecursion (λ (c : Commit). is_held_up c.answer ≡ false) (planned known last end rs)
+  planned_go_on : (last end : ℕ) (rs : List CommitRequest) → AllByRecursion (λ (c : Commit). is_held_up c.answer ≡ false) (commits_of_plan known last end rs)
   planned_go_on last end [] = tt
   planned_go_on last end (q ∷ rs) = (planned_not last end q.records, planned_go_on (last_with last q.records) end rs)
 
+  planned_named : (last end : ℕ) (rs : List CommitRequest) → NameEnd end (commits_of_plan known last end rs)
+  planned_named last end [] = tt
+  planned_named last end (q ∷ rs) = (plan_named last end q.records, planned_named (last_with last q.records) end rs)
+
   -- all are answered alike
-  alike_are : (v : Answer) (rs : List CommitRequest) → map request_of (map (λ (q : CommitRequest). answered known q v) rs) ≡ rs
+  alike_are : (v : Answer) (rs : List CommitRequest) → map request_of (map (λ (q : CommitRequest). commit_of_request known q v) rs) ≡ rs
   alike_are v [] = refl
   alike_are v (q ∷ rs) = ap (λ l. q ∷ l) (alike_are v rs)
 
-  alike_same : (v : Answer) (rs : List CommitRequest) → AllByRecursion (λ (c : Commit). c.controller_calls ≡ known) (map (λ (q : CommitRequest). answered known q v) rs)
+  alike_same : (v : Answer) (rs : List CommitRequest) → AllByRecursion (λ (c : Commit). c.controller_calls ≡ known) (map (λ (q : CommitRequest). commit_of_request known q v) rs)
   alike_same v [] = tt
   alike_same v (q ∷ rs) = (refl, alike_same v rs)
 
-  alike_held : (v : Answer) (b : Bool) → is_held_up v ≡ b → (rs : List CommitRequest) → AllByRecursion (λ (c : Commit). is_held_up c.answer ≡ b) (map (λ (q : CommitRequest). answered known q v) rs)
+  alike_held : (v : Answer) (b : Bool) → is_held_up v ≡ b → (rs : List CommitRequest) → AllByRecursion (λ (c : Commit). is_held_up c.answer ≡ b) (map (λ (q : CommitRequest). commit_of_request known q v) rs)
   alike_held v b is [] = tt
   alike_held v b is (q ∷ rs) = (is, alike_held v b is rs)
+
+  alike_named : (v : Answer) (end : ℕ) → NamesEnd end v → (rs : List CommitRequest) → NameEnd end (map (λ (q : CommitRequest). commit_of_request known q v) rs)
+  alike_named v end named [] = tt
+  alike_named v end named (q ∷ rs) = (named, alike_named v end named rs)
 
   held_held : (numbers : Look) → HoldUp numbers → (rs : List CommitRequest) → MayNotWait rs → AllByRecursion (IsHeldUp numbers) (all_held_up known numbers rs)
   held_held numbers hold [] may = tt
   held_held numbers hold (q ∷ rs) may = ((λ told e. (cc (e), hold, may.0)), held_held numbers hold rs may.1)
 
-module _ (group_bytes : ℕ) (cs : List Commit) (asked known : List ControllerCall) (numbers : Look) (k : AreInGroups group_bytes asked cs) (requests : List CommitRequest) (whole : IsWholeGroup group_bytes requests)
+module _ (start group_bytes : ℕ) (cs : List Commit) (asked known : List ControllerCall) (numbers : Look) (k : AreInGroups start group_bytes asked cs) (requests : List CommitRequest) (whole : IsWholeGroup group_bytes requests)
     (is_asked : IsAskedFor requests numbers known) (comes : ComesAfter asked known) where
   with_group : (went : List ControllerCall) (new : List Commit) → map request_of new ≡ requests → AllByRecursion (λ (c : Commit). c.controller_calls ≡ known) new → AllByRecursion (IsHeldUp numbers) new
-      → AreTogether (record { known = known; went = went; commits = new }) numbers → IsPrefix known went → AreInGroups group_bytes went (cs ++ new)
-  with_group went new are same held together goes = group_more asked known went comes goes group_bytes cs new k (record {
+      → AreTogether (record { known = known; went = went; commits = new }) numbers → IsPrefix known went → NameEnd (last_after_all (last_after_all start cs) new) new → AreInGroups start group_bytes went (cs ++ new)
+  with_group went new are same held together goes named = group_more asked known went comes goes start group_bytes cs new k (record {
     numbers = numbers;
     asked = subst (λ rs. IsAskedFor rs numbers known) (sym are) is_asked;
     is_group = subst (IsWholeGroup group_bytes) (sym are) whole;
@@ -106,20 +138,26 @@ module _ (group_bytes : ℕ) (cs : List Commit) (asked known : List ControllerCa
     are_held_up = held;
     together = together;
     seen_since = goes;
-  })
+  }) named
 
   -- none of a group that goes on is held up
   going_on : (went : List ControllerCall) → ProceedsWith requests numbers known went → (new : List Commit) → map request_of new ≡ requests → AllByRecursion (λ (c : Commit). c.controller_calls ≡ known) new
-      → AllByRecursion (λ (c : Commit). is_held_up c.answer ≡ false) new → AreInGroups group_bytes went (cs ++ new)
+      → AllByRecursion (λ (c : Commit). is_held_up c.answer ≡ false) new → NameEnd (last_after_all (last_after_all start cs) new) new → AreInGroups start group_bytes went (cs ++ new)
   going_on went proceeds new are same free = with_group went new are same (not_told numbers new free) (inr (free, subst (λ rs. ProceedsWith rs numbers known went) (sym are) proceeds)) proceeds.begins
 
-  pub in_groups_planned : (went : List ControllerCall) → ProceedsWith requests numbers known went → (last end : ℕ) → AreInGroups group_bytes went (cs ++ planned known last end requests)
-  in_groups_planned went proceeds last end = going_on went proceeds (planned known last end requests) (planned_are known last end requests) (planned_same known last end requests) (planned_go_on known last end requests)
+  pub in_groups_planned : (went : List ControllerCall) → ProceedsWith requests numbers known went → (last : ℕ) → last ≡ last_after_all start cs → AreInGroups start group_bytes went (cs ++ commits_of_plan known last (last_with_all last requests) requests)
+  in_groups_planned went proceeds last is =
+      let end = last_with_all last requests in
+      going_on went proceeds (commits_of_plan known last end requests) (planned_are known last end requests) (planned_same known last end requests) (planned_go_on known last end requests)
+      (subst (λ n. NameEnd n (commits_of_plan known last end requests)) (sym (planned_end known last end requests) ∙ ap (λ n. last_after_all n (commits_of_plan known last end requests)) is) (planned_named known last end requests))
 
-  pub in_groups_failed : (went : List ControllerCall) → ProceedsWith requests numbers known went → (n : ℕ) → AreInGroups group_bytes went (cs ++ all_failed known n requests)
-  in_groups_failed went proceeds n = going_on went proceeds (all_failed known n requests) (alike_are known (failed n) requests) (alike_same known (failed n) requests) (alike_held known (failed n) false refl requests)
+  pub in_groups_failed : (went : List ControllerCall) → ProceedsWith requests numbers known went → (n : ℕ) → AreInGroups start group_bytes went (cs ++ all_failed known n requests)
+  in_groups_failed went proceeds n =
+      going_on went proceeds (all_failed known n requests) (alike_are known (failed n) requests) (alike_same known (failed n) requests) (alike_held known (failed n) false refl requests)
+      (alike_named known (failed n) (last_after_all (last_after_all start cs) (all_failed known n requests)) tt requests)
 
-  pub in_groups_held_up : HoldUp numbers → MayNotWait requests → AreInGroups group_bytes known (cs ++ all_held_up known numbers requests)
+  pub in_groups_held_up : HoldUp numbers → MayNotWait requests → AreInGroups start group_bytes known (cs ++ all_held_up known numbers requests)
   in_groups_held_up hold may =
       with_group known (all_held_up known numbers requests) (alike_are known (held_up numbers) requests) (alike_same known (held_up numbers) requests) (held_held known numbers hold requests may)
       (inl (alike_held known (held_up numbers) true refl requests)) (prefix_self known)
+      (alike_named known (held_up numbers) (last_after_all (last_after_all start cs) (all_held_up known numbers requests)) tt requests)

@@ -1,6 +1,7 @@
 -- What a client may conclude of its newest answer.
 use Rattle.std.proofs.Common.{◌≡◌, ℕ, ◌+◌, ◌<◌, ◌≤◌, Bool, true, false, cond, ◌==◌, filter, map, List, [], ◌∷◌, ◌++◌, Option, Some, None, length, refl, ap, sym, ◌∙◌, subst, arith, append_assoc, append-nil}
 use Rattle.std.specs.List.{AllByRecursion}
+use Rattle.std.proofs.lemmas.Grind.{flat_map-append}
 use Rattle.std.proofs.lemmas.Option.{slice_get_within}
 use Rattle.model_base.specs.declared.write.Refusal.TheVariants as no
 use Rattle.model_base.specs.Batch.{Record, count_of}
@@ -19,7 +20,7 @@ use Rattle.model_accounts.specs.Accounts.{Account, IsRefused, Wrote}
 use Rattle.model_accounts.specs.Sights.{Sees}
 use Rattle.engine_rule.specs.Commits.{Answer, AreAnswered, Commit, IsAnswer, accepted, held_up, commits_of, failed, fault_after, fault_after_all, last_after, last_after_all, no_room}
 use Rattle.engine_rule.specs.Asked.{place_of}
-use Rattle.engine_rule.specs.Entries.{SeesMore, account_of, attempt_of, entries_of, entry_with, mine_after, status_of}
+use Rattle.engine_rule.specs.Entries.{SeesMore, account_of, attempt_of, end_with, ends_of, entries_of, entry_with, mine_after, status_of}
 use Rattle.engine_controller.specs.Passes.{EndsWith}
 use Rattle.engine_controller.proofs.Account.{ends_begins, ends_last, ends_tokens}
 use Rattle.engine_rule.proofs.Chains.{entries_history, entries_own}
@@ -174,6 +175,13 @@ handled_more (o ∷ old) c = ap (λ l. attempt_of o ∷ l) (handled_more old c)
 handled_as : (old : List Commit) (c : Commit) (v : Answer) → c.answer ≡ v → map attempt_of (old ++ c ∷ []) ≡ map attempt_of old ++ record { records = c.records; options = c.options; status = status_of (place_of c) v } ∷ []
 handled_as old c v is = handled_more old c ∙ ap (λ w. map attempt_of old ++ record { records = c.records; options = c.options; status = status_of (place_of c) w } ∷ []) is
 
+-- the ends of its groups, with this answer
+ends_as : (old : List Commit) (c : Commit) (v : Answer) → c.answer ≡ v → ends_of (old ++ c ∷ []) ≡ ends_of old ++ end_with v
+ends_as old c v is = flat_map-append (λ (d : Commit). end_with d.answer) old (c ∷ []) ∙ ap (λ l. ends_of old ++ l) (append-nil (end_with c.answer) ∙ ap end_with is)
+
+ends_same : (old : List Commit) (c : Commit) (v : Answer) → c.answer ≡ v → end_with v ≡ [] → ends_of (old ++ c ∷ []) ≡ ends_of old
+ends_same old c v is none = ends_as old c v is ∙ (ap (λ l. ends_of old ++ l) none ∙ append-nil (ends_of old))
+
 -- its entries, with an answer that gives no run
 mine_same : (k : ℕ) (old : List Commit) (c : Commit) (v : Answer) → c.answer ≡ v → entry_with k (mine_after k [] old) c v ≡ [] → mine_after k [] (old ++ c ∷ []) ≡ mine_after k [] old
 mine_same k old c v is none = mine_more k [] old c ∙ (ap (λ w. mine_after k [] old ++ entry_with k (mine_after k [] old) c w) is ∙ (ap (λ es. mine_after k [] old ++ es) none ∙ append-nil (mine_after k [] old)))
@@ -196,6 +204,7 @@ module _ (start k : ℕ) (old : List Commit) (c : Commit) (before after : List (
     may = (impatient, hold, (by, moment, bytes, later, slice_get_within now (place_of c) (record { client = by; action = delay moment bytes; told = Some numbers }) later.there));
     number = refl;
     mine = mine_same k old c (held_up numbers) held_is refl;
+    ends = ends_same old c (held_up numbers) held_is refl;
     asked = more.tokens;
     attempts = handled_as old c (held_up numbers) held_is;
     seen = saw;
@@ -207,6 +216,7 @@ module _ (start k : ℕ) (old : List Commit) (c : Commit) (before after : List (
     may = refl;
     number = refl;
     mine = mine_same k old c (failed n) failed_is refl;
+    ends = ends_same old c (failed n) failed_is refl;
     asked = more.tokens;
     attempts = handled_as old c (failed n) failed_is;
     seen = saw;
@@ -220,6 +230,7 @@ module _ (start k : ℕ) (old : List Commit) (c : Commit) (before after : List (
         record {
           number = refl;
           mine = mine_more k [] old c ∙ ap (λ w. mine_after k [] old ++ entry_with k (mine_after k [] old) c w) given_is;
+          ends = ends_as old c (accepted first end) given_is;
           asked = more.tokens;
           attempts = handled_as old c (accepted first end) given_is;
           seen = saw;
@@ -247,6 +258,7 @@ module _ (start k : ℕ) (old : List Commit) (c : Commit) (before after : List (
           );
           number = refl;
           mine = mine_same k old c (no_room l) full_is refl;
+          ends = ends_same old c (no_room l) full_is refl;
           asked = more.tokens;
           attempts = handled_as old c (no_room l) full_is;
           seen = saw;
@@ -262,6 +274,7 @@ refused_looked start k own records how before after known now numbers sees ends 
       may = (impatient, hold, (last.place, k, last.is_later, slice_get_within now last.place (record { client = k; action = look; told = Some numbers }) last.is_later.there));
       number = refl;
       mine = refl;
+      ends = refl;
       asked = ends_tokens k known look (Some numbers) now ends ∙ append-nil (tokens_of k known);
       attempts = refl;
       seen = record { start = refl; published = sees; controller_calls = ends_begins k known look (Some numbers) now ends };

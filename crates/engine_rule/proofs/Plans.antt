@@ -11,7 +11,7 @@ use Rattle.table_rule.specs.Histories.{Runs, made_by}
 use Rattle.table_rule.specs.Batches.{made, numbered}
 use Rattle.engine_rule.specs.Commits.{AreAnswered, AreOfClients, IsAnswer, accepted, fault_after, fault_after_all, last_after, last_after_all, no_room}
 use Rattle.engine_rule.specs.Entries.{entries_after, entry_after, entry_with, versions_made, versions_with}
-use Rattle.engine_rule.specs.Plans.{AreLawful, CommitRequest, answer_with, answered, batch_with, batches_from, last_with, last_with_all, planned, versions_at, versions_from}
+use Rattle.engine_rule.specs.Plans.{AreLawful, CommitRequest, answer_with, commit_of_request, batch_with, batches_from, last_with, last_with_all, commits_of_plan, versions_at, versions_from}
 
 -- a batch's run fits, or it doesn't
 data Room (last : ℕ) (records : List Record) : Type 0 where
@@ -57,39 +57,39 @@ right_verdict last end records some below = by (room last records)
     by (has fits e) = let n : last_with last records ≡ last + count_of records = rw e refl in rw e (refl, some, refl, fits, omega (arith, n, below))
     by (lacks full e) = rw e (refl, refl, full)
 
-pub planned_end : (known : List ControllerCall) (last end : ℕ) (requests : List CommitRequest) → last_after_all last (planned known last end requests) ≡ last_with_all last requests
+pub planned_end : (known : List ControllerCall) (last end : ℕ) (requests : List CommitRequest) → last_after_all last (commits_of_plan known last end requests) ≡ last_with_all last requests
 planned_end known last end [] = refl
-planned_end known last end (a ∷ requests) = ap (λ n. last_after_all n (planned known (last_with last a.records) end requests)) (after_verdict last end a.records) ∙ planned_end known (last_with last a.records) end requests
+planned_end known last end (a ∷ requests) = ap (λ n. last_after_all n (commits_of_plan known (last_with last a.records) end requests)) (after_verdict last end a.records) ∙ planned_end known (last_with last a.records) end requests
 
-pub planned_dead : (known : List ControllerCall) (last end : ℕ) (dead : Option ℕ) (requests : List CommitRequest) → fault_after_all dead (planned known last end requests) ≡ dead
+pub planned_dead : (known : List ControllerCall) (last end : ℕ) (dead : Option ℕ) (requests : List CommitRequest) → fault_after_all dead (commits_of_plan known last end requests) ≡ dead
 planned_dead known last end dead [] = refl
-planned_dead known last end dead (a ∷ requests) = ap (λ d. fault_after_all d (planned known (last_with last a.records) end requests)) (alive_after last end a.records dead) ∙ planned_dead known (last_with last a.records) end dead requests
+planned_dead known last end dead (a ∷ requests) = ap (λ d. fault_after_all d (commits_of_plan known (last_with last a.records) end requests)) (alive_after last end a.records dead) ∙ planned_dead known (last_with last a.records) end dead requests
 
-pub planned_answered : (known : List ControllerCall) (clients last end : ℕ) (requests : List CommitRequest) → AreLawful clients requests → last_with_all last requests ≤ end → AreAnswered last None (planned known last end requests)
+pub planned_answered : (known : List ControllerCall) (clients last end : ℕ) (requests : List CommitRequest) → AreLawful clients requests → last_with_all last requests ≤ end → AreAnswered last None (commits_of_plan known last end requests)
 planned_answered known clients last end [] h below = tt
 planned_answered known clients last end (a ∷ requests) h below = (
   right_verdict last end a.records h.0.0 (let r = rises (last_with last a.records) requests in omega (arith, r, below)),
-  subst (λ (z : ℕ × Option ℕ). AreAnswered z.0 z.1 (planned known (last_with last a.records) end requests)) (λ i. (sym (after_verdict last end a.records) i, sym (alive_after last end a.records None) i)) (planned_answered known clients (last_with last a.records) end requests h.1 below),
+  subst (λ (z : ℕ × Option ℕ). AreAnswered z.0 z.1 (commits_of_plan known (last_with last a.records) end requests)) (λ i. (sym (after_verdict last end a.records) i, sym (alive_after last end a.records None) i)) (planned_answered known clients (last_with last a.records) end requests h.1 below),
 )
 
-pub planned_clients : (known : List ControllerCall) (clients last end : ℕ) (requests : List CommitRequest) → AreLawful clients requests → AreOfClients clients (planned known last end requests)
+pub planned_clients : (known : List ControllerCall) (clients last end : ℕ) (requests : List CommitRequest) → AreLawful clients requests → AreOfClients clients (commits_of_plan known last end requests)
 planned_clients known clients last end [] h = tt
 planned_clients known clients last end (a ∷ requests) h = ((h.0.1, h.0.2), planned_clients known clients (last_with last a.records) end requests h.1)
 
-pub planned_versions : (known : List ControllerCall) (last end : ℕ) (requests : List CommitRequest) → made_by versions_made (planned known last end requests) ≡ versions_from last requests
+pub planned_versions : (known : List ControllerCall) (last end : ℕ) (requests : List CommitRequest) → made_by versions_made (commits_of_plan known last end requests) ≡ versions_from last requests
 planned_versions known last end [] = refl
 planned_versions known last end (a ∷ requests) = by (room last a.records) (planned_versions known (last_with last a.records) end requests)
   where
-    by : Room last a.records → made_by versions_made (planned known (last_with last a.records) end requests) ≡ versions_from (last_with last a.records) requests
-        → versions_with (answered known a (answer_with last end a.records)) (answer_with last end a.records) ++ made_by versions_made (planned known (last_with last a.records) end requests) ≡ versions_at last a.records ++ versions_from (last_with last a.records) requests
+    by : Room last a.records → made_by versions_made (commits_of_plan known (last_with last a.records) end requests) ≡ versions_from (last_with last a.records) requests
+        → versions_with (commit_of_request known a (answer_with last end a.records)) (answer_with last end a.records) ++ made_by versions_made (commits_of_plan known (last_with last a.records) end requests) ≡ versions_at last a.records ++ versions_from (last_with last a.records) requests
     by (has fits e) h =
         let v : answer_with last end a.records ≡ accepted (last + 1) end = rw e refl in
         let is : versions_at last a.records ≡ numbered (last + 1) (made a.records) = rw e refl in
-        (λ i. versions_with (answered known a (answer_with last end a.records)) (v i) ++ h i) ∙ ap (λ vs. vs ++ versions_from (last_with last a.records) requests) (sym is)
+        (λ i. versions_with (commit_of_request known a (answer_with last end a.records)) (v i) ++ h i) ∙ ap (λ vs. vs ++ versions_from (last_with last a.records) requests) (sym is)
     by (lacks full e) h =
         let v : answer_with last end a.records ≡ no_room last = rw e refl in
         let is : versions_at last a.records ≡ [] = rw e refl in
-        (λ i. versions_with (answered known a (answer_with last end a.records)) (v i) ++ h i) ∙ ap (λ vs. vs ++ versions_from (last_with last a.records) requests) (sym is)
+        (λ i. versions_with (commit_of_request known a (answer_with last end a.records)) (v i) ++ h i) ∙ ap (λ vs. vs ++ versions_from (last_with last a.records) requests) (sym is)
 
 -- the versions are one run
 abbrev counts : Record → ℕ
@@ -138,19 +138,19 @@ versions_runs last (a ∷ requests) = by (room last a.records) (versions_runs (l
         )
 
 -- the entries: their batches, their first, and their flags
-pub planned_batches : (known : List ControllerCall) (last end : ℕ) (before : List Entry) (requests : List CommitRequest) → map (λ (e : Entry). e.records) (entries_after before (planned known last end requests)) ≡ batches_from last requests
+pub planned_batches : (known : List ControllerCall) (last end : ℕ) (before : List Entry) (requests : List CommitRequest) → map (λ (e : Entry). e.records) (entries_after before (commits_of_plan known last end requests)) ≡ batches_from last requests
 planned_batches known last end before [] = refl
-planned_batches known last end before (a ∷ requests) = by (room last a.records) (planned_batches known (last_with last a.records) end (before ++ entry_after before (answered known a (answer_with last end a.records))) requests)
+planned_batches known last end before (a ∷ requests) = by (room last a.records) (planned_batches known (last_with last a.records) end (before ++ entry_after before (commit_of_request known a (answer_with last end a.records))) requests)
   where
-    by : Room last a.records → map (λ (e : Entry). e.records) (entries_after (before ++ entry_after before (answered known a (answer_with last end a.records))) (planned known (last_with last a.records) end requests)) ≡ batches_from (last_with last a.records) requests
-        → map (λ (e : Entry). e.records) (entry_after before (answered known a (answer_with last end a.records)) ++ entries_after (before ++ entry_after before (answered known a (answer_with last end a.records))) (planned known (last_with last a.records) end requests)) ≡ batch_with last a.records ++ batches_from (last_with last a.records) requests
+    by : Room last a.records → map (λ (e : Entry). e.records) (entries_after (before ++ entry_after before (commit_of_request known a (answer_with last end a.records))) (commits_of_plan known (last_with last a.records) end requests)) ≡ batches_from (last_with last a.records) requests
+        → map (λ (e : Entry). e.records) (entry_after before (commit_of_request known a (answer_with last end a.records)) ++ entries_after (before ++ entry_after before (commit_of_request known a (answer_with last end a.records))) (commits_of_plan known (last_with last a.records) end requests)) ≡ batch_with last a.records ++ batches_from (last_with last a.records) requests
     by (has fits e) h =
         let v : answer_with last end a.records ≡ accepted (last + 1) end = rw e refl in
         let is : batch_with last a.records ≡ a.records ∷ [] = rw e refl in
-        let rest = entries_after (before ++ entry_after before (answered known a (answer_with last end a.records))) (planned known (last_with last a.records) end requests) in
-        ap (λ w. map (λ (e : Entry). e.records) (entry_with a.client (entries_of_client a.client before) (answered known a (answer_with last end a.records)) w ++ rest)) v ∙ (ap (λ l. a.records ∷ l) h ∙ ap (λ l. l ++ batches_from (last_with last a.records) requests) (sym is))
+        let rest = entries_after (before ++ entry_after before (commit_of_request known a (answer_with last end a.records))) (commits_of_plan known (last_with last a.records) end requests) in
+        ap (λ w. map (λ (e : Entry). e.records) (entry_with a.client (entries_of_client a.client before) (commit_of_request known a (answer_with last end a.records)) w ++ rest)) v ∙ (ap (λ l. a.records ∷ l) h ∙ ap (λ l. l ++ batches_from (last_with last a.records) requests) (sym is))
     by (lacks full e) h =
         let v : answer_with last end a.records ≡ no_room last = rw e refl in
         let is : batch_with last a.records ≡ [] = rw e refl in
-        let rest = entries_after (before ++ entry_after before (answered known a (answer_with last end a.records))) (planned known (last_with last a.records) end requests) in
-        ap (λ w. map (λ (e : Entry). e.records) (entry_with a.client (entries_of_client a.client before) (answered known a (answer_with last end a.records)) w ++ rest)) v ∙ (h ∙ ap (λ l. l ++ batches_from (last_with last a.records) requests) (sym is))
+        let rest = entries_after (before ++ entry_after before (commit_of_request known a (answer_with last end a.records))) (commits_of_plan known (last_with last a.records) end requests) in
+        ap (λ w. map (λ (e : Entry). e.records) (entry_with a.client (entries_of_client a.client before) (commit_of_request known a (answer_with last end a.records)) w ++ rest)) v ∙ (h ∙ ap (λ l. l ++ batches_from (last_with last a.records) requests) (sym is))

@@ -18,7 +18,7 @@ use Rattle.engine_rule.specs.Asked.{AreInGroups}
 use Rattle.engine_rule.specs.Consistent.{AreConsistent, Publishes}
 use Rattle.engine_rule.specs.Entries.{entries_after, entries_of, entry_after, entry_with, versions_made, versions_with}
 use Rattle.engine_rule.specs.LogCalls.{AreLostWrites, IsLostWrite, LogsGroup, SyncsFor, WritesBatches, WroteCommits, WroteParts}
-use Rattle.engine_rule.specs.Plans.{HaveOwnClients, AreLawful, AreUnlogged, ComesAfter, CommitRequest, IsAskedFor, IsWholeGroup, MayNotWait, ProceedsWith, all_failed, all_held_up, answer_with, answered, batches_from, last_with, last_with_all, planned, versions_from}
+use Rattle.engine_rule.specs.Plans.{HaveOwnClients, AreLawful, AreUnlogged, ComesAfter, CommitRequest, IsAskedFor, IsWholeGroup, MayNotWait, ProceedsWith, all_failed, all_held_up, answer_with, commit_of_request, batches_from, last_with, last_with_all, commits_of_plan, versions_from}
 use Rattle.engine_rule.proofs.Chains.{answered_append, dead_append, end_append, entries_history, entries_more}
 use Rattle.engine_rule.proofs.OneGroup.{all_append, in_groups_failed, in_groups_held_up, in_groups_planned}
 use Rattle.engine_rule.proofs.Plans.{planned_answered, planned_batches, planned_clients, planned_dead, planned_end, planned_versions}
@@ -60,47 +60,47 @@ syncs_flag options e = by options.no_log options.sync e
 -- What holds of each request holds of the entry that it makes
 module _ (known : List ControllerCall) (P : WriteOptions → Type 0) where
   entry_at : (mine : List Entry) (a : CommitRequest) (rest : List Entry) (v : Answer) → P a.options → AllByRecursion (λ (e : Entry). (options : WriteOptions) × P options × (e.flag ≡ flag_of options)) rest
-      → AllByRecursion (λ (e : Entry). (options : WriteOptions) × P options × (e.flag ≡ flag_of options)) (entry_with a.client mine (answered known a v) v ++ rest)
+      → AllByRecursion (λ (e : Entry). (options : WriteOptions) × P options × (e.flag ≡ flag_of options)) (entry_with a.client mine (commit_of_request known a v) v ++ rest)
   entry_at mine a rest (accepted first end) h more = ((a.options, h, refl), more)
   entry_at mine a rest (held_up numbers) h more = more
   entry_at mine a rest (failed n) h more = more
   entry_at mine a rest (no_room l) h more = more
 
-  flags_of : (last end : ℕ) (before : List Entry) (requests : List CommitRequest) → AllByRecursion (λ (a : CommitRequest). P a.options) requests → AllByRecursion (λ (e : Entry). (options : WriteOptions) × P options × (e.flag ≡ flag_of options)) (entries_after before (planned known last end requests))
+  flags_of : (last end : ℕ) (before : List Entry) (requests : List CommitRequest) → AllByRecursion (λ (a : CommitRequest). P a.options) requests → AllByRecursion (λ (e : Entry). (options : WriteOptions) × P options × (e.flag ≡ flag_of options)) (entries_after before (commits_of_plan known last end requests))
   flags_of last end before [] h = tt
   flags_of last end before (a ∷ requests) h =
-      let c = answered known a (answer_with last end a.records) in
-      entry_at (filter (λ (e : Entry). e.client == a.client) before) a (entries_after (before ++ entry_after before c) (planned known (last_with last a.records) end requests)) (answer_with last end a.records) h.0
+      let c = commit_of_request known a (answer_with last end a.records) in
+      entry_at (filter (λ (e : Entry). e.client == a.client) before) a (entries_after (before ++ entry_after before c) (commits_of_plan known (last_with last a.records) end requests)) (answer_with last end a.records) h.0
       (flags_of (last_with last a.records) end (before ++ entry_after before c) requests h.1)
 
 -- A group's entries are each of another client
 module _ (known : List ControllerCall) where
   client_at : (P : ℕ → Type 0) (mine : List Entry) (a : CommitRequest) (rest : List Entry) (v : Answer) → P a.client → AllByRecursion (λ (e : Entry). P e.client) rest
-      → AllByRecursion (λ (e : Entry). P e.client) (entry_with a.client mine (answered known a v) v ++ rest)
+      → AllByRecursion (λ (e : Entry). P e.client) (entry_with a.client mine (commit_of_request known a v) v ++ rest)
   client_at P mine a rest (accepted first end) h more = (h, more)
   client_at P mine a rest (held_up numbers) h more = more
   client_at P mine a rest (failed n) h more = more
   client_at P mine a rest (no_room l) h more = more
 
-  clients_of : (P : ℕ → Type 0) (last end : ℕ) (before : List Entry) (requests : List CommitRequest) → AllByRecursion (λ (a : CommitRequest). P a.client) requests → AllByRecursion (λ (e : Entry). P e.client) (entries_after before (planned known last end requests))
+  clients_of : (P : ℕ → Type 0) (last end : ℕ) (before : List Entry) (requests : List CommitRequest) → AllByRecursion (λ (a : CommitRequest). P a.client) requests → AllByRecursion (λ (e : Entry). P e.client) (entries_after before (commits_of_plan known last end requests))
   clients_of P last end before [] h = tt
   clients_of P last end before (a ∷ requests) h =
-      let c = answered known a (answer_with last end a.records) in
-      client_at P (filter (λ (e : Entry). e.client == a.client) before) a (entries_after (before ++ entry_after before c) (planned known (last_with last a.records) end requests)) (answer_with last end a.records) h.0
+      let c = commit_of_request known a (answer_with last end a.records) in
+      client_at P (filter (λ (e : Entry). e.client == a.client) before) a (entries_after (before ++ entry_after before c) (commits_of_plan known (last_with last a.records) end requests)) (answer_with last end a.records) h.0
       (clients_of P (last_with last a.records) end (before ++ entry_after before c) requests h.1)
 
-  own_at : (mine : List Entry) (a : CommitRequest) (rest : List Entry) (v : Answer) → AllByRecursion (λ (e : Entry). a.client ≢ e.client) rest → AreOfOwnClients rest → AreOfOwnClients (entry_with a.client mine (answered known a v) v ++ rest)
+  own_at : (mine : List Entry) (a : CommitRequest) (rest : List Entry) (v : Answer) → AllByRecursion (λ (e : Entry). a.client ≢ e.client) rest → AreOfOwnClients rest → AreOfOwnClients (entry_with a.client mine (commit_of_request known a v) v ++ rest)
   own_at mine a rest (accepted first end) others own = (others, own)
   own_at mine a rest (held_up numbers) others own = own
   own_at mine a rest (failed n) others own = own
   own_at mine a rest (no_room l) others own = own
 
-  own_clients : (last end : ℕ) (before : List Entry) (requests : List CommitRequest) → HaveOwnClients requests → AreOfOwnClients (entries_after before (planned known last end requests))
+  own_clients : (last end : ℕ) (before : List Entry) (requests : List CommitRequest) → HaveOwnClients requests → AreOfOwnClients (entries_after before (commits_of_plan known last end requests))
   own_clients last end before [] own = tt
   own_clients last end before (a ∷ requests) own =
-      let c = answered known a (answer_with last end a.records) in
+      let c = commit_of_request known a (answer_with last end a.records) in
       let after = before ++ entry_after before c in
-      own_at (filter (λ (e : Entry). e.client == a.client) before) a (entries_after after (planned known (last_with last a.records) end requests)) (answer_with last end a.records)
+      own_at (filter (λ (e : Entry). e.client == a.client) before) a (entries_after after (commits_of_plan known (last_with last a.records) end requests)) (answer_with last end a.records)
       (clients_of (λ n. a.client ≢ n) (last_with last a.records) end after requests own.0) (own_clients (last_with last a.records) end after requests own.1)
 
 all_logged : (es : List Entry) → AllByRecursion (λ (e : Entry). (options : WriteOptions) × (options.no_log ≡ false) × (e.flag ≡ flag_of options)) es → logged es ≡ es
@@ -149,7 +149,7 @@ module _ (start clients group_bytes : ℕ) (asked known went : List ControllerCa
   end = last_with_all last requests
 
   abbrev new : List Commit
-  new = planned known last end requests
+  new = commits_of_plan known last end requests
 
   new_entries : List Entry
   new_entries = entries_after (entries_of cs) new
@@ -190,7 +190,7 @@ module _ (start clients group_bytes : ℕ) (asked known went : List ControllerCa
     of_clients = all_append (λ (c : Commit). (1 ≤ c.client) × (c.client ≤ clients)) cs new k.of_clients (planned_clients known clients last end requests lawful);
     last_is = sym (end_append start cs new ∙ (ap (λ n. last_after_all n new) (sym k.last_is) ∙ planned_end known last end requests));
     fault_is = sym (dead_append None cs new ∙ (ap (λ d. fault_after_all d new) (sym k.fault_is) ∙ planned_dead known last end None requests));
-    in_groups = in_groups_planned group_bytes cs asked known numbers k.in_groups requests whole is_asked comes went proceeds last end;
+    in_groups = in_groups_planned start group_bytes cs asked known numbers k.in_groups requests whole is_asked comes went proceeds last k.last_is;
     images = ⊎_elim
         (λ (t : (versions_from last requests ≡ []) × (published' ≡ published)). subst (Images versions_made (cs ++ new)) (sym t.1) (images_none versions_made cs new published k.images (planned_versions known last end requests ∙ t.0)))
         (λ (t : (g : List MemberVersions) × (published' ≡ published ++ g ∷ []) × (versions_in g ≡ versions_from last requests)). subst (Images versions_made (cs ++ new)) (sym t.1) (images_more versions_made cs new published t.0 k.images (planned_versions known last end requests ∙ sym t.2)))
@@ -201,7 +201,7 @@ module _ (start clients group_bytes : ℕ) (asked known went : List ControllerCa
 -- A group was answered alike, and got no runs
 
 abbrev alike : List ControllerCall → Answer → List CommitRequest → List Commit
-alike known v requests = map (λ (q : CommitRequest). answered known q v) requests
+alike known v requests = map (λ (q : CommitRequest). commit_of_request known q v) requests
 
 record GivesNoRun (v : Answer) : Type 0 where
   last : (n count : ℕ) → last_after n count v ≡ n
@@ -226,20 +226,20 @@ module _ (known : List ControllerCall) (v : Answer) (none : GivesNoRun v) where
   alike_entries : (before : List Entry) (requests : List CommitRequest) → entries_after before (alike known v requests) ≡ []
   alike_entries before [] = refl
   alike_entries before (a ∷ requests) =
-      let c = answered known a v in
+      let c = commit_of_request known a v in
       let now : entry_after before c ≡ [] = none.entries a.client (filter (λ (e : Entry). e.client == a.client) before) c in
       λ i. now i ++ alike_entries (before ++ entry_after before c) requests i
 
   alike_versions : (requests : List CommitRequest) → made_by versions_made (alike known v requests) ≡ []
   alike_versions [] = refl
-  alike_versions (a ∷ requests) = λ i. none.versions (answered known a v) i ++ alike_versions requests i
+  alike_versions (a ∷ requests) = λ i. none.versions (commit_of_request known a v) i ++ alike_versions requests i
 
   same_entries : (cs : List Commit) (requests : List CommitRequest) → entries_of (cs ++ alike known v requests) ≡ entries_of cs
   same_entries cs requests = entries_more cs (alike known v requests) ∙ ((λ i. entries_of cs ++ alike_entries (entries_of cs) requests i) ∙ append-nil (entries_of cs))
 
   consistent_alike : (start clients group_bytes : ℕ) (asked went : List ControllerCall) (cs : List Commit) (last : ℕ) (fault now : Option ℕ) (published : List (List MemberVersions)) (calls more : List GroupCall) (requests : List CommitRequest)
       → AreConsistent start clients group_bytes asked cs last fault published calls → AreLawful clients requests → AreAnswered last fault (alike known v requests) → fault_after_all fault (alike known v requests) ≡ now
-      → AreInGroups group_bytes went (cs ++ alike known v requests) → WroteCommits group_bytes (cs ++ alike known v requests) now last more
+      → AreInGroups start group_bytes went (cs ++ alike known v requests) → WroteCommits group_bytes (cs ++ alike known v requests) now last more
       → AreConsistent start clients group_bytes went (cs ++ alike known v requests) last now published more
   consistent_alike start clients group_bytes asked went cs last fault now published calls more requests k lawful right fault_now in_groups written = record {
     answered = answered_append start None cs (alike known v requests) k.answered (subst (λ (z : ℕ × Option ℕ). AreAnswered z.0 z.1 (alike known v requests)) (λ i. (k.last_is i, k.fault_is i)) right);
@@ -310,7 +310,7 @@ module _ (start clients group_bytes : ℕ) (cs : List Commit) (last : ℕ) (publ
   consistent_held_up fault k hold may =
       let none = held_up_no_run numbers in
       consistent_alike known (held_up numbers) none start clients group_bytes asked known cs last fault fault published calls calls requests k lawful (held_up_answered known last numbers fault requests) (held_up_dead known numbers fault requests)
-      (in_groups_held_up group_bytes cs asked known numbers k.in_groups requests whole is_asked comes hold may)
+      (in_groups_held_up start group_bytes cs asked known numbers k.in_groups requests whole is_asked comes hold may)
       (wrote_as_before group_bytes last cs (all_held_up known numbers requests) fault calls (same_entries known (held_up numbers) none cs requests) k.written)
 
   module _ (went : List ControllerCall) (proceeds : ProceedsWith requests numbers known went) where
@@ -319,7 +319,7 @@ module _ (start clients group_bytes : ℕ) (cs : List Commit) (last : ℕ) (publ
     consistent_after_fault n k =
         let none = failed_no_run n in
         consistent_alike known (failed n) none start clients group_bytes asked went cs last (Some n) (Some n) published calls calls requests k lawful (failed_answered_on known last n requests) (failed_dead_on known n requests)
-        (in_groups_failed group_bytes cs asked known numbers k.in_groups requests whole is_asked comes went proceeds n)
+        (in_groups_failed start group_bytes cs asked known numbers k.in_groups requests whole is_asked comes went proceeds n)
         (wrote_as_before group_bytes last cs (all_failed known n requests) (Some n) calls (same_entries known (failed n) none cs requests) k.written)
 
     -- the log fails with this group
@@ -339,7 +339,7 @@ module _ (start clients group_bytes : ℕ) (cs : List Commit) (last : ℕ) (publ
           failed = failed_is;
         } in
         consistent_alike known (failed n) none start clients group_bytes asked went cs last None (Some n) published calls (calls ++ c ∷ []) requests k lawful (failed_answered known last n requests) (failed_dead known n None requests whole.some)
-        (in_groups_failed group_bytes cs asked known numbers k.in_groups requests whole is_asked comes went proceeds n)
+        (in_groups_failed start group_bytes cs asked known numbers k.in_groups requests whole is_asked comes went proceeds n)
         (record {
           worked = w.worked;
           lost = c ∷ [];
@@ -355,7 +355,7 @@ consistent_first start clients group_bytes = record {
   of_clients = tt;
   last_is = refl;
   fault_is = refl;
-  in_groups = record { groups = []; cut = refl; each = tt; seen = tt; rise = tt };
+  in_groups = record { groups = []; cut = refl; each = tt; seen = tt; rise = tt; name_ends = tt };
   images = refl;
   written = record { worked = []; lost = []; both = refl; parts = record { parts = []; cut = refl; runs = tt; each = tt }; are_lost = refl };
 }

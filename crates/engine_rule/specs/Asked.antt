@@ -5,7 +5,7 @@ use mathlib.Core.List.{IsPrefix}
 use Rattle.model_base.specs.Controller.{ControllerCall, Look, HoldUp}
 use Rattle.table_rule.specs.Histories.{In}
 use Rattle.engine_controller.specs.Delays.{delays_of}
-use Rattle.engine_rule.specs.Commits.{Answer, Commit, accepted, held_up, failed, no_room}
+use Rattle.engine_rule.specs.Commits.{Answer, Commit, NamesEnd, accepted, held_up, failed, last_after_all, no_room}
 use Rattle.engine_rule.specs.Plans.{CommitRequest, IsWholeGroup, IsAskedFor, ProceedsWith}
 
 -- the place of the delay that was asked for a commit's group: the last call of those that the leader had seen
@@ -54,14 +54,22 @@ abbrev pub Rise : List LedGroup → Type 0
 Rise [] = ⊤
 Rise (g ∷ groups) = AllByRecursion (λ (h : LedGroup). length g.went < length h.known) groups × Rise groups
 
--- All commits, group by group. `asked` is the controller's history as the last leader had seen it when it answered:
--- each leader had seen what the leaders before it had seen, and then asked for its own group.
-pub record AreInGroups (group_bytes : ℕ) (asked : List ControllerCall) (commits : List Commit) : Type 0 where
+-- where `last` was given last, each accepted answer names what is given last after its whole group
+abbrev pub NameEnds : ℕ → List LedGroup → Type 0
+NameEnds last [] = ⊤
+NameEnds last (g ∷ groups) =
+    AllByRecursion (λ (c : Commit). NamesEnd (last_after_all last g.commits) c.answer) g.commits
+    × NameEnds (last_after_all last g.commits) groups
+
+-- All commits behind the sequence `start`, group by group. `asked` is the controller's history as the last leader had
+-- seen it when it answered: each leader had seen what the leaders before it had seen, and then asked for its own group.
+pub record AreInGroups (start group_bytes : ℕ) (asked : List ControllerCall) (commits : List Commit) : Type 0 where
   pub groups : List LedGroup
   pub cut : flat_map (λ (g : LedGroup). g.commits) groups ≡ commits
   pub each : AllByRecursion (IsLedGroup group_bytes) groups
   pub seen : AllByRecursion (λ (g : LedGroup). IsPrefix g.went asked) groups
   pub rise : Rise groups
+  pub name_ends : NameEnds start groups
 
 -- for each delay that a client asked for, as it has seen them, it has a commit of that group
 abbrev pub HasAsked : ℕ → List Commit → List ControllerCall → Type 0

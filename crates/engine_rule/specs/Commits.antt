@@ -47,6 +47,13 @@ IsAnswer last fault count (held_up numbers) = ⊤
 IsAnswer last fault count (failed told) = MatchOption fault ⊤ (λ known. told ≡ known)
 IsAnswer last fault count (no_room at) = (fault ≡ None) × (at ≡ last) × (max_sequence < last + count)
 
+-- if it is accepted, it names this sequence as the last of its group
+abbrev pub NamesEnd : ℕ → Answer → Type 0
+NamesEnd end (accepted first group_last) = group_last ≡ end
+NamesEnd end (held_up numbers) = ⊤
+NamesEnd end (failed count) = ⊤
+NamesEnd end (no_room at) = ⊤
+
 -- the last sequence given, and the log's fault, after all of some commits
 abbrev pub last_after_all : ℕ → List Commit → ℕ
 last_after_all last [] = last

@@ -19,7 +19,7 @@ pub record AreConsistent (start clients group_bytes : ℕ) (asked : List Control
   pub of_clients : AreOfClients clients commits
   pub last_is : last ≡ last_after_all start commits
   pub fault_is : fault ≡ fault_after_all None commits
-  pub in_groups : AreInGroups group_bytes asked commits
+  pub in_groups : AreInGroups start group_bytes asked commits
   pub images : Images versions_made commits published
   pub written : WroteCommits group_bytes commits fault last calls
 

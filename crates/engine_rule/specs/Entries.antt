@@ -1,5 +1,5 @@
 -- What commits make: the entries of the one history, their versions, and each client's account.
-use Rattle.std.specs.Prelude.{◌≡◌, ℕ, ◌+◌, ◌≤◌, List, [], ◌∷◌, ◌++◌, map}
+use Rattle.std.specs.Prelude.{◌≡◌, ℕ, ◌+◌, ◌≤◌, List, [], ◌∷◌, ◌++◌, flat_map, map}
 use Rattle.std.specs.List.{AllByRecursion}
 use mathlib.Core.List.{IsPrefix}
 use Rattle.model_base.specs.History.{Entry}
@@ -76,12 +76,23 @@ mine_after client mine [] = []
 mine_after client mine (c ∷ commits) = entry_with client mine c c.answer
     ++ mine_after client (mine ++ entry_with client mine c c.answer) commits
 
+-- the last sequence of its group, for each commit that has a run
+abbrev pub end_with : Answer → List ℕ
+end_with (accepted first group_last) = group_last ∷ []
+end_with (held_up numbers) = []
+end_with (failed count) = []
+end_with (no_room at) = []
+
+abbrev pub ends_of : List Commit → List ℕ
+ends_of commits = flat_map (λ (c : Commit). end_with c.answer) commits
+
 -- the account of a client that has made these commits, and has seen these groups published and these calls of the
 -- controller
 abbrev pub account_of : ℕ → ℕ → List Commit → List (List MemberVersions) → List ControllerCall → Account
 account_of start client own published known = record {
   number = client;
   mine = mine_after client [] own;
+  ends = ends_of own;
   asked = tokens_of client known;
   attempts = map attempt_of own;
   seen = record { start = start; published = published; controller_calls = known };

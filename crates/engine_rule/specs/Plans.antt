@@ -21,8 +21,8 @@ pub record CommitRequest : Type 0 where
   pub options : WriteOptions
 
 -- its answer in a group for which this history of the controller ends with the delay
-abbrev pub answered : List ControllerCall → CommitRequest → Answer → Commit
-answered known q answer = record {
+abbrev pub commit_of_request : List ControllerCall → CommitRequest → Answer → Commit
+commit_of_request known q answer = record {
   client = q.client;
   records = q.records;
   options = q.options;
@@ -51,10 +51,10 @@ abbrev pub last_with_all : ℕ → List CommitRequest → ℕ
 last_with_all last [] = last
 last_with_all last (q ∷ requests) = last_with_all (last_with last q.records) requests
 
-abbrev pub planned : List ControllerCall → ℕ → ℕ → List CommitRequest → List Commit
-planned known last group_last [] = []
-planned known last group_last (q ∷ requests) = answered known q (answer_with last group_last q.records)
-    ∷ planned known (last_with last q.records) group_last requests
+abbrev pub commits_of_plan : List ControllerCall → ℕ → ℕ → List CommitRequest → List Commit
+commits_of_plan known last group_last [] = []
+commits_of_plan known last group_last (q ∷ requests) = commit_of_request known q (answer_with last group_last q.records)
+    ∷ commits_of_plan known (last_with last q.records) group_last requests
 
 abbrev pub batches_from : ℕ → List CommitRequest → List (List Record)
 batches_from last [] = []
@@ -66,11 +66,11 @@ versions_from last (q ∷ requests) = versions_at last q.records ++ versions_fro
 
 -- all are answered the log's fault
 abbrev pub all_failed : List ControllerCall → ℕ → List CommitRequest → List Commit
-all_failed known count requests = map (λ (q : CommitRequest). answered known q (failed count)) requests
+all_failed known count requests = map (λ (q : CommitRequest). commit_of_request known q (failed count)) requests
 
 -- all are answered that writes are held up
 abbrev pub all_held_up : List ControllerCall → Look → List CommitRequest → List Commit
-all_held_up known numbers requests = map (λ (q : CommitRequest). answered known q (held_up numbers)) requests
+all_held_up known numbers requests = map (λ (q : CommitRequest). commit_of_request known q (held_up numbers)) requests
 
 -- each has a record that counts, and a client's number
 abbrev pub AreLawful : ℕ → List CommitRequest → Type 0
@@ -92,12 +92,7 @@ HaveOwnClients (q ∷ requests) = AllByRecursion (λ (r : CommitRequest). q.clie
 
 -- what grouping sees of one
 abbrev pub item_of_request : CommitRequest → Item
-item_of_request q = record {
-  size = size_of_batch q.records;
-  sync = q.options.sync;
-  no_log = q.options.no_log;
-  no_slowdown = q.options.no_slowdown;
-}
+item_of_request q = record { size = size_of_batch q.records; options = q.options }
 
 -- they are a whole group by the rule of grouping
 pub record IsWholeGroup (group_bytes : ℕ) (requests : List CommitRequest) : Type 0 where

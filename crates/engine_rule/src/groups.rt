@@ -6,7 +6,7 @@ ghost use Rattle.model_base.specs.LogContents.{GroupCall};
 ghost use Rattle.table_rule.specs.declared.content.MemberVersions.{MemberVersions};
 ghost use Rattle.table_rule.specs.Histories.{Runs};
 ghost use Rattle.engine_rule.specs.Commits.{Commit};
-ghost use Rattle.engine_rule.specs.Plans.{CommitRequest, last_with_all, planned, versions_from, all_failed, all_held_up, AreLawful, IsWholeGroup, IsAskedFor, ComesAfter, MayNotWait, ProceedsWith};
+ghost use Rattle.engine_rule.specs.Plans.{CommitRequest, last_with_all, commits_of_plan, versions_from, all_failed, all_held_up, AreLawful, IsWholeGroup, IsAskedFor, ComesAfter, MayNotWait, ProceedsWith};
 ghost use Rattle.engine_rule.specs.LogCalls.{WritesBatches, LogsGroup};
 ghost use Rattle.engine_rule.specs.Consistent.{AreConsistent, Publishes};
 
@@ -31,7 +31,8 @@ pub fn groups_stay_consistent()
         → ProceedsWith requests numbers known went
         → Publishes (versions_from last requests) old new → LogsGroup last requests calls more
         → AreConsistent start clients group_bytes went
-        (commits ++ planned known last (last_with_all last requests) requests) (last_with_all last requests) None new
+        (commits ++ commits_of_plan known last (last_with_all last requests) requests)
+        (last_with_all last requests) None new
         more }
     // writes are held up, and none of the members may wait
     ensures held_up { (start clients group_bytes : ℕ) (commits : List Commit) (last : ℕ) (fault : Option ℕ)

@@ -8,7 +8,7 @@ use Rattle.table_rule.proofs.Images.{images_more, images_none, images_versions}
 use Rattle.engine_rule.specs.Commits.{Answer, AreAnswered, Commit, accepted, failed, held_up, last_after_all, no_room}
 use Rattle.engine_rule.specs.Consistent.{AreConsistent, Publishes}
 use Rattle.engine_rule.specs.Entries.{versions_made, versions_with}
-use Rattle.engine_rule.specs.Plans.{CommitRequest, all_failed, all_held_up, answered, planned, versions_from}
+use Rattle.engine_rule.specs.Plans.{CommitRequest, all_failed, all_held_up, commit_of_request, commits_of_plan, versions_from}
 use Rattle.engine_rule.proofs.Plans.{planned_versions}
 use Rattle.engine_rule.proofs.Reaching.{versions_length}
 use Rattle.engine_stage_laws.specs.Served.{AreServed, accepted_of, if_accepted}
@@ -54,14 +54,14 @@ served_all cs (g ∷ gs) ok =
 
 -- the published history ends with the last sequence given
 pub served_end : (start : ℕ) (fault : Option ℕ) (cs : List Commit) (published : List (List MemberVersions)) → AreAnswered start fault cs → AreServed (accepted_of cs) published → last_of start published ≡ last_after_all start cs
-served_end start fault cs published answered ok = ap (λ vs. start + length vs) (sym (images_versions versions_made cs published (served_all cs published ok))) ∙ versions_length start fault cs answered
+served_end start fault cs published commit_of_request ok = ap (λ vs. start + length vs) (sym (images_versions versions_made cs published (served_all cs published ok))) ∙ versions_length start fault cs commit_of_request
 
 -- a group that has runs was published
 pub served_more : (known : List ControllerCall) (last end : ℕ) (requests : List CommitRequest) (served : List Commit) (published now : List (List MemberVersions)) → AreServed served published → Publishes (versions_from last requests) published now
-    → AreServed (served ++ accepted_of (planned known last end requests)) now
+    → AreServed (served ++ accepted_of (commits_of_plan known last end requests)) now
 served_more known last end requests served published now ok publishes =
-    let new = accepted_of (planned known last end requests) in
-    let made_new : made_by versions_made new ≡ versions_from last requests = made_accepted (planned known last end requests) ∙ planned_versions known last end requests in
+    let new = accepted_of (commits_of_plan known last end requests) in
+    let made_new : made_by versions_made new ≡ versions_from last requests = made_accepted (commits_of_plan known last end requests) ∙ planned_versions known last end requests in
     ⊎_elim
     (λ (t : (versions_from last requests ≡ []) × (now ≡ published)). subst (AreServed (served ++ new)) (sym t.1) (images_none versions_made served new published ok (made_new ∙ t.0)))
     (λ (t : (g : List MemberVersions) × (now ≡ published ++ g ∷ []) × (versions_in g ≡ versions_from last requests)). subst (AreServed (served ++ new)) (sym t.1) (images_more versions_made served new published t.0 ok (made_new ∙ sym t.2)))

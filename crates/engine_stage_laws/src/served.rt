@@ -6,7 +6,7 @@ ghost use Rattle.model_base.specs.LogContents.{GroupCall};
 ghost use Rattle.table_rule.specs.declared.content.MemberVersions.{MemberVersions};
 ghost use Rattle.table_rule.specs.Histories.{Members, last_of, versions_in};
 ghost use Rattle.engine_rule.specs.Commits.{Commit, AreAnswered, last_after_all};
-ghost use Rattle.engine_rule.specs.Plans.{CommitRequest, planned, versions_from, all_failed, all_held_up, AreLawful, HaveOwnClients};
+ghost use Rattle.engine_rule.specs.Plans.{CommitRequest, commits_of_plan, versions_from, all_failed, all_held_up, AreLawful, HaveOwnClients};
 ghost use Rattle.engine_rule.specs.Consistent.{AreConsistent, Publishes};
 ghost use Rattle.engine_stage_laws.specs.Served.{accepted_of, AreServed, parts_from};
 
@@ -29,7 +29,7 @@ pub fn groups_are_served()
     ensures written { (known : List ControllerCall) (last end : ℕ) (requests : List CommitRequest)
         (commits : List Commit) (old new : List (List MemberVersions)) → AreServed (accepted_of commits) old
         → Publishes (versions_from last requests) old new
-        → AreServed (accepted_of (commits ++ planned known last end requests)) new }
+        → AreServed (accepted_of (commits ++ commits_of_plan known last end requests)) new }
     ensures failed { (known : List ControllerCall) (count : ℕ) (requests : List CommitRequest) (commits : List Commit)
         → accepted_of (commits ++ all_failed known count requests) ≡ accepted_of commits }
     ensures held_up { (known : List ControllerCall) (numbers : Look) (requests : List CommitRequest)

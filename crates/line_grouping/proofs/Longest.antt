@@ -30,9 +30,9 @@ fits_means max leader total i h =
     let d = and_both _ _ b.0 in
     let test : nat_le total (cap max leader) ≡ true = a.1 in
     record {
-      sync = sync_test i.sync leader.sync d.0;
-      no_slowdown = same_test i.no_slowdown leader.no_slowdown d.1;
-      no_log = same_test i.no_log leader.no_log b.1;
+      sync = sync_test i.options.sync leader.options.sync d.0;
+      no_slowdown = same_test i.options.no_slowdown leader.options.no_slowdown d.1;
+      no_log = same_test i.options.no_log leader.options.no_log b.1;
       within = grind (arith, nat_tests);
     }
 
@@ -53,7 +53,7 @@ pub fits_from : (max : ℕ) (leader : Item) (total : ℕ) (i : Item) → MayJoin
 fits_from max leader total i may =
     let within : total ≤ cap max leader = may.within in
     let test : nat_le total (cap max leader) ≡ true = grind (arith, nat_tests) in
-    all_true _ _ _ _ (sync_true i.sync leader.sync may.sync) (same_true _ _ may.no_slowdown) (same_true _ _ may.no_log) test
+    all_true _ _ _ _ (sync_true i.options.sync leader.options.sync may.sync) (same_true _ _ may.no_slowdown) (same_true _ _ may.no_log) test
 
 at_place : (max : ℕ) (leader : Item) (behind : List Item) (place : ℕ) (i : Item) → slice_get (leader ∷ behind) place ≡ Some i
     → fits_at max (leader ∷ behind) place ≡ fits max leader (size_of (take (place + 1) (leader ∷ behind))) i

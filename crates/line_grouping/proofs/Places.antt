@@ -1,5 +1,5 @@
 -- The length of a group by the places of the queue.
-use Rattle.std.proofs.Common.{◌≡◌, ℕ, ◌+◌, ◌-◌, ◌<◌, ◌≤◌, Bool, true, false, not, ◌&&◌, ◌||◌, nat_le, List, [], ◌∷◌, length, take, get_or, slice_get, Some, refl, ap, ◌∙◌, arith}
+use Rattle.std.proofs.Common.{◌≡◌, ℕ, ◌+◌, ◌-◌, ◌/◌, ◌<◌, ◌≤◌, Bool, true, false, not, ◌&&◌, ◌||◌, nat_le, if◌then◌else◌, List, [], ◌∷◌, length, take, get_or, slice_get, Some, refl, sym, ap, ◌∙◌, arith}
 use Rattle.std.specs.List.{range_with_len, prefix_len}
 use Rattle.std.specs.Option.{option_map_or}
 use Rattle.std.proofs.lemmas.List.FromFn.{length-range_with_len, get_or-range_with_len}
@@ -51,49 +51,32 @@ next_unfit max queue below =
     let e : get_or (places queue) n 0 ≡ group_len max queue = omega (arith, place_at queue n lt, group_len-by_front max queue) in
     rw e at (prefix_len_stops (fits_at max queue) (places queue) 0 (omega (arith, lt, length-places queue)))
 
--- where the cap is what is left and the sizes so far, the next writer fits as what is left says
-abbrev pub joins : Item → Item → ℕ → Bool
-joins leader writer room = (not writer.sync || leader.sync) && same_bool writer.no_slowdown leader.no_slowdown && same_bool writer.no_log leader.no_log && nat_le writer.size room
-
-same_test : (room so_far size bound : ℕ) → room + so_far ≡ bound → nat_le (so_far + size) bound ≡ nat_le size room
-same_test room so_far size bound e = grind (arith, nat_tests)
-
-pub fits_at-by_room : (max : ℕ) (queue : List Item) (place room : ℕ) (d : Item) → place < length queue
-    → room + size_of (take place queue) ≡ cap max (get_or queue 0 d) → fits_at max queue place ≡ joins (get_or queue 0 d) (get_or queue place d) room
-fits_at-by_room max [] place room d lt left = absurd (omega arith)
-fits_at-by_room max (leader ∷ items) place room d lt left =
+-- the writer at a place fits, where the sizes before it come to this sum
+pub fits_at-by_sum : (max : ℕ) (queue : List Item) (place sum : ℕ) (d : Item) → place < length queue → sum ≡ size_of (take place queue)
+    → fits_at max queue place ≡ fits max (get_or queue 0 d) (sum + (get_or queue place d).size) (get_or queue place d)
+fits_at-by_sum max [] place sum d lt is = absurd (omega arith)
+fits_at-by_sum max (leader ∷ items) place sum d lt is =
     let writer : Item = get_or (leader ∷ items) place d in
     let so_far : ℕ = size_of (take place (leader ∷ items)) in
     let there : slice_get (leader ∷ items) place ≡ Some writer = slice_get-get_or (leader ∷ items) place d lt in
     let total : size_of (take (place + 1) (leader ∷ items)) ≡ so_far + writer.size = sum_by_more (λ (i : Item). i.size) (leader ∷ items) place d lt in
-    let test : nat_le (so_far + writer.size) (cap max leader) ≡ nat_le writer.size room = same_test room so_far writer.size (cap max leader) left in
     ap (λ o. option_map_or (fits max leader (size_of (take (place + 1) (leader ∷ items)))) o false) there
     ∙ ap (λ n. fits max leader n writer) total
-    ∙ ap (λ b. (not writer.sync || leader.sync) && same_bool writer.no_slowdown leader.no_slowdown && same_bool writer.no_log leader.no_log && b) test
+    ∙ ap (λ n. fits max leader (n + writer.size) writer) (sym is)
 
--- a leader above its cap goes alone
-pub alone : (max : ℕ) (queue : List Item) (d : Item) → 1 ≤ length queue → cap max (get_or queue 0 d) < (get_or queue 0 d).size → group_len max queue ≡ 1
-alone max queue d some above = group_len_is max queue 1 (omega arith) some (λ k h g. absurd (omega arith)) (λ more. above_cap max queue d more above)
+cap_small : (max : ℕ) (leader : Item) → cap max leader ≤ max
+cap_small max leader = by_size (nat_le leader.size (max / 8)) (λ h. let test : nat_le leader.size (max / 8) ≡ true = h in grind (arith, nat_tests))
   where
-    no_room : (b : Bool) → (b && false) ≡ false
-    no_room true = refl
-    no_room false = refl
+    by_size : (b : Bool) → (b ≡ true → leader.size ≤ max / 8) → (if b then leader.size + max / 8 else max) ≤ max
+    by_size true small = let h = small refl in omega arith
+    by_size false small = omega arith
 
-    above_cap : (max : ℕ) (queue : List Item) (d : Item) → 1 < length queue → cap max (get_or queue 0 d) < (get_or queue 0 d).size → fits_at max queue 1 ≡ false
-    above_cap max [] d more above = absurd (omega arith)
-    above_cap max (leader ∷ []) d more above = absurd (omega arith)
-    above_cap max (leader ∷ writer ∷ items) d more above =
-        let total : size_of (leader ∷ writer ∷ []) ≡ leader.size + writer.size = sum_by_more (λ (i : Item). i.size) (leader ∷ writer ∷ []) 1 d (omega arith) ∙ grind arith in
-        let test : nat_le (leader.size + writer.size) (cap max leader) ≡ false = grind (arith, nat_tests) in
-        ap (λ n. fits max leader n writer) total
-        ∙ ap (λ b. (not writer.sync || leader.sync) && same_bool writer.no_slowdown leader.no_slowdown && same_bool writer.no_log leader.no_log && b) test
-        ∙ no_room _
+last_true : (a b : Bool) → (a && b) ≡ true → b ≡ true
+last_true true b is = is
+last_true false b is = absurd (cc)
 
-and_right : (a b : Bool) → (a && b) ≡ true → b ≡ true
-and_right true b h = h
-and_right false b h = cc
-
-pub joins_room : (leader writer : Item) (room : ℕ) → joins leader writer room ≡ true → writer.size ≤ room
-joins_room leader writer room h =
-    let test : nat_le writer.size room ≡ true = and_right ((not writer.sync || leader.sync) && same_bool writer.no_slowdown leader.no_slowdown && same_bool writer.no_log leader.no_log) (nat_le writer.size room) h in
-    grind (arith, nat_tests)
+-- a writer that fits keeps the sum below the bound
+pub fits_below : (max : ℕ) (leader : Item) (total : ℕ) (i : Item) → fits max leader total i ≡ true → total ≤ max
+fits_below max leader total i is =
+    let test : nat_le total (cap max leader) ≡ true = last_true ((not i.options.sync || leader.options.sync) && same_bool i.options.no_slowdown leader.options.no_slowdown && same_bool i.options.no_log leader.options.no_log) (nat_le total (cap max leader)) is in
+    let within : total ≤ cap max leader = grind (arith, nat_tests) in let k = cap_small max leader in omega arith

@@ -6,9 +6,9 @@ use Rattle.model_base.specs.Grouping.{cap, size_of}
 
 -- a writer may join a leader's group, where the sizes up to it come to this sum
 pub record MayJoin (max : ℕ) (leader : Item) (total : ℕ) (i : Item) : Type 0 where
-  pub sync : i.sync ≡ true → leader.sync ≡ true
-  pub no_slowdown : i.no_slowdown ≡ leader.no_slowdown
-  pub no_log : i.no_log ≡ leader.no_log
+  pub sync : i.options.sync ≡ true → leader.options.sync ≡ true
+  pub no_slowdown : i.options.no_slowdown ≡ leader.options.no_slowdown
+  pub no_log : i.options.no_log ≡ leader.options.no_log
   pub within : total ≤ cap max leader
 
 -- the writer at a place of the queue may join, its own size and those before it summed

@@ -1,7 +1,7 @@
 //! How long the group is that a leader takes.
 
-ghost use Rattle.std.specs.Prelude.{◌≡◌, ◌<◌, ◌≤◌, ℕ, List, length, ◌∷◌, ◌&&◌, ◌||◌, not, nat_le, if◌then◌else◌};
-ghost use Rattle.model_base.specs.Grouping.{cap, same_bool, group_len};
+ghost use Rattle.std.specs.Prelude.{◌≡◌, ◌+◌, ◌<◌, ◌≤◌, ℕ, List, length, ◌∷◌};
+ghost use Rattle.model_base.specs.Grouping.{cap, fits, group_len};
 ghost use Rattle.model_base.specs.declared.group.Item.{Item};
 ghost use Rattle.line_grouping.specs.LongestGroup.{IsLongestGroup};
 
@@ -16,18 +16,28 @@ pub fn group_len(queue: &[Item], max: u64) -> usize
     ensures within { result ≤ length queue.now }
 {
     let leader = queue[0];
-    // Counting down what is left of the cap, no sum can wrap. A leader above the cap goes alone.
-    let Some(mut room) = cap(max, leader).checked_sub(leader.size) else {
-        return 1;
-    };
+    let mut sum = leader.size;
+    // The writers before `place` go together, and `sum` is their sizes.
     for place in 1..queue.len() {
         let writer = queue[place];
-        if !joins(leader, writer, room) {
+        if !fits(max, leader, sum, writer) {
             return place;
         }
-        room -= writer.size;
+        sum += writer.size;
     }
     queue.len()
+}
+
+/// Whether a writer joins a leader's group, where the sizes before it, the leader's among them, come to `sum`.
+pub fn fits(max: u64, leader: Item, sum: u64, writer: Item) -> bool
+    ensures { result ≡ fits max leader (sum + writer.size) writer }
+{
+    let cap = cap(max, leader);
+    (!writer.options.sync || leader.options.sync)
+        && writer.options.no_slowdown == leader.options.no_slowdown
+        && writer.options.no_log == leader.options.no_log
+        && sum <= cap
+        && writer.size <= cap - sum
 }
 
 /// The most bytes that the group of this leader may have.
@@ -39,17 +49,6 @@ fn cap(max: u64, leader: Item) -> u64
     } else {
         max
     }
-}
-
-/// Whether a writer joins a leader's group, of whose cap so much is left.
-fn joins(leader: Item, writer: Item, room: u64) -> bool
-    ensures { result ≡ ((not writer.sync || leader.sync) && same_bool writer.no_slowdown leader.no_slowdown && same_bool
-        writer.no_log leader.no_log && nat_le writer.size room) }
-{
-    (!writer.sync || leader.sync)
-        && writer.no_slowdown == leader.no_slowdown
-        && writer.no_log == leader.no_log
-        && writer.size <= room
 }
 
 /// The group is the longest that the rule allows: each writer in it may join, and the next one, if there is one,

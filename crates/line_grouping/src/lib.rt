@@ -10,4 +10,4 @@
 
 mod group;
 
-pub use group::{group_is_longest, group_len};
+pub use group::{fits, group_is_longest, group_len};

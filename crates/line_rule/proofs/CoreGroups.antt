@@ -8,77 +8,77 @@ use Rattle.std.proofs.lemmas.List.Elements.{filter-append}
 use Rattle.std.proofs.lemmas.Slice.Zip.{all_zipped_more}
 use native.Mathlib.Decide.{ℕ_discrete}
 use mathlib.Core.Option.{Option, none, some}
-use Rattle.model_base.specs.Calls.{Reply}
+use Rattle.model_base.specs.Calls.{Reply as CoreReply}
 use Rattle.model_base.specs.Batch.{count_of}
 use Rattle.model_base.specs.History.{max_sequence}
 use Rattle.model_core.specs.Core.{Writer, leads, with_runs, first_group}
-use Rattle.model_core.specs.CoreLaw.{joined}
-use Rattle.line_rule.specs.declared.view.Entry.{Entry}
+use Rattle.model_core.specs.CoreLaw.{writers_in}
+use Rattle.line_rule.specs.declared.view.QueuedWriter.{QueuedWriter}
 use Rattle.line_rule.specs.declared.view.Handling.{Handling}
 use Rattle.line_rule.specs.declared.view.Squad.{Squad}
 use Rattle.line_rule.specs.Chain.{Absent, of}
-use Rattle.line_rule.specs.CoreEvents.{IsSame, core_queue, answer_of, answer_in, IsRearranged, unanswered, IsGroupOf, HasGroups}
+use Rattle.line_rule.specs.CoreEvents.{IsSame, core_queue, answer_of, answer_in, IsRearranged, without_answer, IsGroupOf, HasGroups}
 use Rattle.line_rule.specs.SecondList.{IsPut}
 use Rattle.line_rule.specs.Standing.{line_of, flat}
 use Rattle.line_rule.proofs.Groups.{absent_append, absent_front, absent_back}
 
 -- A group's writers
 
-leads_else : (c : ℕ) (ws : List Writer) → leads c (map unanswered ws) ≡ leads c ws
+leads_else : (c : ℕ) (ws : List Writer) → leads c (map without_answer ws) ≡ leads c ws
 leads_else c [] = refl
 leads_else c (w ∷ ws) = refl
 
-module _ {Q : Type 0} (writer_of : Entry Q → Writer) where
-  pub first_leads : IsSame writer_of → (own : Entry Q) (group : List (Entry Q)) → leads own.by (core_queue writer_of (group ++ own ∷ [])) ≡ true
+module _ {Request : Type 0} (writer_of : QueuedWriter Request → Writer) where
+  pub first_leads : IsSame writer_of → (own : QueuedWriter Request) (group : List (QueuedWriter Request)) → leads own.by (core_queue writer_of (group ++ own ∷ [])) ≡ true
   first_leads same own group = ap (λ l. leads own.by (map writer_of l)) (reverse-append group (own ∷ [])) ∙ eq-eqb (writer_of own).client own.by (same own)
 
   -- its leader is its first writer
-  pub group_leads : IsSame writer_of → (own : Entry Q) (group : List (Entry Q)) (ws : List Writer) → IsGroupOf writer_of (group ++ own ∷ []) ws → leads own.by ws ≡ true
+  pub group_leads : IsSame writer_of → (own : QueuedWriter Request) (group : List (QueuedWriter Request)) (ws : List Writer) → IsGroupOf writer_of (group ++ own ∷ []) ws → leads own.by ws ≡ true
   group_leads same own group ws is =
       let c : ℕ = own.by in
       sym (leads_else c ws) ∙ (ap (leads c) is ∙ (leads_else c (core_queue writer_of (group ++ own ∷ [])) ∙ first_leads same own group))
 
 -- runs are answers
-run_or_none : (b : Bool) (a r : Answer Reply) (w : Writer) (vs us ws : List Writer) → map unanswered vs ≡ map unanswered ws → map unanswered us ≡ map unanswered ws
-    → map unanswered (if b then record w { answer = a } ∷ vs else record w { answer = r } ∷ us) ≡ map unanswered (w ∷ ws)
-run_or_none true a r w vs us ws x y i = unanswered w ∷ x i
-run_or_none false a r w vs us ws x y i = unanswered w ∷ y i
+run_or_none : (b : Bool) (a r : Answer CoreReply) (w : Writer) (vs us ws : List Writer) → map without_answer vs ≡ map without_answer ws → map without_answer us ≡ map without_answer ws
+    → map without_answer (if b then record w { answer = a } ∷ vs else record w { answer = r } ∷ us) ≡ map without_answer (w ∷ ws)
+run_or_none true a r w vs us ws x y i = without_answer w ∷ x i
+run_or_none false a r w vs us ws x y i = without_answer w ∷ y i
 
-pub runs_kept : (last : ℕ) (ws : List Writer) → map unanswered (with_runs last ws) ≡ map unanswered ws
+pub runs_kept : (last : ℕ) (ws : List Writer) → map without_answer (with_runs last ws) ≡ map without_answer ws
 runs_kept last [] = refl
 runs_kept last (w ∷ ws) = run_or_none (nat_le (last + count_of w.records) max_sequence) _ _ w _ _ ws (runs_kept (last + count_of w.records) ws) (runs_kept last ws)
 
 -- The groups of the second queue
 
-pub joined_more : (wss : List (List Writer)) (ws : List Writer) → joined (wss ++ ws ∷ []) ≡ joined wss ++ ws
-joined_more wss ws = flat_map-append (λ (ws : List Writer). ws) wss (ws ∷ []) ∙ ap (λ l. joined wss ++ l) (append-nil ws)
+pub joined_more : (wss : List (List Writer)) (ws : List Writer) → writers_in (wss ++ ws ∷ []) ≡ writers_in wss ++ ws
+joined_more wss ws = flat_map-append (λ (ws : List Writer). ws) wss (ws ∷ []) ∙ ap (λ l. writers_in wss ++ l) (append-nil ws)
 
-module _ {Q P : Type 0} (writer_of : Entry Q → Writer) where
-  abbrev pub Same : Squad Q P → List Writer → Type 0
+module _ {Request Reply : Type 0} (writer_of : QueuedWriter Request → Writer) where
+  abbrev pub Same : Squad Request Reply → List Writer → Type 0
   Same g ws = IsGroupOf writer_of (line_of g) ws
 
   -- a group comes to the end
-  pub groups_more : (g : Squad Q P) (gs : List (Squad Q P)) (wss : List (List Writer)) (ws : List Writer) → HasGroups writer_of gs wss → Same g ws → HasGroups writer_of (g ∷ gs) (wss ++ ws ∷ [])
+  pub groups_more : (g : Squad Request Reply) (gs : List (Squad Request Reply)) (wss : List (List Writer)) (ws : List Writer) → HasGroups writer_of gs wss → Same g ws → HasGroups writer_of (g ∷ gs) (wss ++ ws ∷ [])
   groups_more g gs wss ws all one = subst (λ l. AllZip Same l (wss ++ ws ∷ [])) (sym (reverse-append (g ∷ []) gs)) (all_zipped_more Same (reverse gs) wss g ws all one)
 
-  front : (g : Squad Q P) (gs : List (Squad Q P)) (wss : List (List Writer)) → AllZip Same (g ∷ gs) wss → Same g (first_group wss) × AllZip Same gs (drop 1 wss) × (joined wss ≡ first_group wss ++ joined (drop 1 wss))
+  front : (g : Squad Request Reply) (gs : List (Squad Request Reply)) (wss : List (List Writer)) → AllZip Same (g ∷ gs) wss → Same g (first_group wss) × AllZip Same gs (drop 1 wss) × (writers_in wss ≡ first_group wss ++ writers_in (drop 1 wss))
   front g gs [] all = absurd all
   front g gs (ws ∷ wss) all = (all.0, all.1, refl)
 
   -- the oldest group is the first
-  pub groups_first : (g : Squad Q P) (gs : List (Squad Q P)) (wss : List (List Writer)) → HasGroups writer_of (gs ++ g ∷ []) wss → Same g (first_group wss) × HasGroups writer_of gs (drop 1 wss) × (joined wss ≡ first_group wss ++ joined (drop 1 wss))
+  pub groups_first : (g : Squad Request Reply) (gs : List (Squad Request Reply)) (wss : List (List Writer)) → HasGroups writer_of (gs ++ g ∷ []) wss → Same g (first_group wss) × HasGroups writer_of gs (drop 1 wss) × (writers_in wss ≡ first_group wss ++ writers_in (drop 1 wss))
   groups_first g gs wss all = front g (reverse gs) wss (subst (λ l. AllZip Same l wss) (reverse-append gs (g ∷ [])) all)
 
 -- who has a group apart is the only one that has
-module _ {Q P : Type 0} where
-  pub only_put : (c d : ℕ) (g f : Squad Q P) (apart : ℕ → Option (Squad Q P)) → IsPut d (some f) (λ _. none) apart → apart c ≡ some g → c ≡ d
+module _ {Request Reply : Type 0} where
+  pub only_put : (c d : ℕ) (g f : Squad Request Reply) (apart : ℕ → Option (Squad Request Reply)) → IsPut d (some f) (λ _. none) apart → apart c ≡ some g → c ≡ d
   only_put c d g f apart put here = go (ℕ_discrete c d)
     where
       go : Dec (c ≡ d) → c ≡ d
       go (yes e) = e
       go (no ne) = let bad : none ≡ some g = sym (put.1 c ne) ∙ here in absurd (cc)
 
-  pub none_now : (c d : ℕ) (f : Squad Q P) (was now : ℕ → Option (Squad Q P)) → IsPut d (some f) (λ _. none) was → c ≡ d → IsPut c none was now → (k : ℕ) → now k ≡ none
+  pub none_now : (c d : ℕ) (f : Squad Request Reply) (was now : ℕ → Option (Squad Request Reply)) → IsPut d (some f) (λ _. none) was → c ≡ d → IsPut c none was now → (k : ℕ) → now k ≡ none
   none_now c d f was now put same gone k = go (ℕ_discrete k c)
     where
       go : Dec (k ≡ c) → now k ≡ none
@@ -167,15 +167,15 @@ pub out_both : (c : ℕ) (ws vs : List Writer) → Out c ws → Out c vs → Out
 out_both c [] vs x y = y
 out_both c (w ∷ ws) vs x y = (x.0, out_both c ws vs x.1 y)
 
-out_plain : (c : ℕ) (ws : List Writer) → Out c (map unanswered ws) → Out c ws
+out_plain : (c : ℕ) (ws : List Writer) → Out c (map without_answer ws) → Out c ws
 out_plain c [] out = tt
 out_plain c (w ∷ ws) out = (out.0, out_plain c ws out.1)
 
-plain_out : (c : ℕ) (ws : List Writer) → Out c ws → Out c (map unanswered ws)
+plain_out : (c : ℕ) (ws : List Writer) → Out c ws → Out c (map without_answer ws)
 plain_out c [] out = tt
 plain_out c (w ∷ ws) out = (out.0, plain_out c ws out.1)
 
-abbrev pub stays : ℕ → ℕ × Answer Reply → Bool
+abbrev pub stays : ℕ → ℕ × Answer CoreReply → Bool
 stays c x = not (eqb x.0 c)
 
 pub out_stays : (c : ℕ) (ws : List Writer) → Out c ws → filter (stays c) (map answer_of ws) ≡ map answer_of ws
@@ -183,14 +183,14 @@ out_stays c [] out = refl
 out_stays c (w ∷ ws) out = ap (λ b. cond (not b) (answer_of w ∷ filter (stays c) (map answer_of ws)) (filter (stays c) (map answer_of ws))) (ne_eqb w.client c out.0) ∙ ap (λ l. answer_of w ∷ l) (out_stays c ws out.1)
 
 -- those of one client
-abbrev pub belongs : ℕ → ℕ × Answer Reply → Bool
+abbrev pub belongs : ℕ → ℕ × Answer CoreReply → Bool
 belongs c x = eqb x.0 c
 
 pub out_own : (c : ℕ) (ws : List Writer) → Out c ws → filter (belongs c) (map answer_of ws) ≡ []
 out_own c [] out = refl
 out_own c (w ∷ ws) out = ap (λ b. cond b (answer_of w ∷ filter (belongs c) (map answer_of ws)) (filter (belongs c) (map answer_of ws))) (ne_eqb w.client c out.0) ∙ out_own c ws out.1
 
-pub found_first : (c : ℕ) (ws : List Writer) (y : ℕ × Answer Reply) (rest : List (ℕ × Answer Reply)) → filter (belongs c) (map answer_of ws) ≡ y ∷ rest → (w : Writer) × (find (λ (x : Writer). eqb x.client c) ws ≡ Some w) × (answer_of w ≡ y)
+pub found_first : (c : ℕ) (ws : List Writer) (y : ℕ × Answer CoreReply) (rest : List (ℕ × Answer CoreReply)) → filter (belongs c) (map answer_of ws) ≡ y ∷ rest → (w : Writer) × (find (λ (x : Writer). eqb x.client c) ws ≡ Some w) × (answer_of w ≡ y)
 found_first c [] y rest is = absurd (cc)
 found_first c (w ∷ ws) y rest is = go (eqb w.client c) is (λ later. found_first c ws y rest later)
   where
@@ -198,11 +198,11 @@ found_first c (w ∷ ws) y rest is = go (eqb w.client c) is (λ later. found_fir
     go true is again = (w, refl, ap (head_or y) is)
     go false is again = again is
 
-module _ {Q P : Type 0} (reply_of : P → Reply) (c : ℕ) where
-  abbrev pub own_answer : Q × P → ℕ × Answer Reply
+module _ {Request Reply : Type 0} (reply_of : Reply → CoreReply) (c : ℕ) where
+  abbrev pub own_answer : Request × Reply → ℕ × Answer CoreReply
   own_answer x = (c, Some (reply_of x.1))
 
-  pub own_replies : (hs : List (Handling Q P)) → filter (belongs c) (map (answer_in reply_of) hs) ≡ map own_answer (of c hs)
+  pub own_replies : (hs : List (Handling Request Reply)) → filter (belongs c) (map (answer_in reply_of) hs) ≡ map own_answer (of c hs)
   own_replies [] = refl
   own_replies (h ∷ hs) = go (eqb h.by c) refl (own_replies hs)
     where
@@ -210,36 +210,36 @@ module _ {Q P : Type 0} (reply_of : P → Reply) (c : ℕ) where
       go true is more = λ i. (eqb-true h.by c is i, Some (reply_of h.reply)) ∷ more i
       go false is more = more
 
-module _ {Q : Type 0} (writer_of : Entry Q → Writer) (same : IsSame writer_of) where
-  absent_writers : (c : ℕ) (es : List (Entry Q)) → Absent c es → Out c (map writer_of es)
+module _ {Request : Type 0} (writer_of : QueuedWriter Request → Writer) (same : IsSame writer_of) where
+  absent_writers : (c : ℕ) (es : List (QueuedWriter Request)) → Absent c es → Out c (map writer_of es)
   absent_writers c [] out = tt
   absent_writers c (e ∷ es) out = ((λ is. out.0 (sym (same e) ∙ is)), absent_writers c es out.1)
 
-  absent_back_to_front : (c : ℕ) (es : List (Entry Q)) → Absent c es → Absent c (reverse es)
+  absent_back_to_front : (c : ℕ) (es : List (QueuedWriter Request)) → Absent c es → Absent c (reverse es)
   absent_back_to_front c [] out = tt
   absent_back_to_front c (e ∷ es) out = subst (Absent c) (sym (reverse-append (e ∷ []) es)) (absent_append c (reverse es) (e ∷ []) (absent_back_to_front c es out.1) (out.0, tt))
 
-  pub group_out : (c : ℕ) (es : List (Entry Q)) (ws : List Writer) → Absent c es → IsGroupOf writer_of es ws → Out c ws
+  pub group_out : (c : ℕ) (es : List (QueuedWriter Request)) (ws : List Writer) → Absent c es → IsGroupOf writer_of es ws → Out c ws
   group_out c es ws out is = out_plain c ws (subst (Out c) (sym is) (plain_out c (core_queue writer_of es) (absent_writers c (reverse es) (absent_back_to_front c es out))))
 
-module _ {Q P : Type 0} (writer_of : Entry Q → Writer) (same : IsSame writer_of) (c : ℕ) where
-  abbrev AllOut : List (Squad Q P) → Type 0
+module _ {Request Reply : Type 0} (writer_of : QueuedWriter Request → Writer) (same : IsSame writer_of) (c : ℕ) where
+  abbrev AllOut : List (Squad Request Reply) → Type 0
   AllOut [] = Unit {0}
   AllOut (g ∷ gs) = Absent c (line_of g) × AllOut gs
 
-  all_out_both : (gs fs : List (Squad Q P)) → AllOut gs → AllOut fs → AllOut (gs ++ fs)
+  all_out_both : (gs fs : List (Squad Request Reply)) → AllOut gs → AllOut fs → AllOut (gs ++ fs)
   all_out_both [] fs x y = y
   all_out_both (g ∷ gs) fs x y = (x.0, all_out_both gs fs x.1 y)
 
-  all_out : (gs : List (Squad Q P)) → Absent c (flat gs) → AllOut (reverse gs)
+  all_out : (gs : List (Squad Request Reply)) → Absent c (flat gs) → AllOut (reverse gs)
   all_out [] out = tt
   all_out (g ∷ gs) out = subst AllOut (sym (reverse-append (g ∷ []) gs)) (all_out_both (reverse gs) (g ∷ []) (all_out gs (absent_back c (line_of g) (flat gs) out)) (absent_front c (line_of g) (flat gs) out, tt))
 
-  out_of : (gs : List (Squad Q P)) (wss : List (List Writer)) → AllOut gs → AllZip (Same writer_of) gs wss → Out c (joined wss)
+  out_of : (gs : List (Squad Request Reply)) (wss : List (List Writer)) → AllOut gs → AllZip (Same writer_of) gs wss → Out c (writers_in wss)
   out_of [] [] out all = tt
   out_of [] (ws ∷ wss) out all = absurd all
   out_of (g ∷ gs) [] out all = absurd all
-  out_of (g ∷ gs) (ws ∷ wss) out all = out_both c ws (joined wss) (group_out writer_of same c (line_of g) ws out.0 all.0) (out_of gs wss out.1 all.1)
+  out_of (g ∷ gs) (ws ∷ wss) out all = out_both c ws (writers_in wss) (group_out writer_of same c (line_of g) ws out.0 all.0) (out_of gs wss out.1 all.1)
 
-  pub groups_out : (gs : List (Squad Q P)) (wss : List (List Writer)) → Absent c (flat gs) → HasGroups writer_of gs wss → Out c (joined wss)
+  pub groups_out : (gs : List (Squad Request Reply)) (wss : List (List Writer)) → Absent c (flat gs) → HasGroups writer_of gs wss → Out c (writers_in wss)
   groups_out gs wss out all = out_of (reverse gs) wss (all_out gs out) all

@@ -2,23 +2,23 @@
 use Rattle.std.proofs.Common.{◌≡◌, ℕ, eqb, eq-eqb, Bool, true, false, not, ◌&&◌, List, [], ◌∷◌, ◌++◌, map, drop, if◌then◌else◌, Option as Answer, Some, refl, sym, ap, ◌∙◌, subst, append-nil, append_assoc, eqb-true, cond, filter, reverse, take, None}
 use Rattle.std.proofs.lemmas.List.{map-append, reverse-append}
 use mathlib.Core.Option.{Option, none, some}
-use Rattle.model_base.specs.Calls.{Reply, refused}
+use Rattle.model_base.specs.Calls.{Reply as CoreReply, refused}
 use Rattle.model_core.specs.declared.event.Event.TheVariants as core
 use Rattle.model_core.specs.Core.{Options, Writer, LogPhase, free as nobody, led, built as in_hand, in_log, marked, handed, still, published, State, leads, first_group, in_hand as logged, Client, with_runs, has_run, all_answered, entries_of, client_at, with_client, next_call}
-use Rattle.model_core.specs.CoreLaw.{joined}
+use Rattle.model_core.specs.CoreLaw.{writers_in}
 use Rattle.model_core.specs.Halves.{list_half_of, left_with}
-use Rattle.model_core.specs.Step.{step, when, leave, boundary, to_second, next, exit, link, link_call, link_with, complete, complete_with, completed, elect, build, log_group, logged_group, with_group, fault, refuse, is_no_slowdown, group_size}
+use Rattle.model_core.specs.Step.{step, when, leave, boundary, to_second, next, exit, link, link_call, link_with, complete, complete_with, after_completion, elect, build, log_group, logged_group, with_group, fault, refuse, is_no_slowdown, group_size}
 use Rattle.line_rule.specs.declared.view.Back.{Back}
 use Rattle.line_rule.specs.declared.view.Back.TheVariants.{Away, Parting, Joining, Holding, Queued, Serving, Passing}
-use Rattle.line_rule.specs.declared.view.Entry.{Entry}
+use Rattle.line_rule.specs.declared.view.QueuedWriter.{QueuedWriter}
 use Rattle.line_rule.specs.declared.view.Handling.{Handling}
 use Rattle.line_rule.specs.declared.view.Squad.{Squad}
 use Rattle.line_rule.specs.Chain.{all_answers, Absent, handling}
-use Rattle.line_rule.specs.CoreEvents.{IsSame, core_queue, core_log, answer_of, answer_in, HasReplies, HasItems, AllHave, IsCoreOf, IsRearranged, handed_on, IsGroupOf, HasGroups, IsUnlogged, IsLogOf, IsTaken, unanswered, IsSettled, IsCommit, HasLeft}
-use Rattle.line_rule.specs.Events.{Core, Held, free, elected, grouped, comes, elects, builds, IsNotWith, was_for, without}
+use Rattle.line_rule.specs.CoreEvents.{IsSame, core_queue, core_log, answer_of, answer_in, HasReplies, HasItems, AllHave, IsCoreOf, IsRearranged, group_handed_on, IsGroupOf, HasGroups, IsUnlogged, IsLogOf, IsTaken, without_answer, IsSettled, IsCommit, HasLeft}
+use Rattle.line_rule.specs.Events.{Core, LogHolder, free, elected, grouped, comes, elects, builds, IsNotWith, was_for, without}
 use Rattle.line_rule.specs.Handing.{IsJoined}
-use Rattle.line_rule.specs.Plays.{ending}
-use Rattle.line_rule.specs.SecondList.{SecondList, IsPut, IsAhead, handed as handed_over}
+use Rattle.line_rule.specs.Plays.{squad_with_end}
+use Rattle.line_rule.specs.SecondList.{SecondList, IsPut, IsAhead, after_handing_on as handed_over}
 use Rattle.line_rule.specs.Standing.{Lead2, level, ahead, line_of, flat}
 use Rattle.line_rule.specs.Steps.{Lists, IsBoundary, IsSecond, IsNext, IsServedOut, HappensAlone, IsExit, IsComplete}
 use Rattle.line_rule.proofs.CoreGroups.{group_leads, joined_more, groups_more, groups_first, only_put, none_now, rearranged_as, rearranged_more, first_leads, runs_kept, rearranged_within, rearranged_filter, rearranged_one, Out, stays, out_stays, belongs, out_own, found_first, own_answer, own_replies, group_out, groups_out}
@@ -30,12 +30,12 @@ use Rattle.line_rule.proofs.CoreExits.{group_given}
 use Rattle.line_rule.proofs.CoreLaws.{builds_core}
 use Rattle.line_rule.proofs.Groups.{absent_append}
 
-abbrev line_held : {Q : Type 0} → Held Q → List (Entry Q)
+abbrev line_held : {Request : Type 0} → LogHolder Request → List (QueuedWriter Request)
 line_held free = []
 line_held (elected c) = []
 line_held (grouped own group) = group ++ own ∷ []
 
-abbrev squad_in : {Q P : Type 0} → Squad Q P → Option (Squad Q P) → Squad Q P
+abbrev squad_in : {Request Reply : Type 0} → Squad Request Reply → Option (Squad Request Reply) → Squad Request Reply
 squad_in g none = g
 squad_in g (some f) = f
 
@@ -49,11 +49,11 @@ one_built vs ws is = cc
 one_ahead : (c d : ℕ) → Path Lead2 (ahead c) (ahead d) → c ≡ d
 one_ahead c d is = cc
 
-module _ {Q P : Type 0} (writer_of : Entry Q → Writer) where
-  pub same_log : (h h' : Held Q) (l l' : Lead2) (f f' : ℕ → Option (Squad Q P)) (ws : List Writer) (phase : LogPhase) → h' ≡ h → l' ≡ l → f' ≡ f → IsLogOf writer_of h l f ws phase → IsLogOf writer_of h' l' f' ws phase
+module _ {Request Reply : Type 0} (writer_of : QueuedWriter Request → Writer) where
+  pub same_log : (h h' : LogHolder Request) (l l' : Lead2) (f f' : ℕ → Option (Squad Request Reply)) (ws : List Writer) (phase : LogPhase) → h' ≡ h → l' ≡ l → f' ≡ f → IsLogOf writer_of h l f ws phase → IsLogOf writer_of h' l' f' ws phase
   same_log h h' l l' f f' ws phase eh el ef is = subst (λ x. IsLogOf writer_of x l' f' ws phase) (sym eh) (subst (λ x. IsLogOf writer_of h x f' ws phase) (sym el) (subst (λ x. IsLogOf writer_of h l x ws phase) (sym ef) is))
 
-  pub unlogged : (h : Held Q) (l : Lead2) (f : ℕ → Option (Squad Q P)) (ws : List Writer) (phase : LogPhase) → ((own : Entry Q) (group : List (Entry Q)) → h ≡ grouped own group → ⊥) → IsLogOf writer_of h l f ws phase → IsUnlogged writer_of h l f ws phase
+  pub unlogged : (h : LogHolder Request) (l : Lead2) (f : ℕ → Option (Squad Request Reply)) (ws : List Writer) (phase : LogPhase) → ((own : QueuedWriter Request) (group : List (QueuedWriter Request)) → h ≡ grouped own group → ⊥) → IsLogOf writer_of h l f ws phase → IsUnlogged writer_of h l f ws phase
   unlogged h l f ws nobody not is = is
   unlogged h l f ws (led c) not is = is
   unlogged h l f ws (in_hand vs) not is = is
@@ -61,8 +61,8 @@ module _ {Q P : Type 0} (writer_of : Entry Q → Writer) where
   unlogged h l f ws (marked vs) not is = absurd (not is.2.0.own is.2.0.rest is.2.1)
   unlogged h l f ws (handed c) not is = absurd (not is.2.0 is.2.1 is.2.2)
 
-module _ {Q P : Type 0} where
-  joined_ahead : (back : Back Q P) (g : Squad Q P) (c : ℕ) (lead : Lead2) → IsJoined g back → IsAhead back c lead → lead ≡ ahead c
+module _ {Request Reply : Type 0} where
+  joined_ahead : (back : Back Request Reply) (g : Squad Request Reply) (c : ℕ) (lead : Lead2) → IsJoined g back → IsAhead back c lead → lead ≡ ahead c
   joined_ahead Away g c lead there is = absurd there
   joined_ahead (Parting f b) g c lead there is = absurd there
   joined_ahead (Joining f) g c lead there is = is
@@ -71,7 +71,7 @@ module _ {Q P : Type 0} where
   joined_ahead (Serving f w) g c lead there is = absurd there
   joined_ahead (Passing f x) g c lead there is = absurd there
 
-  joined_over : (back : Back Q P) (g : Squad Q P) (p : SecondList Q P) → IsJoined g back → Path (SecondList Q P) (handed_over back p) (p.0, level, p.2)
+  joined_over : (back : Back Request Reply) (g : Squad Request Reply) (p : SecondList Request Reply) → IsJoined g back → Path (SecondList Request Reply) (handed_over back p) (p.0, level, p.2)
   joined_over Away g p there = absurd there
   joined_over (Parting f b) g p there = absurd there
   joined_over (Joining f) g p there = refl
@@ -80,24 +80,24 @@ module _ {Q P : Type 0} where
   joined_over (Serving f w) g p there = absurd there
   joined_over (Passing f x) g p there = absurd there
 
-module _ {Q P : Type 0} (writer_of : Entry Q → Writer) (reply_of : P → Reply) (o : Options) (s : State) (a b : Lists Q P) (ws : List Writer) where
-  abbrev answered : List Writer → List (ℕ × Answer Reply)
+module _ {Request Reply : Type 0} (writer_of : QueuedWriter Request → Writer) (reply_of : Reply → CoreReply) (o : Options) (s : State) (a b : Lists Request Reply) (ws : List Writer) where
+  abbrev answered : List Writer → List (ℕ × Answer CoreReply)
   answered vs = map answer_of vs
 
-  abbrev handled : List (Handling Q P) → List (ℕ × Answer Reply)
+  abbrev handled : List (Handling Request Reply) → List (ℕ × Answer CoreReply)
   handled hs = map (answer_in reply_of) hs
 
   abbrev Stands : Type 0
   Stands = IsCoreOf writer_of reply_of ws a (list_half_of s)
 
-  abbrev was_owed : List (ℕ × Answer Reply)
-  was_owed = handled a.0.3 ++ answered (handed_on s.log ws)
+  abbrev was_owed : List (ℕ × Answer CoreReply)
+  was_owed = handled a.0.3 ++ answered (group_handed_on s.log ws)
 
-  abbrev waits : List (ℕ × Answer Reply)
-  waits = answered (s.leaving ++ joined s.second)
+  abbrev waits : List (ℕ × Answer CoreReply)
+  waits = answered (s.leaving ++ writers_in s.second)
 
   -- a logged group is cut off from the first list
-  pub boundary_core : (c : ℕ) (g : Squad Q P) → o.pipelined ≡ true → IsSame writer_of → Stands → s.log ≡ in_log ws → IsBoundary c g a b → IsTaken writer_of reply_of o (core.Boundary c) s ws b
+  pub boundary_core : (c : ℕ) (g : Squad Request Reply) → o.pipelined ≡ true → IsSame writer_of → Stands → s.log ≡ in_log ws → IsBoundary c g a b → IsTaken writer_of reply_of o (core.Boundary c) s ws b
   boundary_core c g two same r is ev =
       let log : IsLogOf writer_of a.0.1 a.1.1 a.1.2 ws (in_log ws) = subst (IsLogOf writer_of a.0.1 a.1.1 a.1.2 ws) is r.log in
       let theirs : IsGroupOf writer_of (line_of g) ws = subst (λ es. IsGroupOf writer_of es ws) (ap line_held (sym log.1.2 ∙ ev.1)) log.1.3 in
@@ -106,35 +106,35 @@ module _ {Q P : Type 0} (writer_of : Entry Q → Writer) (reply_of : P → Reply
         new,
         (λ i. boundary o s c (is i)) ∙ (λ i. when (two i && first i) new),
         record {
-          queue = r.queue ∙ ap (λ (k : Core Q P). core_queue writer_of k.0) (sym ev.3);
-          log = (refl, ev.5 ∙ log.2.0, (g, ap (λ (k : Core Q P). k.1) ev.3 ∙ ev.1, theirs, subst (λ d. IsPut d (some g) (λ _. none) b.1.2) (sym ev.0) (ev.6.0, λ k ne. ev.6.1 k ne ∙ log.2.1 k)));
+          queue = r.queue ∙ ap (λ (k : Core Request Reply). core_queue writer_of k.0) (sym ev.3);
+          log = (refl, ev.5 ∙ log.2.0, (g, ap (λ (k : Core Request Reply). k.1) ev.3 ∙ ev.1, theirs, subst (λ d. IsPut d (some g) (λ _. none) b.1.2) (sym ev.0) (ev.6.0, λ k ne. ev.6.1 k ne ∙ log.2.1 k)));
           second = subst (λ gs. HasGroups writer_of gs s.second) (sym ev.4) r.second;
-          owed = rearranged_as was_owed waits (handled b.0.3 ++ []) waits (λ i. handled ((ev.3 i).3) ++ answered (handed_on (sym is i) ws)) refl r.owed;
+          owed = rearranged_as was_owed waits (handled b.0.3 ++ []) waits (λ i. handled ((ev.3 i).3) ++ answered (group_handed_on (sym is i) ws)) refl r.owed;
         },
       )
 
   -- it comes to the end of the second queue
-  pub second_core : (c : ℕ) (g : Squad Q P) (to : List (Handling Q P)) → IsSame writer_of → Stands → IsSecond c g to a b → IsTaken writer_of reply_of o (core.Second c) s ws b
+  pub second_core : (c : ℕ) (g : Squad Request Reply) (to : List (Handling Request Reply)) → IsSame writer_of → Stands → IsSecond c g to a b → IsTaken writer_of reply_of o (core.Second c) s ws b
   second_core c g to same r ev = by_phase s.log refl r.log
     where
       by_phase : (phase : LogPhase) → s.log ≡ phase → IsLogOf writer_of a.0.1 a.1.1 a.1.2 ws phase → (new : State) × (to_second s c phase ≡ Some new) × IsCoreOf writer_of reply_of ws b (list_half_of new)
       by_phase (marked vs) is log =
-          let f : Squad Q P = log.2.0 in
+          let f : Squad Request Reply = log.2.0 in
           let mine : c ≡ f.own.by = only_put c f.own.by g f a.1.2 log.2.3 ev.0 in
           let one : g ≡ f = ap (squad_in g) (sym ev.0 ∙ (ap a.1.2 mine ∙ log.2.3.0)) in
-          let own_by : g.own.by ≡ c = ap (λ (x : Squad Q P). x.own.by) one ∙ sym mine in
+          let own_by : g.own.by ≡ c = ap (λ (x : Squad Request Reply). x.own.by) one ∙ sym mine in
           let theirs : IsGroupOf writer_of (line_of g) vs = subst (λ x. IsGroupOf writer_of (line_of x) vs) (sym one) (subst (IsGroupOf writer_of (line_of f)) (sym log.0) log.2.2) in
           let first : leads c vs ≡ true = subst (λ d. leads d vs ≡ true) own_by (group_leads writer_of same g.own g.rest vs theirs) in
           let new : State = record s { log = handed c; second = s.second ++ vs ∷ [] } in
-          let was : IsRearranged (handled a.0.3) waits = rearranged_as was_owed waits (handled a.0.3) waits (sym (append-nil (handled a.0.3)) ∙ (λ i. handled a.0.3 ++ answered (handed_on (sym is i) ws))) refl r.owed in (
+          let was : IsRearranged (handled a.0.3) waits = rearranged_as was_owed waits (handled a.0.3) waits (sym (append-nil (handled a.0.3)) ∙ (λ i. handled a.0.3 ++ answered (group_handed_on (sym is i) ws))) refl r.owed in (
             new,
             (λ i. when (first i) new),
             record {
-              queue = r.queue ∙ ap (λ (k : Core Q P). core_queue writer_of k.0) (sym ev.2);
-              log = (ev.4, none_now c f.own.by f a.1.2 b.1.2 log.2.3 mine ev.5, (g.own, g.rest, ap (λ (k : Core Q P). k.1) ev.2 ∙ (log.2.1 ∙ ap (λ (x : Squad Q P). grouped x.own x.rest) (sym one)), own_by, subst (IsGroupOf writer_of (line_of g)) log.0 theirs));
-              second = subst (λ gs. HasGroups writer_of gs (s.second ++ vs ∷ [])) (sym ev.3) (groups_more writer_of (ending g to) a.1.0 s.second vs r.second theirs);
-              owed = rearranged_as (handled a.0.3 ++ answered vs) (waits ++ answered vs) (handled b.0.3 ++ answered ws) (answered (s.leaving ++ joined (s.second ++ vs ∷ []))) (λ i. handled ((ev.2 i).3) ++ answered (sym log.0 i))
-                  (ap (λ l. answered (s.leaving ++ l)) (joined_more s.second vs) ∙ (ap answered (sym (append_assoc s.leaving (joined s.second) vs)) ∙ map-append answer_of (s.leaving ++ joined s.second) vs))
+              queue = r.queue ∙ ap (λ (k : Core Request Reply). core_queue writer_of k.0) (sym ev.2);
+              log = (ev.4, none_now c f.own.by f a.1.2 b.1.2 log.2.3 mine ev.5, (g.own, g.rest, ap (λ (k : Core Request Reply). k.1) ev.2 ∙ (log.2.1 ∙ ap (λ (x : Squad Request Reply). grouped x.own x.rest) (sym one)), own_by, subst (IsGroupOf writer_of (line_of g)) log.0 theirs));
+              second = subst (λ gs. HasGroups writer_of gs (s.second ++ vs ∷ [])) (sym ev.3) (groups_more writer_of (squad_with_end g to) a.1.0 s.second vs r.second theirs);
+              owed = rearranged_as (handled a.0.3 ++ answered vs) (waits ++ answered vs) (handled b.0.3 ++ answered ws) (answered (s.leaving ++ writers_in (s.second ++ vs ∷ []))) (λ i. handled ((ev.2 i).3) ++ answered (sym log.0 i))
+                  (ap (λ l. answered (s.leaving ++ l)) (joined_more s.second vs) ∙ (ap answered (sym (append_assoc s.leaving (writers_in s.second) vs)) ∙ map-append answer_of (s.leaving ++ writers_in s.second) vs))
                   (rearranged_more (handled a.0.3) waits (answered vs) was);
             },
           )
@@ -145,27 +145,27 @@ module _ {Q P : Type 0} (writer_of : Entry Q → Writer) (reply_of : P → Reply
       by_phase (handed d) is log = let bad : none ≡ some g = sym (log.1 c) ∙ ev.0 in absurd (cc)
 
   -- its leader gives the log on
-  pub next_core : (back : Back Q P) (g : Squad Q P) (own : Entry Q) (p : P) (gs : List (Entry Q × P)) → Stands → IsNext back own p gs a b → IsJoined g back → HasReplies reply_of (all_answers own p gs) ws → IsTaken writer_of reply_of o (core.Next own.by) s [] b
+  pub next_core : (back : Back Request Reply) (g : Squad Request Reply) (own : QueuedWriter Request) (p : Reply) (gs : List (QueuedWriter Request × Reply)) → Stands → IsNext back own p gs a b → IsJoined g back → HasReplies reply_of (all_answers own p gs) ws → IsTaken writer_of reply_of o (core.Next own.by) s [] b
   next_core back g own p gs r ev there has = by_phase s.log refl r.log
     where
       here : a.1.1 ≡ ahead own.by
       here = joined_ahead back g own.by a.1.1 there ev.2
 
-      over : Path (SecondList Q P) b.1 (a.1.0, level, a.1.2)
+      over : Path (SecondList Request Reply) b.1 (a.1.0, level, a.1.2)
       over = ev.1 ∙ joined_over back g a.1 there
 
       by_phase : (phase : LogPhase) → s.log ≡ phase → IsLogOf writer_of a.0.1 a.1.1 a.1.2 ws phase → (new : State) × (next s own.by phase ≡ Some new) × IsCoreOf writer_of reply_of [] b (list_half_of new)
       by_phase (handed d) is log =
           let mine : own.by ≡ d = one_ahead own.by d (sym here ∙ log.0) in
           let new : State = record s { log = nobody } in
-          let replies : List (Handling Q P) = all_answers own p gs in (
+          let replies : List (Handling Request Reply) = all_answers own p gs in (
             new,
             (λ i. when (eq-eqb own.by d mine i) new),
             record {
-              queue = r.queue ∙ ap (λ (k : Core Q P). core_queue writer_of k.0) (sym ev.0.1);
-              log = (ap (λ (k : Core Q P). core_log writer_of k.1) (sym ev.0.1), refl, (ap (λ (x : SecondList Q P). x.1) over, λ k. ap (λ (x : SecondList Q P). x.2 k) over ∙ log.1 k));
-              second = subst (λ gs. HasGroups writer_of gs s.second) (ap (λ (x : SecondList Q P). x.0) (sym over)) r.second;
-              owed = rearranged_as was_owed waits (handled b.0.3 ++ []) waits (append-nil (handled b.0.3) ∙ (ap (λ (k : Core Q P). handled k.3) ev.0.1 ∙ (map-append (answer_in reply_of) a.0.3 replies ∙ (λ i. handled a.0.3 ++ sym has i) ∙ (λ i. handled a.0.3 ++ answered (handed_on (sym is i) ws))))) refl r.owed;
+              queue = r.queue ∙ ap (λ (k : Core Request Reply). core_queue writer_of k.0) (sym ev.0.1);
+              log = (ap (λ (k : Core Request Reply). core_log writer_of k.1) (sym ev.0.1), refl, (ap (λ (x : SecondList Request Reply). x.1) over, λ k. ap (λ (x : SecondList Request Reply). x.2 k) over ∙ log.1 k));
+              second = subst (λ gs. HasGroups writer_of gs s.second) (ap (λ (x : SecondList Request Reply). x.0) (sym over)) r.second;
+              owed = rearranged_as was_owed waits (handled b.0.3 ++ []) waits (append-nil (handled b.0.3) ∙ (ap (λ (k : Core Request Reply). handled k.3) ev.0.1 ∙ (map-append (answer_in reply_of) a.0.3 replies ∙ (λ i. handled a.0.3 ++ sym has i) ∙ (λ i. handled a.0.3 ++ answered (group_handed_on (sym is i) ws))))) refl r.owed;
             },
           )
       by_phase nobody is log = let bad : level ≡ ahead own.by = sym log.2.0 ∙ here in absurd (cc)
@@ -191,7 +191,7 @@ module _ {Q P : Type 0} (writer_of : Entry Q → Writer) (reply_of : P → Reply
       by_phase (marked vs) log came = absurd (cc)
 
   -- the oldest group leaves the second list
-  pub serves_core : (c : ℕ) (g : Squad Q P) → o.pipelined ≡ true → IsSame writer_of → Stands → s.table ≡ published → IsServedOut c g a b → IsGroupOf writer_of (line_of g) (first_group s.second) × IsTaken writer_of reply_of o (core.Exit c) s ws b
+  pub serves_core : (c : ℕ) (g : Squad Request Reply) → o.pipelined ≡ true → IsSame writer_of → Stands → s.table ≡ published → IsServedOut c g a b → IsGroupOf writer_of (line_of g) (first_group s.second) × IsTaken writer_of reply_of o (core.Exit c) s ws b
   serves_core c g two same r is ev =
       let first = groups_first writer_of g b.1.0 s.second (subst (λ gs. HasGroups writer_of gs s.second) ev.1 r.second) in
       let vs : List Writer = first_group s.second in
@@ -203,17 +203,17 @@ module _ {Q P : Type 0} (writer_of : Entry Q → Writer) (reply_of : P → Reply
           left_by true,
           (λ i. exit o s c (is i)) ∙ ((λ i. when (led_by (two i)) (left_by (two i))) ∙ (λ i. when (leads_g i) (left_by true))),
           record {
-            queue = r.queue ∙ ap (λ (k : Core Q P). core_queue writer_of k.0) (sym ev.2);
-            log = same_log writer_of a.0.1 b.0.1 a.1.1 b.1.1 a.1.2 b.1.2 ws s.log (ap (λ (k : Core Q P). k.1) ev.2) ev.3 ev.4 r.log;
+            queue = r.queue ∙ ap (λ (k : Core Request Reply). core_queue writer_of k.0) (sym ev.2);
+            log = same_log writer_of a.0.1 b.0.1 a.1.1 b.1.1 a.1.2 b.1.2 ws s.log (ap (λ (k : Core Request Reply). k.1) ev.2) ev.3 ev.4 r.log;
             second = first.1;
-            owed = rearranged_as was_owed waits (handled b.0.3 ++ answered (handed_on s.log ws)) (answered ((s.leaving ++ vs) ++ joined (drop 1 s.second))) (λ i. handled ((ev.2 i).3) ++ answered (handed_on s.log ws))
-                (ap answered (append_assoc s.leaving vs (joined (drop 1 s.second))) ∙ ap (λ l. answered (s.leaving ++ l)) (sym first.2)) r.owed;
+            owed = rearranged_as was_owed waits (handled b.0.3 ++ answered (group_handed_on s.log ws)) (answered ((s.leaving ++ vs) ++ writers_in (drop 1 s.second))) (λ i. handled ((ev.2 i).3) ++ answered (group_handed_on s.log ws))
+                (ap answered (append_assoc s.leaving vs (writers_in (drop 1 s.second))) ∙ ap (λ l. answered (s.leaving ++ l)) (sym first.2)) r.owed;
           },
         ),
       )
 
   -- a writer comes
-  pub comes_core : (e : Entry Q) → Stands → HappensAlone (comes e) a b → IsCommit o s e.by (writer_of e) → IsTaken writer_of reply_of o (core.Link e.by) s ws b
+  pub comes_core : (e : QueuedWriter Request) → Stands → HappensAlone (comes e) a b → IsCommit o s e.by (writer_of e) → IsTaken writer_of reply_of o (core.Link e.by) s ws b
   comes_core e r ev commits =
       let more : core_queue writer_of (e ∷ a.0.0) ≡ core_queue writer_of a.0.0 ++ writer_of e ∷ [] = ap (map writer_of) (reverse-append (e ∷ []) a.0.0) ∙ map-append writer_of (reverse a.0.0) (e ∷ []) in
       let c : ℕ = e.by in
@@ -225,59 +225,59 @@ module _ {Q P : Type 0} (writer_of : Entry Q → Writer) (reply_of : P → Reply
         new,
         (λ i. link o s c (commits.2 i)) ∙ ((λ i. if commits.3 i then link_call o s c ready.client (commits.4 i) else None) ∙ (λ i. Some (link_with o s c ready.client how (commits.5 i)))),
         record {
-          queue = (λ i. r.queue i ++ sym commits.6 i ∷ []) ∙ (sym more ∙ ap (λ (k : Core Q P). core_queue writer_of k.0) (sym ev.0.1));
-          log = same_log writer_of a.0.1 b.0.1 a.1.1 b.1.1 a.1.2 b.1.2 ws s.log (ap (λ (k : Core Q P). k.1) ev.0.1) (ap (λ (x : SecondList Q P). x.1) ev.1) (ap (λ (x : SecondList Q P). x.2) ev.1) r.log;
-          second = subst (λ gs. HasGroups writer_of gs s.second) (ap (λ (x : SecondList Q P). x.0) (sym ev.1)) r.second;
-          owed = rearranged_as was_owed waits (handled b.0.3 ++ answered (handed_on s.log ws)) waits (λ i. handled ((ev.0.1 i).3) ++ answered (handed_on s.log ws)) refl r.owed;
+          queue = (λ i. r.queue i ++ sym commits.6 i ∷ []) ∙ (sym more ∙ ap (λ (k : Core Request Reply). core_queue writer_of k.0) (sym ev.0.1));
+          log = same_log writer_of a.0.1 b.0.1 a.1.1 b.1.1 a.1.2 b.1.2 ws s.log (ap (λ (k : Core Request Reply). k.1) ev.0.1) (ap (λ (x : SecondList Request Reply). x.1) ev.1) (ap (λ (x : SecondList Request Reply). x.2) ev.1) r.log;
+          second = subst (λ gs. HasGroups writer_of gs s.second) (ap (λ (x : SecondList Request Reply). x.0) (sym ev.1)) r.second;
+          owed = rearranged_as was_owed waits (handled b.0.3 ++ answered (group_handed_on s.log ws)) waits (λ i. handled ((ev.0.1 i).3) ++ answered (group_handed_on s.log ws)) refl r.owed;
         },
       )
 
-  settled : (l l' : Lead2) (f f' : ℕ → Option (Squad Q P)) → l' ≡ l → f' ≡ f → IsSettled l f → IsSettled l' f'
+  settled : (l l' : Lead2) (f f' : ℕ → Option (Squad Request Reply)) → l' ≡ l → f' ≡ f → IsSettled l f → IsSettled l' f'
   settled l l' f f' el ef is = (el ∙ is.0, λ k. ap (λ x. x k) ef ∙ is.1 k)
 
   -- with nothing handed on
-  owed_plain : Stands → handed_on s.log ws ≡ [] → IsRearranged (handled a.0.3) waits
+  owed_plain : Stands → group_handed_on s.log ws ≡ [] → IsRearranged (handled a.0.3) waits
   owed_plain r none_on = rearranged_as was_owed waits (handled a.0.3) waits (sym (append-nil (handled a.0.3)) ∙ (λ i. handled a.0.3 ++ answered (sym none_on i))) refl r.owed
 
   -- as where nothing is logged
-  none_handed : (held : Held Q) → s.log ≡ core_log writer_of held → handed_on s.log ws ≡ []
-  none_handed held is = ap (λ l. handed_on l ws) is ∙ plain held
+  none_handed : (held : LogHolder Request) → s.log ≡ core_log writer_of held → group_handed_on s.log ws ≡ []
+  none_handed held is = ap (λ l. group_handed_on l ws) is ∙ plain held
     where
-      plain : (h : Held Q) → handed_on (core_log writer_of h) ws ≡ []
+      plain : (h : LogHolder Request) → group_handed_on (core_log writer_of h) ws ≡ []
       plain free = refl
       plain (elected c) = refl
       plain (grouped own group) = refl
 
   -- the oldest one leads
-  pub leads_core : (e : Entry Q) → IsSame writer_of → Stands → HappensAlone (elects e) a b → IsTaken writer_of reply_of o (core.Elect e.by) s [] b
+  pub leads_core : (e : QueuedWriter Request) → IsSame writer_of → Stands → HappensAlone (elects e) a b → IsTaken writer_of reply_of o (core.Elect e.by) s [] b
   leads_core e same r ev =
-      let u = unlogged writer_of a.0.1 a.1.1 a.1.2 ws s.log (λ own group is. let bad : Path (Held Q) free (grouped own group) = sym ev.0.0.0 ∙ is in absurd (cc)) r.log in
+      let u = unlogged writer_of a.0.1 a.1.1 a.1.2 ws s.log (λ own group is. let bad : Path (LogHolder Request) free (grouped own group) = sym ev.0.0.0 ∙ is in absurd (cc)) r.log in
       let is : s.log ≡ nobody = u.0 ∙ ap (core_log writer_of) ev.0.0.0 in
       let first : leads e.by s.queue ≡ true = ap (leads e.by) (r.queue ∙ ap (core_queue writer_of) ev.0.0.1.1) ∙ first_leads writer_of same e ev.0.0.1.0 in
       let new : State = record s { log = led e.by } in (
         new,
         (λ i. elect s e.by (is i)) ∙ (λ i. when (first i) new),
         record {
-          queue = r.queue ∙ ap (λ (k : Core Q P). core_queue writer_of k.0) (sym ev.0.1);
-          log = (ap (λ (k : Core Q P). core_log writer_of k.1) (sym ev.0.1), refl, settled a.1.1 b.1.1 a.1.2 b.1.2 (ap (λ (x : SecondList Q P). x.1) ev.1) (ap (λ (x : SecondList Q P). x.2) ev.1) u.2);
-          second = subst (λ gs. HasGroups writer_of gs s.second) (ap (λ (x : SecondList Q P). x.0) (sym ev.1)) r.second;
+          queue = r.queue ∙ ap (λ (k : Core Request Reply). core_queue writer_of k.0) (sym ev.0.1);
+          log = (ap (λ (k : Core Request Reply). core_log writer_of k.1) (sym ev.0.1), refl, settled a.1.1 b.1.1 a.1.2 b.1.2 (ap (λ (x : SecondList Request Reply). x.1) ev.1) (ap (λ (x : SecondList Request Reply). x.2) ev.1) u.2);
+          second = subst (λ gs. HasGroups writer_of gs s.second) (ap (λ (x : SecondList Request Reply). x.0) (sym ev.1)) r.second;
           owed = rearranged_as (handled a.0.3) waits (handled b.0.3 ++ []) waits (append-nil (handled b.0.3) ∙ (λ i. handled ((ev.0.1 i).3))) refl (owed_plain r (none_handed a.0.1 u.0));
         },
       )
 
   -- it builds its group
-  pub groups_core : (own : Entry Q) (group left : List (Entry Q)) → IsSame writer_of → HasItems writer_of a.0.0 → Stands → HappensAlone (builds o.group_bytes own group left) a b → IsTaken writer_of reply_of o (core.Build own.by) s [] b
+  pub groups_core : (own : QueuedWriter Request) (group left : List (QueuedWriter Request)) → IsSame writer_of → HasItems writer_of a.0.0 → Stands → HappensAlone (builds o.group_bytes own group left) a b → IsTaken writer_of reply_of o (core.Build own.by) s [] b
   groups_core own group left same has r ev =
-      let u = unlogged writer_of a.0.1 a.1.1 a.1.2 ws s.log (λ own' group' is. let bad : Path (Held Q) (elected own.by) (grouped own' group') = sym ev.0.0.0 ∙ is in absurd (cc)) r.log in
+      let u = unlogged writer_of a.0.1 a.1.1 a.1.2 ws s.log (λ own' group' is. let bad : Path (LogHolder Request) (elected own.by) (grouped own' group') = sym ev.0.0.0 ∙ is in absurd (cc)) r.log in
       let is : s.log ≡ led own.by = u.0 ∙ ap (core_log writer_of) ev.0.0.0 in
       let new : State = record s { log = in_hand (take (group_size o s) s.queue); queue = drop (group_size o s) s.queue } in
       let half = builds_core writer_of o s a.0 own group left r.queue has ev.0.0 in (
         new,
         (λ i. build o s own.by (is i)) ∙ (λ i. when (eq-eqb own.by own.by refl i) new),
         record {
-          queue = half.1 ∙ ap (λ (k : Core Q P). core_queue writer_of k.0) (sym ev.0.1);
-          log = (ap in_hand half.0 ∙ ap (λ (k : Core Q P). core_log writer_of k.1) (sym ev.0.1), refl, settled a.1.1 b.1.1 a.1.2 b.1.2 (ap (λ (x : SecondList Q P). x.1) ev.1) (ap (λ (x : SecondList Q P). x.2) ev.1) u.2);
-          second = subst (λ gs. HasGroups writer_of gs s.second) (ap (λ (x : SecondList Q P). x.0) (sym ev.1)) r.second;
+          queue = half.1 ∙ ap (λ (k : Core Request Reply). core_queue writer_of k.0) (sym ev.0.1);
+          log = (ap in_hand half.0 ∙ ap (λ (k : Core Request Reply). core_log writer_of k.1) (sym ev.0.1), refl, settled a.1.1 b.1.1 a.1.2 b.1.2 (ap (λ (x : SecondList Request Reply). x.1) ev.1) (ap (λ (x : SecondList Request Reply). x.2) ev.1) u.2);
+          second = subst (λ gs. HasGroups writer_of gs s.second) (ap (λ (x : SecondList Request Reply). x.0) (sym ev.1)) r.second;
           owed = rearranged_as (handled a.0.3) waits (handled b.0.3 ++ []) waits (append-nil (handled b.0.3) ∙ (λ i. handled ((ev.0.1 i).3))) refl (owed_plain r (none_handed a.0.1 u.0));
         },
       )
@@ -286,11 +286,11 @@ module _ {Q P : Type 0} (writer_of : Entry Q → Writer) (reply_of : P → Reply
   in_hand_is : (vs : List Writer) → Stands → s.log ≡ in_hand vs → IsUnlogged writer_of a.0.1 a.1.1 a.1.2 ws (in_hand vs)
   in_hand_is vs r is = subst (IsLogOf writer_of a.0.1 a.1.1 a.1.2 ws) is r.log
 
-  writers_are : (vs : List Writer) (own : Entry Q) (group : List (Entry Q)) → Stands → s.log ≡ in_hand vs → a.0.1 ≡ grouped own group → vs ≡ core_queue writer_of (group ++ own ∷ [])
+  writers_are : (vs : List Writer) (own : QueuedWriter Request) (group : List (QueuedWriter Request)) → Stands → s.log ≡ in_hand vs → a.0.1 ≡ grouped own group → vs ≡ core_queue writer_of (group ++ own ∷ [])
   writers_are vs own group r is held = one_built vs (core_queue writer_of (group ++ own ∷ [])) ((in_hand_is vs r is).0 ∙ ap (core_log writer_of) held)
 
   -- the core logs it
-  pub logs_there : (now vs : List Writer) (own : Entry Q) (group : List (Entry Q)) → IsSame writer_of → Stands → a.0.1 ≡ grouped own group → s.log ≡ in_hand vs → s.log_failed ≡ false → now ≡ with_runs s.assigned vs → list_any has_run now ≡ true → IsTaken writer_of reply_of o (core.Log own.by) s now a
+  pub logs_there : (now vs : List Writer) (own : QueuedWriter Request) (group : List (QueuedWriter Request)) → IsSame writer_of → Stands → a.0.1 ≡ grouped own group → s.log ≡ in_hand vs → s.log_failed ≡ false → now ≡ with_runs s.assigned vs → list_any has_run now ≡ true → IsTaken writer_of reply_of o (core.Log own.by) s now a
   logs_there now vs own group same r held is alive runs one =
       let u = in_hand_is vs r is in
       let theirs : vs ≡ core_queue writer_of (group ++ own ∷ []) = writers_are vs own group r is held in
@@ -301,40 +301,40 @@ module _ {Q P : Type 0} (writer_of : Entry Q → Writer) (reply_of : P → Reply
         (λ i. log_group s own.by (is i)) ∙ ((λ i. when (first i && not (alive i)) (logged_group s (sym runs i))) ∙ (λ i. Some (if one i then new else off))),
         record {
           queue = r.queue;
-          log = (refl, (own, group, held, ap (map unanswered) runs ∙ (runs_kept s.assigned vs ∙ ap (map unanswered) theirs)), u.2);
+          log = (refl, (own, group, held, ap (map without_answer) runs ∙ (runs_kept s.assigned vs ∙ ap (map without_answer) theirs)), u.2);
           second = r.second;
           owed = rearranged_as (handled a.0.3) waits (handled a.0.3 ++ []) waits (append-nil (handled a.0.3)) refl (owed_plain r (none_handed a.0.1 (is ∙ u.0)));
         },
       )
 
   -- the group in hand leaves
-  leaves_there : (own : Entry Q) (p : P) (gs : List (Entry Q × P)) (now : List Writer) → Stands → IsSettled a.1.1 a.1.2 → handed_on s.log ws ≡ [] → IsExit own p gs a b → HasReplies reply_of (all_answers own p gs) now → IsCoreOf writer_of reply_of [] b (left_with s now)
+  leaves_there : (own : QueuedWriter Request) (p : Reply) (gs : List (QueuedWriter Request × Reply)) (now : List Writer) → Stands → IsSettled a.1.1 a.1.2 → group_handed_on s.log ws ≡ [] → IsExit own p gs a b → HasReplies reply_of (all_answers own p gs) now → IsCoreOf writer_of reply_of [] b (left_with s now)
   leaves_there own p gs now r still_there none_on ev has =
-      let replies : List (Handling Q P) = all_answers own p gs in
-      let left : List (ℕ × Answer Reply) = answered s.leaving in
-      let behind : List (ℕ × Answer Reply) = answered (joined s.second) in
-      let was : IsRearranged (handled a.0.3) (left ++ behind) = rearranged_as (handled a.0.3) waits (handled a.0.3) (left ++ behind) refl (sym (map-append answer_of s.leaving (joined s.second))) (owed_plain r none_on) in record {
-        queue = r.queue ∙ ap (λ (k : Core Q P). core_queue writer_of k.0) (sym ev.0.1);
-        log = (ap (λ (k : Core Q P). core_log writer_of k.1) (sym ev.0.1), refl, settled a.1.1 b.1.1 a.1.2 b.1.2 (ap (λ (x : SecondList Q P). x.1) ev.1) (ap (λ (x : SecondList Q P). x.2) ev.1) still_there);
-        second = subst (λ gs. HasGroups writer_of gs s.second) (ap (λ (x : SecondList Q P). x.0) (sym ev.1)) r.second;
-        owed = rearranged_as (handled a.0.3 ++ handled replies) ((left ++ handled replies) ++ behind) (handled b.0.3 ++ []) (answered ((s.leaving ++ now) ++ joined s.second)) (append-nil (handled b.0.3) ∙ (ap (λ (k : Core Q P). handled k.3) ev.0.1 ∙ map-append (answer_in reply_of) a.0.3 replies))
-            (map-append answer_of (s.leaving ++ now) (joined s.second) ∙ ap (λ l. l ++ behind) (map-append answer_of s.leaving now ∙ ap (λ l. left ++ l) has))
+      let replies : List (Handling Request Reply) = all_answers own p gs in
+      let left : List (ℕ × Answer CoreReply) = answered s.leaving in
+      let behind : List (ℕ × Answer CoreReply) = answered (writers_in s.second) in
+      let was : IsRearranged (handled a.0.3) (left ++ behind) = rearranged_as (handled a.0.3) waits (handled a.0.3) (left ++ behind) refl (sym (map-append answer_of s.leaving (writers_in s.second))) (owed_plain r none_on) in record {
+        queue = r.queue ∙ ap (λ (k : Core Request Reply). core_queue writer_of k.0) (sym ev.0.1);
+        log = (ap (λ (k : Core Request Reply). core_log writer_of k.1) (sym ev.0.1), refl, settled a.1.1 b.1.1 a.1.2 b.1.2 (ap (λ (x : SecondList Request Reply). x.1) ev.1) (ap (λ (x : SecondList Request Reply). x.2) ev.1) still_there);
+        second = subst (λ gs. HasGroups writer_of gs s.second) (ap (λ (x : SecondList Request Reply). x.0) (sym ev.1)) r.second;
+        owed = rearranged_as (handled a.0.3 ++ handled replies) ((left ++ handled replies) ++ behind) (handled b.0.3 ++ []) (answered ((s.leaving ++ now) ++ writers_in s.second)) (append-nil (handled b.0.3) ∙ (ap (λ (k : Core Request Reply). handled k.3) ev.0.1 ∙ map-append (answer_in reply_of) a.0.3 replies))
+            (map-append answer_of (s.leaving ++ now) (writers_in s.second) ∙ ap (λ l. l ++ behind) (map-append answer_of s.leaving now ∙ ap (λ l. left ++ l) has))
             (rearranged_within (handled a.0.3) left behind (handled replies) was);
       }
 
   -- with nothing logged
-  unlogged_leaves : (own : Entry Q) (p : P) (gs : List (Entry Q × P)) (vs now : List Writer) → Stands → IsExit own p gs a b → s.log ≡ in_hand vs → HasReplies reply_of (all_answers own p gs) now → IsCoreOf writer_of reply_of [] b (left_with s now)
-  unlogged_leaves own p gs vs now r ev is has = leaves_there own p gs now r (in_hand_is vs r is).2 (ap (λ l. handed_on l ws) is) ev has
+  unlogged_leaves : (own : QueuedWriter Request) (p : Reply) (gs : List (QueuedWriter Request × Reply)) (vs now : List Writer) → Stands → IsExit own p gs a b → s.log ≡ in_hand vs → HasReplies reply_of (all_answers own p gs) now → IsCoreOf writer_of reply_of [] b (left_with s now)
+  unlogged_leaves own p gs vs now r ev is has = leaves_there own p gs now r (in_hand_is vs r is).2 (ap (λ l. group_handed_on l ws) is) ev has
 
   -- its leader is the first of its writers
-  first_of_exit : (own : Entry Q) (p : P) (gs : List (Entry Q × P)) (vs : List Writer) → IsSame writer_of → Stands → IsExit own p gs a b → s.log ≡ in_hand vs → leads own.by vs ≡ true
+  first_of_exit : (own : QueuedWriter Request) (p : Reply) (gs : List (QueuedWriter Request × Reply)) (vs : List Writer) → IsSame writer_of → Stands → IsExit own p gs a b → s.log ≡ in_hand vs → leads own.by vs ≡ true
   first_of_exit own p gs vs same r ev is =
-      let own' : Entry Q = ev.0.0.0 in
-      let group : List (Entry Q) = ev.0.0.1 in
-      let by : own.by ≡ own'.by = ap (λ (l : List (ℕ × Q)). (first_or (was_for (handling own p)) l).0) ev.0.0.3 in
+      let own' : QueuedWriter Request = ev.0.0.0 in
+      let group : List (QueuedWriter Request) = ev.0.0.1 in
+      let by : own.by ≡ own'.by = ap (λ (l : List (ℕ × Request)). (first_or (was_for (handling own p)) l).0) ev.0.0.3 in
       subst (λ c. leads c vs ≡ true) (sym by) (ap (leads own'.by) (writers_are vs own' group r is ev.0.0.2) ∙ first_leads writer_of same own' group)
 
-  pub log_leaves : (now vs : List Writer) (own : Entry Q) (p : P) (gs : List (Entry Q × P)) → IsSame writer_of → Stands → IsExit own p gs a b → s.log ≡ in_hand vs → s.log_failed ≡ false → now ≡ with_runs s.assigned vs → list_any has_run now ≡ false → HasReplies reply_of (all_answers own p gs) now
+  pub log_leaves : (now vs : List Writer) (own : QueuedWriter Request) (p : Reply) (gs : List (QueuedWriter Request × Reply)) → IsSame writer_of → Stands → IsExit own p gs a b → s.log ≡ in_hand vs → s.log_failed ≡ false → now ≡ with_runs s.assigned vs → list_any has_run now ≡ false → HasReplies reply_of (all_answers own p gs) now
       → IsTaken writer_of reply_of o (core.Log own.by) s [] b
   log_leaves now vs own p gs same r ev is alive runs no_run has =
       let first : leads own.by vs ≡ true = first_of_exit own p gs vs same r ev is in
@@ -343,53 +343,53 @@ module _ {Q P : Type 0} (writer_of : Entry Q → Writer) (reply_of : P → Reply
       (new, (λ i. log_group s own.by (is i)) ∙ ((λ i. when (first i && not (alive i)) (logged_group s (sym runs i))) ∙ (λ i. Some (if no_run i then on else new))), unlogged_leaves own p gs vs now r ev is has)
 
   -- each member is given the same answer
-  given_there : (reply : Reply) (own : Entry Q) (p : P) (gs : List (Entry Q × P)) (vs : List Writer) → IsSame writer_of → Stands → IsExit own p gs a b → s.log ≡ in_hand vs → AllHave reply_of reply (all_answers own p gs) → HasReplies reply_of (all_answers own p gs) (all_answered reply vs)
+  given_there : (reply : CoreReply) (own : QueuedWriter Request) (p : Reply) (gs : List (QueuedWriter Request × Reply)) (vs : List Writer) → IsSame writer_of → Stands → IsExit own p gs a b → s.log ≡ in_hand vs → AllHave reply_of reply (all_answers own p gs) → HasReplies reply_of (all_answers own p gs) (all_answered reply vs)
   given_there reply own p gs vs same r ev is ok =
       subst (λ w. HasReplies reply_of (all_answers own p gs) (all_answered reply w)) (sym (writers_are vs ev.0.0.0 ev.0.0.1 r is ev.0.0.2)) (group_given reply_of writer_of same reply ev.0.0.0 ev.0.0.1 (all_answers own p gs) ev.0.0.3 ok)
 
-  pub fault_leaves : (vs : List Writer) (own : Entry Q) (p : P) (gs : List (Entry Q × P)) → IsSame writer_of → Stands → IsExit own p gs a b → s.log ≡ in_hand vs → AllHave reply_of (refused (no.LogFault 1)) (all_answers own p gs) → IsTaken writer_of reply_of o (core.Fault own.by) s [] b
+  pub fault_leaves : (vs : List Writer) (own : QueuedWriter Request) (p : Reply) (gs : List (QueuedWriter Request × Reply)) → IsSame writer_of → Stands → IsExit own p gs a b → s.log ≡ in_hand vs → AllHave reply_of (refused (no.LogFault 1)) (all_answers own p gs) → IsTaken writer_of reply_of o (core.Fault own.by) s [] b
   fault_leaves vs own p gs same r ev is ok =
       let now : List Writer = all_answered (refused (no.LogFault 1)) vs in
       let first : leads own.by vs ≡ true = first_of_exit own p gs vs same r ev is in
       let new : State = record (leave s now) { log = nobody; log_failed = true } in
       (new, (λ i. fault s own.by (is i)) ∙ (λ i. when (first i) new), unlogged_leaves own p gs vs now r ev is (given_there (refused (no.LogFault 1)) own p gs vs same r ev is ok))
 
-  pub refuse_leaves : (vs : List Writer) (own : Entry Q) (p : P) (gs : List (Entry Q × P)) (stops delays wait : ℕ) → IsSame writer_of → Stands → IsExit own p gs a b → s.log ≡ in_hand vs → is_no_slowdown vs ≡ true → AllHave reply_of (refused (no.Incomplete stops delays wait)) (all_answers own p gs)
+  pub refuse_leaves : (vs : List Writer) (own : QueuedWriter Request) (p : Reply) (gs : List (QueuedWriter Request × Reply)) (stops delays wait : ℕ) → IsSame writer_of → Stands → IsExit own p gs a b → s.log ≡ in_hand vs → is_no_slowdown vs ≡ true → AllHave reply_of (refused (no.Incomplete stops delays wait)) (all_answers own p gs)
       → IsTaken writer_of reply_of o (core.Refuse own.by stops delays wait) s [] b
   refuse_leaves vs own p gs stops delays wait same r ev is unslowed ok =
-      let reply : Reply = refused (no.Incomplete stops delays wait) in
+      let reply : CoreReply = refused (no.Incomplete stops delays wait) in
       let now : List Writer = all_answered reply vs in
       let first : leads own.by vs ≡ true = first_of_exit own p gs vs same r ev is in
       let new : State = record (leave s now) { log = nobody } in
       (new, (λ i. refuse s own.by (no.Incomplete stops delays wait) (is i)) ∙ (λ i. when (first i && unslowed i) new), unlogged_leaves own p gs vs now r ev is (given_there reply own p gs vs same r ev is ok))
 
   -- a client is told
-  pub told_core : (e : Entry Q) (p : P) (client : Client) → IsSame writer_of → Stands → IsComplete e p a b → IsNotWith e.by a.0.1 → Absent e.by (flat a.1.0) → client_at s e.by ≡ Some client → HasLeft s e.by (reply_of p) × IsTaken writer_of reply_of o (core.Complete e.by) s ws b
+  pub told_core : (e : QueuedWriter Request) (p : Reply) (client : Client) → IsSame writer_of → Stands → IsComplete e p a b → IsNotWith e.by a.0.1 → Absent e.by (flat a.1.0) → client_at s e.by ≡ Some client → HasLeft s e.by (reply_of p) × IsTaken writer_of reply_of o (core.Complete e.by) s ws b
   told_core e p client same r ev unheld out there =
       let c : ℕ = e.by in
-      let off : Out c (joined s.second) = groups_out writer_of same c a.1.0 s.second out r.second in
+      let off : Out c (writers_in s.second) = groups_out writer_of same c a.1.0 s.second out r.second in
       let kept : List Writer = filter (λ (w : Writer). not (eqb w.client c)) s.leaving in
-      let mine : List (ℕ × Answer Reply) = (c, Some (reply_of p)) ∷ [] in
-      let left : List (ℕ × Answer Reply) = filter (belongs c) (answered s.leaving) in
+      let mine : List (ℕ × Answer CoreReply) = (c, Some (reply_of p)) ∷ [] in
+      let left : List (ℕ × Answer CoreReply) = filter (belongs c) (answered s.leaving) in
       let one : left ≡ mine = rearranged_one (c, Some (reply_of p)) left (rearranged_as (filter (belongs c) was_owed) (filter (belongs c) waits) mine left
-      (sym (append-nil mine) ∙ ((λ i. (ap (map (own_answer reply_of c)) (sym ev.0.0) ∙ sym (own_replies reply_of c a.0.3)) i ++ sym (out_own c (handed_on s.log ws) (in_hand_out s.log r.log)) i) ∙ sym (filter-append (belongs c) (handled a.0.3) (answered (handed_on s.log ws)))))
-      (sym (append-nil left) ∙ ((λ i. left ++ sym (out_own c (joined s.second) off) i) ∙ (sym (filter-append (belongs c) (answered s.leaving) (answered (joined s.second))) ∙ ap (filter (belongs c)) (sym (map-append answer_of s.leaving (joined s.second))))))
+      (sym (append-nil mine) ∙ ((λ i. (ap (map (own_answer reply_of c)) (sym ev.0.0) ∙ sym (own_replies reply_of c a.0.3)) i ++ sym (out_own c (group_handed_on s.log ws) (in_hand_out s.log r.log)) i) ∙ sym (filter-append (belongs c) (handled a.0.3) (answered (group_handed_on s.log ws)))))
+      (sym (append-nil left) ∙ ((λ i. left ++ sym (out_own c (writers_in s.second) off) i) ∙ (sym (filter-append (belongs c) (answered s.leaving) (answered (writers_in s.second))) ∙ ap (filter (belongs c)) (sym (map-append answer_of s.leaving (writers_in s.second))))))
       (rearranged_filter (belongs c) was_owed waits r.owed)) in
       let found = found_first c s.leaving (c, Some (reply_of p)) [] one in
       let w : Writer = found.0 in
-      let reply : w.answer ≡ Some (reply_of p) = ap (λ (x : ℕ × Answer Reply). x.1) found.2 in
-      let new : State = record (with_client s c (completed client w (reply_of p))) { leaving = kept } in (
+      let reply : w.answer ≡ Some (reply_of p) = ap (λ (x : ℕ × Answer CoreReply). x.1) found.2 in
+      let new : State = record (with_client s c (after_completion client w (reply_of p))) { leaving = kept } in (
         (w, client, there, found.1, reply),
         (
           new,
           (λ i. complete s c (found.1 i)) ∙ (λ i. complete_with s c (there i) w (reply i)),
           record {
-            queue = r.queue ∙ ap (λ (k : Core Q P). core_queue writer_of k.0) (sym ev.0.1);
-            log = same_log writer_of a.0.1 b.0.1 a.1.1 b.1.1 a.1.2 b.1.2 ws s.log (ap (λ (k : Core Q P). k.1) ev.0.1) (ap (λ (x : SecondList Q P). x.1) ev.1) (ap (λ (x : SecondList Q P). x.2) ev.1) r.log;
-            second = subst (λ gs. HasGroups writer_of gs s.second) (ap (λ (x : SecondList Q P). x.0) (sym ev.1)) r.second;
-            owed = rearranged_as (filter (stays c) was_owed) (filter (stays c) waits) (handled b.0.3 ++ answered (handed_on s.log ws)) (answered (kept ++ joined s.second))
-                ((λ i. handled ((ev.0.1 i).3) ++ answered (handed_on s.log ws)) ∙ ((λ i. sym (told_handled a.0.3) i ++ sym (out_stays c (handed_on s.log ws) (in_hand_out s.log r.log)) i) ∙ sym (filter-append (stays c) (handled a.0.3) (answered (handed_on s.log ws)))))
-                (map-append answer_of kept (joined s.second) ∙ ((λ i. sym (told_writers s.leaving) i ++ sym (out_stays c (joined s.second) off) i) ∙ (sym (filter-append (stays c) (answered s.leaving) (answered (joined s.second))) ∙ ap (filter (stays c)) (sym (map-append answer_of s.leaving (joined s.second))))))
+            queue = r.queue ∙ ap (λ (k : Core Request Reply). core_queue writer_of k.0) (sym ev.0.1);
+            log = same_log writer_of a.0.1 b.0.1 a.1.1 b.1.1 a.1.2 b.1.2 ws s.log (ap (λ (k : Core Request Reply). k.1) ev.0.1) (ap (λ (x : SecondList Request Reply). x.1) ev.1) (ap (λ (x : SecondList Request Reply). x.2) ev.1) r.log;
+            second = subst (λ gs. HasGroups writer_of gs s.second) (ap (λ (x : SecondList Request Reply). x.0) (sym ev.1)) r.second;
+            owed = rearranged_as (filter (stays c) was_owed) (filter (stays c) waits) (handled b.0.3 ++ answered (group_handed_on s.log ws)) (answered (kept ++ writers_in s.second))
+                ((λ i. handled ((ev.0.1 i).3) ++ answered (group_handed_on s.log ws)) ∙ ((λ i. sym (told_handled a.0.3) i ++ sym (out_stays c (group_handed_on s.log ws) (in_hand_out s.log r.log)) i) ∙ sym (filter-append (stays c) (handled a.0.3) (answered (group_handed_on s.log ws)))))
+                (map-append answer_of kept (writers_in s.second) ∙ ((λ i. sym (told_writers s.leaving) i ++ sym (out_stays c (writers_in s.second) off) i) ∙ (sym (filter-append (stays c) (answered s.leaving) (answered (writers_in s.second))) ∙ ap (filter (stays c)) (sym (map-append answer_of s.leaving (writers_in s.second))))))
                 (rearranged_filter (stays c) was_owed waits r.owed);
           },
         ),
@@ -399,7 +399,7 @@ module _ {Q P : Type 0} (writer_of : Entry Q → Writer) (reply_of : P → Reply
       told_one f true y ys = refl
       told_one f false y ys = refl
 
-      told_handled : (hs : List (Handling Q P)) → filter (stays e.by) (handled hs) ≡ handled (without e.by hs)
+      told_handled : (hs : List (Handling Request Reply)) → filter (stays e.by) (handled hs) ≡ handled (without e.by hs)
       told_handled [] = refl
       told_handled (h ∷ hs) = ap (λ l. cond (not (eqb h.by e.by)) (answer_in reply_of h ∷ l) l) (told_handled hs) ∙ sym (told_one (answer_in reply_of) (not (eqb h.by e.by)) h (without e.by hs))
 
@@ -407,7 +407,7 @@ module _ {Q P : Type 0} (writer_of : Entry Q → Writer) (reply_of : P → Reply
       told_writers [] = refl
       told_writers (w ∷ vs) = ap (λ l. cond (not (eqb w.client e.by)) (answer_of w ∷ l) l) (told_writers vs) ∙ sym (told_one answer_of (not (eqb w.client e.by)) w (filter (λ (x : Writer). not (eqb x.client e.by)) vs))
 
-      in_hand_out : (phase : LogPhase) → IsLogOf writer_of a.0.1 a.1.1 a.1.2 ws phase → Out e.by (handed_on phase ws)
+      in_hand_out : (phase : LogPhase) → IsLogOf writer_of a.0.1 a.1.1 a.1.2 ws phase → Out e.by (group_handed_on phase ws)
       in_hand_out nobody log = tt
       in_hand_out (led d) log = tt
       in_hand_out (in_hand vs) log = tt
@@ -416,17 +416,17 @@ module _ {Q P : Type 0} (writer_of : Entry Q → Writer) (reply_of : P → Reply
       in_hand_out (handed d) log = group_out writer_of same e.by (log.2.1 ++ log.2.0 ∷ []) ws (let away = subst (IsNotWith e.by) log.2.2 unheld in absent_append e.by log.2.1 (log.2.0 ∷ []) away.1 (away.0, tt)) log.2.4
 
   -- where there is one stage, a logged group leaves once it is published
-  pub exits_core : (own : Entry Q) (p : P) (gs : List (Entry Q × P)) → o.pipelined ≡ false → IsSame writer_of → Stands → s.log ≡ in_log ws → s.table ≡ published → IsExit own p gs a b → HasReplies reply_of (all_answers own p gs) ws → IsTaken writer_of reply_of o (core.Exit own.by) s [] b
+  pub exits_core : (own : QueuedWriter Request) (p : Reply) (gs : List (QueuedWriter Request × Reply)) → o.pipelined ≡ false → IsSame writer_of → Stands → s.log ≡ in_log ws → s.table ≡ published → IsExit own p gs a b → HasReplies reply_of (all_answers own p gs) ws → IsTaken writer_of reply_of o (core.Exit own.by) s [] b
   exits_core own p gs one same r is there ev has =
       let log : IsLogOf writer_of a.0.1 a.1.1 a.1.2 ws (in_log ws) = subst (IsLogOf writer_of a.0.1 a.1.1 a.1.2 ws) is r.log in
-      let own' : Entry Q = ev.0.0.0 in
-      let group : List (Entry Q) = ev.0.0.1 in
-      let by : own.by ≡ own'.by = ap (λ (l : List (ℕ × Q)). (first_or (was_for (handling own p)) l).0) ev.0.0.3 in
+      let own' : QueuedWriter Request = ev.0.0.0 in
+      let group : List (QueuedWriter Request) = ev.0.0.1 in
+      let by : own.by ≡ own'.by = ap (λ (l : List (ℕ × Request)). (first_or (was_for (handling own p)) l).0) ev.0.0.3 in
       let theirs : IsGroupOf writer_of (group ++ own' ∷ []) ws = subst (λ es. IsGroupOf writer_of es ws) (ap line_held (sym log.1.2 ∙ ev.0.0.2)) log.1.3 in
       let first : leads own.by ws ≡ true = subst (λ d. leads d ws ≡ true) (sym by) (group_leads writer_of same own' group ws theirs) in
       let group_by : Bool → LogPhase → List Writer = λ x l. if x then first_group s.second else logged l in
       let left_by : Bool → LogPhase → State = λ x l. record (leave (if x then record s { second = drop 1 s.second } else record s { log = nobody }) (group_by x l)) { table = still } in (
         left_by false (in_log ws),
         (λ i. exit o s own.by (there i)) ∙ ((λ i. when (leads own.by (group_by (one i) (is i))) (left_by (one i) (is i))) ∙ (λ i. when (first i) (left_by false (in_log ws)))),
-        leaves_there own p gs ws r log.2 (ap (λ l. handed_on l ws) is) ev has,
+        leaves_there own p gs ws r log.2 (ap (λ l. group_handed_on l ws) is) ev has,
       )

@@ -3,50 +3,50 @@ use Rattle.std.proofs.Common.{◌≡◌, ◌≢◌, ℕ, eqb, not, List, [], ◌
 use Rattle.std.proofs.lemmas.List.{reverse-append, map-append}
 use mathlib.Core.Logic.{dite}
 use native.Mathlib.Decide.{ℕ_discrete}
-use Rattle.line_rule.specs.declared.view.Entry.{Entry}
+use Rattle.line_rule.specs.declared.view.QueuedWriter.{QueuedWriter}
 use Rattle.line_rule.specs.declared.view.Handling.{Handling}
 use Rattle.line_rule.specs.Chain.{of, heads, handling, answers, all_answers, Absent}
-use Rattle.line_rule.specs.Events.{Held, wrote, was_for, IsOfGroup, without, IsNotWith}
+use Rattle.line_rule.specs.Events.{LogHolder, wrote, was_for, IsOfGroup, without, IsNotWith}
 use Rattle.line_rule.specs.Standing.{Phase, idle, preparing, linked, chosen, leads, taken, completed, collecting, Mode, open_, waits, led, built, cut, marked, Holds}
 use Rattle.line_rule.specs.Laws.{Laws}
-use Rattle.line_rule.specs.declared.content.Content.{Content}
+use Rattle.line_rule.specs.declared.content.LineSlot.{LineSlot}
 use mathlib.Core.Option.{Option as Home}
-use Rattle.line_rule.specs.Rule.{HasCut, untold, Shows, InMode}
+use Rattle.line_rule.specs.Rule.{HasCut, due_untold, Shows, InMode}
 use Rattle.line_rule.proofs.Chains.{put, put_at}
 use Rattle.line_rule.proofs.Groups.{of-append, of_other, taken_absent}
 
-module _ {Q P : Type 0} where
-  answers_of : (gs : List (Entry Q × P)) → map was_for (answers gs) ≡ map wrote (reverse (heads gs))
+module _ {Request Reply : Type 0} where
+  answers_of : (gs : List (QueuedWriter Request × Reply)) → map was_for (answers gs) ≡ map wrote (reverse (heads gs))
   answers_of [] = refl
   answers_of (g ∷ gs) = map-append was_for (answers gs) (handling g.0 g.1 ∷ []) ∙ (ap (λ l. l ++ wrote g.0 ∷ []) (answers_of gs)
       ∙ sym (ap (map wrote) (reverse-append (g.0 ∷ []) (heads gs)) ∙ map-append wrote (reverse (heads gs)) (g.0 ∷ [])))
 
   -- the handlings of a group are its members', and its leader's
-  pub group_handled : (own : Entry Q) (p : P) (gs : List (Entry Q × P)) → IsOfGroup own (heads gs) (all_answers own p gs)
+  pub group_handled : (own : QueuedWriter Request) (p : Reply) (gs : List (QueuedWriter Request × Reply)) → IsOfGroup own (heads gs) (all_answers own p gs)
   group_handled own p gs = ap (λ l. wrote own ∷ l) (answers_of gs)
 
   -- who is told nothing more
-  without_none : (c : ℕ) (hs : List (Handling Q P)) → of c (without c hs) ≡ []
+  without_none : (c : ℕ) (hs : List (Handling Request Reply)) → of c (without c hs) ≡ []
   without_none c [] = refl
   without_none c (h ∷ hs) = dite (ℕ_discrete h.by c)
       (λ e. subst (λ z. of c (cond (not z) (h ∷ without c hs) (without c hs)) ≡ []) (sym (eq-eqb h.by c e)) (without_none c hs))
       (λ ne. subst (λ z. of c (cond (not z) (h ∷ without c hs) (without c hs)) ≡ []) (sym (ne_eqb h.by c ne)) (of_other c h (without c hs) ne ∙ without_none c hs))
 
-  without_else : (c k : ℕ) → k ≢ c → (hs : List (Handling Q P)) → of k (without c hs) ≡ of k hs
+  without_else : (c k : ℕ) → k ≢ c → (hs : List (Handling Request Reply)) → of k (without c hs) ≡ of k hs
   without_else c k ne [] = refl
   without_else c k ne (h ∷ hs) = dite (ℕ_discrete h.by c)
       (λ e. subst (λ z. of k (cond (not z) (h ∷ without c hs) (without c hs)) ≡ of k (h ∷ hs)) (sym (eq-eqb h.by c e)) (without_else c k ne hs ∙ sym (of_other k h hs (λ is. ne (sym is ∙ e)))))
       (λ other. subst (λ z. of k (cond (not z) (h ∷ without c hs) (without c hs)) ≡ of k (h ∷ hs)) (sym (ne_eqb h.by c other)) (ap (λ l. cond (eqb h.by k) ((h.asked, h.reply) ∷ l) l) (without_else c k ne hs)))
 
-  module _ (phase : ℕ → Phase Q P) (due : ℕ → List (Q × P)) (owing : List (Handling Q P)) (ok : (k : ℕ) → of k owing ≡ untold (phase k) (due k)) where
+  module _ (phase : ℕ → Phase Request Reply) (due : ℕ → List (Request × Reply)) (owing : List (Handling Request Reply)) (ok : (k : ℕ) → of k owing ≡ due_untold (phase k) (due k)) where
     -- one client moves, and owes and is owed what it was
-    pub owing_stays : (owing' : List (Handling Q P)) (due' : ℕ → List (Q × P)) (m : ℕ) (ph : Phase Q P) → owing' ≡ owing → untold ph (due' m) ≡ untold (phase m) (due m) → ((k : ℕ) → k ≢ m → due' k ≡ due k) → (k : ℕ) → of k owing' ≡ untold (put phase m ph k) (due' k)
+    pub owing_stays : (owing' : List (Handling Request Reply)) (due' : ℕ → List (Request × Reply)) (m : ℕ) (ph : Phase Request Reply) → owing' ≡ owing → due_untold ph (due' m) ≡ due_untold (phase m) (due m) → ((k : ℕ) → k ≢ m → due' k ≡ due k) → (k : ℕ) → of k owing' ≡ due_untold (put phase m ph k) (due' k)
     owing_stays owing' due' m ph same here else_due k = ap (of k) same
-        ∙ put_at phase m ph (λ j f. of j owing ≡ untold f (due' j)) k
-        (λ is. subst (λ (j : ℕ). of j owing ≡ untold ph (due' j)) (sym is) (ok m ∙ sym here))
-        (λ ne. ok k ∙ ap (untold (phase k)) (sym (else_due k ne)))
+        ∙ put_at phase m ph (λ j f. of j owing ≡ due_untold f (due' j)) k
+        (λ is. subst (λ (j : ℕ). of j owing ≡ due_untold ph (due' j)) (sym is) (ok m ∙ sym here))
+        (λ ne. ok k ∙ ap (due_untold (phase k)) (sym (else_due k ne)))
 
-    untold_more : (ph : Phase Q P) (d x : List (Q × P)) → ((q : Q) (p : P) → ph ≡ completed q p → x ≡ []) → untold ph d ++ x ≡ untold ph (d ++ x)
+    untold_more : (ph : Phase Request Reply) (d x : List (Request × Reply)) → ((q : Request) (p : Reply) → ph ≡ completed q p → x ≡ []) → due_untold ph d ++ x ≡ due_untold ph (d ++ x)
     untold_more idle d x un = refl
     untold_more (preparing w) d x un = refl
     untold_more (linked e) d x un = refl
@@ -57,21 +57,21 @@ module _ {Q P : Type 0} where
     untold_more collecting d x un = refl
 
     -- a group leaves
-    pub owing_grows : (owing' new : List (Handling Q P)) (m : ℕ) (ph : Phase Q P) → owing' ≡ owing ++ new → ((d : List (Q × P)) → untold ph d ≡ untold (phase m) d) → ((k : ℕ) (q : Q) (p : P) → phase k ≡ completed q p → of k new ≡ []) → (k : ℕ) → of k owing' ≡ untold (put phase m ph k) (due k ++ of k new)
+    pub owing_grows : (owing' new : List (Handling Request Reply)) (m : ℕ) (ph : Phase Request Reply) → owing' ≡ owing ++ new → ((d : List (Request × Reply)) → due_untold ph d ≡ due_untold (phase m) d) → ((k : ℕ) (q : Request) (p : Reply) → phase k ≡ completed q p → of k new ≡ []) → (k : ℕ) → of k owing' ≡ due_untold (put phase m ph k) (due k ++ of k new)
     owing_grows owing' new m ph same here un k = ap (of k) same ∙ (of-append k owing new ∙ (ap (λ l. l ++ of k new) (ok k) ∙ (untold_more (phase k) (due k) (of k new) (un k)
-        ∙ put_at phase m ph (λ j f. untold (phase j) (due k ++ of k new) ≡ untold f (due k ++ of k new)) k
-        (λ is. ap (λ (j : ℕ). untold (phase j) (due k ++ of k new)) is ∙ sym (here (due k ++ of k new)))
+        ∙ put_at phase m ph (λ j f. due_untold (phase j) (due k ++ of k new) ≡ due_untold f (due k ++ of k new)) k
+        (λ is. ap (λ (j : ℕ). due_untold (phase j) (due k ++ of k new)) is ∙ sym (here (due k ++ of k new)))
         (λ _. refl))))
 
     -- a client is told
-    pub owing_told : (owing' : List (Handling Q P)) (due' : ℕ → List (Q × P)) (m : ℕ) (ph : Phase Q P) → owing' ≡ without m owing → untold ph (due' m) ≡ [] → ((k : ℕ) → k ≢ m → due' k ≡ due k) → (k : ℕ) → of k owing' ≡ untold (put phase m ph k) (due' k)
+    pub owing_told : (owing' : List (Handling Request Reply)) (due' : ℕ → List (Request × Reply)) (m : ℕ) (ph : Phase Request Reply) → owing' ≡ without m owing → due_untold ph (due' m) ≡ [] → ((k : ℕ) → k ≢ m → due' k ≡ due k) → (k : ℕ) → of k owing' ≡ due_untold (put phase m ph k) (due' k)
     owing_told owing' due' m ph same here else_due k = ap (of k) same
-        ∙ put_at phase m ph (λ j f. of j (without m owing) ≡ untold f (due' j)) k
-        (λ is. subst (λ (j : ℕ). of j (without m owing) ≡ untold ph (due' j)) (sym is) (without_none m owing ∙ sym here))
-        (λ ne. without_else m k ne owing ∙ (ok k ∙ ap (untold (phase k)) (sym (else_due k ne))))
+        ∙ put_at phase m ph (λ j f. of j (without m owing) ≡ due_untold f (due' j)) k
+        (λ is. subst (λ (j : ℕ). of j (without m owing) ≡ due_untold ph (due' j)) (sym is) (without_none m owing ∙ sym here))
+        (λ ne. without_else m k ne owing ∙ (ok k ∙ ap (due_untold (phase k)) (sym (else_due k ne))))
 
   -- the leader that has cut its group off stays as it is
-  pub cut_stays : (log log' : Held Q) (hand : List (Entry Q)) (phase : ℕ → Phase Q P) (m : ℕ) (ph : Phase Q P) → log' ≡ log → (mode : Mode Q) → (Holds m mode → (e : Entry Q) → phase m ≡ leads e → ph ≡ leads e) → HasCut log hand phase mode → HasCut log' hand (put phase m ph) mode
+  pub cut_stays : (log log' : LogHolder Request) (hand : List (QueuedWriter Request)) (phase : ℕ → Phase Request Reply) (m : ℕ) (ph : Phase Request Reply) → log' ≡ log → (mode : Mode Request) → (Holds m mode → (e : QueuedWriter Request) → phase m ≡ leads e → ph ≡ leads e) → HasCut log hand phase mode → HasCut log' hand (put phase m ph) mode
   cut_stays log log' hand phase m ph same open_ to ok = tt
   cut_stays log log' hand phase m ph same (waits c) to ok = tt
   cut_stays log log' hand phase m ph same (led c) to ok = tt
@@ -79,19 +79,19 @@ module _ {Q P : Type 0} where
   cut_stays log log' hand phase m ph same (cut c w) to ok = (ok.0, ok.1, put_at phase m ph (λ k f. phase k ≡ leads ok.0 → f ≡ leads ok.0) c (λ is here. to is ok.0 (ap phase (sym is) ∙ here)) (λ _ here. here) ok.2, same ∙ ok.3)
   cut_stays log log' hand phase m ph same (marked c) to ok = (ok.0, ok.1, put_at phase m ph (λ k f. phase k ≡ leads ok.0 → f ≡ leads ok.0) c (λ is here. to is ok.0 (ap phase (sym is) ∙ here)) (λ _ here. here) ok.2, same ∙ ok.3)
 
-module _ {Q : Type 0} where
-  absent_front : (c : ℕ) (a b : List (Entry Q)) → Absent c (a ++ b) → Absent c a
+module _ {Request : Type 0} where
+  absent_front : (c : ℕ) (a b : List (QueuedWriter Request)) → Absent c (a ++ b) → Absent c a
   absent_front c [] b ok = tt
   absent_front c (e ∷ es) b ok = (ok.0, absent_front c es b ok.1)
 
-  absent_back : (c : ℕ) (a b : List (Entry Q)) → Absent c (a ++ b) → Absent c b
+  absent_back : (c : ℕ) (a b : List (QueuedWriter Request)) → Absent c (a ++ b) → Absent c b
   absent_back c [] b ok = ok
   absent_back c (e ∷ es) b ok = absent_back c es b ok.1
 
-module _ {Q P L M : Type 0} (stands : Laws Q P L M) (n : ℕ) where
+module _ {Request Reply Log Right : Type 0} (stands : Laws Request Reply Log Right) (n : ℕ) where
   -- who is about to link waits nowhere
-  pub away_now : (homes : List (Home (Content Q P L M))) (line hand queue : List (Entry Q)) (log : Held Q) (handled : List (Handling Q P)) (phase : ℕ → Phase Q P) (due : ℕ → List (Q × P)) (c w : ℕ) → phase c ≡ preparing w → Absent c line
-      → (mode : Mode Q) → InMode stands n homes line hand handled phase due mode → Shows line queue log mode → HasCut log hand phase mode → Absent c queue × IsNotWith c log
+  pub away_now : (homes : List (Home (LineSlot Request Reply Log Right))) (line hand queue : List (QueuedWriter Request)) (log : LogHolder Request) (handled : List (Handling Request Reply)) (phase : ℕ → Phase Request Reply) (due : ℕ → List (Request × Reply)) (c w : ℕ) → phase c ≡ preparing w → Absent c line
+      → (mode : Mode Request) → InMode stands n homes line hand handled phase due mode → Shows line queue log mode → HasCut log hand phase mode → Absent c queue × IsNotWith c log
   away_now homes line hand queue log handled phase due c w now out open_ ok sh has = (subst (Absent c) sh.0 out, subst (IsNotWith c) (sym sh.1) tt)
   away_now homes line hand queue log handled phase due c w now out (waits d) ok sh has = (subst (Absent c) sh.0 out, subst (IsNotWith c) (sym sh.1) tt)
   away_now homes line hand queue log handled phase due c w now out (led d) ok sh has =

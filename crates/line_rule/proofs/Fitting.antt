@@ -8,7 +8,7 @@ use Rattle.std.proofs.Math.Seq.{take-append-add}
 use Rattle.std.proofs.lemmas.List.Sums.{sum_by_push}
 use Rattle.model_base.specs.declared.group.Item.{Item}
 use Rattle.model_base.specs.Grouping.{size_of, fits, fits_at, group_len}
-use Rattle.line_rule.specs.declared.view.Entry.{Entry}
+use Rattle.line_rule.specs.declared.view.QueuedWriter.{QueuedWriter}
 use Rattle.line_rule.specs.Grouping.{item_of, codes, items, IsGroup}
 use Rattle.line_grouping.proofs.Places.{group_len_is}
 
@@ -110,18 +110,18 @@ module _ (max leader : ℕ) where
       (λ k lo hi. let place : 1 + (k - 1) ≡ k = omega arith in ap (fits_at max (queue leader back)) (sym place) ∙ joined [] back (leader / 8) (k - 1) alone (omega arith))
       (λ lt. refused [] back (leader / 8) alone (omega arith))
 
-codes-append : {Q : Type 0} (a b : List (Entry Q)) → codes (a ++ b) ≡ codes a ++ codes b
+codes-append : {Request : Type 0} (a b : List (QueuedWriter Request)) → codes (a ++ b) ≡ codes a ++ codes b
 codes-append [] b = refl
 codes-append (e ∷ es) b = ap (λ l. e.code ∷ l) (codes-append es b)
 
-pub codes_back : {Q : Type 0} (pre : List (Entry Q)) (x : Entry Q) → reverse (codes (pre ++ x ∷ [])) ≡ x.code ∷ reverse (codes pre)
+pub codes_back : {Request : Type 0} (pre : List (QueuedWriter Request)) (x : QueuedWriter Request) → reverse (codes (pre ++ x ∷ [])) ≡ x.code ∷ reverse (codes pre)
 codes_back pre x = ap reverse (codes-append pre (x ∷ [])) ∙ reverse-append (codes pre) (x.code ∷ [])
 
-pub length-codes : {Q : Type 0} (l : List (Entry Q)) → length (codes l) ≡ length l
+pub length-codes : {Request : Type 0} (l : List (QueuedWriter Request)) → length (codes l) ≡ length l
 length-codes [] = refl
 length-codes (e ∷ es) = ap suc (length-codes es)
 
-module _ {Q : Type 0} (max : ℕ) (own : Entry Q) (group left : List (Entry Q)) where
+module _ {Request : Type 0} (max : ℕ) (own : QueuedWriter Request) (group left : List (QueuedWriter Request)) where
   rule_by : group_len max (items (left ++ (group ++ own ∷ []))) ≡ 1 + fitting max own.code (own.code / 8) (reverse (codes (left ++ group)))
   rule_by =
       let parts : reverse (codes (left ++ (group ++ own ∷ []))) ≡ own.code ∷ reverse (codes (left ++ group)) = ap (λ l. reverse (codes l)) (sym (append_assoc left group (own ∷ []))) ∙ codes_back (left ++ group) own in
@@ -142,7 +142,7 @@ cut_at (x ∷ xs) k small = dite (ℕ_discrete k (suc (length xs)))
     (λ ne. let t = cut_at xs k (omega arith) in (x ∷ t.0, t.1, ap (λ l. x ∷ l) t.2, t.3))
 
 -- the group that a leader takes of the queue
-pub split_group : {Q : Type 0} (max : ℕ) (own : Entry Q) (queue : List (Entry Q)) → (left : List (Entry Q)) × (group : List (Entry Q)) × (queue ≡ left ++ group) × IsGroup max own group left
+pub split_group : {Request : Type 0} (max : ℕ) (own : QueuedWriter Request) (queue : List (QueuedWriter Request)) → (left : List (QueuedWriter Request)) × (group : List (QueuedWriter Request)) × (queue ≡ left ++ group) × IsGroup max own group left
 split_group max own queue =
     let k : ℕ = fitting max own.code (own.code / 8) (reverse (codes queue)) in
     let small : k ≤ length queue = let f = fitting_small max own.code (own.code / 8) (reverse (codes queue)) in let a = length-reverse (codes queue) in let b = length-codes queue in omega arith in

@@ -1,18 +1,18 @@
 -- What a leader's view shows of the lists, in each state in which the rule holds.
 use Rattle.std.proofs.Common.{◌≡◌, ◌⊎◌, inl, inr, ℕ, Bool, true, List, [], ◌∷◌, ◌++◌, refl, sym, ap, ◌∙◌, subst}
 use Rattle.atomic_table.specs.Table.{State}
-use Rattle.line_rule.specs.declared.view.Entry.{Entry}
+use Rattle.line_rule.specs.declared.view.QueuedWriter.{QueuedWriter}
 use Rattle.line_rule.specs.declared.view.Handling.{Handling}
-use Rattle.line_rule.specs.declared.view.Hold.{Hold}
+use Rattle.line_rule.specs.declared.view.LineHold.{LineHold}
 use Rattle.line_rule.specs.declared.view.Lead.{Lead}
 use Rattle.line_rule.specs.declared.view.Squad.{Squad}
 use Rattle.line_rule.specs.declared.view.Back.{Back}
 use Rattle.line_rule.specs.declared.view.Back.TheVariants.{Away, Parting, Joining, Holding, Queued, Serving, Passing}
-use Rattle.line_rule.specs.declared.view.Stage.{Stage}
-use Rattle.line_rule.specs.declared.view.Stage.TheVariants.{Idle, Preparing, Waiting, Helping, Fresh, Leading, Cutting, Marking, Settling, Collecting}
-use Rattle.line_rule.specs.declared.content.Content.{Content}
+use Rattle.line_rule.specs.declared.view.LineStage.{LineStage}
+use Rattle.line_rule.specs.declared.view.LineStage.TheVariants.{Idle, Preparing, Waiting, Helping, Fresh, Leading, Cutting, Marking, Settling, Collecting}
+use Rattle.line_rule.specs.declared.content.LineSlot.{LineSlot}
 use Rattle.line_rule.specs.Chain.{AllCoded, Absent, newest, Links}
-use Rattle.line_rule.specs.Events.{Held, grouped, IsNotWith}
+use Rattle.line_rule.specs.Events.{LogHolder, grouped, IsNotWith}
 use Rattle.line_rule.specs.Standing.{Phase, linked, chosen, leads, taken, Mode, open_, waits, led, built, cut, marked, Place, away, parted, queued, called, serves, served, Turn, still, calls, held_by, passes, Two, ahead, line_of, flat, In, InStep, KnowsBack}
 use Rattle.line_rule.specs.Laws.{Laws}
 use Rattle.line_rule.specs.Rule.{hold_at, AllGroups, AllTaken, Knows, HasCut, InMode, InPhase, InTurn, Level, Listed, Shows}
@@ -26,9 +26,9 @@ use Rattle.line_rule.proofs.Leads.{one_leads, coded_in}
 use Rattle.line_rule.proofs.Squads.{in_one, behind_in, flat_snoc, with_absent, absent_groups, member_absent}
 use Rattle.line_rule.proofs.Settles.{handled_out, one_taker}
 
-module _ {Q P : Type 0} where
+module _ {Request Reply : Type 0} where
   -- who gives the log on in a list with the second one has its group there, or gives no run
-  pub hands_joined : (last : List (Handling Q P) → List (Handling Q P)) (b : Back Q P) (seen now : List (Handling Q P)) → HandsOn true last b seen now → (last now ≡ last seen) ⊎ ((g : Squad Q P) × IsJoined g b × (g.to ≡ last now))
+  pub hands_joined : (last : List (Handling Request Reply) → List (Handling Request Reply)) (b : Back Request Reply) (seen now : List (Handling Request Reply)) → HandsOn true last b seen now → (last now ≡ last seen) ⊎ ((g : Squad Request Reply) × IsJoined g b × (g.to ≡ last now))
   hands_joined last Away seen now h = inl (h refl)
   hands_joined last (Parting g k) seen now h = absurd h
   hands_joined last (Joining g) seen now h = inr (g, refl, h.1)
@@ -37,7 +37,7 @@ module _ {Q P : Type 0} where
   hands_joined last (Serving g walk) seen now h = absurd h
   hands_joined last (Passing g x) seen now h = absurd h
 
-  own_cut : (log : Held Q) (line hand : List (Entry Q)) (handled : List (Handling Q P)) (mode : Mode Q) (phase : ℕ → Phase Q P) (due : ℕ → List (Q × P)) (c : ℕ) (lead : Lead Q P) (st : Stage Q P) → IsCut lead st → Knows line hand handled mode phase due c st → HasCut log hand phase mode → log ≡ grouped lead.own lead.taken
+  own_cut : (log : LogHolder Request) (line hand : List (QueuedWriter Request)) (handled : List (Handling Request Reply)) (mode : Mode Request) (phase : ℕ → Phase Request Reply) (due : ℕ → List (Request × Reply)) (c : ℕ) (lead : Lead Request Reply) (st : LineStage Request Reply) → IsCut lead st → Knows line hand handled mode phase due c st → HasCut log hand phase mode → log ≡ grouped lead.own lead.taken
   own_cut log line hand handled mode phase due c lead Idle is ok has = absurd is
   own_cut log line hand handled mode phase due c lead (Preparing w) is ok has = absurd is
   own_cut log line hand handled mode phase due c lead (Waiting q past) is ok has = absurd is
@@ -47,17 +47,17 @@ module _ {Q P : Type 0} where
   own_cut log line hand handled mode phase due c lead (Cutting l e) is ok has =
       let t = subst (HasCut log hand phase) ok.0 has in
       let same : t.0 ≡ l.own = one_leads t.0 l.own (sym t.2 ∙ ok.1) in
-      t.3 ∙ ((λ i. grouped (same i) (sym ok.4 i)) ∙ ap (λ (z : Lead Q P). grouped z.own z.taken) is)
+      t.3 ∙ ((λ i. grouped (same i) (sym ok.4 i)) ∙ ap (λ (z : Lead Request Reply). grouped z.own z.taken) is)
   own_cut log line hand handled mode phase due c lead (Marking l) is ok has =
       let t = subst (HasCut log hand phase) ok.0 has in
       let same : t.0 ≡ l.own = one_leads t.0 l.own (sym t.2 ∙ ok.1) in
-      t.3 ∙ ((λ i. grouped (same i) (sym ok.4 i)) ∙ ap (λ (z : Lead Q P). grouped z.own z.taken) is)
+      t.3 ∙ ((λ i. grouped (same i) (sym ok.4 i)) ∙ ap (λ (z : Lead Request Reply). grouped z.own z.taken) is)
   own_cut log line hand handled mode phase due c lead (Settling b) is ok has = absurd is
   own_cut log line hand handled mode phase due c lead Collecting is ok has = absurd is
 
-module _ {Q P : Type 0} where
+module _ {Request Reply : Type 0} where
   -- where the group is, of a leader whose group has joined
-  joined_place : (two : Two Q P) (c : ℕ) (g : Squad Q P) (b : Back Q P) → IsJoined g b → KnowsBack two c b → In g (two.place c) × (two.lead ≡ ahead c)
+  joined_place : (two : Two Request Reply) (c : ℕ) (g : Squad Request Reply) (b : Back Request Reply) → IsJoined g b → KnowsBack two c b → In g (two.place c) × (two.lead ≡ ahead c)
   joined_place two c g Away is ok = absurd is
   joined_place two c g (Parting f k) is ok = absurd is
   joined_place two c g (Joining f) is ok = (subst (λ z. In z (two.place c)) is (behind_in f (two.place c) ok.0), ok.1)
@@ -66,7 +66,7 @@ module _ {Q P : Type 0} where
   joined_place two c g (Serving f walk) is ok = absurd is
   joined_place two c g (Passing f x) is ok = absurd is
 
-  served_place : (two : Two Q P) (c : ℕ) (g : Squad Q P) (b : Back Q P) → IsServed g b → KnowsBack two c b → (two.turn ≡ held_by c) × (two.place c ≡ serves g)
+  served_place : (two : Two Request Reply) (c : ℕ) (g : Squad Request Reply) (b : Back Request Reply) → IsServed g b → KnowsBack two c b → (two.turn ≡ held_by c) × (two.place c ≡ serves g)
   served_place two c g Away is ok = absurd is
   served_place two c g (Parting f k) is ok = absurd is
   served_place two c g (Joining f) is ok = absurd is
@@ -75,12 +75,12 @@ module _ {Q P : Type 0} where
   served_place two c g (Serving f walk) is ok = (ok.0, ok.1 ∙ ap serves is)
   served_place two c g (Passing f x) is ok = absurd is
 
-module _ {Q P L M : Type 0} (stands : Laws Q P L M) (n : ℕ) (s : State (Content Q P L M) (List (Hold Q P))) (r : Listed stands n s) (id c : ℕ) (st : Stage Q P) (mine : List (Q × P)) (b : Back Q P) (sees : Sees s id (hold_at c st mine b)) where
+module _ {Request Reply Log Right : Type 0} (stands : Laws Request Reply Log Right) (n : ℕ) (s : State (LineSlot Request Reply Log Right) (List (LineHold Request Reply))) (r : Listed stands n s) (id c : ℕ) (st : LineStage Request Reply) (mine : List (Request × Reply)) (b : Back Request Reply) (sees : Sees s id (hold_at c st mine b)) where
   -- the leader that the stage tells of is the client
   pub own_stage : IsOwn c st
   own_stage = let fit = (r.seats id (hold_at c st mine b ∷ []) sees).0 in by_stage st fit.4 (λ own is. subst (InPhase stands s.words s.homes c (r.due c)) is (r.rows c fit.1 fit.2))
     where
-      by_stage : (st : Stage Q P) → Knows r.line r.hand r.handled r.mode r.phase r.due c st → ((own : Entry Q) → r.phase c ≡ leads own → own.by ≡ c) → IsOwn c st
+      by_stage : (st : LineStage Request Reply) → Knows r.line r.hand r.handled r.mode r.phase r.due c st → ((own : QueuedWriter Request) → r.phase c ≡ leads own → own.by ≡ c) → IsOwn c st
       by_stage Idle ok own = tt
       by_stage (Preparing w) ok own = tt
       by_stage (Waiting q past) ok own = tt
@@ -93,13 +93,13 @@ module _ {Q P L M : Type 0} (stands : Laws Q P L M) (n : ℕ) (s : State (Conten
       by_stage Collecting ok own = tt
 
   -- the log is that group's until it is given on
-  pub cut_log : (lead : Lead Q P) → IsCut lead st → (now_of stands n s r).0.1 ≡ grouped lead.own lead.taken
+  pub cut_log : (lead : Lead Request Reply) → IsCut lead st → (now_of stands n s r).0.1 ≡ grouped lead.own lead.taken
   cut_log lead is = let fit = (r.seats id (hold_at c st mine b ∷ []) sees).0 in own_cut r.account.log r.line r.hand r.handled r.mode r.phase r.due c lead st is fit.4 r.has_cut
 
   level_true : (piped : Bool) → piped ≡ true → Level stands piped r.two (stands.given r.handled) → InStep r.two.done r.two.groups (stands.given r.handled) r.two.lead
   level_true piped is ok = subst (λ p. Level stands p r.two (stands.given r.handled)) is ok
 
-  pub joined_newest : (g : Squad Q P) → stands.piped ≡ true → IsJoined g b → IsNewestGroup g s.words
+  pub joined_newest : (g : Squad Request Reply) → stands.piped ≡ true → IsJoined g b → IsNewestGroup g s.words
   joined_newest g piped is =
       let fit = (r.seats id (hold_at c st mine b ∷ []) sees).0 in
       let at = joined_place r.two c g b is fit.5 in
@@ -109,7 +109,7 @@ module _ {Q P L M : Type 0} (stands : Laws Q P L M) (n : ℕ) (s : State (Conten
       let whole : flat r.two.groups ≡ line_of g ++ flat step.1 = ap flat step.2 ∙ ap (λ f. line_of f ++ flat step.1) same in
       (step.1, r.second.newest_is ∙ ap newest whole, subst (Links s.words) whole r.second.links)
 
-  pub served_oldest : (g : Squad Q P) → IsServed g b → IsOldestGroup g s.words
+  pub served_oldest : (g : Squad Request Reply) → IsServed g b → IsOldestGroup g s.words
   served_oldest g is =
       let fit = (r.seats id (hold_at c st mine b ∷ []) sees).0 in
       let at = served_place r.two c g b is fit.5 in
@@ -118,19 +118,19 @@ module _ {Q P L M : Type 0} (stands : Laws Q P L M) (n : ℕ) (s : State (Conten
       let whole : flat r.two.groups ≡ flat turn.0 ++ line_of g = ap flat turn.2 ∙ (flat_snoc turn.0 turn.1 ∙ ap (λ f. flat turn.0 ++ line_of f) same) in
       (turn.0, r.second.newest_is ∙ ap newest whole, subst (Links s.words) whole r.second.links)
 
-module _ {Q P L M : Type 0} (stands : Laws Q P L M) (n : ℕ) (s : State (Content Q P L M) (List (Hold Q P))) (r : Listed stands n s) (k : ℕ) (y : Q × P) (owed : r.due k ≡ y ∷ []) where
+module _ {Request Reply Log Right : Type 0} (stands : Laws Request Reply Log Right) (n : ℕ) (s : State (LineSlot Request Reply Log Right) (List (LineHold Request Reply))) (r : Listed stands n s) (k : ℕ) (y : Request × Reply) (owed : r.due k ≡ y ∷ []) where
   -- who is owed a reply isn't of the group in hand
   not_led : (c : ℕ) → r.due c ≡ [] → c ≡ k → ⊥
   not_led c none is = let bad : r.due k ≡ [] = ap r.due (sym is) ∙ none in absurd (cc)
 
-  in_hand_out : (c : ℕ) (own : Entry Q) → own.by ≡ c → r.due c ≡ [] → AllTaken r.phase r.due c r.hand → r.account.log ≡ grouped own r.hand → IsNotWith k r.account.log
+  in_hand_out : (c : ℕ) (own : QueuedWriter Request) → own.by ≡ c → r.due c ≡ [] → AllTaken r.phase r.due c r.hand → r.account.log ≡ grouped own r.hand → IsNotWith k r.account.log
   in_hand_out c own by none members held =
-      subst (IsNotWith k) (sym held) ((λ is. not_led c none (sym by ∙ is)), taken_absent r.phase r.due c k r.hand (λ e _ nil. let bad : Path (List (Q × P)) (y ∷ []) [] = sym owed ∙ nil in absurd (cc)) members)
+      subst (IsNotWith k) (sym held) ((λ is. not_led c none (sym by ∙ is)), taken_absent r.phase r.due c k r.hand (λ e _ nil. let bad : Path (List (Request × Reply)) (y ∷ []) [] = sym owed ∙ nil in absurd (cc)) members)
 
-  pub not_held : ((e : Entry Q) → r.phase k ≡ linked e → ⊥) → ((e : Entry Q) → r.phase k ≡ chosen e → ⊥) → IsNotWith k r.account.log
+  pub not_held : ((e : QueuedWriter Request) → r.phase k ≡ linked e → ⊥) → ((e : QueuedWriter Request) → r.phase k ≡ chosen e → ⊥) → IsNotWith k r.account.log
   not_held no_l no_c = by_mode r.mode r.log_is r.account.shows r.has_cut
     where
-      by_mode : (mode : Mode Q) → InMode stands n s.homes r.line r.hand r.handled r.phase r.due mode → Shows r.line r.account.queue r.account.log mode → HasCut r.account.log r.hand r.phase mode → IsNotWith k r.account.log
+      by_mode : (mode : Mode Request) → InMode stands n s.homes r.line r.hand r.handled r.phase r.due mode → Shows r.line r.account.queue r.account.log mode → HasCut r.account.log r.hand r.phase mode → IsNotWith k r.account.log
       by_mode open_ ok shows has = subst (IsNotWith k) (sym shows.1) tt
       by_mode (waits c) ok shows has = subst (IsNotWith k) (sym shows.1) tt
       by_mode (led c) ok shows has = subst (IsNotWith k) (sym shows.1) (not_led c ok.2)
@@ -141,19 +141,19 @@ module _ {Q P L M : Type 0} (stands : Laws Q P L M) (n : ℕ) (s : State (Conten
       by_mode (cut c w) ok shows has = in_hand_out c has.0 has.1 ok.2 ok.1 has.3
       by_mode (marked c) ok shows has = in_hand_out c has.0 has.1 ok.3 ok.2 has.3
 
-module _ {Q P L M : Type 0} (stands : Laws Q P L M) (n : ℕ) (s : State (Content Q P L M) (List (Hold Q P))) (r : Listed stands n s) where
+module _ {Request Reply Log Right : Type 0} (stands : Laws Request Reply Log Right) (n : ℕ) (s : State (LineSlot Request Reply Log Right) (List (LineHold Request Reply))) (r : Listed stands n s) where
   -- the codes of the queue are those of its requests
   pub queue_coded : AllCoded stands.asks (now_of stands n s r).0.0
   queue_coded = by_mode r.mode r.account.shows
     where
-      front : (es rest : List (Entry Q)) → AllCoded stands.asks (es ++ rest) → AllCoded stands.asks es
+      front : (es rest : List (QueuedWriter Request)) → AllCoded stands.asks (es ++ rest) → AllCoded stands.asks es
       front [] rest ok = tt
       front (e ∷ es) rest ok = (ok.0, front es rest ok.1)
 
       whole : AllCoded stands.asks r.line
       whole = coded_in stands n s r r.line r.stand
 
-      by_mode : (mode : Mode Q) → Shows r.line r.account.queue r.account.log mode → AllCoded stands.asks r.account.queue
+      by_mode : (mode : Mode Request) → Shows r.line r.account.queue r.account.log mode → AllCoded stands.asks r.account.queue
       by_mode open_ shows = subst (AllCoded stands.asks) shows.0 whole
       by_mode (waits c) shows = subst (AllCoded stands.asks) shows.0 whole
       by_mode (led c) shows = subst (AllCoded stands.asks) shows.0 whole
@@ -165,15 +165,15 @@ module _ {Q P L M : Type 0} (stands : Laws Q P L M) (n : ℕ) (s : State (Conten
   pub walked_is : IsWalked (now_of stands n s r) s.words
   walked_is = (r.two.groups, last_served r.two.place r.two.turn, refl, few_served stands n r.two.place r.two.turn, r.second.newest_is, r.second.links)
 
-module _ {Q P L M : Type 0} (stands : Laws Q P L M) (n : ℕ) (s : State (Content Q P L M) (List (Hold Q P))) (r : Listed stands n s) (id c : ℕ) (mine : List (Q × P)) where
-  no_place : r.two.place c ≡ away → (g : Squad Q P) → In g (r.two.place c) → ⊥
+module _ {Request Reply Log Right : Type 0} (stands : Laws Request Reply Log Right) (n : ℕ) (s : State (LineSlot Request Reply Log Right) (List (LineHold Request Reply))) (r : Listed stands n s) (id c : ℕ) (mine : List (Request × Reply)) where
+  no_place : r.two.place c ≡ away → (g : Squad Request Reply) → In g (r.two.place c) → ⊥
   no_place there g is = subst (In g) there is
 
   -- a client that is in none of the groups, and not in the one that is served last
-  in_neither : (m : ℕ) → Absent m (flat r.two.groups) → ((d : ℕ) (f : Squad Q P) → r.two.place d ≡ served f → Absent m (line_of f)) → Absent m (flat (now_of stands n s r).1.0)
+  in_neither : (m : ℕ) → Absent m (flat r.two.groups) → ((d : ℕ) (f : Squad Request Reply) → r.two.place d ≡ served f → Absent m (line_of f)) → Absent m (flat (now_of stands n s r).1.0)
   in_neither m out un = absent_both r.two.groups out
     where
-      of_place : (p : Place Q P) → ((f : Squad Q P) → p ≡ served f → Absent m (line_of f)) → Absent m (flat (served_in p))
+      of_place : (p : Place Request Reply) → ((f : Squad Request Reply) → p ≡ served f → Absent m (line_of f)) → Absent m (flat (served_in p))
       of_place away un = tt
       of_place (parted f b) un = tt
       of_place (queued f) un = tt
@@ -187,37 +187,37 @@ module _ {Q P L M : Type 0} (stands : Laws Q P L M) (n : ℕ) (s : State (Conten
       of_turn (held_by k) = tt
       of_turn (passes k w) = of_place (r.two.place k) (un k)
 
-      absent_both : (gs : List (Squad Q P)) → Absent m (flat gs) → Absent m (flat (gs ++ last_served r.two.place r.two.turn))
+      absent_both : (gs : List (Squad Request Reply)) → Absent m (flat gs) → Absent m (flat (gs ++ last_served r.two.place r.two.turn))
       absent_both [] gone = of_turn r.two.turn
       absent_both (g ∷ gs) gone = absent_append m (line_of g) (flat (gs ++ last_served r.two.place r.two.turn)) (absent_front m (line_of g) (flat gs) gone) (absent_both gs (absent_back m (line_of g) (flat gs) gone))
 
   -- who is told by a leader that is in no list is in none either
-  pub told_apart : (g : Entry Q × P) (gs : List (Entry Q × P)) (own : Entry Q) (p : P) → Sees s id (hold_at c (Settling (debt (g ∷ gs) own p)) mine Away) → IsNotWith g.0.by (now_of stands n s r).0.1 × Absent g.0.by (flat (now_of stands n s r).1.0)
+  pub told_apart : (g : QueuedWriter Request × Reply) (gs : List (QueuedWriter Request × Reply)) (own : QueuedWriter Request) (p : Reply) → Sees s id (hold_at c (Settling (debt (g ∷ gs) own p)) mine Away) → IsNotWith g.0.by (now_of stands n s r).0.1 × Absent g.0.by (flat (now_of stands n s r).1.0)
   told_apart g gs own p sees =
       let fit = (r.seats id (hold_at c (Settling (debt (g ∷ gs) own p)) mine Away ∷ []) sees).0 in
       let now : r.phase g.0.by ≡ taken c g.0 = fit.4.0.0 in (
-        not_held stands n s r g.0.by (g.0.asked, g.1) fit.4.0.1 (λ e bad. let no : Path (Phase Q P) (taken c g.0) (linked e) = sym now ∙ bad in absurd (cc)) (λ e bad. let no : Path (Phase Q P) (taken c g.0) (chosen e) = sym now ∙ bad in absurd (cc)),
+        not_held stands n s r g.0.by (g.0.asked, g.1) fit.4.0.1 (λ e bad. let no : Path (Phase Request Reply) (taken c g.0) (linked e) = sym now ∙ bad in absurd (cc)) (λ e bad. let no : Path (Phase Request Reply) (taken c g.0) (chosen e) = sym now ∙ bad in absurd (cc)),
         in_neither g.0.by (member_absent r.phase r.two.place g.0.by c g.0 r.two.groups now (no_place fit.5.0) r.second.members)
             (λ d f is.
             let led_d = r.second.outgoing d f is in
             absent_append g.0.by f.rest (f.own ∷ [])
-            (with_absent r.phase g.0.by d f.rest (λ e bad. let who : c ≡ d = one_taker c d g.0 e (sym now ∙ bad) in let no : Path (Place Q P) (served f) away = sym is ∙ (ap r.two.place (sym who) ∙ fit.5.0) in absurd (cc)) led_d.2)
-            ((λ own_is. let no : Path (Phase Q P) (taken c g.0) (leads f.own) = sym now ∙ (ap r.phase (sym own_is ∙ led_d.0) ∙ led_d.1) in absurd (cc)), tt)),
+            (with_absent r.phase g.0.by d f.rest (λ e bad. let who : c ≡ d = one_taker c d g.0 e (sym now ∙ bad) in let no : Path (Place Request Reply) (served f) away = sym is ∙ (ap r.two.place (sym who) ∙ fit.5.0) in absurd (cc)) led_d.2)
+            ((λ own_is. let no : Path (Phase Request Reply) (taken c g.0) (leads f.own) = sym now ∙ (ap r.phase (sym own_is ∙ led_d.0) ∙ led_d.1) in absurd (cc)), tt)),
       )
 
   -- nor is such a leader
-  pub told_last : (own : Entry Q) (p : P) → Sees s id (hold_at c (Settling (debt [] own p)) mine Away) → IsNotWith own.by (now_of stands n s r).0.1 × Absent own.by (flat (now_of stands n s r).1.0)
+  pub told_last : (own : QueuedWriter Request) (p : Reply) → Sees s id (hold_at c (Settling (debt [] own p)) mine Away) → IsNotWith own.by (now_of stands n s r).0.1 × Absent own.by (flat (now_of stands n s r).1.0)
   told_last own p sees =
       let fit = (r.seats id (hold_at c (Settling (debt [] own p)) mine Away ∷ []) sees).0 in
       let now : r.phase c ≡ leads own = fit.4.1 in
       let by : own.by ≡ c = subst (InPhase stands s.words s.homes c (r.due c)) now (r.rows c fit.1 fit.2) in (
         subst (λ k. IsNotWith k r.account.log) (sym by)
-            (not_held stands n s r c (own.asked, p) fit.4.2 (λ e bad. let no : Path (Phase Q P) (leads own) (linked e) = sym now ∙ bad in absurd (cc)) (λ e bad. let no : Path (Phase Q P) (leads own) (chosen e) = sym now ∙ bad in absurd (cc))),
+            (not_held stands n s r c (own.asked, p) fit.4.2 (λ e bad. let no : Path (Phase Request Reply) (leads own) (linked e) = sym now ∙ bad in absurd (cc)) (λ e bad. let no : Path (Phase Request Reply) (leads own) (chosen e) = sym now ∙ bad in absurd (cc))),
         subst (λ k. Absent k (flat (now_of stands n s r).1.0)) (sym by)
-            (in_neither c (absent_groups r.phase r.two.place c r.two.groups (no_place fit.5.0) (λ k e bad. let no : Path (Phase Q P) (leads own) (taken k e) = sym now ∙ bad in absurd (cc)) r.second.members)
+            (in_neither c (absent_groups r.phase r.two.place c r.two.groups (no_place fit.5.0) (λ k e bad. let no : Path (Phase Request Reply) (leads own) (taken k e) = sym now ∙ bad in absurd (cc)) r.second.members)
             (λ d f is.
             let led_d = r.second.outgoing d f is in
             absent_append c f.rest (f.own ∷ [])
-            (with_absent r.phase c d f.rest (λ e bad. let no : Path (Phase Q P) (leads own) (taken d e) = sym now ∙ bad in absurd (cc)) led_d.2)
-            ((λ own_is. let no : Path (Place Q P) (served f) away = sym is ∙ (ap r.two.place (sym led_d.0 ∙ own_is) ∙ fit.5.0) in absurd (cc)), tt))),
+            (with_absent r.phase c d f.rest (λ e bad. let no : Path (Phase Request Reply) (leads own) (taken d e) = sym now ∙ bad in absurd (cc)) led_d.2)
+            ((λ own_is. let no : Path (Place Request Reply) (served f) away = sym is ∙ (ap r.two.place (sym led_d.0 ∙ own_is) ∙ fit.5.0) in absurd (cc)), tt))),
       )

@@ -2,10 +2,10 @@
 use Rattle.std.proofs.Common.{◌≡◌, Bool, true, false, ℕ, ◌≤◌, List, [], ◌∷◌, length, refl, arith}
 use Rattle.atomic_table.specs.Table.{State}
 use mathlib.Core.Option.{Option}
-use Rattle.line_rule.specs.declared.content.Content.{Content}
-use Rattle.line_rule.specs.declared.view.Entry.{Entry}
+use Rattle.line_rule.specs.declared.content.LineSlot.{LineSlot}
+use Rattle.line_rule.specs.declared.view.QueuedWriter.{QueuedWriter}
 use Rattle.line_rule.specs.declared.view.Handling.{Handling}
-use Rattle.line_rule.specs.declared.view.Hold.{Hold}
+use Rattle.line_rule.specs.declared.view.LineHold.{LineHold}
 use Rattle.line_rule.specs.Standing.{Phase, Mode, open_, waits, led, built, cut, marked, Two, Turn, still, calls, held_by, passes, Place, away, parted, queued, called, serves, served, flat, InStep}
 use Rattle.line_rule.specs.Laws.{Laws}
 use Rattle.line_rule.specs.Rule.{Listed, InMode, InTurn, Level, AllFit}
@@ -14,8 +14,8 @@ use Rattle.line_rule.specs.Steps.{now_of}
 use Rattle.line_rule.specs.Between.{LogAtHome, RightAt, AllRecall, Between, AreLists}
 use Rattle.line_rule.proofs.Groups.{walk_bound}
 
-module _ {Q P L M : Type 0} (stands : Laws Q P L M) (n : ℕ) where
-  home_in : (homes : List (Option (Content Q P L M))) (line hand : List (Entry Q)) (handled : List (Handling Q P)) (phase : ℕ → Phase Q P) (due : ℕ → List (Q × P)) (mode : Mode Q)
+module _ {Request Reply Log Right : Type 0} (stands : Laws Request Reply Log Right) (n : ℕ) where
+  home_in : (homes : List (Option (LineSlot Request Reply Log Right))) (line hand : List (QueuedWriter Request)) (handled : List (Handling Request Reply)) (phase : ℕ → Phase Request Reply) (due : ℕ → List (Request × Reply)) (mode : Mode Request)
       → InMode stands n homes line hand handled phase due mode → LogAtHome stands homes handled mode
   home_in homes line hand handled phase due open_ ok = ok.2
   home_in homes line hand handled phase due (waits c) ok = ok.2
@@ -24,28 +24,28 @@ module _ {Q P L M : Type 0} (stands : Laws Q P L M) (n : ℕ) where
   home_in homes line hand handled phase due (cut c next) ok = tt
   home_in homes line hand handled phase due (marked c) ok = tt
 
-  right_in : (words : List ℕ) (homes : List (Option (Content Q P L M))) (phase : ℕ → Phase Q P) (two : Two Q P) (turn : Turn)
+  right_in : (words : List ℕ) (homes : List (Option (LineSlot Request Reply Log Right))) (phase : ℕ → Phase Request Reply) (two : Two Request Reply) (turn : Turn)
       → InTurn stands n words homes phase two turn → RightAt stands n homes two.groups two.done turn
   right_in words homes phase two still ok = ok
   right_in words homes phase two (calls c) ok = ((ok.0.0, ok.0.1, ok.0.2, ok.0.4), ok.1)
   right_in words homes phase two (held_by c) ok = (ok.0, ok.1, ok.2, ok.4)
   right_in words homes phase two (passes c next) ok = ok
 
-  level_in : (two : Two Q P) (last : List (Handling Q P)) (piped : Bool) → piped ≡ true → Level stands piped two last → InStep two.done two.groups last two.lead
+  level_in : (two : Two Request Reply) (last : List (Handling Request Reply)) (piped : Bool) → piped ≡ true → Level stands piped two last → InStep two.done two.groups last two.lead
   level_in two last true is ok = ok
   level_in two last false is ok = absurd (cc)
 
-  none_in : (two : Two Q P) (last : List (Handling Q P)) (piped : Bool) → piped ≡ false → Level stands piped two last → two.groups ≡ []
+  none_in : (two : Two Request Reply) (last : List (Handling Request Reply)) (piped : Bool) → piped ≡ false → Level stands piped two last → two.groups ≡ []
   none_in two last true is ok = absurd (cc)
   none_in two last false is ok = ok.0
 
-  pub few_served : (place : ℕ → Place Q P) (turn : Turn) → length (last_served place turn) ≤ 1
+  pub few_served : (place : ℕ → Place Request Reply) (turn : Turn) → length (last_served place turn) ≤ 1
   few_served place still = omega arith
   few_served place (calls c) = omega arith
   few_served place (held_by c) = omega arith
   few_served place (passes c next) = few (place c)
     where
-      few : (p : Place Q P) → length (served_in p) ≤ 1
+      few : (p : Place Request Reply) → length (served_in p) ≤ 1
       few away = omega arith
       few (parted g b) = omega arith
       few (queued g) = omega arith
@@ -53,7 +53,7 @@ module _ {Q P L M : Type 0} (stands : Laws Q P L M) (n : ℕ) where
       few (serves g) = omega arith
       few (served g) = omega arith
 
-  pub between : (s : State (Content Q P L M) (List (Hold Q P))) → Listed stands n s → Between stands n s
+  pub between : (s : State (LineSlot Request Reply Log Right) (List (LineHold Request Reply))) → Listed stands n s → Between stands n s
   between s r = record {
     walk = r.line;
     queue = r.account.queue;
@@ -87,10 +87,10 @@ module _ {Q P L M : Type 0} (stands : Laws Q P L M) (n : ℕ) where
     in_order = λ is. level_in r.two (stands.given r.handled) stands.piped is r.second.in_level;
   }
     where
-      all_recall : (id : ℕ) (v : List (Hold Q P)) → AllFit n r.line r.hand r.handled r.mode r.phase r.due r.told r.two r.account.events r.seat id v → AllRecall r.account.events v
+      all_recall : (id : ℕ) (v : List (LineHold Request Reply)) → AllFit n r.line r.hand r.handled r.mode r.phase r.due r.told r.two r.account.events r.seat id v → AllRecall r.account.events v
       all_recall id [] ok = tt
       all_recall id (h ∷ hs) ok = (ok.0.6, all_recall id hs ok.1)
 
-  pub shown : (s : State (Content Q P L M) (List (Hold Q P))) (r : Listed stands n s) → (b : Between stands n s) × AreLists stands b (now_of stands n s r)
+  pub shown : (s : State (LineSlot Request Reply Log Right) (List (LineHold Request Reply))) (r : Listed stands n s) → (b : Between stands n s) × AreLists stands b (now_of stands n s r)
   unfolding between
   shown s r = (between s r, (refl, refl, (last_served r.two.place r.two.turn, refl, few_served r.two.place r.two.turn)))

@@ -8,22 +8,22 @@ use lib.ListN.{get_elem?}
 use lib.Seq.{set-get_or}
 use Rattle.atomic_table.specs.Table.{step, keeps, takes, stepped, Allows}
 use Rattle.atomic_table.proofs.Lists.{set_else}
-use Rattle.line_rule.specs.declared.view.Entry.{Entry}
+use Rattle.line_rule.specs.declared.view.QueuedWriter.{QueuedWriter}
 use Rattle.line_rule.specs.declared.view.Handling.{Handling}
 use Rattle.line_rule.specs.declared.view.Lead.{Lead}
-use Rattle.line_rule.specs.declared.view.Hold.{Hold}
-use Rattle.line_rule.specs.declared.content.Content.TheVariants.{Asked}
-use Rattle.line_rule.specs.declared.view.Stage.{Stage}
-use Rattle.line_rule.specs.declared.view.Stage.TheVariants.{Idle, Preparing, Waiting, Helping, Fresh, Leading, Cutting, Marking, Settling, Collecting}
+use Rattle.line_rule.specs.declared.view.LineHold.{LineHold}
+use Rattle.line_rule.specs.declared.content.LineSlot.TheVariants.{Asked}
+use Rattle.line_rule.specs.declared.view.LineStage.{LineStage}
+use Rattle.line_rule.specs.declared.view.LineStage.TheVariants.{Idle, Preparing, Waiting, Helping, Fresh, Leading, Cutting, Marking, Settling, Collecting}
 use Rattle.line_rule.specs.Chain.{AllCoded, state_at, older_at, newest_from, Links, LinksFrom, Absent, Distinct, Within}
 use Rattle.line_rule.specs.Standing.{Phase, idle, preparing, linked, chosen, leads, taken, completed, collecting, Mode, waits, led, built, base_of, Holds}
 use Rattle.line_rule.specs.Laws.{Laws}
-use Rattle.line_rule.specs.Rule.{InChain, Stand, Waits, AllLinked, AllTaken, Knows, hold, InPhase, InMode, Listed, InSecond, untold}
+use Rattle.line_rule.specs.Rule.{InChain, Stand, Waits, AllLinked, AllTaken, Knows, hold, InPhase, InMode, Listed, InSecond, due_untold}
 use Rattle.line_rule.proofs.Fitting.{split_group}
-use Rattle.line_rule.specs.Events.{Event, builds, Core, Legal}
+use Rattle.line_rule.specs.Events.{LineEvent, builds, Core, Legal}
 use Rattle.line_rule.specs.SecondList.{second_list_of}
 use Rattle.line_rule.specs.Steps.{Stays, IsBuild, now_of, IsNow, Becomes, StepIs}
-use Rattle.line_rule.specs.Plays.{Sat, building, At, walking, taking, in_hand, AllBelow, Walks, Builds, read_once, traced, fetched}
+use Rattle.line_rule.specs.Plays.{Sat, lead_at_build, At, lead_with_walk, lead_with_one_more, in_hand, AllBelow, Walks, Builds, after_build, after_read_older, after_fetch}
 use Rattle.line_rule.proofs.Chains.{put, put_at, put_here, put_else, links_same, ends_same, stand_change, linked_change, taken_change}
 use Rattle.line_rule.proofs.Exits.{owing_stays}
 use Rattle.line_rule.proofs.Accounts.{builds_now, stays_now}
@@ -51,12 +51,12 @@ middle a b x c = append_assoc a b (x ∷ c)
 pub snoc : {A : Type 0} (a : List A) (x : A) (c : List A) → (a ++ x ∷ []) ++ c ≡ a ++ x ∷ c
 snoc a x c = append_assoc a (x ∷ []) c
 
-pub one_leads : {Q P : Type 0} (e f : Entry Q) → Path (Phase Q P) (leads e) (leads f) → e ≡ f
+pub one_leads : {Request Reply : Type 0} (e f : QueuedWriter Request) → Path (Phase Request Reply) (leads e) (leads f) → e ≡ f
 one_leads e f is = cc
 
-module _ {Q P : Type 0} where
+module _ {Request Reply : Type 0} where
   -- a client whose request is in the list or in hand waits
-  abbrev pub IsQueued : Phase Q P → Type 0
+  abbrev pub IsQueued : Phase Request Reply → Type 0
   IsQueued idle = ⊥
   IsQueued (preparing w) = ⊥
   IsQueued (linked e) = Unit {0}
@@ -66,8 +66,8 @@ module _ {Q P : Type 0} where
   IsQueued (completed q p) = ⊥
   IsQueued collecting = ⊥
 
-  pub still_waits : (line line' hand hand' : List (Entry Q)) (handled handled' : List (Handling Q P)) (mode mode' : Mode Q) (phase phase' : ℕ → Phase Q P) (due due' : ℕ → List (Q × P)) (k : ℕ) (ph : Phase Q P) → phase k ≡ ph → IsQueued ph
-      → ((q : Q) → Waits q ph → Waits q (phase' k)) → ((x : Q × P) → due k ≡ x ∷ [] → due' k ≡ x ∷ []) → (st : Stage Q P) → Knows line hand handled mode phase due k st → Knows line' hand' handled' mode' phase' due' k st
+  pub still_waits : (line line' hand hand' : List (QueuedWriter Request)) (handled handled' : List (Handling Request Reply)) (mode mode' : Mode Request) (phase phase' : ℕ → Phase Request Reply) (due due' : ℕ → List (Request × Reply)) (k : ℕ) (ph : Phase Request Reply) → phase k ≡ ph → IsQueued ph
+      → ((q : Request) → Waits q ph → Waits q (phase' k)) → ((x : Request × Reply) → due k ≡ x ∷ [] → due' k ≡ x ∷ []) → (st : LineStage Request Reply) → Knows line hand handled mode phase due k st → Knows line' hand' handled' mode' phase' due' k st
   still_waits line line' hand hand' handled handled' mode mode' phase phase' due due' k ph now queued to keep Idle ok = absurd (subst IsQueued (sym now ∙ ok) queued)
   still_waits line line' hand hand' handled handled' mode mode' phase phase' due due' k ph now queued to keep (Preparing w) ok = absurd (subst IsQueued (sym now ∙ ok) queued)
   still_waits line line' hand hand' handled handled' mode mode' phase phase' due due' k ph now queued to keep (Waiting q past) ok = to q (subst (Waits q) now ok)
@@ -79,7 +79,7 @@ module _ {Q P : Type 0} where
   still_waits line line' hand hand' handled handled' mode mode' phase phase' due due' k ph now queued to keep (Settling d) ok = absurd (subst IsQueued (sym now ∙ ok.1) queued)
   still_waits line line' hand hand' handled handled' mode mode' phase phase' due due' k ph now queued to keep Collecting ok = absurd (subst IsQueued (sym now ∙ ok) queued)
 
-  abbrev pub lead_in : Lead Q P → Stage Q P → Lead Q P
+  abbrev pub lead_in : Lead Request Reply → LineStage Request Reply → Lead Request Reply
   lead_in d Idle = d
   lead_in d (Preparing w) = d
   lead_in d (Waiting q past) = d
@@ -91,11 +91,11 @@ module _ {Q P : Type 0} where
   lead_in d (Settling b) = d
   lead_in d Collecting = d
 
-  pub one_lead : (a b : Lead Q P) → Path (Stage Q P) (Leading a) (Leading b) → a ≡ b
+  pub one_lead : (a b : Lead Request Reply) → Path (LineStage Request Reply) (Leading a) (Leading b) → a ≡ b
   one_lead a b e = ap (lead_in a) e
 
-module _ {Q P : Type 0} where
-  abbrev fresh_entry : Entry Q → Stage Q P → Entry Q
+module _ {Request Reply : Type 0} where
+  abbrev fresh_entry : QueuedWriter Request → LineStage Request Reply → QueuedWriter Request
   fresh_entry d Idle = d
   fresh_entry d (Preparing w) = d
   fresh_entry d (Waiting q past) = d
@@ -107,7 +107,7 @@ module _ {Q P : Type 0} where
   fresh_entry d (Settling b) = d
   fresh_entry d Collecting = d
 
-  abbrev fresh_seen : List (Handling Q P) → Stage Q P → List (Handling Q P)
+  abbrev fresh_seen : List (Handling Request Reply) → LineStage Request Reply → List (Handling Request Reply)
   fresh_seen d Idle = d
   fresh_seen d (Preparing w) = d
   fresh_seen d (Waiting q past) = d
@@ -119,13 +119,13 @@ module _ {Q P : Type 0} where
   fresh_seen d (Settling b) = d
   fresh_seen d Collecting = d
 
-  pub one_fresh : (a b : Entry Q) (s t : List (Handling Q P)) → Path (Stage Q P) (Fresh a s) (Fresh b t) → (a ≡ b) × (s ≡ t)
+  pub one_fresh : (a b : QueuedWriter Request) (s t : List (Handling Request Reply)) → Path (LineStage Request Reply) (Fresh a s) (Fresh b t) → (a ≡ b) × (s ≡ t)
   one_fresh a b s t e = (ap (fresh_entry a) e, ap (fresh_seen s) e)
 
-module _ {Q P L M : Type 0} (stands : Laws Q P L M) (n : ℕ) where
+module _ {Request Reply Log Right : Type 0} (stands : Laws Request Reply Log Right) (n : ℕ) where
   -- what the rule says of who leads
-  pub record Leads (s : St stands n) (r : Listed stands n s) (c : ℕ) (lead : Lead Q P) : Type 0 where
-    pub queue : List (Entry Q)
+  pub record Leads (s : St stands n) (r : Listed stands n s) (c : ℕ) (lead : Lead Request Reply) : Type 0 where
+    pub queue : List (QueuedWriter Request)
     pub parts : r.line ≡ queue ++ in_hand lead
     pub queued : AllLinked r.phase queue
     pub members : AllTaken r.phase r.due c lead.taken
@@ -133,7 +133,7 @@ module _ {Q P L M : Type 0} (stands : Laws Q P L M) (n : ℕ) where
     pub own_by : lead.own.by ≡ c
     pub base : base_of r.mode ≡ 0
 
-  pub leader : (s : St stands n) (r : Listed stands n s) (c : ℕ) (lead : Lead Q P) → 0 < c → c ≤ n → Knows r.line r.hand r.handled r.mode r.phase r.due c (Leading lead) → Leads s r c lead
+  pub leader : (s : St stands n) (r : Listed stands n s) (c : ℕ) (lead : Lead Request Reply) → 0 < c → c ≤ n → Knows r.line r.hand r.handled r.mode r.phase r.due c (Leading lead) → Leads s r c lead
   leader s r c lead lo hi ok =
       let m = subst (InMode stands n s.homes r.line r.hand r.handled r.phase r.due) ok.0 r.log_is in
       let same : m.0.1 ≡ lead.own = one_leads m.0.1 lead.own (sym m.0.4 ∙ ok.1) in
@@ -147,26 +147,26 @@ module _ {Q P L M : Type 0} (stands : Laws Q P L M) (n : ℕ) where
         own_by = subst (InPhase stands s.words s.homes c (r.due c)) ok.1 (r.rows c lo hi);
       }
 
-  pub all_below : (slots : ℕ) (es : List (Entry Q)) → suc n < slots → Within n es → AllBelow slots es
+  pub all_below : (slots : ℕ) (es : List (QueuedWriter Request)) → suc n < slots → Within n es → AllBelow slots es
   all_below slots [] h ok = tt
   all_below slots (e ∷ es) h ok = let a = ok.1 in (ok.0, omega arith, all_below slots es h ok.2)
 
   -- a load by a leader that reads the list anew
-  pub walks_now : (slots id : ℕ) (me : Sat Q P L M) (c : ℕ) (lead : Lead Q P) (mine : List (Q × P)) → At c (Leading lead) mine me → (s : St stands n) (r : Listed stands n s) → get_elem? s.views id ≡ some me.0
-      → length s.homes ≡ slots → (w : List (Hold Q P)) × Becomes stands n Stays (now_of stands n s r) (stepped s 0 (get_or s.words 0 0) id me.1 w keeps) × Walks slots c lead mine (get_or s.words 0 0) me (w, me.1)
+  pub walks_now : (slots id : ℕ) (me : Sat Request Reply Log Right) (c : ℕ) (lead : Lead Request Reply) (mine : List (Request × Reply)) → At c (Leading lead) mine me → (s : St stands n) (r : Listed stands n s) → get_elem? s.views id ≡ some me.0
+      → length s.homes ≡ slots → (w : List (LineHold Request Reply)) × Becomes stands n Stays (now_of stands n s r) (stepped s 0 (get_or s.words 0 0) id me.1 w keeps) × Walks slots c lead mine (get_or s.words 0 0) me (w, me.1)
   walks_now slots id me c lead mine mid s r at long =
-      let h : Hold Q P = hold c (Leading lead) mine in
+      let h : LineHold Request Reply = hold c (Leading lead) mine in
       let at' : get_elem? s.views id ≡ some (h ∷ []) = at ∙ ap some mid in
       let fit = (r.seats id (h ∷ []) at').0 in
       let k = leader s r c lead fit.1 fit.2 fit.4 in
-      let now : List (Entry Q) = k.queue ++ in_hand lead in
-      let w : List (Hold Q P) = hold c (Leading (walking lead now)) mine ∷ [] in (
+      let now : List (QueuedWriter Request) = k.queue ++ in_hand lead in
+      let w : List (LineHold Request Reply) = hold c (Leading (lead_with_walk lead now)) mine ∷ [] in (
         w,
         (
           now_of stands n s r,
           refl,
           subst (λ (z : List ℕ). IsNow stands n (now_of stands n s r) (record { words = z; homes = s.homes; views = set s.views id w })) (sym (set-get_or s.words 0 0))
-              (reviewed stands n s r id h (Leading (walking lead now)) at' (fit.4.0, fit.4.1, ([], k.parts), fit.4.3, fit.4.4) fit.6),
+              (reviewed stands n s r id h (Leading (lead_with_walk lead now)) at' (fit.4.0, fit.4.1, ([], k.parts), fit.4.3, fit.4.4) fit.6),
         ),
         (
           k.queue,
@@ -178,35 +178,35 @@ module _ {Q P L M : Type 0} (stands : Laws Q P L M) (n : ℕ) where
         ),
       )
 
-  pub coded_in : (s : St stands n) (r : Listed stands n s) (es : List (Entry Q)) → Stand r.phase es → AllCoded stands.asks es
+  pub coded_in : (s : St stands n) (r : Listed stands n s) (es : List (QueuedWriter Request)) → Stand r.phase es → AllCoded stands.asks es
   coded_in s r [] ok = tt
   coded_in s r (e ∷ es) ok = (r.coded e.by e ok.0, coded_in s r es ok.1)
 
-  all_coded : (s : St stands n) (r : Listed stands n s) (front es : List (Entry Q)) → Stand r.phase (front ++ es) → AllCoded stands.asks es
+  all_coded : (s : St stands n) (r : Listed stands n s) (front es : List (QueuedWriter Request)) → Stand r.phase (front ++ es) → AllCoded stands.asks es
   all_coded s r [] es ok = coded_in s r es ok
   all_coded s r (f ∷ front) es ok = all_coded s r front es ok.1
 
   -- the leader reads the queue, and so builds its group
-  pub reads_is : (slots id : ℕ) (me : Sat Q P L M) (c : ℕ) (own0 : Entry Q) (seen : List (Handling Q P)) (mine : List (Q × P)) → At c (Fresh own0 seen) mine me → StepIs stands n (λ _. IsBuild stands.bound own0) slots id me 0 (λ y. y) (read_once stands.asks stands.bound (step slots 0 0 0 none) me)
+  pub reads_is : (slots id : ℕ) (me : Sat Request Reply Log Right) (c : ℕ) (own0 : QueuedWriter Request) (seen : List (Handling Request Reply)) (mine : List (Request × Reply)) → At c (Fresh own0 seen) mine me → StepIs stands n (λ _. IsBuild stands.bound own0) slots id me 0 (λ y. y) (after_build stands.asks stands.bound (step slots 0 0 0 none) me)
   reads_is slots id me c o seen mine mid s r long at fits =
-      let h : Hold Q P = hold c (Fresh o seen) mine in
+      let h : LineHold Request Reply = hold c (Fresh o seen) mine in
       let at' : get_elem? s.views id ≡ some (h ∷ []) = at ∙ ap some mid in
       let fit = (r.seats id (h ∷ []) at').0 in
       let led_c : r.mode ≡ led c = fit.4.0 in
       let m = subst (InMode stands n s.homes r.line r.hand r.handled r.phase r.due) led_c r.log_is in
       let same_o : m.0.1 ≡ o = one_leads m.0.1 o (sym m.0.4 ∙ fit.4.1) in
-      let queue : List (Entry Q) = m.0.0 in
+      let queue : List (QueuedWriter Request) = m.0.0 in
       let cuts = split_group stands.bound o queue in
-      let left : List (Entry Q) = cuts.0 in
-      let group : List (Entry Q) = cuts.1 in
-      let now : List (Entry Q) = left ++ (group ++ o ∷ []) in
+      let left : List (QueuedWriter Request) = cuts.0 in
+      let group : List (QueuedWriter Request) = cuts.1 in
+      let now : List (QueuedWriter Request) = left ++ (group ++ o ∷ []) in
       let parts : r.line ≡ now = m.0.2 ∙ ((λ i. cuts.2 i ++ same_o i ∷ []) ∙ append_assoc left group (o ∷ [])) in
-      let past : List (Event Q P) = builds stands.bound o group left ∷ r.account.events in
-      let lead : Lead Q P = building o seen past now group in
-      let w : List (Hold Q P) = hold c (Leading lead) mine ∷ [] in
-      let by_c : o.by ≡ c = ap (λ (e : Entry Q). e.by) (sym same_o) ∙ m.0.5 in
+      let past : List (LineEvent Request Reply) = builds stands.bound o group left ∷ r.account.events in
+      let lead : Lead Request Reply = lead_at_build o seen past now group in
+      let w : List (LineHold Request Reply) = hold c (Leading lead) mine ∷ [] in
+      let by_c : o.by ≡ c = ap (λ (e : QueuedWriter Request). e.by) (sym same_o) ∙ m.0.5 in
       let base : base_of r.mode ≡ 0 = ap base_of led_c in
-      let ph : Phase Q P = leads o in
+      let ph : Phase Request Reply = leads o in
       let here : put r.phase c ph c ≡ ph = put_here r.phase c ph in
       let ws : List ℕ = set s.words 0 (get_or s.words 0 0) in
       let acc = builds_now stands.bound r.line r.handled r.mode r.account c o group left led_c by_c parts cuts.3 in
@@ -234,14 +234,14 @@ module _ {Q P L M : Type 0} (stands : Laws Q P L M) (n : ℕ) where
               subst (AllTaken (put r.phase c ph) r.due c) (sym m.1) tt,
               m.2,
             );
-            one_chosen = λ j e. put_at r.phase c ph (λ i g. g ≡ chosen e → Path (Mode Q) (built c group) (waits i)) j (λ _ bad. absurd (cc)) (λ _ ok. let was : r.mode ≡ waits j = r.one_chosen j e ok in absurd (cc));
+            one_chosen = λ j e. put_at r.phase c ph (λ i g. g ≡ chosen e → Path (Mode Request) (built c group) (waits i)) j (λ _ bad. absurd (cc)) (λ _ ok. let was : r.mode ≡ waits j = r.one_chosen j e ok in absurd (cc));
             kept = r.kept;
             coded = λ e is. r.coded c e (subst (InChain e) (sym fit.4.1) is);
             account = acc.0;
             goes_on = (builds stands.bound o group left ∷ [], acc.2);
             recalls = ([], acc.2);
             has_cut = tt;
-            owing_is = owing_stays r.phase r.due r.account.owing r.owing_is acc.0.owing r.due c ph (ap (λ (y : Core Q P). y.3) acc.1.1) (ap (λ f. untold f (r.due c)) (sym fit.4.1)) (λ _ _. refl);
+            owing_is = owing_stays r.phase r.due r.account.owing r.owing_is acc.0.owing r.due c ph (ap (λ (y : Core Request Reply). y.3) acc.1.1) (ap (λ f. due_untold f (r.due c)) (sym fit.4.1)) (λ _ _. refl);
             second = second_same stands n s.words ws s.homes s.homes r.phase c ph r.mode (built c group) (stands.given r.handled) (stands.given r.handled) r.two (inl fit.4.1) (λ j _. same j) refl (λ k h. inr (ap r.two.place (sym h) ∙ fit.5.0)) (λ k h. inl (subst (Holds k) (sym led_c) h)) (λ k _ h. subst (Holds k) led_c h) (λ v. v) r.second;
             back = fit.5;
             else_back = λ _ _ _ ok. ok;
@@ -254,7 +254,7 @@ module _ {Q P L M : Type 0} (stands : Laws Q P L M) (n : ℕ) where
         ),
         λ c' o' seen' mine' mid'. let e = one_hold c c' (Fresh o seen) (Fresh o' seen') mine mine' me.0 mid mid' in
             let f = one_fresh o o' seen seen' e.1 in
-            subst (λ (z : ℕ × Entry Q × List (Handling Q P) × List (Q × P)). Builds stands.asks slots stands.bound z.0 z.1 z.2 z.3 (get_or s.words 0 0) me (w, me.1)) (λ i. (e.0 i, f.0 i, f.1 i, e.2 i)) (
+            subst (λ (z : ℕ × QueuedWriter Request × List (Handling Request Reply) × List (Request × Reply)). Builds stands.asks slots stands.bound z.0 z.1 z.2 z.3 (get_or s.words 0 0) me (w, me.1)) (λ i. (e.0 i, f.0 i, f.1 i, e.2 i)) (
               left,
               group,
               past,
@@ -268,14 +268,14 @@ module _ {Q P L M : Type 0} (stands : Laws Q P L M) (n : ℕ) where
             ),
       )
 
-  pub reads : (slots id : ℕ) (me : Sat Q P L M) (c : ℕ) (own0 : Entry Q) (seen : List (Handling Q P)) (mine : List (Q × P)) → At c (Fresh own0 seen) mine me → Allows (Listed stands n) slots id me 0 (λ y. y) (read_once stands.asks stands.bound (step slots 0 0 0 none) me)
-  reads slots id me c o seen mine mid = allows stands n (λ _. IsBuild stands.bound o) slots id me 0 (λ y. y) (read_once stands.asks stands.bound (step slots 0 0 0 none) me) (reads_is slots id me c o seen mine mid)
+  pub reads : (slots id : ℕ) (me : Sat Request Reply Log Right) (c : ℕ) (own0 : QueuedWriter Request) (seen : List (Handling Request Reply)) (mine : List (Request × Reply)) → At c (Fresh own0 seen) mine me → Allows (Listed stands n) slots id me 0 (λ y. y) (after_build stands.asks stands.bound (step slots 0 0 0 none) me)
+  reads slots id me c o seen mine mid = allows stands n (λ _. IsBuild stands.bound o) slots id me 0 (λ y. y) (after_build stands.asks stands.bound (step slots 0 0 0 none) me) (reads_is slots id me c o seen mine mid)
 
-  pub reads_as : (asked : Q → ℕ → Type 0) → stands.asks ≡ asked → (max : ℕ) → stands.bound ≡ max → (slots id : ℕ) (me : Sat Q P L M) (c : ℕ) (own0 : Entry Q) (seen : List (Handling Q P)) (mine : List (Q × P)) → At c (Fresh own0 seen) mine me → Allows (Listed stands n) slots id me 0 (λ y. y) (read_once asked max (step slots 0 0 0 none) me)
+  pub reads_as : (asked : Request → ℕ → Type 0) → stands.asks ≡ asked → (max : ℕ) → stands.bound ≡ max → (slots id : ℕ) (me : Sat Request Reply Log Right) (c : ℕ) (own0 : QueuedWriter Request) (seen : List (Handling Request Reply)) (mine : List (Request × Reply)) → At c (Fresh own0 seen) mine me → Allows (Listed stands n) slots id me 0 (λ y. y) (after_build asked max (step slots 0 0 0 none) me)
   reads_as asked is max is_max slots id me c o seen mine mid =
-      subst (λ z. Allows (Listed stands n) slots id me 0 (λ y. y) (read_once asked z (step slots 0 0 0 none) me)) is_max (subst (λ z. Allows (Listed stands n) slots id me 0 (λ y. y) (read_once z stands.bound (step slots 0 0 0 none) me)) is (reads slots id me c o seen mine mid))
+      subst (λ z. Allows (Listed stands n) slots id me 0 (λ y. y) (after_build asked z (step slots 0 0 0 none) me)) is_max (subst (λ z. Allows (Listed stands n) slots id me 0 (λ y. y) (after_build z stands.bound (step slots 0 0 0 none) me)) is (reads slots id me c o seen mine mid))
 
-  pub traces_is : (slots id : ℕ) (me : Sat Q P L M) (k : ℕ) → StepIs stands n (λ _. Stays) slots id me k (λ y. y) (traced (step slots k 0 0 none) me)
+  pub traces_is : (slots id : ℕ) (me : Sat Request Reply Log Right) (k : ℕ) → StepIs stands n (λ _. Stays) slots id me k (λ y. y) (after_read_older (step slots k 0 0 none) me)
   traces_is slots id me k s r long at fits = (
     me.0,
     keeps,
@@ -291,19 +291,19 @@ module _ {Q P L M : Type 0} (stands : Laws Q P L M) (n : ℕ) where
     ),
   )
 
-  pub traces : (slots id : ℕ) (me : Sat Q P L M) (k : ℕ) → Allows (Listed stands n) slots id me k (λ y. y) (traced (step slots k 0 0 none) me)
-  traces slots id me k = allows stands n (λ _. Stays) slots id me k (λ y. y) (traced (step slots k 0 0 none) me) (traces_is slots id me k)
+  pub traces : (slots id : ℕ) (me : Sat Request Reply Log Right) (k : ℕ) → Allows (Listed stands n) slots id me k (λ y. y) (after_read_older (step slots k 0 0 none) me)
+  traces slots id me k = allows stands n (λ _. Stays) slots id me k (λ y. y) (after_read_older (step slots k 0 0 none) me) (traces_is slots id me k)
 
-  pub fetches_is : (slots id : ℕ) (me : Sat Q P L M) (c k : ℕ) (lead : Lead Q P) (mine : List (Q × P)) (pre : List (Entry Q)) (x : Entry Q) → At c (Leading lead) mine me → lead.walk ≡ pre ++ x ∷ in_hand lead → k ≡ older_at x.by
-      → StepIs stands n (λ _. Stays) slots id me k (λ y. y) (fetched (step slots k 0 0 none) me)
+  pub fetches_is : (slots id : ℕ) (me : Sat Request Reply Log Right) (c k : ℕ) (lead : Lead Request Reply) (mine : List (Request × Reply)) (pre : List (QueuedWriter Request)) (x : QueuedWriter Request) → At c (Leading lead) mine me → lead.walk ≡ pre ++ x ∷ in_hand lead → k ≡ older_at x.by
+      → StepIs stands n (λ _. Stays) slots id me k (λ y. y) (after_fetch (step slots k 0 0 none) me)
   fetches_is slots id me c k lead mine pre x mid is_walk is_word s r long at fits =
-      let h : Hold Q P = hold c (Leading lead) mine in
+      let h : LineHold Request Reply = hold c (Leading lead) mine in
       let at' : get_elem? s.views id ≡ some (h ∷ []) = at ∙ ap some mid in
       let fit = (r.seats id (h ∷ []) at').0 in
       let f = leader s r c lead fit.1 fit.2 fit.4 in
-      let H : List (Entry Q) = in_hand lead in
+      let H : List (QueuedWriter Request) = in_hand lead in
       let ends = fit.4.2 in
-      let q : List (Entry Q) = ends.0 ++ pre in
+      let q : List (QueuedWriter Request) = ends.0 ++ pre in
       let parts : r.line ≡ q ++ x ∷ H = ends.1 ∙ (ap (λ l. ends.0 ++ l) is_walk ∙ sym (middle ends.0 pre x H)) in
       let is_queue : f.queue ≡ q ++ x ∷ [] = append_cancel_right f.queue (q ++ x ∷ []) H (sym f.parts ∙ (parts ∙ sym (snoc q x H))) in
       let queued : AllLinked r.phase (q ++ x ∷ []) = subst (AllLinked r.phase) is_queue f.queued in
@@ -319,10 +319,10 @@ module _ {Q P L M : Type 0} (stands : Laws Q P L M) (n : ℕ) where
       let ws : List ℕ = set s.words k (get_or s.words k 0) in
       let hs = set s.homes x.by none in
       let same : (j : ℕ) → get_or ws j 0 ≡ get_or s.words j 0 = λ j. ap (λ (l : List ℕ). get_or l j 0) (set-get_or s.words k 0) in
-      let ph : Phase Q P = taken c x in
+      let ph : Phase Request Reply = taken c x in
       let here : put r.phase x.by ph x.by ≡ ph = put_here r.phase x.by ph in
-      let h' : Hold Q P = hold c (Leading (taking lead x)) mine in
-      let no_taken : (l : ℕ) (e : Entry Q) → r.phase x.by ≡ taken l e → ⊥ = λ l e bad. absurd (cc) in
+      let h' : LineHold Request Reply = hold c (Leading (lead_with_one_more lead x)) mine in
+      let no_taken : (l : ℕ) (e : QueuedWriter Request) → r.phase x.by ≡ taken l e → ⊥ = λ l e bad. absurd (cc) in
       let acc = stays_now stands.bound r.line r.handled r.mode r.account (built c lead.group) led_c in (
         h' ∷ [],
         takes x.by (Asked x.asked),
@@ -347,14 +347,14 @@ module _ {Q P L M : Type 0} (stands : Laws Q P L M) (n : ℕ) where
               (here, row.3, taken_change r.phase r.due r.due x.by ph c r.hand (λ e bad. absurd (no_taken c e bad)) (λ _ _. refl) (subst (AllTaken r.phase r.due c) fit.4.4 f.members)),
               f.own_due,
             );
-            one_chosen = λ j e. put_at r.phase x.by ph (λ i g. g ≡ chosen e → Path (Mode Q) (built c lead.group) (waits i)) j (λ _ bad. absurd (cc)) (λ _ ok. sym led_c ∙ r.one_chosen j e ok);
+            one_chosen = λ j e. put_at r.phase x.by ph (λ i g. g ≡ chosen e → Path (Mode Request) (built c lead.group) (waits i)) j (λ _ bad. absurd (cc)) (λ _ ok. sym led_c ∙ r.one_chosen j e ok);
             kept = r.kept;
             coded = λ e is. r.coded x.by e (subst (InChain e) (sym now) is);
             account = acc.0;
             goes_on = ([], acc.2);
             recalls = recalls_more r.account.events acc.0.events ([], acc.2) (Leading lead) fit.6;
             has_cut = tt;
-            owing_is = owing_stays r.phase r.due r.account.owing r.owing_is acc.0.owing r.due x.by ph (ap (λ (y : Core Q P). y.3) acc.1) (ap (λ f. untold f (r.due x.by)) (sym now)) (λ _ _. refl);
+            owing_is = owing_stays r.phase r.due r.account.owing r.owing_is acc.0.owing r.due x.by ph (ap (λ (y : Core Request Reply). y.3) acc.1) (ap (λ f. due_untold f (r.due x.by)) (sym now)) (λ _ _. refl);
             second = second_same stands n s.words ws s.homes hs r.phase x.by ph r.mode (built c lead.group) (stands.given r.handled) (stands.given r.handled) r.two (inr (λ there. subst (InSecond r.two.place x.by) now there)) (λ j _. same j) (set_else s.homes x.by (n + 1) none (λ e. omega arith)) (λ k h. inr (ap r.two.place (sym h) ∙ fit.5.0)) (λ k h. inl (subst (Holds k) (sym led_c) h)) (λ k _ h. subst (Holds k) led_c h) (λ v. v) r.second;
             back = fit.5;
             else_back = λ _ _ _ ok. ok;
@@ -363,7 +363,7 @@ module _ {Q P L M : Type 0} (stands : Laws Q P L M) (n : ℕ) where
             mine = fit.3;
             knows = (refl, put_else r.phase x.by ph c other ∙ mine_now, ends, fit.4.3, ap (λ l. x ∷ l) fit.4.4);
             others = λ j ne. dite (ℕ_discrete j x.by)
-                (λ e. subst (λ (i : ℕ). (st : Stage Q P) → Knows r.line r.hand r.handled r.mode r.phase r.due i st → Knows r.line (x ∷ r.hand) r.handled (built c lead.group) (put r.phase x.by ph) r.due i st) (sym e)
+                (λ e. subst (λ (i : ℕ). (st : LineStage Request Reply) → Knows r.line r.hand r.handled r.mode r.phase r.due i st → Knows r.line (x ∷ r.hand) r.handled (built c lead.group) (put r.phase x.by ph) r.due i st) (sym e)
                 (still_waits r.line r.line r.hand (x ∷ r.hand) r.handled r.handled r.mode (built c lead.group) r.phase (put r.phase x.by ph) r.due r.due x.by (linked x) now tt (λ u is. subst (Waits u) (sym here) is) (λ _ owed. owed)))
                 (λ away. knows_stays stands n r.line r.line r.hand (x ∷ r.hand) r.handled r.handled r.mode (built c lead.group) r.phase (put r.phase x.by ph) r.due r.due j (put_else r.phase x.by ph j away)
                 (λ h. absurd (ne (sym (subst (Holds j) led_c h))))
@@ -374,11 +374,11 @@ module _ {Q P L M : Type 0} (stands : Laws Q P L M) (n : ℕ) where
         λ c' lead' mine' pre' x' mid' is_walk' is_word'.
             let e = one_hold c c' (Leading lead) (Leading lead') mine mine' me.0 mid mid' in
             let le : lead ≡ lead' = one_lead lead lead' e.1 in
-            let two : pre ++ x ∷ H ≡ pre' ++ x' ∷ H = sym is_walk ∙ (ap (λ (l : Lead Q P). l.walk) le ∙ (is_walk' ∙ ap (λ (l : Lead Q P). pre' ++ x' ∷ in_hand l) (sym le))) in
+            let two : pre ++ x ∷ H ≡ pre' ++ x' ∷ H = sym is_walk ∙ (ap (λ (l : Lead Request Reply). l.walk) le ∙ (is_walk' ∙ ap (λ (l : Lead Request Reply). pre' ++ x' ∷ in_hand l) (sym le))) in
             let same_x : x ≡ x' = same_last pre pre' x x' (append_cancel_right (pre ++ x ∷ []) (pre' ++ x' ∷ []) H (snoc pre x H ∙ (two ∙ sym (snoc pre' x' H)))) in
-            ((λ i. hold (e.0 i) (Leading (taking (le i) (same_x i))) (e.2 i) ∷ []), (λ i. ((same_x i).by, Asked (same_x i).asked) ∷ me.1)),
+            ((λ i. hold (e.0 i) (Leading (lead_with_one_more (le i) (same_x i))) (e.2 i) ∷ []), (λ i. ((same_x i).by, Asked (same_x i).asked) ∷ me.1)),
       )
 
-  pub fetches : (slots id : ℕ) (me : Sat Q P L M) (c k : ℕ) (lead : Lead Q P) (mine : List (Q × P)) (pre : List (Entry Q)) (x : Entry Q) → At c (Leading lead) mine me → lead.walk ≡ pre ++ x ∷ in_hand lead → k ≡ older_at x.by
-      → Allows (Listed stands n) slots id me k (λ y. y) (fetched (step slots k 0 0 none) me)
-  fetches slots id me c k lead mine pre x mid is_walk is_word = allows stands n (λ _. Stays) slots id me k (λ y. y) (fetched (step slots k 0 0 none) me) (fetches_is slots id me c k lead mine pre x mid is_walk is_word)
+  pub fetches : (slots id : ℕ) (me : Sat Request Reply Log Right) (c k : ℕ) (lead : Lead Request Reply) (mine : List (Request × Reply)) (pre : List (QueuedWriter Request)) (x : QueuedWriter Request) → At c (Leading lead) mine me → lead.walk ≡ pre ++ x ∷ in_hand lead → k ≡ older_at x.by
+      → Allows (Listed stands n) slots id me k (λ y. y) (after_fetch (step slots k 0 0 none) me)
+  fetches slots id me c k lead mine pre x mid is_walk is_word = allows stands n (λ _. Stays) slots id me k (λ y. y) (after_fetch (step slots k 0 0 none) me) (fetches_is slots id me c k lead mine pre x mid is_walk is_word)

@@ -9,28 +9,28 @@ use lib.Seq.{set-get_or}
 use prog.Atomic.{either}
 use Rattle.atomic_table.specs.Table.{step, keeps, gives, carried_after, stepped, Allows}
 use Rattle.atomic_table.proofs.Lists.{set_here, set_else, exchanged}
-use Rattle.line_rule.specs.declared.view.Entry.{Entry}
+use Rattle.line_rule.specs.declared.view.QueuedWriter.{QueuedWriter}
 use Rattle.line_rule.specs.declared.view.Handling.{Handling}
 use Rattle.line_rule.specs.declared.view.Lead.{Lead}
 use Rattle.line_rule.specs.declared.view.Debt.{Debt}
 use Rattle.line_rule.specs.declared.view.Squad.{Squad}
-use Rattle.line_rule.specs.declared.view.Hold.{Hold}
+use Rattle.line_rule.specs.declared.view.LineHold.{LineHold}
 use Rattle.line_rule.specs.declared.view.Back.{Back}
 use Rattle.line_rule.specs.declared.view.Back.TheVariants.{Parting}
 use Rattle.line_rule.proofs.Onward.{one_hold_at, taken_with, links_back, within_back, parts_two, parts_else, Hands, onward_two, second_onward, onward_free, onward_back, onward_else, is_boundary, onward_second, is_ahead}
 use Rattle.line_rule.proofs.Seconds.{second_parts}
 use Rattle.line_rule.proofs.Squads.{aim_links}
-use Rattle.line_rule.specs.declared.content.Content.{Content}
-use Rattle.line_rule.specs.declared.content.Content.TheVariants.{Told, Log}
-use Rattle.line_rule.specs.declared.view.Stage.TheVariants.{Leading, Cutting, Marking, Settling}
+use Rattle.line_rule.specs.declared.content.LineSlot.{LineSlot}
+use Rattle.line_rule.specs.declared.content.LineSlot.TheVariants.{Told, TheLog}
+use Rattle.line_rule.specs.declared.view.LineStage.TheVariants.{Leading, Cutting, Marking, Settling}
 use Rattle.line_rule.specs.Chain.{state_at, older_at, pack, newest, newest_from, Links, LinksFrom, Absent, Distinct, Within, of, heads, all_answers}
 use Rattle.line_rule.specs.Standing.{Phase, linked, chosen, leads, taken, Mode, open_, waits, built, cut, marked, base_of, Holds, parted, ahead}
 use Rattle.line_rule.specs.Laws.{Laws}
-use Rattle.line_rule.specs.Rule.{InChain, AllLinked, AllTaken, hold, InPhase, InMode, Listed, InSecond, hold_at, HasCut, untold}
+use Rattle.line_rule.specs.Rule.{InChain, AllLinked, AllTaken, hold, InPhase, InMode, Listed, InSecond, hold_at, HasCut, due_untold}
 use Rattle.line_rule.specs.Events.{exits, Core, grouped}
 use Rattle.line_rule.specs.SecondList.{second_list_of}
 use Rattle.line_rule.specs.Steps.{Lists, Stays, HappensWhere, IsBoundary, IsNext, now_of, IsNow, StepIs}
-use Rattle.line_rule.specs.Plays.{Sat, At, walking, in_hand, debt, slots_of, Walks, AtWith, parting, onward, marked_off, freed, WalksMarked, traced_marked, cut_marked}
+use Rattle.line_rule.specs.Plays.{Sat, At, lead_with_walk, in_hand, debt, slots_of, Walks, AtWith, squad_at_cut, back_after_log, after_mark, after_free, WalksMarked, after_read_older_marked, after_cut_behind_mark}
 use Rattle.line_rule.proofs.Chains.{put, put_at, put_here, put_else, links_same, stand_change, linked_change, taken_change, owed_change}
 use Rattle.line_rule.proofs.Exits.{group_handled, owing_stays, owing_grows}
 use Rattle.line_rule.proofs.Accounts.{marks_now, frees_now, recuts_now}
@@ -41,12 +41,12 @@ use Rattle.line_rule.proofs.Enters.{one_hold}
 use Rattle.line_rule.proofs.Leads.{all_below, one_lead, lead_in, leader, walks_now, same_last, middle, one_leads}
 use Rattle.line_rule.proofs.Leaves.{same_group, others_of, shared_more, own_owed, all_owed, else_owed, else_due, else_row, done_none}
 
-module _ {Q P L M : Type 0} (stands : Laws Q P L M) (n : ℕ) where
-  module _ (from : List (Handling Q P)) (slots id : ℕ) (me : Sat Q P L M) (c old : ℕ) (lead : Lead Q P) (mine : List (Q × P)) (said : Option (Content Q P L M)) (mid : At c (Leading lead) mine me) (is_old : old ≡ newest (in_hand lead)) (all : lead.taken ≡ lead.group)
+module _ {Request Reply Log Right : Type 0} (stands : Laws Request Reply Log Right) (n : ℕ) where
+  module _ (from : List (Handling Request Reply)) (slots id : ℕ) (me : Sat Request Reply Log Right) (c old : ℕ) (lead : Lead Request Reply) (mine : List (Request × Reply)) (said : Option (LineSlot Request Reply Log Right)) (mid : At c (Leading lead) mine me) (is_old : old ≡ newest (in_hand lead)) (all : lead.taken ≡ lead.group)
       (s : St stands n) (r : Listed stands n s) (at : get_elem? s.views id ≡ some me.0) (hit : get_or s.words 0 0 ≡ old) where
-    marks_last : Goes stands n (HappensWhere old (IsBoundary c (parting lead from))) s r 0 id me (marked_off from (step slots 0 old 255 said) me) 255
+    marks_last : Goes stands n (HappensWhere old (IsBoundary c (squad_at_cut lead from))) s r 0 id me (after_mark from (step slots 0 old 255 said) me) 255
     marks_last =
-        let h : Hold Q P = hold c (Leading lead) mine in
+        let h : LineHold Request Reply = hold c (Leading lead) mine in
         let at' : get_elem? s.views id ≡ some (h ∷ []) = at ∙ ap some mid in
         let fit = (r.seats id (h ∷ []) at').0 in
         let f = leader stands n s r c lead fit.1 fit.2 fit.4 in
@@ -57,11 +57,11 @@ module _ {Q P L M : Type 0} (stands : Laws Q P L M) (n : ℕ) where
         let hand_apart : Distinct r.hand = subst Distinct fit.4.4 (distinct_front lead.taken (lead.own ∷ []) (distinct_back f.queue (in_hand lead) whole)) in
         let none_newer : f.queue ≡ [] = none_before_group f.queue lead.taken lead.own whole ((λ i. newest_from (sym f.base i) (sym f.parts i)) ∙ (sym r.newest_is ∙ (hit ∙ is_old))) in
         let ws : List ℕ = set s.words 0 255 in
-        let g : Squad Q P = parting lead from in
-        let h' : Hold Q P = hold_at c (Marking (walking lead [])) mine (Parting g 0) in
+        let g : Squad Request Reply = squad_at_cut lead from in
+        let h' : LineHold Request Reply = hold_at c (Marking (lead_with_walk lead [])) mine (Parting g 0) in
         let same : (j : ℕ) → j ≢ 0 → get_or ws j 0 ≡ get_or s.words j 0 = λ j ne. get_or-set_other s.words 0 j 255 0 (λ e. ne (omega arith)) in
-        let ph : Phase Q P = leads lead.own in
-        let phase' : ℕ → Phase Q P = put r.phase c ph in
+        let ph : Phase Request Reply = leads lead.own in
+        let phase' : ℕ → Phase Request Reply = put r.phase c ph in
         let here : phase' c ≡ ph = put_here r.phase c ph in
         let acc = marks_now stands.bound r.line r.handled r.mode r.account c lead.group lead.own led_c (f.parts ∙ (λ i. none_newer i ++ (all i ++ lead.own ∷ []))) in (
           h' ∷ [],
@@ -69,7 +69,7 @@ module _ {Q P L M : Type 0} (stands : Laws Q P L M) (n : ℕ) where
           tt,
           (
             ((acc.0.queue, acc.0.log, r.handled, acc.0.owing), second_list_of (parts_two r.two c g 0)),
-            ((λ _. is_boundary r.two c g _ _ acc.1 (sym (ap (λ (y : Core Q P). y.1) acc.1) ∙ (acc.2 ∙ ap (grouped lead.own) (sym all))) fit.5.0 f.own_by), λ miss. absurd (miss hit)),
+            ((λ _. is_boundary r.two c g _ _ acc.1 (sym (ap (λ (y : Core Request Reply). y.1) acc.1) ∙ (acc.2 ∙ ap (grouped lead.own) (sym all))) fit.5.0 f.own_by), λ miss. absurd (miss hit)),
             moved stands n s r c id ws s.homes h h' [] r.hand r.handled (marked c) ph r.due r.told (parts_two r.two c g 0) record {
               at = at';
               same_client = refl;
@@ -83,7 +83,7 @@ module _ {Q P L M : Type 0} (stands : Laws Q P L M) (n : ℕ) where
               other_rows = λ j ne lo' _ ok. row_stays stands n s.words ws s.homes s.homes j (r.due j) (same (state_at j) (λ e. omega arith)) (same (older_at j) (λ e. omega arith)) refl (r.phase j) ok;
               row = f.own_by;
               log_is = (tt, (lead.own, here, f.own_by, fit.1, fit.2), taken_change r.phase r.due r.due c ph c r.hand (λ e bad. absurd (cc)) (λ _ _. refl) (subst (AllTaken r.phase r.due c) fit.4.4 f.members), f.own_due, hand_apart);
-              one_chosen = λ j e. put_at r.phase c ph (λ i g. g ≡ chosen e → Path (Mode Q) (marked c) (waits i)) j (λ _ bad. absurd (cc)) (λ _ ok. let was : r.mode ≡ waits j = r.one_chosen j e ok in absurd (cc));
+              one_chosen = λ j e. put_at r.phase c ph (λ i g. g ≡ chosen e → Path (Mode Request) (marked c) (waits i)) j (λ _ bad. absurd (cc)) (λ _ ok. let was : r.mode ≡ waits j = r.one_chosen j e ok in absurd (cc));
               shared_out = r.shared_out;
               kept = r.kept;
               coded = λ e is. r.coded c e (subst (InChain e) (sym now) is);
@@ -91,7 +91,7 @@ module _ {Q P L M : Type 0} (stands : Laws Q P L M) (n : ℕ) where
               goes_on = ([], acc.3);
               recalls = tt;
               has_cut = (lead.own, f.own_by, here, acc.2 ∙ ap (grouped lead.own) (sym all ∙ fit.4.4));
-              owing_is = owing_stays r.phase r.due r.account.owing r.owing_is acc.0.owing r.due c ph (ap (λ (y : Core Q P). y.3) acc.1) (ap (λ f. untold f (r.due c)) (sym now)) (λ _ _. refl);
+              owing_is = owing_stays r.phase r.due r.account.owing r.owing_is acc.0.owing r.due c ph (ap (λ (y : Core Request Reply). y.3) acc.1) (ap (λ f. due_untold f (r.due c)) (sym now)) (λ _ _. refl);
               second = second_parts stands n ws s.homes phase' (marked c) (stands.given r.handled) r.two (
                   second_same stands n s.words ws s.homes s.homes r.phase c ph r.mode (marked c) (stands.given r.handled) (stands.given r.handled) r.two (inl now) same refl (λ j h. absurd h) (λ j h. inl (subst (Holds j) (sym led_c) h)) (λ j _ h. subst (Holds j) led_c h) (λ v. v) r.second
                   ) c g fit.5.0 f.own_by here (taken_with phase' r.due c lead.taken (taken_change r.phase r.due r.due c ph c lead.taken (λ e bad. absurd (cc)) (λ _ _. refl) f.members))
@@ -110,12 +110,12 @@ module _ {Q P L M : Type 0} (stands : Laws Q P L M) (n : ℕ) where
           ),
           λ c' lead' mine' mid'.
               let e = one_hold c c' (Leading lead) (Leading lead') mine mine' me.0 mid mid' in
-              ((λ _. ((λ i. hold_at (e.0 i) (Marking (walking (one_lead lead lead' e.1 i) [])) (e.2 i) (Parting (parting (one_lead lead lead' e.1 i) from) 0) ∷ []), refl)), λ miss. absurd (miss hit)),
+              ((λ _. ((λ i. hold_at (e.0 i) (Marking (lead_with_walk (one_lead lead lead' e.1 i) [])) (e.2 i) (Parting (squad_at_cut (one_lead lead lead' e.1 i) from) 0) ∷ []), refl)), λ miss. absurd (miss hit)),
         )
 
-  pub marks_is : (from : List (Handling Q P)) (slots id : ℕ) (me : Sat Q P L M) (c old : ℕ) (lead : Lead Q P) (mine : List (Q × P)) (said : Option (Content Q P L M)) → At c (Leading lead) mine me → old ≡ newest (in_hand lead) → lead.taken ≡ lead.group
-      → StepIs stands n (HappensWhere old (IsBoundary c (parting lead from))) slots id me 0 (λ y. either (eqb y old) 255 y) (marked_off from (step slots 0 old 255 said) me)
-  marks_is from slots id me c old lead mine said mid is_old all s r long at fits = exchanged (get_or s.words 0 0) old 255 (Goes stands n (HappensWhere old (IsBoundary c (parting lead from))) s r 0 id me (marked_off from (step slots 0 old 255 said) me))
+  pub marks_is : (from : List (Handling Request Reply)) (slots id : ℕ) (me : Sat Request Reply Log Right) (c old : ℕ) (lead : Lead Request Reply) (mine : List (Request × Reply)) (said : Option (LineSlot Request Reply Log Right)) → At c (Leading lead) mine me → old ≡ newest (in_hand lead) → lead.taken ≡ lead.group
+      → StepIs stands n (HappensWhere old (IsBoundary c (squad_at_cut lead from))) slots id me 0 (λ y. either (eqb y old) 255 y) (after_mark from (step slots 0 old 255 said) me)
+  marks_is from slots id me c old lead mine said mid is_old all s r long at fits = exchanged (get_or s.words 0 0) old 255 (Goes stands n (HappensWhere old (IsBoundary c (squad_at_cut lead from))) s r 0 id me (after_mark from (step slots 0 old 255 said) me))
       (λ hit. marks_last from slots id me c old lead mine said mid is_old all s r at hit)
       (λ miss.
       let t = walks_now stands n slots id me c lead mine mid s r at long in (
@@ -125,24 +125,24 @@ module _ {Q P L M : Type 0} (stands : Laws Q P L M) (n : ℕ) where
         (t.1.0, ((λ hit. absurd (miss hit)), λ _. t.1.1), t.1.2),
         λ c' lead' mine' mid'. let e = one_hold c c' (Leading lead) (Leading lead') mine mine' me.0 mid mid' in (
           (λ hit. absurd (miss hit)),
-          λ _. subst (λ (z : ℕ × Lead Q P × List (Q × P)). Walks slots z.0 z.1 z.2 (get_or s.words 0 0) me (t.0, me.1)) (λ i. (e.0 i, one_lead lead lead' e.1 i, e.2 i)) t.2,
+          λ _. subst (λ (z : ℕ × Lead Request Reply × List (Request × Reply)). Walks slots z.0 z.1 z.2 (get_or s.words 0 0) me (t.0, me.1)) (λ i. (e.0 i, one_lead lead lead' e.1 i, e.2 i)) t.2,
         ),
       ))
 
-  pub marks : (from : List (Handling Q P)) (slots id : ℕ) (me : Sat Q P L M) (c old : ℕ) (lead : Lead Q P) (mine : List (Q × P)) (said : Option (Content Q P L M)) → At c (Leading lead) mine me → old ≡ newest (in_hand lead) → lead.taken ≡ lead.group
-      → Allows (Listed stands n) slots id me 0 (λ y. either (eqb y old) 255 y) (marked_off from (step slots 0 old 255 said) me)
-  marks from slots id me c old lead mine said mid is_old all = allows stands n (HappensWhere old (IsBoundary c (parting lead from))) slots id me 0 (λ y. either (eqb y old) 255 y) (marked_off from (step slots 0 old 255 said) me) (marks_is from slots id me c old lead mine said mid is_old all)
+  pub marks : (from : List (Handling Request Reply)) (slots id : ℕ) (me : Sat Request Reply Log Right) (c old : ℕ) (lead : Lead Request Reply) (mine : List (Request × Reply)) (said : Option (LineSlot Request Reply Log Right)) → At c (Leading lead) mine me → old ≡ newest (in_hand lead) → lead.taken ≡ lead.group
+      → Allows (Listed stands n) slots id me 0 (λ y. either (eqb y old) 255 y) (after_mark from (step slots 0 old 255 said) me)
+  marks from slots id me c old lead mine said mid is_old all = allows stands n (HappensWhere old (IsBoundary c (squad_at_cut lead from))) slots id me 0 (λ y. either (eqb y old) 255 y) (after_mark from (step slots 0 old 255 said) me) (marks_is from slots id me c old lead mine said mid is_old all)
 
-  none_behind : (n b : ℕ) (line : List (Entry Q)) → n < 255 → Within n line → newest_from b line ≡ 255 → line ≡ []
+  none_behind : (n b : ℕ) (line : List (QueuedWriter Request)) → n < 255 → Within n line → newest_from b line ≡ 255 → line ≡ []
   none_behind m b [] few ok is = refl
   none_behind m b (e ∷ es) few ok is = let h = ok.1 in absurd (omega arith)
 
-  pub frees_is : (slots id : ℕ) (me : Sat Q P L M) (c : ℕ) (lead : Lead Q P) (mine : List (Q × P)) (b : Back Q P) (gs : List (Entry Q × P)) (p : P) (l : L) (tail : List (ℕ × Content Q P L M)) (said : Option (Content Q P L M)) → AtWith c (Marking lead) mine b me → heads gs ≡ lead.taken
-      → me.1 ≡ (0, Log l) ∷ slots_of gs ((c, Told p) ∷ tail) → stands.logs l (lead.seen ++ all_answers lead.own p gs) → Hands stands n b lead.seen (lead.seen ++ all_answers lead.own p gs)
-      → StepIs stands n (HappensWhere 255 (IsNext b lead.own p gs)) slots id me 0 (λ y. either (eqb y 255) 0 y) (freed (step slots 0 255 0 said) me)
-  frees_is slots id me c lead mine b gs p l tail said mid group slot stood unnumbered s r long at fits = exchanged (get_or s.words 0 0) 255 0 (Goes stands n (HappensWhere 255 (IsNext b lead.own p gs)) s r 0 id me (freed (step slots 0 255 0 said) me))
+  pub frees_is : (slots id : ℕ) (me : Sat Request Reply Log Right) (c : ℕ) (lead : Lead Request Reply) (mine : List (Request × Reply)) (b : Back Request Reply) (gs : List (QueuedWriter Request × Reply)) (p : Reply) (l : Log) (tail : List (ℕ × LineSlot Request Reply Log Right)) (said : Option (LineSlot Request Reply Log Right)) → AtWith c (Marking lead) mine b me → heads gs ≡ lead.taken
+      → me.1 ≡ (0, TheLog l) ∷ slots_of gs ((c, Told p) ∷ tail) → stands.logs l (lead.seen ++ all_answers lead.own p gs) → Hands stands n b lead.seen (lead.seen ++ all_answers lead.own p gs)
+      → StepIs stands n (HappensWhere 255 (IsNext b lead.own p gs)) slots id me 0 (λ y. either (eqb y 255) 0 y) (after_free (step slots 0 255 0 said) me)
+  frees_is slots id me c lead mine b gs p l tail said mid group slot stood unnumbered s r long at fits = exchanged (get_or s.words 0 0) 255 0 (Goes stands n (HappensWhere 255 (IsNext b lead.own p gs)) s r 0 id me (after_free (step slots 0 255 0 said) me))
       (λ hit.
-      let h : Hold Q P = hold_at c (Marking lead) mine b in
+      let h : LineHold Request Reply = hold_at c (Marking lead) mine b in
       let at' : get_elem? s.views id ≡ some (h ∷ []) = at ∙ ap some mid in
       let fit = (r.seats id (h ∷ []) at').0 in
       let is_marked : r.mode ≡ marked c = fit.4.0 in
@@ -155,37 +155,37 @@ module _ {Q P L M : Type 0} (stands : Laws Q P L M) (n : ℕ) where
       let wide : length s.words ≡ 2 * n + 4 = r.wide in
       let many : length s.homes ≡ n + 2 = r.many in
       let ws : List ℕ = set s.words 0 0 in
-      let hs = set s.homes 0 (some (Log l)) in
-      let d : Debt Q P = debt gs lead.own p in
-      let h' : Hold Q P = hold_at c (Settling d) mine (onward b) in
+      let hs = set s.homes 0 (some (TheLog l)) in
+      let d : Debt Request Reply = debt gs lead.own p in
+      let h' : LineHold Request Reply = hold_at c (Settling d) mine (back_after_log b) in
       let same : (j : ℕ) → j ≢ 0 → get_or ws j 0 ≡ get_or s.words j 0 = λ j ne. get_or-set_other s.words 0 j 0 0 (λ e. ne (omega arith)) in
-      let ph : Phase Q P = leads lead.own in
-      let phase' : ℕ → Phase Q P = put r.phase c ph in
+      let ph : Phase Request Reply = leads lead.own in
+      let phase' : ℕ → Phase Request Reply = put r.phase c ph in
       let here : phase' c ≡ ph = put_here r.phase c ph in
-      let more : List (Handling Q P) = all_answers lead.own p gs in
-      let owe : ℕ → List (Q × P) = λ k. r.due k ++ of k more in
-      let hands : Hands stands n b r.handled (r.handled ++ more) = subst (λ (z : List (Handling Q P)). Hands stands n b z (z ++ more)) fit.4.3 unnumbered in
+      let more : List (Handling Request Reply) = all_answers lead.own p gs in
+      let owe : ℕ → List (Request × Reply) = λ k. r.due k ++ of k more in
+      let hands : Hands stands n b r.handled (r.handled ++ more) = subst (λ (z : List (Handling Request Reply)). Hands stands n b z (z ++ more)) fit.4.3 unnumbered in
       let two' = onward_two stands n b r.two in
       let was_cut = subst (HasCut r.account.log r.hand r.phase) is_marked r.has_cut in
       let same_lead : was_cut.0 ≡ lead.own = one_leads was_cut.0 lead.own (sym was_cut.2 ∙ now) in
       let acc = frees_now stands.bound r.line r.handled r.mode r.account c lead.own (heads gs) more is_marked (none_behind n (base_of r.mode) r.line r.few r.within (sym r.newest_is ∙ hit)) (was_cut.3 ∙ (λ i. grouped (same_lead i) (hand_is i))) (group_handled lead.own p gs) in
-      let now_is : Lists Q P = ((acc.0.queue, acc.0.log, r.handled ++ more, acc.0.owing), second_list_of two') in
+      let now_is : Lists Request Reply = ((acc.0.queue, acc.0.log, r.handled ++ more, acc.0.owing), second_list_of two') in
       let moved_to : IsNow stands n now_is (record { words = ws; homes = hs; views = set s.views id (h' ∷ []) }) =
       moved stands n s r c id ws hs h h' [] [] (r.handled ++ more) open_ ph owe r.told two' record {
         at = at';
         same_client = refl;
         wide = length-set s.words 0 0;
-        many = length-set s.homes 0 (some (Log l));
+        many = length-set s.homes 0 (some (TheLog l));
         newest_is = get_or-set_same s.words 0 0 0 (omega arith);
         links = tt;
         distinct = tt;
         within = tt;
         stand = tt;
-        other_rows = λ j ne lo' _ ok. row_stays stands n s.words ws s.homes hs j (owe j) (same (state_at j) (λ e. omega arith)) (same (older_at j) (λ e. omega arith)) (set_else s.homes 0 j (some (Log l)) (λ e. omega arith)) (r.phase j)
+        other_rows = λ j ne lo' _ ok. row_stays stands n s.words ws s.homes hs j (owe j) (same (state_at j) (λ e. omega arith)) (same (older_at j) (λ e. omega arith)) (set_else s.homes 0 j (some (TheLog l)) (λ e. omega arith)) (r.phase j)
             (else_row stands n s r c lead.own gs p by_c now members m.3 apart s.words s.homes j ne ok);
         row = by_c;
-        log_is = (refl, refl, (l, set_here s.homes 0 (some (Log l)) (omega arith), subst (λ z. stands.logs l (z ++ more)) fit.4.3 stood));
-        one_chosen = λ j e. put_at r.phase c ph (λ i g. g ≡ chosen e → Path (Mode Q) (open_) (waits i)) j (λ _ bad. absurd (cc)) (λ _ ok. let was : r.mode ≡ waits j = r.one_chosen j e ok in absurd (cc));
+        log_is = (refl, refl, (l, set_here s.homes 0 (some (TheLog l)) (omega arith), subst (λ z. stands.logs l (z ++ more)) fit.4.3 stood));
+        one_chosen = λ j e. put_at r.phase c ph (λ i g. g ≡ chosen e → Path (Mode Request) (open_) (waits i)) j (λ _ bad. absurd (cc)) (λ _ ok. let was : r.mode ≡ waits j = r.one_chosen j e ok in absurd (cc));
         shared_out = shared_more stands n s r c lead.own gs p by_c now members m.3 apart;
         kept = stands.keeps l (r.handled ++ more) (subst (λ z. stands.logs l (z ++ more)) fit.4.3 stood);
         coded = λ e is. r.coded c e (subst (InChain e) (sym now) is);
@@ -193,8 +193,8 @@ module _ {Q P L M : Type 0} (stands : Laws Q P L M) (n : ℕ) where
         goes_on = (exits more ∷ [], acc.2);
         recalls = tt;
         has_cut = tt;
-        owing_is = owing_grows r.phase r.due r.account.owing r.owing_is acc.0.owing more c ph (ap (λ (y : Core Q P). y.3) acc.1.1) (λ d. ap (λ f. untold f d) (sym now)) (done_none stands n s r c lead.own gs p by_c now members m.3 apart);
-        second = second_same stands n s.words ws s.homes hs r.phase c ph r.mode open_ (stands.given (r.handled ++ more)) (stands.given (r.handled ++ more)) two' (inl now) same (set_else s.homes 0 (n + 1) (some (Log l)) (λ e. omega arith)) (λ k h. absurd h) (λ k h. absurd h) (λ k is h. absurd (onward_free stands n b r.two c r.handled (r.handled ++ more) fit.5 hands (is ∙ ap ahead (sym (subst (Holds k) is_marked h))))) (λ v. v) (second_onward stands n b s.words s.homes r.phase r.mode r.two c r.handled (r.handled ++ more) fit.5 hands r.second);
+        owing_is = owing_grows r.phase r.due r.account.owing r.owing_is acc.0.owing more c ph (ap (λ (y : Core Request Reply). y.3) acc.1.1) (λ d. ap (λ f. due_untold f d) (sym now)) (done_none stands n s r c lead.own gs p by_c now members m.3 apart);
+        second = second_same stands n s.words ws s.homes hs r.phase c ph r.mode open_ (stands.given (r.handled ++ more)) (stands.given (r.handled ++ more)) two' (inl now) same (set_else s.homes 0 (n + 1) (some (TheLog l)) (λ e. omega arith)) (λ k h. absurd h) (λ k h. absurd h) (λ k is h. absurd (onward_free stands n b r.two c r.handled (r.handled ++ more) fit.5 hands (is ∙ ap ahead (sym (subst (Holds k) is_marked h))))) (λ v. v) (second_onward stands n b s.words s.homes r.phase r.mode r.two c r.handled (r.handled ++ more) fit.5 hands r.second);
         back = onward_back stands n b r.two c r.handled (r.handled ++ more) fit.5 hands;
         else_back = onward_else stands n b r.two c fit.5;
         told_else = λ _ _. refl;
@@ -214,21 +214,21 @@ module _ {Q P L M : Type 0} (stands : Laws Q P L M) (n : ℕ) where
         h' ∷ [],
         gives,
         tt,
-        (now_is, ((λ _. (acc.1, onward_second stands n b r.two, is_ahead stands n b r.two c lead.own.by by_c fit.5)), λ miss. absurd (miss hit)), subst (λ (t : List (ℕ × Content Q P L M)). IsNow stands n now_is (stepped s 0 0 id t (h' ∷ []) gives)) (sym slot) moved_to),
+        (now_is, ((λ _. (acc.1, onward_second stands n b r.two, is_ahead stands n b r.two c lead.own.by by_c fit.5)), λ miss. absurd (miss hit)), subst (λ (t : List (ℕ × LineSlot Request Reply Log Right)). IsNow stands n now_is (stepped s 0 0 id t (h' ∷ []) gives)) (sym slot) moved_to),
         λ c' lead' mine' b' gs' p' l' tail' mid' group' slot'.
             let e = one_hold_at c c' (Marking lead) (Marking lead') mine mine' b b' me.0 mid mid' in
             let le : lead ≡ lead' = ap (lead_in lead) e.1 in
-            let t = same_group c c' p p' gs gs' tail tail' (group ∙ (ap (λ (z : Lead Q P). z.taken) le ∙ sym group')) (ap others_of (sym slot ∙ slot')) in (
-              (λ _. ((λ i. hold_at (e.0 i) (Settling (debt (t.0 i) (le i).own (t.1 i))) (e.2 i) (onward (e.3 i)) ∷ []), ap (λ z. carried_after z gives) slot')),
+            let t = same_group c c' p p' gs gs' tail tail' (group ∙ (ap (λ (z : Lead Request Reply). z.taken) le ∙ sym group')) (ap others_of (sym slot ∙ slot')) in (
+              (λ _. ((λ i. hold_at (e.0 i) (Settling (debt (t.0 i) (le i).own (t.1 i))) (e.2 i) (back_after_log (e.3 i)) ∷ []), ap (λ z. carried_after z gives) slot')),
               λ miss. absurd (miss hit),
             ),
       ))
       (λ miss.
-      let h : Hold Q P = hold_at c (Marking lead) mine b in
+      let h : LineHold Request Reply = hold_at c (Marking lead) mine b in
       let at' : get_elem? s.views id ≡ some (h ∷ []) = at ∙ ap some mid in
       let fit = (r.seats id (h ∷ []) at').0 in
       let base : base_of r.mode ≡ 255 = ap base_of fit.4.0 in
-      let w : List (Hold Q P) = hold_at c (Marking (walking lead r.line)) mine b ∷ [] in (
+      let w : List (LineHold Request Reply) = hold_at c (Marking (lead_with_walk lead r.line)) mine b ∷ [] in (
         w,
         keeps,
         tt,
@@ -236,11 +236,11 @@ module _ {Q P L M : Type 0} (stands : Laws Q P L M) (n : ℕ) where
           now_of stands n s r,
           ((λ hit. absurd (miss hit)), λ _. refl),
           subst (λ (z : List ℕ). IsNow stands n (now_of stands n s r) (record { words = z; homes = s.homes; views = set s.views id w })) (sym (set-get_or s.words 0 0))
-              (reviewed stands n s r id h (Marking (walking lead r.line)) at' (fit.4.0, fit.4.1, ([], refl), fit.4.3, fit.4.4) tt),
+              (reviewed stands n s r id h (Marking (lead_with_walk lead r.line)) at' (fit.4.0, fit.4.1, ([], refl), fit.4.3, fit.4.4) tt),
         ),
         λ c' lead' mine' b' gs' p' l' tail' mid' group' slot'. let e = one_hold_at c c' (Marking lead) (Marking lead') mine mine' b b' me.0 mid mid' in (
           (λ hit. absurd (miss hit)),
-          λ _. subst (λ (z : ℕ × Lead Q P × List (Q × P) × Back Q P). WalksMarked slots z.0 z.1 z.2 z.3 (get_or s.words 0 0) me (w, me.1)) (λ i. (e.0 i, ap (lead_in lead) e.1 i, e.2 i, e.3 i)) (
+          λ _. subst (λ (z : ℕ × Lead Request Reply × List (Request × Reply) × Back Request Reply). WalksMarked slots z.0 z.1 z.2 z.3 (get_or s.words 0 0) me (w, me.1)) (λ i. (e.0 i, ap (lead_in lead) e.1 i, e.2 i, e.3 i)) (
             r.line,
             refl,
             refl,
@@ -251,21 +251,21 @@ module _ {Q P L M : Type 0} (stands : Laws Q P L M) (n : ℕ) where
         ),
       ))
 
-  pub frees : (slots id : ℕ) (me : Sat Q P L M) (c : ℕ) (lead : Lead Q P) (mine : List (Q × P)) (b : Back Q P) (gs : List (Entry Q × P)) (p : P) (l : L) (tail : List (ℕ × Content Q P L M)) (said : Option (Content Q P L M)) → AtWith c (Marking lead) mine b me → heads gs ≡ lead.taken
-      → me.1 ≡ (0, Log l) ∷ slots_of gs ((c, Told p) ∷ tail) → stands.logs l (lead.seen ++ all_answers lead.own p gs) → Hands stands n b lead.seen (lead.seen ++ all_answers lead.own p gs)
-      → Allows (Listed stands n) slots id me 0 (λ y. either (eqb y 255) 0 y) (freed (step slots 0 255 0 said) me)
-  frees slots id me c lead mine b gs p l tail said mid group slot stood unnumbered = allows stands n (HappensWhere 255 (IsNext b lead.own p gs)) slots id me 0 (λ y. either (eqb y 255) 0 y) (freed (step slots 0 255 0 said) me) (frees_is slots id me c lead mine b gs p l tail said mid group slot stood unnumbered)
+  pub frees : (slots id : ℕ) (me : Sat Request Reply Log Right) (c : ℕ) (lead : Lead Request Reply) (mine : List (Request × Reply)) (b : Back Request Reply) (gs : List (QueuedWriter Request × Reply)) (p : Reply) (l : Log) (tail : List (ℕ × LineSlot Request Reply Log Right)) (said : Option (LineSlot Request Reply Log Right)) → AtWith c (Marking lead) mine b me → heads gs ≡ lead.taken
+      → me.1 ≡ (0, TheLog l) ∷ slots_of gs ((c, Told p) ∷ tail) → stands.logs l (lead.seen ++ all_answers lead.own p gs) → Hands stands n b lead.seen (lead.seen ++ all_answers lead.own p gs)
+      → Allows (Listed stands n) slots id me 0 (λ y. either (eqb y 255) 0 y) (after_free (step slots 0 255 0 said) me)
+  frees slots id me c lead mine b gs p l tail said mid group slot stood unnumbered = allows stands n (HappensWhere 255 (IsNext b lead.own p gs)) slots id me 0 (λ y. either (eqb y 255) 0 y) (after_free (step slots 0 255 0 said) me) (frees_is slots id me c lead mine b gs p l tail said mid group slot stood unnumbered)
 
-  links_from_at : (b : ℕ) (words : List ℕ) (a : List (Entry Q)) (x : Entry Q) (t : List (Entry Q)) → LinksFrom b words (a ++ x ∷ t) → get_or words (older_at x.by) 0 ≡ pack (newest_from b t) x.code
+  links_from_at : (b : ℕ) (words : List ℕ) (a : List (QueuedWriter Request)) (x : QueuedWriter Request) (t : List (QueuedWriter Request)) → LinksFrom b words (a ++ x ∷ t) → get_or words (older_at x.by) 0 ≡ pack (newest_from b t) x.code
   links_from_at b words [] x t ok = ok.0
   links_from_at b words (e ∷ es) x t ok = links_from_at b words es x t ok.1
 
-  newest_snoc : (b d : ℕ) (q : List (Entry Q)) (x : Entry Q) → newest_from b (q ++ x ∷ []) ≡ newest_from d (q ++ x ∷ [])
+  newest_snoc : (b d : ℕ) (q : List (QueuedWriter Request)) (x : QueuedWriter Request) → newest_from b (q ++ x ∷ []) ≡ newest_from d (q ++ x ∷ [])
   newest_snoc b d [] x = refl
   newest_snoc b d (e ∷ es) x = refl
 
   -- a link of the walk behind the marker
-  pub traces_marked_is : (slots id : ℕ) (me : Sat Q P L M) (k : ℕ) → StepIs stands n (λ _. Stays) slots id me k (λ y. y) (traced_marked (step slots k 0 0 none) me)
+  pub traces_marked_is : (slots id : ℕ) (me : Sat Request Reply Log Right) (k : ℕ) → StepIs stands n (λ _. Stays) slots id me k (λ y. y) (after_read_older_marked (step slots k 0 0 none) me)
   traces_marked_is slots id me k s r long at fits = (
     me.0,
     keeps,
@@ -281,14 +281,14 @@ module _ {Q P L M : Type 0} (stands : Laws Q P L M) (n : ℕ) where
     ),
   )
 
-  pub traces_marked : (slots id : ℕ) (me : Sat Q P L M) (k : ℕ) → Allows (Listed stands n) slots id me k (λ y. y) (traced_marked (step slots k 0 0 none) me)
-  traces_marked slots id me k = allows stands n (λ _. Stays) slots id me k (λ y. y) (traced_marked (step slots k 0 0 none) me) (traces_marked_is slots id me k)
+  pub traces_marked : (slots id : ℕ) (me : Sat Request Reply Log Right) (k : ℕ) → Allows (Listed stands n) slots id me k (λ y. y) (after_read_older_marked (step slots k 0 0 none) me)
+  traces_marked slots id me k = allows stands n (λ _. Stays) slots id me k (λ y. y) (after_read_older_marked (step slots k 0 0 none) me) (traces_marked_is slots id me k)
 
   -- the link of the oldest writer behind the marker is cleared
-  pub cuts_marked_is : (slots id : ℕ) (me : Sat Q P L M) (c k new : ℕ) (lead : Lead Q P) (mine : List (Q × P)) (b : Back Q P) (pre : List (Entry Q)) (x : Entry Q) → AtWith c (Marking lead) mine b me → lead.walk ≡ pre ++ x ∷ [] → k ≡ older_at x.by → new ≡ pack 0 x.code
-      → StepIs stands n (λ _. Stays) slots id me k (λ _. new) (λ _. cut_marked (step slots k new 0 none) me new)
+  pub cuts_marked_is : (slots id : ℕ) (me : Sat Request Reply Log Right) (c k new : ℕ) (lead : Lead Request Reply) (mine : List (Request × Reply)) (b : Back Request Reply) (pre : List (QueuedWriter Request)) (x : QueuedWriter Request) → AtWith c (Marking lead) mine b me → lead.walk ≡ pre ++ x ∷ [] → k ≡ older_at x.by → new ≡ pack 0 x.code
+      → StepIs stands n (λ _. Stays) slots id me k (λ _. new) (λ _. after_cut_behind_mark (step slots k new 0 none) me new)
   cuts_marked_is slots id me c k new lead mine b pre x mid is_walk is_word cleared s r long at fits =
-      let h : Hold Q P = hold_at c (Marking lead) mine b in
+      let h : LineHold Request Reply = hold_at c (Marking lead) mine b in
       let at' : get_elem? s.views id ≡ some (h ∷ []) = at ∙ ap some mid in
       let fit = (r.seats id (h ∷ []) at').0 in
       let is_marked : r.mode ≡ marked c = fit.4.0 in
@@ -296,7 +296,7 @@ module _ {Q P L M : Type 0} (stands : Laws Q P L M) (n : ℕ) where
       let m = subst (InMode stands n s.homes r.line r.hand r.handled r.phase r.due) is_marked r.log_is in
       let by_c : lead.own.by ≡ c = subst (InPhase stands s.words s.homes c (r.due c)) now (r.rows c fit.1 fit.2) in
       let ends = fit.4.2 in
-      let q : List (Entry Q) = ends.0 ++ pre in
+      let q : List (QueuedWriter Request) = ends.0 ++ pre in
       let parts : r.line ≡ q ++ x ∷ [] = ends.1 ∙ (ap (λ l. ends.0 ++ l) is_walk ∙ sym (middle ends.0 pre x [])) in
       let queued : AllLinked r.phase (q ++ x ∷ []) = subst (AllLinked r.phase) parts m.0 in
       let now_x : r.phase x.by ≡ linked x = linked_at r.phase q x [] queued in
@@ -309,10 +309,10 @@ module _ {Q P L M : Type 0} (stands : Laws Q P L M) (n : ℕ) where
       let ws : List ℕ = set s.words k new in
       let same : (j : ℕ) → j ≢ k → get_or ws j 0 ≡ get_or s.words j 0 = λ j ne. get_or-set_other s.words k j new 0 (λ e. ne (omega arith)) in
       let same_older : (j : ℕ) → j ≢ x.by → get_or ws (older_at j) 0 ≡ get_or s.words (older_at j) 0 = λ j ne. same (older_at j) (λ e. ne (omega arith)) in
-      let ph : Phase Q P = leads lead.own in
-      let phase' : ℕ → Phase Q P = put r.phase c ph in
+      let ph : Phase Request Reply = leads lead.own in
+      let phase' : ℕ → Phase Request Reply = put r.phase c ph in
       let here : phase' c ≡ ph = put_here r.phase c ph in
-      let h' : Hold Q P = hold_at c (Cutting lead x) mine b in
+      let h' : LineHold Request Reply = hold_at c (Cutting lead x) mine b in
       let row_x : InPhase stands ws s.homes x.by (r.due x.by) (r.phase x.by) =
       let w = subst (InPhase stands s.words s.homes x.by (r.due x.by)) now_x (r.rows x.by lo hi) in
       subst (InPhase stands ws s.homes x.by (r.due x.by)) (sym now_x) (w.0, same (state_at x.by) (λ e. omega arith) ∙ w.1, w.2, w.3) in
@@ -344,14 +344,14 @@ module _ {Q P L M : Type 0} (stands : Laws Q P L M) (n : ℕ) where
               m.3,
               m.4,
             );
-            one_chosen = λ j e. put_at r.phase c ph (λ i g. g ≡ chosen e → Path (Mode Q) (cut c x.by) (waits i)) j (λ _ bad. absurd (cc)) (λ _ ok. let was : r.mode ≡ waits j = r.one_chosen j e ok in absurd (cc));
+            one_chosen = λ j e. put_at r.phase c ph (λ i g. g ≡ chosen e → Path (Mode Request) (cut c x.by) (waits i)) j (λ _ bad. absurd (cc)) (λ _ ok. let was : r.mode ≡ waits j = r.one_chosen j e ok in absurd (cc));
             kept = r.kept;
             coded = λ e is. r.coded c e (subst (InChain e) (sym now) is);
             account = acc.0;
             goes_on = ([], acc.2);
             recalls = tt;
-            has_cut = (was_cut.0, was_cut.1, here ∙ (sym now ∙ was_cut.2), ap (λ (y : Core Q P). y.1) acc.1 ∙ was_cut.3);
-            owing_is = owing_stays r.phase r.due r.account.owing r.owing_is acc.0.owing r.due c ph (ap (λ (y : Core Q P). y.3) acc.1) (ap (λ f. untold f (r.due c)) (sym now)) (λ _ _. refl);
+            has_cut = (was_cut.0, was_cut.1, here ∙ (sym now ∙ was_cut.2), ap (λ (y : Core Request Reply). y.1) acc.1 ∙ was_cut.3);
+            owing_is = owing_stays r.phase r.due r.account.owing r.owing_is acc.0.owing r.due c ph (ap (λ (y : Core Request Reply). y.3) acc.1) (ap (λ f. due_untold f (r.due c)) (sym now)) (λ _ _. refl);
             second = second_stays stands n s.words ws s.homes s.homes r.phase phase' r.mode (cut c x.by) (stands.given r.handled) (stands.given r.handled) r.two (same 1 (λ e. omega arith)) (λ j there. (same_older j (λ e. subst (InSecond r.two.place x.by) now_x (subst (λ (i : ℕ). InSecond r.two.place i (r.phase i)) e there)), (λ _ _. same (state_at j) (λ e. omega arith)), put_same r.phase c ph now j)) (λ j e. sym (same (state_at j) (λ e. omega arith)) ∙ e) refl (λ j h. absurd h) (λ j h. inl (subst (Holds j) (sym is_marked) h)) (λ j _ h. subst (Holds j) is_marked h) (λ v. v) r.second;
             back = fit.5;
             else_back = λ _ _ _ ok. ok;
@@ -368,10 +368,10 @@ module _ {Q P L M : Type 0} (stands : Laws Q P L M) (n : ℕ) where
         λ c' lead' mine' b' pre' x' mid' is_walk' is_word'.
             let e = one_hold_at c c' (Marking lead) (Marking lead') mine mine' b b' me.0 mid mid' in
             let le : lead ≡ lead' = ap (lead_in lead) e.1 in
-            let same_x : x ≡ x' = same_last pre pre' x x' (sym is_walk ∙ (ap (λ (l : Lead Q P). l.walk) le ∙ is_walk')) in
+            let same_x : x ≡ x' = same_last pre pre' x x' (sym is_walk ∙ (ap (λ (l : Lead Request Reply). l.walk) le ∙ is_walk')) in
             ((λ i. hold_at (e.0 i) (Cutting (le i) (same_x i)) (e.2 i) (e.3 i) ∷ []), refl),
       )
 
-  pub cuts_marked : (slots id : ℕ) (me : Sat Q P L M) (c k new : ℕ) (lead : Lead Q P) (mine : List (Q × P)) (b : Back Q P) (pre : List (Entry Q)) (x : Entry Q) → AtWith c (Marking lead) mine b me → lead.walk ≡ pre ++ x ∷ [] → k ≡ older_at x.by → new ≡ pack 0 x.code
-      → Allows (Listed stands n) slots id me k (λ _. new) (λ _. cut_marked (step slots k new 0 none) me new)
-  cuts_marked slots id me c k new lead mine b pre x mid is_walk is_word cleared = allows stands n (λ _. Stays) slots id me k (λ _. new) (λ _. cut_marked (step slots k new 0 none) me new) (cuts_marked_is slots id me c k new lead mine b pre x mid is_walk is_word cleared)
+  pub cuts_marked : (slots id : ℕ) (me : Sat Request Reply Log Right) (c k new : ℕ) (lead : Lead Request Reply) (mine : List (Request × Reply)) (b : Back Request Reply) (pre : List (QueuedWriter Request)) (x : QueuedWriter Request) → AtWith c (Marking lead) mine b me → lead.walk ≡ pre ++ x ∷ [] → k ≡ older_at x.by → new ≡ pack 0 x.code
+      → Allows (Listed stands n) slots id me k (λ _. new) (λ _. after_cut_behind_mark (step slots k new 0 none) me new)
+  cuts_marked slots id me c k new lead mine b pre x mid is_walk is_word cleared = allows stands n (λ _. Stays) slots id me k (λ _. new) (λ _. after_cut_behind_mark (step slots k new 0 none) me new) (cuts_marked_is slots id me c k new lead mine b pre x mid is_walk is_word cleared)

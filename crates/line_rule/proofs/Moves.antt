@@ -5,28 +5,28 @@ use lib.ListN.{get_elem?}
 use lib.Seq.{set-get_or}
 use Rattle.atomic_table.specs.Table.{State, Act, keeps, Valid, carried_after, stepped, Allows}
 use Rattle.atomic_table.proofs.Lists.{at_set, set_again}
-use Rattle.line_rule.specs.declared.view.Entry.{Entry}
+use Rattle.line_rule.specs.declared.view.QueuedWriter.{QueuedWriter}
 use Rattle.line_rule.specs.declared.view.Handling.{Handling}
-use Rattle.line_rule.specs.declared.view.Hold.{Hold}
+use Rattle.line_rule.specs.declared.view.LineHold.{LineHold}
 use Rattle.line_rule.specs.declared.view.Back.{Back}
-use Rattle.line_rule.specs.declared.content.Content.{Content}
-use Rattle.line_rule.specs.declared.view.Stage.{Stage}
-use Rattle.line_rule.specs.declared.view.Stage.TheVariants.{Idle, Preparing, Waiting, Helping, Fresh, Leading, Cutting, Marking, Settling, Collecting}
+use Rattle.line_rule.specs.declared.content.LineSlot.{LineSlot}
+use Rattle.line_rule.specs.declared.view.LineStage.{LineStage}
+use Rattle.line_rule.specs.declared.view.LineStage.TheVariants.{Idle, Preparing, Waiting, Helping, Fresh, Leading, Cutting, Marking, Settling, Collecting}
 use Rattle.line_rule.specs.Chain.{state_at, older_at, newest_from, LinksFrom, Distinct, Within, EndsWith, of}
 use Rattle.line_rule.specs.Standing.{Phase, idle, preparing, linked, chosen, leads, taken, completed, collecting, Mode, open_, waits, led, built, cut, marked, base_of, Holds, Two, KnowsBack}
 use Rattle.line_rule.specs.Laws.{Laws}
-use Rattle.line_rule.specs.Events.{Event, GoesOn}
-use Rattle.line_rule.specs.Rule.{InChain, Stand, Waits, AllTaken, Knows, Recalls, AllFit, InPhase, InMode, Account, Listed, Second, HasCut, untold, hold_at}
+use Rattle.line_rule.specs.Events.{LineEvent, GoesOn}
+use Rattle.line_rule.specs.Rule.{InChain, Stand, Waits, AllTaken, Knows, Recalls, AllFit, InPhase, InMode, Account, Listed, Second, HasCut, due_untold, hold_at}
 use Rattle.line_rule.specs.Plays.{Sat}
 use Rattle.line_rule.specs.Steps.{Lists, now_of, IsNow, Becomes, StepIs}
 use Rattle.line_rule.specs.SecondList.{second_list_of}
 use Rattle.line_rule.proofs.Chains.{put, put_at, put_else, linked_change, owed_change, ends_trans}
 
-module _ {Q P : Type 0} where
-  pub goes_further : (a b c : List (Event Q P)) → GoesOn b a → GoesOn c b → GoesOn c a
+module _ {Request Reply : Type 0} where
+  pub goes_further : (a b c : List (LineEvent Request Reply)) → GoesOn b a → GoesOn c b → GoesOn c a
   goes_further a b c x y = (y.0 ++ x.0, y.1 ∙ (ap (λ l. y.0 ++ l) x.1 ∙ sym (append_assoc y.0 x.0 a)))
 
-  pub recalls_more : (was now : List (Event Q P)) → GoesOn now was → (st : Stage Q P) → Recalls was st → Recalls now st
+  pub recalls_more : (was now : List (LineEvent Request Reply)) → GoesOn now was → (st : LineStage Request Reply) → Recalls was st → Recalls now st
   recalls_more was now on Idle ok = tt
   recalls_more was now on (Preparing w) ok = tt
   recalls_more was now on (Waiting q past) ok = goes_further past was now ok on
@@ -38,15 +38,15 @@ module _ {Q P : Type 0} where
   recalls_more was now on (Settling debt) ok = tt
   recalls_more was now on Collecting ok = tt
 
-module _ {Q P L M : Type 0} (stands : Laws Q P L M) (n : ℕ) where
+module _ {Request Reply Log Right : Type 0} (stands : Laws Request Reply Log Right) (n : ℕ) where
   abbrev pub St : Type 0
-  St = State (Content Q P L M) (List (Hold Q P))
+  St = State (LineSlot Request Reply Log Right) (List (LineHold Request Reply))
 
   abbrev pub Homes : Type 0
-  Homes = List (Option (Content Q P L M))
+  Homes = List (Option (LineSlot Request Reply Log Right))
 
-  pub row_stays : (words ws : List ℕ) (homes hs : Homes) (k : ℕ) (due : List (Q × P)) → get_or ws (state_at k) 0 ≡ get_or words (state_at k) 0 → get_or ws (older_at k) 0 ≡ get_or words (older_at k) 0
-      → get_elem? hs k ≡ get_elem? homes k → (ph : Phase Q P) → InPhase stands words homes k due ph → InPhase stands ws hs k due ph
+  pub row_stays : (words ws : List ℕ) (homes hs : Homes) (k : ℕ) (due : List (Request × Reply)) → get_or ws (state_at k) 0 ≡ get_or words (state_at k) 0 → get_or ws (older_at k) 0 ≡ get_or words (older_at k) 0
+      → get_elem? hs k ≡ get_elem? homes k → (ph : Phase Request Reply) → InPhase stands words homes k due ph → InPhase stands ws hs k due ph
   row_stays words ws homes hs k due a b c idle ok = (c ∙ ok.0, ok.1)
   row_stays words ws homes hs k due a b c (preparing w) ok = (a ∙ ok.0, b ∙ ok.1, ok.2)
   row_stays words ws homes hs k due a b c (linked e) ok = (ok.0, a ∙ ok.1, c ∙ ok.2, ok.3)
@@ -56,10 +56,10 @@ module _ {Q P L M : Type 0} (stands : Laws Q P L M) (n : ℕ) where
   row_stays words ws homes hs k due a b c (completed q p) ok = (a ∙ ok.0, c ∙ ok.1, ok.2)
   row_stays words ws homes hs k due a b c collecting ok = ok
 
-  pub mode_stays : (homes hs : Homes) (line hand : List (Entry Q)) (handled : List (Handling Q P)) (phase : ℕ → Phase Q P) (due due' : ℕ → List (Q × P)) (m : ℕ) (ph : Phase Q P) → get_elem? hs 0 ≡ get_elem? homes 0
-      → ((e : Entry Q) → phase m ≡ chosen e → ph ≡ chosen e) → ((c : ℕ) (e : Entry Q) → c ≡ m → phase m ≡ leads e → due c ≡ [] → ph ≡ leads e) → ((e : Entry Q) → phase m ≡ linked e → ph ≡ linked e)
+  pub mode_stays : (homes hs : Homes) (line hand : List (QueuedWriter Request)) (handled : List (Handling Request Reply)) (phase : ℕ → Phase Request Reply) (due due' : ℕ → List (Request × Reply)) (m : ℕ) (ph : Phase Request Reply) → get_elem? hs 0 ≡ get_elem? homes 0
+      → ((e : QueuedWriter Request) → phase m ≡ chosen e → ph ≡ chosen e) → ((c : ℕ) (e : QueuedWriter Request) → c ≡ m → phase m ≡ leads e → due c ≡ [] → ph ≡ leads e) → ((e : QueuedWriter Request) → phase m ≡ linked e → ph ≡ linked e)
       → ((c : ℕ) → AllTaken phase due c hand → AllTaken (put phase m ph) due' c hand) → ((c : ℕ) → due c ≡ [] → due' c ≡ [])
-      → (mode : Mode Q) → InMode stands n homes line hand handled phase due mode → InMode stands n hs line hand handled (put phase m ph) due' mode
+      → (mode : Mode Request) → InMode stands n homes line hand handled phase due mode → InMode stands n hs line hand handled (put phase m ph) due' mode
   mode_stays homes hs line hand handled phase due due' m ph same to_c to_l to_k to_t nil open_ ok = (ok.0, ok.1, (ok.2.0, same ∙ ok.2.1, ok.2.2))
   mode_stays homes hs line hand handled phase due due' m ph same to_c to_l to_k to_t nil (waits c) ok = (
     (ok.0.0, ok.0.1, ok.0.2, linked_change phase m ph ok.0.0 to_k ok.0.3, put_at phase m ph (λ k f. phase k ≡ chosen ok.0.1 → f ≡ chosen ok.0.1) c (λ is here. to_c ok.0.1 (ap phase (sym is) ∙ here)) (λ _ here. here) ok.0.4, ok.0.5),
@@ -90,15 +90,15 @@ module _ {Q P L M : Type 0} (stands : Laws Q P L M) (n : ℕ) where
     ok.4,
   )
 
-  holds_by : (k : ℕ) (mode now : Mode Q) → mode ≡ now → Holds k now → Holds k mode
+  holds_by : (k : ℕ) (mode now : Mode Request) → mode ≡ now → Holds k now → Holds k mode
   holds_by k mode now is ok = subst (Holds k) (sym is) ok
 
   -- what another client knows
-  pub knows_stays : (line line' hand hand' : List (Entry Q)) (handled handled' : List (Handling Q P)) (mode mode' : Mode Q) (phase phase' : ℕ → Phase Q P) (due due' : ℕ → List (Q × P)) (k : ℕ) → phase' k ≡ phase k
-      → (Holds k mode → (mode' ≡ mode) × EndsWith line' line × (handled' ≡ handled) × (hand' ≡ hand) × ((e : Entry Q) → mode ≡ cut k e.by → phase e.by ≡ linked e → phase' e.by ≡ linked e))
-      → ((e : Entry Q) (x : Q × P) → phase e.by ≡ taken k e → due e.by ≡ x ∷ [] → (phase' e.by ≡ taken k e) × (due' e.by ≡ x ∷ []))
-      → ((x : Q × P) → due k ≡ x ∷ [] → due' k ≡ x ∷ [])
-      → (st : Stage Q P) → Knows line hand handled mode phase due k st → Knows line' hand' handled' mode' phase' due' k st
+  pub knows_stays : (line line' hand hand' : List (QueuedWriter Request)) (handled handled' : List (Handling Request Reply)) (mode mode' : Mode Request) (phase phase' : ℕ → Phase Request Reply) (due due' : ℕ → List (Request × Reply)) (k : ℕ) → phase' k ≡ phase k
+      → (Holds k mode → (mode' ≡ mode) × EndsWith line' line × (handled' ≡ handled) × (hand' ≡ hand) × ((e : QueuedWriter Request) → mode ≡ cut k e.by → phase e.by ≡ linked e → phase' e.by ≡ linked e))
+      → ((e : QueuedWriter Request) (x : Request × Reply) → phase e.by ≡ taken k e → due e.by ≡ x ∷ [] → (phase' e.by ≡ taken k e) × (due' e.by ≡ x ∷ []))
+      → ((x : Request × Reply) → due k ≡ x ∷ [] → due' k ≡ x ∷ [])
+      → (st : LineStage Request Reply) → Knows line hand handled mode phase due k st → Knows line' hand' handled' mode' phase' due' k st
   knows_stays line line' hand hand' handled handled' mode mode' phase phase' due due' k same to_h to_o to_d Idle ok = same ∙ ok
   knows_stays line line' hand hand' handled handled' mode mode' phase phase' due due' k same to_h to_o to_d (Preparing w) ok = same ∙ ok
   knows_stays line line' hand hand' handled handled' mode mode' phase phase' due due' k same to_h to_o to_d (Waiting q past) ok = subst (Waits q) (sym same) ok
@@ -112,9 +112,9 @@ module _ {Q P L M : Type 0} (stands : Laws Q P L M) (n : ℕ) where
   knows_stays line line' hand hand' handled handled' mode mode' phase phase' due due' k same to_h to_o to_d Collecting ok = same ∙ ok
 
   -- the same where the row m alone changes, and the list only grows at its newer end
-  pub knows_else : (line line' hand : List (Entry Q)) (handled : List (Handling Q P)) (mode mode' : Mode Q) (phase : ℕ → Phase Q P) (due due' : ℕ → List (Q × P)) (m : ℕ) (ph : Phase Q P) (k : ℕ) → k ≢ m → EndsWith line' line
-      → (Holds k mode → mode' ≡ mode) → ((e : Entry Q) → phase m ≡ linked e → ph ≡ linked e) → ((e : Entry Q) → phase m ≡ taken k e → (ph ≡ taken k e) × (due' m ≡ due m)) → ((j : ℕ) → j ≢ m → due' j ≡ due j)
-      → (st : Stage Q P) → Knows line hand handled mode phase due k st → Knows line' hand handled mode' (put phase m ph) due' k st
+  pub knows_else : (line line' hand : List (QueuedWriter Request)) (handled : List (Handling Request Reply)) (mode mode' : Mode Request) (phase : ℕ → Phase Request Reply) (due due' : ℕ → List (Request × Reply)) (m : ℕ) (ph : Phase Request Reply) (k : ℕ) → k ≢ m → EndsWith line' line
+      → (Holds k mode → mode' ≡ mode) → ((e : QueuedWriter Request) → phase m ≡ linked e → ph ≡ linked e) → ((e : QueuedWriter Request) → phase m ≡ taken k e → (ph ≡ taken k e) × (due' m ≡ due m)) → ((j : ℕ) → j ≢ m → due' j ≡ due j)
+      → (st : LineStage Request Reply) → Knows line hand handled mode phase due k st → Knows line' hand handled mode' (put phase m ph) due' k st
   knows_else line line' hand handled mode mode' phase due due' m ph k ne ends to_h to_k to_t due_else =
       knows_stays line line' hand hand handled handled mode mode' phase (put phase m ph) due due' k (put_else phase m ph k ne)
       (λ h. (to_h h, ends, refl, refl, λ e cu here. put_at phase m ph (λ j f. phase j ≡ linked e → f ≡ linked e) e.by (λ is now. to_k e (ap phase (sym is) ∙ now)) (λ _ now. now) here))
@@ -123,7 +123,7 @@ module _ {Q P L M : Type 0} (stands : Laws Q P L M) (n : ℕ) where
       (λ x owed. due_else k ne ∙ owed)
 
   -- the row m becomes ph, and the seat id goes from h to h'
-  pub record Move (s : St) (r : Listed stands n s) (m id : ℕ) (ws : List ℕ) (hs : Homes) (h h' : Hold Q P) (line hand : List (Entry Q)) (handled : List (Handling Q P)) (mode : Mode Q) (ph : Phase Q P) (due told : ℕ → List (Q × P)) (two : Two Q P) : Type 0 where
+  pub record Move (s : St) (r : Listed stands n s) (m id : ℕ) (ws : List ℕ) (hs : Homes) (h h' : LineHold Request Reply) (line hand : List (QueuedWriter Request)) (handled : List (Handling Request Reply)) (mode : Mode Request) (ph : Phase Request Reply) (due told : ℕ → List (Request × Reply)) (two : Two Request Reply) : Type 0 where
     pub at : get_elem? s.views id ≡ some (h ∷ [])
     pub same_client : h'.client ≡ h.client
     pub wide : length ws ≡ length s.words
@@ -136,25 +136,25 @@ module _ {Q P L M : Type 0} (stands : Laws Q P L M) (n : ℕ) where
     pub other_rows : (k : ℕ) → k ≢ m → 0 < k → k ≤ n → InPhase stands s.words s.homes k (r.due k) (r.phase k) → InPhase stands ws hs k (due k) (r.phase k)
     pub row : InPhase stands ws hs m (due m) ph
     pub log_is : InMode stands n hs line hand handled (put r.phase m ph) due mode
-    pub one_chosen : (k : ℕ) (e : Entry Q) → put r.phase m ph k ≡ chosen e → mode ≡ waits k
+    pub one_chosen : (k : ℕ) (e : QueuedWriter Request) → put r.phase m ph k ≡ chosen e → mode ≡ waits k
     pub shared_out : (k : ℕ) → of k handled ≡ told k ++ due k
     pub account : Account stands.bound line handled mode
     pub goes_on : GoesOn account.events r.account.events
     pub recalls : Recalls account.events h'.stage
     pub has_cut : HasCut account.log hand (put r.phase m ph) mode
-    pub owing_is : (k : ℕ) → of k account.owing ≡ untold (put r.phase m ph k) (due k)
+    pub owing_is : (k : ℕ) → of k account.owing ≡ due_untold (put r.phase m ph k) (due k)
     pub second : Second stands n ws hs (put r.phase m ph) mode (stands.given handled) two
     pub back : KnowsBack two h.client h'.back
-    pub else_back : (k : ℕ) → k ≢ h.client → (b : Back Q P) → KnowsBack r.two k b → KnowsBack two k b
+    pub else_back : (k : ℕ) → k ≢ h.client → (b : Back Request Reply) → KnowsBack r.two k b → KnowsBack two k b
     pub kept : stands.kept handled
-    pub coded : (e : Entry Q) → InChain e ph → stands.asks e.asked e.code
+    pub coded : (e : QueuedWriter Request) → InChain e ph → stands.asks e.asked e.code
     pub told_else : (k : ℕ) → k ≢ h.client → told k ≡ r.told k
     pub mine : h'.mine ≡ told h.client
     pub knows : Knows line hand handled mode (put r.phase m ph) due h.client h'.stage
-    pub others : (k : ℕ) → k ≢ h.client → (st : Stage Q P) → Knows r.line r.hand r.handled r.mode r.phase r.due k st → Knows line hand handled mode (put r.phase m ph) due k st
+    pub others : (k : ℕ) → k ≢ h.client → (st : LineStage Request Reply) → Knows r.line r.hand r.handled r.mode r.phase r.due k st → Knows line hand handled mode (put r.phase m ph) due k st
 
-  module _ (s : St) (r : Listed stands n s) (m id : ℕ) (ws : List ℕ) (hs : Homes) (h h' : Hold Q P) (line hand : List (Entry Q)) (handled : List (Handling Q P)) (mode : Mode Q) (ph : Phase Q P) (due told : ℕ → List (Q × P)) (two : Two Q P) where
-    fit_stays : (v : Move s r m id ws hs h h' line hand handled mode ph due told two) (j : ℕ) → j ≢ id → (xs : List (Hold Q P)) → AllFit n r.line r.hand r.handled r.mode r.phase r.due r.told r.two r.account.events r.seat j xs → AllFit n line hand handled mode (put r.phase m ph) due told two v.account.events r.seat j xs
+  module _ (s : St) (r : Listed stands n s) (m id : ℕ) (ws : List ℕ) (hs : Homes) (h h' : LineHold Request Reply) (line hand : List (QueuedWriter Request)) (handled : List (Handling Request Reply)) (mode : Mode Request) (ph : Phase Request Reply) (due told : ℕ → List (Request × Reply)) (two : Two Request Reply) where
+    fit_stays : (v : Move s r m id ws hs h h' line hand handled mode ph due told two) (j : ℕ) → j ≢ id → (xs : List (LineHold Request Reply)) → AllFit n r.line r.hand r.handled r.mode r.phase r.due r.told r.two r.account.events r.seat j xs → AllFit n line hand handled mode (put r.phase m ph) due told two v.account.events r.seat j xs
     fit_stays v j other [] ok = tt
     fit_stays v j other (x ∷ xs) ok =
         let mine = (r.seats id (h ∷ []) v.at).0 in
@@ -195,7 +195,7 @@ module _ {Q P L M : Type 0} (stands : Laws Q P L M) (n : ℕ) where
           kept = v.kept;
           coded = λ i e. put_at r.phase m ph (λ k f. InChain e f → stands.asks e.asked e.code) i (λ _ is. v.coded e is) (λ _ is. r.coded i e is);
           seats = λ j x e. ⊎_elim
-              (λ (t : (j ≡ id) × (h' ∷ [] ≡ x)). subst (λ (z : ℕ × List (Hold Q P)). AllFit n line hand handled mode (put r.phase m ph) due told two v.account.events r.seat z.0 z.1) (λ i. (sym t.0 i, t.1 i)) (
+              (λ (t : (j ≡ id) × (h' ∷ [] ≡ x)). subst (λ (z : ℕ × List (LineHold Request Reply)). AllFit n line hand handled mode (put r.phase m ph) due told two v.account.events r.seat z.0 z.1) (λ i. (sym t.0 i, t.1 i)) (
                 (ap r.seat v.same_client ∙ mine.0, subst (λ (k : ℕ). 0 < k) (sym v.same_client) mine.1, subst (λ (k : ℕ). k ≤ n) (sym v.same_client) mine.2, v.mine ∙ ap told (sym v.same_client), subst (λ (k : ℕ). Knows line hand handled mode (put r.phase m ph) due k h'.stage) (sym v.same_client) v.knows, subst (λ (k : ℕ). KnowsBack two k h'.back) (sym v.same_client) v.back, v.recalls),
                 tt,
               ))
@@ -209,23 +209,23 @@ module _ {Q P L M : Type 0} (stands : Laws Q P L M) (n : ℕ) where
     moved v = (listed v, refl)
 
   -- what a step makes of the list, and what its seat knows then
-  abbrev pub Goes : (ℕ → Lists Q P → Lists Q P → Type 0) → (s : St) → Listed stands n s → ℕ → ℕ → Sat Q P L M → (ℕ → Sat Q P L M → Type 0) → ℕ → Type 0
-  Goes event s r k id me then x = (w : List (Hold Q P)) × (a : Act (Content Q P L M)) × Valid s.homes me.1 a × Becomes stands n (event (get_or s.words k 0)) (now_of stands n s r) (stepped s k x id me.1 w a) × then (get_or s.words k 0) (w, carried_after me.1 a)
+  abbrev pub Goes : (ℕ → Lists Request Reply → Lists Request Reply → Type 0) → (s : St) → Listed stands n s → ℕ → ℕ → Sat Request Reply Log Right → (ℕ → Sat Request Reply Log Right → Type 0) → ℕ → Type 0
+  Goes event s r k id me then x = (w : List (LineHold Request Reply)) × (a : Act (LineSlot Request Reply Log Right)) × Valid s.homes me.1 a × Becomes stands n (event (get_or s.words k 0)) (now_of stands n s r) (stepped s k x id me.1 w a) × then (get_or s.words k 0) (w, carried_after me.1 a)
 
   -- what a step allows, whatever event it is
-  pub allows : (event : ℕ → Lists Q P → Lists Q P → Type 0) (slots id : ℕ) (me : Sat Q P L M) (k : ℕ) (f : ℕ → ℕ) (then : ℕ → Sat Q P L M → Type 0) → StepIs stands n event slots id me k f then → Allows (Listed stands n) slots id me k f then
+  pub allows : (event : ℕ → Lists Request Reply → Lists Request Reply → Type 0) (slots id : ℕ) (me : Sat Request Reply Log Right) (k : ℕ) (f : ℕ → ℕ) (then : ℕ → Sat Request Reply Log Right → Type 0) → StepIs stands n event slots id me k f then → Allows (Listed stands n) slots id me k f then
   allows event slots id me k f then all s r long at fits = let t = all s r long at fits in (t.0, t.1, t.2, t.3.2.0, t.4)
 
   -- the words and slots are as they were
-  pub unmoved : (event : Lists Q P → Lists Q P → Type 0) (s : St) (k id : ℕ) (cs : List (ℕ × Content Q P L M)) (v : List (Hold Q P)) → get_elem? s.views id ≡ some v → (r : Listed stands n s) → event (now_of stands n s r) (now_of stands n s r) → Becomes stands n event (now_of stands n s r) (stepped s k (get_or s.words k 0) id cs v keeps)
+  pub unmoved : (event : Lists Request Reply → Lists Request Reply → Type 0) (s : St) (k id : ℕ) (cs : List (ℕ × LineSlot Request Reply Log Right)) (v : List (LineHold Request Reply)) → get_elem? s.views id ≡ some v → (r : Listed stands n s) → event (now_of stands n s r) (now_of stands n s r) → Becomes stands n event (now_of stands n s r) (stepped s k (get_or s.words k 0) id cs v keeps)
   unmoved event s k id cs v at r none_moved = (
     now_of stands n s r,
     none_moved,
-    subst (λ (z : List ℕ × List (List (Hold Q P))). IsNow stands n (now_of stands n s r) (record { words = z.0; homes = s.homes; views = z.1 })) (λ i. (sym (set-get_or s.words k 0) i, sym (set_again s.views id v at) i)) (r, refl),
+    subst (λ (z : List ℕ × List (List (LineHold Request Reply))). IsNow stands n (now_of stands n s r) (record { words = z.0; homes = s.homes; views = z.1 })) (λ i. (sym (set-get_or s.words k 0) i, sym (set_again s.views id v at) i)) (r, refl),
   )
 
   -- the seat alone moves
-  pub reviewed : (s : St) (r : Listed stands n s) (id : ℕ) (h : Hold Q P) (st : Stage Q P) → get_elem? s.views id ≡ some (h ∷ []) → Knows r.line r.hand r.handled r.mode r.phase r.due h.client st → Recalls r.account.events st
+  pub reviewed : (s : St) (r : Listed stands n s) (id : ℕ) (h : LineHold Request Reply) (st : LineStage Request Reply) → get_elem? s.views id ≡ some (h ∷ []) → Knows r.line r.hand r.handled r.mode r.phase r.due h.client st → Recalls r.account.events st
       → IsNow stands n (now_of stands n s r) (record { words = s.words; homes = s.homes; views = set s.views id (hold_at h.client st h.mine h.back ∷ []) })
   reviewed s r id h st at knows recalls =
       let mine = (r.seats id (h ∷ []) at).0 in (
@@ -258,7 +258,7 @@ module _ {Q P L M : Type 0} (stands : Laws Q P L M) (n : ℕ) where
           coded = r.coded;
           shared_out = r.shared_out;
           seats = λ j x e. ⊎_elim
-              (λ (t : (j ≡ id) × (hold_at h.client st h.mine h.back ∷ [] ≡ x)). subst (λ (z : ℕ × List (Hold Q P)). AllFit n r.line r.hand r.handled r.mode r.phase r.due r.told r.two r.account.events r.seat z.0 z.1) (λ i. (sym t.0 i, t.1 i)) ((mine.0, mine.1, mine.2, mine.3, knows, mine.5, recalls), tt))
+              (λ (t : (j ≡ id) × (hold_at h.client st h.mine h.back ∷ [] ≡ x)). subst (λ (z : ℕ × List (LineHold Request Reply)). AllFit n r.line r.hand r.handled r.mode r.phase r.due r.told r.two r.account.events r.seat z.0 z.1) (λ i. (sym t.0 i, t.1 i)) ((mine.0, mine.1, mine.2, mine.3, knows, mine.5, recalls), tt))
               (λ (t : (j ≢ id) × (get_elem? s.views j ≡ some x)). r.seats j x t.1)
               (at_set s.views id j (hold_at h.client st h.mine h.back ∷ []) x e);
         },

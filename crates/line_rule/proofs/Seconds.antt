@@ -4,11 +4,11 @@ use mathlib.Core.Path.{Path}
 use mathlib.Core.Option.{Option, none, some}
 use Rattle.atomic_table.proofs.Lists.{set_here}
 use Rattle.std.proofs.lemmas.List.{append_cancel_right}
-use Rattle.line_rule.specs.declared.view.Entry.{Entry}
+use Rattle.line_rule.specs.declared.view.QueuedWriter.{QueuedWriter}
 use Rattle.line_rule.specs.declared.view.Handling.{Handling}
 use Rattle.line_rule.specs.declared.view.Squad.{Squad}
-use Rattle.line_rule.specs.declared.content.Content.{Content}
-use Rattle.line_rule.specs.declared.content.Content.TheVariants.{Right}
+use Rattle.line_rule.specs.declared.content.LineSlot.{LineSlot}
+use Rattle.line_rule.specs.declared.content.LineSlot.TheVariants.{TheRight}
 use Rattle.line_rule.specs.Chain.{state_at, older_at, pack, newest, Links, LinksFrom, Absent, Distinct, Within}
 use Rattle.line_rule.specs.Standing.{Phase, leads, taken, Mode, Holds, InFront, Place, away, parted, queued, called, serves, served, Turn, still, calls, held_by, passes, Lead2, level, ahead, Two, line_of, flat, In, Apart, Chained, InStep}
 use Rattle.line_rule.specs.Laws.{Laws}
@@ -19,9 +19,9 @@ use Rattle.line_rule.proofs.Keeps.{in_not_away, groups_at}
 use Rattle.line_rule.proofs.Leads.{same_last}
 use Rattle.line_rule.proofs.Squads.{absent_groups, aim_links, distinct_group, ends_or, flat_nil, flat_snoc, groups_newer, groups_put, groups_turn, in_one, is_level, links_join, newest_front, not_snoc, one_ahead, one_called, one_calls, one_holder, one_parted, one_served, one_serves, snoc_some, step_first, with_absent, within_append}
 
-module _ {Q P L M : Type 0} (stands : Laws Q P L M) (n : ℕ) where
+module _ {Request Reply Log Right : Type 0} (stands : Laws Request Reply Log Right) (n : ℕ) where
   -- the turn, where another place changes
-  pub turn_put : (words : List ℕ) (homes : List (Option (Content Q P L M))) (phase : ℕ → Phase Q P) (groups : List (Squad Q P)) (place : ℕ → Place Q P) (t : Turn) (lead lead' : Lead2) (done : List (Handling Q P)) (c : ℕ) (p : Place Q P) → ((g : Squad Q P) → place c ≡ called g → ⊥) → ((g : Squad Q P) → place c ≡ serves g → ⊥) → (turn : Turn)
+  pub turn_put : (words : List ℕ) (homes : List (Option (LineSlot Request Reply Log Right))) (phase : ℕ → Phase Request Reply) (groups : List (Squad Request Reply)) (place : ℕ → Place Request Reply) (t : Turn) (lead lead' : Lead2) (done : List (Handling Request Reply)) (c : ℕ) (p : Place Request Reply) → ((g : Squad Request Reply) → place c ≡ called g → ⊥) → ((g : Squad Request Reply) → place c ≡ serves g → ⊥) → (turn : Turn)
       → InTurn stands n words homes phase (record { groups = groups; place = place; turn = t; lead = lead; done = done }) turn → InTurn stands n words homes phase (record { groups = groups; place = put place c p; turn = t; lead = lead'; done = done }) turn
   turn_put words homes phase groups place t lead lead' done c p un_c un_s still ok = ok
   turn_put words homes phase groups place t lead lead' done c p un_c un_s (calls k) ok = ((ok.0.0, ok.0.1, ok.0.2, put_else place c p k (λ e. un_c ok.0.1 (ap place (sym e) ∙ ok.0.3)) ∙ ok.0.3, ok.0.4, ok.0.5), ok.1)
@@ -29,52 +29,52 @@ module _ {Q P L M : Type 0} (stands : Laws Q P L M) (n : ℕ) where
   turn_put words homes phase groups place t lead lead' done c p un_c un_s (passes k w) ok = ok
 
   -- and a newer group comes
-  pub turn_grows : (words ws : List ℕ) (homes : List (Option (Content Q P L M))) (phase : ℕ → Phase Q P) (groups : List (Squad Q P)) (place : ℕ → Place Q P) (t : Turn) (lead lead' : Lead2) (done : List (Handling Q P)) (g0 : Squad Q P) → ((k : ℕ) → get_or ws (state_at k) 0 ≡ get_or words (state_at k) 0) → (turn : Turn) → (turn ≡ still → ⊥)
+  pub turn_grows : (words ws : List ℕ) (homes : List (Option (LineSlot Request Reply Log Right))) (phase : ℕ → Phase Request Reply) (groups : List (Squad Request Reply)) (place : ℕ → Place Request Reply) (t : Turn) (lead lead' : Lead2) (done : List (Handling Request Reply)) (g0 : Squad Request Reply) → ((k : ℕ) → get_or ws (state_at k) 0 ≡ get_or words (state_at k) 0) → (turn : Turn) → (turn ≡ still → ⊥)
       → InTurn stands n words homes phase (record { groups = groups; place = place; turn = t; lead = lead; done = done }) turn → InTurn stands n ws homes phase (record { groups = g0 ∷ groups; place = place; turn = t; lead = lead'; done = done }) turn
   turn_grows words ws homes phase groups place t lead lead' done g0 state still un ok = absurd (un refl)
   turn_grows words ws homes phase groups place t lead lead' done g0 state (calls k) un ok = ((g0 ∷ ok.0.0, ok.0.1, ap (λ l. g0 ∷ l) ok.0.2, ok.0.3, ok.0.4, state k ∙ ok.0.5), ok.1)
   turn_grows words ws homes phase groups place t lead lead' done g0 state (held_by k) un ok = (g0 ∷ ok.0, ok.1, ap (λ l. g0 ∷ l) ok.2, ok.3, ok.4)
   turn_grows words ws homes phase groups place t lead lead' done g0 state (passes k w) un ok = (g0 ∷ ok.0, ok.1, ap (λ l. g0 ∷ l) ok.2, ok.3)
 
-  pub turn_same : (words ws : List ℕ) (homes : List (Option (Content Q P L M))) (phase : ℕ → Phase Q P) (two : Two Q P) → ((k : ℕ) → get_or ws (state_at k) 0 ≡ get_or words (state_at k) 0) → (turn : Turn) → InTurn stands n words homes phase two turn → InTurn stands n ws homes phase two turn
+  pub turn_same : (words ws : List ℕ) (homes : List (Option (LineSlot Request Reply Log Right))) (phase : ℕ → Phase Request Reply) (two : Two Request Reply) → ((k : ℕ) → get_or ws (state_at k) 0 ≡ get_or words (state_at k) 0) → (turn : Turn) → InTurn stands n words homes phase two turn → InTurn stands n ws homes phase two turn
   turn_same words ws homes phase two state still ok = ok
   turn_same words ws homes phase two state (calls k) ok = ((ok.0.0, ok.0.1, ok.0.2, ok.0.3, ok.0.4, state k ∙ ok.0.5), ok.1)
   turn_same words ws homes phase two state (held_by k) ok = ok
   turn_same words ws homes phase two state (passes k w) ok = ok
 
-  pub level_put : (groups : List (Squad Q P)) (place place' : ℕ → Place Q P) (turn turn' : Turn) (lead : Lead2) (done last : List (Handling Q P)) (piped : Bool)
+  pub level_put : (groups : List (Squad Request Reply)) (place place' : ℕ → Place Request Reply) (turn turn' : Turn) (lead : Lead2) (done last : List (Handling Request Reply)) (piped : Bool)
       → Level stands piped (record { groups = groups; place = place; turn = turn; lead = lead; done = done }) last → Level stands piped (record { groups = groups; place = place'; turn = turn'; lead = lead; done = done }) last
   level_put groups place place' turn turn' lead done last true v = v
   level_put groups place place' turn turn' lead done last false v = v
 
-  pub turn_lead : (words : List ℕ) (homes : List (Option (Content Q P L M))) (phase : ℕ → Phase Q P) (groups : List (Squad Q P)) (place : ℕ → Place Q P) (t : Turn) (lead lead' : Lead2) (done : List (Handling Q P)) (turn : Turn)
+  pub turn_lead : (words : List ℕ) (homes : List (Option (LineSlot Request Reply Log Right))) (phase : ℕ → Phase Request Reply) (groups : List (Squad Request Reply)) (place : ℕ → Place Request Reply) (t : Turn) (lead lead' : Lead2) (done : List (Handling Request Reply)) (turn : Turn)
       → InTurn stands n words homes phase (record { groups = groups; place = place; turn = t; lead = lead; done = done }) turn → InTurn stands n words homes phase (record { groups = groups; place = place; turn = t; lead = lead'; done = done }) turn
   turn_lead words homes phase groups place t lead lead' done still ok = ok
   turn_lead words homes phase groups place t lead lead' done (calls k) ok = ok
   turn_lead words homes phase groups place t lead lead' done (held_by k) ok = ok
   turn_lead words homes phase groups place t lead lead' done (passes k w) ok = ok
 
-  pub none_first : (gs : List (Squad Q P)) → Within n (flat gs) → newest (flat gs) ≡ 0 → gs ≡ []
+  pub none_first : (gs : List (Squad Request Reply)) → Within n (flat gs) → newest (flat gs) ≡ 0 → gs ≡ []
   none_first gs inside is = flat_nil gs (nobody n 0 (flat gs) inside is).0
 
-  turn_nil : (words : List ℕ) (homes : List (Option (Content Q P L M))) (phase : ℕ → Phase Q P) (two : Two Q P) → two.groups ≡ [] → (turn : Turn) → InTurn stands n words homes phase two turn → RightHome stands n homes two.done
+  turn_nil : (words : List ℕ) (homes : List (Option (LineSlot Request Reply Log Right))) (phase : ℕ → Phase Request Reply) (two : Two Request Reply) → two.groups ≡ [] → (turn : Turn) → InTurn stands n words homes phase two turn → RightHome stands n homes two.done
   turn_nil words homes phase two nil still ok = ok.1
   turn_nil words homes phase two nil (calls k) ok = ok.1
   turn_nil words homes phase two nil (held_by k) ok = absurd (snoc_some ok.0 ok.1 (sym ok.2 ∙ nil))
   turn_nil words homes phase two nil (passes k w) ok = absurd (snoc_some ok.0 ok.1 (sym ok.2 ∙ nil))
 
-  turn_called : (words : List ℕ) (homes : List (Option (Content Q P L M))) (phase : ℕ → Phase Q P) (two : Two Q P) → two.groups ≡ [] → (k : ℕ) → InTurn stands n words homes phase two (calls k) → ⊥
+  turn_called : (words : List ℕ) (homes : List (Option (LineSlot Request Reply Log Right))) (phase : ℕ → Phase Request Reply) (two : Two Request Reply) → two.groups ≡ [] → (k : ℕ) → InTurn stands n words homes phase two (calls k) → ⊥
   turn_called words homes phase two nil k ok = snoc_some ok.0.0 ok.0.1 (sym ok.0.2 ∙ nil)
 
-  module _ (words : List ℕ) (homes : List (Option (Content Q P L M))) (phase : ℕ → Phase Q P) (mode : Mode Q) (last : List (Handling Q P)) (two : Two Q P) (r : Second stands n words homes phase mode last two) where
+  module _ (words : List ℕ) (homes : List (Option (LineSlot Request Reply Log Right))) (phase : ℕ → Phase Request Reply) (mode : Mode Request) (last : List (Handling Request Reply)) (two : Two Request Reply) (r : Second stands n words homes phase mode last two) where
     -- a group is cut off from the first list
-    abbrev pub two_parts : ℕ → Squad Q P → ℕ → Two Q P
+    abbrev pub two_parts : ℕ → Squad Request Reply → ℕ → Two Request Reply
     two_parts c g b = record { groups = two.groups; place = put two.place c (parted g b); turn = two.turn; lead = two.lead; done = two.done }
 
-    pub second_parts : (c : ℕ) (g : Squad Q P) → two.place c ≡ away → g.own.by ≡ c → phase c ≡ leads g.own → AllWith phase c g.rest → Links words (line_of g) → Distinct (line_of g) → Within n (line_of g) → (InFront c mode → ⊥) → Second stands n words homes phase mode last (two_parts c g 0)
+    pub second_parts : (c : ℕ) (g : Squad Request Reply) → two.place c ≡ away → g.own.by ≡ c → phase c ≡ leads g.own → AllWith phase c g.rest → Links words (line_of g) → Distinct (line_of g) → Within n (line_of g) → (InFront c mode → ⊥) → Second stands n words homes phase mode last (two_parts c g 0)
     second_parts c g is_away by_c now with linked apart inside un_front =
         let out : Absent c (flat two.groups) = absent_groups phase two.place c two.groups (λ f t. subst (In f) is_away t) (λ k e bad. absurd (cc)) r.members in
-        let p : Place Q P = parted g 0 in
+        let p : Place Request Reply = parted g 0 in
         record {
           newest_is = r.newest_is;
           links = r.links;
@@ -82,7 +82,7 @@ module _ {Q P L M : Type 0} (stands : Laws Q P L M) (n : ℕ) where
           within = r.within;
           members = groups_put phase two.place c p two.groups out r.members;
           parts = λ k f b. put_at two.place c p (λ j q. q ≡ parted f b → Parts stands n words homes phase j f b) k
-              (λ is e. let o = one_parted g f 0 b e in subst (λ (z : ℕ × Squad Q P × ℕ). Parts stands n words homes phase z.0 z.1 z.2) (λ i. (sym is i, o.0 i, o.1 i)) (by_c, now, with, linked, apart, inside)) (λ ne e. r.parts k f b e);
+              (λ is e. let o = one_parted g f 0 b e in subst (λ (z : ℕ × Squad Request Reply × ℕ). Parts stands n words homes phase z.0 z.1 z.2) (λ i. (sym is i, o.0 i, o.1 i)) (by_c, now, with, linked, apart, inside)) (λ ne e. r.parts k f b e);
           outgoing = λ k f. put_at two.place c p (λ j q. q ≡ served f → IsLed phase j f) k (λ _ e. absurd (cc)) (λ _ e. r.outgoing k f e);
           turn_is = turn_put words homes phase two.groups two.place two.turn two.lead two.lead two.done c p (λ f e. absurd (cc)) (λ f e. absurd (cc)) two.turn r.turn_is;
           in_front = λ k h. put_at two.place c p (λ j q. InFront j mode → q ≡ away) k (λ is h'. let hh : InFront c mode = subst (λ (j : ℕ). InFront j mode) is h' in absurd (un_front hh)) (λ _ h'. r.in_front k h') h;
@@ -94,12 +94,12 @@ module _ {Q P L M : Type 0} (stands : Laws Q P L M) (n : ℕ) where
         }
 
     -- its leader names the newest writer of the second list
-    pub second_aims : (c : ℕ) (g : Squad Q P) (b0 b v : ℕ) → two.place c ≡ parted g b0 → 0 < c → c ≤ n → v ≡ pack b g.own.code → length words ≡ 2 * n + 4 → Second stands n (set words (older_at c) v) homes phase mode last (two_parts c g b)
+    pub second_aims : (c : ℕ) (g : Squad Request Reply) (b0 b v : ℕ) → two.place c ≡ parted g b0 → 0 < c → c ≤ n → v ≡ pack b g.own.code → length words ≡ 2 * n + 4 → Second stands n (set words (older_at c) v) homes phase mode last (two_parts c g b)
     second_aims c g b0 b v is_parted lo hi is wide =
         let old = r.parts c g b0 is_parted in
-        let no_taken : (k : ℕ) (e : Entry Q) → phase c ≡ taken k e → ⊥ = λ k e bad. let was : phase c ≡ leads g.own = old.1 in absurd (cc) in
+        let no_taken : (k : ℕ) (e : QueuedWriter Request) → phase c ≡ taken k e → ⊥ = λ k e bad. let was : phase c ≡ leads g.own = old.1 in absurd (cc) in
         let out : Absent c (flat two.groups) = absent_groups phase two.place c two.groups (λ f t. subst (In f) is_parted t) no_taken r.members in
-        let p : Place Q P = parted g b in
+        let p : Place Request Reply = parted g b in
         let ws : List ℕ = set words (older_at c) v in
         let same : (j : ℕ) → j ≢ older_at c → get_or ws j 0 ≡ get_or words j 0 = λ j ne. get_or-set_other words (older_at c) j v 0 (λ e. ne (omega arith)) in
         let state : (j : ℕ) → get_or ws (state_at j) 0 ≡ get_or words (state_at j) 0 = λ j. same (state_at j) (λ e. omega arith) in
@@ -112,13 +112,13 @@ module _ {Q P L M : Type 0} (stands : Laws Q P L M) (n : ℕ) where
           within = r.within;
           members = groups_put phase two.place c p two.groups out r.members;
           parts = λ k f d. put_at two.place c p (λ j q. q ≡ parted f d → Parts stands n ws homes phase j f d) k
-              (λ is_c e. let o = one_parted g f b d e in subst (λ (z : ℕ × Squad Q P × ℕ). Parts stands n ws homes phase z.0 z.1 z.2) (λ i. (sym is_c i, o.0 i, o.1 i))
+              (λ is_c e. let o = one_parted g f b d e in subst (λ (z : ℕ × Squad Request Reply × ℕ). Parts stands n ws homes phase z.0 z.1 z.2) (λ i. (sym is_c i, o.0 i, o.1 i))
               (old.0, old.1, old.2, aim_links words ws c g.rest g.own b0 b older (with_absent phase c c g.rest (no_taken c) old.2) (ap (λ (j : ℕ). get_or ws (older_at j) 0) old.0 ∙ new_link) old.3, old.4, old.5))
               (λ ne e. let q = r.parts k f d e in
               (q.0, q.1, q.2, links_stay d words ws c (line_of f) older (absent_append c f.rest (f.own ∷ []) (with_absent phase c k f.rest (no_taken k) q.2) ((λ e'. ne (sym q.0 ∙ e')), tt)) q.3, q.4, q.5));
           outgoing = λ k f. put_at two.place c p (λ j q. q ≡ served f → IsLed phase j f) k (λ _ e. absurd (cc)) (λ _ e. r.outgoing k f e);
           turn_is = turn_same words ws homes phase (two_parts c g b) state two.turn (turn_put words homes phase two.groups two.place two.turn two.lead two.lead two.done c p (λ f e. absurd (cc)) (λ f e. absurd (cc)) two.turn r.turn_is);
-          in_front = λ k h. put_at two.place c p (λ j q. InFront j mode → q ≡ away) k (λ is h'. let hh : InFront c mode = subst (λ (j : ℕ). InFront j mode) is h' in (let bad : Path (Place Q P) (parted g b0) away = sym is_parted ∙ r.in_front c hh in absurd (cc))) (λ _ h'. r.in_front k h') h;
+          in_front = λ k h. put_at two.place c p (λ j q. InFront j mode → q ≡ away) k (λ is h'. let hh : InFront c mode = subst (λ (j : ℕ). InFront j mode) is h' in (let bad : Path (Place Request Reply) (parted g b0) away = sym is_parted ∙ r.in_front c hh in absurd (cc))) (λ _ h'. r.in_front k h') h;
           quiet = λ k h. put_at two.place c p (λ j q. Holds j mode → Apart q → get_or ws (state_at j) 0 ≢ 4) k (λ is_c h' _. subst (λ (j : ℕ). Holds j mode → get_or ws (state_at j) 0 ≢ 4) (sym is_c) (λ hc e. r.quiet c hc (subst Apart (sym is_parted) tt) (sym (state c) ∙ e)) h') (λ ne h' a e. r.quiet k h' a (sym (state k) ∙ e)) h;
           quiet_queued = λ k f. put_at two.place c p (λ j q. q ≡ queued f → get_or ws (state_at j) 0 ≢ 4) k (λ _ e. absurd (cc)) (λ _ e e'. r.quiet_queued k f e (sym (state k) ∙ e'));
           called_turn = λ k f. put_at two.place c p (λ j q. q ≡ called f → two.turn ≡ calls j) k (λ _ e. absurd (cc)) (λ _ e. r.called_turn k f e);
@@ -131,9 +131,9 @@ module _ {Q P L M : Type 0} (stands : Laws Q P L M) (n : ℕ) where
       step_of = subst (λ (b : Bool). Level stands b two last) piped r.in_level
 
       -- the group comes to the newer end
-      module _ (c : ℕ) (g f : Squad Q P) (b v : ℕ) (is_parted : two.place c ≡ parted f b) (own_is : f.own ≡ g.own) (rest_is : f.rest ≡ g.rest) (from_is : g.from ≡ last) (not_ahead : two.lead ≢ ahead c) (holds : Holds c mode) (is_v : v ≡ newest (line_of g)) (hit : get_or words 1 0 ≡ b) (wide : length words ≡ 2 * n + 4) where
+      module _ (c : ℕ) (g f : Squad Request Reply) (b v : ℕ) (is_parted : two.place c ≡ parted f b) (own_is : f.own ≡ g.own) (rest_is : f.rest ≡ g.rest) (from_is : g.from ≡ last) (not_ahead : two.lead ≢ ahead c) (holds : Holds c mode) (is_v : v ≡ newest (line_of g)) (hit : get_or words 1 0 ≡ b) (wide : length words ≡ 2 * n + 4) where
         old_parts : Parts stands n words homes phase c g b
-        old_parts = let o = r.parts c f b is_parted in (ap (λ (e : Entry Q). e.by) (sym own_is) ∙ o.0, o.1 ∙ ap leads own_is, subst (AllWith phase c) rest_is o.2, subst (LinksFrom b words) (λ i. rest_is i ++ own_is i ∷ []) o.3, subst Distinct (λ i. rest_is i ++ own_is i ∷ []) o.4, subst (Within n) (λ i. rest_is i ++ own_is i ∷ []) o.5)
+        old_parts = let o = r.parts c f b is_parted in (ap (λ (e : QueuedWriter Request). e.by) (sym own_is) ∙ o.0, o.1 ∙ ap leads own_is, subst (AllWith phase c) rest_is o.2, subst (LinksFrom b words) (λ i. rest_is i ++ own_is i ∷ []) o.3, subst Distinct (λ i. rest_is i ++ own_is i ∷ []) o.4, subst (Within n) (λ i. rest_is i ++ own_is i ∷ []) o.5)
 
         abbrev ws1 : List ℕ
         ws1 = set words 1 v
@@ -141,7 +141,7 @@ module _ {Q P L M : Type 0} (stands : Laws Q P L M) (n : ℕ) where
         same1 : (j : ℕ) → j ≢ 1 → get_or ws1 j 0 ≡ get_or words j 0
         same1 j ne = get_or-set_other words 1 j v 0 (λ e. ne (omega arith))
 
-        out_of : (h : Squad Q P) → In h (two.place c) → ⊥
+        out_of : (h : Squad Request Reply) → In h (two.place c) → ⊥
         out_of h t = subst (In h) is_parted t
 
         out1 : Absent c (flat two.groups)
@@ -154,8 +154,8 @@ module _ {Q P L M : Type 0} (stands : Laws Q P L M) (n : ℕ) where
         chained1 = subst (InStep two.done two.groups last) level1 step_of
 
         -- the facts on the words, whatever the place and the turn are now
-        second_joins : (p : Place Q P) (turn' : Turn) (hs : List (Option (Content Q P L M))) → In g p → (Apart p → ⊥) → ((h : Squad Q P) → p ≡ called h → ⊥)
-            → InTurn stands n ws1 hs phase (record { groups = g ∷ two.groups; place = put two.place c p; turn = turn'; lead = ahead c; done = two.done }) turn' → ((k : ℕ) (h : Squad Q P) → two.place k ≡ called h → turn' ≡ calls k)
+        second_joins : (p : Place Request Reply) (turn' : Turn) (hs : List (Option (LineSlot Request Reply Log Right))) → In g p → (Apart p → ⊥) → ((h : Squad Request Reply) → p ≡ called h → ⊥)
+            → InTurn stands n ws1 hs phase (record { groups = g ∷ two.groups; place = put two.place c p; turn = turn'; lead = ahead c; done = two.done }) turn' → ((k : ℕ) (h : Squad Request Reply) → two.place k ≡ called h → turn' ≡ calls k)
             → Second stands n ws1 hs phase mode last (record { groups = g ∷ two.groups; place = put two.place c p; turn = turn'; lead = ahead c; done = two.done })
         second_joins p turn' hs is_in un_a un_c turn_ok called_ok =
             let state : (j : ℕ) → get_or ws1 (state_at j) 0 ≡ get_or words (state_at j) 0 = λ j. same1 (state_at j) (λ e. omega arith) in
@@ -170,7 +170,7 @@ module _ {Q P L M : Type 0} (stands : Laws Q P L M) (n : ℕ) where
               parts = λ k h d. put_at two.place c p (λ j q. q ≡ parted h d → Parts stands n ws1 hs phase j h d) k (λ _ e. absurd (un_a (subst Apart (sym e) tt))) (λ _ e. let q = r.parts k h d e in (q.0, q.1, q.2, links_same d words ws1 (line_of h) older q.3, q.4, q.5));
               outgoing = λ k f. put_at two.place c p (λ j q. q ≡ served f → IsLed phase j f) k (λ _ e. absurd (un_a (subst Apart (sym e) tt))) (λ _ e. r.outgoing k f e);
               turn_is = turn_ok;
-              in_front = λ k h. put_at two.place c p (λ j q. InFront j mode → q ≡ away) k (λ is h'. let hh : InFront c mode = subst (λ (j : ℕ). InFront j mode) is h' in (let bad : Path (Place Q P) (parted f b) away = sym is_parted ∙ r.in_front c hh in absurd (cc))) (λ _ h'. r.in_front k h') h;
+              in_front = λ k h. put_at two.place c p (λ j q. InFront j mode → q ≡ away) k (λ is h'. let hh : InFront c mode = subst (λ (j : ℕ). InFront j mode) is h' in (let bad : Path (Place Request Reply) (parted f b) away = sym is_parted ∙ r.in_front c hh in absurd (cc))) (λ _ h'. r.in_front k h') h;
               quiet = λ k h. put_at two.place c p (λ j q. Apart q → get_or ws1 (state_at j) 0 ≢ 4) k (λ _ a. absurd (un_a a)) (λ _ a e. r.quiet k h a (sym (state k) ∙ e));
               quiet_queued = λ k h. put_at two.place c p (λ j q. q ≡ queued h → get_or ws1 (state_at j) 0 ≢ 4) k (λ is_c _ e. r.quiet c holds (subst Apart (sym is_parted) tt) (sym (state c) ∙ (ap (λ (j : ℕ). get_or ws1 (state_at j) 0) (sym is_c) ∙ e))) (λ _ e e'. r.quiet_queued k h e (sym (state k) ∙ e'));
               called_turn = λ k h. put_at two.place c p (λ j q. q ≡ called h → turn' ≡ calls j) k (λ _ e. absurd (un_c h e)) (λ _ e. called_ok k h e);
@@ -178,10 +178,10 @@ module _ {Q P L M : Type 0} (stands : Laws Q P L M) (n : ℕ) where
               in_level = subst (λ (z : Bool). Level stands z (record { groups = g ∷ two.groups; place = put two.place c p; turn = turn'; lead = ahead c; done = two.done }) last) (sym piped) (g, two.groups, refl, from_is, by_c, chained1);
             }
 
-        abbrev pub two_joins : Two Q P
+        abbrev pub two_joins : Two Request Reply
         two_joins = record { groups = g ∷ two.groups; place = put two.place c (queued g); turn = two.turn; lead = ahead c; done = two.done }
 
-        abbrev pub two_alone : Two Q P
+        abbrev pub two_alone : Two Request Reply
         two_alone = record { groups = g ∷ two.groups; place = put two.place c (serves g); turn = held_by c; lead = ahead c; done = two.done }
 
         -- behind others
@@ -189,7 +189,7 @@ module _ {Q P L M : Type 0} (stands : Laws Q P L M) (n : ℕ) where
         second_behind nonzero =
             let un : two.turn ≡ still → ⊥ = λ e. let t = subst (InTurn stands n words homes phase two) e r.turn_is in nonzero (sym hit ∙ (r.newest_is ∙ ap (λ l. newest (flat l)) t.0)) in
             second_joins (queued g) two.turn homes refl (λ a. a) (λ h e. absurd (cc))
-            (turn_put ws1 homes phase (g ∷ two.groups) two.place two.turn (ahead c) (ahead c) two.done c (queued g) (λ h e. let bad : Path (Place Q P) (parted f b) (called h) = sym is_parted ∙ e in absurd (cc)) (λ h e. let bad : Path (Place Q P) (parted f b) (serves h) = sym is_parted ∙ e in absurd (cc)) two.turn
+            (turn_put ws1 homes phase (g ∷ two.groups) two.place two.turn (ahead c) (ahead c) two.done c (queued g) (λ h e. let bad : Path (Place Request Reply) (parted f b) (called h) = sym is_parted ∙ e in absurd (cc)) (λ h e. let bad : Path (Place Request Reply) (parted f b) (serves h) = sym is_parted ∙ e in absurd (cc)) two.turn
             (turn_grows words ws1 homes phase two.groups two.place two.turn two.lead (ahead c) two.done g (λ j. same1 (state_at j) (λ e. omega arith)) two.turn un r.turn_is))
             r.called_turn
 
@@ -198,23 +198,23 @@ module _ {Q P L M : Type 0} (stands : Laws Q P L M) (n : ℕ) where
         second_alone z =
             let nil : two.groups ≡ [] = none_first two.groups r.within (sym r.newest_is ∙ (hit ∙ z)) in
             let home : RightHome stands n homes two.done = turn_nil words homes phase two nil two.turn r.turn_is in
-            let no_called : (k : ℕ) (h : Squad Q P) → two.place k ≡ called h → ⊥ = λ k h e. turn_called words homes phase two nil k (subst (InTurn stands n words homes phase two) (r.called_turn k h e) r.turn_is) in (
-              subst (RightHome stands n homes) (subst (λ (l : List (Squad Q P)). Chained two.done l last) nil chained1 ∙ sym from_is) home,
+            let no_called : (k : ℕ) (h : Squad Request Reply) → two.place k ≡ called h → ⊥ = λ k h e. turn_called words homes phase two nil k (subst (InTurn stands n words homes phase two) (r.called_turn k h e) r.turn_is) in (
+              subst (RightHome stands n homes) (subst (λ (l : List (Squad Request Reply)). Chained two.done l last) nil chained1 ∙ sym from_is) home,
               second_joins (serves g) (held_by c) (set homes (n + 1) none) refl (λ a. a) (λ h e. absurd (cc)) ([], g, ap (λ l. g ∷ l) nil, put_here two.place c (serves g), old_parts.0) (λ k h e. absurd (no_called k h e)),
             )
 
       -- who came first to be alone is called: its leader takes the right
-      abbrev pub two_serves : ℕ → Squad Q P → Two Q P
+      abbrev pub two_serves : ℕ → Squad Request Reply → Two Request Reply
       two_serves c g = record { groups = two.groups; place = put two.place c (serves g); turn = held_by c; lead = two.lead; done = two.done }
 
-      pub second_serves : (c : ℕ) (g : Squad Q P) → two.place c ≡ called g → two.lead ≢ ahead c → RightHome stands n homes g.from × Second stands n words (set homes (n + 1) none) phase mode last (two_serves c g)
+      pub second_serves : (c : ℕ) (g : Squad Request Reply) → two.place c ≡ called g → two.lead ≢ ahead c → RightHome stands n homes g.from × Second stands n words (set homes (n + 1) none) phase mode last (two_serves c g)
       second_serves c g is_called un =
           let turn_c : two.turn ≡ calls c = r.called_turn c g is_called in
           let t = subst (InTurn stands n words homes phase two) turn_c r.turn_is in
           let same : t.0.1 ≡ g = one_called t.0.1 g (sym t.0.3 ∙ is_called) in
-          let first = step_first two.lead two.done last c t.0.0 t.0.1 t.0.4 un (subst (λ (l : List (Squad Q P)). InStep two.done l last two.lead) t.0.2 step_of) in
-          let p : Place Q P = serves g in (
-            subst (RightHome stands n homes) (first.0 ∙ ap (λ (f : Squad Q P). f.from) same) t.1,
+          let first = step_first two.lead two.done last c t.0.0 t.0.1 t.0.4 un (subst (λ (l : List (Squad Request Reply)). InStep two.done l last two.lead) t.0.2 step_of) in
+          let p : Place Request Reply = serves g in (
+            subst (RightHome stands n homes) (first.0 ∙ ap (λ (f : Squad Request Reply). f.from) same) t.1,
             record {
               newest_is = r.newest_is;
               links = r.links;
@@ -224,7 +224,7 @@ module _ {Q P L M : Type 0} (stands : Laws Q P L M) (n : ℕ) where
               parts = λ k f d. put_at two.place c p (λ j q. q ≡ parted f d → Parts stands n words homes phase j f d) k (λ _ e. absurd (cc)) (λ _ e. r.parts k f d e);
               outgoing = λ k f. put_at two.place c p (λ j q. q ≡ served f → IsLed phase j f) k (λ _ e. absurd (cc)) (λ _ e. r.outgoing k f e);
               turn_is = (t.0.0, t.0.1, t.0.2, put_here two.place c p ∙ ap serves (sym same), t.0.4);
-              in_front = λ k h. put_at two.place c p (λ j q. InFront j mode → q ≡ away) k (λ is h'. let hh : InFront c mode = subst (λ (j : ℕ). InFront j mode) is h' in (let bad : Path (Place Q P) (called g) away = sym is_called ∙ r.in_front c hh in absurd (cc))) (λ _ h'. r.in_front k h') h;
+              in_front = λ k h. put_at two.place c p (λ j q. InFront j mode → q ≡ away) k (λ is h'. let hh : InFront c mode = subst (λ (j : ℕ). InFront j mode) is h' in (let bad : Path (Place Request Reply) (called g) away = sym is_called ∙ r.in_front c hh in absurd (cc))) (λ _ h'. r.in_front k h') h;
               quiet = λ k h. put_at two.place c p (λ j q. Apart q → get_or words (state_at j) 0 ≢ 4) k (λ _ a. absurd a) (λ _ a. r.quiet k h a);
               quiet_queued = λ k f. put_at two.place c p (λ j q. q ≡ queued f → get_or words (state_at j) 0 ≢ 4) k (λ _ e. absurd (cc)) (λ _ e. r.quiet_queued k f e);
               called_turn = λ k f. put_at two.place c p (λ j q. q ≡ called f → held_by c ≡ calls j) k (λ _ e. absurd (cc)) (λ ne e. absurd (ne (one_calls k c (sym (r.called_turn k f e) ∙ turn_c))));
@@ -234,29 +234,29 @@ module _ {Q P L M : Type 0} (stands : Laws Q P L M) (n : ℕ) where
           )
 
       -- nobody came after the group: its leader gives the right back
-      abbrev pub two_stops : ℕ → Squad Q P → Two Q P
+      abbrev pub two_stops : ℕ → Squad Request Reply → Two Request Reply
       two_stops c g = record { groups = []; place = put two.place c away; turn = still; lead = two.lead; done = g.to }
 
-      pub one_group : (c : ℕ) (g : Squad Q P) → two.turn ≡ held_by c → two.place c ≡ serves g → get_or words 1 0 ≡ newest (line_of g) → two.groups ≡ g ∷ []
+      pub one_group : (c : ℕ) (g : Squad Request Reply) → two.turn ≡ held_by c → two.place c ≡ serves g → get_or words 1 0 ≡ newest (line_of g) → two.groups ≡ g ∷ []
       one_group c g turn_c is_serves hit =
           let t = subst (InTurn stands n words homes phase two) turn_c r.turn_is in
           let same : t.1 ≡ g = one_serves t.1 g (sym t.3 ∙ is_serves) in
-          let split : flat two.groups ≡ flat t.0 ++ line_of g = ap flat t.2 ∙ (flat_snoc t.0 t.1 ∙ ap (λ (f : Squad Q P). flat t.0 ++ line_of f) same) in
+          let split : flat two.groups ≡ flat t.0 ++ line_of g = ap flat t.2 ∙ (flat_snoc t.0 t.1 ∙ ap (λ (f : Squad Request Reply). flat t.0 ++ line_of f) same) in
           let nil : t.0 ≡ [] = flat_nil t.0 (none_before_group (flat t.0) g.rest g.own (subst Distinct split r.distinct) (ap newest (sym split) ∙ (sym r.newest_is ∙ hit))) in
           t.2 ∙ (λ i. nil i ++ same i ∷ [])
 
-      pub second_stops : (c : ℕ) (g : Squad Q P) (m : M) → two.turn ≡ held_by c → two.place c ≡ serves g → two.lead ≢ ahead c → (Holds c mode → ⊥) → get_or words 1 0 ≡ newest (line_of g) → stands.rights m g.to → length words ≡ 2 * n + 4 → length homes ≡ n + 2
-          → Second stands n (set words 1 0) (set homes (n + 1) (some (Right m))) phase mode last (two_stops c g)
+      pub second_stops : (c : ℕ) (g : Squad Request Reply) (m : Right) → two.turn ≡ held_by c → two.place c ≡ serves g → two.lead ≢ ahead c → (Holds c mode → ⊥) → get_or words 1 0 ≡ newest (line_of g) → stands.rights m g.to → length words ≡ 2 * n + 4 → length homes ≡ n + 2
+          → Second stands n (set words 1 0) (set homes (n + 1) (some (TheRight m))) phase mode last (two_stops c g)
       second_stops c g m turn_c is_serves un un_holds hit stood wide many =
           let t = subst (InTurn stands n words homes phase two) turn_c r.turn_is in
           let same : t.1 ≡ g = one_serves t.1 g (sym t.3 ∙ is_serves) in
-          let split : flat two.groups ≡ flat t.0 ++ line_of g = ap flat t.2 ∙ (flat_snoc t.0 t.1 ∙ ap (λ (f : Squad Q P). flat t.0 ++ line_of f) same) in
+          let split : flat two.groups ≡ flat t.0 ++ line_of g = ap flat t.2 ∙ (flat_snoc t.0 t.1 ∙ ap (λ (f : Squad Request Reply). flat t.0 ++ line_of f) same) in
           let nil : t.0 ≡ [] = flat_nil t.0 (none_before_group (flat t.0) g.rest g.own (subst Distinct split r.distinct) (ap newest (sym split) ∙ (sym r.newest_is ∙ hit))) in
-          let first = step_first two.lead two.done last c t.0 t.1 t.4 un (subst (λ (l : List (Squad Q P)). InStep two.done l last two.lead) t.2 step_of) in
+          let first = step_first two.lead two.done last c t.0 t.1 t.4 un (subst (λ (l : List (Squad Request Reply)). InStep two.done l last two.lead) t.2 step_of) in
           let ws : List ℕ = set words 1 0 in
           let same1 : (j : ℕ) → j ≢ 1 → get_or ws j 0 ≡ get_or words j 0 = λ j ne. get_or-set_other words 1 j 0 0 (λ e. ne (omega arith)) in
           let state : (j : ℕ) → get_or ws (state_at j) 0 ≡ get_or words (state_at j) 0 = λ j. same1 (state_at j) (λ e. omega arith) in
-          let p : Place Q P = away in
+          let p : Place Request Reply = away in
           record {
             newest_is = get_or-set_same words 1 0 0 (omega arith);
             links = tt;
@@ -265,38 +265,38 @@ module _ {Q P L M : Type 0} (stands : Laws Q P L M) (n : ℕ) where
             members = tt;
             parts = λ k f d. put_at two.place c p (λ j q. q ≡ parted f d → Parts stands n ws homes phase j f d) k (λ _ e. absurd (cc)) (λ _ e. let q = r.parts k f d e in (q.0, q.1, q.2, links_same d words ws (line_of f) (λ j. same1 (older_at j) (λ e'. omega arith)) q.3, q.4, q.5));
             outgoing = λ k f. put_at two.place c p (λ j q. q ≡ served f → IsLed phase j f) k (λ _ e. absurd (cc)) (λ _ e. r.outgoing k f e);
-            turn_is = (refl, (m, set_here homes (n + 1) (some (Right m)) (omega arith), stood));
-            in_front = λ k h. put_at two.place c p (λ j q. InFront j mode → q ≡ away) k (λ is h'. let hh : InFront c mode = subst (λ (j : ℕ). InFront j mode) is h' in (let bad : Path (Place Q P) (serves g) away = sym is_serves ∙ r.in_front c hh in absurd (cc))) (λ _ h'. r.in_front k h') h;
+            turn_is = (refl, (m, set_here homes (n + 1) (some (TheRight m)) (omega arith), stood));
+            in_front = λ k h. put_at two.place c p (λ j q. InFront j mode → q ≡ away) k (λ is h'. let hh : InFront c mode = subst (λ (j : ℕ). InFront j mode) is h' in (let bad : Path (Place Request Reply) (serves g) away = sym is_serves ∙ r.in_front c hh in absurd (cc))) (λ _ h'. r.in_front k h') h;
             quiet = λ k h. put_at two.place c p (λ j q. Holds j mode → Apart q → get_or ws (state_at j) 0 ≢ 4) k (λ is h' _. absurd (un_holds (subst (λ (j : ℕ). Holds j mode) is h'))) (λ _ h' a e. r.quiet k h' a (sym (state k) ∙ e)) h;
             quiet_queued = λ k f. put_at two.place c p (λ j q. q ≡ queued f → get_or ws (state_at j) 0 ≢ 4) k (λ _ e. absurd (cc)) (λ _ e e'. r.quiet_queued k f e (sym (state k) ∙ e'));
             called_turn = λ k f. put_at two.place c p (λ j q. q ≡ called f → still ≡ calls j) k (λ _ e. absurd (cc)) (λ _ e. let bad : held_by c ≡ calls k = sym turn_c ∙ r.called_turn k f e in absurd (cc));
             ahead_holds = r.ahead_holds;
-            in_level = subst (λ (z : Bool). Level stands z (two_stops c g) last) (sym piped) (subst (λ (z : List (Handling Q P) × List (Squad Q P)). InStep z.0 z.1 last two.lead) (λ i. ((same i).to, nil i)) first.1);
+            in_level = subst (λ (z : Bool). Level stands z (two_stops c g) last) (sym piped) (subst (λ (z : List (Handling Request Reply) × List (Squad Request Reply)). InStep z.0 z.1 last two.lead) (λ i. ((same i).to, nil i)) first.1);
           }
 
       -- somebody came: the link of the next group's leader is cleared
-      abbrev pub two_clears : ℕ → Squad Q P → ℕ → List (Squad Q P) → Two Q P
+      abbrev pub two_clears : ℕ → Squad Request Reply → ℕ → List (Squad Request Reply) → Two Request Reply
       two_clears c g w newer = record { groups = newer; place = put two.place c (served g); turn = passes c w; lead = two.lead; done = g.to }
 
-      pub second_clears : (c v : ℕ) (g : Squad Q P) (q : List (Entry Q)) (x : Entry Q) → two.turn ≡ held_by c → two.place c ≡ serves g → two.lead ≢ ahead c → (Holds c mode → ⊥) → flat two.groups ≡ q ++ x ∷ line_of g → v ≡ pack 0 x.code → length words ≡ 2 * n + 4
-          → (newer : List (Squad Q P)) × (0 < x.by) × (x.by ≤ n) × (phase x.by ≡ leads x) × (two.place x.by ≢ away) × Second stands n (set words (older_at x.by) v) homes phase mode last (two_clears c g x.by newer) × (two.groups ≡ newer ++ g ∷ [])
+      pub second_clears : (c v : ℕ) (g : Squad Request Reply) (q : List (QueuedWriter Request)) (x : QueuedWriter Request) → two.turn ≡ held_by c → two.place c ≡ serves g → two.lead ≢ ahead c → (Holds c mode → ⊥) → flat two.groups ≡ q ++ x ∷ line_of g → v ≡ pack 0 x.code → length words ≡ 2 * n + 4
+          → (newer : List (Squad Request Reply)) × (0 < x.by) × (x.by ≤ n) × (phase x.by ≡ leads x) × (two.place x.by ≢ away) × Second stands n (set words (older_at x.by) v) homes phase mode last (two_clears c g x.by newer) × (two.groups ≡ newer ++ g ∷ [])
       second_clears c v g q x turn_c is_serves un un_holds walk is_v wide =
           let t = subst (InTurn stands n words homes phase two) turn_c r.turn_is in
-          let newer : List (Squad Q P) = t.0 in
+          let newer : List (Squad Request Reply) = t.0 in
           let same : t.1 ≡ g = one_serves t.1 g (sym t.3 ∙ is_serves) in
-          let split : flat two.groups ≡ flat newer ++ line_of g = ap flat t.2 ∙ (flat_snoc newer t.1 ∙ ap (λ (f : Squad Q P). flat newer ++ line_of f) same) in
+          let split : flat two.groups ≡ flat newer ++ line_of g = ap flat t.2 ∙ (flat_snoc newer t.1 ∙ ap (λ (f : Squad Request Reply). flat newer ++ line_of f) same) in
           let flat_is : flat newer ≡ q ++ x ∷ [] = append_cancel_right (flat newer) (q ++ x ∷ []) (line_of g) (sym split ∙ (walk ∙ sym (append_assoc q (x ∷ []) (line_of g)))) in
-          let next : (nw : List (Squad Q P)) × (g2 : Squad Q P) × (newer ≡ nw ++ g2 ∷ []) = ⊎_elim (λ (e : newer ≡ []). absurd (not_snoc q x (sym flat_is ∙ ap flat e))) (λ (k : (nw : List (Squad Q P)) × (g2 : Squad Q P) × (newer ≡ nw ++ g2 ∷ [])). k) (ends_or newer) in
-          let g2 : Squad Q P = next.1 in
+          let next : (nw : List (Squad Request Reply)) × (g2 : Squad Request Reply) × (newer ≡ nw ++ g2 ∷ []) = ⊎_elim (λ (e : newer ≡ []). absurd (not_snoc q x (sym flat_is ∙ ap flat e))) (λ (k : (nw : List (Squad Request Reply)) × (g2 : Squad Request Reply) × (newer ≡ nw ++ g2 ∷ [])). k) (ends_or newer) in
+          let g2 : Squad Request Reply = next.1 in
           let own_x : g2.own ≡ x = same_last (flat next.0 ++ g2.rest) q g2.own x (append_assoc (flat next.0) g2.rest (g2.own ∷ []) ∙ (sym (flat_snoc next.0 g2) ∙ (ap flat (sym next.2) ∙ flat_is))) in
           let members_newer : AllGroups phase two.place newer = groups_newer phase two.place newer t.1 (subst (AllGroups phase two.place) t.2 r.members) in
           let at2 = groups_at phase two.place next.0 g2 (subst (AllGroups phase two.place) next.2 members_newer) in
-          let now_x : phase x.by ≡ leads x = subst (λ (e : Entry Q). phase e.by ≡ leads e) own_x at2.0 in
+          let now_x : phase x.by ≡ leads x = subst (λ (e : QueuedWriter Request). phase e.by ≡ leads e) own_x at2.0 in
           let whole : Distinct (flat newer ++ line_of g) = subst Distinct split r.distinct in
-          let out_c : Absent c (flat newer) = subst (λ (j : ℕ). Absent j (flat newer)) (ap (λ (f : Squad Q P). f.own.by) (sym same) ∙ t.4) (absent_front g.own.by (flat newer) g.rest (distinct_apart (flat newer ++ g.rest) g.own [] (subst Distinct (sym (append_assoc (flat newer) g.rest (g.own ∷ []))) whole))) in
+          let out_c : Absent c (flat newer) = subst (λ (j : ℕ). Absent j (flat newer)) (ap (λ (f : Squad Request Reply). f.own.by) (sym same) ∙ t.4) (absent_front g.own.by (flat newer) g.rest (distinct_apart (flat newer ++ g.rest) g.own [] (subst Distinct (sym (append_assoc (flat newer) g.rest (g.own ∷ []))) whole))) in
           let out_x : Absent x.by q = distinct_apart q x (line_of g) (subst Distinct walk r.distinct) in
           let range = within_at n q x (line_of g) (subst (Within n) walk r.within) in
-          let first = step_first two.lead two.done last c newer t.1 t.4 un (subst (λ (l : List (Squad Q P)). InStep two.done l last two.lead) t.2 step_of) in
+          let first = step_first two.lead two.done last c newer t.1 t.4 un (subst (λ (l : List (Squad Request Reply)). InStep two.done l last two.lead) t.2 step_of) in
           let lo : 0 < x.by = range.0 in
           let hi : x.by ≤ n = range.1 in
           let ws : List ℕ = set words (older_at x.by) v in
@@ -305,12 +305,12 @@ module _ {Q P L M : Type 0} (stands : Laws Q P L M) (n : ℕ) where
           let state : (j : ℕ) → get_or ws (state_at j) 0 ≡ get_or words (state_at j) 0 = λ j. samew (state_at j) (λ e. omega arith) in
           let own_at = groups_at phase two.place newer t.1 (subst (AllGroups phase two.place) t.2 r.members) in
           let led_c : IsLed phase c g = subst (IsLed phase c) same (t.4, subst (λ (j : ℕ). phase j ≡ leads t.1.own) t.4 own_at.0, subst (λ (j : ℕ). AllWith phase j t.1.rest) t.4 own_at.2) in
-          let p : Place Q P = served g in (
+          let p : Place Request Reply = served g in (
             newer,
             lo,
             hi,
             now_x,
-            in_not_away g2 (two.place x.by) (subst (λ (y : Entry Q). In g2 (two.place y.by)) own_x at2.1),
+            in_not_away g2 (two.place x.by) (subst (λ (y : QueuedWriter Request). In g2 (two.place y.by)) own_x at2.1),
             record {
               newest_is = samew 1 (λ e. omega arith) ∙ (r.newest_is ∙ (ap newest walk ∙ (newest_cut q x (line_of g) ∙ ap newest (sym flat_is))));
               links = subst (Links ws) (sym flat_is) (links_cut words ws q x (line_of g) older (get_or-set_same words (older_at x.by) v 0 (omega arith) ∙ is_v) out_x (subst (Links words) walk r.links));
@@ -322,31 +322,31 @@ module _ {Q P L M : Type 0} (stands : Laws Q P L M) (n : ℕ) where
                 z.1,
                 z.2,
                 links_stay d words ws x.by (line_of f) older (absent_append x.by f.rest (f.own ∷ []) (with_absent phase x.by k f.rest (λ y bad. absurd (cc)) z.2)
-                    ((λ is. subst (In g2) (ap two.place (ap (λ (y : Entry Q). y.by) own_x ∙ (sym is ∙ z.0)) ∙ e) at2.1), tt)) z.3,
+                    ((λ is. subst (In g2) (ap two.place (ap (λ (y : QueuedWriter Request). y.by) own_x ∙ (sym is ∙ z.0)) ∙ e) at2.1), tt)) z.3,
                 z.4,
                 z.5,
               ));
-              outgoing = λ k f. put_at two.place c p (λ j q. q ≡ served f → IsLed phase j f) k (λ is e. subst (λ (z : ℕ × Squad Q P). IsLed phase z.0 z.1) (λ i. (sym is i, one_served g f e i)) led_c) (λ _ e. r.outgoing k f e);
-              turn_is = (next.0, g2, next.2, ap (λ (y : Entry Q). y.by) own_x);
-              in_front = λ k h. put_at two.place c p (λ j q. InFront j mode → q ≡ away) k (λ is h'. let hh : InFront c mode = subst (λ (j : ℕ). InFront j mode) is h' in (let bad : Path (Place Q P) (serves g) away = sym is_serves ∙ r.in_front c hh in absurd (cc))) (λ _ h'. r.in_front k h') h;
+              outgoing = λ k f. put_at two.place c p (λ j q. q ≡ served f → IsLed phase j f) k (λ is e. subst (λ (z : ℕ × Squad Request Reply). IsLed phase z.0 z.1) (λ i. (sym is i, one_served g f e i)) led_c) (λ _ e. r.outgoing k f e);
+              turn_is = (next.0, g2, next.2, ap (λ (y : QueuedWriter Request). y.by) own_x);
+              in_front = λ k h. put_at two.place c p (λ j q. InFront j mode → q ≡ away) k (λ is h'. let hh : InFront c mode = subst (λ (j : ℕ). InFront j mode) is h' in (let bad : Path (Place Request Reply) (serves g) away = sym is_serves ∙ r.in_front c hh in absurd (cc))) (λ _ h'. r.in_front k h') h;
               quiet = λ k h. put_at two.place c p (λ j z. Holds j mode → Apart z → get_or ws (state_at j) 0 ≢ 4) k (λ is h' _. absurd (un_holds (subst (λ (j : ℕ). Holds j mode) is h'))) (λ _ h' a e. r.quiet k h' a (sym (state k) ∙ e)) h;
               quiet_queued = λ k f. put_at two.place c p (λ j z. z ≡ queued f → get_or ws (state_at j) 0 ≢ 4) k (λ _ e. absurd (cc)) (λ _ e e'. r.quiet_queued k f e (sym (state k) ∙ e'));
               called_turn = λ k f. put_at two.place c p (λ j z. z ≡ called f → passes c x.by ≡ calls j) k (λ _ e. absurd (cc)) (λ _ e. let bad : held_by c ≡ calls k = sym turn_c ∙ r.called_turn k f e in absurd (cc));
               ahead_holds = r.ahead_holds;
-              in_level = subst (λ (z : Bool). Level stands z (two_clears c g x.by newer) last) (sym piped) (subst (λ (z : List (Handling Q P)). InStep z newer last two.lead) (ap (λ (f : Squad Q P). f.to) same) first.1);
+              in_level = subst (λ (z : Bool). Level stands z (two_clears c g x.by newer) last) (sym piped) (subst (λ (z : List (Handling Request Reply)). InStep z newer last two.lead) (ap (λ (f : Squad Request Reply). f.to) same) first.1);
             },
-            t.2 ∙ ap (λ (f : Squad Q P). newer ++ f ∷ []) same,
+            t.2 ∙ ap (λ (f : Squad Request Reply). newer ++ f ∷ []) same,
           )
 
     -- who gives the right on is in no list any more
-    abbrev pub two_ends : ℕ → Two Q P
+    abbrev pub two_ends : ℕ → Two Request Reply
     two_ends c = record { groups = two.groups; place = put two.place c away; turn = two.turn; lead = two.lead; done = two.done }
 
-    pub second_ends : (c : ℕ) (g : Squad Q P) → two.place c ≡ served g → Second stands n words homes phase mode last (two_ends c)
+    pub second_ends : (c : ℕ) (g : Squad Request Reply) → two.place c ≡ served g → Second stands n words homes phase mode last (two_ends c)
     second_ends c g is_served =
         let led_c : IsLed phase c g = r.outgoing c g is_served in
         let out : Absent c (flat two.groups) = absent_groups phase two.place c two.groups (λ f t. subst (In f) is_served t) (λ k e bad. let was : phase c ≡ leads g.own = led_c.1 in absurd (cc)) r.members in
-        let p : Place Q P = away in
+        let p : Place Request Reply = away in
         record {
           newest_is = r.newest_is;
           links = r.links;
@@ -356,7 +356,7 @@ module _ {Q P L M : Type 0} (stands : Laws Q P L M) (n : ℕ) where
           parts = λ k f b. put_at two.place c p (λ j q. q ≡ parted f b → Parts stands n words homes phase j f b) k (λ _ e. absurd (cc)) (λ _ e. r.parts k f b e);
           outgoing = λ k f. put_at two.place c p (λ j q. q ≡ served f → IsLed phase j f) k (λ _ e. absurd (cc)) (λ _ e. r.outgoing k f e);
           turn_is = turn_put words homes phase two.groups two.place two.turn two.lead two.lead two.done c p
-              (λ f e. let bad : Path (Place Q P) (served g) (called f) = sym is_served ∙ e in absurd (cc)) (λ f e. let bad : Path (Place Q P) (served g) (serves f) = sym is_served ∙ e in absurd (cc)) two.turn r.turn_is;
+              (λ f e. let bad : Path (Place Request Reply) (served g) (called f) = sym is_served ∙ e in absurd (cc)) (λ f e. let bad : Path (Place Request Reply) (served g) (serves f) = sym is_served ∙ e in absurd (cc)) two.turn r.turn_is;
           in_front = λ k h. put_at two.place c p (λ j q. InFront j mode → q ≡ away) k (λ _ _. refl) (λ _ h'. r.in_front k h') h;
           quiet = λ k h. put_at two.place c p (λ j q. Holds j mode → Apart q → get_or words (state_at j) 0 ≢ 4) k (λ is h' _. subst (λ (j : ℕ). Holds j mode → get_or words (state_at j) 0 ≢ 4) (sym is) (λ hc. r.quiet c hc (subst Apart (sym is_served) tt)) h') (λ ne h' a. r.quiet k h' a) h;
           quiet_queued = λ k f. put_at two.place c p (λ j q. q ≡ queued f → get_or words (state_at j) 0 ≢ 4) k (λ _ e. absurd (cc)) (λ _ e. r.quiet_queued k f e);
@@ -366,14 +366,14 @@ module _ {Q P L M : Type 0} (stands : Laws Q P L M) (n : ℕ) where
         }
 
     -- the next leader is told, and the right goes home for it
-    abbrev pub two_calls : ℕ → Squad Q P → Two Q P
+    abbrev pub two_calls : ℕ → Squad Request Reply → Two Request Reply
     two_calls w g = record { groups = two.groups; place = put two.place w (called g); turn = calls w; lead = two.lead; done = two.done }
 
-    pub second_calls : (c w : ℕ) (m : M) → two.turn ≡ passes c w → stands.rights m two.done → length words ≡ 2 * n + 4 → length homes ≡ n + 2
-        → (g : Squad Q P) × In g (two.place w) × (0 < w) × (w ≤ n) × (phase w ≡ leads g.own) × Second stands n (set words (state_at w) 4) (set homes (n + 1) (some (Right m))) phase mode last (two_calls w g)
+    pub second_calls : (c w : ℕ) (m : Right) → two.turn ≡ passes c w → stands.rights m two.done → length words ≡ 2 * n + 4 → length homes ≡ n + 2
+        → (g : Squad Request Reply) × In g (two.place w) × (0 < w) × (w ≤ n) × (phase w ≡ leads g.own) × Second stands n (set words (state_at w) 4) (set homes (n + 1) (some (TheRight m))) phase mode last (two_calls w g)
     second_calls c w m turn_c stood wide many =
         let t = subst (InTurn stands n words homes phase two) turn_c r.turn_is in
-        let g : Squad Q P = t.1 in
+        let g : Squad Request Reply = t.1 in
         let at = groups_at phase two.place t.0 g (subst (AllGroups phase two.place) t.2 r.members) in
         let is_in : In g (two.place w) = subst (λ (j : ℕ). In g (two.place j)) t.3 at.1 in
         let parts_flat : flat two.groups ≡ (flat t.0 ++ g.rest) ++ g.own ∷ [] = ap flat t.2 ∙ (flat_snoc t.0 g ∙ sym (append_assoc (flat t.0) g.rest (g.own ∷ []))) in
@@ -384,7 +384,7 @@ module _ {Q P L M : Type 0} (stands : Laws Q P L M) (n : ℕ) where
         let same : (j : ℕ) → j ≢ state_at w → get_or ws j 0 ≡ get_or words j 0 = λ j ne. get_or-set_other words (state_at w) j 4 0 (λ e. ne (omega arith)) in
         let older : (j : ℕ) → get_or ws (older_at j) 0 ≡ get_or words (older_at j) 0 = λ j. same (older_at j) (λ e. omega arith) in
         let state : (j : ℕ) → j ≢ w → get_or ws (state_at j) 0 ≡ get_or words (state_at j) 0 = λ j ne. same (state_at j) (λ e. ne (omega arith)) in
-        let p : Place Q P = called g in (
+        let p : Place Request Reply = called g in (
           g,
           is_in,
           lo,
@@ -398,7 +398,7 @@ module _ {Q P L M : Type 0} (stands : Laws Q P L M) (n : ℕ) where
             members = groups_turn phase two.place w p two.groups (λ f ok. in_one g f (two.place w) is_in ok) r.members;
             parts = λ k f d. put_at two.place w p (λ j q. q ≡ parted f d → Parts stands n ws homes phase j f d) k (λ _ e. absurd (cc)) (λ _ e. let q = r.parts k f d e in (q.0, q.1, q.2, links_same d words ws (line_of f) older q.3, q.4, q.5));
             outgoing = λ k f. put_at two.place w p (λ j q. q ≡ served f → IsLed phase j f) k (λ _ e. absurd (cc)) (λ _ e. r.outgoing k f e);
-            turn_is = ((t.0, g, t.2, put_here two.place w p, t.3, get_or-set_same words (state_at w) 4 0 (omega arith)), (m, set_here homes (n + 1) (some (Right m)) (omega arith), stood));
+            turn_is = ((t.0, g, t.2, put_here two.place w p, t.3, get_or-set_same words (state_at w) 4 0 (omega arith)), (m, set_here homes (n + 1) (some (TheRight m)) (omega arith), stood));
             in_front = λ k h. put_at two.place w p (λ j q. InFront j mode → q ≡ away) k (λ is h'. let hh : InFront w mode = subst (λ (j : ℕ). InFront j mode) is h' in absurd (in_not_away g (two.place w) is_in (r.in_front w hh))) (λ _ h'. r.in_front k h') h;
             quiet = λ k h. put_at two.place w p (λ j q. Apart q → get_or ws (state_at j) 0 ≢ 4) k (λ _ a. absurd a) (λ ne a e. r.quiet k h a (sym (state k ne) ∙ e));
             quiet_queued = λ k f. put_at two.place w p (λ j q. q ≡ queued f → get_or ws (state_at j) 0 ≢ 4) k (λ _ e. absurd (cc)) (λ ne e e'. r.quiet_queued k f e (sym (state k ne) ∙ e'));
@@ -409,15 +409,15 @@ module _ {Q P L M : Type 0} (stands : Laws Q P L M) (n : ℕ) where
         )
 
     -- the log goes on, behind the group's numbers
-    abbrev pub two_level : Two Q P
+    abbrev pub two_level : Two Request Reply
     two_level = record { groups = two.groups; place = two.place; turn = two.turn; lead = level; done = two.done }
 
-    pub second_hands : (c : ℕ) (last' : List (Handling Q P)) (g : Squad Q P) → stands.piped ≡ true → two.lead ≡ ahead c → In g (two.place c) → g.to ≡ last' → Second stands n words homes phase mode last' two_level
+    pub second_hands : (c : ℕ) (last' : List (Handling Request Reply)) (g : Squad Request Reply) → stands.piped ≡ true → two.lead ≡ ahead c → In g (two.place c) → g.to ≡ last' → Second stands n words homes phase mode last' two_level
     second_hands c last' g piped is_ahead is_in to_is =
         let s : InStep two.done two.groups last (ahead c) = subst (InStep two.done two.groups last) is_ahead (subst (λ (b : Bool). Level stands b two last) piped r.in_level) in
         let head : AllGroups phase two.place (s.0 ∷ s.1) = subst (AllGroups phase two.place) s.2 r.members in
         let same : s.0 ≡ g = in_one s.0 g (two.place c) (subst (λ (j : ℕ). In s.0 (two.place j)) s.4 head.1) is_in in
-        let chain : Chained two.done (s.0 ∷ s.1) last' = (ap (λ (f : Squad Q P). f.to) same ∙ to_is, subst (λ (k : List (Handling Q P)). Chained two.done s.1 k) (sym s.3) s.5) in
+        let chain : Chained two.done (s.0 ∷ s.1) last' = (ap (λ (f : Squad Request Reply). f.to) same ∙ to_is, subst (λ (k : List (Handling Request Reply)). Chained two.done s.1 k) (sym s.3) s.5) in
         record {
           newest_is = r.newest_is;
           links = r.links;
@@ -432,5 +432,5 @@ module _ {Q P L M : Type 0} (stands : Laws Q P L M) (n : ℕ) where
           quiet_queued = r.quiet_queued;
           called_turn = r.called_turn;
           ahead_holds = λ k e. absurd (cc);
-          in_level = subst (λ (z : Bool). Level stands z two_level last') (sym piped) (subst (λ (l : List (Squad Q P)). Chained two.done l last') (sym s.2) chain);
+          in_level = subst (λ (z : Bool). Level stands z two_level last') (sym piped) (subst (λ (l : List (Squad Request Reply)). Chained two.done l last') (sym s.2) chain);
         }

@@ -8,16 +8,16 @@ use lib.Seq.{set-get_or}
 use prog.Atomic.{either}
 use Rattle.atomic_table.specs.Table.{step, keeps, gives, stepped, Allows}
 use Rattle.atomic_table.proofs.Lists.{set_else, exchanged}
-use Rattle.line_rule.specs.declared.view.Entry.{Entry}
+use Rattle.line_rule.specs.declared.view.QueuedWriter.{QueuedWriter}
 use Rattle.line_rule.specs.declared.view.Debt.{Debt}
-use Rattle.line_rule.specs.declared.view.Hold.{Hold}
+use Rattle.line_rule.specs.declared.view.LineHold.{LineHold}
 use Rattle.line_rule.specs.declared.view.Squad.{Squad}
 use Rattle.line_rule.specs.declared.view.Back.{Back}
 use Rattle.line_rule.specs.declared.view.Back.TheVariants.{Away, Parting, Joining, Holding, Queued, Serving, Passing}
-use Rattle.line_rule.specs.declared.content.Content.{Content}
-use Rattle.line_rule.specs.declared.content.Content.TheVariants.{Right}
-use Rattle.line_rule.specs.declared.view.Stage.{Stage}
-use Rattle.line_rule.specs.declared.view.Stage.TheVariants.{Settling}
+use Rattle.line_rule.specs.declared.content.LineSlot.{LineSlot}
+use Rattle.line_rule.specs.declared.content.LineSlot.TheVariants.{TheRight}
+use Rattle.line_rule.specs.declared.view.LineStage.{LineStage}
+use Rattle.line_rule.specs.declared.view.LineStage.TheVariants.{Settling}
 use Rattle.line_rule.specs.Chain.{state_at, older_at, pack, newest, Links, Absent, Distinct, Within}
 use Rattle.line_rule.specs.Standing.{Phase, leads, taken, base_of, away, called, Turn, still, calls, serves, served, held_by, passes, Two, line_of, flat, In, Behind, KnowsBack}
 use Rattle.line_rule.specs.Laws.{Laws}
@@ -26,7 +26,7 @@ use Rattle.line_rule.specs.declared.view.Handling.{Handling}
 use Rattle.line_rule.proofs.Enters.{not_snoc}
 use Rattle.line_rule.specs.Steps.{Lists, Stays, HappensWhere, IsServedOut, now_of, IsNow, StepIs}
 use Rattle.line_rule.specs.SecondList.{SecondList, apart_in, served_in, last_served, second_list_of}
-use Rattle.line_rule.specs.Plays.{Sat, AtWith, debt, WalksSecond, left_second, traced_second, cleared_second, called_next, kept}
+use Rattle.line_rule.specs.Plays.{Sat, AtWith, debt, WalksSecond, after_leave_second, after_read_older_second, after_clear_second, after_call_next, after_make_parallel}
 use Rattle.line_rule.proofs.Chains.{put, put_here, put_else, links_stay, links_same}
 use Rattle.line_rule.proofs.Groups.{links_at, walk_bound}
 use Rattle.line_rule.proofs.Leads.{all_below, middle, same_last, snoc}
@@ -39,8 +39,8 @@ use Rattle.line_rule.proofs.Onward.{back_map, one_hold_at, apart_same, in_apart}
 use Rattle.line_rule.proofs.Settles.{debt_in, no_log}
 use Rattle.line_rule.proofs.Passes.{squad_of, out_of_line, rows_else, passed, passed_to}
 
-module _ {Q P : Type 0} where
-  abbrev pub walk_of : List (Entry Q) → Back Q P → List (Entry Q)
+module _ {Request Reply : Type 0} where
+  abbrev pub walk_of : List (QueuedWriter Request) → Back Request Reply → List (QueuedWriter Request)
   walk_of d Away = d
   walk_of d (Parting g k) = d
   walk_of d (Joining g) = d
@@ -50,7 +50,7 @@ module _ {Q P : Type 0} where
   walk_of d (Passing g x) = d
 
   -- who is told that it is first
-  call_back : (two z : Two Q P) (c w : ℕ) (g : Squad Q P) → In g (two.place w) → two.turn ≡ passes c w → z.place w ≡ called g → z.lead ≡ two.lead → (y : Back Q P) → KnowsBack two w y → KnowsBack z w y
+  call_back : (two z : Two Request Reply) (c w : ℕ) (g : Squad Request Reply) → In g (two.place w) → two.turn ≡ passes c w → z.place w ≡ called g → z.lead ≡ two.lead → (y : Back Request Reply) → KnowsBack two w y → KnowsBack z w y
   call_back two z c w g is_in turn_c here same Away ok = absurd (in_not_away g (two.place w) is_in ok.0)
   call_back two z c w g is_in turn_c here same (Parting f d) ok = absurd (subst (In g) ok.0 is_in)
   call_back two z c w g is_in turn_c here same (Joining f) ok = (subst (Behind f) (sym here) (in_one g f (two.place w) is_in (behind_in f (two.place w) ok.0)), same ∙ ok.1)
@@ -71,14 +71,14 @@ same_turn a b e = ap (passes_of a) e
 same_pass : (a b v w : ℕ) → passes a v ≡ passes b w → a ≡ b
 same_pass a b v w e = ap (passes_of a) e
 
-module _ {Q P : Type 0} where
-  owed_at : (phase : ℕ → Phase Q P) (due : ℕ → List (Q × P)) (c : ℕ) (pre : List (Entry Q × P)) (y : Entry Q × P) (post : List (Entry Q × P)) → AllOwed phase due c (pre ++ y ∷ post) → (phase y.0.by ≡ taken c y.0) × (due y.0.by ≡ (y.0.asked, y.1) ∷ [])
+module _ {Request Reply : Type 0} where
+  owed_at : (phase : ℕ → Phase Request Reply) (due : ℕ → List (Request × Reply)) (c : ℕ) (pre : List (QueuedWriter Request × Reply)) (y : QueuedWriter Request × Reply) (post : List (QueuedWriter Request × Reply)) → AllOwed phase due c (pre ++ y ∷ post) → (phase y.0.by ≡ taken c y.0) × (due y.0.by ≡ (y.0.asked, y.1) ∷ [])
   owed_at phase due c [] y post ok = (ok.0, ok.1)
   owed_at phase due c (g ∷ gs) y post ok = owed_at phase due c gs y post ok.2
 
-module _ {Q P L M : Type 0} (stands : Laws Q P L M) (n : ℕ) where
+module _ {Request Reply Log Right : Type 0} (stands : Laws Request Reply Log Right) (n : ℕ) where
   -- a link of the walk of the second list
-  pub traces_second_is : (slots id : ℕ) (me : Sat Q P L M) (k : ℕ) → StepIs stands n (λ _. Stays) slots id me k (λ y. y) (traced_second (step slots k 0 0 none) me)
+  pub traces_second_is : (slots id : ℕ) (me : Sat Request Reply Log Right) (k : ℕ) → StepIs stands n (λ _. Stays) slots id me k (λ y. y) (after_read_older_second (step slots k 0 0 none) me)
   traces_second_is slots id me k s r long at fits = (
     me.0,
     keeps,
@@ -94,39 +94,39 @@ module _ {Q P L M : Type 0} (stands : Laws Q P L M) (n : ℕ) where
     ),
   )
 
-  pub traces_second : (slots id : ℕ) (me : Sat Q P L M) (k : ℕ) → Allows (Listed stands n) slots id me k (λ y. y) (traced_second (step slots k 0 0 none) me)
-  traces_second slots id me k = allows stands n (λ _. Stays) slots id me k (λ y. y) (traced_second (step slots k 0 0 none) me) (traces_second_is slots id me k)
+  pub traces_second : (slots id : ℕ) (me : Sat Request Reply Log Right) (k : ℕ) → Allows (Listed stands n) slots id me k (λ y. y) (after_read_older_second (step slots k 0 0 none) me)
+  traces_second slots id me k = allows stands n (λ _. Stays) slots id me k (λ y. y) (after_read_older_second (step slots k 0 0 none) me) (traces_second_is slots id me k)
 
   -- the last slot
   last_slot : (slots k : ℕ) (s : St stands n) → Listed stands n s → length s.homes ≡ slots → k + 1 ≡ slots → k ≡ n + 1
   last_slot slots k s r long is = let many : length s.homes ≡ n + 2 = r.many in omega (arith, long, is)
 
   -- who has the right leads the oldest group
-  served_by : (s : St stands n) (r : Listed stands n s) (c : ℕ) (g : Squad Q P) → r.two.turn ≡ held_by c → r.two.place c ≡ serves g → g.own.by ≡ c
+  served_by : (s : St stands n) (r : Listed stands n s) (c : ℕ) (g : Squad Request Reply) → r.two.turn ≡ held_by c → r.two.place c ≡ serves g → g.own.by ≡ c
   served_by s r c g turn place =
       let t = subst (InTurn stands n s.words s.homes r.phase r.two) turn r.second.turn_is in
-      ap (λ (f : Squad Q P). f.own.by) (sym (one_serves t.1 g (sym t.3 ∙ place))) ∙ t.4
+      ap (λ (f : Squad Request Reply). f.own.by) (sym (one_serves t.1 g (sym t.3 ∙ place))) ∙ t.4
 
   -- the right is given back, where no group came
-  pub leaves_second_is : (slots id : ℕ) (me : Sat Q P L M) (c old k : ℕ) (d : Debt Q P) (mine : List (Q × P)) (g : Squad Q P) (walk : List (Entry Q)) (right : M) (t : List (ℕ × Content Q P L M)) (said : Option (Content Q P L M)) → stands.piped ≡ true → AtWith c (Settling d) mine (Serving g walk) me
-      → me.1 ≡ (k, Right right) ∷ t → k + 1 ≡ slots → old ≡ newest (line_of g) → stands.rights right g.to → StepIs stands n (HappensWhere old (IsServedOut c g)) slots id me 1 (λ y. either (eqb y old) 0 y) (left_second (step slots 1 old 0 said) me)
+  pub leaves_second_is : (slots id : ℕ) (me : Sat Request Reply Log Right) (c old k : ℕ) (d : Debt Request Reply) (mine : List (Request × Reply)) (g : Squad Request Reply) (walk : List (QueuedWriter Request)) (right : Right) (t : List (ℕ × LineSlot Request Reply Log Right)) (said : Option (LineSlot Request Reply Log Right)) → stands.piped ≡ true → AtWith c (Settling d) mine (Serving g walk) me
+      → me.1 ≡ (k, TheRight right) ∷ t → k + 1 ≡ slots → old ≡ newest (line_of g) → stands.rights right g.to → StepIs stands n (HappensWhere old (IsServedOut c g)) slots id me 1 (λ y. either (eqb y old) 0 y) (after_leave_second (step slots 1 old 0 said) me)
   leaves_second_is slots id me c old k d mine g walk right t said piped mid slot is_last is_old stood s r long at fits =
-      let st : Stage Q P = Settling d in
+      let st : LineStage Request Reply = Settling d in
       let at' : get_elem? s.views id ≡ some (hold_at c st mine (Serving g walk) ∷ []) = at ∙ ap some mid in
       let fit = (r.seats id (hold_at c st mine (Serving g walk) ∷ []) at').0 in
-      exchanged (get_or s.words 1 0) old 0 (Goes stands n (HappensWhere old (IsServedOut c g)) s r 1 id me (left_second (step slots 1 old 0 said) me))
+      exchanged (get_or s.words 1 0) old 0 (Goes stands n (HappensWhere old (IsServedOut c g)) s r 1 id me (after_leave_second (step slots 1 old 0 said) me))
       (λ hit.
       let many : length s.homes ≡ n + 2 = r.many in
       let k_is : k ≡ n + 1 = last_slot slots k s r long is_last in
       let ws : List ℕ = set s.words 1 0 in
-      let hs = set s.homes (n + 1) (some (Right right)) in
+      let hs = set s.homes (n + 1) (some (TheRight right)) in
       let same : (j : ℕ) → j ≢ 1 → get_or ws j 0 ≡ get_or s.words j 0 = λ j ne. get_or-set_other s.words 1 j 0 0 (λ e. ne (omega arith)) in
-      let home_else : (j : ℕ) → j ≤ n → get_elem? hs j ≡ get_elem? s.homes j = λ j small. set_else s.homes (n + 1) j (some (Right right)) (λ e. omega arith) in
-      let two' : Two Q P = record { groups = []; place = put r.two.place c away; turn = still; lead = r.two.lead; done = g.to } in
+      let home_else : (j : ℕ) → j ≤ n → get_elem? hs j ≡ get_elem? s.homes j = λ j small. set_else s.homes (n + 1) j (some (TheRight right)) (λ e. omega arith) in
+      let two' : Two Request Reply = record { groups = []; place = put r.two.place c away; turn = still; lead = r.two.lead; done = g.to } in
       let after : IsNow stands n ((now_of stands n s r).0, second_list_of two') (record { words = ws; homes = hs; views = set s.views id (hold_at c st mine Away ∷ []) }) = passed_to stands n s r id ws hs c st mine (Serving g walk) Away two' record {
         at = at';
         wide = length-set s.words 1 0;
-        many = length-set s.homes (n + 1) (some (Right right));
+        many = length-set s.homes (n + 1) (some (TheRight right));
         first = same 0 (λ e. omega arith);
         links = links_same (base_of r.mode) s.words ws r.line (λ j. same (older_at j) (λ e. omega arith)) r.links;
         rows = λ j lo hi. row_stays stands n s.words ws s.homes hs j (r.due j) (same (state_at j) (λ e. omega arith)) (same (older_at j) (λ e. omega arith)) (home_else j hi) (r.phase j) (r.rows j lo hi);
@@ -138,7 +138,7 @@ module _ {Q P L M : Type 0} (stands : Laws Q P L M) (n : ℕ) where
         hold_at c st mine Away ∷ [],
         gives,
         tt,
-        (((now_of stands n s r).0, second_list_of two'), ((λ _. (served_by s r c g fit.5.0 fit.5.1, ap (λ t. r.two.groups ++ last_served r.two.place t) fit.5.0 ∙ (append-nil r.two.groups ∙ one_group stands n s.words s.homes r.phase r.mode (stands.given r.handled) r.two r.second piped c g fit.5.0 fit.5.1 (hit ∙ is_old)), refl, refl, apart_same r.two.place c away (sym (ap apart_in fit.5.1)))), λ miss. absurd (miss hit)), subst (λ (z : List (ℕ × Content Q P L M)). IsNow stands n ((now_of stands n s r).0, second_list_of two') (stepped s 1 0 id z (hold_at c st mine Away ∷ []) gives)) (sym slot) (subst (λ (j : ℕ). IsNow stands n ((now_of stands n s r).0, second_list_of two') (record { words = ws; homes = set s.homes j (some (Right right)); views = set s.views id (hold_at c st mine Away ∷ []) })) (sym k_is) after)),
+        (((now_of stands n s r).0, second_list_of two'), ((λ _. (served_by s r c g fit.5.0 fit.5.1, ap (λ t. r.two.groups ++ last_served r.two.place t) fit.5.0 ∙ (append-nil r.two.groups ∙ one_group stands n s.words s.homes r.phase r.mode (stands.given r.handled) r.two r.second piped c g fit.5.0 fit.5.1 (hit ∙ is_old)), refl, refl, apart_same r.two.place c away (sym (ap apart_in fit.5.1)))), λ miss. absurd (miss hit)), subst (λ (z : List (ℕ × LineSlot Request Reply Log Right)). IsNow stands n ((now_of stands n s r).0, second_list_of two') (stepped s 1 0 id z (hold_at c st mine Away ∷ []) gives)) (sym slot) (subst (λ (j : ℕ). IsNow stands n ((now_of stands n s r).0, second_list_of two') (record { words = ws; homes = set s.homes j (some (TheRight right)); views = set s.views id (hold_at c st mine Away ∷ []) })) (sym k_is) after)),
         λ c' d' mine' f walk' mid'.
             let e = one_hold_at c c' st (Settling d') mine mine' (Serving g walk) (Serving f walk') me.0 mid mid' in
             ((λ _. ((λ i. hold_at (e.0 i) (e.1 i) (e.2 i) Away ∷ []), refl)), λ miss. absurd (miss hit)),
@@ -146,10 +146,10 @@ module _ {Q P L M : Type 0} (stands : Laws Q P L M) (n : ℕ) where
       (λ miss.
       let tn = subst (InTurn stands n s.words s.homes r.phase r.two) fit.5.0 r.second.turn_is in
       let same_g : tn.1 ≡ g = one_serves tn.1 g (sym tn.3 ∙ fit.5.1) in
-      let newer : List (Entry Q) = flat tn.0 in
-      let now : List (Entry Q) = newer ++ line_of g in
-      let split : flat r.two.groups ≡ now = ap flat tn.2 ∙ (flat_snoc tn.0 tn.1 ∙ ap (λ (f : Squad Q P). newer ++ line_of f) same_g) in
-      let w : List (Hold Q P) = hold_at c st mine (Serving g now) ∷ [] in
+      let newer : List (QueuedWriter Request) = flat tn.0 in
+      let now : List (QueuedWriter Request) = newer ++ line_of g in
+      let split : flat r.two.groups ≡ now = ap flat tn.2 ∙ (flat_snoc tn.0 tn.1 ∙ ap (λ (f : Squad Request Reply). newer ++ line_of f) same_g) in
+      let w : List (LineHold Request Reply) = hold_at c st mine (Serving g now) ∷ [] in
       let after : IsNow stands n (now_of stands n s r) (record { words = s.words; homes = s.homes; views = set s.views id w }) = passed stands n s r id s.words s.homes c st mine (Serving g walk) (Serving g now) r.two refl record {
         at = at';
         wide = refl;
@@ -171,7 +171,7 @@ module _ {Q P L M : Type 0} (stands : Laws Q P L M) (n : ℕ) where
             let gf : g ≡ f = ap (squad_of g) e.3 in
             let df : d ≡ d' = ap (debt_in d) e.1 in (
               (λ hit. absurd (miss hit)),
-              λ _. subst (λ (z : ℕ × Debt Q P × List (Q × P) × Squad Q P). WalksSecond slots z.0 z.1 z.2 z.3 (get_or s.words 1 0) me (w, me.1)) (λ i. (e.0 i, df i, e.2 i, gf i)) (
+              λ _. subst (λ (z : ℕ × Debt Request Reply × List (Request × Reply) × Squad Request Reply). WalksSecond slots z.0 z.1 z.2 z.3 (get_or s.words 1 0) me (w, me.1)) (λ i. (e.0 i, df i, e.2 i, gf i)) (
                 newer,
                 refl,
                 refl,
@@ -182,19 +182,19 @@ module _ {Q P L M : Type 0} (stands : Laws Q P L M) (n : ℕ) where
             ),
       ))
 
-  pub leaves_second : (slots id : ℕ) (me : Sat Q P L M) (c old k : ℕ) (d : Debt Q P) (mine : List (Q × P)) (g : Squad Q P) (walk : List (Entry Q)) (right : M) (t : List (ℕ × Content Q P L M)) (said : Option (Content Q P L M)) → stands.piped ≡ true → AtWith c (Settling d) mine (Serving g walk) me
-      → me.1 ≡ (k, Right right) ∷ t → k + 1 ≡ slots → old ≡ newest (line_of g) → stands.rights right g.to → Allows (Listed stands n) slots id me 1 (λ y. either (eqb y old) 0 y) (left_second (step slots 1 old 0 said) me)
-  leaves_second slots id me c old k d mine g walk right t said piped mid slot is_last is_old stood = allows stands n (HappensWhere old (IsServedOut c g)) slots id me 1 (λ y. either (eqb y old) 0 y) (left_second (step slots 1 old 0 said) me) (leaves_second_is slots id me c old k d mine g walk right t said piped mid slot is_last is_old stood)
+  pub leaves_second : (slots id : ℕ) (me : Sat Request Reply Log Right) (c old k : ℕ) (d : Debt Request Reply) (mine : List (Request × Reply)) (g : Squad Request Reply) (walk : List (QueuedWriter Request)) (right : Right) (t : List (ℕ × LineSlot Request Reply Log Right)) (said : Option (LineSlot Request Reply Log Right)) → stands.piped ≡ true → AtWith c (Settling d) mine (Serving g walk) me
+      → me.1 ≡ (k, TheRight right) ∷ t → k + 1 ≡ slots → old ≡ newest (line_of g) → stands.rights right g.to → Allows (Listed stands n) slots id me 1 (λ y. either (eqb y old) 0 y) (after_leave_second (step slots 1 old 0 said) me)
+  leaves_second slots id me c old k d mine g walk right t said piped mid slot is_last is_old stood = allows stands n (HappensWhere old (IsServedOut c g)) slots id me 1 (λ y. either (eqb y old) 0 y) (after_leave_second (step slots 1 old 0 said) me) (leaves_second_is slots id me c old k d mine g walk right t said piped mid slot is_last is_old stood)
 
   -- the link of the next group's leader is cleared
-  pub clears_second_is : (slots id : ℕ) (me : Sat Q P L M) (c k new : ℕ) (d : Debt Q P) (mine : List (Q × P)) (g : Squad Q P) (walk pre : List (Entry Q)) (x : Entry Q) → stands.piped ≡ true → AtWith c (Settling d) mine (Serving g walk) me → walk ≡ pre ++ x ∷ line_of g → k ≡ older_at x.by → new ≡ pack 0 x.code
-      → StepIs stands n (λ _. Stays) slots id me k (λ _. new) (λ _. cleared_second (step slots k new 0 none) me new)
+  pub clears_second_is : (slots id : ℕ) (me : Sat Request Reply Log Right) (c k new : ℕ) (d : Debt Request Reply) (mine : List (Request × Reply)) (g : Squad Request Reply) (walk pre : List (QueuedWriter Request)) (x : QueuedWriter Request) → stands.piped ≡ true → AtWith c (Settling d) mine (Serving g walk) me → walk ≡ pre ++ x ∷ line_of g → k ≡ older_at x.by → new ≡ pack 0 x.code
+      → StepIs stands n (λ _. Stays) slots id me k (λ _. new) (λ _. after_clear_second (step slots k new 0 none) me new)
   clears_second_is slots id me c k new d mine g walk pre x piped mid is_walk is_word is_new s r long at fits =
-      let st : Stage Q P = Settling d in
+      let st : LineStage Request Reply = Settling d in
       let at' : get_elem? s.views id ≡ some (hold_at c st mine (Serving g walk) ∷ []) = at ∙ ap some mid in
       let fit = (r.seats id (hold_at c st mine (Serving g walk) ∷ []) at').0 in
       let ends = fit.5.3 in
-      let q : List (Entry Q) = ends.0 ++ pre in
+      let q : List (QueuedWriter Request) = ends.0 ++ pre in
       let parts : flat r.two.groups ≡ q ++ x ∷ line_of g = ends.1 ∙ (ap (λ l. ends.0 ++ l) is_walk ∙ sym (middle ends.0 pre x (line_of g))) in
       let cl = second_clears stands n s.words s.homes r.phase r.mode (stands.given r.handled) r.two r.second piped c new g q x fit.5.0 fit.5.1 fit.5.2 (no_log stands n s.homes r.line r.hand r.handled r.phase r.due c (d.own.asked, d.reply) fit.4.2 r.mode r.log_is) parts is_new r.wide in
       let lo : 0 < x.by = cl.1 in
@@ -204,8 +204,8 @@ module _ {Q P L M : Type 0} (stands : Laws Q P L M) (n : ℕ) where
       let same : (j : ℕ) → j ≢ k → get_or ws j 0 ≡ get_or s.words j 0 = λ j ne. get_or-set_other s.words k j new 0 (λ e. ne (omega arith)) in
       let older : (j : ℕ) → j ≢ x.by → get_or ws (older_at j) 0 ≡ get_or s.words (older_at j) 0 = λ j ne. same (older_at j) (λ e. ne (omega arith)) in
       let out : Absent x.by r.line = out_of_line stands n s.homes r.line r.hand r.handled r.phase r.due x.by x cl.3 r.mode (λ h. cl.4 (r.second.in_front x.by h)) r.log_is in
-      let two' : Two Q P = record { groups = cl.0; place = put r.two.place c (served g); turn = passes c x.by; lead = r.two.lead; done = g.to } in
-      let as_was : Path (SecondList Q P) (second_list_of two') (second_list_of r.two) = λ i. ((ap (λ l. cl.0 ++ l) (ap served_in (put_here r.two.place c (served g))) ∙ (sym cl.6 ∙ (sym (append-nil r.two.groups) ∙ ap (λ t. r.two.groups ++ last_served r.two.place t) (sym fit.5.0)))) i, r.two.lead, apart_same r.two.place c (served g) (sym (ap apart_in fit.5.1)) i) in (
+      let two' : Two Request Reply = record { groups = cl.0; place = put r.two.place c (served g); turn = passes c x.by; lead = r.two.lead; done = g.to } in
+      let as_was : Path (SecondList Request Reply) (second_list_of two') (second_list_of r.two) = λ i. ((ap (λ l. cl.0 ++ l) (ap served_in (put_here r.two.place c (served g))) ∙ (sym cl.6 ∙ (sym (append-nil r.two.groups) ∙ ap (λ t. r.two.groups ++ last_served r.two.place t) (sym fit.5.0)))) i, r.two.lead, apart_same r.two.place c (served g) (sym (ap apart_in fit.5.1)) i) in (
         hold_at c st mine (Passing g x) ∷ [],
         keeps,
         tt,
@@ -229,40 +229,40 @@ module _ {Q P L M : Type 0} (stands : Laws Q P L M) (n : ℕ) where
             let e = one_hold_at c c' st (Settling d') mine mine' (Serving g walk) (Serving f walk') me.0 mid mid' in
             let gf : g ≡ f = ap (squad_of g) e.3 in
             let wf : walk ≡ walk' = ap (walk_of walk) e.3 in
-            let both : pre ++ x ∷ line_of g ≡ pre' ++ x' ∷ line_of g = sym is_walk ∙ (wf ∙ (is_walk' ∙ ap (λ (y : Squad Q P). pre' ++ x' ∷ line_of y) (sym gf))) in
+            let both : pre ++ x ∷ line_of g ≡ pre' ++ x' ∷ line_of g = sym is_walk ∙ (wf ∙ (is_walk' ∙ ap (λ (y : Squad Request Reply). pre' ++ x' ∷ line_of y) (sym gf))) in
             let same_x : x ≡ x' = same_last pre pre' x x' (append_cancel_right (pre ++ x ∷ []) (pre' ++ x' ∷ []) (line_of g) (snoc pre x (line_of g) ∙ (both ∙ sym (snoc pre' x' (line_of g))))) in
             ((λ i. hold_at (e.0 i) (e.1 i) (e.2 i) (Passing (gf i) (same_x i)) ∷ []), refl),
       )
 
-  pub clears_second : (slots id : ℕ) (me : Sat Q P L M) (c k new : ℕ) (d : Debt Q P) (mine : List (Q × P)) (g : Squad Q P) (walk pre : List (Entry Q)) (x : Entry Q) → stands.piped ≡ true → AtWith c (Settling d) mine (Serving g walk) me → walk ≡ pre ++ x ∷ line_of g → k ≡ older_at x.by → new ≡ pack 0 x.code
-      → Allows (Listed stands n) slots id me k (λ _. new) (λ _. cleared_second (step slots k new 0 none) me new)
-  clears_second slots id me c k new d mine g walk pre x piped mid is_walk is_word is_new = allows stands n (λ _. Stays) slots id me k (λ _. new) (λ _. cleared_second (step slots k new 0 none) me new) (clears_second_is slots id me c k new d mine g walk pre x piped mid is_walk is_word is_new)
+  pub clears_second : (slots id : ℕ) (me : Sat Request Reply Log Right) (c k new : ℕ) (d : Debt Request Reply) (mine : List (Request × Reply)) (g : Squad Request Reply) (walk pre : List (QueuedWriter Request)) (x : QueuedWriter Request) → stands.piped ≡ true → AtWith c (Settling d) mine (Serving g walk) me → walk ≡ pre ++ x ∷ line_of g → k ≡ older_at x.by → new ≡ pack 0 x.code
+      → Allows (Listed stands n) slots id me k (λ _. new) (λ _. after_clear_second (step slots k new 0 none) me new)
+  clears_second slots id me c k new d mine g walk pre x piped mid is_walk is_word is_new = allows stands n (λ _. Stays) slots id me k (λ _. new) (λ _. after_clear_second (step slots k new 0 none) me new) (clears_second_is slots id me c k new d mine g walk pre x piped mid is_walk is_word is_new)
 
   -- that leader is told, and has the right
-  pub calls_next_is : (slots id : ℕ) (me : Sat Q P L M) (c k j0 : ℕ) (st : Stage Q P) (mine : List (Q × P)) (g : Squad Q P) (x : Entry Q) (right : M) (t : List (ℕ × Content Q P L M)) → AtWith c st mine (Passing g x) me → me.1 ≡ (j0, Right right) ∷ t → j0 + 1 ≡ slots → k ≡ state_at x.by → stands.rights right g.to
-      → StepIs stands n (λ _. IsServedOut c g) slots id me k (λ _. 4) (λ _. called_next (step slots k 4 0 none) me 4)
+  pub calls_next_is : (slots id : ℕ) (me : Sat Request Reply Log Right) (c k j0 : ℕ) (st : LineStage Request Reply) (mine : List (Request × Reply)) (g : Squad Request Reply) (x : QueuedWriter Request) (right : Right) (t : List (ℕ × LineSlot Request Reply Log Right)) → AtWith c st mine (Passing g x) me → me.1 ≡ (j0, TheRight right) ∷ t → j0 + 1 ≡ slots → k ≡ state_at x.by → stands.rights right g.to
+      → StepIs stands n (λ _. IsServedOut c g) slots id me k (λ _. 4) (λ _. after_call_next (step slots k 4 0 none) me 4)
   calls_next_is slots id me c k j0 st mine g x right t mid slot is_last is_word stood s r long at fits =
       let at' : get_elem? s.views id ≡ some (hold_at c st mine (Passing g x) ∷ []) = at ∙ ap some mid in
       let fit = (r.seats id (hold_at c st mine (Passing g x) ∷ []) at').0 in
       let many : length s.homes ≡ n + 2 = r.many in
       let j_is : j0 ≡ n + 1 = last_slot slots j0 s r long is_last in
       let w : ℕ = x.by in
-      let gone : Two Q P = record { groups = r.two.groups; place = put r.two.place c away; turn = r.two.turn; lead = r.two.lead; done = r.two.done } in
+      let gone : Two Request Reply = record { groups = r.two.groups; place = put r.two.place c away; turn = r.two.turn; lead = r.two.lead; done = r.two.done } in
       let cl = second_calls stands n s.words s.homes r.phase r.mode (stands.given r.handled) gone (second_ends stands n s.words s.homes r.phase r.mode (stands.given r.handled) r.two r.second c g fit.5.1) c w right fit.5.0 (subst (stands.rights right) (sym fit.5.3) stood) r.wide many in
       let lo : 0 < w = cl.2 in
       let hi : w ≤ n = cl.3 in
       let wide : length s.words ≡ 2 * n + 4 = r.wide in
       let ws : List ℕ = set s.words k 4 in
-      let hs = set s.homes (n + 1) (some (Right right)) in
+      let hs = set s.homes (n + 1) (some (TheRight right)) in
       let same : (j : ℕ) → j ≢ k → get_or ws j 0 ≡ get_or s.words j 0 = λ j ne. get_or-set_other s.words k j 4 0 (λ e. ne (omega arith)) in
-      let home_else : (j : ℕ) → j ≤ n → get_elem? hs j ≡ get_elem? s.homes j = λ j small. set_else s.homes (n + 1) j (some (Right right)) (λ e. omega arith) in
-      let two' : Two Q P = record { groups = r.two.groups; place = put gone.place w (called cl.0); turn = calls w; lead = r.two.lead; done = r.two.done } in
+      let home_else : (j : ℕ) → j ≤ n → get_elem? hs j ≡ get_elem? s.homes j = λ j small. set_else s.homes (n + 1) j (some (TheRight right)) (λ e. omega arith) in
+      let two' : Two Request Reply = record { groups = r.two.groups; place = put gone.place w (called cl.0); turn = calls w; lead = r.two.lead; done = r.two.done } in
       let other : c ≢ w = λ e. in_not_away cl.0 (gone.place w) cl.1 (ap gone.place (sym e) ∙ put_here r.two.place c away) in
-      let now' : Lists Q P = ((now_of stands n s r).0, second_list_of two') in
+      let now' : Lists Request Reply = ((now_of stands n s r).0, second_list_of two') in
       let after : IsNow stands n now' (record { words = ws; homes = hs; views = set s.views id (hold_at c st mine Away ∷ []) }) = passed_to stands n s r id ws hs c st mine (Passing g x) Away two' record {
         at = at';
         wide = length-set s.words k 4;
-        many = length-set s.homes (n + 1) (some (Right right));
+        many = length-set s.homes (n + 1) (some (TheRight right));
         first = same 0 (λ e. omega arith);
         links = links_same (base_of r.mode) s.words ws r.line (λ j. same (older_at j) (λ e. omega arith)) r.links;
         rows = rows_else stands n s.words ws s.homes hs r.due r.phase w cl.0.own cl.4 (λ j ne. same (state_at j) (λ e. ne (omega arith))) (λ j _. same (older_at j) (λ e. omega arith)) home_else r.rows;
@@ -272,7 +272,7 @@ module _ {Q P L M : Type 0} (stands : Laws Q P L M) (n : ℕ) where
         else_back = λ j ne y knows.
             let later : KnowsBack gone j y = back_map r.two gone j (put_else r.two.place c away j ne) (λ e. (e, ([], refl))) (λ v e. (e, refl)) (λ e. e) (λ e. e) y knows in
             dite (ℕ_discrete j w)
-            (λ e. subst (λ (i : ℕ). (y : Back Q P) → KnowsBack gone i y → KnowsBack two' i y) (sym e) (call_back gone two' c w cl.0 cl.1 fit.5.0 (put_here gone.place w (called cl.0)) refl) y later)
+            (λ e. subst (λ (i : ℕ). (y : Back Request Reply) → KnowsBack gone i y → KnowsBack two' i y) (sym e) (call_back gone two' c w cl.0 cl.1 fit.5.0 (put_here gone.place w (called cl.0)) refl) y later)
             (λ away_w. back_map gone two' j (put_else gone.place w (called cl.0) j away_w) (λ e. let bad : passes c w ≡ held_by j = sym fit.5.0 ∙ e in absurd (cc)) (λ v e. absurd (ne (same_pass j c v w (sym e ∙ fit.5.0)))) (λ e. e) (λ e. e) y later);
       } in (
         hold_at c st mine Away ∷ [],
@@ -287,20 +287,20 @@ module _ {Q P L M : Type 0} (stands : Laws Q P L M) (n : ℕ) where
             refl,
             apart_same gone.place w (called cl.0) (sym (in_apart cl.0 (gone.place w) cl.1)) ∙ apart_same r.two.place c away (sym (ap apart_in fit.5.1)),
           ),
-          subst (λ (z : List (ℕ × Content Q P L M)). IsNow stands n now' (stepped s k 4 id z (hold_at c st mine Away ∷ []) gives)) (sym slot) (subst (λ (j : ℕ). IsNow stands n now' (record { words = ws; homes = set s.homes j (some (Right right)); views = set s.views id (hold_at c st mine Away ∷ []) })) (sym j_is) after),
+          subst (λ (z : List (ℕ × LineSlot Request Reply Log Right)). IsNow stands n now' (stepped s k 4 id z (hold_at c st mine Away ∷ []) gives)) (sym slot) (subst (λ (j : ℕ). IsNow stands n now' (record { words = ws; homes = set s.homes j (some (TheRight right)); views = set s.views id (hold_at c st mine Away ∷ []) })) (sym j_is) after),
         ),
         λ c' st' mine' f x' mid'.
             let e = one_hold_at c c' st st' mine mine' (Passing g x) (Passing f x') me.0 mid mid' in
             ((λ i. hold_at (e.0 i) (e.1 i) (e.2 i) Away ∷ []), refl),
       )
 
-  pub calls_next : (slots id : ℕ) (me : Sat Q P L M) (c k j0 : ℕ) (st : Stage Q P) (mine : List (Q × P)) (g : Squad Q P) (x : Entry Q) (right : M) (t : List (ℕ × Content Q P L M)) → AtWith c st mine (Passing g x) me → me.1 ≡ (j0, Right right) ∷ t → j0 + 1 ≡ slots → k ≡ state_at x.by → stands.rights right g.to
-      → Allows (Listed stands n) slots id me k (λ _. 4) (λ _. called_next (step slots k 4 0 none) me 4)
-  calls_next slots id me c k j0 st mine g x right t mid slot is_last is_word stood = allows stands n (λ _. IsServedOut c g) slots id me k (λ _. 4) (λ _. called_next (step slots k 4 0 none) me 4) (calls_next_is slots id me c k j0 st mine g x right t mid slot is_last is_word stood)
+  pub calls_next : (slots id : ℕ) (me : Sat Request Reply Log Right) (c k j0 : ℕ) (st : LineStage Request Reply) (mine : List (Request × Reply)) (g : Squad Request Reply) (x : QueuedWriter Request) (right : Right) (t : List (ℕ × LineSlot Request Reply Log Right)) → AtWith c st mine (Passing g x) me → me.1 ≡ (j0, TheRight right) ∷ t → j0 + 1 ≡ slots → k ≡ state_at x.by → stands.rights right g.to
+      → Allows (Listed stands n) slots id me k (λ _. 4) (λ _. after_call_next (step slots k 4 0 none) me 4)
+  calls_next slots id me c k j0 st mine g x right t mid slot is_last is_word stood = allows stands n (λ _. IsServedOut c g) slots id me k (λ _. 4) (λ _. after_call_next (step slots k 4 0 none) me 4) (calls_next_is slots id me c k j0 st mine g x right t mid slot is_last is_word stood)
 
   -- a member is told to work beside its leader
   -- only a list with a second one has somebody who serves
-  only_piped : (piped : Bool) (two : Two Q P) (last : List (Handling Q P)) (newer : List (Squad Q P)) (g : Squad Q P) → two.groups ≡ newer ++ g ∷ [] → Level stands piped two last → piped ≡ true
+  only_piped : (piped : Bool) (two : Two Request Reply) (last : List (Handling Request Reply)) (newer : List (Squad Request Reply)) (g : Squad Request Reply) → two.groups ≡ newer ++ g ∷ [] → Level stands piped two last → piped ≡ true
   only_piped true two last newer g is ok = refl
   only_piped false two last newer g is ok = absurd (not_snoc newer g (sym ok.0 ∙ is))
 
@@ -308,11 +308,11 @@ module _ {Q P L M : Type 0} (stands : Laws Q P L M) (n : ℕ) where
   serving_piped s r c turn =
       let t = subst (InTurn stands n s.words s.homes r.phase r.two) turn r.second.turn_is in only_piped stands.piped r.two (stands.given r.handled) t.0 t.1 t.2 r.second.in_level
 
-  pub parallels_is : (slots id : ℕ) (me : Sat Q P L M) (c k : ℕ) (pre post : List (Entry Q × P)) (y : Entry Q × P) (o : Entry Q) (p : P) (mine : List (Q × P)) (g : Squad Q P) (walk : List (Entry Q)) → AtWith c (Settling (debt (pre ++ y ∷ post) o p)) mine (Serving g walk) me → k ≡ state_at y.0.by → y.0.by ≤ n
-      → StepIs stands n (λ _. Stays) slots id me k (λ _. 8) (λ _. kept (step slots k 8 0 none) me 8)
+  pub parallels_is : (slots id : ℕ) (me : Sat Request Reply Log Right) (c k : ℕ) (pre post : List (QueuedWriter Request × Reply)) (y : QueuedWriter Request × Reply) (o : QueuedWriter Request) (p : Reply) (mine : List (Request × Reply)) (g : Squad Request Reply) (walk : List (QueuedWriter Request)) → AtWith c (Settling (debt (pre ++ y ∷ post) o p)) mine (Serving g walk) me → k ≡ state_at y.0.by → y.0.by ≤ n
+      → StepIs stands n (λ _. Stays) slots id me k (λ _. 8) (λ _. after_make_parallel (step slots k 8 0 none) me 8)
   parallels_is slots id me c k pre post y o p mine g walk mid is_word small s r long at fits =
-      let st : Stage Q P = Settling (debt (pre ++ y ∷ post) o p) in
-      let b : Back Q P = Serving g walk in
+      let st : LineStage Request Reply = Settling (debt (pre ++ y ∷ post) o p) in
+      let b : Back Request Reply = Serving g walk in
       let at' : get_elem? s.views id ≡ some (hold_at c st mine b ∷ []) = at ∙ ap some mid in
       let fit = (r.seats id (hold_at c st mine b ∷ []) at').0 in
       let m : ℕ = y.0.by in
@@ -346,10 +346,10 @@ module _ {Q P L M : Type 0} (stands : Laws Q P L M) (n : ℕ) where
         me.0,
         keeps,
         tt,
-        (now_of stands n s r, refl, subst (λ (v : List (Hold Q P)). IsNow stands n (now_of stands n s r) (record { words = ws; homes = s.homes; views = set s.views id v })) back_is after),
+        (now_of stands n s r, refl, subst (λ (v : List (LineHold Request Reply)). IsNow stands n (now_of stands n s r) (record { words = ws; homes = s.homes; views = set s.views id v })) back_is after),
         refl,
       )
 
-  pub parallels : (slots id : ℕ) (me : Sat Q P L M) (c k : ℕ) (pre post : List (Entry Q × P)) (y : Entry Q × P) (o : Entry Q) (p : P) (mine : List (Q × P)) (g : Squad Q P) (walk : List (Entry Q)) → AtWith c (Settling (debt (pre ++ y ∷ post) o p)) mine (Serving g walk) me → k ≡ state_at y.0.by → y.0.by ≤ n
-      → Allows (Listed stands n) slots id me k (λ _. 8) (λ _. kept (step slots k 8 0 none) me 8)
-  parallels slots id me c k pre post y o p mine g walk mid is_word small = allows stands n (λ _. Stays) slots id me k (λ _. 8) (λ _. kept (step slots k 8 0 none) me 8) (parallels_is slots id me c k pre post y o p mine g walk mid is_word small)
+  pub parallels : (slots id : ℕ) (me : Sat Request Reply Log Right) (c k : ℕ) (pre post : List (QueuedWriter Request × Reply)) (y : QueuedWriter Request × Reply) (o : QueuedWriter Request) (p : Reply) (mine : List (Request × Reply)) (g : Squad Request Reply) (walk : List (QueuedWriter Request)) → AtWith c (Settling (debt (pre ++ y ∷ post) o p)) mine (Serving g walk) me → k ≡ state_at y.0.by → y.0.by ≤ n
+      → Allows (Listed stands n) slots id me k (λ _. 8) (λ _. after_make_parallel (step slots k 8 0 none) me 8)
+  parallels slots id me c k pre post y o p mine g walk mid is_word small = allows stands n (λ _. Stays) slots id me k (λ _. 8) (λ _. after_make_parallel (step slots k 8 0 none) me 8) (parallels_is slots id me c k pre post y o p mine g walk mid is_word small)

@@ -3,31 +3,34 @@ use Rattle.std.specs.Prelude.{◌≡◌, true, false, ℕ, ◌≤◌, List, [], 
 use mathlib.Core.Option.{Option, some}
 use lib.ListN.{get_elem?}
 use Rattle.atomic_table.specs.Table.{State}
-use Rattle.line_rule.specs.declared.view.Entry.{Entry}
+use Rattle.line_rule.specs.declared.view.QueuedWriter.{QueuedWriter}
 use Rattle.line_rule.specs.declared.view.Handling.{Handling}
-use Rattle.line_rule.specs.declared.view.Hold.{Hold}
-use Rattle.line_rule.specs.declared.content.Content.{Content}
+use Rattle.line_rule.specs.declared.view.LineHold.{LineHold}
+use Rattle.line_rule.specs.declared.content.LineSlot.{LineSlot}
 use Rattle.line_rule.specs.declared.view.Squad.{Squad}
 use Rattle.line_rule.specs.Chain.{newest_from, Links, LinksFrom, Distinct, Within}
-use Rattle.line_rule.specs.Events.{Event, Held, Legal, core_of}
+use Rattle.line_rule.specs.Events.{LineEvent, LogHolder, Legal, core_of}
 use Rattle.line_rule.specs.Standing.{Mode, open_, waits, led, built, cut, marked, base_of, Holds, Turn, still, calls, held_by, passes, Lead2, ahead, flat, InStep}
 use Rattle.line_rule.specs.Laws.{Laws}
 use Rattle.line_rule.specs.Rule.{LogHome, RightHome, Shows, Recalls}
 use Rattle.line_rule.specs.Steps.{Lists}
 
 -- the events go on from what each of these clients knows of them
-abbrev pub AllRecall : {Q P : Type 0} → List (Event Q P) → List (Hold Q P) → Type 0
+abbrev pub AllRecall : {Request Reply : Type 0} → List (LineEvent Request Reply) → List (LineHold Request Reply)
+    → Type 0
 AllRecall events [] = Unit {0}
 AllRecall events (h ∷ hs) = Recalls events h.stage × AllRecall events hs
 
 -- the client leads the oldest group
-abbrev pub IsOldest : {Q P : Type 0} → ℕ → List (Squad Q P) → Type 0
-IsOldest {Q} {P} c groups = (newer : List (Squad Q P)) × (g : Squad Q P) × (groups ≡ newer ++ g ∷ []) × (g.own.by ≡ c)
+abbrev pub IsOldest : {Request Reply : Type 0} → ℕ → List (Squad Request Reply) → Type 0
+IsOldest {Request} {Reply} c groups = (newer : List (Squad Request Reply)) × (g : Squad Request Reply)
+    × (groups ≡ newer ++ g ∷ []) × (g.own.by ≡ c)
 
 -- the log is in its slot where nobody leads, and else the leader has it
-module _ {Q P L M : Type 0} (stands : Laws Q P L M) (homes : List (Option (Content Q P L M)))
-    (handled : List (Handling Q P)) where
-  abbrev pub LogAtHome : Mode Q → Type 0
+module _ {Request Reply Log Right : Type 0} (stands : Laws Request Reply Log Right)
+    (homes : List (Option (LineSlot Request Reply Log Right)))
+    (handled : List (Handling Request Reply)) where
+  abbrev pub LogAtHome : Mode Request → Type 0
   LogAtHome open_ = LogHome stands homes handled
   LogAtHome (waits c) = LogHome stands homes handled
   LogAtHome (led c) = Unit {0}
@@ -38,56 +41,59 @@ module _ {Q P L M : Type 0} (stands : Laws Q P L M) (homes : List (Option (Conte
 -- where the right is: in its slot, and stands for this, where there is no group, or where the oldest group's leader is
 -- called and has yet to take it; and else that leader has it, or the one before it, that has left the list and has yet
 -- to call
-module _ {Q P L M : Type 0} (stands : Laws Q P L M) (n : ℕ) (homes : List (Option (Content Q P L M)))
-    (groups : List (Squad Q P)) (done : List (Handling Q P)) where
+module _ {Request Reply Log Right : Type 0} (stands : Laws Request Reply Log Right) (n : ℕ)
+    (homes : List (Option (LineSlot Request Reply Log Right)))
+    (groups : List (Squad Request Reply)) (done : List (Handling Request Reply)) where
   abbrev pub RightAt : Turn → Type 0
   RightAt still = (groups ≡ []) × RightHome stands n homes done
   RightAt (calls c) = IsOldest c groups × RightHome stands n homes done
   RightAt (held_by c) = IsOldest c groups
   RightAt (passes c next) = IsOldest next groups
 
-module _ {Q P L M : Type 0} (stands : Laws Q P L M) where
+module _ {Request Reply Log Right : Type 0} (stands : Laws Request Reply Log Right) where
   -- the walk from the newest writer, and the events that led here, the latest first: the state after them is the queue,
   -- where the log is, what was handled, and what of it its clients haven't been told
-  pub record Between (n : ℕ) (s : State (Content Q P L M) (List (Hold Q P))) : Type 0 where
-    pub walk : List (Entry Q)
-    pub queue : List (Entry Q)
-    pub log : Held Q
-    pub handled : List (Handling Q P)
-    pub owing : List (Handling Q P)
-    pub mode : Mode Q
-    pub events : List (Event Q P)
-    pub newest : slice_index s.words 0 ≡ newest_from (base_of mode) walk
-    pub links : LinksFrom (base_of mode) s.words walk
-    pub short : length walk ≤ n
-    pub distinct : Distinct walk
-    pub within : Within n walk
-    pub legal : Legal stands.bound events
-    pub ran : core_of events ≡ (queue, log, handled, owing)
-    -- nobody's past is another: a writer that waits came among these events, and a leader built its group there
-    pub recalled : (id : ℕ) (v : List (Hold Q P)) → get_elem? s.views id ≡ some v → AllRecall events v
-    -- the walk is the group in hand and then the queue, until the leader cuts its group off, and then the queue
-    pub shows : Shows walk queue log mode
-    pub home : LogAtHome stands s.homes handled mode
-    -- the second list: its groups, newest first, and what the right stands for
-    pub groups : List (Squad Q P)
-    pub turn : Turn
-    pub lead : Lead2
-    pub done : List (Handling Q P)
-    pub second_newest : slice_index s.words 1 ≡ newest_from 0 (flat groups)
-    pub second_links : Links s.words (flat groups)
-    pub second_short : length (flat groups) ≤ n
-    pub second_distinct : Distinct (flat groups)
-    pub second_within : Within n (flat groups)
-    pub right : RightAt stands n s.homes groups done turn
-    -- a group is ahead of the log while its leader, whose group is the newest one, has yet to give the log on
-    pub handed : (c : ℕ) → lead ≡ ahead c → Holds c mode
-    pub none_second : stands.piped ≡ false → groups ≡ []
-    -- each group begins with what the one before it ends with, from what the right stands for to all that was given
-    -- runs
-    pub in_order : stands.piped ≡ true → InStep done groups (stands.given handled) lead
+  pub record Between (n : ℕ) (s : State (LineSlot Request Reply Log Right) (List (LineHold Request Reply))) : Type 0
+    where
+      pub walk : List (QueuedWriter Request)
+      pub queue : List (QueuedWriter Request)
+      pub log : LogHolder Request
+      pub handled : List (Handling Request Reply)
+      pub owing : List (Handling Request Reply)
+      pub mode : Mode Request
+      pub events : List (LineEvent Request Reply)
+      pub newest : slice_index s.words 0 ≡ newest_from (base_of mode) walk
+      pub links : LinksFrom (base_of mode) s.words walk
+      pub short : length walk ≤ n
+      pub distinct : Distinct walk
+      pub within : Within n walk
+      pub legal : Legal stands.bound events
+      pub ran : core_of events ≡ (queue, log, handled, owing)
+      -- nobody's past is another: a writer that waits came among these events, and a leader built its group there
+      pub recalled : (id : ℕ) (v : List (LineHold Request Reply)) → get_elem? s.views id ≡ some v → AllRecall events v
+      -- the walk is the group in hand and then the queue, until the leader cuts its group off, and then the queue
+      pub shows : Shows walk queue log mode
+      pub home : LogAtHome stands s.homes handled mode
+      -- the second list: its groups, newest first, and what the right stands for
+      pub groups : List (Squad Request Reply)
+      pub turn : Turn
+      pub lead : Lead2
+      pub done : List (Handling Request Reply)
+      pub second_newest : slice_index s.words 1 ≡ newest_from 0 (flat groups)
+      pub second_links : Links s.words (flat groups)
+      pub second_short : length (flat groups) ≤ n
+      pub second_distinct : Distinct (flat groups)
+      pub second_within : Within n (flat groups)
+      pub right : RightAt stands n s.homes groups done turn
+      -- a group is ahead of the log while its leader, whose group is the newest one, has yet to give the log on
+      pub handed : (c : ℕ) → lead ≡ ahead c → Holds c mode
+      pub none_second : stands.piped ≡ false → groups ≡ []
+      -- each group begins with what the one before it ends with, from what the right stands for to all that was given
+      -- runs
+      pub in_order : stands.piped ≡ true → InStep done groups (stands.given handled) lead
 
   -- the lists are these, but for an oldest group of the second one, whose leader has cut it off and has the right still
-  abbrev pub AreLists : {n : ℕ} {s : State (Content Q P L M) (List (Hold Q P))} → Between n s → Lists Q P → Type 0
+  abbrev pub AreLists : {n : ℕ} {s : State (LineSlot Request Reply Log Right) (List (LineHold Request Reply))}
+      → Between n s → Lists Request Reply → Type 0
   AreLists b l = (l.0 ≡ (b.queue, b.log, b.handled, b.owing)) × (l.1.1 ≡ b.lead)
-      × ((cut : List (Squad Q P)) × (l.1.0 ≡ b.groups ++ cut) × (length cut ≤ 1))
+      × ((cut : List (Squad Request Reply)) × (l.1.0 ≡ b.groups ++ cut) × (length cut ≤ 1))

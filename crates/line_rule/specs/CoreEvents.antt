@@ -2,17 +2,17 @@
 -- core that has the writers.
 use Rattle.std.specs.Prelude.{◌≡◌, ℕ, List, [], ◌∷◌, ◌++◌, map, reverse, Option as Answer, Some, ◌==◌, true, find, None}
 use Rattle.model_core.specs.declared.event.Event.{Event as CoreEvent}
-use Rattle.model_base.specs.Calls.{Reply, commit}
+use Rattle.model_base.specs.Calls.{Reply as CoreReply, commit}
 use Rattle.model_core.specs.Core.{Options, Writer, LogPhase, free as nobody, led, built as in_hand, in_log, State as CoreState, item_of as item_of_writer, Client, marked, handed, client_at, next_call, refusal_of}
 use Rattle.model_core.specs.Halves.{ListHalf, list_half_of}
-use Rattle.line_rule.specs.declared.view.Entry.{Entry}
+use Rattle.line_rule.specs.declared.view.QueuedWriter.{QueuedWriter}
 use Rattle.line_rule.specs.declared.view.Handling.{Handling}
-use Rattle.line_rule.specs.Events.{Held, free, elected, grouped}
+use Rattle.line_rule.specs.Events.{LogHolder, free, elected, grouped}
 use Rattle.line_rule.specs.Grouping.{item_of}
 use Rattle.std.specs.List.{AllZip}
 use mathlib.Core.Option.{Option, none, some}
 use Rattle.model_base.specs.declared.write.WriteOptions.{WriteOptions}
-use Rattle.model_core.specs.CoreLaw.{joined}
+use Rattle.model_core.specs.CoreLaw.{writers_in}
 use Rattle.model_core.specs.Step.{step}
 use Rattle.line_rule.specs.declared.view.Squad.{Squad}
 use Rattle.line_rule.specs.Standing.{Lead2, level, ahead, line_of}
@@ -20,40 +20,40 @@ use Rattle.line_rule.specs.SecondList.{IsPut}
 use Rattle.line_rule.specs.Steps.{Lists}
 
 -- the core's writer of each writer of the list
-module _ {Q : Type 0} (writer_of : Entry Q → Writer) where
+module _ {Request : Type 0} (writer_of : QueuedWriter Request → Writer) where
   -- is of the same client
   abbrev pub IsSame : Type 0
-  IsSame = (e : Entry Q) → (writer_of e).client ≡ e.by
+  IsSame = (e : QueuedWriter Request) → (writer_of e).client ≡ e.by
 
   -- and those of this queue have the same items
-  abbrev pub HasItems : List (Entry Q) → Type 0
+  abbrev pub HasItems : List (QueuedWriter Request) → Type 0
   HasItems [] = Unit {0}
   HasItems (e ∷ es) = (item_of_writer (writer_of e) ≡ item_of e.code) × HasItems es
 
   -- a queue in the core's order, the oldest writer first
-  abbrev pub core_queue : List (Entry Q) → List Writer
+  abbrev pub core_queue : List (QueuedWriter Request) → List Writer
   core_queue es = map writer_of (reverse es)
 
-  abbrev pub core_log : Held Q → LogPhase
+  abbrev pub core_log : LogHolder Request → LogPhase
   core_log free = nobody
   core_log (elected c) = led c
   core_log (grouped own group) = in_hand (core_queue (group ++ own ∷ []))
 
 -- a client and its reply: of a writer of the core
-abbrev pub answer_of : Writer → ℕ × Answer Reply
+abbrev pub answer_of : Writer → ℕ × Answer CoreReply
 answer_of w = (w.client, w.answer)
 
-module _ {Q P : Type 0} (reply_of : P → Reply) where
+module _ {Request Reply : Type 0} (reply_of : Reply → CoreReply) where
   -- and of a handling
-  abbrev pub answer_in : Handling Q P → ℕ × Answer Reply
+  abbrev pub answer_in : Handling Request Reply → ℕ × Answer CoreReply
   answer_in h = (h.by, Some (reply_of h.reply))
 
   -- the writers are those of these handlings, with these replies, in the same order
-  abbrev pub HasReplies : List (Handling Q P) → List Writer → Type 0
+  abbrev pub HasReplies : List (Handling Request Reply) → List Writer → Type 0
   HasReplies hs ws = map answer_of ws ≡ map answer_in hs
 
   -- each handling has this reply
-  abbrev pub AllHave : Reply → List (Handling Q P) → Type 0
+  abbrev pub AllHave : CoreReply → List (Handling Request Reply) → Type 0
   AllHave reply [] = Unit {0}
   AllHave reply (h ∷ hs) = (reply_of h.reply ≡ reply) × AllHave reply hs
 
@@ -62,64 +62,67 @@ abbrev pub IsRearranged : {A : Type 0} → List A → List A → Type 0
 IsRearranged {A} [] ys = ys ≡ []
 IsRearranged {A} (x ∷ xs) ys = (before after : List A) × (ys ≡ before ++ x ∷ after) × IsRearranged xs (before ++ after)
 
-abbrev pub unanswered : Writer → Writer
-unanswered w = record w { answer = None }
+abbrev pub without_answer : Writer → Writer
+without_answer w = record w { answer = None }
 
 -- the group in hand, where it is in the core's second queue already
-abbrev pub handed_on : LogPhase → List Writer → List Writer
-handed_on nobody ws = []
-handed_on (led c) ws = []
-handed_on (in_hand vs) ws = []
-handed_on (in_log vs) ws = []
-handed_on (marked vs) ws = []
-handed_on (handed c) ws = ws
+abbrev pub group_handed_on : LogPhase → List Writer → List Writer
+group_handed_on nobody ws = []
+group_handed_on (led c) ws = []
+group_handed_on (in_hand vs) ws = []
+group_handed_on (in_log vs) ws = []
+group_handed_on (marked vs) ws = []
+group_handed_on (handed c) ws = ws
 
 -- the core's writers are those of these entries, whatever they are answered
-abbrev pub IsGroupOf : {Q : Type 0} → (Entry Q → Writer) → List (Entry Q) → List Writer → Type 0
-IsGroupOf writer_of es ws = map unanswered ws ≡ map unanswered (core_queue writer_of es)
+abbrev pub IsGroupOf : {Request : Type 0} → (QueuedWriter Request → Writer) → List (QueuedWriter Request) → List Writer
+    → Type 0
+IsGroupOf writer_of es ws = map without_answer ws ≡ map without_answer (core_queue writer_of es)
 
 -- no group is between the lists, or in both
-abbrev pub IsSettled : {Q P : Type 0} → Lead2 → (ℕ → Option (Squad Q P)) → Type 0
+abbrev pub IsSettled : {Request Reply : Type 0} → Lead2 → (ℕ → Option (Squad Request Reply)) → Type 0
 IsSettled lead apart = (lead ≡ level) × ((k : ℕ) → apart k ≡ none)
 
-module _ {Q P : Type 0} (writer_of : Entry Q → Writer) where
+module _ {Request Reply : Type 0} (writer_of : QueuedWriter Request → Writer) where
   -- the core's second queue is the groups of the second list, the oldest first
-  abbrev pub HasGroups : List (Squad Q P) → List (List Writer) → Type 0
+  abbrev pub HasGroups : List (Squad Request Reply) → List (List Writer) → Type 0
   HasGroups groups second = AllZip (λ g ws. IsGroupOf writer_of (line_of g) ws) (reverse groups) second
 
   -- the log is in the same hand, and no group is logged
-  abbrev pub IsUnlogged : Held Q → Lead2 → (ℕ → Option (Squad Q P)) → List Writer → LogPhase → Type 0
+  abbrev pub IsUnlogged : LogHolder Request → Lead2 → (ℕ → Option (Squad Request Reply)) → List Writer → LogPhase
+      → Type 0
   IsUnlogged held lead apart ws phase = (phase ≡ core_log writer_of held) × (ws ≡ []) × IsSettled lead apart
 
   -- Where the core's log is, by what the lists show: ws are the writers of the group in hand once it is logged. A
   -- logged group is marked while it is apart from both lists, and handed on while its leader is ahead.
-  abbrev pub IsLogOf : Held Q → Lead2 → (ℕ → Option (Squad Q P)) → List Writer → LogPhase → Type 0
+  abbrev pub IsLogOf : LogHolder Request → Lead2 → (ℕ → Option (Squad Request Reply)) → List Writer → LogPhase → Type 0
   IsLogOf held lead apart ws nobody = IsUnlogged held lead apart ws nobody
   IsLogOf held lead apart ws (led c) = IsUnlogged held lead apart ws (led c)
   IsLogOf held lead apart ws (in_hand vs) = IsUnlogged held lead apart ws (in_hand vs)
   IsLogOf held lead apart ws (in_log vs) = (vs ≡ ws)
-      × ((own : Entry Q) × (group : List (Entry Q)) × (held ≡ grouped own group)
+      × ((own : QueuedWriter Request) × (group : List (QueuedWriter Request)) × (held ≡ grouped own group)
       × IsGroupOf writer_of (group ++ own ∷ []) ws) × IsSettled lead apart
   IsLogOf held lead apart ws (marked vs) = (vs ≡ ws) × (lead ≡ level)
-      × ((g : Squad Q P) × (held ≡ grouped g.own g.rest) × IsGroupOf writer_of (line_of g) ws
+      × ((g : Squad Request Reply) × (held ≡ grouped g.own g.rest) × IsGroupOf writer_of (line_of g) ws
       × IsPut g.own.by (some g) (λ _. none) apart)
   IsLogOf held lead apart ws (handed c) = (lead ≡ ahead c) × ((k : ℕ) → apart k ≡ none)
-      × ((own : Entry Q) × (group : List (Entry Q)) × (held ≡ grouped own group) × (own.by ≡ c)
+      × ((own : QueuedWriter Request) × (group : List (QueuedWriter Request)) × (held ≡ grouped own group)
+      × (own.by ≡ c)
       × IsGroupOf writer_of (group ++ own ∷ []) ws)
 
-module _ {Q P : Type 0} (writer_of : Entry Q → Writer) (reply_of : P → Reply) where
+module _ {Request Reply : Type 0} (writer_of : QueuedWriter Request → Writer) (reply_of : Reply → CoreReply) where
   -- The core has the same queue, the log where the lists show it, and the same groups in its second queue. Who is
   -- handled and hasn't been told is in that queue or has left, with the same reply for an answer. Beside these is the
   -- group that is handed on: the list handles it as its leader gives the log on.
-  pub record IsCoreOf (ws : List Writer) (l : Lists Q P) (half : ListHalf) : Type 0 where
+  pub record IsCoreOf (ws : List Writer) (l : Lists Request Reply) (half : ListHalf) : Type 0 where
     pub queue : half.queue ≡ core_queue writer_of l.0.0
     pub log : IsLogOf writer_of l.0.1 l.1.1 l.1.2 ws half.log
     pub second : HasGroups writer_of l.1.0 half.second
-    pub owed : IsRearranged (map (answer_in reply_of) l.0.3 ++ map answer_of (handed_on half.log ws))
-        (map answer_of (half.leaving ++ joined half.second))
+    pub owed : IsRearranged (map (answer_in reply_of) l.0.3 ++ map answer_of (group_handed_on half.log ws))
+        (map answer_of (half.leaving ++ writers_in half.second))
 
   -- the event may come in the core, and takes it to what the lists are then
-  abbrev pub IsTaken : Options → CoreEvent → CoreState → List Writer → Lists Q P → Type 0
+  abbrev pub IsTaken : Options → CoreEvent → CoreState → List Writer → Lists Request Reply → Type 0
   IsTaken o event s ws l = (new : CoreState) × (step o s event ≡ Some new)
       × IsCoreOf ws l (list_half_of new)
 
@@ -130,6 +133,6 @@ IsCommit o s c w = (client : Client) × (how : WriteOptions) × (client_at s c �
     × (w ≡ record { client = c; options = how; records = (next_call client).client.added; answer = None })
 
 -- the client is there, and has left with this answer
-abbrev pub HasLeft : CoreState → ℕ → Reply → Type 0
+abbrev pub HasLeft : CoreState → ℕ → CoreReply → Type 0
 HasLeft s c reply = (w : Writer) × (client : Client) × (client_at s c ≡ Some client)
     × (find (λ (x : Writer). x.client == c) s.leaving ≡ Some w) × (w.answer ≡ Some reply)

@@ -3,25 +3,26 @@ use Rattle.std.specs.Prelude.{◌≡◌, ℕ, ◌≤◌, List, [], ◌∷◌, �
 use mathlib.Core.Option.{some}
 use lib.ListN.{get_elem?}
 use Rattle.atomic_table.specs.Table.{State}
-use Rattle.line_rule.specs.declared.view.Hold.{Hold}
+use Rattle.line_rule.specs.declared.view.LineHold.{LineHold}
 use Rattle.line_rule.specs.declared.view.Squad.{Squad}
 use Rattle.line_rule.specs.declared.view.Back.{Back}
 use Rattle.line_rule.specs.declared.view.Back.TheVariants.{Away, Parting, Joining, Holding, Queued, Serving, Passing}
-use Rattle.line_rule.specs.declared.view.Stage.{Stage}
-use Rattle.line_rule.specs.declared.view.Stage.TheVariants.{Idle, Preparing, Waiting, Helping, Fresh, Leading, Cutting, Marking, Settling, Collecting}
-use Rattle.line_rule.specs.declared.content.Content.{Content}
+use Rattle.line_rule.specs.declared.view.LineStage.{LineStage}
+use Rattle.line_rule.specs.declared.view.LineStage.TheVariants.{Idle, Preparing, Waiting, Helping, Fresh, Leading, Cutting, Marking, Settling, Collecting}
+use Rattle.line_rule.specs.declared.content.LineSlot.{LineSlot}
 use Rattle.line_rule.specs.Chain.{Absent, newest, Links}
 use Rattle.line_rule.specs.Events.{IsNotWith}
 use Rattle.line_rule.specs.Standing.{line_of, flat}
 use Rattle.line_rule.specs.Steps.{Lists}
 
 -- the seat has this client alone, and knows this
-abbrev pub Sees : {Q P L M : Type 0} → State (Content Q P L M) (List (Hold Q P)) → ℕ → Hold Q P → Type 0
+abbrev pub Sees : {Request Reply Log Right : Type 0}
+    → State (LineSlot Request Reply Log Right) (List (LineHold Request Reply)) → ℕ → LineHold Request Reply → Type 0
 Sees s id h = get_elem? s.views id ≡ some (h ∷ [])
 
-module _ {Q P : Type 0} where
+module _ {Request Reply : Type 0} where
   -- the leader that the stage tells of is this client
-  abbrev pub IsOwn : ℕ → Stage Q P → Type 0
+  abbrev pub IsOwn : ℕ → LineStage Request Reply → Type 0
   IsOwn c Idle = Unit {0}
   IsOwn c (Preparing w) = Unit {0}
   IsOwn c (Waiting q past) = Unit {0}
@@ -34,7 +35,7 @@ module _ {Q P : Type 0} where
   IsOwn c Collecting = Unit {0}
 
   -- the group has come into the second list, and its leader has the log still
-  abbrev pub IsJoined : Squad Q P → Back Q P → Type 0
+  abbrev pub IsJoined : Squad Request Reply → Back Request Reply → Type 0
   IsJoined g Away = ⊥
   IsJoined g (Parting f end) = ⊥
   IsJoined g (Joining f) = f ≡ g
@@ -44,7 +45,7 @@ module _ {Q P : Type 0} where
   IsJoined g (Passing f next) = ⊥
 
   -- its leader has the right
-  abbrev pub IsServed : Squad Q P → Back Q P → Type 0
+  abbrev pub IsServed : Squad Request Reply → Back Request Reply → Type 0
   IsServed g Away = ⊥
   IsServed g (Parting f end) = ⊥
   IsServed g (Joining f) = ⊥
@@ -54,21 +55,23 @@ module _ {Q P : Type 0} where
   IsServed g (Passing f next) = ⊥
 
   -- the second list is this group and then, going on by the older links, older ones
-  abbrev pub IsNewestGroup : Squad Q P → List ℕ → Type 0
-  IsNewestGroup g words = (older : List (Squad Q P)) × (slice_index words 1 ≡ newest (line_of g ++ flat older))
+  abbrev pub IsNewestGroup : Squad Request Reply → List ℕ → Type 0
+  IsNewestGroup g words = (older : List (Squad Request Reply))
+      × (slice_index words 1 ≡ newest (line_of g ++ flat older))
       × Links words (line_of g ++ flat older)
 
   -- it is newer ones and then this group
-  abbrev pub IsOldestGroup : Squad Q P → List ℕ → Type 0
-  IsOldestGroup g words = (newer : List (Squad Q P)) × (slice_index words 1 ≡ newest (flat newer ++ line_of g))
+  abbrev pub IsOldestGroup : Squad Request Reply → List ℕ → Type 0
+  IsOldestGroup g words = (newer : List (Squad Request Reply))
+      × (slice_index words 1 ≡ newest (flat newer ++ line_of g))
       × Links words (flat newer ++ line_of g)
 
   -- the walk from the newest writer of the second list is its groups, but for an oldest one whose leader has cut it off
   -- and has yet to give the right on
-  abbrev pub IsWalked : Lists Q P → List ℕ → Type 0
-  IsWalked l words = (walked cut : List (Squad Q P)) × (l.1.0 ≡ walked ++ cut) × (length cut ≤ 1)
+  abbrev pub IsWalked : Lists Request Reply → List ℕ → Type 0
+  IsWalked l words = (walked cut : List (Squad Request Reply)) × (l.1.0 ≡ walked ++ cut) × (length cut ≤ 1)
       × (slice_index words 1 ≡ newest (flat walked)) × Links words (flat walked)
 
   -- the client is neither of the group in hand nor in the second list
-  abbrev pub IsInNone : ℕ → Lists Q P → Type 0
+  abbrev pub IsInNone : ℕ → Lists Request Reply → Type 0
   IsInNone c l = IsNotWith c l.0.1 × Absent c (flat l.1.0)

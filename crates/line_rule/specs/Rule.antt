@@ -5,26 +5,27 @@ use Rattle.std.specs.Prelude.{Bool, true, false, ◌≡◌, ◌≢◌, ℕ, zero
 use mathlib.Core.Option.{Option, some}
 use lib.ListN.{get_elem?}
 use Rattle.atomic_table.specs.Table.{State}
-use Rattle.line_rule.specs.declared.view.Entry.{Entry}
+use Rattle.line_rule.specs.declared.words.TheConstants.{MARK, STATE_DONE, STATE_IN_LIST, STATE_LEADS_LOG, STATE_LEADS_TABLE, STATE_PARALLEL}
+use Rattle.line_rule.specs.declared.view.QueuedWriter.{QueuedWriter}
 use Rattle.line_rule.specs.declared.view.Handling.{Handling}
-use Rattle.line_rule.specs.declared.view.Hold.{Hold}
+use Rattle.line_rule.specs.declared.view.LineHold.{LineHold}
 use Rattle.line_rule.specs.declared.view.Squad.{Squad}
 use Rattle.line_rule.specs.declared.view.Back.{Back}
 use Rattle.line_rule.specs.declared.view.Back.TheVariants.{Away}
-use Rattle.line_rule.specs.declared.content.Content.{Content}
-use Rattle.line_rule.specs.declared.content.Content.TheVariants.{Empty, Asked, Told, Log, Right}
-use Rattle.line_rule.specs.declared.view.Stage.{Stage}
-use Rattle.line_rule.specs.declared.view.Stage.TheVariants.{Idle, Preparing, Waiting, Helping, Fresh, Leading, Cutting, Marking, Settling, Collecting}
-use Rattle.line_rule.specs.Events.{Event, Held, free, elected, grouped, core_of, Legal, GoesOn}
+use Rattle.line_rule.specs.declared.content.LineSlot.{LineSlot}
+use Rattle.line_rule.specs.declared.content.LineSlot.TheVariants.{Empty, Asked, Told, TheLog, TheRight}
+use Rattle.line_rule.specs.declared.view.LineStage.{LineStage}
+use Rattle.line_rule.specs.declared.view.LineStage.TheVariants.{Idle, Preparing, Waiting, Helping, Fresh, Leading, Cutting, Marking, Settling, Collecting}
+use Rattle.line_rule.specs.Events.{LineEvent, LogHolder, free, elected, grouped, core_of, Legal, GoesOn}
 use Rattle.line_rule.specs.Chain.{state_at, older_at, newest, newest_from, Links, LinksFrom, Distinct, Within, EndsWith, of, heads}
 use Rattle.line_rule.specs.Standing.{Phase, idle, preparing, linked, chosen, leads, taken, completed, collecting, Mode, open_, waits, led, built, cut, marked, base_of, Holds, InFront, Place, away, parted, queued, called, serves, served, Turn, still, calls, held_by, passes, ahead, Two, line_of, flat, In, Apart, InStep, KnowsBack}
 use Rattle.line_rule.specs.Laws.{Laws}
 -- cited with the words of the rule by those who make the steps
 pub use Rattle.line_rule.specs.Laws.{Unnumbered, given_runs, last_run, logs_from, logs_picked, serves_picked, kept_picked, asks_for, asks_picked}
 
-module _ {Q P : Type 0} where
+module _ {Request Reply : Type 0} where
   -- the writer e stands in the list
-  abbrev pub InChain : Entry Q → Phase Q P → Type 0
+  abbrev pub InChain : QueuedWriter Request → Phase Request Reply → Type 0
   InChain e idle = ⊥
   InChain e (preparing w) = ⊥
   InChain e (linked f) = f ≡ e
@@ -34,12 +35,12 @@ module _ {Q P : Type 0} where
   InChain e (completed q p) = ⊥
   InChain e collecting = ⊥
 
-  abbrev pub Stand : (ℕ → Phase Q P) → List (Entry Q) → Type 0
+  abbrev pub Stand : (ℕ → Phase Request Reply) → List (QueuedWriter Request) → Type 0
   Stand phase [] = Unit {0}
   Stand phase (e ∷ es) = InChain e (phase e.by) × Stand phase es
 
   -- the client's entry is one of a group that has left the first list for the second
-  abbrev pub InSecond : (ℕ → Place Q P) → ℕ → Phase Q P → Type 0
+  abbrev pub InSecond : (ℕ → Place Request Reply) → ℕ → Phase Request Reply → Type 0
   InSecond place k idle = ⊥
   InSecond place k (preparing w) = ⊥
   InSecond place k (linked e) = ⊥
@@ -49,22 +50,22 @@ module _ {Q P : Type 0} where
   InSecond place k (completed q p) = ⊥
   InSecond place k collecting = ⊥
 
-  abbrev pub AllWith : (ℕ → Phase Q P) → ℕ → List (Entry Q) → Type 0
+  abbrev pub AllWith : (ℕ → Phase Request Reply) → ℕ → List (QueuedWriter Request) → Type 0
   AllWith phase c [] = Unit {0}
   AllWith phase c (e ∷ es) = (phase e.by ≡ taken c e) × AllWith phase c es
 
   -- the client leads the group, and its members are with it
-  abbrev pub IsLed : (ℕ → Phase Q P) → ℕ → Squad Q P → Type 0
+  abbrev pub IsLed : (ℕ → Phase Request Reply) → ℕ → Squad Request Reply → Type 0
   IsLed phase c g = (g.own.by ≡ c) × (phase c ≡ leads g.own) × AllWith phase c g.rest
 
   -- each group's members are its leader's
-  abbrev pub AllGroups : (ℕ → Phase Q P) → (ℕ → Place Q P) → List (Squad Q P) → Type 0
+  abbrev pub AllGroups : (ℕ → Phase Request Reply) → (ℕ → Place Request Reply) → List (Squad Request Reply) → Type 0
   AllGroups phase place [] = Unit {0}
   AllGroups phase place (g ∷ gs) = (phase g.own.by ≡ leads g.own) × In g (place g.own.by)
       × AllWith phase g.own.by g.rest × AllGroups phase place gs
 
   -- the client has put q, and has not had the reply
-  abbrev pub Waits : Q → Phase Q P → Type 0
+  abbrev pub Waits : Request → Phase Request Reply → Type 0
   Waits q idle = ⊥
   Waits q (preparing w) = ⊥
   Waits q (linked e) = e.asked ≡ q
@@ -75,38 +76,41 @@ module _ {Q P : Type 0} where
   Waits q collecting = ⊥
 
   -- of what was handled for a client and not yet taken out by it, what it hasn't been told
-  abbrev pub untold : Phase Q P → List (Q × P) → List (Q × P)
-  untold idle due = due
-  untold (preparing w) due = due
-  untold (linked e) due = due
-  untold (chosen e) due = due
-  untold (leads e) due = due
-  untold (taken c e) due = due
-  untold (completed q p) due = []
-  untold collecting due = due
+  abbrev pub due_untold : Phase Request Reply → List (Request × Reply) → List (Request × Reply)
+  due_untold idle due = due
+  due_untold (preparing w) due = due
+  due_untold (linked e) due = due
+  due_untold (chosen e) due = due
+  due_untold (leads e) due = due
+  due_untold (taken c e) due = due
+  due_untold (completed q p) due = []
+  due_untold collecting due = due
 
-  abbrev pub AllLinked : (ℕ → Phase Q P) → List (Entry Q) → Type 0
+  abbrev pub AllLinked : (ℕ → Phase Request Reply) → List (QueuedWriter Request) → Type 0
   AllLinked phase [] = Unit {0}
   AllLinked phase (e ∷ es) = (phase e.by ≡ linked e) × AllLinked phase es
 
   -- the leader c has their requests, and has handled none of them
-  abbrev pub AllTaken : (ℕ → Phase Q P) → (ℕ → List (Q × P)) → ℕ → List (Entry Q) → Type 0
+  abbrev pub AllTaken : (ℕ → Phase Request Reply) → (ℕ → List (Request × Reply)) → ℕ → List (QueuedWriter Request)
+      → Type 0
   AllTaken phase due c [] = Unit {0}
   AllTaken phase due c (e ∷ es) = (phase e.by ≡ taken c e) × (due e.by ≡ []) × AllTaken phase due c es
 
   -- their requests are handled by c, and they haven't been told
-  abbrev pub AllOwed : (ℕ → Phase Q P) → (ℕ → List (Q × P)) → ℕ → List (Entry Q × P) → Type 0
+  abbrev pub AllOwed : (ℕ → Phase Request Reply) → (ℕ → List (Request × Reply)) → ℕ
+      → List (QueuedWriter Request × Reply) → Type 0
   AllOwed phase due c [] = Unit {0}
   AllOwed phase due c (g ∷ gs) = (phase g.0.by ≡ taken c g.0) × (due g.0.by ≡ (g.0.asked, g.1) ∷ [])
       × AllOwed phase due c gs
 
-  module _ (line hand : List (Entry Q)) (handled : List (Handling Q P)) (mode : Mode Q) (phase : ℕ → Phase Q P) (due : ℕ
-      → List (Q × P)) (c : ℕ) where
-    abbrev pub Knows : Stage Q P → Type 0
+  module _ (line hand : List (QueuedWriter Request)) (handled : List (Handling Request Reply)) (mode : Mode Request)
+      (phase : ℕ → Phase Request Reply) (due : ℕ
+      → List (Request × Reply)) (c : ℕ) where
+    abbrev pub Knows : LineStage Request Reply → Type 0
     Knows Idle = phase c ≡ idle
     Knows (Preparing w) = phase c ≡ preparing w
     Knows (Waiting q past) = Waits q (phase c)
-    Knows (Helping q) = Waits q (phase c) × ((p : P) × (due c ≡ (q, p) ∷ []))
+    Knows (Helping q) = Waits q (phase c) × ((p : Reply) × (due c ≡ (q, p) ∷ []))
     Knows (Fresh own seen) = (mode ≡ led c) × (phase c ≡ leads own) × (seen ≡ handled)
     Knows (Leading lead) = (mode ≡ built c lead.group) × (phase c ≡ leads lead.own) × EndsWith line lead.walk
         × (lead.seen ≡ handled) × (lead.taken ≡ hand)
@@ -120,7 +124,7 @@ module _ {Q P : Type 0} where
 
   -- What a client knows of the events that led here. So these only go on: nobody can put another past behind what
   -- somebody knows.
-  abbrev pub Recalls : List (Event Q P) → Stage Q P → Type 0
+  abbrev pub Recalls : List (LineEvent Request Reply) → LineStage Request Reply → Type 0
   Recalls events Idle = Unit {0}
   Recalls events (Preparing w) = Unit {0}
   Recalls events (Waiting q past) = GoesOn events past
@@ -132,168 +136,195 @@ module _ {Q P : Type 0} where
   Recalls events (Settling debt) = Unit {0}
   Recalls events Collecting = Unit {0}
 
-  module _ (n : ℕ) (line hand : List (Entry Q)) (handled : List (Handling Q P)) (mode : Mode Q) (phase : ℕ
-      → Phase Q P) (due told : ℕ → List (Q × P)) (two : Two Q P) (events : List (Event Q P)) (seat : ℕ → ℕ)
+  module _ (n : ℕ) (line hand : List (QueuedWriter Request)) (handled : List (Handling Request Reply))
+      (mode : Mode Request) (phase : ℕ
+      → Phase Request Reply) (due told : ℕ
+      → List (Request × Reply)) (two : Two Request Reply) (events : List (LineEvent Request Reply)) (seat : ℕ → ℕ)
       (j : ℕ) where
-    abbrev pub Fits : Hold Q P → Type 0
+    abbrev pub Fits : LineHold Request Reply → Type 0
     Fits h = (seat h.client ≡ j) × (0 < h.client) × (h.client ≤ n) × (h.mine ≡ told h.client)
         × Knows line hand handled mode phase due h.client h.stage × KnowsBack two h.client h.back
         × Recalls events h.stage
 
-    abbrev pub AllFit : List (Hold Q P) → Type 0
+    abbrev pub AllFit : List (LineHold Request Reply) → Type 0
     AllFit [] = Unit {0}
     AllFit (h ∷ hs) = Fits h × AllFit hs
 
   -- the holds of n clients that have done nothing
-  abbrev pub hold : ℕ → Stage Q P → List (Q × P) → Hold Q P
+  abbrev pub hold : ℕ → LineStage Request Reply → List (Request × Reply) → LineHold Request Reply
   hold c st m = record { client = c; stage = st; mine = m; back = Away }
 
-  abbrev pub hold_at : ℕ → Stage Q P → List (Q × P) → Back Q P → Hold Q P
+  abbrev pub hold_at : ℕ → LineStage Request Reply → List (Request × Reply) → Back Request Reply
+      → LineHold Request Reply
   hold_at c st m b = record { client = c; stage = st; mine = m; back = b }
 
-  abbrev pub newcomers : ℕ → List (Hold Q P)
+  abbrev pub newcomers : ℕ → List (LineHold Request Reply)
   newcomers zero = []
   newcomers (suc n) = hold (suc n) Idle [] ∷ newcomers n
 
-module _ {Q P : Type 0} where
+module _ {Request Reply : Type 0} where
   -- who has cut its group off has the log for it, and its members' requests in hand
-  abbrev pub HasCut : Held Q → List (Entry Q) → (ℕ → Phase Q P) → Mode Q → Type 0
+  abbrev pub HasCut : LogHolder Request → List (QueuedWriter Request) → (ℕ → Phase Request Reply) → Mode Request
+      → Type 0
   HasCut log hand phase open_ = Unit {0}
   HasCut log hand phase (waits c) = Unit {0}
   HasCut log hand phase (led c) = Unit {0}
   HasCut log hand phase (built c g) = Unit {0}
-  HasCut log hand phase (cut c w) = (own : Entry Q) × (own.by ≡ c) × (phase c ≡ leads own) × (log ≡ grouped own hand)
-  HasCut log hand phase (marked c) = (own : Entry Q) × (own.by ≡ c) × (phase c ≡ leads own) × (log ≡ grouped own hand)
+  HasCut log hand phase (cut c w) = (own : QueuedWriter Request) × (own.by ≡ c) × (phase c ≡ leads own)
+      × (log ≡ grouped own hand)
+  HasCut log hand phase (marked c) = (own : QueuedWriter Request) × (own.by ≡ c) × (phase c ≡ leads own)
+      × (log ≡ grouped own hand)
 
 -- some legal events led here, and what the words show is the state after them
-module _ {Q : Type 0} (line queue : List (Entry Q)) (log : Held Q) where
-  abbrev pub Shows : Mode Q → Type 0
+module _ {Request : Type 0} (line queue : List (QueuedWriter Request)) (log : LogHolder Request) where
+  abbrev pub Shows : Mode Request → Type 0
   Shows open_ = (line ≡ queue) × (log ≡ free)
   Shows (waits c) = (line ≡ queue) × (log ≡ free)
   Shows (led c) = (line ≡ queue) × (log ≡ elected c)
-  Shows (built c g) = (x : (own : Entry Q) × (line ≡ queue ++ (g ++ own ∷ []))) × (log ≡ grouped x.0 g)
-  Shows (cut c w) = (line ≡ queue) × ((own : Entry Q) × (g : List (Entry Q)) × (log ≡ grouped own g))
-  Shows (marked c) = (line ≡ queue) × ((own : Entry Q) × (g : List (Entry Q)) × (log ≡ grouped own g))
+  Shows (built c g) = (x : (own : QueuedWriter Request) × (line ≡ queue ++ (g ++ own ∷ []))) × (log ≡ grouped x.0 g)
+  Shows (cut c w) = (line ≡ queue)
+      × ((own : QueuedWriter Request) × (g : List (QueuedWriter Request)) × (log ≡ grouped own g))
+  Shows (marked c) = (line ≡ queue)
+      × ((own : QueuedWriter Request) × (g : List (QueuedWriter Request)) × (log ≡ grouped own g))
 
-pub record Account {Q P : Type 0} (bound : ℕ) (line : List (Entry Q)) (handled : List (Handling Q P))
-    (mode : Mode Q) : Type 0 where
-  pub events : List (Event Q P)
-  pub queue : List (Entry Q)
-  pub log : Held Q
-  pub owing : List (Handling Q P)
+pub record Account {Request Reply : Type 0} (bound : ℕ) (line : List (QueuedWriter Request))
+    (handled : List (Handling Request Reply))
+    (mode : Mode Request) : Type 0 where
+  pub events : List (LineEvent Request Reply)
+  pub queue : List (QueuedWriter Request)
+  pub log : LogHolder Request
+  pub owing : List (Handling Request Reply)
   pub legal : Legal bound events
   pub ran : core_of events ≡ (queue, log, handled, owing)
   pub shows : Shows line queue log mode
 
-module _ {Q P L M : Type 0} (stands : Laws Q P L M) where
-  module _ (words : List ℕ) (homes : List (Option (Content Q P L M))) (i : ℕ) (due : List (Q × P)) where
-    abbrev pub InPhase : Phase Q P → Type 0
+module _ {Request Reply Log Right : Type 0} (stands : Laws Request Reply Log Right) where
+  module _ (words : List ℕ) (homes : List (Option (LineSlot Request Reply Log Right))) (i : ℕ)
+      (due : List (Request × Reply)) where
+    abbrev pub InPhase : Phase Request Reply → Type 0
     InPhase idle = (get_elem? homes i ≡ some (some Empty)) × (due ≡ [])
-    InPhase (preparing w) = (slice_index words (state_at i) ≡ 1) × (slice_index words (older_at i) ≡ w) × (due ≡ [])
-    InPhase (linked e) = (e.by ≡ i) × (slice_index words (state_at i) ≡ 1)
+    InPhase (preparing w) = (slice_index words (state_at i) ≡ STATE_IN_LIST) × (slice_index words (older_at i) ≡ w)
+        × (due ≡ [])
+    InPhase (linked e) = (e.by ≡ i) × (slice_index words (state_at i) ≡ STATE_IN_LIST)
         × (get_elem? homes i ≡ some (some (Asked e.asked))) × (due ≡ [])
-    InPhase (chosen e) = (e.by ≡ i) × (slice_index words (state_at i) ≡ 2)
+    InPhase (chosen e) = (e.by ≡ i) × (slice_index words (state_at i) ≡ STATE_LEADS_LOG)
         × (get_elem? homes i ≡ some (some (Asked e.asked))) × (due ≡ [])
     InPhase (leads e) = e.by ≡ i
-    InPhase (taken c e) = (e.by ≡ i) × (slice_index words (state_at i) ≢ 2) × (slice_index words (state_at i) ≢ 16)
-        × (slice_index words (state_at i) ≡ 8 → (stands.piped ≡ true) × ((p : P) × (due ≡ (e.asked, p) ∷ [])))
-    InPhase (completed q p) = (slice_index words (state_at i) ≡ 16) × (get_elem? homes i ≡ some (some (Told p)))
+    InPhase (taken c e) = (e.by ≡ i) × (slice_index words (state_at i) ≢ STATE_LEADS_LOG)
+        × (slice_index words (state_at i) ≢ STATE_DONE)
+        × (slice_index words (state_at i) ≡ STATE_PARALLEL → (stands.piped ≡ true)
+        × ((p : Reply) × (due ≡ (e.asked, p) ∷ [])))
+    InPhase (completed q p) = (slice_index words (state_at i) ≡ STATE_DONE) × (get_elem? homes i ≡ some (some (Told p)))
         × (due ≡ (q, p) ∷ [])
     InPhase collecting = due ≡ []
 
-  abbrev pub LogHome : List (Option (Content Q P L M)) → List (Handling Q P) → Type 0
-  LogHome homes handled = (l : L) × (get_elem? homes 0 ≡ some (some (Log l))) × stands.logs l handled
+  abbrev pub LogHome : List (Option (LineSlot Request Reply Log Right)) → List (Handling Request Reply) → Type 0
+  LogHome homes handled = (l : Log) × (get_elem? homes 0 ≡ some (some (TheLog l))) × stands.logs l handled
 
   -- the right is at home, at the last slot, and stands for these
-  abbrev pub RightHome : ℕ → List (Option (Content Q P L M)) → List (Handling Q P) → Type 0
-  RightHome n homes hs = (r : M) × (get_elem? homes (n + 1) ≡ some (some (Right r))) × stands.rights r hs
+  abbrev pub RightHome : ℕ → List (Option (LineSlot Request Reply Log Right)) → List (Handling Request Reply) → Type 0
+  RightHome n homes hs = (r : Right) × (get_elem? homes (n + 1) ≡ some (some (TheRight r))) × stands.rights r hs
 
   -- what the right stands for and what the log does go together in a list with a second one; others have no groups
   -- there, and the right stands for what it did at opening
-  abbrev pub Level : Bool → Two Q P → List (Handling Q P) → Type 0
+  abbrev pub Level : Bool → Two Request Reply → List (Handling Request Reply) → Type 0
   Level true two last = InStep two.done two.groups last two.lead
   Level false two last = (two.groups ≡ []) × (two.done ≡ stands.opened)
 
-  module _ (n : ℕ) (words : List ℕ) (homes : List (Option (Content Q P L M))) (phase : ℕ → Phase Q P) where
-    abbrev pub InTurn : Two Q P → Turn → Type 0
+  module _ (n : ℕ) (words : List ℕ) (homes : List (Option (LineSlot Request Reply Log Right))) (phase : ℕ
+      → Phase Request Reply) where
+    abbrev pub InTurn : Two Request Reply → Turn → Type 0
     InTurn two still = (two.groups ≡ []) × RightHome n homes two.done
-    InTurn two (calls c) = ((newer : List (Squad Q P)) × (g : Squad Q P) × (two.groups ≡ newer ++ g ∷ [])
-        × (two.place c ≡ called g) × (g.own.by ≡ c) × (slice_index words (state_at c) ≡ 4)) × RightHome n homes two.done
-    InTurn two (held_by c) = (newer : List (Squad Q P)) × (g : Squad Q P) × (two.groups ≡ newer ++ g ∷ [])
+    InTurn two (calls c) = ((newer : List (Squad Request Reply)) × (g : Squad Request Reply)
+        × (two.groups ≡ newer ++ g ∷ [])
+        × (two.place c ≡ called g) × (g.own.by ≡ c) × (slice_index words (state_at c) ≡ STATE_LEADS_TABLE))
+        × RightHome n homes two.done
+    InTurn two (held_by c) = (newer : List (Squad Request Reply)) × (g : Squad Request Reply)
+        × (two.groups ≡ newer ++ g ∷ [])
         × (two.place c ≡ serves g) × (g.own.by ≡ c)
-    InTurn two (passes c w) = (newer : List (Squad Q P)) × (g : Squad Q P) × (two.groups ≡ newer ++ g ∷ [])
+    InTurn two (passes c w) = (newer : List (Squad Request Reply)) × (g : Squad Request Reply)
+        × (two.groups ≡ newer ++ g ∷ [])
         × (g.own.by ≡ w)
 
     -- a group that is cut off from the first list
-    abbrev pub Parts : ℕ → Squad Q P → ℕ → Type 0
+    abbrev pub Parts : ℕ → Squad Request Reply → ℕ → Type 0
     Parts c g b = (g.own.by ≡ c) × (phase c ≡ leads g.own) × AllWith phase c g.rest × LinksFrom b words (line_of g)
         × Distinct (line_of g) × Within n (line_of g)
 
     -- what the words and slots show of the second list
-    pub record Second (mode : Mode Q) (last : List (Handling Q P)) (two : Two Q P) : Type 0 where
-      pub newest_is : slice_index words 1 ≡ newest (flat two.groups)
-      pub links : Links words (flat two.groups)
-      pub distinct : Distinct (flat two.groups)
-      pub within : Within n (flat two.groups)
-      pub members : AllGroups phase two.place two.groups
-      pub parts : (c : ℕ) (g : Squad Q P) (b : ℕ) → two.place c ≡ parted g b → Parts c g b
-      pub outgoing : (c : ℕ) (g : Squad Q P) → two.place c ≡ served g → IsLed phase c g
-      pub turn_is : InTurn two two.turn
-      pub in_front : (c : ℕ) → InFront c mode → two.place c ≡ away
-      pub quiet : (c : ℕ) → Holds c mode → Apart (two.place c) → slice_index words (state_at c) ≢ 4
-      pub quiet_queued : (c : ℕ) (g : Squad Q P) → two.place c ≡ queued g → slice_index words (state_at c) ≢ 4
-      pub called_turn : (c : ℕ) (g : Squad Q P) → two.place c ≡ called g → two.turn ≡ calls c
-      pub ahead_holds : (c : ℕ) → two.lead ≡ ahead c → Holds c mode
-      pub in_level : Level stands.piped two last
+    pub record Second (mode : Mode Request) (last : List (Handling Request Reply)) (two : Two Request Reply) : Type 0
+      where
+        pub newest_is : slice_index words 1 ≡ newest (flat two.groups)
+        pub links : Links words (flat two.groups)
+        pub distinct : Distinct (flat two.groups)
+        pub within : Within n (flat two.groups)
+        pub members : AllGroups phase two.place two.groups
+        pub parts : (c : ℕ) (g : Squad Request Reply) (b : ℕ) → two.place c ≡ parted g b → Parts c g b
+        pub outgoing : (c : ℕ) (g : Squad Request Reply) → two.place c ≡ served g → IsLed phase c g
+        pub turn_is : InTurn two two.turn
+        pub in_front : (c : ℕ) → InFront c mode → two.place c ≡ away
+        pub quiet : (c : ℕ) → Holds c mode → Apart (two.place c) → slice_index words (state_at c) ≢ STATE_LEADS_TABLE
+        pub quiet_queued : (c : ℕ) (g : Squad Request Reply) → two.place c ≡ queued g
+            → slice_index words (state_at c) ≢ STATE_LEADS_TABLE
+        pub called_turn : (c : ℕ) (g : Squad Request Reply) → two.place c ≡ called g → two.turn ≡ calls c
+        pub ahead_holds : (c : ℕ) → two.lead ≡ ahead c → Holds c mode
+        pub in_level : Level stands.piped two last
 
-  module _ (n : ℕ) (homes : List (Option (Content Q P L M))) (line hand : List (Entry Q))
-      (handled : List (Handling Q P)) (phase : ℕ → Phase Q P) (due : ℕ → List (Q × P)) where
-    abbrev pub InMode : Mode Q → Type 0
+  module _ (n : ℕ) (homes : List (Option (LineSlot Request Reply Log Right))) (line hand : List (QueuedWriter Request))
+      (handled : List (Handling Request Reply)) (phase : ℕ → Phase Request Reply) (due : ℕ
+      → List (Request × Reply)) where
+    abbrev pub InMode : Mode Request → Type 0
     InMode open_ = (line ≡ []) × (hand ≡ []) × LogHome homes handled
-    InMode (waits c) = ((queue : List (Entry Q)) × (e : Entry Q) × (line ≡ queue ++ e ∷ []) × AllLinked phase queue
+    InMode (waits c) = ((queue : List (QueuedWriter Request)) × (e : QueuedWriter Request) × (line ≡ queue ++ e ∷ [])
+        × AllLinked phase queue
         × (phase c ≡ chosen e) × (e.by ≡ c)) × (hand ≡ []) × LogHome homes handled
-    InMode (led c) = ((queue : List (Entry Q)) × (own : Entry Q) × (line ≡ queue ++ own ∷ []) × AllLinked phase queue
+    InMode (led c) = ((queue : List (QueuedWriter Request)) × (own : QueuedWriter Request) × (line ≡ queue ++ own ∷ [])
+        × AllLinked phase queue
         × (phase c ≡ leads own) × (own.by ≡ c)) × (hand ≡ []) × (due c ≡ [])
-    InMode (built c g) = ((queue : List (Entry Q)) × (own : Entry Q) × (line ≡ queue ++ (hand ++ own ∷ []))
+    InMode (built c g) = ((queue : List (QueuedWriter Request)) × (own : QueuedWriter Request)
+        × (line ≡ queue ++ (hand ++ own ∷ []))
         × AllLinked phase queue × (phase c ≡ leads own) × (own.by ≡ c)) × AllTaken phase due c hand × (due c ≡ [])
-    InMode (cut c w) = ((queue : List (Entry Q)) × (e : Entry Q) × (line ≡ queue ++ e ∷ []) × AllLinked phase queue
+    InMode (cut c w) = ((queue : List (QueuedWriter Request)) × (e : QueuedWriter Request) × (line ≡ queue ++ e ∷ [])
+        × AllLinked phase queue
         × (phase w ≡ linked e) × (e.by ≡ w)) × AllTaken phase due c hand × (due c ≡ []) × Distinct hand
     InMode (marked c) = AllLinked phase line
-        × ((own : Entry Q) × (phase c ≡ leads own) × (own.by ≡ c) × (0 < c) × (c ≤ n)) × AllTaken phase due c hand
+        × ((own : QueuedWriter Request) × (phase c ≡ leads own) × (own.by ≡ c) × (0 < c) × (c ≤ n))
+        × AllTaken phase due c hand
         × (due c ≡ []) × Distinct hand
 
-  pub record Listed (n : ℕ) (s : State (Content Q P L M) (List (Hold Q P))) : Type 0 where
-    -- the walk from the newest writer, and the requests in hand, without the leader's own: newest first
-    pub line : List (Entry Q)
-    pub hand : List (Entry Q)
-    pub handled : List (Handling Q P)
-    pub mode : Mode Q
-    pub phase : ℕ → Phase Q P
-    -- what was handled for a client and not yet told it, and what it was told
-    pub due : ℕ → List (Q × P)
-    pub told : ℕ → List (Q × P)
-    pub two : Two Q P
-    pub seat : ℕ → ℕ
-    pub few : n < 255
-    pub wide : length s.words ≡ 2 * n + 4
-    pub many : length s.homes ≡ n + 2
-    pub newest_is : slice_index s.words 0 ≡ newest_from (base_of mode) line
-    pub links : LinksFrom (base_of mode) s.words line
-    pub distinct : Distinct line
-    pub within : Within n line
-    pub stand : Stand phase line
-    pub rows : (i : ℕ) → 0 < i → i ≤ n → InPhase s.words s.homes i (due i) (phase i)
-    pub log_is : InMode n s.homes line hand handled phase due mode
-    pub one_chosen : (i : ℕ) (e : Entry Q) → phase i ≡ chosen e → mode ≡ waits i
-    pub shared_out : (i : ℕ) → of i handled ≡ told i ++ due i
-    pub account : Account stands.bound line handled mode
-    pub has_cut : HasCut account.log hand phase mode
-    pub owing_is : (i : ℕ) → of i account.owing ≡ untold (phase i) (due i)
-    pub second : Second n s.words s.homes phase mode (stands.given handled) two
-    pub kept : stands.kept handled
-    pub coded : (i : ℕ) (e : Entry Q) → InChain e (phase i) → stands.asks e.asked e.code
-    pub seats : (j : ℕ) (v : List (Hold Q P)) → get_elem? s.views j ≡ some v
-        → AllFit n line hand handled mode phase due told two account.events seat j v
+  pub record Listed (n : ℕ) (s : State (LineSlot Request Reply Log Right) (List (LineHold Request Reply))) : Type 0
+    where
+      -- the walk from the newest writer, and the requests in hand, without the leader's own: newest first
+      pub line : List (QueuedWriter Request)
+      pub hand : List (QueuedWriter Request)
+      pub handled : List (Handling Request Reply)
+      pub mode : Mode Request
+      pub phase : ℕ → Phase Request Reply
+      -- what was handled for a client and not yet told it, and what it was told
+      pub due : ℕ → List (Request × Reply)
+      pub told : ℕ → List (Request × Reply)
+      pub two : Two Request Reply
+      pub seat : ℕ → ℕ
+      pub few : n < MARK
+      pub wide : length s.words ≡ 2 * n + 4
+      pub many : length s.homes ≡ n + 2
+      pub newest_is : slice_index s.words 0 ≡ newest_from (base_of mode) line
+      pub links : LinksFrom (base_of mode) s.words line
+      pub distinct : Distinct line
+      pub within : Within n line
+      pub stand : Stand phase line
+      pub rows : (i : ℕ) → 0 < i → i ≤ n → InPhase s.words s.homes i (due i) (phase i)
+      pub log_is : InMode n s.homes line hand handled phase due mode
+      pub one_chosen : (i : ℕ) (e : QueuedWriter Request) → phase i ≡ chosen e → mode ≡ waits i
+      pub shared_out : (i : ℕ) → of i handled ≡ told i ++ due i
+      pub account : Account stands.bound line handled mode
+      pub has_cut : HasCut account.log hand phase mode
+      pub owing_is : (i : ℕ) → of i account.owing ≡ due_untold (phase i) (due i)
+      pub second : Second n s.words s.homes phase mode (stands.given handled) two
+      pub kept : stands.kept handled
+      pub coded : (i : ℕ) (e : QueuedWriter Request) → InChain e (phase i) → stands.asks e.asked e.code
+      pub seats : (j : ℕ) (v : List (LineHold Request Reply)) → get_elem? s.views j ≡ some v
+          → AllFit n line hand handled mode phase due told two account.events seat j v
 
 abbrev pub all_but_first : {A : Type 0} → List A → List A
 all_but_first [] = []
@@ -304,15 +335,15 @@ first_only [] = []
 first_only (x ∷ xs) = x ∷ []
 
 -- what `close` says
-module _ {Q P : Type 0} where
-  abbrev pub Has : Hold Q P → List (Hold Q P) → Type 0
+module _ {Request Reply : Type 0} where
+  abbrev pub Has : LineHold Request Reply → List (LineHold Request Reply) → Type 0
   Has h [] = ⊥
   Has h (x ∷ xs) = (x ≡ h) ⊎ Has h xs
 
   -- all n clients are in the view, and idle
-  abbrev pub AllIdle : ℕ → List (Hold Q P) → Type 0
-  AllIdle n v = (i : ℕ) → 0 < i → i ≤ n → (m : List (Q × P)) × Has (hold i Idle m) v
+  abbrev pub AllIdle : ℕ → List (LineHold Request Reply) → Type 0
+  AllIdle n v = (i : ℕ) → 0 < i → i ≤ n → (m : List (Request × Reply)) × Has (hold i Idle m) v
 
   -- what was handled, in which each client's handlings are those that it was told, in its order
-  abbrev pub Merges : List (Handling Q P) → List (Hold Q P) → Type 0
-  Merges handled v = (h : Hold Q P) → Has h v → of h.client handled ≡ h.mine
+  abbrev pub Merges : List (Handling Request Reply) → List (LineHold Request Reply) → Type 0
+  Merges handled v = (h : LineHold Request Reply) → Has h v → of h.client handled ≡ h.mine

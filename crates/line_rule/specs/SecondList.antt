@@ -9,10 +9,10 @@ use Rattle.line_rule.specs.Standing.{Place, away, parted, queued, called, serves
 -- its groups, newest first; whose group, which is the newest one, is there while it has the log still; and the group
 -- that a client has cut off from the first list, and that has yet to come into this one
 abbrev pub SecondList : Type 0 → Type 0 → Type 0
-SecondList Q P = List (Squad Q P) × Lead2 × (ℕ → Option (Squad Q P))
+SecondList Request Reply = List (Squad Request Reply) × Lead2 × (ℕ → Option (Squad Request Reply))
 
-module _ {Q P : Type 0} where
-  abbrev pub apart_in : Place Q P → Option (Squad Q P)
+module _ {Request Reply : Type 0} where
+  abbrev pub apart_in : Place Request Reply → Option (Squad Request Reply)
   apart_in away = none
   apart_in (parted g b) = some g
   apart_in (queued g) = none
@@ -20,7 +20,7 @@ module _ {Q P : Type 0} where
   apart_in (serves g) = none
   apart_in (served g) = none
 
-  abbrev pub served_in : Place Q P → List (Squad Q P)
+  abbrev pub served_in : Place Request Reply → List (Squad Request Reply)
   served_in away = []
   served_in (parted g b) = []
   served_in (queued g) = []
@@ -29,21 +29,22 @@ module _ {Q P : Type 0} where
   served_in (served g) = g ∷ []
 
   -- the group whose link is cut, and whose leader has yet to give the right on
-  abbrev pub last_served : (ℕ → Place Q P) → Turn → List (Squad Q P)
+  abbrev pub last_served : (ℕ → Place Request Reply) → Turn → List (Squad Request Reply)
   last_served place still = []
   last_served place (calls c) = []
   last_served place (held_by c) = []
   last_served place (passes c w) = served_in (place c)
 
-  abbrev pub second_list_of : Two Q P → SecondList Q P
+  abbrev pub second_list_of : Two Request Reply → SecondList Request Reply
   second_list_of two = (two.groups ++ last_served two.place two.turn, two.lead, λ k. apart_in (two.place k))
 
   -- for c it is this now, and for the others as it was
-  abbrev pub IsPut : ℕ → Option (Squad Q P) → (ℕ → Option (Squad Q P)) → (ℕ → Option (Squad Q P)) → Type 0
+  abbrev pub IsPut : ℕ → Option (Squad Request Reply) → (ℕ → Option (Squad Request Reply))
+      → (ℕ → Option (Squad Request Reply)) → Type 0
   IsPut c g was now = (now c ≡ g) × ((k : ℕ) → k ≢ c → now k ≡ was k)
 
   -- who is ahead is c, where its group is in the second list while it has the log, and not, where it has none there
-  abbrev pub IsAhead : Back Q P → ℕ → Lead2 → Type 0
+  abbrev pub IsAhead : Back Request Reply → ℕ → Lead2 → Type 0
   IsAhead Away c lead = lead ≢ ahead c
   IsAhead (Parting g b) c lead = lead ≢ ahead c
   IsAhead (Joining g) c lead = lead ≡ ahead c
@@ -53,11 +54,11 @@ module _ {Q P : Type 0} where
   IsAhead (Passing g x) c lead = lead ≢ ahead c
 
   -- a leader gives the log on: its group, if it is in the second list, is ahead no more
-  abbrev pub handed : Back Q P → SecondList Q P → SecondList Q P
-  handed Away p = p
-  handed (Parting g b) p = p
-  handed (Joining g) p = (p.0, level, p.2)
-  handed (Holding g) p = (p.0, level, p.2)
-  handed (Queued g) p = p
-  handed (Serving g walk) p = p
-  handed (Passing g x) p = p
+  abbrev pub after_handing_on : Back Request Reply → SecondList Request Reply → SecondList Request Reply
+  after_handing_on Away p = p
+  after_handing_on (Parting g b) p = p
+  after_handing_on (Joining g) p = (p.0, level, p.2)
+  after_handing_on (Holding g) p = (p.0, level, p.2)
+  after_handing_on (Queued g) p = p
+  after_handing_on (Serving g walk) p = p
+  after_handing_on (Passing g x) p = p

@@ -1,13 +1,13 @@
-// What the slots hold, and what a list is made for.
+//! What the slots hold, and what a list is made for.
 
 /// What a slot holds: a client's slot its request or its reply, the first slot the log, and the last one the right.
 #[derive(Drop)]
-pub enum Content<Q, P, L, M> {
+pub enum LineSlot<Request, Reply, Log, Right> {
     Empty,
-    Asked(Q),
-    Told(P),
-    Log(L),
-    Right(M),
+    Asked(Request),
+    Told(Reply),
+    TheLog(Log),
+    TheRight(Right),
 }
 
 /// What a list of writers is made for: how many clients, the log's number at opening, whether it has the second list,

@@ -2,14 +2,14 @@
 ghost use Rattle.std.specs.Prelude.{◌≡◌, List, [], ◌∷◌, ◌++◌, true, false, ℕ, Some};
 ghost use Rattle.std.specs.List.{list_any};
 ghost use mathlib.Core.Option.{none};
-ghost use Rattle.model_base.specs.Calls.{Command, Reply, refused};
+ghost use Rattle.model_base.specs.Calls.{Command, Reply as CoreReply, refused};
 ghost use Rattle.model_base.specs.declared.write.Refusal.TheVariants as no;
 ghost use Rattle.model_core.specs.declared.event.Event.TheVariants as core;
-ghost use Rattle.model_core.specs.Core.{Options, Writer, Client, State, item_of, client_at, built as in_hand, in_log, published, opened, first_group, with_runs, has_run};
+ghost use Rattle.model_core.specs.Core.{Options, Writer, Client, State, item_of, client_at, built as in_hand, in_log, published, opening_state, first_group, with_runs, has_run};
 ghost use Rattle.model_core.specs.Halves.{list_half_of};
 ghost use Rattle.model_core.specs.Step.{step, is_no_slowdown};
 ghost use Rattle.line_rule.specs.declared.view.Back.{Back};
-ghost use Rattle.line_rule.specs.declared.view.Entry.{Entry};
+ghost use Rattle.line_rule.specs.declared.view.QueuedWriter.{QueuedWriter};
 ghost use Rattle.line_rule.specs.declared.view.Handling.{Handling};
 ghost use Rattle.line_rule.specs.declared.view.Squad.{Squad};
 ghost use Rattle.line_rule.specs.Chain.{AllCoded, all_answers};
@@ -36,83 +36,102 @@ use crate::code::codes_stand_for_items;
 /// on, it is cut off from the first list by `boundary`, comes to the end of the second queue by `second`, and its
 /// leader gives the log on by `next`, which comes nowhere else; and the first group of the second queue leaves it by
 /// an exit once it is published, and its members leave with their answers.
-pub fn list_and_core<Q, P>()
-    ensures writers { (items : Q → Item) (writer : ℕ → Q → Writer)
-        → ((c : ℕ) (q : Q) → ((writer c q).client ≡ c) × (item_of (writer c q) ≡ items q))
-        → IsSame {Q = Q} (λ e. writer e.by e.asked)
-        × ((queue : List (Entry Q)) → AllCoded (λ q code. code ≡ code_by items q) queue
+pub fn list_and_core<Request, Reply>()
+    ensures writers { (items : Request → Item) (writer : ℕ → Request → Writer)
+        → ((c : ℕ) (q : Request) → ((writer c q).client ≡ c) × (item_of (writer c q) ≡ items q))
+        → IsSame {Request = Request} (λ e. writer e.by e.asked)
+        × ((queue : List (QueuedWriter Request)) → AllCoded (λ q code. code ≡ code_by items q) queue
         → HasItems (λ e. writer e.by e.asked) queue) }
-    ensures open { (writer_of : Entry Q → Writer) (reply_of : P → Reply) (o : Options) (plans : List (List Command))
-        → IsCoreOf {Q = Q} {P = P} writer_of reply_of [] (([], free, [], []), ([], level, λ _. none))
-        (list_half_of (opened o plans)) }
-    ensures link { (writer_of : Entry Q → Writer) (reply_of : P → Reply) (o : Options) (s : State) (a b : Lists Q P)
-        (ws : List Writer) (e : Entry Q)
+    ensures open { (writer_of : QueuedWriter Request → Writer) (reply_of : Reply
+        → CoreReply) (o : Options) (plans : List (List Command))
+        → IsCoreOf {Request = Request} {Reply = Reply} writer_of reply_of []
+        (([], free, [], []), ([], level, λ _. none))
+        (list_half_of (opening_state o plans)) }
+    ensures link { (writer_of : QueuedWriter Request → Writer) (reply_of : Reply
+        → CoreReply) (o : Options) (s : State) (a b : Lists Request Reply)
+        (ws : List Writer) (e : QueuedWriter Request)
         → IsCoreOf writer_of reply_of ws a (list_half_of s) → HappensAlone (comes e) a b
         → IsCommit o s e.by (writer_of e)
         → IsTaken writer_of reply_of o (core.Link e.by) s ws b }
-    ensures elect { (writer_of : Entry Q → Writer) (reply_of : P → Reply) (o : Options) (s : State) (a b : Lists Q P)
-        (ws : List Writer) (e : Entry Q)
+    ensures elect { (writer_of : QueuedWriter Request → Writer) (reply_of : Reply
+        → CoreReply) (o : Options) (s : State) (a b : Lists Request Reply)
+        (ws : List Writer) (e : QueuedWriter Request)
         → IsSame writer_of → IsCoreOf writer_of reply_of ws a (list_half_of s) → HappensAlone (elects e) a b
         → IsTaken writer_of reply_of o (core.Elect e.by) s [] b }
-    ensures build { (writer_of : Entry Q → Writer) (reply_of : P → Reply) (o : Options) (s : State) (a b : Lists Q P)
-        (ws : List Writer) (own : Entry Q) (group left : List (Entry Q))
+    ensures build { (writer_of : QueuedWriter Request → Writer) (reply_of : Reply
+        → CoreReply) (o : Options) (s : State) (a b : Lists Request Reply)
+        (ws : List Writer) (own : QueuedWriter Request) (group left : List (QueuedWriter Request))
         → IsSame writer_of → HasItems writer_of a.0.0 → IsCoreOf writer_of reply_of ws a (list_half_of s)
         → HappensAlone (builds o.group_bytes own group left) a b
         → IsTaken writer_of reply_of o (core.Build own.by) s [] b }
-    ensures log { (writer_of : Entry Q → Writer) (reply_of : P → Reply) (o : Options) (s : State) (a : Lists Q P)
-        (old ws built : List Writer) (own : Entry Q) (group : List (Entry Q))
+    ensures log { (writer_of : QueuedWriter Request → Writer) (reply_of : Reply
+        → CoreReply) (o : Options) (s : State) (a : Lists Request Reply)
+        (old ws built : List Writer) (own : QueuedWriter Request) (group : List (QueuedWriter Request))
         → IsSame writer_of → IsCoreOf writer_of reply_of old a (list_half_of s)
         → a.0.1 ≡ grouped own group → s.log ≡ in_hand built → s.log_failed ≡ false
         → ws ≡ with_runs s.assigned built → list_any has_run ws ≡ true
         → IsTaken writer_of reply_of o (core.Log own.by) s ws a }
-    ensures boundary { (writer_of : Entry Q → Writer) (reply_of : P → Reply) (o : Options) (s : State) (a b : Lists Q P)
-        (ws : List Writer) (c : ℕ) (g : Squad Q P)
+    ensures boundary { (writer_of : QueuedWriter Request → Writer) (reply_of : Reply
+        → CoreReply) (o : Options) (s : State) (a b : Lists Request Reply)
+        (ws : List Writer) (c : ℕ) (g : Squad Request Reply)
         → o.pipelined ≡ true → IsSame writer_of → IsCoreOf writer_of reply_of ws a (list_half_of s)
         → s.log ≡ in_log ws → IsBoundary c g a b
         → IsTaken writer_of reply_of o (core.Boundary c) s ws b }
-    ensures second { (writer_of : Entry Q → Writer) (reply_of : P → Reply) (o : Options) (s : State) (a b : Lists Q P)
-        (ws : List Writer) (c : ℕ) (g : Squad Q P) (to : List (Handling Q P))
+    ensures second { (writer_of : QueuedWriter Request → Writer) (reply_of : Reply
+        → CoreReply) (o : Options) (s : State) (a b : Lists Request Reply)
+        (ws : List Writer) (c : ℕ) (g : Squad Request Reply) (to : List (Handling Request Reply))
         → IsSame writer_of → IsCoreOf writer_of reply_of ws a (list_half_of s) → IsSecond c g to a b
         → IsTaken writer_of reply_of o (core.Second c) s ws b }
-    ensures next { (writer_of : Entry Q → Writer) (reply_of : P → Reply) (o : Options) (s : State) (a b : Lists Q P)
-        (ws : List Writer) (back : Back Q P) (g : Squad Q P) (own : Entry Q) (p : P) (gs : List (Entry Q × P))
+    ensures next { (writer_of : QueuedWriter Request → Writer) (reply_of : Reply
+        → CoreReply) (o : Options) (s : State) (a b : Lists Request Reply)
+        (ws : List Writer) (back : Back Request Reply) (g : Squad Request Reply) (own : QueuedWriter Request)
+        (p : Reply) (gs : List (QueuedWriter Request × Reply))
         → IsCoreOf writer_of reply_of ws a (list_half_of s) → IsNext back own p gs a b → IsJoined g back
         → HasReplies reply_of (all_answers own p gs) ws
         → IsTaken writer_of reply_of o (core.Next own.by) s [] b }
-    ensures next_of_handed { (writer_of : Entry Q → Writer) (reply_of : P → Reply) (o : Options) (s new : State)
-        (a : Lists Q P) (ws : List Writer) (c : ℕ)
+    ensures next_of_handed { (writer_of : QueuedWriter Request → Writer) (reply_of : Reply
+        → CoreReply) (o : Options) (s new : State)
+        (a : Lists Request Reply) (ws : List Writer) (c : ℕ)
         → IsCoreOf writer_of reply_of ws a (list_half_of s) → step o s (core.Next c) ≡ Some new
         → a.1.1 ≡ ahead c }
-    ensures exit { (writer_of : Entry Q → Writer) (reply_of : P → Reply) (o : Options) (s : State) (a b : Lists Q P)
-        (ws : List Writer) (own : Entry Q) (p : P) (gs : List (Entry Q × P))
+    ensures exit { (writer_of : QueuedWriter Request → Writer) (reply_of : Reply
+        → CoreReply) (o : Options) (s : State) (a b : Lists Request Reply)
+        (ws : List Writer) (own : QueuedWriter Request) (p : Reply) (gs : List (QueuedWriter Request × Reply))
         → o.pipelined ≡ false → IsSame writer_of → IsCoreOf writer_of reply_of ws a (list_half_of s)
         → s.log ≡ in_log ws → s.table ≡ published → IsExit own p gs a b → HasReplies reply_of (all_answers own p gs) ws
         → IsTaken writer_of reply_of o (core.Exit own.by) s [] b }
-    ensures exit_second { (writer_of : Entry Q → Writer) (reply_of : P → Reply) (o : Options) (s : State)
-        (a b : Lists Q P) (ws : List Writer) (c : ℕ) (g : Squad Q P)
+    ensures exit_second { (writer_of : QueuedWriter Request → Writer) (reply_of : Reply
+        → CoreReply) (o : Options) (s : State)
+        (a b : Lists Request Reply) (ws : List Writer) (c : ℕ) (g : Squad Request Reply)
         → o.pipelined ≡ true → IsSame writer_of → IsCoreOf writer_of reply_of ws a (list_half_of s)
         → s.table ≡ published → IsServedOut c g a b
         → IsGroupOf writer_of (line_of g) (first_group s.second)
         × IsTaken writer_of reply_of o (core.Exit c) s ws b }
-    ensures log_refused { (writer_of : Entry Q → Writer) (reply_of : P → Reply) (o : Options) (s : State)
-        (a b : Lists Q P) (old ws built : List Writer) (own : Entry Q) (p : P) (gs : List (Entry Q × P))
+    ensures log_refused { (writer_of : QueuedWriter Request → Writer) (reply_of : Reply
+        → CoreReply) (o : Options) (s : State)
+        (a b : Lists Request Reply) (old ws built : List Writer) (own : QueuedWriter Request) (p : Reply)
+        (gs : List (QueuedWriter Request × Reply))
         → IsSame writer_of → IsCoreOf writer_of reply_of old a (list_half_of s) → IsExit own p gs a b
         → s.log ≡ in_hand built → s.log_failed ≡ false
         → ws ≡ with_runs s.assigned built → list_any has_run ws ≡ false → HasReplies reply_of (all_answers own p gs) ws
         → IsTaken writer_of reply_of o (core.Log own.by) s [] b }
-    ensures fault { (writer_of : Entry Q → Writer) (reply_of : P → Reply) (o : Options) (s : State) (a b : Lists Q P)
-        (old built : List Writer) (own : Entry Q) (p : P) (gs : List (Entry Q × P))
+    ensures fault { (writer_of : QueuedWriter Request → Writer) (reply_of : Reply
+        → CoreReply) (o : Options) (s : State) (a b : Lists Request Reply)
+        (old built : List Writer) (own : QueuedWriter Request) (p : Reply) (gs : List (QueuedWriter Request × Reply))
         → IsSame writer_of → IsCoreOf writer_of reply_of old a (list_half_of s) → IsExit own p gs a b
         → s.log ≡ in_hand built → AllHave reply_of (refused (no.LogFault 1)) (all_answers own p gs)
         → IsTaken writer_of reply_of o (core.Fault own.by) s [] b }
-    ensures refuse { (writer_of : Entry Q → Writer) (reply_of : P → Reply) (o : Options) (s : State) (a b : Lists Q P)
-        (old built : List Writer) (own : Entry Q) (p : P) (gs : List (Entry Q × P)) (stops delays wait : ℕ)
+    ensures refuse { (writer_of : QueuedWriter Request → Writer) (reply_of : Reply
+        → CoreReply) (o : Options) (s : State) (a b : Lists Request Reply)
+        (old built : List Writer) (own : QueuedWriter Request) (p : Reply) (gs : List (QueuedWriter Request × Reply))
+        (stops delays wait : ℕ)
         → IsSame writer_of → IsCoreOf writer_of reply_of old a (list_half_of s) → IsExit own p gs a b
         → s.log ≡ in_hand built → is_no_slowdown built ≡ true
         → AllHave reply_of (refused (no.Incomplete stops delays wait)) (all_answers own p gs)
         → IsTaken writer_of reply_of o (core.Refuse own.by stops delays wait) s [] b }
-    ensures complete { (writer_of : Entry Q → Writer) (reply_of : P → Reply) (o : Options) (s : State) (a b : Lists Q P)
-        (ws : List Writer) (e : Entry Q) (p : P) (client : Client)
+    ensures complete { (writer_of : QueuedWriter Request → Writer) (reply_of : Reply
+        → CoreReply) (o : Options) (s : State) (a b : Lists Request Reply)
+        (ws : List Writer) (e : QueuedWriter Request) (p : Reply) (client : Client)
         → IsSame writer_of → IsCoreOf writer_of reply_of ws a (list_half_of s) → IsComplete e p a b
         → IsInNone e.by a → client_at s e.by ≡ Some client
         → HasLeft s e.by (reply_of p) × IsTaken writer_of reply_of o (core.Complete e.by) s ws b }

@@ -5,14 +5,15 @@
 //!
 //! # Words
 //!
-//! `n` is the number of clients, and clients are numbered from 1. The words of client `i` begin at `2 i + 2`.
+//! `n` is the number of clients, and clients are numbered from 1. The words of client `i` begin at `2 i + 2`. What they
+//! hold has RocksDB's names.
 //!
 //! | Word | Name | What it holds |
 //! |---|---|---|
-//! | 0 | NEWEST | the newest writer's number, 0 where there is none, or 255, a leader's mark |
+//! | 0 | NEWEST | the newest writer's number, 0 where there is none, or [`MARK`], a leader's mark |
 //! | 1 | NEWEST of the second list | the newest writer of its newest group, or 0 |
-//! | `2 i + 2` | STATE `i` | 1 in the list, 2 leads, 4 leads in the second list, 8 works beside its leader, 16 has its reply |
-//! | `2 i + 3` | OLDER `i` | the number of the next older writer (0: none, 255: the mark), and 256 times the code of its own item |
+//! | [`state_word`] `i` | STATE `i` | [`STATE_IN_LIST`], [`STATE_LEADS_LOG`], [`STATE_LEADS_TABLE`] (it leads in the second list), [`STATE_PARALLEL`] or [`STATE_DONE`] |
+//! | [`older_word`] `i` | OLDER `i` | an [`Older`]: the number of the next older writer (0: none, or the mark), and the code of its own item |
 //!
 //! # Slots
 //!
@@ -28,38 +29,38 @@
 //! that it is none, say [`steps_and_events`] and [`second_steps_and_events`], and which event of the write path's core
 //! an event of the lists is [`list_and_core`].
 //!
-//! Each request in the list is lawful for what the list's law is about (`lawful` of [`Ledger`]): who links it shows so,
-//! and its leader knows it.
+//! Each request in the list is lawful for what the list's law is about (`lawful` of [`LogOfGroups`]): who links it
+//! shows so, and its leader knows it.
 //!
 //! | Step | Who makes it | What it does | Event of the write path |
 //! |---|---|---|---|
-//! | store of 1 to STATE `i` ([`Begin`]) | client `i` | takes its empty slot | |
+//! | store of `STATE_IN_LIST` to STATE `i` ([`Begin`]) | client `i` | takes its empty slot | |
 //! | load of NEWEST ([`ReadNewest`]) | anybody | sees a client's number | |
 //! | store of OLDER `i` ([`NameOlder`]) | client `i` | names the writer that it saw, and its own code | |
 //! | compare-exchange of NEWEST from that writer to `i` ([`Link`]) | client `i` | gives its slot with the request; where it replaced 0 it takes the log, and leads | link, and elect where it replaced 0 |
-//! | load of STATE `i` ([`ReadState`]) | client `i` | where it finds 2 it takes the log and its own slot, and leads; where it finds 8 it works beside its leader; where it finds 16 it takes its slot with the reply | elect, where it finds 2 |
-//! | load of STATE `i` ([`ReadReply`]) | client `i`, beside its leader | where it finds 16 it takes its slot with the reply | |
-//! | load of STATE `i` ([`Rest`]) | client `i` | gives its empty slot back | |
+//! | load of STATE `i` ([`ReadState`]) | client `i` | at `STATE_LEADS_LOG` it takes the log and its own slot, and leads; at `STATE_PARALLEL` it works beside its leader; at `STATE_DONE` it takes its slot with the reply | elect, where it leads |
+//! | load of STATE `i` ([`ReadReply`]) | client `i`, beside its leader | at `STATE_DONE` it takes its slot with the reply | |
+//! | load of STATE `i` ([`ReturnSlot`]) | client `i` | gives its empty slot back | |
 //! | load of NEWEST ([`Build`]) | the leader | its group is the grouping rule's of the walk from there | build |
 //! | load of OLDER `k` ([`ReadOlder`]) | the leader | sees a link of its walk | |
 //! | load of OLDER `k` ([`Fetch`]) | the leader | takes the slot of the next member | |
 //! | compare-exchange of NEWEST from its newest member to 0 ([`Leave`]) | the leader | gives the log back, which stands for the group's handlings too | exit of the single stage; else it only reads anew |
 //! | store of OLDER `k` ([`CutOff`], and [`CutAway`] where the list is pipelined) | the leader | clears the link of the oldest writer after its group | boundary, where the list is pipelined |
-//! | store of 2 to STATE `k` ([`Wake`]) | the leader | gives the log on to that writer | exit of the single stage; next, where the list is pipelined |
-//! | store of 16 to STATE `k` ([`Complete`]) | who led | gives a member's slot with its reply | complete |
-//! | store of 16 to STATE `i` ([`Retire`]) | who led | gives its own empty slot back | complete |
-//! | compare-exchange of NEWEST from its newest member to 255 ([`Mark`]) | the leader | puts its mark in place of its group | boundary |
+//! | store of `STATE_LEADS_LOG` to STATE `k` ([`Wake`]) | the leader | gives the log on to that writer | exit of the single stage; next, where the list is pipelined |
+//! | store of `STATE_DONE` to STATE `k` ([`Complete`]) | who led | gives a member's slot with its reply | complete |
+//! | store of `STATE_DONE` to STATE `i` ([`Retire`]) | who led | gives its own empty slot back | complete |
+//! | compare-exchange of NEWEST from its newest member to `MARK` ([`Mark`]) | the leader | puts its mark in place of its group | boundary |
 //! | store of OLDER `i` ([`AimSecond`]) | who cut its group off | names the newest writer of the second list | |
 //! | compare-exchange of the second NEWEST ([`JoinSecond`]) | who cut its group off | its group comes into the second list; where it replaced 0 it takes the right | second |
-//! | compare-exchange of NEWEST from 255 to 0 ([`Free`]) | who put the mark | gives the log back | next |
+//! | compare-exchange of NEWEST from `MARK` to 0 ([`Free`]) | who put the mark | gives the log back | next |
 //! | load of OLDER `k` ([`ReadOlderMarked`]) | who put the mark | sees a link of its walk | |
 //! | store of OLDER `k` ([`CutBehindMark`]) | who put the mark | clears the link of the oldest writer after the mark | |
-//! | load of STATE `i` ([`Summon`]) | a leader in the second list | takes the right, where it finds 4 | |
-//! | store of 8 to STATE `k` ([`MakeParallel`]) | who has the right | a member of its group may work beside it | |
+//! | load of STATE `i` ([`Summon`]) | a leader in the second list | takes the right, at `STATE_LEADS_TABLE` | |
+//! | store of `STATE_PARALLEL` to STATE `k` ([`MakeParallel`]) | who has the right | a member of its group may work beside it | |
 //! | compare-exchange of the second NEWEST to 0 ([`LeaveSecond`]) | who has the right | gives the right back | exit of the pipelined stage |
 //! | load of OLDER `k` ([`ReadOlderSecond`]) | who has the right | sees a link of the second list | |
 //! | store of OLDER `k` ([`ClearSecond`]) | who has the right | clears the link of the next group's oldest writer | |
-//! | store of 4 to STATE `k` ([`CallNext`]) | who had it | gives the right on to that writer | exit of the pipelined stage |
+//! | store of `STATE_LEADS_TABLE` to STATE `k` ([`CallNext`]) | who had it | gives the right on to that writer | exit of the pipelined stage |
 //!
 //! A compare-exchange that fails is a load. A seat is made and joined at opening and closing alone, which leaves the
 //! list as it is ([`opening_and_seats`]).
@@ -73,18 +74,27 @@ mod rule;
 mod second_law;
 mod steps;
 mod view;
+mod words;
 
 pub use code::{code_of, codes_stand_for_items, item_of};
-pub use content::{Content, Start};
+pub use content::{LineSlot, Start};
 pub use core_events::list_and_core;
 pub use law::{between_steps, opening_and_seats, steps_and_events};
 pub use rule::{
-    Both, First, Given, Itemized, Ledger, Order, PickedAbout, PickedGiven, PickedRight,
+    GivesRun, HasGroupingItem, JoinClients, ListRule, LogOfGroups, PickedAbout, PickedGiven,
+    PickedRight, SplitFirst,
 };
 pub use second_law::{handing_on, second_steps_and_events};
 pub use steps::{
     AimSecond, Begin, Build, CallNext, ClearSecond, Complete, CutAway, CutBehindMark, CutOff,
     Fetch, Free, JoinSecond, Leave, LeaveSecond, Link, MakeParallel, Mark, NameOlder, ReadNewest,
-    ReadOlder, ReadOlderMarked, ReadOlderSecond, ReadReply, ReadState, Rest, Retire, Summon, Wake,
+    ReadOlder, ReadOlderMarked, ReadOlderSecond, ReadReply, ReadState, Retire, ReturnSlot, Summon,
+    Wake,
 };
-pub use view::{Back, Debt, Entry, Event, Handling, Hold, Lead, Squad, Stage, View};
+pub use view::{
+    Back, Debt, Handling, Lead, LineEvent, LineHold, LineStage, LineView, QueuedWriter, Squad,
+};
+pub use words::{
+    MARK, Older, STATE_DONE, STATE_IN_LIST, STATE_LEADS_LOG, STATE_LEADS_TABLE, STATE_PARALLEL,
+    older_word, state_word,
+};

@@ -1,31 +1,29 @@
-// The rule of the list, and what it asks of requests, replies, log and right.
+//! The rule of the list, and what it asks of requests, replies, log and right.
 ghost use Rattle.std.specs.Prelude.{◌≡◌, ℕ, List, [], ◌++◌};
-ghost use Rattle.line_rule.specs.Laws.{laws_for};
-ghost use Rattle.line_rule.specs.Rule.{Listed, newcomers, all_but_first, first_only};
 
-use crate::content::{Content, Start};
-use crate::view::{Handling, View};
+use crate::content::{LineSlot, Start};
+use crate::view::{Handling, LineView};
 use atomic_table::{Join, Split, TableRule};
 use std::marker::Brand;
 
 /// What a log says that was handled, where it had this number at first, and its number now.
-pub trait Ledger<Q, P, M> {
+pub trait LogOfGroups<Request, Reply, Right> {
     /// What the law is about, besides the log.
     type About;
 
     ghost use Rattle.std.specs.Prelude.{ℕ, List};
     ghost use Rattle.line_rule.specs.declared.view.Handling.{Handling};
 
-    ghost stands: { Self.About → Self → List (Handling Q P) → Type 0 };
+    ghost stands: { Self.About → Self → List (Handling Request Reply) → Type 0 };
 
     /// What holds of what was handled, wherever the log is.
-    ghost kept: { Self.About → List (Handling Q P) → Type 0 };
+    ghost kept: { Self.About → List (Handling Request Reply) → Type 0 };
 
     /// For which of what was handled, of those that were given runs, the right stands.
-    ghost serves: { Self.About → M → List (Handling Q P) → Type 0 };
+    ghost serves: { Self.About → Right → List (Handling Request Reply) → Type 0 };
 
     /// What holds of each request that is in the list.
-    ghost lawful: { Self.About → Q → Type 0 };
+    ghost lawful: { Self.About → Request → Type 0 };
 
     ghost number_of: { Self → ℕ };
 
@@ -34,14 +32,14 @@ pub trait Ledger<Q, P, M> {
 }
 
 /// The first number and the count that a reply gives; the count 0 where it gives none.
-pub trait Given {
+pub trait GivesRun {
     ghost use Rattle.std.specs.Prelude.{ℕ};
 
     ghost run_of: { Self → ℕ × ℕ };
 }
 
 /// What grouping sees of a request.
-pub trait Itemized {
+pub trait HasGroupingItem {
     ghost use Rattle.model_base.specs.declared.group.Item.{Item};
 
     ghost item_of: { Self → Item };
@@ -65,30 +63,30 @@ impl<K> PickedAbout<K> for Brand {
 }
 
 /// Which of what was handled was given runs, which the caller picks.
-pub trait PickedGiven<Q, P> {
+pub trait PickedGiven<Request, Reply> {
     ghost use Rattle.std.specs.Prelude.{List};
     ghost use Rattle.line_rule.specs.declared.view.Handling.{Handling};
 
-    ghost given: { List (Handling Q P) };
+    ghost given: { List (Handling Request Reply) };
 }
 
-impl<Q, P> PickedGiven<Q, P> for Brand {
+impl<Request, Reply> PickedGiven<Request, Reply> for Brand {
     ghost use Rattle.std.specs.Prelude.{[]};
 
     ghost given = { [] };
 }
 
 /// What the law of the right is about, and which of what was handled was given runs, which the caller picks.
-pub trait PickedRight<Q, P, K> {
+pub trait PickedRight<Request, Reply, K> {
     ghost use Rattle.std.specs.Prelude.{List, Option};
     ghost use Rattle.line_rule.specs.declared.view.Handling.{Handling};
 
     ghost about: { Option K };
 
-    ghost given: { List (Handling Q P) };
+    ghost given: { List (Handling Request Reply) };
 }
 
-impl<Q, P, K> PickedRight<Q, P, K> for Brand {
+impl<Request, Reply, K> PickedRight<Request, Reply, K> for Brand {
     ghost use Rattle.std.specs.Prelude.{[], None};
 
     ghost about = { None };
@@ -96,32 +94,39 @@ impl<Q, P, K> PickedRight<Q, P, K> for Brand {
     ghost given = { [] };
 }
 
-pub struct Order;
+pub struct ListRule;
 
-impl<Q: Itemized, P: Given, L: Ledger<Q, P, M>, M> TableRule<
-    Content<Q, P, L, M>,
-    View<Q, P>,
-    Start<L::About>,
-> for Order {
-    ghost holds = { λ k. Listed (laws_for Q.item_of L.lawful L.stands L.kept L.number_of P.run_of L.serves k)
+impl<
+    Request: HasGroupingItem,
+    Reply: GivesRun,
+    Log: LogOfGroups<Request, Reply, Right>,
+    Right,
+> TableRule<LineSlot<Request, Reply, Log, Right>, LineView<Request, Reply>, Start<Log::About>>
+    for ListRule {
+    ghost use Rattle.line_rule.specs.Laws.{laws_for};
+    ghost use Rattle.line_rule.specs.Rule.{Listed, newcomers};
+
+    ghost holds = { λ k. Listed (laws_for Request.item_of Reply.run_of Log.LogOfGroups k)
         k.clients };
 
     ghost first = { λ k. newcomers k.clients };
 }
 
 /// Cuts the first client off.
-pub struct First;
+pub struct SplitFirst;
 
-impl<Q, P> Split<View<Q, P>> for First {
+impl<Request, Reply> Split<LineView<Request, Reply>> for SplitFirst {
+    ghost use Rattle.line_rule.specs.Rule.{all_but_first, first_only};
+
     ghost left = { λ v. all_but_first v };
 
     ghost right = { λ v. first_only v };
 }
 
 /// Takes another's clients in.
-pub struct Both;
+pub struct JoinClients;
 
-impl<Q, P> Join<View<Q, P>> for Both {
+impl<Request, Reply> Join<LineView<Request, Reply>> for JoinClients {
     ghost both = { λ v w. v ++ w };
 
     ghost spent = { [] };

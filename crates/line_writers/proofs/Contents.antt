@@ -1,8 +1,8 @@
 -- The slots of a table that was not made, or is closed.
 use Rattle.std.proofs.Common.{◌≡◌, ℕ, zero, suc, ◌+◌, List, [], ◌∷◌, ◌++◌, length, replicate, refl, sym, ap, ◌∙◌, arith, length-append}
 use Rattle.std.proofs.lemmas.List.{append_cancel_right, length-replicate}
-use Rattle.line_rule.specs.declared.content.Content.{Content}
-use Rattle.line_rule.specs.declared.content.Content.TheVariants.{Empty, Asked, Told, Log, Right}
+use Rattle.line_rule.specs.declared.content.LineSlot.{LineSlot}
+use Rattle.line_rule.specs.declared.content.LineSlot.TheVariants.{Empty, Asked, Told, TheLog, TheRight}
 use mathlib.Core.Path.{Path}
 use Rattle.line_rule.proofs.Leads.{same_last}
 use Rattle.line_writers.proofs.Tops.{log_in}
@@ -21,22 +21,22 @@ abbrev pub first_slot : {A : Type 0} → A → List A → A
 first_slot d [] = d
 first_slot d (x ∷ xs) = x
 
-module _ {Q P L M : Type 0} where
-  abbrev pub right_in : M → Content Q P L M → M
+module _ {Request Reply Log Right : Type 0} where
+  abbrev pub right_in : Right → LineSlot Request Reply Log Right → Right
   right_in d Empty = d
   right_in d (Asked q) = d
   right_in d (Told p) = d
-  right_in d (Log l) = d
-  right_in d (Right r) = r
+  right_in d (TheLog l) = d
+  right_in d (TheRight r) = r
 
-  pub one_log : (a b : L) → Path (Content Q P L M) (Log a) (Log b) → a ≡ b
-  one_log a b e = ap (log_in {Q = Q} {P = P} {L = L} {M = M} a) e
+  pub one_log : (a b : Log) → Path (LineSlot Request Reply Log Right) (TheLog a) (TheLog b) → a ≡ b
+  one_log a b e = ap (log_in {Request = Request} {Reply = Reply} {Log = Log} {Right = Right} a) e
 
-  pub one_right : (a b : M) → Path (Content Q P L M) (Right a) (Right b) → a ≡ b
+  pub one_right : (a b : Right) → Path (LineSlot Request Reply Log Right) (TheRight a) (TheRight b) → a ≡ b
   one_right a b e = ap (right_in a) e
 
-  abbrev pub at_start : ℕ → L → M → List (Content Q P L M)
-  at_start n l m = Log l ∷ (replicate n Empty ++ Right m ∷ [])
+  abbrev pub at_start : ℕ → Log → Right → List (LineSlot Request Reply Log Right)
+  at_start n l m = TheLog l ∷ (replicate n Empty ++ TheRight m ∷ [])
 
-  pub one_start : (n : ℕ) (l l' : L) (m m' : M) → at_start n l m ≡ at_start n l' m' → (l ≡ l') × (m ≡ m')
-  one_start n l l' m m' e = (one_log l l' (ap (first_slot (Log l)) e), one_right m m' (snoc_same (Log l ∷ replicate n Empty) (Log l' ∷ replicate n Empty) (Right m) (Right m') e).1)
+  pub one_start : (n : ℕ) (l l' : Log) (m m' : Right) → at_start n l m ≡ at_start n l' m' → (l ≡ l') × (m ≡ m')
+  one_start n l l' m m' e = (one_log l l' (ap (first_slot (TheLog l)) e), one_right m m' (snoc_same (TheLog l ∷ replicate n Empty) (TheLog l' ∷ replicate n Empty) (TheRight m) (TheRight m') e).1)

@@ -4,8 +4,8 @@ use Rattle.atomic_table.specs.Seated.{TableId}
 use Rattle.line_writers.specs.declared.writer.Writer.{Writer}
 use Rattle.line_writers.specs.Roles.{IsNew, AreNew}
 
-module _ {Q P L M : Type 0} (table : TableId) where
-  pub new_snoc : (m : ℕ) (ws : List (Writer Q P L M)) (w : Writer Q P L M) → AreNew table m ws → IsNew table (m - length ws) w → AreNew table m (ws ++ w ∷ [])
+module _ {Request Reply Log Right : Type 0} (table : TableId) where
+  pub new_snoc : (m : ℕ) (ws : List (Writer Request Reply Log Right)) (w : Writer Request Reply Log Right) → AreNew table m ws → IsNew table (m - length ws) w → AreNew table m (ws ++ w ∷ [])
   new_snoc m [] w ok new = (subst (λ k. IsNew table k w) (let h : m - 0 ≡ m = omega arith in h) new, tt)
   new_snoc m (x ∷ xs) w ok new = (ok.0, new_snoc (m - 1) xs w ok.1 (subst (λ k. IsNew table k w) (let h : m - suc (length xs) ≡ m - 1 - length xs = omega arith in h) new))
 

@@ -1,19 +1,19 @@
 -- How a leader reads the list.
 use Rattle.std.proofs.Common.{◌≡◌, ◌≢◌, ℕ, suc, ◌+◌, ◌^◌, ◌/◌, ◌%◌, ◌<◌, ◌≤◌, List, [], ◌∷◌, ◌++◌, length, get_or, refl, sym, ap, ◌∙◌, subst, arith, append_assoc, length-append}
-use Rattle.line_rule.specs.declared.view.Entry.{Entry}
+use Rattle.line_rule.specs.declared.view.QueuedWriter.{QueuedWriter}
 use Rattle.line_rule.specs.declared.view.Lead.{Lead}
-use Rattle.line_rule.specs.declared.view.Stage.TheVariants.{Leading}
+use Rattle.line_rule.specs.declared.view.LineStage.TheVariants.{Leading}
 use Rattle.line_rule.specs.Chain.{pack, newest, pairs}
 use Rattle.line_writers.specs.Roles.{HasRead, CodesFit}
 use Rattle.line_rule.specs.Plays.{Sat, At, AllBelow}
 
 -- the writers before x are read, and x comes next
-pub record Surveyed {Q P L M : Type 0} (c slots : ℕ) (now : Sat Q P L M) (at : ℕ) (items : List (ℕ × ℕ)) (count : ℕ) : Type 0 where
-  pub lead : Lead Q P
-  pub mine : List (Q × P)
-  pub pre : List (Entry Q)
-  pub x : Entry Q
-  pub post : List (Entry Q)
+pub record Surveyed {Request Reply Log Right : Type 0} (c slots : ℕ) (now : Sat Request Reply Log Right) (at : ℕ) (items : List (ℕ × ℕ)) (count : ℕ) : Type 0 where
+  pub lead : Lead Request Reply
+  pub mine : List (Request × Reply)
+  pub pre : List (QueuedWriter Request)
+  pub x : QueuedWriter Request
+  pub post : List (QueuedWriter Request)
   pub reads : At c (Leading lead) mine now
   pub parts : lead.walk ≡ pre ++ x ∷ post
   pub at_is : at ≡ x.by
@@ -26,55 +26,55 @@ pub codes_fit : (l : List (ℕ × ℕ)) (b k : ℕ) → CodesFit l → k < 2 ^ 5
 codes_fit [] b k ok small = (small, tt)
 codes_fit (x ∷ xs) b k ok small = (ok.0, codes_fit xs b k ok.1 small)
 
-pub code_fits : {Q : Type 0} (pre : List (Entry Q)) (x : Entry Q) (post : List (Entry Q)) → CodesFit (pairs (pre ++ x ∷ post)) → x.code < 2 ^ 56
+pub code_fits : {Request : Type 0} (pre : List (QueuedWriter Request)) (x : QueuedWriter Request) (post : List (QueuedWriter Request)) → CodesFit (pairs (pre ++ x ∷ post)) → x.code < 2 ^ 56
 code_fits [] x post ok = ok.0
 code_fits (e ∷ es) x post ok = code_fits es x post ok.1
 
 -- the writer behind the ones before it
-pub pair_at : {Q : Type 0} (pre : List (Entry Q)) (x : Entry Q) (post : List (Entry Q)) (d : ℕ × ℕ) → get_or (pairs (pre ++ x ∷ post)) (length pre) d ≡ (x.by, x.code)
+pub pair_at : {Request : Type 0} (pre : List (QueuedWriter Request)) (x : QueuedWriter Request) (post : List (QueuedWriter Request)) (d : ℕ × ℕ) → get_or (pairs (pre ++ x ∷ post)) (length pre) d ≡ (x.by, x.code)
 pair_at [] x post d = refl
 pair_at (e ∷ es) x post d = pair_at es x post d
 
-pub length-pairs : {Q : Type 0} (l : List (Entry Q)) → length (pairs l) ≡ length l
+pub length-pairs : {Request : Type 0} (l : List (QueuedWriter Request)) → length (pairs l) ≡ length l
 length-pairs [] = refl
 length-pairs (e ∷ es) = ap suc (length-pairs es)
 
 -- somebody came after the group
-pub oldest_newer : {Q : Type 0} (queue t : List (Entry Q)) (o : Entry Q) (found old : ℕ) → found ≡ newest (queue ++ (t ++ o ∷ [])) → old ≡ newest (t ++ o ∷ []) → found ≢ old → (pre : List (Entry Q)) × (x : Entry Q) × (queue ≡ pre ++ x ∷ [])
-oldest_newer {Q} [] t o found old a b ne = absurd (ne (a ∙ sym b))
-oldest_newer {Q} (e ∷ es) t o found old a b ne = last_one e es
+pub oldest_newer : {Request : Type 0} (queue t : List (QueuedWriter Request)) (o : QueuedWriter Request) (found old : ℕ) → found ≡ newest (queue ++ (t ++ o ∷ [])) → old ≡ newest (t ++ o ∷ []) → found ≢ old → (pre : List (QueuedWriter Request)) × (x : QueuedWriter Request) × (queue ≡ pre ++ x ∷ [])
+oldest_newer {Request} [] t o found old a b ne = absurd (ne (a ∙ sym b))
+oldest_newer {Request} (e ∷ es) t o found old a b ne = last_one e es
   where
-    last_one : (e : Entry Q) (es : List (Entry Q)) → (pre : List (Entry Q)) × (x : Entry Q) × (e ∷ es ≡ pre ++ x ∷ [])
+    last_one : (e : QueuedWriter Request) (es : List (QueuedWriter Request)) → (pre : List (QueuedWriter Request)) × (x : QueuedWriter Request) × (e ∷ es ≡ pre ++ x ∷ [])
     last_one e [] = ([], e, refl)
     last_one e (f ∷ fs) = let r = last_one f fs in (e ∷ r.0, r.1, ap (λ l. e ∷ l) r.2)
 
-pub pairs-append : {Q : Type 0} (a b : List (Entry Q)) → pairs (a ++ b) ≡ pairs a ++ pairs b
+pub pairs-append : {Request : Type 0} (a b : List (QueuedWriter Request)) → pairs (a ++ b) ≡ pairs a ++ pairs b
 pairs-append [] b = refl
 pairs-append (e ∷ es) b = ap (λ l. (e.by, e.code) ∷ l) (pairs-append es b)
 
-pub below_at : {Q : Type 0} (slots : ℕ) (a : List (Entry Q)) (x : Entry Q) (b : List (Entry Q)) → AllBelow slots (a ++ x ∷ b) → (0 < x.by) × (x.by + 1 < slots) × AllBelow slots b
+pub below_at : {Request : Type 0} (slots : ℕ) (a : List (QueuedWriter Request)) (x : QueuedWriter Request) (b : List (QueuedWriter Request)) → AllBelow slots (a ++ x ∷ b) → (0 < x.by) × (x.by + 1 < slots) × AllBelow slots b
 below_at slots [] x b ok = (ok.0, ok.1, ok.2)
 below_at slots (e ∷ es) x b ok = below_at slots es x b ok.2
 
 -- there is a newest writer
-pub some_newest : {Q : Type 0} (a t : List (Entry Q)) (o : Entry Q) → (x : Entry Q) × (post : List (Entry Q)) × (a ++ (t ++ o ∷ []) ≡ x ∷ post)
+pub some_newest : {Request : Type 0} (a t : List (QueuedWriter Request)) (o : QueuedWriter Request) → (x : QueuedWriter Request) × (post : List (QueuedWriter Request)) × (a ++ (t ++ o ∷ []) ≡ x ∷ post)
 some_newest [] [] o = (o, [], refl)
 some_newest [] (e ∷ es) o = (e, es ++ o ∷ [], refl)
 some_newest (e ∷ es) t o = (e, es ++ (t ++ o ∷ []), refl)
 
-none_left : {Q : Type 0} (slots : ℕ) (post : List (Entry Q)) → AllBelow slots post → newest post ≡ 0 → post ≡ []
+none_left : {Request : Type 0} (slots : ℕ) (post : List (QueuedWriter Request)) → AllBelow slots post → newest post ≡ 0 → post ≡ []
 none_left slots [] ok is = refl
 none_left slots (e ∷ es) ok is = let a = ok.0 in absurd (omega arith)
 
-one_left : {Q : Type 0} (post : List (Entry Q)) → newest post ≢ 0 → (y : Entry Q) × (more : List (Entry Q)) × (post ≡ y ∷ more)
+one_left : {Request : Type 0} (post : List (QueuedWriter Request)) → newest post ≢ 0 → (y : QueuedWriter Request) × (more : List (QueuedWriter Request)) × (post ≡ y ∷ more)
 one_left [] ne = absurd (ne refl)
 one_left (e ∷ es) ne = (e, es, refl)
 
-newest_below : {Q : Type 0} (slots : ℕ) (post : List (Entry Q)) → 1 < slots → AllBelow slots post → newest post + 1 < slots
+newest_below : {Request : Type 0} (slots : ℕ) (post : List (QueuedWriter Request)) → 1 < slots → AllBelow slots post → newest post + 1 < slots
 newest_below slots [] pos ok = pos
 newest_below slots (e ∷ es) pos ok = ok.1
 
-module _ {Q P L M : Type 0} (c slots : ℕ) (now : Sat Q P L M) where
+module _ {Request Reply Log Right : Type 0} (c slots : ℕ) (now : Sat Request Reply Log Right) where
   pub surveys : (at : ℕ) → HasRead slots c at now → Surveyed c slots now at [] 0
   surveys at h = record { lead = h.0; mine = h.1; pre = []; x = h.2; post = h.3; reads = h.4; parts = h.5; at_is = h.6; items_are = refl; counted = refl; short = h.7; below = h.8 }
 
@@ -84,16 +84,16 @@ module _ {Q P L M : Type 0} (c slots : ℕ) (now : Sat Q P L M) where
         let b = below_at slots v.pre v.x v.post (subst (AllBelow slots) v.parts v.below) in let b1 = b.1 in let is = v.at_is in let k = v.counted in let sh = v.short in
         (omega arith, omega (arith, ap length v.parts, length-append v.pre (v.x ∷ v.post)))
 
-    module _ (word : ℕ) (few : slots ≤ 256) (is_word : word ≡ pack (newest v.post) v.x.code) where
-      halves : (word % 256 ≡ newest v.post) × (word / 256 ≡ v.x.code)
+    module _ (client code : ℕ) (few : slots ≤ 256) (byte : client < 256) (is_word : pack client code ≡ pack (newest v.post) v.x.code) where
+      halves : (client ≡ newest v.post) × (code ≡ v.x.code)
       halves =
           let b = below_at slots v.pre v.x v.post (subst (AllBelow slots) v.parts v.below) in let b0 = b.0 in let b1 = b.1 in
           let small : newest v.post + 1 < slots = newest_below slots v.post (omega arith) b.2 in (omega arith, omega arith)
 
-      read : items ++ (at, word / 256) ∷ [] ≡ pairs (v.pre ++ v.x ∷ [])
+      read : items ++ (at, code) ∷ [] ≡ pairs (v.pre ++ v.x ∷ [])
       read = (λ i. v.items_are i ++ (v.at_is i, halves.1 i) ∷ []) ∙ sym (pairs-append v.pre (v.x ∷ []))
 
-      pub goes_on : (now' : Sat Q P L M) → now' ≡ now → word % 256 ≢ 0 → Surveyed c slots now' (word % 256) (items ++ (at, word / 256) ∷ []) (count + 1)
+      pub goes_on : (now' : Sat Request Reply Log Right) → now' ≡ now → client ≢ 0 → Surveyed c slots now' client (items ++ (at, code) ∷ []) (count + 1)
       goes_on now' same ne =
           let f = one_left v.post (λ e. ne (halves.0 ∙ e)) in
           record {
@@ -111,7 +111,7 @@ module _ {Q P L M : Type 0} (c slots : ℕ) (now : Sat Q P L M) where
             below = v.below;
           }
 
-      pub all_read : word % 256 ≡ 0 → items ++ (at, word / 256) ∷ [] ≡ pairs v.lead.walk
+      pub all_read : client ≡ 0 → items ++ (at, code) ∷ [] ≡ pairs v.lead.walk
       all_read z =
           let b = below_at slots v.pre v.x v.post (subst (AllBelow slots) v.parts v.below) in
           read ∙ ap pairs (ap (λ l. v.pre ++ v.x ∷ l) (sym (none_left slots v.post b.2 (sym halves.0 ∙ z))) ∙ sym v.parts)

@@ -1,38 +1,38 @@
 -- What lies on top of the slots.
 use Rattle.std.proofs.Common.{ℕ, List, [], ◌∷◌}
-use Rattle.line_rule.specs.declared.content.Content.{Content}
-use Rattle.line_rule.specs.declared.content.Content.TheVariants.{Empty, Asked, Told, Log, Right}
+use Rattle.line_rule.specs.declared.content.LineSlot.{LineSlot}
+use Rattle.line_rule.specs.declared.content.LineSlot.TheVariants.{Empty, Asked, Told, TheLog, TheRight}
 
-module _ {Q P L M : Type 0} where
-  abbrev pub log_in : L → Content Q P L M → L
+module _ {Request Reply Log Right : Type 0} where
+  abbrev pub log_in : Log → LineSlot Request Reply Log Right → Log
   log_in d Empty = d
   log_in d (Asked q) = d
   log_in d (Told p) = d
-  log_in d (Log l) = l
-  log_in d (Right r) = d
+  log_in d (TheLog l) = l
+  log_in d (TheRight r) = d
 
-  abbrev pub log_at : L → List (ℕ × Content Q P L M) → L
+  abbrev pub log_at : Log → List (ℕ × LineSlot Request Reply Log Right) → Log
   log_at d [] = d
   log_at d (x ∷ xs) = log_in d x.1
 
-  abbrev pub asked_in : Q → Content Q P L M → Q
+  abbrev pub asked_in : Request → LineSlot Request Reply Log Right → Request
   asked_in d Empty = d
   asked_in d (Asked q) = q
   asked_in d (Told p) = d
-  asked_in d (Log l) = d
-  asked_in d (Right r) = d
+  asked_in d (TheLog l) = d
+  asked_in d (TheRight r) = d
 
-  abbrev pub asked_at : Q → List (ℕ × Content Q P L M) → Q
+  abbrev pub asked_at : Request → List (ℕ × LineSlot Request Reply Log Right) → Request
   asked_at d [] = d
   asked_at d (x ∷ xs) = asked_in d x.1
 
-  abbrev pub right_of_slot : M → Content Q P L M → M
+  abbrev pub right_of_slot : Right → LineSlot Request Reply Log Right → Right
   right_of_slot d Empty = d
   right_of_slot d (Asked q) = d
   right_of_slot d (Told p) = d
-  right_of_slot d (Log l) = d
-  right_of_slot d (Right r) = r
+  right_of_slot d (TheLog l) = d
+  right_of_slot d (TheRight r) = r
 
-  abbrev pub right_on : M → List (ℕ × Content Q P L M) → M
+  abbrev pub right_on : Right → List (ℕ × LineSlot Request Reply Log Right) → Right
   right_on d [] = d
   right_on d (x ∷ xs) = right_of_slot d x.1

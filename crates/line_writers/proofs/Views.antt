@@ -1,19 +1,19 @@
 -- What a leader's view shows of what was handled before, and with its replies of what is handled then.
 use Rattle.std.proofs.Common.{ℕ, ◌+◌, List, [], ◌∷◌, ◌++◌, length, reverse, ◌≡◌, sym, ap, ◌∙◌, arith, length-append}
-use Rattle.line_rule.specs.declared.view.Entry.{Entry}
+use Rattle.line_rule.specs.declared.view.QueuedWriter.{QueuedWriter}
 use Rattle.line_rule.specs.declared.view.Handling.{Handling}
-use Rattle.line_rule.specs.declared.view.Hold.{Hold}
-use Rattle.line_rule.specs.declared.view.Stage.{Stage}
-use Rattle.line_rule.specs.declared.view.Stage.TheVariants.{Idle, Preparing, Waiting, Helping, Fresh, Leading, Cutting, Marking, Settling, Collecting}
-use Rattle.line_rule.specs.declared.view.Event.{Event}
+use Rattle.line_rule.specs.declared.view.LineHold.{LineHold}
+use Rattle.line_rule.specs.declared.view.LineStage.{LineStage}
+use Rattle.line_rule.specs.declared.view.LineStage.TheVariants.{Idle, Preparing, Waiting, Helping, Fresh, Leading, Cutting, Marking, Settling, Collecting}
+use Rattle.line_rule.specs.declared.view.LineEvent.{LineEvent}
 use Rattle.line_rule.specs.Chain.{heads, all_answers}
-use Rattle.line_writers.specs.Roles.{bys, pays, grouped}
+use Rattle.line_writers.specs.Roles.{bys, pays, lead_with_group}
 use Rattle.line_rule.specs.Rule.{hold}
 use Rattle.line_writers.proofs.Fills.{handled_by, handled_newest, pays_back}
 use Rattle.line_writers.proofs.Tells.{length-bys}
 
-module _ {Q P : Type 0} where
-  abbrev pub seen_at : Stage Q P → List (Handling Q P)
+module _ {Request Reply : Type 0} where
+  abbrev pub seen_at : LineStage Request Reply → List (Handling Request Reply)
   seen_at Idle = []
   seen_at (Preparing w) = []
   seen_at (Waiting q past) = []
@@ -25,11 +25,11 @@ module _ {Q P : Type 0} where
   seen_at (Settling d) = []
   seen_at Collecting = []
 
-  abbrev pub seen_in_first : List (Hold Q P) → List (Handling Q P)
+  abbrev pub seen_in_first : List (LineHold Request Reply) → List (Handling Request Reply)
   seen_in_first [] = []
   seen_in_first (h ∷ hs) = seen_at h.stage
 
-  abbrev pub handled_at : Stage Q P → List (ℕ × P) → List (Handling Q P)
+  abbrev pub handled_at : LineStage Request Reply → List (ℕ × Reply) → List (Handling Request Reply)
   handled_at Idle replies = []
   handled_at (Preparing w) replies = []
   handled_at (Waiting q past) replies = []
@@ -41,20 +41,20 @@ module _ {Q P : Type 0} where
   handled_at (Settling d) replies = []
   handled_at Collecting replies = []
 
-  abbrev pub handled_in_first : List (Hold Q P) → List (ℕ × P) → List (Handling Q P)
+  abbrev pub handled_in_first : List (LineHold Request Reply) → List (ℕ × Reply) → List (Handling Request Reply)
   handled_in_first [] replies = []
   handled_in_first (h ∷ hs) replies = handled_at h.stage replies
 
   -- the leader's view and the replies tell what is handled then
-  pub handled_all : (c : ℕ) (own : Entry Q) (seen : List (Handling Q P)) (past : List (Event Q P)) (left group : List (Entry Q)) (mine : List (Q × P)) (gs : List (Entry Q × P)) (p : P) (view : List (Hold Q P)) (replies : List (ℕ × P)) → view ≡ hold c (Leading (grouped own seen past left group)) mine ∷ [] → heads gs ≡ group → replies ≡ pays own p gs
+  pub handled_all : (c : ℕ) (own : QueuedWriter Request) (seen : List (Handling Request Reply)) (past : List (LineEvent Request Reply)) (left group : List (QueuedWriter Request)) (mine : List (Request × Reply)) (gs : List (QueuedWriter Request × Reply)) (p : Reply) (view : List (LineHold Request Reply)) (replies : List (ℕ × Reply)) → view ≡ hold c (Leading (lead_with_group own seen past left group)) mine ∷ [] → heads gs ≡ group → replies ≡ pays own p gs
       → handled_in_first view replies ≡ seen ++ all_answers own p gs
   handled_all c own seen past left group mine gs p view replies is heads_are replies_are =
       ap (λ v. handled_in_first v replies) is ∙ ((λ i. seen ++ handled_by (sym heads_are i) own (reverse (replies_are i))) ∙ ap (λ l. seen ++ l) (ap (handled_by (heads gs) own) (pays_back own p gs) ∙ handled_newest own p gs))
 
-  pub length_heads : (gs : List (Entry Q × P)) → length (heads gs) ≡ length gs
+  pub length_heads : (gs : List (QueuedWriter Request × Reply)) → length (heads gs) ≡ length gs
   length_heads [] = omega arith
   length_heads (g ∷ gs) = let r = length_heads gs in omega arith
 
   -- a group's members, its leader among them
-  pub long_members : (gs : List (Entry Q × P)) (own : Entry Q) → length (bys (heads gs ++ own ∷ [])) ≡ length gs + 1
+  pub long_members : (gs : List (QueuedWriter Request × Reply)) (own : QueuedWriter Request) → length (bys (heads gs ++ own ∷ [])) ≡ length gs + 1
   long_members gs own = let h = length_heads gs in length-bys (heads gs ++ own ∷ []) ∙ length-append (heads gs) (own ∷ []) ∙ omega arith

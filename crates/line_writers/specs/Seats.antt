@@ -1,12 +1,13 @@
 -- What the calls say of a writer.
 use Rattle.std.specs.Prelude.{Bool, ◌≡◌, ℕ, ◌<◌, ◌≤◌, ◌⊎◌, List, [], ◌∷◌}
 use Rattle.atomic_table.specs.Seated.{TableId}
-use Rattle.line_rule.specs.declared.view.Hold.{Hold}
-use Rattle.line_rule.specs.declared.view.Entry.{Entry}
+use Rattle.line_rule.specs.declared.view.LineHold.{LineHold}
+use Rattle.line_rule.specs.declared.view.QueuedWriter.{QueuedWriter}
 use Rattle.line_rule.specs.declared.view.Handling.{Handling}
-use Rattle.line_rule.specs.declared.view.Stage.TheVariants.{Idle}
+use Rattle.line_rule.specs.declared.view.LineStage.TheVariants.{Idle}
 use Rattle.line_rule.specs.Chain.{of}
 use Rattle.line_rule.specs.declared.content.Start.{Start}
+use Rattle.line_rule.specs.declared.rule.LogOfGroups.{Ghosts}
 use Rattle.line_rule.specs.Rule.{hold, logs_from, asks_for, given_runs, Unnumbered}
 use Rattle.line_rule.specs.Plays.{At}
 use Rattle.model_base.specs.declared.group.Item.{Item}
@@ -16,131 +17,137 @@ use Rattle.line_writers.specs.declared.line_writers.WriterList.{WriterList}
 use Rattle.line_writers.specs.declared.writer.Role.{Role}
 use Rattle.line_writers.specs.Roles.{IsLinked, Becomes, Chosen, Grouped, AreNew}
 
-abbrev pub told_in_first : {Q P : Type 0} → List (Hold Q P) → List (Q × P)
+abbrev pub told_in_first : {Request Reply : Type 0} → List (LineHold Request Reply) → List (Request × Reply)
 told_in_first [] = []
 told_in_first (h ∷ hs) = h.mine
 
-module _ {Q P L M : Type 0} where
+module _ {Request Reply Log Right : Type 0} where
   -- the number of its client
-  abbrev pub client_of : Writer Q P L M → ℕ
+  abbrev pub client_of : Writer Request Reply Log Right → ℕ
   client_of w = w.client
 
   -- what the client put, and what came back, in order
-  abbrev pub told : Writer Q P L M → List (Q × P)
+  abbrev pub told : Writer Request Reply Log Right → List (Request × Reply)
   told w = told_in_first w.seat.me.0
 
   -- the writer is the same client's, at the same list
-  abbrev pub Stays : Writer Q P L M → Writer Q P L M → Type 0
+  abbrev pub Stays : Writer Request Reply Log Right → Writer Request Reply Log Right → Type 0
   Stays new old = (new.seat.table_id ≡ old.seat.table_id) × (new.client ≡ old.client)
 
   -- and stands where it stood
-  abbrev pub StandsStill : Writer Q P L M → Writer Q P L M → Type 0
+  abbrev pub StandsStill : Writer Request Reply Log Right → Writer Request Reply Log Right → Type 0
   StandsStill new old = Stays new old × (new.task ≡ old.task) × (new.seat.me ≡ old.seat.me)
 
-module _ {Q P L M K : Type 0} where
-  abbrev pub table_of : WriterList Q P L M K → TableId
+module _ {Request Reply Log Right K : Type 0} where
+  abbrev pub table_of : WriterList Request Reply Log Right K → TableId
   table_of list = list.table.shared.table_id
 
-  abbrev pub clients_of : WriterList Q P L M K → ℕ
+  abbrev pub clients_of : WriterList Request Reply Log Right K → ℕ
   clients_of list = list.clients
 
   -- what the log's law is about
-  abbrev pub about_of : WriterList Q P L M K → K
+  abbrev pub about_of : WriterList Request Reply Log Right K → K
   about_of list = list.table.shared.key.about
 
   -- the log's number at opening
-  abbrev pub start_of : WriterList Q P L M K → ℕ
+  abbrev pub start_of : WriterList Request Reply Log Right K → ℕ
   start_of list = list.table.shared.key.log
 
   -- whether it has the second list
-  abbrev pub piped_of : WriterList Q P L M K → Bool
+  abbrev pub piped_of : WriterList Request Reply Log Right K → Bool
   piped_of list = list.table.shared.key.pipelined
 
   -- what the log of this list stands for, with its number
-  abbrev pub law_of : (K → L → List (Handling Q P) → Type 0) → (K → List (Handling Q P) → Type 0) → (L → ℕ)
-      → (P → ℕ × ℕ)
-      → WriterList Q P L M K → L → List (Handling Q P) → Type 0
-  law_of stands kept number run list =
-      logs_from (stands (about_of list)) (kept (about_of list)) number run (start_of list)
+  abbrev pub law_of : (Reply → ℕ × ℕ) → Ghosts Log Request Reply Right K → WriterList Request Reply Log Right K → Log
+      → List (Handling Request Reply) → Type 0
+  law_of run log list =
+      logs_from (log.stands (about_of list)) (log.kept (about_of list)) log.number_of run (start_of list)
 
   -- the bound in bytes under which each of its groups is built
-  abbrev pub bound_of : WriterList Q P L M K → ℕ
+  abbrev pub bound_of : WriterList Request Reply Log Right K → ℕ
   bound_of list = list.group_bytes
 
   -- what holds of each request that is in this list, and of its code
-  abbrev pub asks_of : (Q → Item) → (K → Q → Type 0) → WriterList Q P L M K → Q → ℕ → Type 0
+  abbrev pub asks_of : (Request → Item) → (K → Request → Type 0) → WriterList Request Reply Log Right K → Request → ℕ
+      → Type 0
   asks_of item_of lawful list = asks_for item_of lawful (about_of list)
 
   -- what holds of all that this list's leaders handle, wherever the log is
-  abbrev pub kept_of : (K → List (Handling Q P) → Type 0) → WriterList Q P L M K → List (Handling Q P) → Type 0
+  abbrev pub kept_of : (K → List (Handling Request Reply) → Type 0) → WriterList Request Reply Log Right K
+      → List (Handling Request Reply) → Type 0
   kept_of kept list = kept (about_of list)
 
   -- where there is a second list, no reply of a group that is refused gives a number
-  abbrev pub flat_of : (P → ℕ × ℕ) → WriterList Q P L M K → List (Handling Q P) → List (Handling Q P) → Type 0
+  abbrev pub flat_of : (Reply → ℕ × ℕ) → WriterList Request Reply Log Right K → List (Handling Request Reply)
+      → List (Handling Request Reply) → Type 0
   flat_of run list = Unnumbered (piped_of list) (given_runs run)
 
-  abbrev pub AllNew : WriterList Q P L M K → List (Writer Q P L M) → Type 0
+  abbrev pub AllNew : WriterList Request Reply Log Right K → List (Writer Request Reply Log Right) → Type 0
   AllNew list ws = AreNew list.table.shared.table_id list.clients ws
 
   -- it is the list that was asked for, and these are its writers, of whom none has done anything
-  abbrev pub HasOpened : Start K → WriterList Q P L M K → List (Writer Q P L M) → Type 0
+  abbrev pub HasOpened : Start K → WriterList Request Reply Log Right K → List (Writer Request Reply Log Right) → Type 0
   HasOpened start list ws = (clients_of list ≡ start.clients) × (start_of list ≡ start.log)
       × (about_of list ≡ start.about)
       × (piped_of list ≡ start.pipelined) × AllNew list ws × (bound_of list ≡ start.group_bytes)
 
   -- it is a writer of this list
-  abbrev pub Belongs : WriterList Q P L M K → Writer Q P L M → Type 0
+  abbrev pub Belongs : WriterList Request Reply Log Right K → Writer Request Reply Log Right → Type 0
   Belongs list w = (w.seat.table_id ≡ table_of list) × (0 < w.client) × (w.client ≤ clients_of list)
 
-module _ {Q P L M : Type 0} where
+module _ {Request Reply Log Right : Type 0} where
   -- it is in no list
-  abbrev pub IsOut : Writer Q P L M → Type 0
+  abbrev pub IsOut : Writer Request Reply Log Right → Type 0
   IsOut w = At w.client Idle (told w) w.seat.me × (w.seat.me.1 ≡ [])
 
   -- it is in the list with q
-  abbrev pub IsIn : (L → List (Handling Q P) → Type 0) → Q → List (Q × P) → Writer Q P L M → Type 0
+  abbrev pub IsIn : (Log → List (Handling Request Reply) → Type 0) → Request → List (Request × Reply)
+      → Writer Request Reply Log Right → Type 0
   IsIn stood q mine w = IsLinked stood w.client w.task q mine w.seat.me
 
   -- it waits for its role
-  abbrev pub AwaitsRole : Writer Q P L M → Type 0
+  abbrev pub AwaitsRole : Writer Request Reply Log Right → Type 0
   AwaitsRole w = w.task ≡ Awaits
 
   -- it was told to work beside its leader
-  abbrev pub IsHelping : Writer Q P L M → Type 0
+  abbrev pub IsHelping : Writer Request Reply Log Right → Type 0
   IsHelping w = w.task ≡ Helps
 
-  abbrev pub HasRole : (L → List (Handling Q P) → Type 0) → (List (Handling Q P) → Type 0) → Q → List (Q × P)
-      → Role L P → Writer Q P L M → Type 0
+  abbrev pub HasRole : (Log → List (Handling Request Reply) → Type 0) → (List (Handling Request Reply) → Type 0)
+      → Request → List (Request × Reply)
+      → Role Log Reply → Writer Request Reply Log Right → Type 0
   HasRole stood kept q mine role w = Becomes stood kept w.client q mine role w.seat.me
 
   -- it leads as this writer, and all that was handled before is this
-  abbrev pub IsChosen : Entry Q → List (Handling Q P) → List (Q × P) → Writer Q P L M → Type 0
+  abbrev pub IsChosen : QueuedWriter Request → List (Handling Request Reply) → List (Request × Reply)
+      → Writer Request Reply Log Right → Type 0
   IsChosen own seen mine w = Chosen w.client own seen mine w.seat.me
 
   -- it has a group and its requests, of which the law holds; the group is the grouping rule's of the whole queue, under
   -- this bound, as the queue stood after the events that the leader knows, and these writers were left
-  abbrev pub HasGroup : (Q → ℕ → Type 0) → ℕ → ℕ → Entry Q → List (Entry Q) → List (Entry Q) → List (Handling Q P)
-      → List (Q × P)
-      → Writer Q P L M → Type 0
+  abbrev pub HasGroup : (Request → ℕ → Type 0) → ℕ → ℕ → QueuedWriter Request → List (QueuedWriter Request)
+      → List (QueuedWriter Request) → List (Handling Request Reply)
+      → List (Request × Reply)
+      → Writer Request Reply Log Right → Type 0
   HasGroup law n max own group left seen mine w = Grouped law n max w.client own group left seen mine w.seat.me
 
-  abbrev pub AllOut : TableId → List (Writer Q P L M) → Type 0
+  abbrev pub AllOut : TableId → List (Writer Request Reply Log Right) → Type 0
   AllOut table [] = Unit {0}
   AllOut table (w ∷ ws) = (w.seat.table_id ≡ table) × IsOut w × AllOut table ws
 
-  abbrev pub HasClient : ℕ → List (Writer Q P L M) → Type 0
+  abbrev pub HasClient : ℕ → List (Writer Request Reply Log Right) → Type 0
   HasClient i [] = ⊥
   HasClient i (w ∷ ws) = (w.client ≡ i) ⊎ HasClient i ws
 
   -- each client's writer is here
-  abbrev pub AllThere : ℕ → List (Writer Q P L M) → Type 0
+  abbrev pub AllThere : ℕ → List (Writer Request Reply Log Right) → Type 0
   AllThere n ws = (i : ℕ) → 0 < i → i ≤ n → HasClient i ws
 
   -- of what was handled, each writer's own is what it was told, in its order
-  abbrev pub Merged : List (Handling Q P) → List (Writer Q P L M) → Type 0
+  abbrev pub Merged : List (Handling Request Reply) → List (Writer Request Reply Log Right) → Type 0
   Merged handled [] = Unit {0}
   Merged handled (w ∷ ws) = (of w.client handled ≡ told w) × Merged handled ws
 
-  abbrev pub holds_of : List (Writer Q P L M) → List (Hold Q P)
+  abbrev pub holds_of : List (Writer Request Reply Log Right) → List (LineHold Request Reply)
   holds_of [] = []
   holds_of (w ∷ ws) = hold w.client Idle (told w) ∷ holds_of ws

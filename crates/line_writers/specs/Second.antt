@@ -4,8 +4,8 @@ use Rattle.line_rule.specs.declared.view.Handling.{Handling}
 use Rattle.line_rule.specs.declared.view.Debt.{Debt}
 use Rattle.line_rule.specs.declared.view.Squad.{Squad}
 use Rattle.line_rule.specs.declared.view.Back.TheVariants.{Queued, Serving}
-use Rattle.line_rule.specs.declared.view.Stage.TheVariants.{Settling}
-use Rattle.line_rule.specs.declared.content.Content.TheVariants.{Empty, Told, Right}
+use Rattle.line_rule.specs.declared.view.LineStage.TheVariants.{Settling}
+use Rattle.line_rule.specs.declared.content.LineSlot.TheVariants.{Empty, Told, TheRight}
 use Rattle.line_rule.specs.Chain.{heads, Within}
 use Rattle.line_rule.specs.Plays.{Sat, AtWith, slots_of}
 use Rattle.line_writers.specs.declared.writer.Writer.{Writer}
@@ -17,39 +17,47 @@ use Rattle.line_writers.specs.declared.second.PipelinedRole.TheVariants.{LogLead
 use Rattle.line_writers.specs.Roles.{bys, Turns}
 
 -- the group of a leader that has given the log on, with what was given runs before it, and with it
-abbrev pub squad : {Q P : Type 0} → Debt Q P → List (Handling Q P) → List (Handling Q P) → Squad Q P
+abbrev pub squad : {Request Reply : Type 0} → Debt Request Reply → List (Handling Request Reply)
+    → List (Handling Request Reply) → Squad Request Reply
 squad d from to = record { own = d.own; rest = heads d.rest; from = from; to = to }
 
-module _ {Q P L M : Type 0} where
+module _ {Request Reply Log Right : Type 0} where
   -- the group is in the second list: its leader is to wait for the right, or has it, on top of the group's slots
-  abbrev pub Sent : (M → List (Handling Q P) → Type 0) → ℕ → ℕ → Task → Debt Q P → List (Q × P) → Squad Q P
-      → Sat Q P L M → Type 0
+  abbrev pub Sent : (Right → List (Handling Request Reply) → Type 0) → ℕ → ℕ → Task → Debt Request Reply
+      → List (Request × Reply) → Squad Request Reply
+      → Sat Request Reply Log Right → Type 0
   Sent serves n c Awaits d mine g m = ⊥
   Sent serves n c Leads d mine g m = ⊥
   Sent serves n c Helps d mine g m = ⊥
   Sent serves n c Queues d mine g m = AtWith c (Settling d) mine (Queued g) m
       × (m.1 ≡ slots_of d.rest ((c, Told d.reply) ∷ []))
-  Sent serves n c Serves d mine g m = (right : M) × serves right g.from × AtWith c (Settling d) mine (Serving g []) m
-      × (m.1 ≡ (n + 1, Right right) ∷ slots_of d.rest ((c, Told d.reply) ∷ []))
+  Sent serves n c Serves d mine g m = (right : Right) × serves right g.from
+      × AtWith c (Settling d) mine (Serving g []) m
+      × (m.1 ≡ (n + 1, TheRight right) ∷ slots_of d.rest ((c, Told d.reply) ∷ []))
 
   -- its leader has taken the right out
-  abbrev pub Served : ℕ → ℕ → Debt Q P → List (Q × P) → Squad Q P → Sat Q P L M → Type 0
+  abbrev pub Served : ℕ → ℕ → Debt Request Reply → List (Request × Reply) → Squad Request Reply
+      → Sat Request Reply Log Right → Type 0
   Served n c d mine g m = AtWith c (Settling d) mine (Serving g []) m
       × (m.1 ≡ (n + 1, Empty) ∷ slots_of d.rest ((c, Told d.reply) ∷ []))
 
   -- its group, with these replies, is in the second list, and these were given runs before the group, and with it
-  abbrev pub IsSent : (M → List (Handling Q P) → Type 0) → ℕ → Debt Q P → List (Handling Q P) → List (Handling Q P)
-      → List (Q × P) → Writer Q P L M → Type 0
+  abbrev pub IsSent : (Right → List (Handling Request Reply) → Type 0) → ℕ → Debt Request Reply
+      → List (Handling Request Reply) → List (Handling Request Reply)
+      → List (Request × Reply) → Writer Request Reply Log Right → Type 0
   IsSent serves n d from to mine w = Sent serves n w.client w.task d mine (squad d from to) w.seat.me
 
   -- and it has the right
-  abbrev pub HasRight : ℕ → Debt Q P → List (Handling Q P) → List (Handling Q P) → List (Q × P) → Writer Q P L M
+  abbrev pub HasRight : ℕ → Debt Request Reply → List (Handling Request Reply) → List (Handling Request Reply)
+      → List (Request × Reply) → Writer Request Reply Log Right
       → Type 0
   HasRight n d from to mine w = Served n w.client d mine (squad d from to) w.seat.me
 
   -- the right, which stands for what was given runs before the group
-  abbrev pub GetsRight : (M → List (Handling Q P) → Type 0) → ℕ → Debt Q P → List (Handling Q P)
-      → List (Handling Q P) → List (Q × P) → PipelinedRole L M P → Writer Q P L M → Type 0
+  abbrev pub GetsRight : (Right → List (Handling Request Reply) → Type 0) → ℕ → Debt Request Reply
+      → List (Handling Request Reply)
+      → List (Handling Request Reply) → List (Request × Reply) → PipelinedRole Log Right Reply
+      → Writer Request Reply Log Right → Type 0
   GetsRight serves n d from to mine (LogLeader l) w = ⊥
   GetsRight serves n d from to mine (MemLeader right) w = serves right from × HasRight n d from to mine w
   GetsRight serves n d from to mine Parallel w = ⊥
@@ -57,12 +65,13 @@ module _ {Q P L M : Type 0} where
 
   -- a leader has the log, which stands for all that was handled before; one that is done has its reply behind those
   -- before; one that works beside its leader is in the list still
-  abbrev pub HasPipelinedRole : (L → List (Handling Q P) → Type 0) → (List (Handling Q P) → Type 0) → Q → List (Q × P)
-      → PipelinedRole L M P → Writer Q P L M → Type 0
+  abbrev pub HasPipelinedRole : (Log → List (Handling Request Reply) → Type 0)
+      → (List (Handling Request Reply) → Type 0) → Request → List (Request × Reply)
+      → PipelinedRole Log Right Reply → Writer Request Reply Log Right → Type 0
   HasPipelinedRole stood kept q mine role w = Turns stood kept w.client w.task q mine role w.seat.me
 
 -- the room lists the members of the group, newest first, and the rest of it is empty, and enough for all clients
-abbrev pub ListsMembers : {Q P : Type 0} → ℕ → Debt Q P → Room → Type 0
+abbrev pub ListsMembers : {Request Reply : Type 0} → ℕ → Debt Request Reply → Room → Type 0
 ListsMembers n d room = (vec_len room.walk ≡ 0) × (room.walk.items ≡ []) × (n ≤ vec_capacity room.walk)
     × (room.members.items ≡ bys (heads d.rest ++ d.own ∷ [])) × Within n (heads d.rest)
     × (n ≤ vec_capacity room.members)

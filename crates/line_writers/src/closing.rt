@@ -1,9 +1,9 @@
-// How a list is closed.
+//! How a list is closed.
 ghost use Rattle.std.specs.Prelude.{◌≡◌, ℕ, ◌+◌, ◌<◌, ◌≤◌, List, [], ◌++◌, true, false, vec_len, length, reverse};
 ghost use Rattle.std.specs.Slots.{slots_items, slots_len, IsFull};
 ghost use mathlib.Core.Option.{some};
 ghost use lib.ListN.{get_elem?};
-ghost use Rattle.line_rule.specs.declared.content.Content.TheVariants.{Empty, Log, Right};
+ghost use Rattle.line_rule.specs.declared.content.LineSlot.TheVariants.{Empty, TheLog, TheRight};
 ghost use Rattle.line_rule.specs.declared.view.Handling.{Handling};
 ghost use Rattle.line_rule.specs.Rule.{given_runs};
 ghost use Rattle.line_writers.specs.Seats.{table_of, clients_of, about_of, piped_of, law_of, AllOut, AllThere, Merged, holds_of};
@@ -12,19 +12,24 @@ use crate::line_writers::WriterList;
 use crate::slots::{log_of, nothing_of, right_of};
 use crate::writer::Writer;
 use atomic_table::{Closed, Seat};
-use line_rule::{Both, Content, Given, Itemized, Ledger, View};
+use line_rule::{GivesRun, HasGroupingItem, JoinClients, LineSlot, LineView, LogOfGroups};
 use std::alloc::Global;
 
-impl<Q: Itemized, P: Given, L: Ledger<Q, P, M>, M> WriterList<Q, P, L, M> {
+impl<
+    Request: HasGroupingItem,
+    Reply: GivesRun,
+    Log: LogOfGroups<Request, Reply, Right>,
+    Right,
+> WriterList<Request, Reply, Log, Right> {
     /// Gives log and right back. The log stands for all that was handled, of which each client's own is what it was
     /// told, in its order.
-    pub fn close(self, mut writers: Vec<Writer<Q, P, L, M>>) -> (L, M)
+    pub fn close(self, mut writers: Vec<Writer<Request, Reply, Log, Right>>) -> (Log, Right)
         requires out { AllOut (table_of self) writers.items × AllThere (clients_of self) writers.items
             × (vec_len writers ≡ length writers.items) }
-        ensures { (handled : List (Handling Q P))
-            × law_of L.stands L.kept L.number_of P.run_of self result.0 handled
-            × (piped_of self ≡ false → L.serves (about_of self) result.1 [])
-            × (piped_of self ≡ true → L.serves (about_of self) result.1 (given_runs P.run_of handled))
+        ensures { (handled : List (Handling Request Reply))
+            × law_of Reply.run_of Log.LogOfGroups self result.0 handled
+            × (piped_of self ≡ false → Log.serves (about_of self) result.1 [])
+            × (piped_of self ≡ true → Log.serves (about_of self) result.1 (given_runs Reply.run_of handled))
             × Merged handled writers.items }
     {
         let Some(
@@ -50,8 +55,8 @@ impl<Q: Itemized, P: Given, L: Ledger<Q, P, M>, M> WriterList<Q, P, L, M> {
     // Joins the seats of the writers into one.
     fn join_all(
         &self,
-        first: &mut Seat<Content<Q, P, L, M>, View<Q, P>>,
-        writers: &mut Vec<Writer<Q, P, L, M>>,
+        first: &mut Seat<LineSlot<Request, Reply, Log, Right>, LineView<Request, Reply>>,
+        writers: &mut Vec<Writer<Request, Reply, Log, Right>>,
     )
         requires first { (first.old.table_id ≡ self.now.table.shared.table_id) × (first.old.me.1 ≡ []) }
         requires writers { AllOut self.now.table.shared.table_id writers.old.items
@@ -60,6 +65,7 @@ impl<Q: Itemized, P: Given, L: Ledger<Q, P, M>, M> WriterList<Q, P, L, M> {
             × (first.new.me ≡ (first.old.me.0 ++ reverse (holds_of writers.old.items), []))
             × (writers.new.items ≡ []) }
     {
+        // The last `i` writers' clients have come to the first seat.
         for i in 0..writers.len() {
             let Some(
                 Writer {
@@ -71,21 +77,25 @@ impl<Q: Itemized, P: Given, L: Ledger<Q, P, M>, M> WriterList<Q, P, L, M> {
             else {
                 unreachable!()
             };
-            self.table.shared.join_seat::<Both>(first, seat);
+            self.table.shared.join_seat::<JoinClients>(first, seat);
         }
     }
 }
 
 // Takes log and right out of the slots of a closed table, of which all others are empty.
-fn take_all<Q, P, L, M>(mut closed: Closed<Content<Q, P, L, M>, Global>, clients: u32) -> (L, M)
+fn take_all<Request, Reply, Log, Right>(
+    mut closed: Closed<LineSlot<Request, Reply, Log, Right>, Global>,
+    clients: u32,
+) -> (Log, Right)
     requires full { (slots_len closed.slots ≡ clients + 2) × IsFull closed.slots × (clients < 255) }
-    requires held { (l : L) × (r : M) × (get_elem? (slots_items closed.slots) 0 ≡ some (Log l))
-        × (get_elem? (slots_items closed.slots) (clients + 1) ≡ some (Right r))
+    requires held { (l : Log) × (r : Right) × (get_elem? (slots_items closed.slots) 0 ≡ some (TheLog l))
+        × (get_elem? (slots_items closed.slots) (clients + 1) ≡ some (TheRight r))
         × ((i : ℕ) → 0 < i → i ≤ clients → get_elem? (slots_items closed.slots) i ≡ some Empty) }
-    ensures { (get_elem? (slots_items closed.slots) 0 ≡ some (Log result.0))
-        × (get_elem? (slots_items closed.slots) (clients + 1) ≡ some (Right result.1)) }
+    ensures { (get_elem? (slots_items closed.slots) 0 ≡ some (TheLog result.0))
+        × (get_elem? (slots_items closed.slots) (clients + 1) ≡ some (TheRight result.1)) }
 {
     let log = log_of(closed.take(0));
+    // The log and the slots of the first `i` clients are taken out.
     for i in 0..clients {
         nothing_of(closed.take(i as usize + 1));
     }

@@ -1,19 +1,18 @@
-// How a leader reads the queue and takes the requests of its group.
+//! How a leader reads the queue and takes the requests of its group.
 ghost use Rattle.std.specs.Prelude.{◌≡◌, ℕ, ◌+◌, ◌/◌, ◌<◌, ◌≤◌, List, [], ◌∷◌, ◌++◌, vec_len, vec_capacity, length, Some};
 ghost use Rattle.std.specs.List.{AllByRecursion};
-ghost use Rattle.model_base.specs.Grouping.{fits};
-ghost use Rattle.line_rule.specs.declared.content.Content.{Content};
-ghost use Rattle.line_rule.specs.declared.content.Content.TheVariants.{Empty, Asked};
-ghost use Rattle.line_rule.specs.declared.view.Entry.{Entry};
+ghost use Rattle.line_rule.specs.declared.content.LineSlot.{LineSlot};
+ghost use Rattle.line_rule.specs.declared.content.LineSlot.TheVariants.{Empty, Asked};
+ghost use Rattle.line_rule.specs.declared.view.QueuedWriter.{QueuedWriter};
 ghost use Rattle.line_rule.specs.declared.view.Handling.{Handling};
 ghost use Rattle.line_rule.specs.declared.view.Lead.{Lead};
-ghost use Rattle.line_rule.specs.declared.view.Stage.TheVariants.{Fresh, Leading};
+ghost use Rattle.line_rule.specs.declared.view.LineStage.TheVariants.{Fresh, Leading};
 ghost use Rattle.line_rule.specs.Chain.{pairs};
-ghost use Rattle.line_rule.specs.declared.view.Event.{Event};
+ghost use Rattle.line_rule.specs.declared.view.LineEvent.{LineEvent};
 ghost use Rattle.line_rule.specs.Events.{HasBuilt};
 ghost use Rattle.line_rule.specs.Grouping.{item_of, IsWhole};
 ghost use Rattle.line_rule.specs.Rule.{asks_for, asks_picked};
-ghost use Rattle.line_rule.specs.Plays.{At, building, Builds, taking};
+ghost use Rattle.line_rule.specs.Plays.{At, lead_at_build, Builds, lead_with_one_more};
 ghost use Rattle.line_writers.specs.Roles.{Chosen, HasRead, CodesFit, NextIs, Grouped, Gathering, asks};
 ghost use Rattle.line_writers.specs.Rooms.{HasRoom, TakesRequests};
 ghost use Rattle.line_writers.specs.Seats.{about_of, asks_of, bound_of, client_of, clients_of, Belongs, IsChosen, HasGroup, Stays, told};
@@ -21,61 +20,75 @@ ghost use Rattle.line_writers.specs.Seats.{about_of, asks_of, bound_of, client_o
 use crate::line_writers::WriterList;
 use crate::room::{Requests, Room};
 use crate::writer::Writer;
-use line_rule::{Build, Content, Fetch, Given, Itemized, Ledger, PickedAbout, ReadOlder, item_of};
+use line_grouping::fits;
+use line_rule::{
+    Build, Fetch, GivesRun, HasGroupingItem, LineSlot, LogOfGroups, Older, PickedAbout, ReadOlder,
+    item_of, older_word,
+};
 use std::marker::Brand;
 
-impl<Q: Itemized, P: Given, L: Ledger<Q, P, M>, M> WriterList<Q, P, L, M> {
+impl<
+    Request: HasGroupingItem,
+    Reply: GivesRun,
+    Log: LogOfGroups<Request, Reply, Right>,
+    Right,
+> WriterList<Request, Reply, Log, Right> {
     /// Takes the requests of the leader's group in link order, its own first. The group is the grouping rule's, under
     /// the list's bound, of the whole queue as it stands at one moment of this call: after the events that the leader
     /// knows from here on, of which this is the last. Who links later doesn't change it. Each request is lawful for
     /// this list.
     pub fn group(
         &self,
-        writer: &mut Writer<Q, P, L, M>,
-        requests: &mut Requests<Q>,
+        writer: &mut Writer<Request, Reply, Log, Right>,
+        requests: &mut Requests<Request>,
         room: &mut Room,
     )
-        requires leads { Belongs self.now writer.old × ((own : Entry Q) × (seen : List (Handling Q P))
+        requires leads { Belongs self.now writer.old
+            × ((own : QueuedWriter Request) × (seen : List (Handling Request Reply))
             × IsChosen own seen (told writer.old) writer.old) }
         requires room { HasRoom (clients_of self.now) room.old × TakesRequests (clients_of self.now) requests.old }
         ensures room { HasRoom (clients_of self.now) room.new
             × (vec_capacity requests.new.list ≡ vec_capacity requests.old.list) }
         ensures client { client_of writer.new ≡ client_of writer.old }
-        ensures group { Belongs self.now writer.new × ((own : Entry Q) (seen : List (Handling Q P))
+        ensures group { Belongs self.now writer.new
+            × ((own : QueuedWriter Request) (seen : List (Handling Request Reply))
             → IsChosen own seen (told writer.old) writer.old
-            → (group left : List (Entry Q))
-            × HasGroup (asks_of Q.item_of L.lawful self.now) (clients_of self.now) (bound_of self.now) own group left
-            seen (told writer.old) writer.new
+            → (group left : List (QueuedWriter Request))
+            × HasGroup (asks_of Request.item_of Log.lawful self.now) (clients_of self.now) (bound_of self.now) own group
+            left seen (told writer.old) writer.new
             × (requests.new.list.items ≡ asks own group)) }
-        ensures lawful { AllByRecursion (λ (x : ℕ × Q). L.lawful (about_of self.now) x.1) requests.new.list.items }
+        ensures lawful { AllByRecursion (λ (x : ℕ
+            × Request). Log.lawful (about_of self.now) x.1) requests.new.list.items }
         ensures few { length requests.new.list.items ≤ clients_of self.now }
     {
         self.group_from::<Brand>(writer, self.group_bytes, &mut requests.list, room);
     }
 
     // The bound and what the law is about are picked, since a load knows neither.
-    fn group_from<B: PickedAbout<L::About>>(
+    fn group_from<B: PickedAbout<Log::About>>(
         &self,
-        writer: &mut Writer<Q, P, L, M>,
+        writer: &mut Writer<Request, Reply, Log, Right>,
         max: u64,
-        requests: &mut Vec<(u32, Q)>,
+        requests: &mut Vec<(u32, Request)>,
         room: &mut Room,
     )
         requires max { (B.number ≡ max) × (max ≡ self.now.table.shared.key.group_bytes) }
         requires about { B.about ≡ Some self.now.table.shared.key.about }
         requires seat { (writer.old.seat.table_id ≡ self.now.table.shared.table_id)
             × (0 < writer.old.client) × (writer.old.client ≤ self.now.clients) }
-        requires leads { (own : Entry Q) × (seen : List (Handling Q P)) × (mine : List (Q × P))
+        requires leads { (own : QueuedWriter Request) × (seen : List (Handling Request Reply))
+            × (mine : List (Request × Reply))
             × Chosen writer.old.client own seen mine writer.old.seat.me }
         requires room { HasRoom (clients_of self.now) room.old × (vec_len requests.old ≡ 0)
             × (requests.old.items ≡ []) × (clients_of self.now ≤ vec_capacity requests.old) }
         ensures seat { Stays writer.new writer.old }
         ensures room { HasRoom (clients_of self.now) room.new
             × (vec_capacity requests.new ≡ vec_capacity requests.old) }
-        ensures group { (own : Entry Q) (seen : List (Handling Q P)) (mine : List (Q × P))
+        ensures group { (own : QueuedWriter Request) (seen : List (Handling Request Reply))
+            (mine : List (Request × Reply))
             → Chosen writer.old.client own seen mine writer.old.seat.me
-            → (group left : List (Entry Q))
-            × Grouped (asks_for Q.item_of L.lawful self.now.table.shared.key.about) self.now.clients max
+            → (group left : List (QueuedWriter Request))
+            × Grouped (asks_for Request.item_of Log.lawful self.now.table.shared.key.about) self.now.clients max
             writer.old.client own group left seen mine writer.new.seat.me
             × (requests.new.items ≡ asks own group) }
     {
@@ -91,16 +104,21 @@ impl<Q: Itemized, P: Given, L: Ledger<Q, P, M>, M> WriterList<Q, P, L, M> {
     }
 
     // Reads the newest writer, and so builds the group.
-    fn build<B: PickedAbout<L::About>>(&self, writer: &mut Writer<Q, P, L, M>) -> u64
+    fn build<B: PickedAbout<Log::About>>(
+        &self,
+        writer: &mut Writer<Request, Reply, Log, Right>,
+    ) -> u64
         requires bound { self.now.table.shared.key.group_bytes ≡ B.number }
         requires about { B.about ≡ Some self.now.table.shared.key.about }
         requires seat { writer.old.seat.table_id ≡ self.now.table.shared.table_id }
-        requires leads { (own : Entry Q) × (seen : List (Handling Q P)) × (mine : List (Q × P))
+        requires leads { (own : QueuedWriter Request) × (seen : List (Handling Request Reply))
+            × (mine : List (Request × Reply))
             × At writer.old.client (Fresh own seen) mine writer.old.seat.me }
         ensures seat { Stays writer.new writer.old }
-        ensures built { (own : Entry Q) (seen : List (Handling Q P)) (mine : List (Q × P))
+        ensures built { (own : QueuedWriter Request) (seen : List (Handling Request Reply))
+            (mine : List (Request × Reply))
             → At writer.old.client (Fresh own seen) mine writer.old.seat.me
-            → Builds (asks_picked Q.item_of L.lawful B.about) self.now.table.shared.table_id.slots B.number
+            → Builds (asks_picked Request.item_of Log.lawful B.about) self.now.table.shared.table_id.slots B.number
             writer.old.client own seen mine result writer.old.seat.me writer.new.seat.me }
     {
         self.table.shared.load::<Build<B>>(&mut writer.seat, 0)
@@ -109,7 +127,7 @@ impl<Q: Itemized, P: Given, L: Ledger<Q, P, M>, M> WriterList<Q, P, L, M> {
     // Walks the list that was read, from this newest writer to the leader: each writer's client and code.
     pub(crate) fn survey(
         &self,
-        writer: &mut Writer<Q, P, L, M>,
+        writer: &mut Writer<Request, Reply, Log, Right>,
         first: u64,
         walk: &mut Vec<(u64, u64)>,
     )
@@ -119,16 +137,18 @@ impl<Q: Itemized, P: Given, L: Ledger<Q, P, M>, M> WriterList<Q, P, L, M> {
         ensures seat { (writer.new.seat.table_id ≡ writer.old.seat.table_id)
             × (writer.new.client ≡ writer.old.client) × (writer.new.seat.me ≡ writer.old.seat.me)
             × (vec_capacity walk.new ≡ vec_capacity walk.old) }
-        ensures walk { (lead : Lead Q P) (mine : List (Q × P))
+        ensures walk { (lead : Lead Request Reply) (mine : List (Request × Reply))
             → At writer.old.client (Leading lead) mine writer.old.seat.me → walk.new.items ≡ pairs lead.walk }
         ensures codes { CodesFit walk.new.items }
     {
         let shared = &self.table.shared;
         let mut at = first;
+        // The walk has the writers from the newest one on, and `at` is the next older one.
         for step in 0..self.clients {
-            let word = shared.load::<ReadOlder>(&mut writer.seat, 2 * at as usize + 3);
-            walk.push_reserved((at, word / 256));
-            at = word % 256;
+            let word = shared.load::<ReadOlder>(&mut writer.seat, older_word(at));
+            let older = Older::of(word);
+            walk.push_reserved((at, older.code));
+            at = older.client;
             if at == 0 {
                 return;
             }
@@ -137,13 +157,13 @@ impl<Q: Itemized, P: Given, L: Ledger<Q, P, M>, M> WriterList<Q, P, L, M> {
     }
 
     // Takes the leader's own request.
-    fn own_request(&self, writer: &mut Writer<Q, P, L, M>) -> Q
+    fn own_request(&self, writer: &mut Writer<Request, Reply, Log, Right>) -> Request
         requires seat { writer.old.seat.table_id ≡ self.now.table.shared.table_id }
-        requires held { (q : Q) × (t : List (ℕ × Content Q P L M))
+        requires held { (q : Request) × (t : List (ℕ × LineSlot Request Reply Log Right))
             × (writer.old.seat.me.1 ≡ (writer.old.client, Asked q) ∷ t) }
         ensures seat { (writer.new.seat.table_id ≡ writer.old.seat.table_id)
             × (writer.new.client ≡ writer.old.client) × (writer.new.seat.me.0 ≡ writer.old.seat.me.0) }
-        ensures taken { (q : Q) (t : List (ℕ × Content Q P L M))
+        ensures taken { (q : Request) (t : List (ℕ × LineSlot Request Reply Log Right))
             → writer.old.seat.me.1 ≡ (writer.old.client, Asked q) ∷ t
             → (writer.new.seat.me.1 ≡ (writer.old.client, Empty) ∷ t) × (result ≡ q) }
     {
@@ -151,9 +171,9 @@ impl<Q: Itemized, P: Given, L: Ledger<Q, P, M>, M> WriterList<Q, P, L, M> {
         match self
             .table
             .shared
-            .exchange(&mut writer.seat, c as usize, Content::Empty)
+            .exchange(&mut writer.seat, c as usize, LineSlot::Empty)
         {
-            Content::Asked(request) => request,
+            LineSlot::Asked(request) => request,
             _ => unreachable!(),
         }
     }
@@ -161,78 +181,67 @@ impl<Q: Itemized, P: Given, L: Ledger<Q, P, M>, M> WriterList<Q, P, L, M> {
     // Takes the requests of the writers of the walk, from its older end on, while they fit.
     fn gather(
         &self,
-        writer: &mut Writer<Q, P, L, M>,
+        writer: &mut Writer<Request, Reply, Log, Right>,
         max: u64,
-        leader: u64,
+        leader_code: u64,
         walk: &mut Vec<(u64, u64)>,
-        asked: &mut Vec<(u32, Q)>,
+        asked: &mut Vec<(u32, Request)>,
     )
         requires seat { (writer.old.seat.table_id ≡ self.now.table.shared.table_id)
             × (0 < writer.old.client) × (writer.old.client ≤ self.now.clients) }
-        requires walk { Gathering (asks_for Q.item_of L.lawful self.now.table.shared.key.about) self.now.clients max
-            leader writer.old.client writer.old.seat.me walk.old.items asked.old.items }
+        requires walk { Gathering (asks_for Request.item_of Log.lawful self.now.table.shared.key.about) self.now.clients
+            max
+            leader_code writer.old.client writer.old.seat.me walk.old.items asked.old.items }
         requires room { (vec_len walk.old ≡ length walk.old.items) × (vec_len walk.old + 1 ≤ vec_capacity asked.old)
             × (vec_len asked.old ≡ 1) }
         ensures seat { (writer.new.seat.table_id ≡ writer.old.seat.table_id)
             × (writer.new.client ≡ writer.old.client) × (vec_capacity asked.new ≡ vec_capacity asked.old)
             × (vec_capacity walk.new ≡ vec_capacity walk.old) }
-        ensures gathered { (own : Entry Q) (group left : List (Entry Q)) (seen : List (Handling Q P))
-            (past : List (Event Q P)) (mine : List (Q × P))
-            → At writer.old.client (Leading (building own seen past (left ++ (group ++ own ∷ [])) group)) mine
+        ensures gathered { (own : QueuedWriter Request) (group left : List (QueuedWriter Request))
+            (seen : List (Handling Request Reply))
+            (past : List (LineEvent Request Reply)) (mine : List (Request × Reply))
+            → At writer.old.client (Leading (lead_at_build own seen past (left ++ (group ++ own ∷ [])) group)) mine
             writer.old.seat.me → HasBuilt max own group left seen past
-            → IsWhole (asks_for Q.item_of L.lawful self.now.table.shared.key.about) max own group left
-            → Grouped (asks_for Q.item_of L.lawful self.now.table.shared.key.about) self.now.clients max
+            → IsWhole (asks_for Request.item_of Log.lawful self.now.table.shared.key.about) max own group left
+            → Grouped (asks_for Request.item_of Log.lawful self.now.table.shared.key.about) self.now.clients max
             writer.old.client own group left seen mine writer.new.seat.me
             × (asked.new.items ≡ asks own group) }
     {
-        let mut sum = leader / 8;
+        let leader = item_of(leader_code);
+        let mut sum = leader.size;
+        // The writers taken so far go together, and `sum` is their sizes; the walk has those after them.
         for step in 0..walk.len() {
             let Some((by, code)) = walk.pop() else {
                 unreachable!()
             };
-            if !is_next(max, leader, sum, code) {
+            let item = item_of(code);
+            if !fits(max, leader, sum, item) {
                 return;
             }
-            sum += code / 8;
+            sum += item.size;
             let request = self.fetch(writer, by);
             asked.push_reserved((by as u32, request));
         }
     }
 
     // Takes the request of the oldest writer whose request the leader does not have.
-    fn fetch(&self, writer: &mut Writer<Q, P, L, M>, member: u64) -> Q
+    fn fetch(&self, writer: &mut Writer<Request, Reply, Log, Right>, member: u64) -> Request
         requires seat { (writer.old.seat.table_id ≡ self.now.table.shared.table_id) × (member ≤ self.now.clients) }
-        requires next { (lead : Lead Q P) × (mine : List (Q × P)) × (pre : List (Entry Q)) × (x : Entry Q)
+        requires next { (lead : Lead Request Reply) × (mine : List (Request × Reply))
+            × (pre : List (QueuedWriter Request)) × (x : QueuedWriter Request)
             × NextIs writer.old.client lead mine pre x writer.old.seat.me × (x.by ≡ member) }
         ensures seat { Stays writer.new writer.old }
-        ensures taken { (lead : Lead Q P) (mine : List (Q × P)) (pre : List (Entry Q)) (x : Entry Q)
+        ensures taken { (lead : Lead Request Reply) (mine : List (Request × Reply)) (pre : List (QueuedWriter Request))
+            (x : QueuedWriter Request)
             → NextIs writer.old.client lead mine pre x writer.old.seat.me → x.by ≡ member
-            → At writer.old.client (Leading (taking lead x)) mine writer.new.seat.me
+            → At writer.old.client (Leading (lead_with_one_more lead x)) mine writer.new.seat.me
             × (writer.new.seat.me.1 ≡ (x.by, Empty) ∷ writer.old.seat.me.1) × (result ≡ x.asked) }
     {
         let shared = &self.table.shared;
-        shared.load::<Fetch>(&mut writer.seat, 2 * member as usize + 3);
-        match shared.exchange(&mut writer.seat, member as usize, Content::Empty) {
-            Content::Asked(request) => request,
+        shared.load::<Fetch>(&mut writer.seat, older_word(member));
+        match shared.exchange(&mut writer.seat, member as usize, LineSlot::Empty) {
+            LineSlot::Asked(request) => request,
             _ => unreachable!(),
         }
     }
-}
-
-// Whether a writer fits after a leader, where the sizes before it come to `sum`. No sum wraps.
-fn is_next(max: u64, leader: u64, sum: u64, code: u64) -> bool
-    ensures { result ≡ fits max (item_of leader) (sum + code / 8) (item_of code) }
-{
-    let leader = item_of(leader);
-    let writer = item_of(code);
-    let cap = if leader.size <= max / 8 {
-        leader.size + max / 8
-    } else {
-        max
-    };
-    (!writer.sync || leader.sync)
-        && writer.no_slowdown == leader.no_slowdown
-        && writer.no_log == leader.no_log
-        && sum <= cap
-        && writer.size <= cap - sum
 }

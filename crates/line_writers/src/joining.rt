@@ -1,19 +1,19 @@
-// How a group comes into the second list.
+//! How a group comes into the second list.
 ghost use Rattle.std.specs.Prelude.{◌≡◌, ◌≢◌, ℕ, ◌+◌, ◌^◌, ◌<◌, ◌≤◌, List, [], ◌∷◌, ◌++◌, true, vec_len, vec_capacity, length, Some};
-ghost use Rattle.line_rule.specs.declared.content.Content.{Content};
-ghost use Rattle.line_rule.specs.declared.content.Content.TheVariants.{Told, Log, Right};
+ghost use Rattle.line_rule.specs.declared.content.LineSlot.{LineSlot};
+ghost use Rattle.line_rule.specs.declared.content.LineSlot.TheVariants.{Told, TheLog, TheRight};
 ghost use Rattle.line_rule.specs.declared.view.Back.TheVariants.{Parting, Joining, Holding};
-ghost use Rattle.line_rule.specs.declared.view.Entry.{Entry};
+ghost use Rattle.line_rule.specs.declared.view.QueuedWriter.{QueuedWriter};
 ghost use Rattle.line_rule.specs.declared.view.Handling.{Handling};
 ghost use Rattle.line_rule.specs.declared.view.Lead.{Lead};
 ghost use Rattle.line_rule.specs.declared.view.Squad.{Squad};
-ghost use Rattle.line_rule.specs.declared.view.Stage.{Stage};
-ghost use Rattle.line_rule.specs.declared.view.Stage.TheVariants.{Leading};
+ghost use Rattle.line_rule.specs.declared.view.LineStage.{LineStage};
+ghost use Rattle.line_rule.specs.declared.view.LineStage.TheVariants.{Leading};
 ghost use Rattle.line_rule.specs.Chain.{newest, heads, all_answers};
 ghost use Rattle.line_rule.specs.Standing.{line_of};
 ghost use Rattle.line_rule.specs.Laws.{given_runs};
-ghost use Rattle.line_rule.specs.Plays.{At, AtWith, in_hand, debt, slots_of, parting, ending, IsCut};
-ghost use Rattle.line_writers.specs.Roles.{HasJoined, HasSent, grouped, past_in, pays, bys};
+ghost use Rattle.line_rule.specs.Plays.{At, AtWith, in_hand, debt, slots_of, squad_at_cut, squad_with_end, IsCut};
+ghost use Rattle.line_writers.specs.Roles.{HasJoined, HasSent, lead_with_group, past_in, pays, bys};
 ghost use Rattle.line_writers.specs.Rooms.{HasRoom};
 ghost use Rattle.line_writers.specs.Seats.{about_of, asks_of, client_of, clients_of, law_of, piped_of, Belongs, HasGroup, Stays, told};
 ghost use Rattle.line_writers.specs.Second.{IsSent, ListsMembers};
@@ -23,39 +23,47 @@ use crate::room::{Replies, Room};
 use crate::writer::{Task, Writer};
 use crossbeam_utils::Backoff;
 use line_rule::{
-    AimSecond, Given, Itemized, JoinSecond, Ledger, PickedGiven, PickedRight, ReadNewest, ReadOlder,
+    AimSecond, GivesRun, HasGroupingItem, JoinSecond, LogOfGroups, Older, PickedGiven, PickedRight,
+    ReadNewest, ReadOlder, older_word,
 };
 use std::marker::Brand;
 use std::sync::Wait;
 
-impl<Q: Itemized, P: Given, L: Ledger<Q, P, M>, M> WriterList<Q, P, L, M> {
+impl<
+    Request: HasGroupingItem,
+    Reply: GivesRun,
+    Log: LogOfGroups<Request, Reply, Right>,
+    Right,
+> WriterList<Request, Reply, Log, Right> {
     /// Moves a group to the second list, with its replies in its slots. The log, which stands for all that was handled
     /// before and for the group, goes back, or on to the next leader. The writer waits for the right then, which it has
     /// already where its group came alone.
     pub fn exit_pipelined<R: Wait>(
         &self,
         rt: &R,
-        writer: &mut Writer<Q, P, L, M>,
-        log: L,
-        replies: &mut Replies<P>,
+        writer: &mut Writer<Request, Reply, Log, Right>,
+        log: Log,
+        replies: &mut Replies<Reply>,
         room: &mut Room,
     )
         requires piped { piped_of self.now ≡ true }
-        requires group { Belongs self.now writer.old × ((max : ℕ) × (own : Entry Q)
-            × (group left : List (Entry Q)) × (seen : List (Handling Q P)) × (gs : List (Entry Q × P)) × (p : P)
-            × HasGroup (asks_of Q.item_of L.lawful self.now) (clients_of self.now) max own group left seen (told
+        requires group { Belongs self.now writer.old × ((max : ℕ) × (own : QueuedWriter Request)
+            × (group left : List (QueuedWriter Request)) × (seen : List (Handling Request Reply))
+            × (gs : List (QueuedWriter Request × Reply)) × (p : Reply)
+            × HasGroup (asks_of Request.item_of Log.lawful self.now) (clients_of self.now) max own group left seen (told
             writer.old) writer.old × (heads gs ≡ group) × (replies.old.list.items ≡ pays own p gs)
-            × law_of L.stands L.kept L.number_of P.run_of self.now log (seen ++ all_answers own p gs)) }
+            × law_of Reply.run_of Log.LogOfGroups self.now log (seen ++ all_answers own p gs)) }
         requires room { HasRoom (clients_of self.now) room.old × (vec_len replies.old.list ≤ clients_of self.now) }
         ensures replies { (replies.new.list.items ≡ [])
             × (vec_capacity replies.new.list ≡ vec_capacity replies.old.list) }
         ensures client { (client_of writer.new ≡ client_of writer.old) × Belongs self.now writer.new }
-        ensures sent { (max : ℕ) (own : Entry Q) (group left : List (Entry Q)) (seen : List (Handling Q P)) (gs : List
-            (Entry Q × P)) (p : P)
-            → HasGroup (asks_of Q.item_of L.lawful self.now) (clients_of self.now) max own group left seen (told
+        ensures sent { (max : ℕ) (own : QueuedWriter Request) (group left : List (QueuedWriter Request))
+            (seen : List (Handling Request Reply)) (gs : List
+            (QueuedWriter Request × Reply)) (p : Reply)
+            → HasGroup (asks_of Request.item_of Log.lawful self.now) (clients_of self.now) max own group left seen (told
             writer.old) writer.old → heads gs ≡ group → replies.old.list.items ≡ pays own p gs
-            → IsSent (L.serves (about_of self.now)) (clients_of self.now) (debt gs own p) (given_runs P.run_of
-            seen) (given_runs P.run_of (seen ++ all_answers own p gs)) (told writer.old) writer.new
+            → IsSent (Log.serves (about_of self.now)) (clients_of self.now) (debt gs own p) (given_runs Reply.run_of
+            seen) (given_runs Reply.run_of (seen ++ all_answers own p gs)) (told writer.old) writer.new
             × ListsMembers (clients_of self.now) (debt gs own p) room.new }
     {
         let alone = self.exit_from::<Brand, Brand, R>(rt, writer, log, &mut replies.list, room);
@@ -69,36 +77,43 @@ impl<Q: Itemized, P: Given, L: Ledger<Q, P, M>, M> WriterList<Q, P, L, M> {
 
     // The same, where what was given runs before the group, and with it, is picked: true where the leader has the
     // right.
-    fn exit_from<B: PickedGiven<Q, P>, D: PickedRight<Q, P, L::About>, R: Wait>(
+    fn exit_from<
+        B: PickedGiven<Request, Reply>,
+        D: PickedRight<Request, Reply, Log::About>,
+        R: Wait,
+    >(
         &self,
         rt: &R,
-        writer: &mut Writer<Q, P, L, M>,
-        log: L,
-        replies: &mut Vec<(u32, P)>,
+        writer: &mut Writer<Request, Reply, Log, Right>,
+        log: Log,
+        replies: &mut Vec<(u32, Reply)>,
         room: &mut Room,
     ) -> bool
         requires piped { piped_of self.now ≡ true }
         requires about { D.about ≡ Some (about_of self.now) }
-        requires group { Belongs self.now writer.old × ((max : ℕ) × (own : Entry Q)
-            × (group left : List (Entry Q)) × (seen : List (Handling Q P)) × (gs : List (Entry Q × P)) × (p : P)
-            × HasGroup (asks_of Q.item_of L.lawful self.now) (clients_of self.now) max own group left seen (told
+        requires group { Belongs self.now writer.old × ((max : ℕ) × (own : QueuedWriter Request)
+            × (group left : List (QueuedWriter Request)) × (seen : List (Handling Request Reply))
+            × (gs : List (QueuedWriter Request × Reply)) × (p : Reply)
+            × HasGroup (asks_of Request.item_of Log.lawful self.now) (clients_of self.now) max own group left seen (told
             writer.old) writer.old × (heads gs ≡ group) × (replies.old.items ≡ pays own p gs)
-            × law_of L.stands L.kept L.number_of P.run_of self.now log (seen ++ all_answers own p gs)
-            × (B.given ≡ given_runs P.run_of seen)
-            × (D.given ≡ given_runs P.run_of (seen ++ all_answers own p gs))) }
+            × law_of Reply.run_of Log.LogOfGroups self.now log (seen ++ all_answers own p gs)
+            × (B.given ≡ given_runs Reply.run_of seen)
+            × (D.given ≡ given_runs Reply.run_of (seen ++ all_answers own p gs))) }
         requires room { HasRoom (clients_of self.now) room.old × (vec_len replies.old ≤ clients_of self.now) }
         ensures seat { Stays writer.new writer.old }
         ensures replies { (replies.new.items ≡ []) × (vec_capacity replies.new ≡ vec_capacity replies.old) }
         ensures room { (vec_len room.new.walk ≡ 0) × (room.new.walk.items ≡ [])
             × (clients_of self.now ≤ vec_capacity room.new.walk)
             × (clients_of self.now ≤ vec_capacity room.new.members) }
-        ensures sent { (max : ℕ) (own : Entry Q) (group left : List (Entry Q)) (seen : List (Handling Q P)) (gs :
-            List (Entry Q × P)) (p : P)
-            → HasGroup (asks_of Q.item_of L.lawful self.now) (clients_of self.now) max own group left seen (told
+        ensures sent { (max : ℕ) (own : QueuedWriter Request) (group left : List (QueuedWriter Request))
+            (seen : List (Handling Request Reply)) (gs :
+            List (QueuedWriter Request × Reply)) (p : Reply)
+            → HasGroup (asks_of Request.item_of Log.lawful self.now) (clients_of self.now) max own group left seen (told
             writer.old) writer.old → heads gs ≡ group → replies.old.items ≡ pays own p gs
-            → HasSent (L.serves (about_of self.now)) self.now.clients writer.old.client result (debt gs own p)
+            → HasSent (Log.serves (about_of self.now)) self.now.clients writer.old.client result (debt gs own p)
             (told writer.old)
-            (ending (parting (grouped own seen (past_in writer.old.seat.me.0) left group) B.given) D.given)
+            (squad_with_end (squad_at_cut (lead_with_group own seen (past_in writer.old.seat.me.0) left group) B.given)
+            D.given)
             writer.new.seat.me
             × (room.new.members.items ≡ bys (heads gs ++ own ∷ [])) }
     {
@@ -116,28 +131,29 @@ impl<Q: Itemized, P: Given, L: Ledger<Q, P, M>, M> WriterList<Q, P, L, M> {
     }
 
     // The leader's own code, as it stands in its link.
-    fn own_code(&self, writer: &mut Writer<Q, P, L, M>) -> u64
+    fn own_code(&self, writer: &mut Writer<Request, Reply, Log, Right>) -> u64
         requires seat { (writer.old.seat.table_id ≡ self.now.table.shared.table_id)
             × (writer.old.client ≤ self.now.clients) }
         ensures seat { (writer.new.seat.table_id ≡ writer.old.seat.table_id)
             × (writer.new.client ≡ writer.old.client) × (writer.new.seat.me ≡ writer.old.seat.me) }
-        ensures code { (lead : Lead Q P) (mine : List (Q × P)) (newer : List (Entry Q))
+        ensures code { (lead : Lead Request Reply) (mine : List (Request × Reply)) (newer : List (QueuedWriter Request))
             → At writer.old.client (Leading lead) mine writer.old.seat.me → lead.walk ≡ newer ++ lead.own ∷ []
             → lead.own.by ≡ writer.old.client → result ≡ lead.own.code }
         ensures small { result < 2 ^ 56 }
     {
         let c = writer.client;
-        self.table
+        let word = self
+            .table
             .shared
-            .load::<ReadOlder>(&mut writer.seat, 2 * c as usize + 3)
-            / 256
+            .load::<ReadOlder>(&mut writer.seat, older_word(c as u64));
+        Older::of(word).code
     }
 
     // Moves the group to the second list, and gives the log on: true where the leader has taken the right.
-    fn send_on<B: PickedGiven<Q, P>, D: PickedRight<Q, P, L::About>, R: Wait>(
+    fn send_on<B: PickedGiven<Request, Reply>, D: PickedRight<Request, Reply, Log::About>, R: Wait>(
         &self,
         rt: &R,
-        writer: &mut Writer<Q, P, L, M>,
+        writer: &mut Writer<Request, Reply, Log, Right>,
         code: u64,
         newest_member: u64,
         count: usize,
@@ -148,22 +164,24 @@ impl<Q: Itemized, P: Given, L: Ledger<Q, P, M>, M> WriterList<Q, P, L, M> {
         requires seat { (writer.old.seat.table_id ≡ self.now.table.shared.table_id) × (0 < writer.old.client)
             × (writer.old.client ≤ self.now.clients) × (code < 2 ^ 56) }
         requires room { (vec_len walk.old ≡ 0) × (walk.old.items ≡ []) × (self.now.clients ≤ vec_capacity walk.old) }
-        requires ready { (lead : Lead Q P) × (mine : List (Q × P)) × (gs : List (Entry Q × P)) × (p : P) × (l : L)
+        requires ready { (lead : Lead Request Reply) × (mine : List (Request × Reply))
+            × (gs : List (QueuedWriter Request × Reply)) × (p : Reply) × (l : Log)
             × At writer.old.client (Leading lead) mine writer.old.seat.me
             × (newest_member ≡ newest (in_hand lead)) × (lead.taken ≡ lead.group)
             × (count ≡ length (in_hand lead)) × (lead.own.code ≡ code) × (heads gs ≡ lead.taken)
-            × (writer.old.seat.me.1 ≡ (0, Log l) ∷ slots_of gs ((writer.old.client, Told p) ∷ []))
-            × law_of L.stands L.kept L.number_of P.run_of self.now l (lead.seen ++ all_answers lead.own p gs)
-            × (B.given ≡ given_runs P.run_of lead.seen)
-            × (D.given ≡ given_runs P.run_of (lead.seen ++ all_answers lead.own p gs)) }
+            × (writer.old.seat.me.1 ≡ (0, TheLog l) ∷ slots_of gs ((writer.old.client, Told p) ∷ []))
+            × law_of Reply.run_of Log.LogOfGroups self.now l (lead.seen ++ all_answers lead.own p gs)
+            × (B.given ≡ given_runs Reply.run_of lead.seen)
+            × (D.given ≡ given_runs Reply.run_of (lead.seen ++ all_answers lead.own p gs)) }
         ensures seat { (writer.new.seat.table_id ≡ writer.old.seat.table_id)
             × (writer.new.client ≡ writer.old.client) × (walk.new.items ≡ []) × (vec_len walk.new ≡ 0)
             × (vec_capacity walk.new ≡ vec_capacity walk.old) }
-        ensures sent { (lead : Lead Q P) (mine : List (Q × P)) (gs : List (Entry Q × P)) (p : P) (l : L)
+        ensures sent { (lead : Lead Request Reply) (mine : List (Request × Reply))
+            (gs : List (QueuedWriter Request × Reply)) (p : Reply) (l : Log)
             → At writer.old.client (Leading lead) mine writer.old.seat.me → heads gs ≡ lead.taken
-            → writer.old.seat.me.1 ≡ (0, Log l) ∷ slots_of gs ((writer.old.client, Told p) ∷ [])
-            → HasSent (L.serves (about_of self.now)) self.now.clients writer.old.client result (debt gs lead.own p)
-            mine (ending (parting lead B.given) D.given) writer.new.seat.me }
+            → writer.old.seat.me.1 ≡ (0, TheLog l) ∷ slots_of gs ((writer.old.client, Told p) ∷ [])
+            → HasSent (Log.serves (about_of self.now)) self.now.clients writer.old.client result (debt gs lead.own p)
+            mine (squad_with_end (squad_at_cut lead B.given) D.given) writer.new.seat.me }
     {
         let next = self.part::<B>(writer, newest_member, count, walk);
         let alone = self.join_second::<D, R>(rt, writer, code, newest_member);
@@ -177,10 +195,10 @@ impl<Q: Itemized, P: Given, L: Ledger<Q, P, M>, M> WriterList<Q, P, L, M> {
     }
 
     // Puts the group, which is cut off from the first list, into the second: true where its leader takes the right.
-    fn join_second<B: PickedRight<Q, P, L::About>, R: Wait>(
+    fn join_second<B: PickedRight<Request, Reply, Log::About>, R: Wait>(
         &self,
         rt: &R,
-        writer: &mut Writer<Q, P, L, M>,
+        writer: &mut Writer<Request, Reply, Log, Right>,
         code: u64,
         newest_member: u64,
     ) -> bool
@@ -188,13 +206,15 @@ impl<Q: Itemized, P: Given, L: Ledger<Q, P, M>, M> WriterList<Q, P, L, M> {
         requires about { B.about ≡ Some (about_of self.now) }
         requires seat { (writer.old.seat.table_id ≡ self.now.table.shared.table_id) × (0 < writer.old.client)
             × (writer.old.client ≤ self.now.clients) × (code < 2 ^ 56) }
-        requires parted { (st : Stage Q P) × (lead : Lead Q P) × (mine : List (Q × P)) × (g : Squad Q P) × (b : ℕ)
+        requires parted { (st : LineStage Request Reply) × (lead : Lead Request Reply) × (mine : List (Request × Reply))
+            × (g : Squad Request Reply) × (b : ℕ)
             × AtWith writer.old.client st mine (Parting g b) writer.old.seat.me × (g.own.code ≡ code)
-            × IsCut lead st × (g.from ≡ given_runs P.run_of lead.seen) × (newest_member ≡ newest (line_of g)) }
+            × IsCut lead st × (g.from ≡ given_runs Reply.run_of lead.seen) × (newest_member ≡ newest (line_of g)) }
         ensures seat { Stays writer.new writer.old }
-        ensures joined { (st : Stage Q P) (mine : List (Q × P)) (g : Squad Q P) (b : ℕ)
+        ensures joined { (st : LineStage Request Reply) (mine : List (Request × Reply)) (g : Squad Request Reply)
+            (b : ℕ)
             → AtWith writer.old.client st mine (Parting g b) writer.old.seat.me
-            → HasJoined (L.serves (about_of self.now)) self.now.clients writer.old.client B.given result st mine g
+            → HasJoined (Log.serves (about_of self.now)) self.now.clients writer.old.client B.given result st mine g
             writer.old.seat.me
             writer.new.seat.me }
     {
@@ -214,44 +234,50 @@ impl<Q: Itemized, P: Given, L: Ledger<Q, P, M>, M> WriterList<Q, P, L, M> {
     }
 
     // Lets the leader of a group that is cut off name this newest writer of the second list.
-    fn aim_second(&self, writer: &mut Writer<Q, P, L, M>, older: u64, code: u64)
+    fn aim_second(&self, writer: &mut Writer<Request, Reply, Log, Right>, older: u64, code: u64)
         requires seat { (writer.old.seat.table_id ≡ self.now.table.shared.table_id) × (0 < writer.old.client)
             × (writer.old.client ≤ self.now.clients) × (older < 256) × (code < 2 ^ 56) }
-        requires parted { (st : Stage Q P) × (mine : List (Q × P)) × (g : Squad Q P) × (b : ℕ)
+        requires parted { (st : LineStage Request Reply) × (mine : List (Request × Reply)) × (g : Squad Request Reply)
+            × (b : ℕ)
             × AtWith writer.old.client st mine (Parting g b) writer.old.seat.me × (g.own.code ≡ code) }
         ensures seat { Stays writer.new writer.old }
-        ensures aimed { (st : Stage Q P) (mine : List (Q × P)) (g : Squad Q P) (b : ℕ)
+        ensures aimed { (st : LineStage Request Reply) (mine : List (Request × Reply)) (g : Squad Request Reply) (b : ℕ)
             → AtWith writer.old.client st mine (Parting g b) writer.old.seat.me → g.own.code ≡ code
             → AtWith writer.old.client st mine (Parting g older) writer.new.seat.me
             × (writer.new.seat.me.1 ≡ writer.old.seat.me.1) }
     {
         let c = writer.client;
+        let named = Older {
+            client: older,
+            code,
+        };
         self.table
             .shared
-            .store::<AimSecond>(&mut writer.seat, 2 * c as usize + 3, older + 256 * code);
+            .store::<AimSecond>(&mut writer.seat, older_word(c as u64), named.pack());
     }
 
     // Puts the group into the second list where its newest writer is still `older`; answers the newest writer.
-    fn enter_second<B: PickedRight<Q, P, L::About>>(
+    fn enter_second<B: PickedRight<Request, Reply, Log::About>>(
         &self,
-        writer: &mut Writer<Q, P, L, M>,
+        writer: &mut Writer<Request, Reply, Log, Right>,
         older: u64,
         newest_member: u64,
     ) -> u64
         requires piped { piped_of self.now ≡ true }
         requires about { B.about ≡ Some (about_of self.now) }
         requires seat { writer.old.seat.table_id ≡ self.now.table.shared.table_id }
-        requires parted { (st : Stage Q P) × (lead : Lead Q P) × (mine : List (Q × P)) × (g : Squad Q P)
+        requires parted { (st : LineStage Request Reply) × (lead : Lead Request Reply) × (mine : List (Request × Reply))
+            × (g : Squad Request Reply)
             × AtWith writer.old.client st mine (Parting g older) writer.old.seat.me × IsCut lead st
-            × (g.from ≡ given_runs P.run_of lead.seen) × (newest_member ≡ newest (line_of g)) }
+            × (g.from ≡ given_runs Reply.run_of lead.seen) × (newest_member ≡ newest (line_of g)) }
         ensures seat { Stays writer.new writer.old }
-        ensures entered { (st : Stage Q P) (mine : List (Q × P)) (g : Squad Q P)
+        ensures entered { (st : LineStage Request Reply) (mine : List (Request × Reply)) (g : Squad Request Reply)
             → AtWith writer.old.client st mine (Parting g older) writer.old.seat.me → (result ≡ older → older ≢ 0
-            → AtWith writer.old.client st mine (Joining (ending g B.given)) writer.new.seat.me
-            × (writer.new.seat.me.1 ≡ writer.old.seat.me.1)) × (result ≡ older → older ≡ 0 → (right : M)
-            × L.serves (about_of self.now) right g.from
-            × AtWith writer.old.client st mine (Holding (ending g B.given)) writer.new.seat.me
-            × (writer.new.seat.me.1 ≡ (self.now.clients + 1, Right right) ∷ writer.old.seat.me.1))
+            → AtWith writer.old.client st mine (Joining (squad_with_end g B.given)) writer.new.seat.me
+            × (writer.new.seat.me.1 ≡ writer.old.seat.me.1)) × (result ≡ older → older ≡ 0 → (right : Right)
+            × Log.serves (about_of self.now) right g.from
+            × AtWith writer.old.client st mine (Holding (squad_with_end g B.given)) writer.new.seat.me
+            × (writer.new.seat.me.1 ≡ (self.now.clients + 1, TheRight right) ∷ writer.old.seat.me.1))
             × (result ≢ older → writer.new.seat.me ≡ writer.old.seat.me) }
     {
         self.table
@@ -260,12 +286,14 @@ impl<Q: Itemized, P: Given, L: Ledger<Q, P, M>, M> WriterList<Q, P, L, M> {
     }
 
     // Lets the first `count` slots go behind the others.
-    fn rotate(&self, writer: &mut Writer<Q, P, L, M>, count: usize)
-        requires first { (a : List (ℕ × Content Q P L M)) × (b : List (ℕ × Content Q P L M))
+    fn rotate(&self, writer: &mut Writer<Request, Reply, Log, Right>, count: usize)
+        requires first { (a : List (ℕ × LineSlot Request Reply Log Right))
+            × (b : List (ℕ × LineSlot Request Reply Log Right))
             × (writer.old.seat.me.1 ≡ a ++ b) × (length a ≡ count) }
         ensures seat { (writer.new.seat.table_id ≡ writer.old.seat.table_id)
             × (writer.new.client ≡ writer.old.client) × (writer.new.seat.me.0 ≡ writer.old.seat.me.0) }
-        ensures turned { (a b : List (ℕ × Content Q P L M)) → writer.old.seat.me.1 ≡ a ++ b → length a ≡ count
+        ensures turned { (a b : List (ℕ × LineSlot Request Reply Log Right)) → writer.old.seat.me.1 ≡ a ++ b
+            → length a ≡ count
             → writer.new.seat.me.1 ≡ b ++ a }
     {
         // The first `i` slots are behind the others, in their order.

@@ -1,11 +1,11 @@
-// How a leader leaves: the replies into the slots, the log back or on, and each member told.
+//! How a leader leaves: the replies into the slots, the log back or on, and each member told.
 ghost use Rattle.std.specs.Prelude.{◌≡◌, ℕ, ◌+◌, ◌^◌, ◌<◌, ◌≤◌, List, [], ◌∷◌, ◌++◌, vec_len, vec_capacity, length, reverse};
-ghost use Rattle.line_rule.specs.declared.content.Content.{Content};
-ghost use Rattle.line_rule.specs.declared.content.Content.TheVariants.{Empty, Told, Log};
-ghost use Rattle.line_rule.specs.declared.view.Entry.{Entry};
+ghost use Rattle.line_rule.specs.declared.content.LineSlot.{LineSlot};
+ghost use Rattle.line_rule.specs.declared.content.LineSlot.TheVariants.{Empty, Told, TheLog};
+ghost use Rattle.line_rule.specs.declared.view.QueuedWriter.{QueuedWriter};
 ghost use Rattle.line_rule.specs.declared.view.Handling.{Handling};
 ghost use Rattle.line_rule.specs.declared.view.Lead.{Lead};
-ghost use Rattle.line_rule.specs.declared.view.Stage.TheVariants.{Idle, Leading, Settling};
+ghost use Rattle.line_rule.specs.declared.view.LineStage.TheVariants.{Idle, Leading, Settling};
 ghost use Rattle.line_rule.specs.Chain.{heads, Within, all_answers};
 ghost use Rattle.line_rule.specs.Plays.{At, debt, slots_of, blanks};
 ghost use Rattle.line_writers.specs.Roles.{Leaves, MayLeave, MayWake, MayHandOn, bys, pays, firsts, fills};
@@ -15,32 +15,42 @@ ghost use Rattle.line_writers.specs.Seats.{asks_of, client_of, clients_of, law_o
 use crate::line_writers::WriterList;
 use crate::room::{Replies, Room};
 use crate::writer::Writer;
-use line_rule::{Complete, Content, CutOff, Given, Itemized, Leave, Ledger, Retire, Wake};
+use line_rule::{
+    Complete, CutOff, GivesRun, HasGroupingItem, Leave, LineSlot, LogOfGroups, Older, Retire,
+    STATE_DONE, STATE_LEADS_LOG, Wake, older_word, state_word,
+};
 
-impl<Q: Itemized, P: Given, L: Ledger<Q, P, M>, M> WriterList<Q, P, L, M> {
+impl<
+    Request: HasGroupingItem,
+    Reply: GivesRun,
+    Log: LogOfGroups<Request, Reply, Right>,
+    Right,
+> WriterList<Request, Reply, Log, Right> {
     /// Ends a group with its replies. The log, which stands for all that was handled before and for the group, goes
     /// back, or on to the next leader, and then each member is told its reply. The leader's own is answered.
     pub fn exit(
         &self,
-        writer: &mut Writer<Q, P, L, M>,
-        log: L,
-        replies: &mut Replies<P>,
+        writer: &mut Writer<Request, Reply, Log, Right>,
+        log: Log,
+        replies: &mut Replies<Reply>,
         room: &mut Room,
-    ) -> P
-        requires group { Belongs self.now writer.old × ((max : ℕ) × (own : Entry Q) × (group left : List (Entry Q))
-            × (seen : List (Handling Q P)) × (gs : List (Entry Q × P)) × (p : P)
-            × HasGroup (asks_of Q.item_of L.lawful self.now) (clients_of self.now) max own group left seen
+    ) -> Reply
+        requires group { Belongs self.now writer.old
+            × ((max : ℕ) × (own : QueuedWriter Request) × (group left : List (QueuedWriter Request))
+            × (seen : List (Handling Request Reply)) × (gs : List (QueuedWriter Request × Reply)) × (p : Reply)
+            × HasGroup (asks_of Request.item_of Log.lawful self.now) (clients_of self.now) max own group left seen
             (told writer.old) writer.old
             × (heads gs ≡ group) × (replies.old.list.items ≡ pays own p gs)
-            × law_of L.stands L.kept L.number_of P.run_of self.now log (seen ++ all_answers own p gs)
-            × flat_of P.run_of self.now seen (seen ++ all_answers own p gs)) }
+            × law_of Reply.run_of Log.LogOfGroups self.now log (seen ++ all_answers own p gs)
+            × flat_of Reply.run_of self.now seen (seen ++ all_answers own p gs)) }
         requires room { HasRoom (clients_of self.now) room.old × (vec_len replies.old.list ≤ clients_of self.now) }
         ensures room { HasRoom (clients_of self.now) room.new × (replies.new.list.items ≡ []) }
         ensures replies_room { vec_capacity replies.new.list ≡ vec_capacity replies.old.list }
         ensures client { client_of writer.new ≡ client_of writer.old }
-        ensures out { Belongs self.now writer.new × IsOut writer.new × ((max : ℕ) (own : Entry Q)
-            (group left : List (Entry Q)) (seen : List (Handling Q P)) (gs : List (Entry Q × P)) (p : P)
-            → HasGroup (asks_of Q.item_of L.lawful self.now) (clients_of self.now) max own group left seen
+        ensures out { Belongs self.now writer.new × IsOut writer.new × ((max : ℕ) (own : QueuedWriter Request)
+            (group left : List (QueuedWriter Request)) (seen : List (Handling Request Reply))
+            (gs : List (QueuedWriter Request × Reply)) (p : Reply)
+            → HasGroup (asks_of Request.item_of Log.lawful self.now) (clients_of self.now) max own group left seen
             (told writer.old) writer.old
             → heads gs ≡ group → replies.old.list.items ≡ pays own p gs
             → (told writer.new ≡ told writer.old ++ (own.asked, p) ∷ []) × (result ≡ p)) }
@@ -61,8 +71,8 @@ impl<Q: Itemized, P: Given, L: Ledger<Q, P, M>, M> WriterList<Q, P, L, M> {
     // Lays the replies, given in link order, into the slots of the members; lists the members, newest first.
     pub(crate) fn fill(
         &self,
-        writer: &mut Writer<Q, P, L, M>,
-        replies: &mut Vec<(u32, P)>,
+        writer: &mut Writer<Request, Reply, Log, Right>,
+        replies: &mut Vec<(u32, Reply)>,
         members: &mut Vec<u32>,
     )
         requires seat { writer.old.seat.table_id ≡ self.now.table.shared.table_id }
@@ -76,6 +86,7 @@ impl<Q: Itemized, P: Given, L: Ledger<Q, P, M>, M> WriterList<Q, P, L, M> {
             × (vec_capacity members.new ≡ vec_capacity members.old) }
         ensures room { vec_capacity replies.new ≡ vec_capacity replies.old }
     {
+        // The last `i` replies lie in their slots, and their members are listed.
         for i in 0..replies.len() {
             let Some((member, reply)) = replies.pop() else {
                 unreachable!()
@@ -83,9 +94,9 @@ impl<Q: Itemized, P: Given, L: Ledger<Q, P, M>, M> WriterList<Q, P, L, M> {
             match self
                 .table
                 .shared
-                .exchange(&mut writer.seat, member as usize, Content::Told(reply))
+                .exchange(&mut writer.seat, member as usize, LineSlot::Told(reply))
             {
-                Content::Empty => writer.seat.turn(),
+                LineSlot::Empty => writer.seat.turn(),
                 _ => unreachable!(),
             }
             members.push_reserved(member);
@@ -93,20 +104,20 @@ impl<Q: Itemized, P: Given, L: Ledger<Q, P, M>, M> WriterList<Q, P, L, M> {
     }
 
     // Puts the log into its slot.
-    pub(crate) fn put_log(&self, writer: &mut Writer<Q, P, L, M>, log: L)
+    pub(crate) fn put_log(&self, writer: &mut Writer<Request, Reply, Log, Right>, log: Log)
         requires seat { writer.old.seat.table_id ≡ self.now.table.shared.table_id }
-        requires held { (t : List (ℕ × Content Q P L M)) × (writer.old.seat.me.1 ≡ (0, Empty) ∷ t) }
+        requires held { (t : List (ℕ × LineSlot Request Reply Log Right)) × (writer.old.seat.me.1 ≡ (0, Empty) ∷ t) }
         ensures seat { (writer.new.seat.table_id ≡ writer.old.seat.table_id)
             × (writer.new.client ≡ writer.old.client) × (writer.new.seat.me.0 ≡ writer.old.seat.me.0) }
-        ensures put { (t : List (ℕ × Content Q P L M)) → writer.old.seat.me.1 ≡ (0, Empty) ∷ t
-            → writer.new.seat.me.1 ≡ (0, Log log) ∷ t }
+        ensures put { (t : List (ℕ × LineSlot Request Reply Log Right)) → writer.old.seat.me.1 ≡ (0, Empty) ∷ t
+            → writer.new.seat.me.1 ≡ (0, TheLog log) ∷ t }
     {
         match self
             .table
             .shared
-            .exchange(&mut writer.seat, 0, Content::Log(log))
+            .exchange(&mut writer.seat, 0, LineSlot::TheLog(log))
         {
-            Content::Empty => {}
+            LineSlot::Empty => {}
             _ => unreachable!(),
         }
     }
@@ -114,21 +125,22 @@ impl<Q: Itemized, P: Given, L: Ledger<Q, P, M>, M> WriterList<Q, P, L, M> {
     // Gives the log back, or on to the oldest writer after the group, which has `count` members.
     fn hand_on(
         &self,
-        writer: &mut Writer<Q, P, L, M>,
+        writer: &mut Writer<Request, Reply, Log, Right>,
         newest_member: u64,
         count: usize,
         walk: &mut Vec<(u64, u64)>,
     )
         requires seat { (writer.old.seat.table_id ≡ self.now.table.shared.table_id) × (vec_len walk.old ≡ 0)
             × (walk.old.items ≡ []) × (self.now.clients ≤ vec_capacity walk.old) }
-        requires ready { MayHandOn (law_of L.stands L.kept L.number_of P.run_of self.now) (flat_of P.run_of self.now)
+        requires ready { MayHandOn (law_of Reply.run_of Log.LogOfGroups self.now) (flat_of Reply.run_of self.now)
             writer.old.client newest_member count writer.old.seat.me }
         ensures seat { (writer.new.seat.table_id ≡ writer.old.seat.table_id)
             × (writer.new.client ≡ writer.old.client) × (walk.new.items ≡ []) × (vec_len walk.new ≡ 0)
             × (vec_capacity walk.new ≡ vec_capacity walk.old) }
-        ensures settling { (lead : Lead Q P) (mine : List (Q × P)) (gs : List (Entry Q × P)) (p : P) (l : L)
+        ensures settling { (lead : Lead Request Reply) (mine : List (Request × Reply))
+            (gs : List (QueuedWriter Request × Reply)) (p : Reply) (l : Log)
             → At writer.old.client (Leading lead) mine writer.old.seat.me → heads gs ≡ lead.taken
-            → writer.old.seat.me.1 ≡ (0, Log l) ∷ slots_of gs ((writer.old.client, Told p) ∷ [])
+            → writer.old.seat.me.1 ≡ (0, TheLog l) ∷ slots_of gs ((writer.old.client, Told p) ∷ [])
             → At writer.old.client (Settling (debt gs lead.own p)) mine writer.new.seat.me
             × (writer.new.seat.me.1 ≡ slots_of gs ((writer.old.client, Told p) ∷ [])) }
     {
@@ -143,14 +155,15 @@ impl<Q: Itemized, P: Given, L: Ledger<Q, P, M>, M> WriterList<Q, P, L, M> {
     }
 
     // Gives the log back where nobody came after the group; answers the newest writer.
-    fn leave(&self, writer: &mut Writer<Q, P, L, M>, newest_member: u64) -> u64
+    fn leave(&self, writer: &mut Writer<Request, Reply, Log, Right>, newest_member: u64) -> u64
         requires seat { writer.old.seat.table_id ≡ self.now.table.shared.table_id }
-        requires ready { MayLeave (law_of L.stands L.kept L.number_of P.run_of self.now) (flat_of P.run_of self.now)
+        requires ready { MayLeave (law_of Reply.run_of Log.LogOfGroups self.now) (flat_of Reply.run_of self.now)
             writer.old.client newest_member writer.old.seat.me }
         ensures seat { Stays writer.new writer.old }
-        ensures left { (lead : Lead Q P) (mine : List (Q × P)) (gs : List (Entry Q × P)) (p : P) (l : L)
+        ensures left { (lead : Lead Request Reply) (mine : List (Request × Reply))
+            (gs : List (QueuedWriter Request × Reply)) (p : Reply) (l : Log)
             → At writer.old.client (Leading lead) mine writer.old.seat.me → heads gs ≡ lead.taken
-            → writer.old.seat.me.1 ≡ (0, Log l) ∷ slots_of gs ((writer.old.client, Told p) ∷ [])
+            → writer.old.seat.me.1 ≡ (0, TheLog l) ∷ slots_of gs ((writer.old.client, Told p) ∷ [])
             → Leaves writer.old.client lead gs p mine self.now.table.shared.table_id.slots newest_member result
             writer.old.seat.me writer.new.seat.me }
     {
@@ -160,53 +173,60 @@ impl<Q: Itemized, P: Given, L: Ledger<Q, P, M>, M> WriterList<Q, P, L, M> {
     }
 
     // Clears the link of the oldest writer after the group, and gives it the log.
-    fn wake(&self, writer: &mut Writer<Q, P, L, M>, next: u64, code: u64)
+    fn wake(&self, writer: &mut Writer<Request, Reply, Log, Right>, next: u64, code: u64)
         requires seat { (writer.old.seat.table_id ≡ self.now.table.shared.table_id)
             × (0 < next) × (next ≤ self.now.clients) × (code < 2 ^ 56) }
-        requires ready { MayWake (law_of L.stands L.kept L.number_of P.run_of self.now) (flat_of P.run_of self.now)
+        requires ready { MayWake (law_of Reply.run_of Log.LogOfGroups self.now) (flat_of Reply.run_of self.now)
             writer.old.client next code writer.old.seat.me }
         ensures seat { Stays writer.new writer.old }
-        ensures left { (lead : Lead Q P) (mine : List (Q × P)) (gs : List (Entry Q × P)) (p : P) (l : L)
+        ensures left { (lead : Lead Request Reply) (mine : List (Request × Reply))
+            (gs : List (QueuedWriter Request × Reply)) (p : Reply) (l : Log)
             → At writer.old.client (Leading lead) mine writer.old.seat.me → heads gs ≡ lead.taken
-            → writer.old.seat.me.1 ≡ (0, Log l) ∷ slots_of gs ((writer.old.client, Told p) ∷ [])
+            → writer.old.seat.me.1 ≡ (0, TheLog l) ∷ slots_of gs ((writer.old.client, Told p) ∷ [])
             → At writer.old.client (Settling (debt gs lead.own p)) mine writer.new.seat.me
             × (writer.new.seat.me.1 ≡ slots_of gs ((writer.old.client, Told p) ∷ [])) }
     {
         let shared = &self.table.shared;
-        shared.store::<CutOff>(&mut writer.seat, 2 * next as usize + 3, 256 * code);
-        shared.store::<Wake>(&mut writer.seat, 2 * next as usize + 2, 2);
+        let cleared = Older { client: 0, code };
+        shared.store::<CutOff>(&mut writer.seat, older_word(next), cleared.pack());
+        shared.store::<Wake>(&mut writer.seat, state_word(next), STATE_LEADS_LOG);
         self.bells.ring(next);
     }
 
     // Tells each member but the leader its reply.
-    pub(crate) fn tell_all(&self, writer: &mut Writer<Q, P, L, M>, members: &[u32])
+    pub(crate) fn tell_all(&self, writer: &mut Writer<Request, Reply, Log, Right>, members: &[u32])
         requires seat { writer.old.seat.table_id ≡ self.now.table.shared.table_id }
-        requires owed { (mine : List (Q × P)) × (gs : List (Entry Q × P)) × (own : Entry Q) × (p : P)
+        requires owed { (mine : List (Request × Reply)) × (gs : List (QueuedWriter Request × Reply))
+            × (own : QueuedWriter Request) × (p : Reply)
             × At writer.old.client (Settling (debt gs own p)) mine writer.old.seat.me
             × (writer.old.seat.me.1 ≡ slots_of gs ((writer.old.client, Told p) ∷ []))
             × (members.now ≡ bys (heads gs ++ own ∷ [])) × Within self.now.clients (heads gs) }
         ensures seat { Stays writer.new writer.old }
-        ensures told { (mine : List (Q × P)) (gs : List (Entry Q × P)) (own : Entry Q) (p : P)
+        ensures told { (mine : List (Request × Reply)) (gs : List (QueuedWriter Request × Reply))
+            (own : QueuedWriter Request) (p : Reply)
             → At writer.old.client (Settling (debt gs own p)) mine writer.old.seat.me
             → writer.old.seat.me.1 ≡ slots_of gs ((writer.old.client, Told p) ∷ [])
             → At writer.old.client (Settling (debt [] own p)) mine writer.new.seat.me
             × (writer.new.seat.me.1 ≡ (writer.old.client, Told p) ∷ []) }
     {
+        // The newest `i` members are told.
         for i in 0..members.len() - 1 {
             self.complete(writer, members[i]);
         }
     }
 
     // Tells one member its reply, which lies in its slot.
-    pub(crate) fn complete(&self, writer: &mut Writer<Q, P, L, M>, member: u32)
+    pub(crate) fn complete(&self, writer: &mut Writer<Request, Reply, Log, Right>, member: u32)
         requires seat { (writer.old.seat.table_id ≡ self.now.table.shared.table_id)
             × (0 < member) × (member ≤ self.now.clients) }
-        requires owed { (mine : List (Q × P)) × (g : Entry Q × P) × (gs : List (Entry Q × P)) × (own : Entry Q)
-            × (p : P) × At writer.old.client (Settling (debt (g ∷ gs) own p)) mine writer.old.seat.me
+        requires owed { (mine : List (Request × Reply)) × (g : QueuedWriter Request × Reply)
+            × (gs : List (QueuedWriter Request × Reply)) × (own : QueuedWriter Request)
+            × (p : Reply) × At writer.old.client (Settling (debt (g ∷ gs) own p)) mine writer.old.seat.me
             × (g.0.by ≡ member)
             × (writer.old.seat.me.1 ≡ slots_of (g ∷ gs) ((writer.old.client, Told p) ∷ [])) }
         ensures seat { Stays writer.new writer.old }
-        ensures told { (mine : List (Q × P)) (g : Entry Q × P) (gs : List (Entry Q × P)) (own : Entry Q) (p : P)
+        ensures told { (mine : List (Request × Reply)) (g : QueuedWriter Request
+            × Reply) (gs : List (QueuedWriter Request × Reply)) (own : QueuedWriter Request) (p : Reply)
             → At writer.old.client (Settling (debt (g ∷ gs) own p)) mine writer.old.seat.me
             → writer.old.seat.me.1 ≡ slots_of (g ∷ gs) ((writer.old.client, Told p) ∷ [])
             → At writer.old.client (Settling (debt gs own p)) mine writer.new.seat.me
@@ -214,19 +234,19 @@ impl<Q: Itemized, P: Given, L: Ledger<Q, P, M>, M> WriterList<Q, P, L, M> {
     {
         self.table
             .shared
-            .store::<Complete>(&mut writer.seat, 2 * member as usize + 2, 16);
+            .store::<Complete>(&mut writer.seat, state_word(member as u64), STATE_DONE);
         self.bells.ring(member as u64);
     }
 
     // The leader's own last step, with its reply.
-    pub(crate) fn retire(&self, writer: &mut Writer<Q, P, L, M>) -> P
+    pub(crate) fn retire(&self, writer: &mut Writer<Request, Reply, Log, Right>) -> Reply
         requires seat { (writer.old.seat.table_id ≡ self.now.table.shared.table_id)
             × (0 < writer.old.client) × (writer.old.client ≤ self.now.clients) }
-        requires owed { (mine : List (Q × P)) × (own : Entry Q) × (p : P)
+        requires owed { (mine : List (Request × Reply)) × (own : QueuedWriter Request) × (p : Reply)
             × At writer.old.client (Settling (debt [] own p)) mine writer.old.seat.me
             × (writer.old.seat.me.1 ≡ (writer.old.client, Told p) ∷ []) }
         ensures seat { Stays writer.new writer.old }
-        ensures idle { (mine : List (Q × P)) (own : Entry Q) (p : P)
+        ensures idle { (mine : List (Request × Reply)) (own : QueuedWriter Request) (p : Reply)
             → At writer.old.client (Settling (debt [] own p)) mine writer.old.seat.me
             → writer.old.seat.me.1 ≡ (writer.old.client, Told p) ∷ []
             → At writer.old.client Idle (mine ++ (own.asked, p) ∷ []) writer.new.seat.me
@@ -234,9 +254,9 @@ impl<Q: Itemized, P: Given, L: Ledger<Q, P, M>, M> WriterList<Q, P, L, M> {
     {
         let shared = &self.table.shared;
         let c = writer.client;
-        match shared.exchange(&mut writer.seat, c as usize, Content::Empty) {
-            Content::Told(reply) => {
-                shared.store::<Retire>(&mut writer.seat, 2 * c as usize + 2, 16);
+        match shared.exchange(&mut writer.seat, c as usize, LineSlot::Empty) {
+            LineSlot::Told(reply) => {
+                shared.store::<Retire>(&mut writer.seat, state_word(c as u64), STATE_DONE);
                 reply
             }
             _ => unreachable!(),

@@ -1,16 +1,26 @@
-// The list as its parts.
+//! The list as its parts.
 ghost use Rattle.std.specs.Prelude.{◌≡◌, ℕ, ◌+◌, ◌*◌, ◌<◌};
 
 use atomic_table::Table;
 use base_waiting::Bells;
-use line_rule::{Content, Given, Itemized, Ledger, Order, Start, View};
+use line_rule::{GivesRun, HasGroupingItem, LineSlot, LineView, ListRule, LogOfGroups, Start};
 use std::alloc::Global;
 
-/// A list of writers: of requests `Q`, replies `P`, the log `L`, which the leader has, and the right `M`, which is for
-/// the leaders of a second list.
+/// A list of writers, with the log, which the leader has, and the right, which is for the leaders of a second list.
 #[derive(Drop)]
-pub struct WriterList<Q: Itemized, P: Given, L: Ledger<Q, P, M>, M> {
-    pub(crate) table: Table<Content<Q, P, L, M>, View<Q, P>, Start<L::About>, Order, Global>,
+pub struct WriterList<
+    Request: HasGroupingItem,
+    Reply: GivesRun,
+    Log: LogOfGroups<Request, Reply, Right>,
+    Right,
+> {
+    pub(crate) table: Table<
+        LineSlot<Request, Reply, Log, Right>,
+        LineView<Request, Reply>,
+        Start<Log::About>,
+        ListRule,
+        Global,
+    >,
     pub(crate) clients: u32,
     pub(crate) group_bytes: u64,
     pub(crate) bells: Bells,

@@ -1,9 +1,9 @@
-// How a writer links itself, and waits for its role.
+//! How a writer links itself, and waits for its role.
 ghost use Rattle.std.specs.Prelude.{◌≡◌, ℕ, ◌+◌, ◌*◌, ◌^◌, ◌<◌, ◌≤◌, ◌≢◌, true, List, [], ◌∷◌, Some};
-ghost use Rattle.line_rule.specs.declared.content.Content.{Content};
-ghost use Rattle.line_rule.specs.declared.content.Content.TheVariants.{Empty, Asked, Told, Log};
-ghost use Rattle.line_rule.specs.declared.view.Stage.TheVariants.{Idle, Waiting, Helping, Collecting};
-ghost use Rattle.line_rule.specs.declared.view.Event.{Event};
+ghost use Rattle.line_rule.specs.declared.content.LineSlot.{LineSlot};
+ghost use Rattle.line_rule.specs.declared.content.LineSlot.TheVariants.{Empty, Asked, Told, TheLog};
+ghost use Rattle.line_rule.specs.declared.view.LineStage.TheVariants.{Idle, Waiting, Helping, Collecting};
+ghost use Rattle.line_rule.specs.declared.view.LineEvent.{LineEvent};
 ghost use Rattle.line_rule.specs.Grouping.{code_by};
 ghost use Rattle.line_rule.specs.Rule.{logs_picked, kept_picked};
 ghost use Rattle.line_rule.specs.Plays.{At, Elected};
@@ -17,35 +17,51 @@ use crate::second::PipelinedRole;
 use crate::writer::{Role, Task, Writer};
 use crossbeam_utils::Backoff;
 use line_rule::{
-    Begin, Content, Given, Itemized, Ledger, Link, NameOlder, PickedAbout, ReadNewest, ReadReply,
-    ReadState, Rest, code_of,
+    Begin, GivesRun, HasGroupingItem, LineSlot, Link, LogOfGroups, NameOlder, Older, PickedAbout,
+    ReadNewest, ReadReply, ReadState, ReturnSlot, STATE_DONE, STATE_IN_LIST, STATE_LEADS_LOG,
+    STATE_PARALLEL, code_of, older_word, state_word,
 };
-use model_base::Item;
+use model_base::{Item, MAX_SIZE};
 use std::marker::Brand;
 use std::sync::Wait;
 
-impl<Q: Itemized, P: Given, L: Ledger<Q, P, M>, M> WriterList<Q, P, L, M> {
+impl<
+    Request: HasGroupingItem,
+    Reply: GivesRun,
+    Log: LogOfGroups<Request, Reply, Right>,
+    Right,
+> WriterList<Request, Reply, Log, Right> {
     /// Puts the writer, which is in no list, at the newest end, with a request of which grouping sees this item, and
     /// which is lawful for this list.
-    pub fn link<R: Wait>(&self, rt: &R, writer: &mut Writer<Q, P, L, M>, item: Item, request: Q)
+    pub fn link<R: Wait>(
+        &self,
+        rt: &R,
+        writer: &mut Writer<Request, Reply, Log, Right>,
+        item: Item,
+        request: Request,
+    )
         requires out { Belongs self.now writer.old × IsOut writer.old }
-        requires item { (item ≡ Q.item_of request) × (item.size ≤ 16777216) }
-        requires lawful { L.lawful (about_of self.now) request }
+        requires item { (item ≡ Request.item_of request) × (item.size ≤ MAX_SIZE) }
+        requires lawful { Log.lawful (about_of self.now) request }
         ensures client { client_of writer.new ≡ client_of writer.old }
         ensures linked { Belongs self.now writer.new
-            × IsIn (law_of L.stands L.kept L.number_of P.run_of self.now) request (told writer.old) writer.new }
+            × IsIn (law_of Reply.run_of Log.LogOfGroups self.now) request (told writer.old) writer.new }
     {
         self.link_from::<Brand, R>(rt, writer, code_of(item), request);
     }
 
     /// Waits until the writer, which is in the list, leads, or its request is done.
-    pub fn await_role<R: Wait>(&self, rt: &R, writer: &mut Writer<Q, P, L, M>) -> Role<L, P>
+    pub fn await_role<R: Wait>(
+        &self,
+        rt: &R,
+        writer: &mut Writer<Request, Reply, Log, Right>,
+    ) -> Role<Log, Reply>
         requires { Belongs self.now writer.old
-            × ((q : Q) × IsIn (law_of L.stands L.kept L.number_of P.run_of self.now) q (told writer.old) writer.old) }
+            × ((q : Request) × IsIn (law_of Reply.run_of Log.LogOfGroups self.now) q (told writer.old) writer.old) }
         ensures client { client_of writer.new ≡ client_of writer.old }
-        ensures role { Belongs self.now writer.new × ((q : Q)
-            → IsIn (law_of L.stands L.kept L.number_of P.run_of self.now) q (told writer.old) writer.old
-            → HasRole (law_of L.stands L.kept L.number_of P.run_of self.now) (kept_of L.kept self.now)
+        ensures role { Belongs self.now writer.new × ((q : Request)
+            → IsIn (law_of Reply.run_of Log.LogOfGroups self.now) q (told writer.old) writer.old
+            → HasRole (law_of Reply.run_of Log.LogOfGroups self.now) (kept_of Log.kept self.now)
             q (told writer.old) result writer.new) }
     {
         match writer.task {
@@ -58,37 +74,42 @@ impl<Q: Itemized, P: Given, L: Ledger<Q, P, M>, M> WriterList<Q, P, L, M> {
     }
 
     // The number and what the law is about are picked, since a step of the table knows neither.
-    fn link_from<B: PickedAbout<L::About>, R: Wait>(
+    fn link_from<B: PickedAbout<Log::About>, R: Wait>(
         &self,
         rt: &R,
-        writer: &mut Writer<Q, P, L, M>,
+        writer: &mut Writer<Request, Reply, Log, Right>,
         code: u64,
-        request: Q,
+        request: Request,
     )
         requires start { B.number ≡ self.now.table.shared.key.log }
         requires about { B.about ≡ Some self.now.table.shared.key.about }
         requires seat { (writer.old.seat.table_id ≡ self.now.table.shared.table_id)
             × (0 < writer.old.client) × (writer.old.client ≤ self.now.clients) × (code < 2 ^ 40) }
-        requires code { code ≡ code_by Q.item_of request }
-        requires lawful { L.lawful self.now.table.shared.key.about request }
-        requires idle { (mine : List (Q × P))
+        requires code { code ≡ code_by Request.item_of request }
+        requires lawful { Log.lawful self.now.table.shared.key.about request }
+        requires idle { (mine : List (Request × Reply))
             × At writer.old.client Idle mine writer.old.seat.me × (writer.old.seat.me.1 ≡ []) }
         ensures seat { Stays writer.new writer.old }
-        ensures linked { (mine : List (Q × P)) → At writer.old.client Idle mine writer.old.seat.me
-            → IsLinked (logs_picked L.stands L.kept L.number_of P.run_of B.number B.about)
+        ensures linked { (mine : List (Request × Reply)) → At writer.old.client Idle mine writer.old.seat.me
+            → IsLinked (logs_picked Reply.run_of Log.LogOfGroups B.number B.about)
             writer.old.client writer.new.task request mine writer.new.seat.me }
     {
         let shared = &self.table.shared;
         let c = writer.client;
-        shared.store::<Begin>(&mut writer.seat, 2 * c as usize + 2, 1);
-        match shared.exchange(&mut writer.seat, c as usize, Content::Asked(request)) {
-            Content::Empty => {}
+        shared.store::<Begin>(&mut writer.seat, state_word(c as u64), STATE_IN_LIST);
+        match shared.exchange(&mut writer.seat, c as usize, LineSlot::Asked(request)) {
+            LineSlot::Empty => {}
             _ => unreachable!(),
         }
         let backoff = Backoff::new();
+        // Until the exchange works the request lies in its slot, and nobody sees the writer.
         for _ in rt.forever() {
             let newest = shared.load::<ReadNewest>(&mut writer.seat, 0);
-            shared.store::<NameOlder>(&mut writer.seat, 2 * c as usize + 3, newest + 256 * code);
+            let older = Older {
+                client: newest,
+                code,
+            };
+            shared.store::<NameOlder>(&mut writer.seat, older_word(c as u64), older.pack());
             let found = shared.compare_exchange::<Link<B>>(&mut writer.seat, 0, newest, c as u64);
             if found == newest {
                 writer.task = task_of(newest);
@@ -100,22 +121,22 @@ impl<Q: Itemized, P: Given, L: Ledger<Q, P, M>, M> WriterList<Q, P, L, M> {
     }
 
     // A member that is told to work beside its leader waits for its reply.
-    fn await_alone<B: PickedAbout<L::About>, R: Wait>(
+    fn await_alone<B: PickedAbout<Log::About>, R: Wait>(
         &self,
         rt: &R,
-        writer: &mut Writer<Q, P, L, M>,
-    ) -> Role<L, P>
+        writer: &mut Writer<Request, Reply, Log, Right>,
+    ) -> Role<Log, Reply>
         requires start { B.number ≡ self.now.table.shared.key.log }
         requires about { B.about ≡ Some self.now.table.shared.key.about }
         requires seat { (writer.old.seat.table_id ≡ self.now.table.shared.table_id)
             × (0 < writer.old.client) × (writer.old.client ≤ self.now.clients) }
-        requires waits { (q : Q) × (past : List (Event Q P)) × (mine : List (Q × P))
+        requires waits { (q : Request) × (past : List (LineEvent Request Reply)) × (mine : List (Request × Reply))
             × At writer.old.client (Waiting q past) mine writer.old.seat.me × (writer.old.seat.me.1 ≡ []) }
         ensures seat { Stays writer.new writer.old }
-        ensures role { (q : Q) (past : List (Event Q P)) (mine : List (Q × P))
+        ensures role { (q : Request) (past : List (LineEvent Request Reply)) (mine : List (Request × Reply))
             → At writer.old.client (Waiting q past) mine writer.old.seat.me → writer.old.seat.me.1 ≡ []
-            → Becomes (logs_picked L.stands L.kept L.number_of P.run_of B.number B.about)
-            (kept_picked L.kept B.about) writer.old.client q mine result writer.new.seat.me }
+            → Becomes (logs_picked Reply.run_of Log.LogOfGroups B.number B.about)
+            (kept_picked Log.kept B.about) writer.old.client q mine result writer.new.seat.me }
     {
         match self.await_from::<B, R>(rt, writer) {
             PipelinedRole::LogLeader(log) => Role::LogLeader(log),
@@ -126,38 +147,39 @@ impl<Q: Itemized, P: Given, L: Ledger<Q, P, M>, M> WriterList<Q, P, L, M> {
     }
 
     // Waits for the writer's role.
-    pub(crate) fn await_from<B: PickedAbout<L::About>, R: Wait>(
+    pub(crate) fn await_from<B: PickedAbout<Log::About>, R: Wait>(
         &self,
         rt: &R,
-        writer: &mut Writer<Q, P, L, M>,
-    ) -> PipelinedRole<L, M, P>
+        writer: &mut Writer<Request, Reply, Log, Right>,
+    ) -> PipelinedRole<Log, Right, Reply>
         requires start { B.number ≡ self.now.table.shared.key.log }
         requires about { B.about ≡ Some self.now.table.shared.key.about }
         requires seat { (writer.old.seat.table_id ≡ self.now.table.shared.table_id)
             × (0 < writer.old.client) × (writer.old.client ≤ self.now.clients) }
-        requires waits { (q : Q) × (past : List (Event Q P)) × (mine : List (Q × P))
+        requires waits { (q : Request) × (past : List (LineEvent Request Reply)) × (mine : List (Request × Reply))
             × At writer.old.client (Waiting q past) mine writer.old.seat.me × (writer.old.seat.me.1 ≡ []) }
         ensures seat { Stays writer.new writer.old }
-        ensures role { (q : Q) (past : List (Event Q P)) (mine : List (Q × P))
+        ensures role { (q : Request) (past : List (LineEvent Request Reply)) (mine : List (Request × Reply))
             → At writer.old.client (Waiting q past) mine writer.old.seat.me → writer.old.seat.me.1 ≡ []
-            → Turns (logs_picked L.stands L.kept L.number_of P.run_of B.number B.about)
-            (kept_picked L.kept B.about) writer.old.client writer.new.task q mine result writer.new.seat.me }
+            → Turns (logs_picked Reply.run_of Log.LogOfGroups B.number B.about)
+            (kept_picked Log.kept B.about) writer.old.client writer.new.task q mine result writer.new.seat.me }
         ensures parallel { result ≡ Parallel → writer.new.task ≡ Helps }
     {
         let c = writer.client;
         let backoff = Backoff::new();
+        // Until a look shows a role the writer knows what it knew at first.
         for _ in rt.forever() {
             let state = self
                 .table
                 .shared
-                .load::<ReadState<B>>(&mut writer.seat, 2 * c as usize + 2);
-            if state == 16 {
+                .load::<ReadState<B>>(&mut writer.seat, state_word(c as u64));
+            if state == STATE_DONE {
                 return PipelinedRole::Done(self.collect(writer));
             }
-            if state == 2 {
+            if state == STATE_LEADS_LOG {
                 return PipelinedRole::LogLeader(self.claim::<B>(writer));
             }
-            if state == 8 {
+            if state == STATE_PARALLEL {
                 writer.task = Task::Helps;
                 return PipelinedRole::Parallel;
             }
@@ -167,29 +189,30 @@ impl<Q: Itemized, P: Given, L: Ledger<Q, P, M>, M> WriterList<Q, P, L, M> {
     }
 
     // Waits for the reply of a writer that was told to work beside its leader.
-    pub(crate) fn await_reply<B: PickedAbout<L::About>, R: Wait>(
+    pub(crate) fn await_reply<B: PickedAbout<Log::About>, R: Wait>(
         &self,
         rt: &R,
-        writer: &mut Writer<Q, P, L, M>,
-    ) -> P
+        writer: &mut Writer<Request, Reply, Log, Right>,
+    ) -> Reply
         requires about { B.about ≡ Some self.now.table.shared.key.about }
         requires seat { (writer.old.seat.table_id ≡ self.now.table.shared.table_id)
             × (0 < writer.old.client) × (writer.old.client ≤ self.now.clients) }
-        requires helps { (q : Q) × (mine : List (Q × P))
+        requires helps { (q : Request) × (mine : List (Request × Reply))
             × At writer.old.client (Helping q) mine writer.old.seat.me × (writer.old.seat.me.1 ≡ []) }
         ensures seat { Stays writer.new writer.old }
-        ensures reply { (q : Q) (mine : List (Q × P))
+        ensures reply { (q : Request) (mine : List (Request × Reply))
             → At writer.old.client (Helping q) mine writer.old.seat.me → writer.old.seat.me.1 ≡ []
-            → HasReply (kept_picked L.kept B.about) writer.old.client q mine result writer.new.seat.me }
+            → HasReply (kept_picked Log.kept B.about) writer.old.client q mine result writer.new.seat.me }
     {
         let c = writer.client;
         let backoff = Backoff::new();
+        // Until a look shows `STATE_DONE` the member knows what it knew at first.
         for _ in rt.forever() {
             let state = self
                 .table
                 .shared
-                .load::<ReadReply<B>>(&mut writer.seat, 2 * c as usize + 2);
-            if state == 16 {
+                .load::<ReadReply<B>>(&mut writer.seat, state_word(c as u64));
+            if state == STATE_DONE {
                 return self.collect(writer);
             }
             self.bells.pause(rt, &backoff, c as u64);
@@ -198,24 +221,27 @@ impl<Q: Itemized, P: Given, L: Ledger<Q, P, M>, M> WriterList<Q, P, L, M> {
     }
 
     // Takes the log out of its slot.
-    pub(crate) fn claim<B: PickedAbout<L::About>>(&self, writer: &mut Writer<Q, P, L, M>) -> L
+    pub(crate) fn claim<B: PickedAbout<Log::About>>(
+        &self,
+        writer: &mut Writer<Request, Reply, Log, Right>,
+    ) -> Log
         requires seat { writer.old.seat.table_id ≡ self.now.table.shared.table_id }
-        requires elected { (q : Q) × (mine : List (Q × P))
-            × Elected (logs_picked L.stands L.kept L.number_of P.run_of B.number B.about)
+        requires elected { (q : Request) × (mine : List (Request × Reply))
+            × Elected (logs_picked Reply.run_of Log.LogOfGroups B.number B.about)
             writer.old.client q mine writer.old.seat.me }
         ensures seat { Stays writer.new writer.old }
-        ensures leads { (q : Q) (mine : List (Q × P))
-            → Elected (logs_picked L.stands L.kept L.number_of P.run_of B.number B.about)
+        ensures leads { (q : Request) (mine : List (Request × Reply))
+            → Elected (logs_picked Reply.run_of Log.LogOfGroups B.number B.about)
             writer.old.client q mine writer.old.seat.me
-            → Becomes (logs_picked L.stands L.kept L.number_of P.run_of B.number B.about)
-            (kept_picked L.kept B.about) writer.old.client q mine (Role.LogLeader result) writer.new.seat.me }
+            → Becomes (logs_picked Reply.run_of Log.LogOfGroups B.number B.about)
+            (kept_picked Log.kept B.about) writer.old.client q mine (Role.LogLeader result) writer.new.seat.me }
     {
         match self
             .table
             .shared
-            .exchange(&mut writer.seat, 0, Content::Empty)
+            .exchange(&mut writer.seat, 0, LineSlot::Empty)
         {
-            Content::Log(log) => {
+            LineSlot::TheLog(log) => {
                 writer.seat.turn();
                 log
             }
@@ -224,21 +250,22 @@ impl<Q: Itemized, P: Given, L: Ledger<Q, P, M>, M> WriterList<Q, P, L, M> {
     }
 
     // Takes the reply out of the writer's own slot, and gives the slot back.
-    fn collect(&self, writer: &mut Writer<Q, P, L, M>) -> P
+    fn collect(&self, writer: &mut Writer<Request, Reply, Log, Right>) -> Reply
         requires seat { (writer.old.seat.table_id ≡ self.now.table.shared.table_id)
             × (writer.old.client ≤ self.now.clients) }
-        requires told { (p : P) × (mine : List (Q × P)) × At writer.old.client Collecting mine writer.old.seat.me
+        requires told { (p : Reply) × (mine : List (Request × Reply))
+            × At writer.old.client Collecting mine writer.old.seat.me
             × (writer.old.seat.me.1 ≡ (writer.old.client, Told p) ∷ []) }
         ensures seat { Stays writer.new writer.old }
         ensures reply { writer.old.seat.me.1 ≡ (writer.old.client, Told result) ∷ [] }
-        ensures idle { (mine : List (Q × P)) → At writer.old.client Collecting mine writer.old.seat.me
+        ensures idle { (mine : List (Request × Reply)) → At writer.old.client Collecting mine writer.old.seat.me
             → At writer.old.client Idle mine writer.new.seat.me × (writer.new.seat.me.1 ≡ []) }
     {
         let shared = &self.table.shared;
         let c = writer.client;
-        match shared.exchange(&mut writer.seat, c as usize, Content::Empty) {
-            Content::Told(reply) => {
-                shared.load::<Rest>(&mut writer.seat, 2 * c as usize + 2);
+        match shared.exchange(&mut writer.seat, c as usize, LineSlot::Empty) {
+            LineSlot::Told(reply) => {
+                shared.load::<ReturnSlot>(&mut writer.seat, state_word(c as u64));
                 reply
             }
             _ => unreachable!(),

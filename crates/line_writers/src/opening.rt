@@ -1,6 +1,6 @@
-// How a list is opened.
+//! How a list is opened.
 ghost use Rattle.std.specs.Prelude.{◌≡◌, ℕ, ◌+◌, ◌<◌, ◌≤◌, List, [], ◌∷◌, ◌++◌, true, false, vec_len, vec_capacity, replicate, IfOk, IfErr};
-ghost use Rattle.line_rule.specs.declared.content.Content.TheVariants.{Empty, Log, Right};
+ghost use Rattle.line_rule.specs.declared.content.LineSlot.TheVariants.{Empty, TheLog, TheRight};
 ghost use Rattle.line_rule.specs.Rule.{newcomers};
 ghost use Rattle.line_writers.specs.Roles.{AreNew};
 ghost use Rattle.line_writers.specs.Rooms.{AllReady};
@@ -12,28 +12,33 @@ use crate::slots::{log_of, nothing_of, right_of};
 use crate::writer::{Task, Writer};
 use atomic_table::{Refused, Seat, Table};
 use base_waiting::Bells;
-use line_rule::{Content, First, Given, Itemized, Ledger, Start, View};
+use line_rule::{GivesRun, HasGroupingItem, LineSlot, LineView, LogOfGroups, SplitFirst, Start};
 use std::alloc::Global;
 
-impl<Q: Itemized + Drop, P: Given + Drop, L: Ledger<Q, P, M>, M> WriterList<Q, P, L, M> {
+impl<
+    Request: HasGroupingItem + Drop,
+    Reply: GivesRun + Drop,
+    Log: LogOfGroups<Request, Reply, Right>,
+    Right,
+> WriterList<Request, Reply, Log, Right> {
     /// A list with a writer of each client, greatest number first, and the lists that each needs to lead. Where memory
     /// is short, log and right come back.
     pub fn open(
         alloc: Global,
-        start: &Start<L::About>,
-        log: L,
-        right: M,
+        start: &Start<Log::About>,
+        log: Log,
+        right: Right,
     ) -> Result<
         (
-            WriterList<Q, P, L, M>,
-            Vec<Writer<Q, P, L, M>>,
-            Vec<Lists<Q, P>>,
+            WriterList<Request, Reply, Log, Right>,
+            Vec<Writer<Request, Reply, Log, Right>>,
+            Vec<Lists<Request, Reply>>,
         ),
-        (L, M),
+        (Log, Right),
     >
         requires clients { (0 < start.now.clients) × (start.now.clients < 255) }
-        requires numbers { (L.number_of log ≡ start.now.log) × L.serves start.now.about right [] }
-        requires log { L.stands start.now.about log [] × L.kept start.now.about [] }
+        requires numbers { (Log.number_of log ≡ start.now.log) × Log.serves start.now.about right [] }
+        requires log { Log.stands start.now.about log [] × Log.kept start.now.about [] }
         ensures ok { IfOk result (λ r. HasOpened start.now r.0 r.1.items
             × (vec_len r.1 ≡ start.now.clients) × (vec_len r.2 ≡ start.now.clients)
             × AllReady start.now.clients r.2.items) }
@@ -72,40 +77,48 @@ impl<Q: Itemized + Drop, P: Given + Drop, L: Ledger<Q, P, M>, M> WriterList<Q, P
     }
 }
 
-impl<Q: Itemized, P: Given, L: Ledger<Q, P, M>, M> WriterList<Q, P, L, M> {
+impl<
+    Request: HasGroupingItem,
+    Reply: GivesRun,
+    Log: LogOfGroups<Request, Reply, Right>,
+    Right,
+> WriterList<Request, Reply, Log, Right> {
     // The slots at the start.
     fn slots_for(
         alloc: Global,
         clients: u32,
-        log: L,
-        right: M,
-    ) -> Result<Vec<Content<Q, P, L, M>>, (L, M)>
+        log: Log,
+        right: Right,
+    ) -> Result<Vec<LineSlot<Request, Reply, Log, Right>>, (Log, Right)>
         requires { clients < 255 }
-        ensures ok { IfOk result (λ v. v.items ≡ Log log ∷ (replicate clients Empty ++ Right right ∷ [])) }
+        ensures ok { IfOk result (λ v. v.items ≡ TheLog log ∷ (replicate clients Empty ++ TheRight right ∷ [])) }
         ensures err { IfErr result (λ e. (e.0 ≡ log) × (e.1 ≡ right)) }
     {
         let Ok(mut slots) = Vec::with_capacity(alloc, clients as usize + 2) else {
             return Err((log, right));
         };
-        slots.push_reserved(Content::Log(log));
+        slots.push_reserved(LineSlot::TheLog(log));
+        // The log's slot is made, and those of the first `made` clients, which are empty.
         for made in 0..clients {
-            slots.push_reserved(Content::Empty);
+            slots.push_reserved(LineSlot::Empty);
         }
-        slots.push_reserved(Content::Right(right));
+        slots.push_reserved(LineSlot::TheRight(right));
         Ok(slots)
     }
 
     // Takes the log and the right out of the slots of a table that was not made.
-    fn unmade(mut slots: Vec<Content<Q, P, L, M>>, clients: u32) -> (L, M)
-        requires slots { (l : L) × (m : M) × (slots.items ≡ Log l ∷ (replicate clients Empty ++ Right m ∷ [])) }
+    fn unmade(mut slots: Vec<LineSlot<Request, Reply, Log, Right>>, clients: u32) -> (Log, Right)
+        requires slots { (l : Log) × (m : Right)
+            × (slots.items ≡ TheLog l ∷ (replicate clients Empty ++ TheRight m ∷ [])) }
         requires few { clients < 255 }
-        ensures { (l : L) (m : M) → slots.items ≡ Log l ∷ (replicate clients Empty ++ Right m ∷ [])
+        ensures { (l : Log) (m : Right) → slots.items ≡ TheLog l ∷ (replicate clients Empty ++ TheRight m ∷ [])
             → (result.0 ≡ l) × (result.1 ≡ m) }
     {
         let Some(last) = slots.pop() else {
             unreachable!()
         };
         let right = right_of(last);
+        // The right and the slots of the last `done` clients are taken out.
         for done in 0..clients {
             let Some(slot) = slots.pop() else {
                 unreachable!()
@@ -123,8 +136,8 @@ impl<Q: Itemized, P: Given, L: Ledger<Q, P, M>, M> WriterList<Q, P, L, M> {
     // Makes a writer of each client.
     fn seat_all(
         &self,
-        mut first: Seat<Content<Q, P, L, M>, View<Q, P>>,
-        writers: &mut Vec<Writer<Q, P, L, M>>,
+        mut first: Seat<LineSlot<Request, Reply, Log, Right>, LineView<Request, Reply>>,
+        writers: &mut Vec<Writer<Request, Reply, Log, Right>>,
     )
         requires seat { (first.table_id ≡ self.now.table.shared.table_id)
             × (first.me ≡ (newcomers self.now.clients, [])) }
@@ -133,8 +146,9 @@ impl<Q: Itemized, P: Given, L: Ledger<Q, P, M>, M> WriterList<Q, P, L, M> {
         ensures { (vec_len writers.new ≡ self.now.clients)
             × AreNew self.now.table.shared.table_id self.now.clients writers.new.items }
     {
+        // The `made` clients with the greatest numbers have their writers, and the first seat has the others.
         for made in 0..self.clients {
-            let seat = self.table.shared.split_seat::<First>(&mut first);
+            let seat = self.table.shared.split_seat::<SplitFirst>(&mut first);
             writers.push_reserved(Writer {
                 client: self.clients - made,
                 task: Task::Awaits,

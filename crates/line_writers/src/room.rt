@@ -1,4 +1,4 @@
-// The lists that a leader works with.
+//! The lists that a leader works with.
 ghost use Rattle.std.specs.Prelude.{◌≡◌, ℕ, ◌<◌, ◌≤◌, List, vec_len, IfOk};
 ghost use Rattle.line_writers.specs.Rooms.{AreReady, AllReady};
 
@@ -6,14 +6,14 @@ use std::alloc::{AllocError, Global};
 
 /// The requests of a group in link order, each with its client.
 #[derive(Drop)]
-pub struct Requests<Q> {
-    pub list: Vec<(u32, Q)>,
+pub struct Requests<Request> {
+    pub list: Vec<(u32, Request)>,
 }
 
 /// The replies to a group in link order, each with its client.
 #[derive(Drop)]
-pub struct Replies<P> {
-    pub list: Vec<(u32, P)>,
+pub struct Replies<Reply> {
+    pub list: Vec<(u32, Reply)>,
 }
 
 /// Room for the work of a leader.
@@ -25,14 +25,14 @@ pub struct Room {
 
 /// What one client needs to lead a group, with room for all clients.
 #[derive(Drop)]
-pub struct Lists<Q, P> {
-    pub requests: Requests<Q>,
-    pub replies: Replies<P>,
+pub struct Lists<Request, Reply> {
+    pub requests: Requests<Request>,
+    pub replies: Replies<Reply>,
     pub room: Room,
 }
 
-impl<Q: Drop, P: Drop> Lists<Q, P> {
-    fn new(alloc: Global, clients: u32) -> Result<Lists<Q, P>, AllocError>
+impl<Request: Drop, Reply: Drop> Lists<Request, Reply> {
+    fn new(alloc: Global, clients: u32) -> Result<Lists<Request, Reply>, AllocError>
         ensures { IfOk result (λ lists. AreReady clients lists) }
     {
         let requests = Requests {
@@ -52,10 +52,14 @@ impl<Q: Drop, P: Drop> Lists<Q, P> {
     }
 
     // One of each kind for each client.
-    pub(crate) fn for_all(alloc: Global, clients: u32) -> Result<Vec<Lists<Q, P>>, AllocError>
+    pub(crate) fn for_all(
+        alloc: Global,
+        clients: u32,
+    ) -> Result<Vec<Lists<Request, Reply>>, AllocError>
         ensures { IfOk result (λ all. (vec_len all ≡ clients) × AllReady clients all.items) }
     {
         let mut all = Vec::with_capacity(alloc, clients as usize)?;
+        // The lists of `made` clients are there, each with room for all.
         for made in 0..clients {
             all.push_reserved(Lists::new(alloc, clients)?);
         }

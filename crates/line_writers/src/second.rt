@@ -1,4 +1,4 @@
-// What a writer of a list with a second one is asked to do, and how it waits for it.
+//! What a writer of a list with a second one is asked to do, and how it waits for it.
 ghost use Rattle.std.specs.Prelude.{◌≡◌, ◌⊎◌, ℕ, true, List};
 ghost use Rattle.line_rule.specs.declared.view.Debt.{Debt};
 ghost use Rattle.line_rule.specs.declared.view.Handling.{Handling};
@@ -8,45 +8,52 @@ ghost use Rattle.line_writers.specs.Second.{IsSent, GetsRight, HasPipelinedRole}
 
 use crate::line_writers::WriterList;
 use crate::writer::{Task, Writer};
-use line_rule::{Given, Itemized, Ledger, ReadNewest};
+use line_rule::{GivesRun, HasGroupingItem, LogOfGroups, ReadNewest};
 use std::marker::Brand;
 use std::sync::Wait;
 
 /// What a writer of a list with a second one is asked to do.
-pub enum PipelinedRole<L, M, P> {
+pub enum PipelinedRole<Log, Right, Reply> {
     /// To lead a group, with the log.
-    LogLeader(L),
+    LogLeader(Log),
     /// To serve its group, which is the first of the second list, with the right.
-    MemLeader(M),
+    MemLeader(Right),
     /// To work beside its leader.
     Parallel,
     /// Nothing more: this is its reply.
-    Done(P),
+    Done(Reply),
 }
 
-impl<Q: Itemized, P: Given, L: Ledger<Q, P, M>, M> WriterList<Q, P, L, M> {
+impl<
+    Request: HasGroupingItem,
+    Reply: GivesRun,
+    Log: LogOfGroups<Request, Reply, Right>,
+    Right,
+> WriterList<Request, Reply, Log, Right> {
     /// Waits until the writer leads, or is told to work beside its leader, or its request is done, or its group, which
     /// is in the second list, is the first there. A writer is told once to work beside its leader, and only its reply
     /// comes then.
     pub fn await_pipelined_role<R: Wait>(
         &self,
         rt: &R,
-        writer: &mut Writer<Q, P, L, M>,
-    ) -> PipelinedRole<L, M, P>
+        writer: &mut Writer<Request, Reply, Log, Right>,
+    ) -> PipelinedRole<Log, Right, Reply>
         requires { Belongs self.now writer.old
-            × (((q : Q) × IsIn (law_of L.stands L.kept L.number_of P.run_of self.now) q (told writer.old) writer.old)
-            ⊎ ((piped_of self.now ≡ true) × ((d : Debt Q P) × (from to : List (Handling Q P)) × (mine : List (Q × P))
-            × IsSent (L.serves (about_of self.now)) (clients_of self.now) d from to mine writer.old))) }
+            × (((q : Request) × IsIn (law_of Reply.run_of Log.LogOfGroups self.now) q (told writer.old) writer.old)
+            ⊎ ((piped_of self.now ≡ true) × ((d : Debt Request Reply) × (from to : List (Handling Request Reply)) ×
+            (mine : List (Request × Reply))
+            × IsSent (Log.serves (about_of self.now)) (clients_of self.now) d from to mine writer.old))) }
         ensures client { (client_of writer.new ≡ client_of writer.old) × Belongs self.now writer.new }
-        ensures role { (q : Q)
-            → IsIn (law_of L.stands L.kept L.number_of P.run_of self.now) q (told writer.old) writer.old
-            → HasPipelinedRole (law_of L.stands L.kept L.number_of P.run_of self.now) (kept_of L.kept self.now)
+        ensures role { (q : Request)
+            → IsIn (law_of Reply.run_of Log.LogOfGroups self.now) q (told writer.old) writer.old
+            → HasPipelinedRole (law_of Reply.run_of Log.LogOfGroups self.now) (kept_of Log.kept self.now)
             q (told writer.old) result writer.new }
         ensures parallel { result ≡ Parallel → AwaitsRole writer.old × IsHelping writer.new }
-        ensures helping { IsHelping writer.old → (p : P) × (result ≡ Done p) }
-        ensures right { (d : Debt Q P) (from to : List (Handling Q P)) (mine : List (Q × P))
-            → IsSent (L.serves (about_of self.now)) (clients_of self.now) d from to mine writer.old
-            → GetsRight (L.serves (about_of self.now)) (clients_of self.now) d from to mine result writer.new }
+        ensures helping { IsHelping writer.old → (p : Reply) × (result ≡ Done p) }
+        ensures right { (d : Debt Request Reply) (from to : List (Handling Request Reply))
+            (mine : List (Request × Reply))
+            → IsSent (Log.serves (about_of self.now)) (clients_of self.now) d from to mine writer.old
+            → GetsRight (Log.serves (about_of self.now)) (clients_of self.now) d from to mine result writer.new }
     {
         match writer.task {
             Task::Awaits => self.await_from::<Brand, R>(rt, writer),
@@ -58,7 +65,7 @@ impl<Q: Itemized, P: Given, L: Ledger<Q, P, M>, M> WriterList<Q, P, L, M> {
     }
 
     /// Whether a group stands in the second list at a moment of this call.
-    pub fn has_groups(&self, writer: &mut Writer<Q, P, L, M>) -> bool
+    pub fn has_groups(&self, writer: &mut Writer<Request, Reply, Log, Right>) -> bool
         requires { Belongs self.now writer.old }
         ensures { StandsStill writer.new writer.old }
     {

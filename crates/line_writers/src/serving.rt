@@ -1,15 +1,15 @@
-// How the leader of a group of the second list gets the right, has its members beside it, and leaves.
+//! How the leader of a group of the second list gets the right, has its members beside it, and leaves.
 ghost use Rattle.std.specs.Prelude.{◌≡◌, ◌≢◌, ℕ, ◌+◌, ◌^◌, ◌<◌, ◌≤◌, List, [], ◌∷◌, ◌++◌, true, vec_len, vec_capacity, length, Some};
-ghost use Rattle.line_rule.specs.declared.content.Content.{Content};
-ghost use Rattle.line_rule.specs.declared.content.Content.TheVariants.{Empty, Right};
+ghost use Rattle.line_rule.specs.declared.content.LineSlot.{LineSlot};
+ghost use Rattle.line_rule.specs.declared.content.LineSlot.TheVariants.{Empty, TheRight};
 ghost use Rattle.line_rule.specs.declared.view.Back.{Back};
 ghost use Rattle.line_rule.specs.declared.view.Back.TheVariants.{Queued, Serving, Passing};
 ghost use Rattle.line_rule.specs.declared.view.Debt.{Debt};
-ghost use Rattle.line_rule.specs.declared.view.Entry.{Entry};
+ghost use Rattle.line_rule.specs.declared.view.QueuedWriter.{QueuedWriter};
 ghost use Rattle.line_rule.specs.declared.view.Handling.{Handling};
 ghost use Rattle.line_rule.specs.declared.view.Squad.{Squad};
-ghost use Rattle.line_rule.specs.declared.view.Stage.{Stage};
-ghost use Rattle.line_rule.specs.declared.view.Stage.TheVariants.{Settling};
+ghost use Rattle.line_rule.specs.declared.view.LineStage.{LineStage};
+ghost use Rattle.line_rule.specs.declared.view.LineStage.TheVariants.{Settling};
 ghost use Rattle.line_rule.specs.Chain.{newest, pairs};
 ghost use Rattle.line_rule.specs.Standing.{line_of};
 ghost use Rattle.line_rule.specs.Plays.{At, AtWith, debt, WalksSecond};
@@ -23,19 +23,27 @@ use crate::room::Room;
 use crate::writer::Writer;
 use crossbeam_utils::Backoff;
 use line_rule::{
-    CallNext, ClearSecond, Content, Given, Itemized, LeaveSecond, Ledger, MakeParallel,
-    PickedAbout, ReadOlderSecond, Summon,
+    CallNext, ClearSecond, GivesRun, HasGroupingItem, LeaveSecond, LineSlot, LogOfGroups,
+    MakeParallel, Older, PickedAbout, ReadOlderSecond, STATE_LEADS_TABLE, STATE_PARALLEL, Summon,
+    older_word, state_word,
 };
 use std::sync::Wait;
 
-impl<Q: Itemized, P: Given, L: Ledger<Q, P, M>, M> WriterList<Q, P, L, M> {
+impl<
+    Request: HasGroupingItem,
+    Reply: GivesRun,
+    Log: LogOfGroups<Request, Reply, Right>,
+    Right,
+> WriterList<Request, Reply, Log, Right> {
     /// Tells these members of the group to work beside the leader, which has the right.
-    pub fn launch_roles(&self, writer: &mut Writer<Q, P, L, M>, members: &[u32])
-        requires leads { Belongs self.now writer.old × ((d : Debt Q P) × (from to : List (Handling Q P))
-            × (mine : List (Q × P)) × HasRight (clients_of self.now) d from to mine writer.old
+    pub fn launch_roles(&self, writer: &mut Writer<Request, Reply, Log, Right>, members: &[u32])
+        requires leads { Belongs self.now writer.old
+            × ((d : Debt Request Reply) × (from to : List (Handling Request Reply))
+            × (mine : List (Request × Reply)) × HasRight (clients_of self.now) d from to mine writer.old
             × AreMembers (clients_of self.now) members.now d.rest) }
         ensures client { (client_of writer.new ≡ client_of writer.old) × Belongs self.now writer.new }
-        ensures leads { (d : Debt Q P) (from to : List (Handling Q P)) (mine : List (Q × P))
+        ensures leads { (d : Debt Request Reply) (from to : List (Handling Request Reply))
+            (mine : List (Request × Reply))
             → HasRight (clients_of self.now) d from to mine writer.old
             → HasRight (clients_of self.now) d from to mine writer.new }
     {
@@ -47,16 +55,22 @@ impl<Q: Itemized, P: Given, L: Ledger<Q, P, M>, M> WriterList<Q, P, L, M> {
 
     /// Ends a group of the second list. The right, which stands for what was given runs with the group, goes back, or
     /// on to the leader of the next group, and then each member is told its reply. The leader's own is answered.
-    pub fn exit_memtable(&self, writer: &mut Writer<Q, P, L, M>, right: M, room: &mut Room) -> P
+    pub fn exit_memtable(
+        &self,
+        writer: &mut Writer<Request, Reply, Log, Right>,
+        right: Right,
+        room: &mut Room,
+    ) -> Reply
         requires piped { piped_of self.now ≡ true }
-        requires serves { Belongs self.now writer.old × ((d : Debt Q P) × (from to : List (Handling Q P))
-            × (mine : List (Q × P)) × HasRight (clients_of self.now) d from to mine writer.old
-            × L.serves (about_of self.now) right to
+        requires serves { Belongs self.now writer.old
+            × ((d : Debt Request Reply) × (from to : List (Handling Request Reply))
+            × (mine : List (Request × Reply)) × HasRight (clients_of self.now) d from to mine writer.old
+            × Log.serves (about_of self.now) right to
             × ListsMembers (clients_of self.now) d room.old) }
         ensures room { HasRoom (clients_of self.now) room.new }
         ensures client { (client_of writer.new ≡ client_of writer.old) × Belongs self.now writer.new }
         ensures out { IsOut writer.new
-            × ((d : Debt Q P) (from to : List (Handling Q P)) (mine : List (Q × P))
+            × ((d : Debt Request Reply) (from to : List (Handling Request Reply)) (mine : List (Request × Reply))
             → HasRight (clients_of self.now) d from to mine writer.old
             → (told writer.new ≡ mine ++ (d.own.asked, d.reply) ∷ []) × (result ≡ d.reply)) }
     {
@@ -73,47 +87,51 @@ impl<Q: Itemized, P: Given, L: Ledger<Q, P, M>, M> WriterList<Q, P, L, M> {
     }
 
     // Tells a member to work beside its leader.
-    fn make_parallel(&self, writer: &mut Writer<Q, P, L, M>, member: u32)
+    fn make_parallel(&self, writer: &mut Writer<Request, Reply, Log, Right>, member: u32)
         requires seat { (writer.old.seat.table_id ≡ self.now.table.shared.table_id) × (0 < member)
             × (member ≤ self.now.clients) }
-        requires member { (pre : List (Entry Q × P)) × (post : List (Entry Q × P)) × (y : Entry Q × P)
-            × (own : Entry Q) × (p : P) × (mine : List (Q × P)) × (g : Squad Q P) × (walk : List (Entry Q))
+        requires member { (pre : List (QueuedWriter Request × Reply)) × (post : List (QueuedWriter Request × Reply))
+            × (y : QueuedWriter Request × Reply)
+            × (own : QueuedWriter Request) × (p : Reply) × (mine : List (Request × Reply)) × (g : Squad Request Reply)
+            × (walk : List (QueuedWriter Request))
             × AtWith writer.old.client (Settling (debt (pre ++ y ∷ post) own p)) mine (Serving g walk)
             writer.old.seat.me × (y.0.by ≡ member) }
         ensures seat { Stays writer.new writer.old }
         ensures same { writer.new.seat.me ≡ writer.old.seat.me }
     {
-        self.table
-            .shared
-            .store::<MakeParallel>(&mut writer.seat, 2 * member as usize + 2, 8);
+        self.table.shared.store::<MakeParallel>(
+            &mut writer.seat,
+            state_word(member as u64),
+            STATE_PARALLEL,
+        );
         self.bells.ring(member as u64);
     }
 
     // Waits until the group is the first of the second list, and takes the right.
-    pub(crate) fn await_right<B: PickedAbout<L::About>, R: Wait>(
+    pub(crate) fn await_right<B: PickedAbout<Log::About>, R: Wait>(
         &self,
         rt: &R,
-        writer: &mut Writer<Q, P, L, M>,
-    ) -> M
+        writer: &mut Writer<Request, Reply, Log, Right>,
+    ) -> Right
         requires piped { piped_of self.now ≡ true }
         requires about { B.about ≡ Some (about_of self.now) }
         requires seat { (writer.old.seat.table_id ≡ self.now.table.shared.table_id) × (0 < writer.old.client)
             × (writer.old.client ≤ self.now.clients) }
-        requires queued { (d : Debt Q P) × (mine : List (Q × P)) × (g : Squad Q P)
+        requires queued { (d : Debt Request Reply) × (mine : List (Request × Reply)) × (g : Squad Request Reply)
             × AtWith writer.old.client (Settling d) mine (Queued g) writer.old.seat.me }
         ensures seat { Stays writer.new writer.old }
-        ensures right { (d : Debt Q P) (mine : List (Q × P)) (g : Squad Q P)
+        ensures right { (d : Debt Request Reply) (mine : List (Request × Reply)) (g : Squad Request Reply)
             → AtWith writer.old.client (Settling d) mine (Queued g) writer.old.seat.me
             → AtWith writer.old.client (Settling d) mine (Serving g []) writer.new.seat.me
             × (writer.new.seat.me.1 ≡ (self.now.clients + 1, Empty) ∷ writer.old.seat.me.1)
-            × L.serves (about_of self.now) result g.from }
+            × Log.serves (about_of self.now) result g.from }
     {
         let c = writer.client;
         let backoff = Backoff::new();
-        // Until a look shows 4 the group waits behind others.
+        // Until a look shows `STATE_LEADS_TABLE` the group waits after others.
         for _ in rt.forever() {
             let state = self.summon::<B>(writer);
-            if state == 4 {
+            if state == STATE_LEADS_TABLE {
                 return self.take_right(writer);
             }
             self.bells.pause(rt, &backoff, c as u64);
@@ -121,65 +139,71 @@ impl<Q: Itemized, P: Given, L: Ledger<Q, P, M>, M> WriterList<Q, P, L, M> {
         unreachable!()
     }
 
-    // Looks whether the group is the first of the second list: at 4 its leader has the right.
-    fn summon<B: PickedAbout<L::About>>(&self, writer: &mut Writer<Q, P, L, M>) -> u64
+    // Looks whether the group is the first of the second list: at `STATE_LEADS_TABLE` its leader has the right.
+    fn summon<B: PickedAbout<Log::About>>(
+        &self,
+        writer: &mut Writer<Request, Reply, Log, Right>,
+    ) -> u64
         requires piped { piped_of self.now ≡ true }
         requires about { B.about ≡ Some (about_of self.now) }
         requires seat { (writer.old.seat.table_id ≡ self.now.table.shared.table_id) × (0 < writer.old.client)
             × (writer.old.client ≤ self.now.clients) }
-        requires queued { (d : Debt Q P) × (mine : List (Q × P)) × (g : Squad Q P)
+        requires queued { (d : Debt Request Reply) × (mine : List (Request × Reply)) × (g : Squad Request Reply)
             × AtWith writer.old.client (Settling d) mine (Queued g) writer.old.seat.me }
         ensures seat { Stays writer.new writer.old }
-        ensures role { (d : Debt Q P) (mine : List (Q × P)) (g : Squad Q P)
-            → AtWith writer.old.client (Settling d) mine (Queued g) writer.old.seat.me → (result ≡ 4 → (right : M)
-            × L.serves (about_of self.now) right g.from
+        ensures role { (d : Debt Request Reply) (mine : List (Request × Reply)) (g : Squad Request Reply)
+            → AtWith writer.old.client (Settling d) mine (Queued g) writer.old.seat.me
+            → (result ≡ STATE_LEADS_TABLE → (right : Right)
+            × Log.serves (about_of self.now) right g.from
             × AtWith writer.old.client (Settling d) mine (Serving g []) writer.new.seat.me
-            × (writer.new.seat.me.1 ≡ (self.now.clients + 1, Right right) ∷ writer.old.seat.me.1)) × (result ≢ 4
+            × (writer.new.seat.me.1 ≡ (self.now.clients + 1, TheRight right) ∷ writer.old.seat.me.1))
+            × (result ≢ STATE_LEADS_TABLE
             → writer.new.seat.me ≡ writer.old.seat.me) }
     {
         let c = writer.client;
         self.table
             .shared
-            .load::<Summon<B>>(&mut writer.seat, 2 * c as usize + 2)
+            .load::<Summon<B>>(&mut writer.seat, state_word(c as u64))
     }
 
     // Takes the right out of its slot.
-    pub(crate) fn take_right(&self, writer: &mut Writer<Q, P, L, M>) -> M
+    pub(crate) fn take_right(&self, writer: &mut Writer<Request, Reply, Log, Right>) -> Right
         requires seat { writer.old.seat.table_id ≡ self.now.table.shared.table_id }
-        requires held { (r : M) × (t : List (ℕ × Content Q P L M))
-            × (writer.old.seat.me.1 ≡ (self.now.clients + 1, Right r) ∷ t) }
+        requires held { (r : Right) × (t : List (ℕ × LineSlot Request Reply Log Right))
+            × (writer.old.seat.me.1 ≡ (self.now.clients + 1, TheRight r) ∷ t) }
         ensures seat { (writer.new.seat.table_id ≡ writer.old.seat.table_id)
             × (writer.new.client ≡ writer.old.client) × (writer.new.seat.me.0 ≡ writer.old.seat.me.0) }
-        ensures taken { (r : M) (t : List (ℕ × Content Q P L M))
-            → writer.old.seat.me.1 ≡ (self.now.clients + 1, Right r) ∷ t
+        ensures taken { (r : Right) (t : List (ℕ × LineSlot Request Reply Log Right))
+            → writer.old.seat.me.1 ≡ (self.now.clients + 1, TheRight r) ∷ t
             → (writer.new.seat.me.1 ≡ (self.now.clients + 1, Empty) ∷ t) × (result ≡ r) }
     {
         match self.table.shared.exchange(
             &mut writer.seat,
             self.clients as usize + 1,
-            Content::Empty,
+            LineSlot::Empty,
         ) {
-            Content::Right(right) => right,
+            LineSlot::TheRight(right) => right,
             _ => unreachable!(),
         }
     }
 
     // Puts the right into its slot.
-    fn put_right(&self, writer: &mut Writer<Q, P, L, M>, right: M)
+    fn put_right(&self, writer: &mut Writer<Request, Reply, Log, Right>, right: Right)
         requires seat { writer.old.seat.table_id ≡ self.now.table.shared.table_id }
-        requires held { (t : List (ℕ × Content Q P L M))
+        requires held { (t : List (ℕ × LineSlot Request Reply Log Right))
             × (writer.old.seat.me.1 ≡ (self.now.clients + 1, Empty) ∷ t) }
         ensures seat { (writer.new.seat.table_id ≡ writer.old.seat.table_id)
             × (writer.new.client ≡ writer.old.client) × (writer.new.seat.me.0 ≡ writer.old.seat.me.0) }
-        ensures put { (t : List (ℕ × Content Q P L M)) → writer.old.seat.me.1 ≡ (self.now.clients + 1, Empty) ∷ t
-            → writer.new.seat.me.1 ≡ (self.now.clients + 1, Right right) ∷ t }
+        ensures put { (t : List (ℕ × LineSlot Request Reply Log Right))
+            → writer.old.seat.me.1 ≡ (self.now.clients + 1, Empty) ∷ t
+            → writer.new.seat.me.1 ≡ (self.now.clients + 1, TheRight right) ∷ t }
     {
         match self.table.shared.exchange(
             &mut writer.seat,
             self.clients as usize + 1,
-            Content::Right(right),
+            LineSlot::TheRight(right),
         ) {
-            Content::Empty => {}
+            LineSlot::Empty => {}
             _ => unreachable!(),
         }
     }
@@ -187,7 +211,7 @@ impl<Q: Itemized, P: Given, L: Ledger<Q, P, M>, M> WriterList<Q, P, L, M> {
     // Gives the right back, or to the leader of the next group; the leader's own has `count` members.
     fn pass_on(
         &self,
-        writer: &mut Writer<Q, P, L, M>,
+        writer: &mut Writer<Request, Reply, Log, Right>,
         newest_member: u64,
         count: usize,
         walk: &mut Vec<(u64, u64)>,
@@ -195,19 +219,21 @@ impl<Q: Itemized, P: Given, L: Ledger<Q, P, M>, M> WriterList<Q, P, L, M> {
         requires piped { piped_of self.now ≡ true }
         requires seat { (writer.old.seat.table_id ≡ self.now.table.shared.table_id) × (vec_len walk.old ≡ 0)
             × (walk.old.items ≡ []) × (self.now.clients ≤ vec_capacity walk.old) }
-        requires ready { (d : Debt Q P) × (mine : List (Q × P)) × (g : Squad Q P) × (line : List (Entry Q))
-            × (right : M) × (t : List (ℕ × Content Q P L M))
+        requires ready { (d : Debt Request Reply) × (mine : List (Request × Reply)) × (g : Squad Request Reply)
+            × (line : List (QueuedWriter Request))
+            × (right : Right) × (t : List (ℕ × LineSlot Request Reply Log Right))
             × AtWith writer.old.client (Settling d) mine (Serving g line) writer.old.seat.me
-            × (writer.old.seat.me.1 ≡ (self.now.clients + 1, Right right) ∷ t)
-            × (newest_member ≡ newest (line_of g)) × L.serves (about_of self.now) right g.to
+            × (writer.old.seat.me.1 ≡ (self.now.clients + 1, TheRight right) ∷ t)
+            × (newest_member ≡ newest (line_of g)) × Log.serves (about_of self.now) right g.to
             × (count ≡ length (line_of g)) }
         ensures seat { (writer.new.seat.table_id ≡ writer.old.seat.table_id)
             × (writer.new.client ≡ writer.old.client) × (walk.new.items ≡ []) × (vec_len walk.new ≡ 0)
             × (vec_capacity walk.new ≡ vec_capacity walk.old) }
-        ensures passed { (d : Debt Q P) (mine : List (Q
-            × P)) (g : Squad Q P) (line : List (Entry Q)) (right : M) (t : List (ℕ × Content Q P L M))
+        ensures passed { (d : Debt Request Reply) (mine : List (Request × Reply)) (g : Squad Request Reply)
+            (line : List (QueuedWriter Request)) (right : Right) (t : List (ℕ
+            × LineSlot Request Reply Log Right))
             → AtWith writer.old.client (Settling d) mine (Serving g line) writer.old.seat.me
-            → writer.old.seat.me.1 ≡ (self.now.clients + 1, Right right) ∷ t
+            → writer.old.seat.me.1 ≡ (self.now.clients + 1, TheRight right) ∷ t
             → At writer.old.client (Settling d) mine writer.new.seat.me × (writer.new.seat.me.1 ≡ t) }
     {
         let found = self.leave_second(writer, newest_member);
@@ -223,17 +249,23 @@ impl<Q: Itemized, P: Given, L: Ledger<Q, P, M>, M> WriterList<Q, P, L, M> {
 
     // Gives the right back where no group came after the leader's own, whose newest member is `newest_member`; answers
     // the newest writer of the second list.
-    fn leave_second(&self, writer: &mut Writer<Q, P, L, M>, newest_member: u64) -> u64
+    fn leave_second(
+        &self,
+        writer: &mut Writer<Request, Reply, Log, Right>,
+        newest_member: u64,
+    ) -> u64
         requires piped { piped_of self.now ≡ true }
         requires seat { writer.old.seat.table_id ≡ self.now.table.shared.table_id }
-        requires serves { (d : Debt Q P) × (mine : List (Q × P)) × (g : Squad Q P) × (walk : List (Entry Q))
-            × (right : M) × (t : List (ℕ × Content Q P L M))
+        requires serves { (d : Debt Request Reply) × (mine : List (Request × Reply)) × (g : Squad Request Reply)
+            × (walk : List (QueuedWriter Request))
+            × (right : Right) × (t : List (ℕ × LineSlot Request Reply Log Right))
             × AtWith writer.old.client (Settling d) mine (Serving g walk) writer.old.seat.me
-            × (writer.old.seat.me.1 ≡ (self.now.clients + 1, Right right) ∷ t)
-            × (newest_member ≡ newest (line_of g)) × L.serves (about_of self.now) right g.to }
+            × (writer.old.seat.me.1 ≡ (self.now.clients + 1, TheRight right) ∷ t)
+            × (newest_member ≡ newest (line_of g)) × Log.serves (about_of self.now) right g.to }
         ensures seat { Stays writer.new writer.old }
-        ensures left { (d : Debt Q P) (mine : List (Q × P)) (g : Squad Q P) (walk : List (Entry Q)) (y : ℕ
-            × Content Q P L M) (t : List (ℕ × Content Q P L M))
+        ensures left { (d : Debt Request Reply) (mine : List (Request × Reply)) (g : Squad Request Reply)
+            (walk : List (QueuedWriter Request)) (y : ℕ
+            × LineSlot Request Reply Log Right) (t : List (ℕ × LineSlot Request Reply Log Right))
             → AtWith writer.old.client (Settling d) mine (Serving g walk) writer.old.seat.me
             → writer.old.seat.me.1 ≡ y ∷ t → (result ≡ newest_member
             → At writer.old.client (Settling d) mine writer.new.seat.me × (writer.new.seat.me.1 ≡ t))
@@ -247,7 +279,12 @@ impl<Q: Itemized, P: Given, L: Ledger<Q, P, M>, M> WriterList<Q, P, L, M> {
     }
 
     // Walks the second list, from this newest writer on: each writer's client and code.
-    fn survey_second(&self, writer: &mut Writer<Q, P, L, M>, first: u64, walk: &mut Vec<(u64, u64)>)
+    fn survey_second(
+        &self,
+        writer: &mut Writer<Request, Reply, Log, Right>,
+        first: u64,
+        walk: &mut Vec<(u64, u64)>,
+    )
         requires seat { (writer.old.seat.table_id ≡ self.now.table.shared.table_id) × (vec_len walk.old ≡ 0)
             × (walk.old.items ≡ []) × (self.now.clients ≤ vec_capacity walk.old) }
         requires read { HasTrace (SeesSecond writer.old.client) self.now.table.shared.table_id.slots first
@@ -255,7 +292,7 @@ impl<Q: Itemized, P: Given, L: Ledger<Q, P, M>, M> WriterList<Q, P, L, M> {
         ensures seat { (writer.new.seat.table_id ≡ writer.old.seat.table_id)
             × (writer.new.client ≡ writer.old.client) × (writer.new.seat.me ≡ writer.old.seat.me)
             × (vec_capacity walk.new ≡ vec_capacity walk.old) }
-        ensures walk { (line : List (Entry Q)) → SeesSecond writer.old.client writer.old.seat.me line
+        ensures walk { (line : List (QueuedWriter Request)) → SeesSecond writer.old.client writer.old.seat.me line
             → walk.new.items ≡ pairs line }
         ensures codes { CodesFit walk.new.items }
     {
@@ -263,9 +300,10 @@ impl<Q: Itemized, P: Given, L: Ledger<Q, P, M>, M> WriterList<Q, P, L, M> {
         let mut at = first;
         // The walk has the writers of the second list from the newest one on, and `at` is the next older one.
         for step in 0..self.clients {
-            let word = shared.load::<ReadOlderSecond>(&mut writer.seat, 2 * at as usize + 3);
-            walk.push_reserved((at, word / 256));
-            at = word % 256;
+            let word = shared.load::<ReadOlderSecond>(&mut writer.seat, older_word(at));
+            let older = Older::of(word);
+            walk.push_reserved((at, older.code));
+            at = older.client;
             if at == 0 {
                 return;
             }
@@ -274,44 +312,50 @@ impl<Q: Itemized, P: Given, L: Ledger<Q, P, M>, M> WriterList<Q, P, L, M> {
     }
 
     // Clears the link of the next group's leader in the second list.
-    fn clear_second(&self, writer: &mut Writer<Q, P, L, M>, next: u64, code: u64)
+    fn clear_second(&self, writer: &mut Writer<Request, Reply, Log, Right>, next: u64, code: u64)
         requires piped { piped_of self.now ≡ true }
         requires seat { (writer.old.seat.table_id ≡ self.now.table.shared.table_id) × (0 < next)
             × (next ≤ self.now.clients) × (code < 2 ^ 56) }
-        requires next { (d : Debt Q P) × (mine : List (Q × P)) × (g : Squad Q P) × (walk : List (Entry Q))
-            × (pre : List (Entry Q)) × (x : Entry Q)
+        requires next { (d : Debt Request Reply) × (mine : List (Request × Reply)) × (g : Squad Request Reply)
+            × (walk : List (QueuedWriter Request))
+            × (pre : List (QueuedWriter Request)) × (x : QueuedWriter Request)
             × AtWith writer.old.client (Settling d) mine (Serving g walk) writer.old.seat.me
             × (walk ≡ pre ++ x ∷ line_of g) × (x.by ≡ next) × (x.code ≡ code) }
         ensures seat { Stays writer.new writer.old }
-        ensures cleared { (d : Debt Q P) (mine : List (Q
-            × P)) (g : Squad Q P) (walk : List (Entry Q)) (pre : List (Entry Q)) (x : Entry Q)
+        ensures cleared { (d : Debt Request Reply) (mine : List (Request × Reply)) (g : Squad Request Reply)
+            (walk : List (QueuedWriter Request)) (pre : List (QueuedWriter Request))
+            (x : QueuedWriter Request)
             → AtWith writer.old.client (Settling d) mine (Serving g walk) writer.old.seat.me
             → walk ≡ pre ++ x ∷ line_of g → x.by ≡ next
             → AtWith writer.old.client (Settling d) mine (Passing g x) writer.new.seat.me
             × (writer.new.seat.me.1 ≡ writer.old.seat.me.1) }
     {
+        let cleared = Older { client: 0, code };
         self.table
             .shared
-            .store::<ClearSecond>(&mut writer.seat, 2 * next as usize + 3, 256 * code);
+            .store::<ClearSecond>(&mut writer.seat, older_word(next), cleared.pack());
     }
 
     // Gives the right to the next group's leader.
-    fn call_next(&self, writer: &mut Writer<Q, P, L, M>, next: u64)
+    fn call_next(&self, writer: &mut Writer<Request, Reply, Log, Right>, next: u64)
         requires seat { (writer.old.seat.table_id ≡ self.now.table.shared.table_id) × (0 < next)
             × (next ≤ self.now.clients) }
-        requires passes { (st : Stage Q P) × (mine : List (Q × P)) × (g : Squad Q P) × (x : Entry Q) × (right : M)
-            × (t : List (ℕ × Content Q P L M)) × AtWith writer.old.client st mine (Passing g x) writer.old.seat.me
-            × (writer.old.seat.me.1 ≡ (self.now.clients + 1, Right right) ∷ t) × (x.by ≡ next)
-            × L.serves (about_of self.now) right g.to }
+        requires passes { (st : LineStage Request Reply) × (mine : List (Request × Reply)) × (g : Squad Request Reply)
+            × (x : QueuedWriter Request) × (right : Right)
+            × (t : List (ℕ × LineSlot Request Reply Log Right))
+            × AtWith writer.old.client st mine (Passing g x) writer.old.seat.me
+            × (writer.old.seat.me.1 ≡ (self.now.clients + 1, TheRight right) ∷ t) × (x.by ≡ next)
+            × Log.serves (about_of self.now) right g.to }
         ensures seat { Stays writer.new writer.old }
-        ensures called { (st : Stage Q P) (mine : List (Q × P)) (g : Squad Q P) (x : Entry Q) (y : ℕ
-            × Content Q P L M) (t : List (ℕ × Content Q P L M))
+        ensures called { (st : LineStage Request Reply) (mine : List (Request × Reply)) (g : Squad Request Reply)
+            (x : QueuedWriter Request) (y : ℕ
+            × LineSlot Request Reply Log Right) (t : List (ℕ × LineSlot Request Reply Log Right))
             → AtWith writer.old.client st mine (Passing g x) writer.old.seat.me → writer.old.seat.me.1 ≡ y ∷ t
             → At writer.old.client st mine writer.new.seat.me × (writer.new.seat.me.1 ≡ t) }
     {
         self.table
             .shared
-            .store::<CallNext>(&mut writer.seat, 2 * next as usize + 2, 4);
+            .store::<CallNext>(&mut writer.seat, state_word(next), STATE_LEADS_TABLE);
         self.bells.ring(next);
     }
 }

@@ -1,34 +1,36 @@
-// What is taken out of slots whose contents are known.
+//! What is taken out of slots whose contents are known.
 ghost use Rattle.std.specs.Prelude.{◌≡◌};
-ghost use Rattle.line_rule.specs.declared.content.Content.TheVariants.{Empty, Log, Right};
+ghost use Rattle.line_rule.specs.declared.content.LineSlot.TheVariants.{Empty, TheLog, TheRight};
 
-use line_rule::Content;
+use line_rule::LineSlot;
 
-pub(crate) fn log_of<Q, P, L, M>(slot: Content<Q, P, L, M>) -> L
-    requires { (l : L) × (slot ≡ Log l) }
-    ensures { slot ≡ Log result }
+pub(crate) fn log_of<Request, Reply, Log, Right>(slot: LineSlot<Request, Reply, Log, Right>) -> Log
+    requires { (l : Log) × (slot ≡ TheLog l) }
+    ensures { slot ≡ TheLog result }
 {
     match slot {
-        Content::Log(log) => log,
+        LineSlot::TheLog(log) => log,
         _ => unreachable!(),
     }
 }
 
-pub(crate) fn right_of<Q, P, L, M>(slot: Content<Q, P, L, M>) -> M
-    requires { (r : M) × (slot ≡ Right r) }
-    ensures { slot ≡ Right result }
+pub(crate) fn right_of<Request, Reply, Log, Right>(
+    slot: LineSlot<Request, Reply, Log, Right>,
+) -> Right
+    requires { (r : Right) × (slot ≡ TheRight r) }
+    ensures { slot ≡ TheRight result }
 {
     match slot {
-        Content::Right(right) => right,
+        LineSlot::TheRight(right) => right,
         _ => unreachable!(),
     }
 }
 
-pub(crate) fn nothing_of<Q, P, L, M>(slot: Content<Q, P, L, M>)
+pub(crate) fn nothing_of<Request, Reply, Log, Right>(slot: LineSlot<Request, Reply, Log, Right>)
     requires { slot ≡ Empty }
 {
     match slot {
-        Content::Empty => {}
+        LineSlot::Empty => {}
         _ => unreachable!(),
     }
 }

@@ -1,8 +1,8 @@
-// A client's seat, and what it is asked to do.
+//! A client's seat, and what it is asked to do.
 ghost use Rattle.std.specs.Prelude.{◌≡◌};
 
 use atomic_table::Seat;
-use line_rule::{Content, View};
+use line_rule::{LineSlot, LineView};
 
 /// What a writer is to do when it waits for its role the next time: to wait, to lead with the log that it has taken, to
 /// wait for its reply alone, to wait for the right, or to serve with the right that it has taken.
@@ -17,16 +17,16 @@ pub(crate) enum Task {
 
 /// A client's seat at the list.
 #[derive(Drop)]
-pub struct Writer<Q, P, L, M> {
+pub struct Writer<Request, Reply, Log, Right> {
     pub(crate) client: u32,
     pub(crate) task: Task,
-    pub(crate) seat: Seat<Content<Q, P, L, M>, View<Q, P>>,
+    pub(crate) seat: Seat<LineSlot<Request, Reply, Log, Right>, LineView<Request, Reply>>,
 }
 
 /// What a writer is asked to do.
-pub enum Role<L, P> {
+pub enum Role<Log, Reply> {
     /// To lead a group, with the log.
-    LogLeader(L),
+    LogLeader(Log),
     /// Nothing more: this is its reply.
-    Done(P),
+    Done(Reply),
 }

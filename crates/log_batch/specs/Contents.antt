@@ -1,5 +1,6 @@
 -- What a batch holds, and the bytes that it is.
 use Rattle.std.specs.Prelude.{◌≡◌, ◌≤◌, ℕ, List, [], ◌∷◌, ◌++◌, length}
+use Rattle.model_base.specs.declared.limits.TheConstants.{MAX_SIZE}
 use Rattle.model_base.specs.Batch.{Record, count_of, header, body, size_of_batch}
 
 -- its sequence, and the additions in order
@@ -12,12 +13,12 @@ abbrev pub empty : Contents
 empty = record { sequence = 0; records = [] }
 
 -- with one addition more, behind the others
-abbrev pub added : Contents → Record → Contents
-added contents addition = record contents { records = contents.records ++ addition ∷ [] }
+abbrev pub with_addition : Contents → Record → Contents
+with_addition contents addition = record contents { records = contents.records ++ addition ∷ [] }
 
 -- how many bytes the batch has with it
 abbrev pub size_with : Contents → Record → ℕ
-size_with contents addition = size_of_batch (added contents addition).records
+size_with contents addition = size_of_batch (with_addition contents addition).records
 
 -- The bytes are those of a batch of this sequence and this count: of the additions `records`. No other additions have
 -- these bytes.
@@ -25,4 +26,4 @@ pub record IsBatch (bytes : List ℕ) (sequence count : ℕ) : Type 0 where
   pub records : List Record
   pub count_is : count ≡ count_of records
   pub bytes_are : bytes ≡ header sequence count ++ body records
-  pub fits : length bytes ≤ 16777216
+  pub fits : length bytes ≤ MAX_SIZE

@@ -2,7 +2,7 @@
 
 ghost use Rattle.std.specs.Prelude.{◌≡◌, ◌<◌, ◌≤◌, ◌^◌, ◌-◌, length, min, IfOk, OnOk, OnErr, IsOkUnless};
 ghost use Rattle.model_base.specs.Batch as model;
-ghost use Rattle.log_batch.specs.Contents.{IsBatch, empty, added, size_with};
+ghost use Rattle.log_batch.specs.Contents.{IsBatch, empty, with_addition, size_with};
 ghost use Rattle.log_batch.specs.OneBatch.{IsBatch-prop};
 ghost use Rattle.log_batch.specs.View.{record_of};
 
@@ -10,12 +10,9 @@ use crate::record_bytes::{append_record, size_with_record};
 use crate::record_view::sequences_of;
 use crate::{AddError, RecordView, Records};
 use base_bytes::Bytes;
-use model_base::NoMemory;
+use model_base::{MAX_SIZE, NoMemory};
 use std::alloc::Global;
 use std::marker::Model;
-
-/// The most bytes that a batch has.
-pub const MAX_SIZE: u64 = 16_777_216;
 
 /// The greatest sequence, `kMaxSequenceNumber` of RocksDB's db/dbformat.h.
 pub const MAX_SEQUENCE: u64 = (1 << 56) - 1;
@@ -64,7 +61,7 @@ impl Batch {
     /// the size that it would have; a length of 2^32 or more counts as a varint of five bytes. A
     /// refused addition leaves the batch as it was.
     pub fn put(&mut self, key: &[u8], value: &[u8]) -> Result<(), AddError>
-        ensures ok { OnOk result (self.new ≡ added self.old (model.value key.now value.now)) }
+        ensures ok { OnOk result (self.new ≡ with_addition self.old (model.value key.now value.now)) }
         ensures err { OnErr result (self.new ≡ self.old) }
         ensures too_large { let size = size_with self.old (model.value key.now value.now) in
             MAX_SIZE < size → result ≡ Err (AddError.TooLarge (min size (2 ^ 64 - 1))) }
@@ -76,7 +73,7 @@ impl Batch {
 
     /// Adds a deletion of a key. Refused as [`Batch::put`] is.
     pub fn delete(&mut self, key: &[u8]) -> Result<(), AddError>
-        ensures ok { OnOk result (self.new ≡ added self.old (model.deletion key.now)) }
+        ensures ok { OnOk result (self.new ≡ with_addition self.old (model.deletion key.now)) }
         ensures err { OnErr result (self.new ≡ self.old) }
         ensures too_large { let size = size_with self.old (model.deletion key.now) in
             MAX_SIZE < size → result ≡ Err (AddError.TooLarge (min size (2 ^ 64 - 1))) }
@@ -87,7 +84,7 @@ impl Batch {
 
     /// Adds a single deletion of a key. Refused as [`Batch::put`] is.
     pub fn single_delete(&mut self, key: &[u8]) -> Result<(), AddError>
-        ensures ok { OnOk result (self.new ≡ added self.old (model.single_deletion key.now)) }
+        ensures ok { OnOk result (self.new ≡ with_addition self.old (model.single_deletion key.now)) }
         ensures err { OnErr result (self.new ≡ self.old) }
         ensures too_large { let size = size_with self.old (model.single_deletion key.now) in
             MAX_SIZE < size → result ≡ Err (AddError.TooLarge (min size (2 ^ 64 - 1))) }
@@ -99,7 +96,7 @@ impl Batch {
 
     /// Adds log data, which isn't counted and takes no sequence. Refused as [`Batch::put`] is.
     pub fn log_data(&mut self, blob: &[u8]) -> Result<(), AddError>
-        ensures ok { OnOk result (self.new ≡ added self.old (model.log_data blob.now)) }
+        ensures ok { OnOk result (self.new ≡ with_addition self.old (model.log_data blob.now)) }
         ensures err { OnErr result (self.new ≡ self.old) }
         ensures too_large { let size = size_with self.old (model.log_data blob.now) in
             MAX_SIZE < size → result ≡ Err (AddError.TooLarge (min size (2 ^ 64 - 1))) }
@@ -110,7 +107,7 @@ impl Batch {
 
     /// Adds a record behind the others.
     fn add(&mut self, view: RecordView<'_>) -> Result<(), AddError>
-        ensures ok { OnOk result (self.new ≡ added self.old (record_of view.entry)) }
+        ensures ok { OnOk result (self.new ≡ with_addition self.old (record_of view.entry)) }
         ensures err { OnErr result (self.new ≡ self.old) }
         ensures too_large { let size = size_with self.old (record_of view.entry) in
             MAX_SIZE < size → result ≡ Err (AddError.TooLarge (min size (2 ^ 64 - 1))) }

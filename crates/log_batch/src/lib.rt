@@ -1,16 +1,36 @@
-//! Write batches, as RocksDB's db/write_batch.cc lays them out.
+//! Write batches, as RocksDB's db/write_batch.cc lays them out, and what is asked of one before it is written.
+//!
+//! | part | bytes |
+//! |---|---|
+//! | sequence | 8, the lowest byte first |
+//! | count | 4, the lowest byte first: how many of the records take a sequence |
+//! | records | one after another: a tag, and one or two strings, each behind its length as a varint32 |
+//!
+//! | tag | record | strings | takes a sequence |
+//! |---|---|---|---|
+//! | 0 | deletion | key | yes |
+//! | 1 | value | key, value | yes |
+//! | 3 | log data | blob | no |
+//! | 7 | single deletion | key | yes |
+//!
+//! - `batch`, `record_bytes`: a batch that is being made. `view`, `records`, `split`: the bytes of one that is read.
+//! - `run`: the sequences of a batch. `checks`: the refusals of a commit that need nothing but its batch.
 #![tactic(auto)]
 
 mod add_error;
 mod batch;
+mod checks;
 mod record_bytes;
 mod record_view;
 mod records;
+mod run;
 mod split;
 mod view;
 
 pub use add_error::AddError;
-pub use batch::{Batch, HEADER_LEN, MAX_SEQUENCE, MAX_SIZE};
+pub use batch::{Batch, HEADER_LEN, MAX_SEQUENCE};
+pub use checks::{Measure, flag_of, refusal_at_once};
 pub use record_view::RecordView;
 pub use records::Records;
+pub use run::{Run, next_run};
 pub use view::{BatchView, read_batch};

@@ -5,14 +5,14 @@ use Rattle.std.proofs.Math.Seq.{take-length}
 use Rattle.std.proofs.lemmas.Bool.{ne_eqb, ltb-true, ltb-false, leb-true, leb-false}
 use Rattle.std.specs.Simd.{first_chunks}
 use Rattle.std.specs.Int.{div_ceil}
-use Rattle.model_base.specs.Log.{Kind, full, first, middle, last, kind_code, room, trailer, next_place, parts_of, later_fragments, as_fragments}
+use Rattle.model_base.specs.Log.{Kind, full, first, middle, last, kind_code, room, trailer, next_place, parts_of, later_fragments, as_fragments, plain_log}
 use Rattle.log_block.specs.declared.pieces.Piece.{Piece}
 use Rattle.log_block.specs.Pieces.{IsPiece, ArePieces}
 use Rattle.log_block.specs.Cutting.{first_piece, later_piece, later_pieces}
 use Rattle.log_block.proofs.Counting.{IsCount, is_count, count_behind, none_behind}
 
 -- no zeros stand at the start of a block
-pub starts_block : (offset : ℕ) → offset % 32768 ≡ 0 → trailer None offset ≡ 0
+pub starts_block : (offset : ℕ) → offset % 32768 ≡ 0 → trailer plain_log offset ≡ 0
 starts_block offset e = ap (λ (r : ℕ). cond (nat_lt (32768 - r) 7) (32768 - r) 0) e
 
 pub slice_is_take : (bytes : List ℕ) (start n : ℕ) → slice_range bytes start (start + min n (length bytes - start)) ≡ take n (drop start bytes)
@@ -21,7 +21,7 @@ slice_is_take bytes start n =
     ap (λ (k : ℕ). take k (drop start bytes)) len ∙ take_min n (drop start bytes)
 
 -- a piece behind the first
-later_is : (bytes : List ℕ) (start offset : ℕ) (kind : Kind) → start ≤ length bytes → offset % 32768 ≡ 0 → (later_piece start (length bytes)).kind ≡ kind_code None kind
+later_is : (bytes : List ℕ) (start offset : ℕ) (kind : Kind) → start ≤ length bytes → offset % 32768 ≡ 0 → (later_piece start (length bytes)).kind ≡ kind_code plain_log kind
     → IsPiece bytes offset start (later_piece start (length bytes)) (record { kind = kind; part = take 32761 (drop start bytes) })
 later_is bytes start offset kind within e kind_is = record {
   zeros = sym (starts_block offset e);
@@ -48,7 +48,7 @@ later_are bytes (suc (suc n)) start offset within e is =
     let full_part : length (take 32761 (drop start bytes)) ≡ 32761 = omega (arith, length-take 32761 (drop start bytes), length-drop start bytes, is.needed) in
     let end_is : end ≡ start + 32761 = omega (arith, is.needed) in
     let behind : drop end bytes ≡ drop 32761 (drop start bytes) = ap (λ (k : ℕ). drop k bytes) end_is ∙ sym (drop-drop 32761 start bytes) in
-    let next_offset : ℕ = next_place None offset + 7 + length (take 32761 (drop start bytes)) in
+    let next_offset : ℕ = next_place plain_log offset + 7 + length (take 32761 (drop start bytes)) in
     let none = starts_block offset e in
     let starts : next_offset % 32768 ≡ 0 = omega (arith, full_part, none, e) in (
       later_is bytes start offset middle within e (middle_kind start (length bytes) (omega (arith, is.needed))),
@@ -58,9 +58,9 @@ later_are bytes (suc (suc n)) start offset within e is =
 
 -- what the first piece goes by: the zeros, and the room behind them
 pub record IsRoom (offset at space : ℕ) : Type 0 where
-  pub zeros : cond (nat_lt (32768 - at) 7) (32768 - at) 0 ≡ trailer None offset
-  pub same : space ≡ room (next_place None offset) - 7
-  pub fills : (next_place None offset + 7 + space) % 32768 ≡ 0
+  pub zeros : cond (nat_lt (32768 - at) 7) (32768 - at) 0 ≡ trailer plain_log offset
+  pub same : space ≡ room (next_place plain_log offset) - 7
+  pub fills : (next_place plain_log offset + 7 + space) % 32768 ≡ 0
 
 -- how long the first part may be
 abbrev pub space_of : ℕ → ℕ
@@ -68,13 +68,13 @@ space_of at = cond (nat_lt (32768 - at) 7) 32761 (32768 - at - 7)
 
 pub is_room : (offset at : ℕ) → offset % 32768 ≡ at → IsRoom offset at (space_of at)
 is_room offset at e =
-    let zeros : cond (nat_lt (32768 - at) 7) (32768 - at) 0 ≡ trailer None offset = ap (λ (r : ℕ). cond (nat_lt (32768 - r) 7) (32768 - r) 0) (sym e) in
-    elim (nat_lt (32768 - at) 7) as (λ b. nat_lt (32768 - at) 7 ≡ b → cond b (32768 - at) 0 ≡ trailer None offset → cond (nat_lt (32768 - at) 7) (32768 - at) 0 ≡ trailer None offset → IsRoom offset at (cond b 32761 (32768 - at - 7))) [
+    let zeros : cond (nat_lt (32768 - at) 7) (32768 - at) 0 ≡ trailer plain_log offset = ap (λ (r : ℕ). cond (nat_lt (32768 - r) 7) (32768 - r) 0) (sym e) in
+    elim (nat_lt (32768 - at) 7) as (λ b. nat_lt (32768 - at) 7 ≡ b → cond b (32768 - at) 0 ≡ trailer plain_log offset → cond (nat_lt (32768 - at) 7) (32768 - at) 0 ≡ trailer plain_log offset → IsRoom offset at (cond b 32761 (32768 - at - 7))) [
       | true ↦ λ is due zeros. let few = ltb-true (32768 - at) 7 is in record { zeros = zeros; same = omega (arith, due, e, few); fills = omega (arith, due, e, few) }
       | false ↦ λ is none zeros. let many = ltb-false (32768 - at) 7 is in record { zeros = zeros; same = omega (arith, none, e, many); fills = omega (arith, none, e, many) }
     ] refl zeros zeros
 
-first_is : (bytes : List ℕ) (offset at n : ℕ) (kind : Kind) (part : List ℕ) → offset % 32768 ≡ at → (first_piece at (length bytes)).kind ≡ kind_code None kind → (first_piece at (length bytes)).end ≡ n
+first_is : (bytes : List ℕ) (offset at n : ℕ) (kind : Kind) (part : List ℕ) → offset % 32768 ≡ at → (first_piece at (length bytes)).kind ≡ kind_code plain_log kind → (first_piece at (length bytes)).end ≡ n
     → length part ≡ n → take n bytes ≡ part → IsPiece bytes offset 0 (first_piece at (length bytes)) (record { kind = kind; part = part })
 first_is bytes offset at n kind part e kind_is end_is len part_is = let none : (first_piece at (length bytes)).end - 0 ≡ n = omega (arith, end_is) in record {
   zeros = (is_room offset at e).zeros;
@@ -107,14 +107,14 @@ several_pieces bytes offset at m e more is =
     let kind_is : (first_piece at (length bytes)).kind ≡ 2 = ap (λ b. cond b 1 2) cut in
     let part_len : length (take space bytes) ≡ space = omega (arith, length-take space bytes, more) in
     let fills = (is_room offset at e).fills in
-    let starts : (next_place None offset + 7 + length (take space bytes)) % 32768 ≡ 0 = ap (λ (n : ℕ). (next_place None offset + 7 + n) % 32768) part_len ∙ fills in (
+    let starts : (next_place plain_log offset + 7 + length (take space bytes)) % 32768 ≡ 0 = ap (λ (n : ℕ). (next_place plain_log offset + 7 + n) % 32768) part_len ∙ fills in (
       first_is bytes offset at space first (take space bytes) e kind_is end_is part_len refl,
-      subst (λ (n : ℕ). ArePieces bytes (next_place None offset + 7 + length (take space bytes)) n (later_pieces (suc m) space (length bytes)) (later_fragments (first_chunks 32761 (suc m) (drop space bytes)))) (sym end_is)
-          (later_are bytes (suc m) space (next_place None offset + 7 + length (take space bytes)) (omega (arith, more)) starts is),
+      subst (λ (n : ℕ). ArePieces bytes (next_place plain_log offset + 7 + length (take space bytes)) n (later_pieces (suc m) space (length bytes)) (later_fragments (first_chunks 32761 (suc m) (drop space bytes)))) (sym end_is)
+          (later_are bytes (suc m) space (next_place plain_log offset + 7 + length (take space bytes)) (omega (arith, more)) starts is),
     )
 
 pub whole_are : (bytes : List ℕ) (offset at : ℕ) → offset % 32768 ≡ at
-    → ArePieces bytes offset 0 (first_piece at (length bytes) ∷ later_pieces (div_ceil (length bytes - (first_piece at (length bytes)).end) 32761) (first_piece at (length bytes)).end (length bytes)) (as_fragments (parts_of None offset bytes))
+    → ArePieces bytes offset 0 (first_piece at (length bytes) ∷ later_pieces (div_ceil (length bytes - (first_piece at (length bytes)).end) 32761) (first_piece at (length bytes)).end (length bytes)) (as_fragments (parts_of plain_log offset bytes))
 whole_are bytes offset at e = subst (λ (space : ℕ). ArePieces bytes offset 0 pieces (as_fragments (parts space))) (is_room offset at e).same
     (elim (nat_le (length bytes) (space_of at)) as (λ b. nat_le (length bytes) (space_of at) ≡ b → ArePieces bytes offset 0 pieces (as_fragments (cond b (bytes ∷ []) (cut (space_of at))))) [
       | true ↦ λ fits. one_piece bytes offset at e (leb-true (length bytes) (space_of at) fits)

@@ -1,6 +1,6 @@
 -- What the reader of a block answers, against what is seen there.
 use Rattle.std.specs.Prelude.{◌≡◌, ℕ, ◌+◌, ◌≤◌, List, length, slice_range, None}
-use Rattle.model_base.specs.Log.{Kind, kind_code}
+use Rattle.model_base.specs.Log.{Kind, kind_code, plain_log}
 use Rattle.model_base.specs.Reading as reading
 use Rattle.log_block.specs.declared.fragments.Seen.{Seen}
 use Rattle.log_block.specs.declared.fragments.Seen.TheVariants.{Fragment, End, Damage}
@@ -9,7 +9,7 @@ use Rattle.log_block.specs.declared.fragments.Seen.TheVariants.{Fragment, End, D
 -- `end`.
 pub record StandsThere (block : List ℕ) (at kind start end : ℕ) (seen : reading.Seen) : Type 0 where
   pub of_kind : Kind
-  pub code : kind ≡ kind_code None of_kind
+  pub code : kind ≡ kind_code plain_log of_kind
   pub behind_header : start ≡ at + 7
   pub ordered : start ≤ end
   pub in_block : end ≤ length block

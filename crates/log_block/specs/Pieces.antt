@@ -1,13 +1,13 @@
 -- A record's pieces as it is written, against the definition of its text.
 use Rattle.std.specs.Prelude.{◌≡◌, ℕ, ◌+◌, ◌-◌, ◌%◌, ◌≤◌, ◌≢◌, List, [], ◌∷◌, ◌++◌, length, replicate, flat_map, slice_range, None, ⊤}
-use Rattle.model_base.specs.Log.{Fragment, kind_code, header, trailer, next_place}
+use Rattle.model_base.specs.Log.{Fragment, kind_code, header, trailer, next_place, plain_log}
 use Rattle.log_block.specs.declared.pieces.Piece.{Piece}
 
 -- A piece of the record is this fragment, which is written at that offset of the log, and begins at that place of the
 -- record.
 pub record IsPiece (bytes : List ℕ) (offset start : ℕ) (piece : Piece) (f : Fragment) : Type 0 where
-  pub zeros : piece.zeros ≡ trailer None offset
-  pub kind : piece.kind ≡ kind_code None f.kind
+  pub zeros : piece.zeros ≡ trailer plain_log offset
+  pub kind : piece.kind ≡ kind_code plain_log f.kind
   pub begins : piece.start ≡ start
   pub ends : piece.end ≡ start + length f.part
   pub in_record : piece.end ≤ length bytes
@@ -19,12 +19,12 @@ ArePieces bytes offset start [] [] = ⊤
 ArePieces bytes offset start [] (f ∷ fs) = ⊥
 ArePieces bytes offset start (p ∷ ps) [] = ⊥
 ArePieces bytes offset start (p ∷ ps) (f ∷ fs) = IsPiece bytes offset start p f
-    × ArePieces bytes (next_place None offset + 7 + length f.part) p.end ps fs
+    × ArePieces bytes (next_place plain_log offset + 7 + length f.part) p.end ps fs
 
 -- what is written of a piece: its zeros, its header and its part
 abbrev pub piece_text : List ℕ → Piece → List ℕ
 piece_text bytes piece = let part =
-    slice_range bytes piece.start piece.end in replicate piece.zeros 0 ++ (header None piece.kind part ++ part)
+    slice_range bytes piece.start piece.end in replicate piece.zeros 0 ++ (header plain_log piece.kind part ++ part)
 
 abbrev pub pieces_text : List ℕ → List Piece → List ℕ
 pieces_text bytes pieces = flat_map (λ p. piece_text bytes p) pieces
@@ -40,7 +40,7 @@ end_in_block at piece = (at + piece.zeros) % 32768 + 7 + (piece.end - piece.star
 
 -- a piece lies in its block, behind the zeros that end the block before, if a header has no room there
 pub record StandsInBlock (at : ℕ) (piece : Piece) : Type 0 where
-  pub zeros : piece.zeros ≡ trailer None at
+  pub zeros : piece.zeros ≡ trailer plain_log at
   pub ordered : piece.start ≤ piece.end
   pub in_block : end_in_block at piece ≤ 32768
 

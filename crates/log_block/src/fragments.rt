@@ -1,6 +1,7 @@
 //! What stands at a place of a block.
 
 ghost use Rattle.std.specs.Prelude.{◌≡◌, ◌+◌, ◌≤◌, ◌↔◌, IsTrue, length, drop, Option, Some, None, nat_lt, if◌then◌else◌};
+ghost use Rattle.model_base.specs.Log.{plain_log};
 ghost use Rattle.model_base.specs.Reading as reading;
 ghost use Rattle.model_base.specs.declared.log.Damage.TheVariants as damages;
 ghost use Rattle.log_block.specs.Fragments.{Tells};
@@ -33,7 +34,7 @@ pub enum Seen {
 pub fn read_fragment(block: &[u8], at: usize) -> Seen
     requires in_block { length block.now ≤ BLOCK_LEN }
     requires in_file { at ≤ length block.now }
-    ensures { Tells block.now at result (reading.seen_in_block None block.now at) }
+    ensures { Tells block.now at result (reading.seen_in_block plain_log block.now at) }
 {
     let rest = &block[at..];
     if BLOCK_LEN - at < HEADER_LEN {
@@ -59,7 +60,7 @@ fn read_part(block: &[u8], at: usize) -> Seen
     requires header { at + HEADER_LEN ≤ length block.now }
     ensures { let bytes = drop at block.now in Tells block.now at result
         (if nat_lt (length bytes) (HEADER_LEN + reading.length_field bytes) then reading.damage damages.BadLength
-        else reading.checked bytes (reading.kind_of_code None (reading.type_field bytes))) }
+        else reading.seen_of_kind bytes (reading.kind_of_code plain_log (reading.type_field bytes))) }
 {
     let bytes = &block[at..];
     let len = usize::from(LittleEndian::read_u16(&bytes[4..6]));

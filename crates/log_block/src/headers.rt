@@ -1,6 +1,7 @@
 //! A fragment's header.
 
 ghost use Rattle.std.specs.Prelude.{◌≡◌, ◌≤◌, ◌∷◌, length, None};
+ghost use Rattle.model_base.specs.Log.{plain_log};
 ghost use Rattle.model_base.specs.Checksum.{crc32c, masked};
 ghost use Rattle.model_base.specs.Log as log;
 
@@ -30,7 +31,7 @@ pub const LAST: u8 = 4;
 /// The header of a fragment of this type with this part, which has at most `MAX_PART_LEN` bytes.
 pub fn header(kind: u8, part: &[u8]) -> [u8; 7]
     requires { length part.now ≤ MAX_PART_LEN }
-    ensures { result ≡ log.header None kind part.now }
+    ensures { result ≡ log.header plain_log kind part.now }
 {
     let [c0, c1, c2, c3] = checksum(kind, part).to_le_bytes();
     let [l0, l1] = (part.len() as u16).to_le_bytes();

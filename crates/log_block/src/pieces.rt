@@ -2,6 +2,7 @@
 
 ghost use Rattle.std.specs.Prelude.{◌≡◌, ◌-◌, ◌%◌, ◌<◌, ◌^◌, ℕ, List, length, None};
 ghost use Rattle.std.specs.Int.{div_ceil};
+ghost use Rattle.model_base.specs.Log.{plain_log};
 ghost use Rattle.model_base.specs.Log as log;
 ghost use Rattle.log_block.specs.Pieces as pieces;
 ghost use Rattle.log_block.specs.Cutting as cutting;
@@ -52,9 +53,9 @@ impl Fragmenter {
     pub fn new(block_offset: usize, len: usize) -> Fragmenter
         requires { block_offset < BLOCK_LEN }
         ensures pieces { (offset : ℕ) (bytes : List ℕ) → offset % BLOCK_LEN ≡ block_offset → length bytes ≡ len
-            → pieces.ArePieces bytes offset 0 result (log.as_fragments (log.parts_of None offset bytes)) }
+            → pieces.ArePieces bytes offset 0 result (log.as_fragments (log.parts_of plain_log offset bytes)) }
         ensures text { (offset : ℕ) (bytes : List ℕ) → offset % BLOCK_LEN ≡ block_offset → length bytes ≡ len
-            → pieces.pieces_text bytes result ≡ log.record_text None offset bytes }
+            → pieces.pieces_text bytes result ≡ log.record_text plain_log offset bytes }
         ensures cut { pieces.CoverRecord len 0 result }
         ensures laid { pieces.StandInBlocks block_offset result }
         ensures bound { length result < 2 ^ 64 }

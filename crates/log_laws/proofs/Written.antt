@@ -7,7 +7,7 @@ use Rattle.std.proofs.Math.Dec.{lit<}
 use Rattle.std.specs.Simd.{first_chunks}
 use Rattle.std.specs.Int.{div_ceil}
 use Rattle.std.specs.List.{flat_map}
-use Rattle.model_base.specs.Log.{header_len, part_len, first, middle, Fragment, room, next_place, placed, FitFrom, GoesToLast, AreOneRecord, kinds_of, all_fragments, record_of, SpellsWhole, pieces_of, parts_of, later_fragments, as_fragments, record_text, text_from, text}
+use Rattle.model_base.specs.Log.{header_len, part_len, first, middle, Fragment, room, next_place, placed, FitFrom, GoesToLast, AreOneRecord, kinds_of, all_fragments, record_of, SpellsWhole, pieces_of, parts_of, later_fragments, as_fragments, record_text, text_from, text, plain_log}
 use Rattle.model_base.specs.Reading.{end_of}
 use Rattle.log_laws.proofs.Seen.{header_small, with_header}
 use Rattle.log_laws.proofs.Placed.{behind, end_none, end_more, placed_append}
@@ -109,8 +109,8 @@ long_parts None offset bytes space fills more =
     let low : length rest ≤ d * 32761 = bounds.0 in
     let high : d * 32761 < length rest + 32761 = bounds.1 in
     let is_suc : suc (d - 1) ≡ d = omega (arith, low, rest_len, more) in
-    subst (λ k. AreParts None offset bytes (take space bytes ∷ first_chunks 32761 k rest)) is_suc
-    (several_parts None offset bytes space (d - 1) fills (omega (arith, high, is_suc, rest_len)) (omega (arith, low, is_suc, rest_len)))
+    subst (λ k. AreParts plain_log offset bytes (take space bytes ∷ first_chunks 32761 k rest)) is_suc
+    (several_parts plain_log offset bytes space (d - 1) fills (omega (arith, high, is_suc, rest_len)) (omega (arith, low, is_suc, rest_len)))
 long_parts (Some m) offset bytes space fills more =
     let rest : List ℕ = drop space bytes in
     let rest_len : length rest + space ≡ length bytes = omega (arith, length-drop space bytes, more) in

@@ -12,7 +12,7 @@ ghost use Rattle.std.specs.Prelude.{◌≡◌, ◌<◌, ◌≤◌, ◌^◌, ◌+
 ghost use Rattle.std.specs.List.{AllByRecursion};
 ghost use Rattle.model_base.specs.Batch.{IsBatch};
 ghost use Rattle.model_base.specs.Varint.{IsVarint, varint};
-ghost use Rattle.model_base.specs.Log.{SpellsWhole, text};
+ghost use Rattle.model_base.specs.Log.{SpellsWhole, text, plain_log};
 ghost use Rattle.model_base.specs.Recovery.{Logged, logged_bytes, AreInOrder, Recovered, IsRecovered, IsRead, NoChance, NoChanceForReader};
 ghost use Rattle.log_laws.specs.Prefixes.{RecoversPrefix, ReadsPrefix};
 
@@ -41,9 +41,10 @@ pub fn a_front()
 
 /// So each image recovers a prefix of all that was to be written, and is read as one, unless by chance.
 pub fn a_prefix()
-    ensures recovered { (image : List ℕ) (records : List (List ℕ)) → NoChance None image (text None records)
+    ensures recovered { (image : List ℕ) (records : List (List ℕ)) → NoChance plain_log image (text plain_log records)
         → RecoversPrefix records image (λ n. ⊤) }
-    ensures read { (image : List ℕ) (records : List (List ℕ)) → NoChanceForReader None image (text None records)
+    ensures read { (image : List ℕ) (records : List (List ℕ))
+        → NoChanceForReader plain_log image (text plain_log records)
         → ReadsPrefix records image (λ n. ⊤) }
 {}
 

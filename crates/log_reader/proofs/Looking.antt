@@ -1,5 +1,6 @@
 -- What a reader sees in its window.
 use Rattle.std.proofs.Common.{◌≡◌, ℕ, ◌+◌, List, length, take, None, true, refl, sym, ◌∙◌, ap, subst, arith, length-take}
+use Rattle.model_base.specs.Log.{plain_log}
 use Rattle.base_devices.specs.Disk.{Disk}
 use Rattle.model_base.specs.Reading.{next_seen}
 use Rattle.log_block.specs.declared.fragments.Seen.{Seen}
@@ -17,7 +18,7 @@ pub filled : (d : Disk) (old mid new : Window) → new.start ≡ mid.start → n
 filled d old mid new start at stands on = λ begins.
     let h = stands begins in
     let same : offset_of mid ≡ offset_of new = omega (arith, start, at) in
-    (on h.0, h.1 ∙ ap (next_seen None d.content) same)
+    (on h.0, h.1 ∙ ap (next_seen plain_log d.content) same)
 
 -- what stands in its block is what it sees next, but at the end of a whole one
 pub seen_from : (d : Disk) (old w : Window) (slice : List ℕ) (s : Seen) → slice ≡ w.room.items → w.is_read ≡ true → Stands old w d
@@ -39,7 +40,7 @@ pub goes_on : (d : Disk) (old w new : Window) → w.is_read ≡ true → length 
     → (IsOn d.content old → SeenThere d.content (offset_of old) w.start (bytes_of w) w.at seen.End) → Stands old new d
 goes_on d old w new read full there on stands sees = λ begins. (
   on d.content (stands begins).0,
-  (sees begins).0 full ∙ ap (next_seen None d.content) (sym there),
+  (sees begins).0 full ∙ ap (next_seen plain_log d.content) (sym there),
 )
 
 -- so many bytes are there

@@ -5,7 +5,7 @@ use Rattle.std.proofs.lemmas.List.{drop-drop, append-nil}
 use Rattle.std.specs.List.{AllByRecursion}
 use Rattle.model_base.specs.declared.log.Damage.{Damage}
 use Rattle.model_base.specs.declared.log.EndReason.TheVariants as ends
-use Rattle.model_base.specs.Log.{Kind, full, first, middle, last, Fragment, placed, next_place, GoesToLast, AreOneRecord, kinds_of, record_of}
+use Rattle.model_base.specs.Log.{Kind, full, first, middle, last, Fragment, placed, next_place, GoesToLast, AreOneRecord, kinds_of, record_of, plain_log}
 use Rattle.model_base.specs.Reading.{Seen, Next, fragment, nothing, damage, next_seen, Stand, end_of, AreBegun, Comes, ReadingEnds, clean, broken, bad_order, unfinished}
 use Rattle.log_reader.specs.declared.reader.Continuation.TheVariants as continuation
 use Rattle.log_reader.specs.Blocks.{IsNext}
@@ -60,11 +60,11 @@ one_from : (k : Kind) (ks : List Kind) → k ≡ first → AreOneRecord (k ∷ k
 one_from k ks e one = subst (λ j. AreOneRecord (j ∷ ks)) e one
 
 -- what a turn says of the kinds
-pub more_begun : (fs : List Fragment) (f : Fragment) (begun : Option ℕ) (place at start : ℕ) → AreBegun (kinds_of fs) → BeginsAt begun place fs → (fs ≡ [] → at ≡ next_place None place) → continuation_of f.kind begun at ≡ continuation.More start
+pub more_begun : (fs : List Fragment) (f : Fragment) (begun : Option ℕ) (place at start : ℕ) → AreBegun (kinds_of fs) → BeginsAt begun place fs → (fs ≡ [] → at ≡ next_place plain_log place) → continuation_of f.kind begun at ≡ continuation.More start
     → AreBegun (kinds_of (fs ++ f ∷ [])) × BeginsAt (Some start) place (fs ++ f ∷ [])
 more_begun [] f None place at start are begins here e = by_kind f.kind e
   where
-    by_kind : (k : Kind) → continuation_of k None at ≡ continuation.More start → AreBegun (k ∷ []) × (start ≡ next_place None place)
+    by_kind : (k : Kind) → continuation_of k None at ≡ continuation.More start → AreBegun (k ∷ []) × (start ≡ next_place plain_log place)
     by_kind full h = absurd (cc)
     by_kind first h = let same : at ≡ start = cc in (tt, sym same ∙ here refl)
     by_kind middle h = absurd (cc)
@@ -82,11 +82,11 @@ more_begun (g ∷ fs) f (Some s) place at start are begins here e =
     by_kind middle h = (refl, cc)
     by_kind last h = absurd (cc)
 
-pub last_one : (fs : List Fragment) (f : Fragment) (begun : Option ℕ) (place at start : ℕ) → AreBegun (kinds_of fs) → BeginsAt begun place fs → (fs ≡ [] → at ≡ next_place None place) → continuation_of f.kind begun at ≡ continuation.Last start
-    → AreOneRecord (kinds_of (fs ++ f ∷ [])) × (start ≡ next_place None place)
+pub last_one : (fs : List Fragment) (f : Fragment) (begun : Option ℕ) (place at start : ℕ) → AreBegun (kinds_of fs) → BeginsAt begun place fs → (fs ≡ [] → at ≡ next_place plain_log place) → continuation_of f.kind begun at ≡ continuation.Last start
+    → AreOneRecord (kinds_of (fs ++ f ∷ [])) × (start ≡ next_place plain_log place)
 last_one [] f None place at start are begins here e = by_kind f.kind e
   where
-    by_kind : (k : Kind) → continuation_of k None at ≡ continuation.Last start → AreOneRecord (k ∷ []) × (start ≡ next_place None place)
+    by_kind : (k : Kind) → continuation_of k None at ≡ continuation.Last start → AreOneRecord (k ∷ []) × (start ≡ next_place plain_log place)
     by_kind full h = let same : at ≡ start = cc in (refl, sym same ∙ here refl)
     by_kind first h = absurd (cc)
     by_kind middle h = absurd (cc)
@@ -134,16 +134,16 @@ misplaced (g ∷ fs) f (Some s) place at are begins e =
     not_last last h is = cc
 
 -- what stands behind fragments
-behind_stand : (file : List ℕ) (place : ℕ) (fs : List Fragment) (s : Stand None file place fs) → s.rest ≡ drop (end_of None place fs) file
+behind_stand : (file : List ℕ) (place : ℕ) (fs : List Fragment) (s : Stand plain_log file place fs) → s.rest ≡ drop (end_of plain_log place fs) file
 behind_stand file place fs s =
-    sym (drop-append_seam (placed None place fs) s.rest) ∙ (ap (drop (length (placed None place fs))) (sym s.there) ∙ drop-drop (length (placed None place fs)) place file)
+    sym (drop-append_seam (placed plain_log place fs) s.rest) ∙ (ap (drop (length (placed plain_log place fs))) (sym s.there) ∙ drop-drop (length (placed plain_log place fs)) place file)
 
-stand_more : (file : List ℕ) (place : ℕ) (fs gs : List Fragment) → Stand None file place fs → Stand None file (end_of None place fs) gs → Stand None file place (fs ++ gs)
+stand_more : (file : List ℕ) (place : ℕ) (fs gs : List Fragment) → Stand plain_log file place fs → Stand plain_log file (end_of plain_log place fs) gs → Stand plain_log file place (fs ++ gs)
 stand_more file place fs gs s t = record {
   rest = t.rest;
   there = s.there
-      ∙ (ap (λ (l : List ℕ). placed None place fs ++ l) (behind_stand file place fs s ∙ t.there)
-      ∙ (sym (append_assoc (placed None place fs) (placed None (end_of None place fs) gs) t.rest) ∙ ap (λ (l : List ℕ). l ++ t.rest) (sym (placed_append place fs gs))));
+      ∙ (ap (λ (l : List ℕ). placed plain_log place fs ++ l) (behind_stand file place fs s ∙ t.there)
+      ∙ (sym (append_assoc (placed plain_log place fs) (placed plain_log (end_of plain_log place fs) gs) t.rest) ∙ ap (λ (l : List ℕ). l ++ t.rest) (sym (placed_append place fs gs))));
   fit = fit_joined place fs gs s.fit t.fit;
 }
 
@@ -157,9 +157,9 @@ the_fragment file offset start block at code from to n = record { kind = n.kind;
 
 -- with it, the fragments stand there
 pub record Added (file : List ℕ) (place : ℕ) (fs : List Fragment) (f : Fragment) (old new : List ℕ) (end : ℕ) : Type 0 where
-  pub stand : Stand None file place (fs ++ f ∷ [])
+  pub stand : Stand plain_log file place (fs ++ f ∷ [])
   pub bytes_are : new ≡ record_of (fs ++ f ∷ [])
-  pub there : end ≡ end_of None place (fs ++ f ∷ [])
+  pub there : end ≡ end_of plain_log place (fs ++ f ∷ [])
 
 pub added : (file : List ℕ) (place offset start : ℕ) (block : List ℕ) (at code from to : ℕ) (begun : Option ℕ) (old new : List ℕ) (s : Stood file place begun old offset) (n : IsNext file offset start block at code from to)
     → new ≡ old ++ slice_range block from to → Added file place s.fragments (the_fragment file offset start block at code from to n) old new (start + to)
@@ -167,45 +167,45 @@ added file place offset start block at code from to begun old new s n e =
     let fs = s.fragments in
     let f = the_fragment file offset start block at code from to n in
     record {
-      stand = stand_more file place fs (f ∷ []) s.stand (subst (λ p. Stand None file p (f ∷ [])) s.there n.stands);
+      stand = stand_more file place fs (f ∷ []) s.stand (subst (λ p. Stand plain_log file p (f ∷ [])) s.there n.stands);
       bytes_are = e ∙ (ap (λ (l : List ℕ). l ++ f.part) s.bytes_are ∙ sym (record_more fs f));
-      there = sym n.end ∙ (ap (λ (p : ℕ). end_of None p (f ∷ [])) s.there ∙ sym (end_append place fs (f ∷ [])));
+      there = sym n.end ∙ (ap (λ (p : ℕ). end_of plain_log p (f ∷ [])) s.there ∙ sym (end_append place fs (f ∷ [])));
     }
 
 -- at the first fragment the record begins
 pub begins_here : (file : List ℕ) (place offset start : ℕ) (block : List ℕ) (at code from to : ℕ) (begun : Option ℕ) (old : List ℕ) (s : Stood file place begun old offset) → IsNext file offset start block at code from to
-    → s.fragments ≡ [] → start + at ≡ next_place None place
+    → s.fragments ≡ [] → start + at ≡ next_place plain_log place
 begins_here file place offset start block at code from to begun old s n none =
-    n.place ∙ ap (next_place None) (s.there ∙ (ap (end_of None place) none ∙ end_none place))
+    n.place ∙ ap (next_place plain_log) (s.there ∙ (ap (end_of plain_log place) none ∙ end_none place))
 
 -- what the reader sees behind the fragments
-sees_behind : (file : List ℕ) (place offset : ℕ) (begun : Option ℕ) (old : List ℕ) (s : Stood file place begun old offset) (next : Next) → next_seen None file offset ≡ next → Comes None file place s.fragments next
+sees_behind : (file : List ℕ) (place offset : ℕ) (begun : Option ℕ) (old : List ℕ) (s : Stood file place begun old offset) (next : Next) → next_seen plain_log file offset ≡ next → Comes plain_log file place s.fragments next
 sees_behind file place offset begun old s next e = record {
   begun = s.are_begun;
   stand = s.stand;
-  is_next = sym (ap (next_seen None file) (sym s.there) ∙ e);
+  is_next = sym (ap (next_seen plain_log file) (sym s.there) ∙ e);
 }
 
 pub ends_in_order : (file : List ℕ) (place offset start : ℕ) (block : List ℕ) (at code from to : ℕ) (begun : Option ℕ) (old : List ℕ) (s : Stood file place begun old offset) (n : IsNext file offset start block at code from to)
-    → continuation_of n.kind begun (start + at) ≡ continuation.Misplaced → ReadingEnds None file place (start + at) ends.BadOrder
+    → continuation_of n.kind begun (start + at) ≡ continuation.Misplaced → ReadingEnds plain_log file place (start + at) ends.BadOrder
 ends_in_order file place offset start block at code from to begun old s n e =
     let f = the_fragment file offset start block at code from to n in
     let wrong = misplaced s.fragments f begun place (start + at) s.are_begun s.begins e in
     bad_order s.fragments (sees_behind file place offset begun old s (record { at = start + at; seen = fragment f }) n.seen) wrong.0 wrong.1
 
-pub ends_in_damage : (file : List ℕ) (place offset at : ℕ) (d : Damage) (begun : Option ℕ) (old : List ℕ) → Stood file place begun old offset → next_seen None file offset ≡ record { at = at; seen = damage d } → ReadingEnds None file place at (ends.Broken d)
+pub ends_in_damage : (file : List ℕ) (place offset at : ℕ) (d : Damage) (begun : Option ℕ) (old : List ℕ) → Stood file place begun old offset → next_seen plain_log file offset ≡ record { at = at; seen = damage d } → ReadingEnds plain_log file place at (ends.Broken d)
 ends_in_damage file place offset at d begun old s e = broken s.fragments (sees_behind file place offset begun old s (record { at = at; seen = damage d }) e)
 
-pub ends_with_file : (file : List ℕ) (place offset file_len : ℕ) (begun : Option ℕ) (old new : List ℕ) → Stood file place begun old offset → (next_seen None file offset).seen ≡ nothing → length file ≡ file_len
+pub ends_with_file : (file : List ℕ) (place offset file_len : ℕ) (begun : Option ℕ) (old new : List ℕ) → Stood file place begun old offset → (next_seen plain_log file offset).seen ≡ nothing → length file ≡ file_len
     → Reads file place new (end_of_reading begun file_len)
 ends_with_file file place offset file_len begun old new s none len = by_begun begun s.fragments s.begins
-    (sees_behind file place offset begun old s (record { at = (next_seen None file offset).at; seen = nothing }) (ap (λ (x : Seen). record { at = (next_seen None file offset).at; seen = x }) none))
+    (sees_behind file place offset begun old s (record { at = (next_seen plain_log file offset).at; seen = nothing }) (ap (λ (x : Seen). record { at = (next_seen plain_log file offset).at; seen = x }) none))
   where
-    by_begun : (b : Option ℕ) (fs : List Fragment) → BeginsAt b place fs → Comes None file place fs (record { at = (next_seen None file offset).at; seen = nothing }) → Reads file place new (end_of_reading b file_len)
-    by_begun None [] begins comes = subst (λ n. ReadingEnds None file place n ends.Clean) len (clean comes)
+    by_begun : (b : Option ℕ) (fs : List Fragment) → BeginsAt b place fs → Comes plain_log file place fs (record { at = (next_seen plain_log file offset).at; seen = nothing }) → Reads file place new (end_of_reading b file_len)
+    by_begun None [] begins comes = subst (λ n. ReadingEnds plain_log file place n ends.Clean) len (clean comes)
     by_begun None (f ∷ fs) begins comes = absurd begins
     by_begun (Some start) [] begins comes = absurd begins
-    by_begun (Some start) (f ∷ fs) begins comes = subst (λ n. ReadingEnds None file place n ends.Unfinished) (sym begins) (unfinished f fs comes)
+    by_begun (Some start) (f ∷ fs) begins comes = subst (λ n. ReadingEnds plain_log file place n ends.Unfinished) (sym begins) (unfinished f fs comes)
 
 -- a record goes on
 pub goes_further : (file : List ℕ) (place offset start : ℕ) (block : List ℕ) (at code from to begin : ℕ) (begun : Option ℕ) (old new : List ℕ) → Stood file place begun old offset → (n : IsNext file offset start block at code from to)

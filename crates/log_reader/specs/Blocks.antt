@@ -1,6 +1,6 @@
 -- A reader of a log in one of its blocks.
 use Rattle.std.specs.Prelude.{◌≡◌, ℕ, ◌+◌, ◌%◌, ◌<◌, ◌≤◌, List, [], ◌∷◌, length, take, drop, slice_range, None}
-use Rattle.model_base.specs.Log.{Kind, kind_code, next_place}
+use Rattle.model_base.specs.Log.{Kind, kind_code, next_place, plain_log}
 use Rattle.model_base.specs.Reading as reading
 use Rattle.model_base.specs.Reading.{next_seen, end_of, Stand}
 use Rattle.log_block.specs.declared.fragments.Seen.{Seen}
@@ -18,26 +18,26 @@ pub record IsBlock (file : List ℕ) (start : ℕ) (block : List ℕ) : Type 0 w
 
 -- from the one offset the reader sees the same next as from the other
 abbrev pub Reaches : List ℕ → ℕ → ℕ → Type 0
-Reaches file offset place = next_seen None file offset ≡ next_seen None file place
+Reaches file offset place = next_seen plain_log file offset ≡ next_seen plain_log file place
 
 -- the fragment with this code that a reader sees next from an offset stands in the block
 pub record IsNext (file : List ℕ) (offset start : ℕ) (block : List ℕ) (at code from to : ℕ) : Type 0 where
   pub kind : Kind
-  pub code_is : code ≡ kind_code None kind
-  pub seen : next_seen None file offset
+  pub code_is : code ≡ kind_code plain_log kind
+  pub seen : next_seen plain_log file offset
       ≡ record { at = start + at; seen = reading.fragment (record { kind = kind; part = slice_range block from to }) }
-  pub place : start + at ≡ next_place None offset
-  pub stands : Stand None file offset (record { kind = kind; part = slice_range block from to } ∷ [])
-  pub end : end_of None offset (record { kind = kind; part = slice_range block from to } ∷ []) ≡ start + to
+  pub place : start + at ≡ next_place plain_log offset
+  pub stands : Stand plain_log file offset (record { kind = kind; part = slice_range block from to } ∷ [])
+  pub end : end_of plain_log offset (record { kind = kind; part = slice_range block from to } ∷ []) ≡ start + to
   pub in_file : start + to ≤ length file
 
 -- what a reader sees next from an offset, in the block
 abbrev pub SeenNext : List ℕ → ℕ → ℕ → List ℕ → ℕ → Seen → Type 0
 SeenNext file offset start block at (seen.Fragment code from to) = IsNext file offset start block at code from to
-SeenNext file offset start block at seen.End = (reading.Next.seen (next_seen None file offset) ≡ reading.nothing)
+SeenNext file offset start block at seen.End = (reading.Next.seen (next_seen plain_log file offset) ≡ reading.nothing)
     × (length file ≡ start + length block)
 SeenNext file offset start block at (seen.Damage d) =
-    next_seen None file offset ≡ record { at = start + at; seen = reading.damage d }
+    next_seen plain_log file offset ≡ record { at = start + at; seen = reading.damage d }
 
 -- the same, but at the end of a whole block the reader goes on
 abbrev pub SeenThere : List ℕ → ℕ → ℕ → List ℕ → ℕ → Seen → Type 0

@@ -1,7 +1,7 @@
 //! The records of a log, one after another.
 
 ghost use Rattle.std.specs.Prelude.{◌≡◌, ◌+◌, ◌^◌, ◌<◌, ◌≤◌, ℕ, List, [], ◌++◌, slice_range, None, IfOk, IfSome, OnOk};
-ghost use Rattle.model_base.specs.Log.{Kind, kind_code};
+ghost use Rattle.model_base.specs.Log.{Kind, kind_code, plain_log};
 ghost use Rattle.log_reader.specs.Blocks.{IsNext};
 ghost use Rattle.log_reader.specs.Windows.{IsSound, IsOn, offset_of, bytes_of};
 ghost use Rattle.log_reader.specs.Records.{Reads, HasFault, stopped_by};
@@ -234,7 +234,7 @@ fn take_part(
 
 /// What a fragment of this type at the offset `at` comes to, where the record begins at `begun`, if it has begun.
 fn continuation_of(kind: u8, begun: Option<u64>, at: u64) -> Continuation
-    ensures { (k : Kind) → kind ≡ kind_code None k → result ≡ steps.continuation_of k begun at }
+    ensures { (k : Kind) → kind ≡ kind_code plain_log k → result ≡ steps.continuation_of k begun at }
 {
     match (kind, begun) {
         (FULL, None) => Continuation::Last(at),

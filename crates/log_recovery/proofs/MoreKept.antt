@@ -7,7 +7,7 @@ use Rattle.std.proofs.lemmas.Nat.{from_le_bytes-to_le_bytes_4, from_le_bytes-to_
 use Rattle.std.specs.Int.{w32, w64, from_le_bytes}
 use Rattle.std.specs.List.{AllByRecursion}
 use Rattle.model_base.specs.Batch.{Record, count_of, IsBatch}
-use Rattle.model_base.specs.Log.{Fragment, placed, FitFrom, AreOneRecord, kinds_of, record_of, all_fragments}
+use Rattle.model_base.specs.Log.{Fragment, placed, FitFrom, AreOneRecord, kinds_of, record_of, all_fragments, plain_log}
 use Rattle.model_base.specs.Reading.{end_of, Stand}
 use Rattle.model_base.specs.Recovery.{Logged, logged_bytes, last_after, MayFollow, AreInOrder, last_sequence, Keeps}
 use Rattle.log_recovery.specs.Keeping.{MayBeKept}
@@ -34,7 +34,7 @@ fit_joined number offset [] ys fit_x fit_y = subst (λ n. FitFrom number n ys) (
 fit_joined number offset (x ∷ xs) ys fit_x fit_y = (fit_x.0, fit_joined number (behind number offset x) xs ys fit_x.1 (subst (λ n. FitFrom number n ys) (end_more number offset x xs) fit_y))
 
 -- Nothing is kept at first.
-pub keeps_none : (file : List ℕ) → Keeps None file 0 []
+pub keeps_none : (file : List ℕ) → Keeps plain_log file 0 []
 keeps_none file = record { within = omega arith; spelled = record { groups = []; whole = tt; same = refl; fit = tt; spelled = refl }; are_batches = tt; in_order = tt }
 
 -- the fragments in front of the offset up to which records are kept

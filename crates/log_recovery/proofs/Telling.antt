@@ -1,5 +1,6 @@
 -- What the steps of recovery come to where the disk tells its content.
 use Rattle.std.proofs.Common.{◌≡◌, ℕ, List, Option, Some, None, MatchOption, IfSome, sym, subst}
+use Rattle.model_base.specs.Log.{plain_log}
 use Rattle.base_devices.specs.Disk.{Disk}
 use Rattle.model_base.specs.declared.log.EndReason.{EndReason}
 use Rattle.model_base.specs.Reading.{ReadingEnds}
@@ -71,4 +72,4 @@ pub ended : (told : Option Disk) (kept : Kept) (place at : ℕ) (in_hand : List 
     → IfSome told (λ d. KeepsFront d.content kept) → IfSome told (λ d. Reads d.content place in_hand (next.End at why)) → IfSome told (λ d. HasRecovered d.content (answer kept at why))
 ended told kept place at in_hand why there front says =
     if_both told (λ d. KeepsFront d.content kept) (λ d. Reads d.content place in_hand (next.End at why)) (λ d. HasRecovered d.content (answer kept at why)) front says
-    (λ d f r. ends_reading d.content kept (record { at = at; why = why }) f (subst (λ n. ReadingEnds None d.content n at why) (sym there) r))
+    (λ d f r. ends_reading d.content kept (record { at = at; why = why }) f (subst (λ n. ReadingEnds plain_log d.content n at why) (sym there) r))

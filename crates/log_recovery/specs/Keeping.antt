@@ -1,5 +1,6 @@
 -- What keeping a record of a log comes to.
 use Rattle.std.specs.Prelude.{◌≡◌, ◌≢◌, ℕ, ◌+◌, ◌-◌, ◌<◌, ◌≤◌, List, [], ◌∷◌, ◌++◌, length, map, fold, None}
+use Rattle.model_base.specs.Log.{plain_log}
 use Rattle.model_base.specs.declared.log.EndReason.{EndReason}
 use Rattle.model_base.specs.declared.log.EndReason.TheVariants as ends
 use Rattle.model_base.specs.Batch.{count_of, IsBatch}
@@ -23,7 +24,7 @@ pub record Shows (kept : Kept) (batches : List Logged) : Type 0 where
 pub record KeepsFront (file : List ℕ) (kept : Kept) : Type 0 where
   pub batches : List Logged
   pub shows : Shows kept batches
-  pub keeps : Keeps None file kept.end batches
+  pub keeps : Keeps plain_log file kept.end batches
 
 -- the batch with these bytes may follow the last sequence
 pub record MayBeKept (last : ℕ) (bytes : List ℕ) : Type 0 where

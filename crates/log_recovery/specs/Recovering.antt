@@ -1,5 +1,6 @@
 -- What recovering a log comes to.
 use Rattle.std.specs.Prelude.{◌≡◌, ℕ, ◌≤◌, List, map, None}
+use Rattle.model_base.specs.Log.{plain_log}
 use Rattle.base_devices.specs.Faults.{Rose}
 use Rattle.model_base.specs.Recovery as recovery
 use Rattle.log_recovery.specs.declared.recovery.Recovered.{Recovered}
@@ -20,7 +21,7 @@ pub record ShowsRecovered (shown : Recovered) (r : recovery.Recovered) : Type 0 
 -- the file recovers just that
 pub record HasRecovered (file : List ℕ) (shown : Recovered) : Type 0 where
   pub recovered : recovery.Recovered
-  pub is : recovery.IsRecovered None file recovered
+  pub is : recovery.IsRecovered plain_log file recovered
   pub shows : ShowsRecovered shown recovered
 
 -- why a log was not recovered: the disk's count rose in the call, or there was no memory and no fault

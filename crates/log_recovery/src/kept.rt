@@ -6,7 +6,7 @@ ghost use Rattle.model_base.specs.Recovery.{RecordEnds};
 ghost use Rattle.model_base.specs.Map.{after_records};
 ghost use Rattle.log_recovery.specs.Keeping.{Adds, Refuses, MayRun, IsRunEnd};
 
-use crate::recovered_map::RecoveredMap;
+use base_maps::ByteMap;
 use log_batch::{MAX_SEQUENCE, RecordView, Records, read_batch};
 use model_base::{BatchError, EndReason, NoMemory};
 use std::alloc::Global;
@@ -24,7 +24,7 @@ pub struct GroupNote {
 #[derive(Drop)]
 pub struct Kept {
     pub groups: Vec<GroupNote>,
-    pub map: RecoveredMap,
+    pub map: ByteMap,
     /// The last sequence, 0 before the first.
     pub last: u64,
     /// The offset after them.
@@ -41,7 +41,7 @@ impl Kept {
     {
         Kept {
             groups: Vec::new(alloc),
-            map: RecoveredMap::new(alloc),
+            map: ByteMap::new(alloc),
             last: 0,
             end: 0,
         }
@@ -114,13 +114,13 @@ fn last_after(last: u64, first: u64, count: u32) -> u64
 }
 
 /// Changes the map as the records say, in order.
-fn insert_all(map: &mut RecoveredMap, records: Records<'_>) -> Result<(), NoMemory>
+fn insert_all(map: &mut ByteMap, records: Records<'_>) -> Result<(), NoMemory>
     ensures { OnOk result (map.new ≡ after_records map.old records.entry) }
 {
     for record in records {
         match record {
             RecordView::Value { key, value } => map.insert(key, value)?,
-            RecordView::Deletion { key } | RecordView::SingleDeletion { key } => map.remove(key)?,
+            RecordView::Deletion { key } | RecordView::SingleDeletion { key } => map.remove(key),
             RecordView::LogData { .. } => {}
         }
     }

@@ -6,9 +6,7 @@
 #![tactic(auto)]
 
 mod kept;
-mod recovered_map;
 mod recovery;
 
 pub use kept::GroupNote;
-pub use recovered_map::{RecoveredMap, RecoveredPairs};
 pub use recovery::{End, RecoverError, Recovered, recover};

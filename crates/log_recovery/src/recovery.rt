@@ -5,8 +5,8 @@ ghost use Rattle.log_reader.specs.OnlyReads.{OnlyReads};
 ghost use Rattle.log_recovery.specs.Recovering.{HasRecovered, IsRecoverError};
 
 use crate::kept::{GroupNote, Kept};
-use crate::recovered_map::RecoveredMap;
 use base_devices::Disk;
+use base_maps::ByteMap;
 use log_reader::{LogReader, Next};
 use model_base::{EndReason, NoMemory};
 use std::alloc::Global;
@@ -23,7 +23,7 @@ pub struct End {
 #[derive(Drop)]
 pub struct Recovered {
     pub groups: Vec<GroupNote>,
-    pub map: RecoveredMap,
+    pub map: ByteMap,
     pub last: u64,
     pub kept: u64,
     pub end: End,

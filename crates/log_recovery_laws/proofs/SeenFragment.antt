@@ -8,8 +8,8 @@ use Rattle.std.proofs.Math.Seq.{drop-cons}
 use Rattle.std.specs.Int.{w16, w32, to_le_bytes}
 use Rattle.model_base.specs.declared.log.Damage.TheVariants.{BadTrailer}
 use Rattle.model_base.specs.Checksum.{crc32c, masked}
-use Rattle.model_base.specs.Log.{Kind, full, first, middle, last, kind_code, header_len, Fragment, header, fragment_bytes}
-use Rattle.model_base.specs.Reading.{fragment, nothing, damage, seen_within, checked, checked_numbered, kind_of_code, are_zeros, checksum_field, length_field, type_field, part_field}
+use Rattle.model_base.specs.Log.{Kind, full, first, middle, last, kind_code, header_len, Fragment, header, fragment_bytes, plain_log}
+use Rattle.model_base.specs.Reading.{fragment, nothing, damage, seen_within, seen_of_kind, seen_of_kind_numbered, kind_of_code, are_zeros, checksum_field, length_field, type_field, part_field}
 use Rattle.log_recovery_laws.specs.Reads.{AreBytes}
 use Rattle.log_recovery_laws.proofs.Bytes.{bytes_take, bytes_drop, bytes_at}
 
@@ -45,11 +45,11 @@ code_of : (number : Option ℕ) (code : ℕ) (kind : Kind) → kind_of_code numb
 code_of None code kind e = by_tests (code == 1) (code == 2) (code == 3) (code == 4) refl refl refl refl e
   where
     by_tests : (a b c d : Bool) → (code == 1) ≡ a → (code == 2) ≡ b → (code == 3) ≡ c → (code == 4) ≡ d
-        → cond a (Some full) (cond b (Some first) (cond c (Some middle) (cond d (Some last) None))) ≡ Some kind → code ≡ kind_code None kind
-    by_tests true b c d one two three four h = let same : full ≡ kind = cc in eqb-true code 1 one ∙ ap (kind_code None) same
-    by_tests false true c d one two three four h = let same : first ≡ kind = cc in eqb-true code 2 two ∙ ap (kind_code None) same
-    by_tests false false true d one two three four h = let same : middle ≡ kind = cc in eqb-true code 3 three ∙ ap (kind_code None) same
-    by_tests false false false true one two three four h = let same : last ≡ kind = cc in eqb-true code 4 four ∙ ap (kind_code None) same
+        → cond a (Some full) (cond b (Some first) (cond c (Some middle) (cond d (Some last) None))) ≡ Some kind → code ≡ kind_code plain_log kind
+    by_tests true b c d one two three four h = let same : full ≡ kind = cc in eqb-true code 1 one ∙ ap (kind_code plain_log) same
+    by_tests false true c d one two three four h = let same : first ≡ kind = cc in eqb-true code 2 two ∙ ap (kind_code plain_log) same
+    by_tests false false true d one two three four h = let same : middle ≡ kind = cc in eqb-true code 3 three ∙ ap (kind_code plain_log) same
+    by_tests false false false true one two three four h = let same : last ≡ kind = cc in eqb-true code 4 four ∙ ap (kind_code plain_log) same
     by_tests false false false false one two three four h = absurd (cc)
 code_of (Some n) code kind e = by_tests (code == 5) (code == 6) (code == 7) (code == 8) refl refl refl refl e
   where
@@ -76,14 +76,14 @@ record IsChecked (number : Option ℕ) (bytes : List ℕ) (f : Fragment) : Type 
   sum_is : checksum_field bytes ≡ sum_of number (type_field bytes) (part_field number bytes)
   part_is : f.part ≡ part_field number bytes
 
-checked_is : (bytes : List ℕ) (f : Fragment) (o : Option Kind) → kind_of_code None (type_field bytes) ≡ o → checked bytes o ≡ fragment f → IsChecked None bytes f
+checked_is : (bytes : List ℕ) (f : Fragment) (o : Option Kind) → kind_of_code plain_log (type_field bytes) ≡ o → seen_of_kind bytes o ≡ fragment f → IsChecked None bytes f
 unfolding sum_of
 checked_is bytes f None read e = absurd (cc)
 checked_is bytes f (Some k) read e =
-    let s = one_is (checksum_field bytes == masked (crc32c (type_field bytes ∷ part_field None bytes))) _ _ (fragment f) e (λ h. cc) in
-    let same : record { kind = k; part = part_field None bytes } ≡ f = let h : fragment (record { kind = k; part = part_field None bytes }) ≡ fragment f = s.1 in cc in
+    let s = one_is (checksum_field bytes == masked (crc32c (type_field bytes ∷ part_field plain_log bytes))) _ _ (fragment f) e (λ h. cc) in
+    let same : record { kind = k; part = part_field plain_log bytes } ≡ f = let h : fragment (record { kind = k; part = part_field plain_log bytes }) ≡ fragment f = s.1 in cc in
     record {
-      code = code_of None (type_field bytes) k read ∙ ap (λ (g : Fragment). kind_code None g.kind) same;
+      code = code_of None (type_field bytes) k read ∙ ap (λ (g : Fragment). kind_code plain_log g.kind) same;
       sum_is = eqb-true _ _ s.0;
       part_is = ap (λ (g : Fragment). g.part) (sym same);
     }
@@ -94,7 +94,7 @@ record IsNumbered (n : ℕ) (bytes : List ℕ) (f : Fragment) : Type 0 where
   there : 11 + length_field bytes ≤ length bytes
   number : take 4 (drop 7 bytes) ≡ to_le_bytes w32 n
 
-numbered_is : (n : ℕ) (bytes : List ℕ) (f : Fragment) (o : Option Kind) → kind_of_code (Some n) (type_field bytes) ≡ o → checked_numbered n bytes o ≡ fragment f → IsNumbered n bytes f
+numbered_is : (n : ℕ) (bytes : List ℕ) (f : Fragment) (o : Option Kind) → kind_of_code (Some n) (type_field bytes) ≡ o → seen_of_kind_numbered n bytes o ≡ fragment f → IsNumbered n bytes f
 unfolding sum_of
 numbered_is n bytes f None read e = absurd (cc)
 numbered_is n bytes f (Some k) read e =
@@ -124,7 +124,7 @@ fragment_is None space bytes f e =
     let s3 = other (nat_lt (length bytes) 7) _ _ (fragment f) s2.1 (λ h. cc) in
     let s4 = other (are_zeros (take 7 bytes)) _ _ (fragment f) s3.1 (λ h. cc) in
     let s5 = other (nat_lt (length bytes) (7 + length_field bytes)) _ _ (fragment f) s4.1 (λ h. cc) in
-    let is = checked_is bytes f (kind_of_code None (type_field bytes)) refl s5.1 in
+    let is = checked_is bytes f (kind_of_code plain_log (type_field bytes)) refl s5.1 in
     record {
       room = ltb-false space 7 s1.0;
       there = ltb-false (length bytes) (7 + length_field bytes) s5.0;

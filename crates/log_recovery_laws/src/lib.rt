@@ -14,7 +14,7 @@ ghost use Rattle.model_base.specs.declared.log.Damage.TheVariants.{ShortHeader};
 ghost use Rattle.model_base.specs.declared.log.EndReason.{EndReason};
 ghost use Rattle.model_base.specs.declared.log.EndReason.TheVariants.{Clean, Broken};
 ghost use Rattle.model_base.specs.Batch.{Record, IsBatch, IsBatchError};
-ghost use Rattle.model_base.specs.Log.{text};
+ghost use Rattle.model_base.specs.Log.{text, plain_log};
 ghost use Rattle.model_base.specs.Recovery.{logged_bytes, Recovered, IsRecovered, IsRead, NoChance, NoChanceForReader};
 ghost use Rattle.log_laws.specs.Prefixes.{IsPrefix};
 ghost use Rattle.log_recovery_laws.specs.Reads.{AreBytes, Answer, found, ended, Reads, nothing_until};
@@ -64,17 +64,17 @@ pub fn recovery_is_a_function()
 /// is something that is recovered and read, beside the promise of `log_laws` that whatever is so is a prefix.
 pub fn a_crash_leaves_a_prefix()
     ensures recovered { (image : List ℕ) (records : List (List ℕ)) → AreBytes image
-        → NoChance None image (text None records)
-        → (r : Recovered) × IsRecovered None image r × IsPrefix (map logged_bytes r.batches) records (λ n. ⊤) }
+        → NoChance plain_log image (text plain_log records)
+        → (r : Recovered) × IsRecovered plain_log image r × IsPrefix (map logged_bytes r.batches) records (λ n. ⊤) }
     ensures read { (image : List ℕ) (records : List (List ℕ)) → AreBytes image
-        → NoChanceForReader None image (text None records)
-        → (some : List (List ℕ)) × IsRead None image some × IsPrefix some records (λ n. ⊤) }
+        → NoChanceForReader plain_log image (text plain_log records)
+        → (some : List (List ℕ)) × IsRead plain_log image some × IsPrefix some records (λ n. ⊤) }
 {}
 
 /// Examples: the only meaning of a file without bytes, and of one of a single byte.
 pub fn short_files()
-    ensures empty { (r : Recovered) → IsRecovered None [] r → r ≡ nothing_until 0 Clean }
-    ensures one_byte { (r : Recovered) → IsRecovered None (0 ∷ []) r → r ≡ nothing_until 0 (Broken ShortHeader) }
+    ensures empty { (r : Recovered) → IsRecovered plain_log [] r → r ≡ nothing_until 0 Clean }
+    ensures one_byte { (r : Recovered) → IsRecovered plain_log (0 ∷ []) r → r ≡ nothing_until 0 (Broken ShortHeader) }
     ensures with_a_number { (r : Recovered) → IsRecovered (Some 7) (0 ∷ []) r
         → r ≡ nothing_until 0 (Broken ShortHeader) }
 {}

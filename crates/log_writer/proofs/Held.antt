@@ -5,7 +5,7 @@ use Rattle.std.proofs.lemmas.List.{take-append-le, take_all}
 use Rattle.std.proofs.lemmas.Option.{same_Some, slice_get_within}
 use Rattle.base_devices.specs.Disk.{Disk, IsDisk, IsImage, Told, LeavesOnly}
 use Rattle.base_devices.specs.declared.disk.Disk.{Ghosts}
-use Rattle.model_base.specs.Log.{record_text, text}
+use Rattle.model_base.specs.Log.{record_text, text, plain_log}
 use Rattle.log_writer.specs.declared.writer.LogWriter.{LogWriter}
 use Rattle.log_writer.specs.Crashes.{KeepsSafe, reach_with, MayBeLeft, HoldsUpTo}
 use Rattle.log_writer.specs.Words.{disk_of, len_of, fault_of}
@@ -33,13 +33,13 @@ pub holds_synced : (reached : ℕ) (d : Disk) (calls : List GroupCall) (safe : �
 holds_synced reached d calls safe image is holds keeps = λ k c at worked asked longer past.
     let among : k < safe = is_among calls safe k c holds.have_synced at worked asked in
     let all : List (List ℕ) = take safe (written_by calls) in
-    let n : ℕ = length (text None all) in
-    let m : ℕ = length (text None (take (k + 1) all)) in
+    let n : ℕ = length (text plain_log all) in
+    let m : ℕ = length (text plain_log (take (k + 1) all)) in
     let same : take (k + 1) all ≡ take (k + 1) (written_by calls) = take-take (k + 1) safe (written_by calls) (omega (arith, among)) in
-    let in_front : take m (text None all) ≡ text None (take (k + 1) all) = text_front all (k + 1) in
-    let within : m ≤ n = omega (arith, ap length in_front, length-take m (text None all)) in
-    let there : take m image ≡ text None (take (k + 1) all) = sym (take-take m n image within) ∙ (ap (take m) (safe_front d calls safe image is holds keeps) ∙ in_front) in
-    subst (λ (l : List (List ℕ)). take (length (text None l)) image ≡ text None l) same there
+    let in_front : take m (text plain_log all) ≡ text plain_log (take (k + 1) all) = text_front all (k + 1) in
+    let within : m ≤ n = omega (arith, ap length in_front, length-take m (text plain_log all)) in
+    let there : take m image ≡ text plain_log (take (k + 1) all) = sym (take-take m n image within) ∙ (ap (take m) (safe_front d calls safe image is holds keeps) ∙ in_front) in
+    subst (λ (l : List (List ℕ)). take (length (text plain_log l)) image ≡ text plain_log l) same there
 
 -- With one call more
 
@@ -52,7 +52,7 @@ in_more (d ∷ calls) c (suc k) e at = ⊎_elim (λ before. inl before) (λ last
 
 -- how far an image may come: as far as writes could come at first, or to the end of what was begun
 abbrev farthest : ℕ → List GroupCall → ℕ
-farthest reached calls = max reached (length (text None (begun_by calls)))
+farthest reached calls = max reached (length (text plain_log (begun_by calls)))
 
 -- An image that comes no further holds no less.
 held_more : (reached : ℕ) (calls : List GroupCall) (c : GroupCall) (image : List ℕ) → first_fault calls ≡ None → length image ≤ farthest reached (calls ++ c ∷ []) → HoldsSynced reached calls image → HoldsSynced reached (calls ++ c ∷ []) image
@@ -61,20 +61,20 @@ held_more reached calls c image none within holds = λ k e at worked asked longe
     let some : k + 1 ≤ length (written_by calls) = let k_within = slice_get_within calls k e before in omega (arith, k_within, written_len calls none) in
     let same : take (k + 1) (written_by (calls ++ c ∷ [])) ≡ take (k + 1) (written_by calls) =
     ap (take (k + 1)) (written_more calls c none) ∙ take-append-le (k + 1) (written_by calls) (if_worked c.failed (record_of_call c ∷ []) []) some in
-    subst (λ (l : List (List ℕ)). HoldsUpTo reached (text None l) image) (sym same) (holds k e before worked asked) longer past)
+    subst (λ (l : List (List ℕ)). HoldsUpTo reached (text plain_log l) image) (sym same) (holds k e before worked asked) longer past)
     (λ last.
     let written : written_by (calls ++ c ∷ []) ≡ begun_by (calls ++ c ∷ []) =
     written_more calls c none ∙ (ap (λ (f : Option ℕ). written_by calls ++ if_worked f (record_of_call c ∷ []) []) (ap (λ (x : GroupCall). x.failed) last.1 ∙ worked) ∙ sym (begun_more calls c none)) in
     let many : length (begun_by (calls ++ c ∷ [])) ≡ k + 1 =
     omega (arith, ap length (begun_more calls c none), length-append (written_by calls) (record_of_call c ∷ []), written_len calls none, last.0) in
     let all : take (k + 1) (written_by (calls ++ c ∷ [])) ≡ begun_by (calls ++ c ∷ []) = ap (take (k + 1)) written ∙ take_all (k + 1) (begun_by (calls ++ c ∷ [])) (omega (arith, many)) in
-    absurd (omega (arith, within, longer, past, ap (λ (l : List (List ℕ)). length (text None l)) all)))
+    absurd (omega (arith, within, longer, past, ap (λ (l : List (List ℕ)). length (text plain_log l)) all)))
     (in_more calls c k e at)
 
 -- After a fault there is nothing more to hold.
 held_dead : (reached : ℕ) (calls : List GroupCall) (c : GroupCall) (count : ℕ) (image : List ℕ) → first_fault calls ≡ Some count → c.failed ≡ Some count → HoldsSynced reached calls image → HoldsSynced reached (calls ++ c ∷ []) image
 held_dead reached calls c count image dead failed holds = λ k e at worked asked. ⊎_elim
-    (λ before. subst (λ (l : List (List ℕ)). HoldsUpTo reached (text None (take (k + 1) l)) image) (sym (none_more calls (c ∷ []) count dead).written) (holds k e before worked asked))
+    (λ before. subst (λ (l : List (List ℕ)). HoldsUpTo reached (text plain_log (take (k + 1) l)) image) (sym (none_more calls (c ∷ []) count dead).written) (holds k e before worked asked))
     (λ last. let wrong : ◌≡◌ {A = Option ℕ} None (Some count) = sym worked ∙ (ap (λ (x : GroupCall). x.failed) (sym last.1) ∙ failed) in absurd (cc))
     (in_more calls c k e at)
 
@@ -84,17 +84,17 @@ record IsHeld (reached : ℕ) (calls : List GroupCall) (image : List ℕ) : Type
   within : length image ≤ farthest reached calls
 
 -- A call that puts its record behind those of calls that worked
-module _ (reached : ℕ) (calls : List GroupCall) (c : GroupCall) (len : ℕ) (none : first_fault calls ≡ None) (len_is : len ≡ length (text None (written_by calls))) where
+module _ (reached : ℕ) (calls : List GroupCall) (c : GroupCall) (len : ℕ) (none : first_fault calls ≡ None) (len_is : len ≡ length (text plain_log (written_by calls))) where
   abbrev bytes : List ℕ
-  bytes = record_text None len (record_of_call c)
+  bytes = record_text plain_log len (record_of_call c)
 
   -- where it ends
-  begun_len : length (text None (begun_by (calls ++ c ∷ []))) ≡ length (text None (begun_by calls)) + length bytes
+  begun_len : length (text plain_log (begun_by (calls ++ c ∷ []))) ≡ length (text plain_log (begun_by calls)) + length bytes
   begun_len =
-      let front : List ℕ = text None (written_by calls) in
-      let text_is : text None (begun_by (calls ++ c ∷ [])) ≡ front ++ bytes =
-      ap (text None) (begun_more calls c none) ∙ (text_more (written_by calls) (record_of_call c) ∙ ap (λ (n : ℕ). front ++ record_text None n (record_of_call c)) (sym len_is)) in
-      omega (arith, ap length text_is, length-append front bytes, ap (λ (l : List (List ℕ)). length (text None l)) (begun_written calls none))
+      let front : List ℕ = text plain_log (written_by calls) in
+      let text_is : text plain_log (begun_by (calls ++ c ∷ [])) ≡ front ++ bytes =
+      ap (text plain_log) (begun_more calls c none) ∙ (text_more (written_by calls) (record_of_call c) ∙ ap (λ (n : ℕ). front ++ record_text plain_log n (record_of_call c)) (sym len_is)) in
+      omega (arith, ap length text_is, length-append front bytes, ap (λ (l : List (List ℕ)). length (text plain_log l)) (begun_written calls none))
 
   held_before : (image : List ℕ) → IsHeld reached calls image → IsHeld reached (calls ++ c ∷ []) image
   held_before image held =
@@ -102,8 +102,8 @@ module _ (reached : ℕ) (calls : List GroupCall) (c : GroupCall) (len : ℕ) (n
       record { holds = held_more reached calls c image none within held.holds; within = within }
 
   -- where the content ends before it
-  content_len : (x : Disk) (safe : ℕ) → HoldsCalls x calls safe → length x.content ≡ length (text None (begun_by calls))
-  content_len x safe holds = ap length (whole_text x calls safe none holds) ∙ ap (λ (l : List (List ℕ)). length (text None l)) (sym (begun_written calls none))
+  content_len : (x : Disk) (safe : ℕ) → HoldsCalls x calls safe → length x.content ≡ length (text plain_log (begun_by calls))
+  content_len x safe holds = ap length (whole_text x calls safe none holds) ∙ ap (λ (l : List (List ℕ)). length (text plain_log l)) (sym (begun_written calls none))
 
   held_in : (a : Option Disk) (image : List ℕ) → IfSome a IsDisk → IfSome a (λ d. (safe : ℕ) × HoldsCalls d calls safe) → IsSomeAnd a (λ d. d.reach ≤ farthest reached calls) → MayBeLeft a (length bytes) image → IsHeld reached (calls ++ c ∷ []) image
   held_in None image is holds reach left = absurd reach
@@ -152,7 +152,7 @@ module _ {D : Type 0} {ghosts : Ghosts D} (laws : Laws ghosts) (disk : D) (first
           let put = adds.put is_none in
           let a : Option Disk = ghosts.told (disk_of now) in
           let P : List ℕ → Type 0 = IsHeld first.reach (calls ++ c ∷ []) in
-          let Q : List ℕ → Type 0 = MayBeLeft a (length (record_text None (len_of now) (record_of_call c))) in
+          let Q : List ℕ → Type 0 = MayBeLeft a (length (record_text plain_log (len_of now) (record_of_call c))) in
           let earlier : LeavesOnly ghosts.moment ghosts.from ghosts.since disk (disk_of now) P =
           leaves_so ghosts.moment ghosts.from ghosts.since (IsHeld first.reach calls) P disk (disk_of now) held.leaves (held_before first.reach calls c (len_of now) none stands.len) in
           record {
@@ -163,9 +163,9 @@ module _ {D : Type 0} {ghosts : Ghosts D} (laws : Laws ghosts) (disk : D) (first
       by_fault (Some count) is_some kept =
           let dead : first_fault calls ≡ Some count = sym stands.fault ∙ is_some in
           let same : begun_by (calls ++ c ∷ []) ≡ begun_by calls = (none_more calls (c ∷ []) count dead).begun in
-          let len : length (text None (begun_by (calls ++ c ∷ []))) ≡ length (text None (begun_by calls)) = ap (λ (l : List (List ℕ)). length (text None l)) same in
+          let len : length (text plain_log (begun_by (calls ++ c ∷ []))) ≡ length (text plain_log (begun_by calls)) = ap (λ (l : List (List ℕ)). length (text plain_log l)) same in
           subst (λ (log : LogWriter D ghosts). Held (calls ++ c ∷ []) log) (sym kept.1) (record {
-            reach = subst (λ (l : List (List ℕ)). IsSomeAnd (ghosts.told (disk_of now)) (λ d. d.reach ≤ max first.reach (length (text None l)))) (sym same) held.reach;
+            reach = subst (λ (l : List (List ℕ)). IsSomeAnd (ghosts.told (disk_of now)) (λ d. d.reach ≤ max first.reach (length (text plain_log l)))) (sym same) held.reach;
             leaves = leaves_so ghosts.moment ghosts.from ghosts.since (IsHeld first.reach calls) (IsHeld first.reach (calls ++ c ∷ [])) disk (disk_of now) held.leaves
                 (λ image h. record { holds = held_dead first.reach calls c count image dead kept.0 h.holds; within = let h_within = h.within in omega (arith, h_within, len) });
           })

@@ -4,6 +4,7 @@ use Rattle.std.proofs.Math.ListN.{length-replicate}
 use Rattle.std.proofs.lemmas.Bool.{ltb-true}
 use Rattle.std.proofs.lemmas.List.{append-nil, drop-drop}
 use Rattle.std.specs.Result.{IsErr}
+use Rattle.model_base.specs.Log.{plain_log}
 use Rattle.base_devices.specs.Disk.{IsDisk, IsImage}
 use Rattle.base_devices.specs.declared.disk.Disk.{Ghosts}
 use Rattle.base_devices.specs.declared.failed.Failed.{Failed}
@@ -15,12 +16,12 @@ use Rattle.log_writer.proofs.Putting.{puts_none, puts_more, puts_cut}
 
 -- what is put of a piece, whose part is the front of what is left of the record
 abbrev pub put_of : List ℕ → Piece → List ℕ
-put_of rest p = let part = take (p.end - p.start) rest in replicate p.zeros 0 ++ (log.header None p.kind part ++ part)
+put_of rest p = let part = take (p.end - p.start) rest in replicate p.zeros 0 ++ (log.header plain_log p.kind part ++ part)
 
 -- Some of the record is put, and these pieces are still to come.
 pub record IsSoFar {D : Type 0} (ghosts : Ghosts D) (bytes : List ℕ) (offset : ℕ) (start now : D) (rest : List ℕ) (pieces : List Piece) (end : ℕ) : Type 0 where
   pub done : List ℕ
-  pub text : done ++ pieces_text bytes pieces ≡ log.record_text None offset bytes
+  pub text : done ++ pieces_text bytes pieces ≡ log.record_text plain_log offset bytes
   pub put : Puts {T = Unit {0}} {E = Failed} ghosts start now done false (Ok tt)
   pub end_is : end ≡ offset + length done
   pub from : ℕ
@@ -32,7 +33,7 @@ pub record IsSoFar {D : Type 0} (ghosts : Ghosts D) (bytes : List ℕ) (offset :
 -- None of it is put yet.
 pub starts_so : {D : Type 0} (ghosts : Ghosts D) (bytes : List ℕ) (offset at : ℕ) (start : D) (pieces : List Piece)
     → ((image : List ℕ) → ghosts.from start ≤ ghosts.moment start → ghosts.since start (ghosts.moment start) image → IfSome (ghosts.told start) (λ d. IsImage d image))
-    → pieces_text bytes pieces ≡ log.record_text None offset bytes → CoverRecord (length bytes) 0 pieces → StandInBlocks at pieces → IsSoFar ghosts bytes offset start start bytes pieces offset
+    → pieces_text bytes pieces ≡ log.record_text plain_log offset bytes → CoverRecord (length bytes) 0 pieces → StandInBlocks at pieces → IsSoFar ghosts bytes offset start start bytes pieces offset
 starts_so ghosts bytes offset at start pieces only text cut laid = record {
   done = [];
   text = text;
@@ -52,7 +53,7 @@ pub record MayBePut (rest : List ℕ) (p : Piece) : Type 0 where
   pub fits : p.end - p.start ≤ 32761
   pub there : p.end - p.start ≤ length rest
 
-few_zeros : (at : ℕ) → log.trailer None at ≤ 6
+few_zeros : (at : ℕ) → log.trailer plain_log at ≤ 6
 few_zeros at = by_room (nat_lt (log.room at) 7) refl
   where
     by_room : (b : Bool) → nat_lt (log.room at) 7 ≡ b → cond b (log.room at) 0 ≤ 6
@@ -81,9 +82,9 @@ module _ {D : Type 0} (ghosts : Ghosts D) (bytes : List ℕ) (offset : ℕ) (sta
   put_len =
       let part : List ℕ = take (p.end - p.start) rest in
       let may = may_be_put in
-      omega (arith, length-append (replicate p.zeros 0) (log.header None p.kind part ++ part), length-append (log.header None p.kind part) part, length-replicate {A = ℕ} p.zeros 0, length-take (p.end - p.start) rest, may.there)
+      omega (arith, length-append (replicate p.zeros 0) (log.header plain_log p.kind part ++ part), length-append (log.header plain_log p.kind part) part, length-replicate {A = ℕ} p.zeros 0, length-take (p.end - p.start) rest, may.there)
 
-  text_more : (so_far.done ++ put_of rest p) ++ pieces_text bytes ps ≡ log.record_text None offset bytes
+  text_more : (so_far.done ++ put_of rest p) ++ pieces_text bytes ps ≡ log.record_text plain_log offset bytes
   text_more = append_assoc so_far.done (put_of rest p) (pieces_text bytes ps) ∙ (ap (λ (l : List ℕ). so_far.done ++ (l ++ pieces_text bytes ps)) same_text ∙ so_far.text)
 
   pub puts_next : {T : Type 0} (then : D) (t : T) → IfSome (ghosts.told start) IsDisk → Puts {E = Failed} ghosts now then (put_of rest p) false (Ok t) → Puts {T = Unit {0}} {E = Failed} ghosts start then (so_far.done ++ put_of rest p) false (Ok tt)
@@ -109,7 +110,7 @@ module _ {D : Type 0} (ghosts : Ghosts D) (bytes : List ℕ) (offset : ℕ) (sta
 
   -- or it fails, and the record is put no further
   pub breaks_off : {T U : Type 0} (then : D) (e : Failed) (r : Result U Failed) → IfSome (ghosts.told start) IsDisk → IsErr r → Puts {T = T} ghosts now then (put_of rest p) false (Err e)
-      → Puts ghosts start then (log.record_text None offset bytes) false r
+      → Puts ghosts start then (log.record_text plain_log offset bytes) false r
   breaks_off {T = T} then e r is failed more =
       subst (λ (l : List ℕ). Puts ghosts start then l false r) text_more
       (puts_cut ghosts start then (so_far.done ++ put_of rest p) (pieces_text bytes ps) false e r failed (puts_more {T = T} ghosts start now then so_far.done (put_of rest p) false tt (Err e) is so_far.put more))
@@ -121,13 +122,13 @@ may_put_next ghosts bytes offset start now rest end pieces p ps first so_far =
     may_be_put ghosts bytes offset start now rest p ps end (subst (λ (l : List Piece). IsSoFar ghosts bytes offset start now rest l end) first so_far)
 
 -- all is put
-pub puts_whole : {D U : Type 0} (ghosts : Ghosts D) (bytes : List ℕ) (offset : ℕ) (start now : D) (rest : List ℕ) (end : ℕ) (u : U) → IsSoFar ghosts bytes offset start now rest [] end → Puts {E = Failed} ghosts start now (log.record_text None offset bytes) false (Ok u)
+pub puts_whole : {D U : Type 0} (ghosts : Ghosts D) (bytes : List ℕ) (offset : ℕ) (start now : D) (rest : List ℕ) (end : ℕ) (u : U) → IsSoFar ghosts bytes offset start now rest [] end → Puts {E = Failed} ghosts start now (log.record_text plain_log offset bytes) false (Ok u)
 puts_whole ghosts bytes offset start now rest end u so_far =
-    let whole : so_far.done ≡ log.record_text None offset bytes = sym (append-nil so_far.done) ∙ so_far.text in
+    let whole : so_far.done ≡ log.record_text plain_log offset bytes = sym (append-nil so_far.done) ∙ so_far.text in
     let q = so_far.put in
     subst (λ (l : List ℕ). Puts {E = Failed} ghosts start now l false (Ok u)) whole (record { are_put = q.are_put; counted = q.counted; cause = record { later = (q.cause).later; failed = tt; worked = (q.cause).worked }; reached = q.reached; crash = q.crash })
 
-pub ends_at : {D : Type 0} (ghosts : Ghosts D) (bytes : List ℕ) (offset : ℕ) (start now : D) (rest : List ℕ) (end : ℕ) → IsSoFar ghosts bytes offset start now rest [] end → end ≡ offset + length (log.record_text None offset bytes)
+pub ends_at : {D : Type 0} (ghosts : Ghosts D) (bytes : List ℕ) (offset : ℕ) (start now : D) (rest : List ℕ) (end : ℕ) → IsSoFar ghosts bytes offset start now rest [] end → end ≡ offset + length (log.record_text plain_log offset bytes)
 ends_at ghosts bytes offset start now rest end so_far =
-    let whole : so_far.done ≡ log.record_text None offset bytes = sym (append-nil so_far.done) ∙ so_far.text in
+    let whole : so_far.done ≡ log.record_text plain_log offset bytes = sym (append-nil so_far.done) ∙ so_far.text in
     omega (arith, so_far.end_is, ap length whole)

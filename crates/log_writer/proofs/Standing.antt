@@ -4,7 +4,7 @@ use Rattle.std.proofs.Math.Seq.{take-append-add}
 use Rattle.std.proofs.lemmas.List.{take-append-le, take_all, append-nil}
 use Rattle.base_devices.specs.Disk.{Disk, Told}
 use Rattle.base_devices.specs.declared.disk.Disk.{Ghosts}
-use Rattle.model_base.specs.Log.{record_text, text}
+use Rattle.model_base.specs.Log.{record_text, text, plain_log}
 use Rattle.log_writer.specs.declared.writer.LogWriter.{LogWriter}
 use Rattle.log_writer.specs.Puts.{HasFront, IsSynced, ArePut}
 use Rattle.log_writer.specs.Words.{disk_of, len_of, fault_of}
@@ -15,13 +15,13 @@ use Rattle.log_writer.proofs.Calls.{first_more, written_more, begun_more, begun_
 use Rattle.log_writer.proofs.Keeping.{text_more}
 
 -- where no call failed, the content is the text of what was written
-pub whole_text : (d : Disk) (calls : List GroupCall) (safe : ℕ) → first_fault calls ≡ None → HoldsCalls d calls safe → d.content ≡ text None (written_by calls)
+pub whole_text : (d : Disk) (calls : List GroupCall) (safe : ℕ) → first_fault calls ≡ None → HoldsCalls d calls safe → d.content ≡ text plain_log (written_by calls)
 whole_text d calls safe none holds =
-    let same : text None (begun_by calls) ≡ text None (written_by calls) = ap (text None) (begun_written calls none) in
-    holds.content ∙ (ap (take holds.many) same ∙ take_all holds.many (text None (written_by calls)) holds.whole)
+    let same : text plain_log (begun_by calls) ≡ text plain_log (written_by calls) = ap (text plain_log) (begun_written calls none) in
+    holds.content ∙ (ap (take holds.many) same ∙ take_all holds.many (text plain_log (written_by calls)) holds.whole)
 
 -- a record is put behind what was written
-module _ (x y : Disk) (calls : List GroupCall) (c : GroupCall) (len safe : ℕ) (is_none : first_fault calls ≡ None) (len_is : len ≡ length (text None (written_by calls))) (holds : HoldsCalls x calls safe) where
+module _ (x y : Disk) (calls : List GroupCall) (c : GroupCall) (len safe : ℕ) (is_none : first_fault calls ≡ None) (len_is : len ≡ length (text plain_log (written_by calls))) (holds : HoldsCalls x calls safe) where
   abbrev records : List (List ℕ)
   records = written_by calls ++ record_of_call c ∷ []
 
@@ -29,20 +29,20 @@ module _ (x y : Disk) (calls : List GroupCall) (c : GroupCall) (len safe : ℕ) 
   records_len = omega (arith, length-append (written_by calls) (record_of_call c ∷ []))
 
   -- with the call that put it
-  module _ (worked : c.failed ≡ None) (put : y.content ≡ x.content ++ record_text None len (record_of_call c)) where
+  module _ (worked : c.failed ≡ None) (put : y.content ≡ x.content ++ record_text plain_log len (record_of_call c)) where
     written : written_by (calls ++ c ∷ []) ≡ records
     written = written_more calls c is_none ∙ ap (λ (f : Option ℕ). written_by calls ++ if_worked f (record_of_call c ∷ []) []) worked
 
-    content : y.content ≡ text None records
-    content = put ∙ (ap (λ (l : List ℕ). l ++ record_text None len (record_of_call c)) (whole_text x calls safe is_none holds) ∙ (ap (λ (n : ℕ). text None (written_by calls) ++ record_text None n (record_of_call c)) len_is ∙ sym (text_more (written_by calls) (record_of_call c))))
+    content : y.content ≡ text plain_log records
+    content = put ∙ (ap (λ (l : List ℕ). l ++ record_text plain_log len (record_of_call c)) (whole_text x calls safe is_none holds) ∙ (ap (λ (n : ℕ). text plain_log (written_by calls) ++ record_text plain_log n (record_of_call c)) len_is ∙ sym (text_more (written_by calls) (record_of_call c))))
 
-    holds_with : (n : ℕ) → n ≤ length records → length (text None (take n records)) ≤ y.synced → HaveSynced (calls ++ c ∷ []) n → HoldsCalls y (calls ++ c ∷ []) n
+    holds_with : (n : ℕ) → n ≤ length records → length (text plain_log (take n records)) ≤ y.synced → HaveSynced (calls ++ c ∷ []) n → HoldsCalls y (calls ++ c ∷ []) n
     holds_with n some synced have = record {
-      many = length (text None records);
-      content = content ∙ (sym (take_all (length (text None records)) (text None records) (omega arith)) ∙ ap (λ (l : List (List ℕ)). take (length (text None records)) (text None l)) (sym (begun_more calls c is_none)));
-      whole = omega (arith, ap (λ (l : List (List ℕ)). length (text None l)) written);
+      many = length (text plain_log records);
+      content = content ∙ (sym (take_all (length (text plain_log records)) (text plain_log records) (omega arith)) ∙ ap (λ (l : List (List ℕ)). take (length (text plain_log records)) (text plain_log l)) (sym (begun_more calls c is_none)));
+      whole = omega (arith, ap (λ (l : List (List ℕ)). length (text plain_log l)) written);
       some = omega (arith, some, ap length written);
-      synced = subst (λ (l : List (List ℕ)). length (text None (take n l)) ≤ y.synced) (sym written) synced;
+      synced = subst (λ (l : List (List ℕ)). length (text plain_log (take n l)) ≤ y.synced) (sym written) synced;
       have_synced = have;
     }
 
@@ -51,41 +51,41 @@ module _ (x y : Disk) (calls : List GroupCall) (c : GroupCall) (len safe : ℕ) 
         let n : ℕ = length (written_by calls) + 1 in
         let all : take n records ≡ records = take_all n records (omega (arith, records_len)) in (
           n,
-          holds_with n (omega (arith, records_len)) (omega (arith, ap (λ (l : List (List ℕ)). length (text None l)) all, ap length content, synced.synced))
+          holds_with n (omega (arith, records_len)) (omega (arith, ap (λ (l : List (List ℕ)). length (text plain_log l)) all, ap length content, synced.synced))
               (synced_all (calls ++ c ∷ []) n (omega (arith, written_len calls is_none, length-append calls (c ∷ [])))),
         )
     whole_put false e synced =
         let same : take safe records ≡ take safe (written_by calls) = take-append-le safe (written_by calls) (record_of_call c ∷ []) holds.some in (
           safe,
-          holds_with safe (omega (arith, holds.some, records_len)) (omega (arith, ap (λ (l : List (List ℕ)). length (text None l)) same, holds.synced, synced))
+          holds_with safe (omega (arith, holds.some, records_len)) (omega (arith, ap (λ (l : List (List ℕ)). length (text plain_log l)) same, holds.synced, synced))
               (synced_more calls c safe holds.have_synced (λ ok asked. let wrong : true ≡ false = sym asked ∙ e in cc)),
         )
 
-  part_put : (count : ℕ) → c.failed ≡ Some count → HasFront x y (record_text None len (record_of_call c)) → y.synced ≡ x.synced → HoldsCalls y (calls ++ c ∷ []) safe
+  part_put : (count : ℕ) → c.failed ≡ Some count → HasFront x y (record_text plain_log len (record_of_call c)) → y.synced ≡ x.synced → HoldsCalls y (calls ++ c ∷ []) safe
   part_put count failed put synced =
       let written : written_by (calls ++ c ∷ []) ≡ written_by calls = written_more calls c is_none ∙ (ap (λ (f : Option ℕ). written_by calls ++ if_worked f (record_of_call c ∷ []) []) failed ∙ append-nil (written_by calls)) in
-      let front : List ℕ = text None (written_by calls) in
+      let front : List ℕ = text plain_log (written_by calls) in
       let n : ℕ = put.some in
-      let content : y.content ≡ take (length front + n) (text None records) =
-      put.content ∙ (ap (λ (l : List ℕ). l ++ take n (record_text None len (record_of_call c))) (whole_text x calls safe is_none holds)
-      ∙ (ap (λ (k : ℕ). front ++ take n (record_text None k (record_of_call c))) len_is
-      ∙ (sym (take-append-add front (record_text None (length front) (record_of_call c)) n) ∙ ap (take (length front + n)) (sym (text_more (written_by calls) (record_of_call c)))))) in
+      let content : y.content ≡ take (length front + n) (text plain_log records) =
+      put.content ∙ (ap (λ (l : List ℕ). l ++ take n (record_text plain_log len (record_of_call c))) (whole_text x calls safe is_none holds)
+      ∙ (ap (λ (k : ℕ). front ++ take n (record_text plain_log k (record_of_call c))) len_is
+      ∙ (sym (take-append-add front (record_text plain_log (length front) (record_of_call c)) n) ∙ ap (take (length front + n)) (sym (text_more (written_by calls) (record_of_call c)))))) in
       record {
         many = length front + n;
-        content = content ∙ ap (λ (l : List (List ℕ)). take (length front + n) (text None l)) (sym (begun_more calls c is_none));
-        whole = omega (arith, ap (λ (l : List (List ℕ)). length (text None l)) written);
+        content = content ∙ ap (λ (l : List (List ℕ)). take (length front + n) (text plain_log l)) (sym (begun_more calls c is_none));
+        whole = omega (arith, ap (λ (l : List (List ℕ)). length (text plain_log l)) written);
         some = omega (arith, holds.some, ap length written);
-        synced = subst (λ (l : List (List ℕ)). length (text None (take safe l)) ≤ y.synced) (sym written) (omega (arith, holds.synced, synced));
+        synced = subst (λ (l : List (List ℕ)). length (text plain_log (take safe l)) ≤ y.synced) (sym written) (omega (arith, holds.synced, synced));
         have_synced = synced_more calls c safe holds.have_synced (λ ok asked. let wrong : ◌≡◌ {A = Option ℕ} None (Some count) = sym ok ∙ failed in cc);
       }
 
-  put_behind : (f : Option ℕ) → c.failed ≡ f → ArePut x y (record_text None len (record_of_call c)) c.sync (answer_of f) → (n : ℕ) × HoldsCalls y (calls ++ c ∷ []) n
+  put_behind : (f : Option ℕ) → c.failed ≡ f → ArePut x y (record_text plain_log len (record_of_call c)) c.sync (answer_of f) → (n : ℕ) × HoldsCalls y (calls ++ c ∷ []) n
   put_behind None worked put = whole_put worked put.0 c.sync refl put.1
   put_behind (Some count) failed put = (safe, part_put count failed put.0 put.1)
 
 -- the same where the disk tells
-told_behind : (a b : Option Disk) (calls : List GroupCall) (c : GroupCall) (len : ℕ) → first_fault calls ≡ None → len ≡ length (text None (written_by calls)) → IfSome a (λ d. (safe : ℕ) × HoldsCalls d calls safe)
-    → Told a b (λ x y. ArePut x y (record_text None len (record_of_call c)) c.sync (answer_of c.failed)) → IfSome b (λ d. (safe : ℕ) × HoldsCalls d (calls ++ c ∷ []) safe)
+told_behind : (a b : Option Disk) (calls : List GroupCall) (c : GroupCall) (len : ℕ) → first_fault calls ≡ None → len ≡ length (text plain_log (written_by calls)) → IfSome a (λ d. (safe : ℕ) × HoldsCalls d calls safe)
+    → Told a b (λ x y. ArePut x y (record_text plain_log len (record_of_call c)) c.sync (answer_of c.failed)) → IfSome b (λ d. (safe : ℕ) × HoldsCalls d (calls ++ c ∷ []) safe)
 told_behind None None calls c len is_none len_is holds put = tt
 told_behind None (Some y) calls c len is_none len_is holds put = absurd put
 told_behind (Some x) None calls c len is_none len_is holds put = tt
@@ -97,10 +97,10 @@ stays d calls c count safe dead failed holds =
     let same = none_more calls (c ∷ []) count dead in
     record {
       many = holds.many;
-      content = holds.content ∙ ap (λ (l : List (List ℕ)). take holds.many (text None l)) (sym same.begun);
-      whole = omega (arith, holds.whole, ap (λ (l : List (List ℕ)). length (text None l)) same.written);
+      content = holds.content ∙ ap (λ (l : List (List ℕ)). take holds.many (text plain_log l)) (sym same.begun);
+      whole = omega (arith, holds.whole, ap (λ (l : List (List ℕ)). length (text plain_log l)) same.written);
       some = omega (arith, holds.some, ap length same.written);
-      synced = subst (λ (l : List (List ℕ)). length (text None (take safe l)) ≤ d.synced) (sym same.written) holds.synced;
+      synced = subst (λ (l : List (List ℕ)). length (text plain_log (take safe l)) ≤ d.synced) (sym same.written) holds.synced;
       have_synced = synced_more calls c safe holds.have_synced (λ ok asked. let wrong : ◌≡◌ {A = Option ℕ} None (Some count) = sym ok ∙ failed in cc);
     }
 
@@ -110,15 +110,15 @@ told_stays (Some d) calls c count dead failed holds = (holds.0, stays d calls c 
 
 -- One call more
 module _ {D : Type 0} {ghosts : Ghosts D} (calls : List GroupCall) (c : GroupCall) (now new : LogWriter D ghosts) (stands : Stands calls now) (adds : Adds c now new) where
-  alive : fault_of now ≡ None → (f : Option ℕ) → c.failed ≡ f → MatchOption f (Grows (record_text None (len_of now) (record_of_call c)) now new) (Stops now new) → Stands (calls ++ c ∷ []) new
+  alive : fault_of now ≡ None → (f : Option ℕ) → c.failed ≡ f → MatchOption f (Grows (record_text plain_log (len_of now) (record_of_call c)) now new) (Stops now new) → Stands (calls ++ c ∷ []) new
   alive is_none None worked grows =
       let before : first_fault calls ≡ None = sym stands.fault ∙ is_none in
       let written : written_by (calls ++ c ∷ []) ≡ written_by calls ++ record_of_call c ∷ [] = written_more calls c before ∙ ap (λ (f : Option ℕ). written_by calls ++ if_worked f (record_of_call c ∷ []) []) worked in
-      let text_is : text None (written_by (calls ++ c ∷ [])) ≡ text None (written_by calls) ++ record_text None (len_of now) (record_of_call c) =
-      ap (text None) written ∙ (text_more (written_by calls) (record_of_call c) ∙ ap (λ (n : ℕ). text None (written_by calls) ++ record_text None n (record_of_call c)) (sym stands.len)) in
+      let text_is : text plain_log (written_by (calls ++ c ∷ [])) ≡ text plain_log (written_by calls) ++ record_text plain_log (len_of now) (record_of_call c) =
+      ap (text plain_log) written ∙ (text_more (written_by calls) (record_of_call c) ∙ ap (λ (n : ℕ). text plain_log (written_by calls) ++ record_text plain_log n (record_of_call c)) (sym stands.len)) in
       record {
         fault = grows.fault ∙ (sym worked ∙ sym (first_more calls c before));
-        len = omega (arith, grows.len, stands.len, ap length text_is, length-append (text None (written_by calls)) (record_text None (len_of now) (record_of_call c)));
+        len = omega (arith, grows.len, stands.len, ap length text_is, length-append (text plain_log (written_by calls)) (record_text plain_log (len_of now) (record_of_call c)));
         told = told_behind (ghosts.told (disk_of now)) (ghosts.told (disk_of new)) calls c (len_of now) before stands.len stands.told (adds.put is_none).are_put;
       }
   alive is_none (Some count) failed stops =
@@ -126,7 +126,7 @@ module _ {D : Type 0} {ghosts : Ghosts D} (calls : List GroupCall) (c : GroupCal
       let written : written_by (calls ++ c ∷ []) ≡ written_by calls = written_more calls c before ∙ (ap (λ (f : Option ℕ). written_by calls ++ if_worked f (record_of_call c ∷ []) []) failed ∙ append-nil (written_by calls)) in
       record {
         fault = stops.fault ∙ (sym failed ∙ sym (first_more calls c before));
-        len = stops.len ∙ (stands.len ∙ ap (λ (l : List (List ℕ)). length (text None l)) (sym written));
+        len = stops.len ∙ (stands.len ∙ ap (λ (l : List (List ℕ)). length (text plain_log l)) (sym written));
         told = told_behind (ghosts.told (disk_of now)) (ghosts.told (disk_of new)) calls c (len_of now) before stands.len stands.told (adds.put is_none).are_put;
       }
 
@@ -136,7 +136,7 @@ module _ {D : Type 0} {ghosts : Ghosts D} (calls : List GroupCall) (c : GroupCal
       let same = none_more calls (c ∷ []) count before in
       subst (λ (log : LogWriter D ghosts). Stands (calls ++ c ∷ []) log) (sym kept.1) (record {
         fault = stands.fault ∙ sym same.fault;
-        len = stands.len ∙ ap (λ (l : List (List ℕ)). length (text None l)) (sym same.written);
+        len = stands.len ∙ ap (λ (l : List (List ℕ)). length (text plain_log l)) (sym same.written);
         told = told_stays (ghosts.told (disk_of now)) calls c count before kept.0 stands.told;
       })
 

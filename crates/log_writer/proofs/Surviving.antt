@@ -5,7 +5,7 @@ use Rattle.std.proofs.lemmas.List.{take-append-le, append-nil}
 use Rattle.base_devices.specs.Disk.{Disk, IsDisk, IsImage, Told, LeavesOnly}
 use Rattle.base_devices.specs.declared.disk.Disk.{Ghosts}
 use Rattle.model_base.specs.Counts.{Rose}
-use Rattle.model_base.specs.Log.{record_text, text}
+use Rattle.model_base.specs.Log.{record_text, text, plain_log}
 use Rattle.log_writer.specs.declared.writer.LogWriter.{LogWriter}
 use Rattle.log_writer.specs.Crashes.{KeepsSafe, KeepsWhatWasSafe, KeepsPrefix}
 use Rattle.log_writer.specs.Puts.{ArePut, Puts}
@@ -87,7 +87,7 @@ module _ {D : Type 0} {ghosts : Ghosts D} (laws : Laws ghosts) where
   survives_call c old new adds = by_fault (fault_of old) refl adds.dead
     where
       by_fault : (f : Option ℕ) → fault_of old ≡ f → IfSome f (λ count. (c.failed ≡ Some count) × (new ≡ old)) → Survives old new
-      by_fault None is_none kept = survives_put old new (record_text None (len_of old) (record_of_call c)) c.sync (answer_of c.failed) (adds.put is_none)
+      by_fault None is_none kept = survives_put old new (record_text plain_log (len_of old) (record_of_call c)) c.sync (answer_of c.failed) (adds.put is_none)
       by_fault (Some count) is_some kept = subst (λ (log : LogWriter D ghosts). Survives old log) (sym kept.1) (survives_none old)
 
   survives_more : (a b c : LogWriter D ghosts) → Survives a b → Survives b c → Survives a c
@@ -106,8 +106,8 @@ module _ {D : Type 0} {ghosts : Ghosts D} (laws : Laws ghosts) where
   caused_call : (disk : D) (c : GroupCall) (now new : LogWriter D ghosts) → HasCauseSince disk now → Adds c now new → HasCauseSince disk new
   caused_call disk c now new since adds = by_fault (fault_of now) refl adds.dead
     where
-      by_answer : (f : Option ℕ) → fault_of now ≡ None → Puts ghosts (disk_of now) (disk_of new) (record_text None (len_of now) (record_of_call c)) c.sync (answer_of f)
-          → MatchOption f (Grows (record_text None (len_of now) (record_of_call c)) now new) (Stops now new) → HasCauseSince disk new
+      by_answer : (f : Option ℕ) → fault_of now ≡ None → Puts ghosts (disk_of now) (disk_of new) (record_text plain_log (len_of now) (record_of_call c)) c.sync (answer_of f)
+          → MatchOption f (Grows (record_text plain_log (len_of now) (record_of_call c)) now new) (Stops now new) → HasCauseSince disk new
       by_answer None is_none put grows = record {
         later = omega (arith, since.later, (put.cause).later);
         rose = subst (λ (f : Option ℕ). IfSome f (λ count. Rose (ghosts.faults disk) count × (count ≤ ghosts.faults (disk_of new)))) (sym grows.fault) tt;
@@ -139,16 +139,16 @@ module _ {D : Type 0} {ghosts : Ghosts D} (laws : Laws ghosts) where
 
 -- What was safe of the records stands in front of each image.
 pub safe_front : (d : Disk) (calls : List GroupCall) (safe : ℕ) (image : List ℕ) → IsDisk d → HoldsCalls d calls safe → KeepsSafe d image
-    → take (length (text None (take safe (written_by calls)))) image ≡ text None (take safe (written_by calls))
+    → take (length (text plain_log (take safe (written_by calls)))) image ≡ text plain_log (take safe (written_by calls))
 safe_front d calls safe image is holds keeps =
-    let n : ℕ = length (text None (take safe (written_by calls))) in
+    let n : ℕ = length (text plain_log (take safe (written_by calls))) in
     let here = begun_front calls [] in
     let begun : begun_by calls ≡ written_by calls ++ here.0 = ap begun_by (sym (append-nil calls)) ∙ here.1 in
     let same_here : take safe (begun_by calls) ≡ take safe (written_by calls) = ap (take safe) begun ∙ take-append-le safe (written_by calls) here.0 holds.some in
-    let in_text : take n (text None (begun_by calls)) ≡ text None (take safe (written_by calls)) =
-    ap (λ (l : List (List ℕ)). take (length (text None l)) (text None (begun_by calls))) (sym same_here) ∙ (text_front (begun_by calls) safe ∙ ap (text None) same_here) in
-    let within : n ≤ holds.many = omega (arith, holds.synced, is.synced, ap length holds.content, length-take holds.many (text None (begun_by calls))) in
-    sym (take-take n d.synced image holds.synced) ∙ (ap (take n) keeps.front ∙ (take-take n d.synced d.content holds.synced ∙ (ap (take n) holds.content ∙ (take-take n holds.many (text None (begun_by calls)) within ∙ in_text))))
+    let in_text : take n (text plain_log (begun_by calls)) ≡ text plain_log (take safe (written_by calls)) =
+    ap (λ (l : List (List ℕ)). take (length (text plain_log l)) (text plain_log (begun_by calls))) (sym same_here) ∙ (text_front (begun_by calls) safe ∙ ap (text plain_log) same_here) in
+    let within : n ≤ holds.many = omega (arith, holds.synced, is.synced, ap length holds.content, length-take holds.many (text plain_log (begun_by calls))) in
+    sym (take-take n d.synced image holds.synced) ∙ (ap (take n) keeps.front ∙ (take-take n d.synced d.content holds.synced ∙ (ap (take n) holds.content ∙ (take-take n holds.many (text plain_log (begun_by calls)) within ∙ in_text))))
 
 -- What was safe is found, whatever was written or begun after it.
 pub holds_calls_keeps : (d : Disk) (calls more : List GroupCall) (safe : ℕ) (image : List ℕ) → IsDisk d → HoldsCalls d calls safe → KeepsSafe d image → KeepsPrefix (begun_by (calls ++ more)) safe image
@@ -157,8 +157,8 @@ holds_calls_keeps d calls more safe image is holds keeps =
     let all : List (List ℕ) = begun_by (calls ++ more) in
     let same : take safe all ≡ take safe (written_by calls) = ap (take safe) behind.1 ∙ take-append-le safe (written_by calls) behind.0 holds.some in
     keeps_prefix all safe image (omega (arith, holds.some, ap length behind.1, length-append (written_by calls) behind.0))
-    (subst (λ (l : List (List ℕ)). length (text None l) ≤ length image) (sym same) (omega (arith, holds.synced, keeps.no_shorter)))
-    (subst (λ (l : List (List ℕ)). take (length (text None l)) image ≡ text None l) (sym same) (safe_front d calls safe image is holds keeps))
+    (subst (λ (l : List (List ℕ)). length (text plain_log l) ≤ length image) (sym same) (omega (arith, holds.synced, keeps.no_shorter)))
+    (subst (λ (l : List (List ℕ)). take (length (text plain_log l)) image ≡ text plain_log l) (sym same) (safe_front d calls safe image is holds keeps))
 
 -- at any moment of calls behind some
 pub told_keeps : {D : Type 0} (moment from : D → ℕ) (since : D → ℕ → List ℕ → Type 0) (told : Option Disk) (a b : D) (before after : List GroupCall) → IfSome told IsDisk → LeavesOnly moment from since a b (KeepsWhatWasSafe told)

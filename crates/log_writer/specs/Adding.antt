@@ -2,7 +2,7 @@
 use Rattle.std.specs.Prelude.{◌≡◌, ℕ, ◌+◌, Bool, List, length, Option, Some, None, Result, Ok, Err, IfSome, MatchOption}
 use Rattle.base_devices.specs.declared.disk.Disk.{Ghosts}
 pub use Rattle.model_base.specs.LogContents.{GroupCall, record_of_call}
-use Rattle.model_base.specs.Log.{record_text}
+use Rattle.model_base.specs.Log.{record_text, plain_log}
 use Rattle.log_batch.specs.Contents.{Contents}
 use Rattle.log_writer.specs.declared.errors.Fault.{Fault}
 use Rattle.log_writer.specs.declared.writer.LogWriter.{LogWriter}
@@ -42,7 +42,7 @@ module _ {D : Type 0} {ghosts : Ghosts D} where
 
   -- the text of the call's record at the end of the log
   abbrev pub text_at_end : GroupCall → LogWriter D ghosts → List ℕ
-  text_at_end c log = record_text None (len_of log) (record_of_call c)
+  text_at_end c log = record_text plain_log (len_of log) (record_of_call c)
 
   -- The call put the record's text at the end of the log, and synced it if that was asked. After a fault nothing is
   -- done.

@@ -4,7 +4,7 @@ use Rattle.std.specs.List.{AllByRecursion}
 use Rattle.base_devices.specs.Disk.{Disk, IsImage, LeavesOnly}
 use Rattle.base_devices.specs.declared.disk.Disk.{Ghosts}
 use Rattle.model_base.specs.Batch.{IsBatch}
-use Rattle.model_base.specs.Log.{text}
+use Rattle.model_base.specs.Log.{text, plain_log}
 use Rattle.model_base.specs.Recovery.{Logged, logged_bytes, AreInOrder, NoChance, NoChanceForReader}
 use Rattle.log_laws.specs.Prefixes.{RecoversPrefix, ReadsPrefix}
 pub use Rattle.model_base.specs.LogContents.{HoldsUpTo}
@@ -33,9 +33,9 @@ MayBeLeft told more image = IfSome told (λ d. IsLeft d more image)
 
 -- the disk's content is the text of these records, and the first of them, so many, are safe
 pub record HoldsRecords (d : Disk) (records : List (List ℕ)) (safe : ℕ) : Type 0 where
-  pub content : d.content ≡ text None records
+  pub content : d.content ≡ text plain_log records
   pub some : safe ≤ length records
-  pub synced : length (text None (take safe records)) ≤ d.synced
+  pub synced : length (text plain_log (take safe records)) ≤ d.synced
 
 -- the records are batches whose runs rise
 pub record AreRisingBatches (records : List (List ℕ)) : Type 0 where
@@ -47,9 +47,9 @@ pub record AreRisingBatches (records : List (List ℕ)) : Type 0 where
 -- With no chance, recovery and a reader of the image find a prefix of these records, at least so many.
 -- Recovery looks at batches, so it is said of recovery where those are batches whose runs rise.
 pub record KeepsPrefix (records : List (List ℕ)) (safe : ℕ) (image : List ℕ) : Type 0 where
-  pub recovered : AreRisingBatches (take safe records) → NoChance None image (text None records)
+  pub recovered : AreRisingBatches (take safe records) → NoChance plain_log image (text plain_log records)
       → RecoversPrefix records image (λ n. safe ≤ n)
-  pub read : NoChanceForReader None image (text None records) → ReadsPrefix records image (λ n. safe ≤ n)
+  pub read : NoChanceForReader plain_log image (text plain_log records) → ReadsPrefix records image (λ n. safe ≤ n)
 
 -- A crash at any moment of a call that adds a record leaves a prefix of the records before and of this one, with all
 -- that was safe.
@@ -61,5 +61,5 @@ LeavesPrefix ghosts old new record_bytes = IfSome (ghosts.told old) (λ d. (reco
 -- Now that it has returned a crash leaves the records before and this one.
 abbrev pub IsDurable : {D : Type 0} → Ghosts D → D → D → List ℕ → Type 0
 IsDurable ghosts old new record_bytes = IfSome (ghosts.told old) (λ d. (records : List (List ℕ))
-    → d.content ≡ text None records → IfSome (ghosts.told new) (λ e. (image : List ℕ) → IsImage e image
+    → d.content ≡ text plain_log records → IfSome (ghosts.told new) (λ e. (image : List ℕ) → IsImage e image
     → KeepsPrefix (records ++ record_bytes ∷ []) (length records + 1) image))

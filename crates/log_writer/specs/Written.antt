@@ -4,7 +4,7 @@ use Rattle.std.specs.List.{AllByRecursion}
 use Rattle.base_devices.specs.Disk.{Disk}
 use Rattle.base_devices.specs.declared.disk.Disk.{Ghosts}
 use Rattle.model_base.specs.Counts.{Rose}
-use Rattle.model_base.specs.Log.{text}
+use Rattle.model_base.specs.Log.{text, plain_log}
 use Rattle.log_writer.specs.declared.writer.LogWriter.{LogWriter}
 use Rattle.log_writer.specs.Words.{disk_of, len_of, fault_of}
 use Rattle.log_writer.specs.Crashes.{HoldsUpTo}
@@ -57,22 +57,22 @@ HaveSynced calls n = AllByRecursion (λ (c : GroupCall). c.failed ≡ None → c
 -- Of each of these calls that worked and was to sync, an image holds all up to the end of its record.
 abbrev pub HoldsSynced : ℕ → List GroupCall → List ℕ → Type 0
 HoldsSynced reached calls image = (k : ℕ) (c : GroupCall) → slice_get calls k ≡ Some c → c.failed ≡ None → c.sync ≡ true
-    → HoldsUpTo reached (text None (take (k + 1) (written_by calls))) image
+    → HoldsUpTo reached (text plain_log (take (k + 1) (written_by calls))) image
 
 -- The disk's content is the text of all that was written, and perhaps a prefix of what was begun. The first records, so
 -- many, are safe, and those that were to be synced are among them.
 pub record HoldsCalls (d : Disk) (calls : List GroupCall) (safe : ℕ) : Type 0 where
   pub many : ℕ
-  pub content : d.content ≡ take many (text None (begun_by calls))
-  pub whole : length (text None (written_by calls)) ≤ many
+  pub content : d.content ≡ take many (text plain_log (begun_by calls))
+  pub whole : length (text plain_log (written_by calls)) ≤ many
   pub some : safe ≤ length (written_by calls)
-  pub synced : length (text None (take safe (written_by calls))) ≤ d.synced
+  pub synced : length (text plain_log (take safe (written_by calls))) ≤ d.synced
   pub have_synced : HaveSynced calls safe
 
 -- the log has the first fault of these calls, and what they wrote
 pub record Stands {D : Type 0} {ghosts : Ghosts D} (calls : List GroupCall) (log : LogWriter D ghosts) : Type 0 where
   pub fault : fault_of log ≡ first_fault calls
-  pub len : len_of log ≡ length (text None (written_by calls))
+  pub len : len_of log ≡ length (text plain_log (written_by calls))
   pub told : IfSome (ghosts.told (disk_of log)) (λ d. (safe : ℕ) × HoldsCalls d calls safe)
 
 -- the fault came in one of the calls: the disk's count rose to it since then, and where there is none it stands

@@ -1,6 +1,7 @@
 //! What is put at the end of a log's disk.
 
 ghost use Rattle.std.specs.Prelude.{◌≡◌, ◌+◌, ◌-◌, ◌^◌, ◌<◌, ◌≤◌, [], ◌++◌, length, take, drop, replicate, true, false, None, OnOk, IfOk};
+ghost use Rattle.model_base.specs.Log.{plain_log};
 ghost use Rattle.model_base.specs.Log as log;
 ghost use Rattle.log_writer.specs.Groups.{counts_of, body_lens_of, record_of_group};
 ghost use Rattle.log_writer.specs.Puts.{Puts};
@@ -42,7 +43,7 @@ fn fill(block: &mut [u8], rest: &mut GroupBytes<'_>, kind: u8, len: usize)
     requires fits { len ≤ MAX_PART_LEN }
     requires there { len ≤ length rest.old }
     ensures filled { let part = take len rest.old in
-        take (HEADER_LEN + len) block.new ≡ log.header None kind part ++ part }
+        take (HEADER_LEN + len) block.new ≡ log.header plain_log kind part ++ part }
     ensures rest { rest.new ≡ drop len rest.old }
 {
     let end = HEADER_LEN + len;
@@ -64,7 +65,7 @@ fn put_piece<D: Disk>(
     requires fits { piece.end - piece.start ≤ MAX_PART_LEN }
     requires there { piece.end - piece.start ≤ length rest.old }
     ensures put { let part = take (piece.end - piece.start) rest.old in
-        let text = replicate piece.zeros 0 ++ (log.header None piece.kind part ++ part) in
+        let text = replicate piece.zeros 0 ++ (log.header plain_log piece.kind part ++ part) in
         Puts ⟦<D as Disk>⟧ disk.old disk.new text false result }
     ensures rest { OnOk result (rest.new ≡ drop (piece.end - piece.start) rest.old) }
 {
@@ -95,8 +96,8 @@ fn put_record<D: Disk>(
     requires room { length block.old ≡ BLOCK_LEN }
     requires counted { offset ≤ D.added disk.old }
     requires whole { len ≡ length rest.old }
-    ensures put { Puts ⟦<D as Disk>⟧ disk.old disk.new (log.record_text None offset rest.old) false result }
-    ensures end { IfOk result (λ end. end ≡ offset + length (log.record_text None offset rest.old)) }
+    ensures put { Puts ⟦<D as Disk>⟧ disk.old disk.new (log.record_text plain_log offset rest.old) false result }
+    ensures end { IfOk result (λ end. end ≡ offset + length (log.record_text plain_log offset rest.old)) }
 {
     let mut end = offset;
     for piece in Fragmenter::new((offset % BLOCK_LEN as u64) as usize, len) {
@@ -119,9 +120,9 @@ fn put_members<D: Disk>(
     requires counted { offset ≤ D.added disk.old }
     requires counts { counts_of members.now < 2 ^ 32 }
     requires lens { body_lens_of members.now < 2 ^ 63 }
-    ensures put { let text = log.record_text None offset (record_of_group first members.now) in
+    ensures put { let text = log.record_text plain_log offset (record_of_group first members.now) in
         Puts ⟦<D as Disk>⟧ disk.old disk.new text false result }
-    ensures end { let text = log.record_text None offset (record_of_group first members.now) in
+    ensures end { let text = log.record_text plain_log offset (record_of_group first members.now) in
         IfOk result (λ end. end ≡ offset + length text) }
 {
     if let [only] = members
@@ -151,9 +152,9 @@ pub(crate) fn put_group<D: Disk>(
     requires counted { offset ≤ D.added disk.old }
     requires counts { counts_of members.now < 2 ^ 32 }
     requires lens { body_lens_of members.now < 2 ^ 63 }
-    ensures put { let text = log.record_text None offset (record_of_group first members.now) in
+    ensures put { let text = log.record_text plain_log offset (record_of_group first members.now) in
         Puts ⟦<D as Disk>⟧ disk.old disk.new text sync result }
-    ensures end { let text = log.record_text None offset (record_of_group first members.now) in
+    ensures end { let text = log.record_text plain_log offset (record_of_group first members.now) in
         IfOk result (λ end. end ≡ offset + length text) }
 {
     let end = put_members(disk, block, offset, first, members)?;

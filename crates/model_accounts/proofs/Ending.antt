@@ -3,7 +3,7 @@ use Rattle.std.proofs.Common.{◌≡◌, inl, inr, ℕ, ◌+◌, ◌≤◌, Opti
 use Rattle.std.proofs.lemmas.Option.{slice_get-map, slice_get_cases}
 use Rattle.std.proofs.lemmas.List.{length-map}
 use Rattle.std.specs.Option.{option_map}
-use Rattle.model_base.specs.History.{IsHistory}
+use Rattle.model_base.specs.History.{Entry, IsHistory}
 use Rattle.model_base.specs.Tokens.{tokens_of}
 use Rattle.model_base.specs.Trace.{Trace, Settings}
 use Rattle.model_base.specs.Groups.{Group, AreStatuses}
@@ -14,10 +14,10 @@ use Rattle.model_accounts.specs.Closing.{all_attempts, IsAccountOf, IsClosing}
 use Rattle.model_accounts.specs.ClientRuns.{HasRun, HaveRun}
 
 -- one client's run is legal in the trace of which its account is a part
-transcript_closes : (settings : Settings) (trace : Trace) (groups : List Group) (fault : Option ℕ) (client : ℕ) (commands : List Command) (calls : List Call) (a : Account)
-    → IsHistory trace.start trace.entries → IsAccountOf trace groups fault a → HasRun settings client commands calls a
+transcript_closes : (settings : Settings) (trace : Trace) (groups : List Group) (parts : List (List Entry)) (fault : Option ℕ) (client : ℕ) (commands : List Command) (calls : List Call) (a : Account)
+    → IsHistory trace.start trace.entries → IsAccountOf trace groups parts fault a → HasRun settings client commands calls a
     → IsLegalTranscript settings trace groups fault client commands calls a.attempts
-transcript_closes settings trace groups fault client commands calls a is_history part run = record {
+transcript_closes settings trace groups parts fault client commands calls a is_history part run = record {
   end = run.end;
   is_transcript = run.is_transcript trace is_history part.seen;
   accepted = ap (λ n. entries_of_client n trace.entries) (sym run.number) ∙ (part.accepted ∙ run.mine);
@@ -42,7 +42,7 @@ closing settings ended script transcripts accounts trace groups last log_len fau
         let a = at.0 in (
           a.attempts,
           slice_get-map (λ (x : Account). x.attempts) accounts i ∙ ap (option_map (λ (x : Account). x.attempts)) at.2,
-          transcript_closes settings trace groups fault (i + 1) commands calls a close.is_trace.entries (close.each i a at.2) (runs.each i commands calls a in_script in_transcripts at.2),
+          transcript_closes settings trace groups close.parts fault (i + 1) commands calls a close.is_trace.entries (close.each i a at.2) (runs.each i commands calls a in_script in_transcripts at.2),
         ))
     | inr none ↦ absurd (none_left i commands in_script none)
   ];

@@ -21,11 +21,11 @@ filter_append {A = A} p (x ∷ xs) ys = by_test (p x) (filter_append p xs ys)
 count_append : (client : ℕ) (xs ys : List Taken) → count_of_client client (xs ++ ys) ≡ count_of_client client xs + count_of_client client ys
 count_append client xs ys = ap length (filter_append (is_of client) xs ys) ∙ length-append (filter (is_of client) xs) (filter (is_of client) ys)
 
-all_left : {A : Type 0} (P : A → Type 0) (xs ys : List A) → AllByRecursion P (xs ++ ys) → AllByRecursion P xs
+pub all_left : {A : Type 0} (P : A → Type 0) (xs ys : List A) → AllByRecursion P (xs ++ ys) → AllByRecursion P xs
 all_left P [] ys h = tt
 all_left P (x ∷ xs) ys h = (h.0, all_left P xs ys h.1)
 
-all_right : {A : Type 0} (P : A → Type 0) (xs ys : List A) → AllByRecursion P (xs ++ ys) → AllByRecursion P ys
+pub all_right : {A : Type 0} (P : A → Type 0) (xs ys : List A) → AllByRecursion P (xs ++ ys) → AllByRecursion P ys
 all_right P [] ys h = h
 all_right P (x ∷ xs) ys h = all_right P xs ys h.1
 
@@ -77,7 +77,7 @@ asked_after group_bytes controller_calls before (g ∷ led) h = (
 )
 
 -- No commit stands twice: the later one of a client has the greater number
-own_is : (t : Taken) → is_of t.client t ≡ true
+pub own_is : (t : Taken) → is_of t.client t ≡ true
 own_is t = nat_same t.client
   where
     nat_same : (n : ℕ) → (n == n) ≡ true
@@ -164,7 +164,7 @@ module _ (attempts : List (List Attempt)) (all : List Taken) (of_client : (i : �
 same_client : (a b : ℕ) → (a == b) ≡ true → a ≡ b
 same_client a b h = grind arith
 
-attempts_append : (client : ℕ) (xs ys : List Taken) → attempts_of client (xs ++ ys) ≡ attempts_of client xs ++ attempts_of client ys
+pub attempts_append : (client : ℕ) (xs ys : List Taken) → attempts_of client (xs ++ ys) ≡ attempts_of client xs ++ attempts_of client ys
 attempts_append client xs ys = ap (map (λ (t : Taken). t.attempt)) (filter_append (is_of client) xs ys) ∙ map_append (filter (is_of client) xs) (filter (is_of client) ys)
   where
     map_append : (ts us : List Taken) → map (λ (t : Taken). t.attempt) (ts ++ us) ≡ map (λ (t : Taken). t.attempt) ts ++ map (λ (t : Taken). t.attempt) us

@@ -7,5 +7,7 @@ pub mod Visible
 pub mod LostBatches
 pub mod Wholes
 pub mod Leading
+pub mod Parts
 pub mod Logs
 pub mod OneBatch
+pub mod Pair

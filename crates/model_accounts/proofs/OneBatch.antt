@@ -46,6 +46,7 @@ unfolding varint_within
 wrote = record {
   number = refl;
   mine = refl;
+  ends = refl;
   asked = refl;
   attempts = refl;
   seen = record { start = refl; published = (after.seen.published, refl); controller_calls = (after.seen.controller_calls, refl) };
@@ -59,7 +60,7 @@ wrote = record {
 }
 
 gives_back : GivesBack after after
-gives_back = record { number = refl; mine = refl; asked = refl; attempts = refl; seen = sees_self after.seen }
+gives_back = record { number = refl; mine = refl; ends = refl; asked = refl; attempts = refl; seen = sees_self after.seen }
 
 has_run_once : HasRun settings 1 commands calls after
 has_run_once =
@@ -126,14 +127,16 @@ closing = record {
     tokens = ((λ token. absurd (cc token)), tt);
   };
   are_groups = are_groups;
+  parts = (one_entry ∷ []) ∷ [];
+  are_parts = record { cut = refl; made = (refl, tt) };
   each = each;
   last_is = refl;
   fault_is = tt;
 }
   where
-    of_client : IsAccountOf one_batch (one_group ∷ []) None after
-    of_client = record { accepted = refl; tokens = refl; statuses = (tt, tt); seen = whole }
+    of_client : IsAccountOf one_batch (one_group ∷ []) ((one_entry ∷ []) ∷ []) None after
+    of_client = record { accepted = refl; ends = refl; tokens = refl; statuses = (tt, tt); seen = whole }
 
-    each : (i : ℕ) (a : Account) → slice_get (after ∷ []) i ≡ Some a → IsAccountOf one_batch (one_group ∷ []) None a
-    each zero a there = let is : after ≡ a = cc there in subst (λ (x : Account). IsAccountOf one_batch (one_group ∷ []) None x) is of_client
+    each : (i : ℕ) (a : Account) → slice_get (after ∷ []) i ≡ Some a → IsAccountOf one_batch (one_group ∷ []) ((one_entry ∷ []) ∷ []) None a
+    each zero a there = let is : after ≡ a = cc there in subst (λ (x : Account). IsAccountOf one_batch (one_group ∷ []) ((one_entry ∷ []) ∷ []) None x) is of_client
     each (suc i) a there = absurd (cc there)

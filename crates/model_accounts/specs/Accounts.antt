@@ -15,17 +15,25 @@ use Rattle.model_base.specs.Replies.{IsLater, AreFullBelow, MayRefuse}
 use Rattle.table_rule.specs.Histories.{map_after}
 use Rattle.model_accounts.specs.Sights.{Sight, unseen, last_seen, Sees}
 
--- One client: its accepted batches, its calls of the controller that were done, its commits that a leader took in hand,
--- and what it has seen of the run
+-- One client: its accepted batches, for each of them the last sequence of its group, its calls of the controller that
+-- were done, its commits that a leader took in hand, and what it has seen of the run
 pub record Account : Type 0 where
   pub number : ℕ
   pub mine : List Entry
+  pub ends : List ℕ
   pub asked : List Action
   pub attempts : List Attempt
   pub seen : Sight
 
 abbrev pub newcomer : ℕ → ℕ → Account
-newcomer start number = record { number = number; mine = []; asked = []; attempts = []; seen = unseen start }
+newcomer start number = record {
+  number = number;
+  mine = [];
+  ends = [];
+  asked = [];
+  attempts = [];
+  seen = unseen start;
+}
 
 -- where a client stands that has this account, this batch in the making, and was shown what is published up to
 -- `seen_up_to`
@@ -43,16 +51,18 @@ standing a pending seen_up_to = record {
 pub record Keeps (v w : Account) : Type 0 where
   pub number : w.number ≡ v.number
   pub mine : w.mine ≡ v.mine
+  pub ends : w.ends ≡ v.ends
   pub asked : w.asked ≡ v.asked
   pub attempts : w.attempts ≡ v.attempts
   pub seen : Sees v.seen w.seen
 
 -- A batch has its run: one entry more. The run is above all that the client had seen published, and above each sequence
--- behind which there was no room for a batch of its. It has seen the end of the batch's group published.
+-- behind which there was no room for a batch of its. It has seen the batch's group published, up to the group's end.
 pub record Wrote (settings : Settings) (v : Account) (records : List Record) (how : WriteOptions) (first group_last : ℕ)
     (w : Account) : Type 0 where
   pub number : w.number ≡ v.number
   pub mine : w.mine ≡ v.mine ++ next_entry v.number v.mine how first records ∷ []
+  pub ends : w.ends ≡ v.ends ++ group_last ∷ []
   pub asked : w.asked ≡ v.asked
   pub attempts : w.attempts ≡ with_attempt v.attempts records how (Some succeeded)
   pub seen : Sees v.seen w.seen
@@ -72,6 +82,7 @@ pub record IsRefused (v : Account) (records : List Record) (how : WriteOptions) 
       how why status
   pub number : w.number ≡ v.number
   pub mine : w.mine ≡ v.mine
+  pub ends : w.ends ≡ v.ends
   pub asked : w.asked ≡ v.asked
   pub attempts : w.attempts ≡ with_attempt v.attempts records how status
   pub seen : Sees v.seen w.seen
@@ -94,6 +105,7 @@ pub record Reads (at : ℕ) (answers : Pairs → Type 0) (w : Account) : Type 0 
 pub record Asks (v : Account) (action : Action) (w : Account) : Type 0 where
   pub number : w.number ≡ v.number
   pub mine : w.mine ≡ v.mine
+  pub ends : w.ends ≡ v.ends
   pub asked : w.asked ≡ v.asked ++ action ∷ []
   pub attempts : w.attempts ≡ v.attempts
   pub seen : Sees v.seen w.seen
@@ -105,6 +117,7 @@ pub record Asks (v : Account) (action : Action) (w : Account) : Type 0 where
 pub record GivesBack (v w : Account) : Type 0 where
   pub number : w.number ≡ v.number
   pub mine : w.mine ≡ v.mine
+  pub ends : w.ends ≡ v.ends
   pub asked : w.asked ≡ v.asked ++ given_back v.asked
   pub attempts : w.attempts ≡ v.attempts
   pub seen : Sees v.seen w.seen

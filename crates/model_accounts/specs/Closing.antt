@@ -1,6 +1,6 @@
 -- What the closing of a write path says of all its clients.
 use Rattle.std.specs.Prelude.{◌≡◌, ℕ, ◌+◌, ◌≤◌, List, length, map, Option, Some, slice_get, IfSome}
-use Rattle.model_base.specs.History.{last_sequence}
+use Rattle.model_base.specs.History.{Entry, last_sequence}
 use Rattle.model_base.specs.Counts.{Rose}
 use Rattle.model_base.specs.Tokens.{tokens_of}
 use Rattle.model_base.specs.Trace.{Trace, Settings}
@@ -9,6 +9,7 @@ use Rattle.model_base.specs.Groups.{Group, AreGroups, AreStatuses}
 use Rattle.model_base.specs.Outcomes.{entries_of_client, IsTrace}
 use Rattle.model_accounts.specs.Sights.{Saw}
 use Rattle.model_accounts.specs.Accounts.{Account}
+use Rattle.model_accounts.specs.Parts.{AreParts, ends_in}
 
 -- these are all clients, in their order
 pub record AreOurs {C : Type 0} (belongs : C → Type 0) (account : C → Account) (clients : ℕ)
@@ -16,9 +17,12 @@ pub record AreOurs {C : Type 0} (belongs : C → Type 0) (account : C → Accoun
   pub number_of : length cs ≡ clients
   pub each : (i : ℕ) (c : C) → slice_get cs i ≡ Some c → belongs c × ((account c).number ≡ i + 1)
 
--- what a client has done is just its part of the trace, and what it has seen was seen of the trace
-pub record IsAccountOf (trace : Trace) (groups : List Group) (fault : Option ℕ) (a : Account) : Type 0 where
+-- What a client has done is just its part of the trace, what it has seen was seen of the trace, and it was told the
+-- last sequence of each of its batches' groups, whose entries are these parts.
+pub record IsAccountOf (trace : Trace) (groups : List Group) (parts : List (List Entry)) (fault : Option ℕ)
+    (a : Account) : Type 0 where
   pub accepted : entries_of_client a.number trace.entries ≡ a.mine
+  pub ends : a.ends ≡ ends_in a.number parts
   pub tokens : tokens_of a.number trace.controller_calls ≡ a.asked
   pub statuses : AreStatuses trace groups fault a.number 0 a.attempts
   pub seen : Saw a.seen trace
@@ -27,11 +31,14 @@ pub record IsAccountOf (trace : Trace) (groups : List Group) (fault : Option ℕ
 abbrev pub all_attempts : List Account → List (List Attempt)
 all_attempts accounts = map (λ (a : Account). a.attempts) accounts
 
--- There was one trace, and groups of commits beside it, of which these accounts are parts.
+-- There was one trace, and groups of commits beside it, each of which made a part of the trace's entries, and of these
+-- the accounts are what each client did and saw.
 pub record IsClosing (settings : Settings) (ended : ℕ) (trace : Trace) (groups : List Group) (accounts : List Account)
     (last : ℕ) (fault : Option ℕ) : Type 0 where
   pub is_trace : IsTrace settings trace
   pub are_groups : AreGroups settings.group_bytes trace.controller_calls groups (all_attempts accounts)
-  pub each : (i : ℕ) (a : Account) → slice_get accounts i ≡ Some a → IsAccountOf trace groups fault a
+  pub parts : List (List Entry)
+  pub are_parts : AreParts (all_attempts accounts) groups trace.entries parts
+  pub each : (i : ℕ) (a : Account) → slice_get accounts i ≡ Some a → IsAccountOf trace groups parts fault a
   pub last_is : last ≡ last_sequence trace.start trace.entries
   pub fault_is : IfSome fault (λ count. Rose settings.opened count × (count ≤ ended))

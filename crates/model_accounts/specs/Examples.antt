@@ -1,20 +1,22 @@
--- A client that commits one batch, and what can be seen of it.
-use Rattle.std.specs.Prelude.{false, List, [], ◌∷◌, codes, Some}
+-- A client that commits one batch, and what can be seen of it; and two clients whose batches go as one group.
+use Rattle.std.specs.Prelude.{ℕ, ◌+◌, false, List, [], ◌∷◌, codes, Some}
+use Rattle.model_base.specs.declared.limits.TheConstants.{MAX_SIZE}
 use Rattle.model_base.specs.declared.history.Flag.TheVariants.{Log}
 use Rattle.model_base.specs.declared.write.WriteOptions.{WriteOptions}
 use Rattle.model_base.specs.Batch.{Record, value, size_of_batch}
 use Rattle.model_base.specs.History.{Entry}
 use Rattle.model_base.specs.Controller.{ControllerCall, delay}
 use Rattle.model_base.specs.Trace.{Trace, Settings}
-use Rattle.model_base.specs.Attempts.{Attempt, succeeded, item_of}
+use Rattle.model_base.specs.Attempts.{Attempt, succeeded, slowed, item_of}
 use Rattle.model_base.specs.Groups.{Group}
 use Rattle.model_base.specs.Calls.{Command, add, commit, Call, quiet, accepted}
+use Rattle.table_rule.specs.declared.content.MemberVersions.{MemberVersions}
 use Rattle.table_rule.specs.declared.content.Version.{Version}
 use Rattle.model_accounts.specs.Sights.{Sight}
 use Rattle.model_accounts.specs.Accounts.{Account, newcomer}
 
 abbrev pub settings : Settings
-settings = record { start = 0; clients = 1; group_bytes = 1048576; batch_bytes = 16777216; opened = 0 }
+settings = record { start = 0; clients = 1; group_bytes = 1048576; batch_bytes = MAX_SIZE; opened = 0 }
 
 -- `put a 1` and `put b 2`, in one batch
 abbrev pub two_records : List Record
@@ -66,6 +68,7 @@ before = newcomer 0 1
 abbrev pub after : Account
 after = record before {
   mine = one_entry ∷ [];
+  ends = 2 ∷ [];
   attempts = one_attempt ∷ [];
   seen = sight_of (first_version ∷ second_version ∷ []);
 }
@@ -79,3 +82,77 @@ calls =
     record { command = add (value (codes "a") (codes "1")); reply = quiet }
     ∷ record { command = add (value (codes "b") (codes "2")); reply = quiet }
     ∷ record { command = commit plain; reply = accepted 1 2 two_records } ∷ []
+
+-- Two clients: `put a 1` and `put b 2`, as one group
+
+abbrev pub pair_settings : Settings
+pair_settings = record settings { clients = 2 }
+
+abbrev pub first_records : List Record
+first_records = value (codes "a") (codes "1") ∷ []
+
+abbrev pub second_records : List Record
+second_records = value (codes "b") (codes "2") ∷ []
+
+-- a client's only entry, with one record
+abbrev pub entry_with : ℕ → ℕ → List Record → Entry
+entry_with client first records =
+    record { client = client; ordinal = 1; first = first; count = 1; flag = Log; records = records }
+
+abbrev pub attempt_with : List Record → Attempt
+attempt_with records = record { records = records; options = plain; status = succeeded }
+
+abbrev pub pair_delay : ControllerCall
+pair_delay = record {
+  client = 1;
+  action = delay 0 (size_of_batch first_records + size_of_batch second_records);
+  told = Some (record { stops = 0; delays = 0; wait = 0 });
+}
+
+abbrev pub pair_trace : Trace
+pair_trace = record {
+  start = 0;
+  entries = entry_with 1 1 first_records ∷ entry_with 2 2 second_records ∷ [];
+  controller_calls = pair_delay ∷ [];
+}
+
+abbrev pub pair_group : Group
+pair_group = record {
+  place = 0;
+  members =
+      record { client = 1; call = 0; item = item_of (attempt_with first_records) }
+      ∷ record { client = 2; call = 0; item = item_of (attempt_with second_records) } ∷ [];
+}
+
+abbrev pub pair_published : List MemberVersions
+pair_published =
+    record { member = 1; versions = first_version ∷ [] } ∷ record { member = 2; versions = second_version ∷ [] } ∷ []
+
+abbrev pub pair_sight : Sight
+pair_sight = record { start = 0; published = pair_published ∷ []; controller_calls = pair_delay ∷ [] }
+
+-- the account of a client that wrote these records as this entry, and was told that its group ends there
+abbrev pub account_with : List Record → Entry → ℕ → Account
+account_with records entry group_last = record {
+  number = entry.client;
+  mine = entry ∷ [];
+  ends = group_last ∷ [];
+  asked = [];
+  attempts = attempt_with records ∷ [];
+  seen = pair_sight;
+}
+
+-- both accounts, where the first client was told that its group ends there
+abbrev pub pair_accounts : ℕ → List Account
+pair_accounts group_last =
+    account_with first_records (entry_with 1 1 first_records) group_last
+    ∷ account_with second_records (entry_with 2 2 second_records) 2 ∷ []
+
+-- A client whose second commit of three was refused, and groups of one of them alone
+
+abbrev pub three_attempts : List Attempt
+three_attempts = one_attempt ∷ record one_attempt { status = slowed 0 } ∷ one_attempt ∷ []
+
+abbrev pub group_of_call : ℕ → Group
+group_of_call call =
+    record { place = call; members = record { client = 1; call = call; item = item_of one_attempt } ∷ [] }

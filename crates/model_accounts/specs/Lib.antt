@@ -1,6 +1,7 @@
 pub mod Versions
 pub mod Sights
 pub mod Accounts
+pub mod Parts
 pub mod Closing
 pub mod ClientRuns
 pub mod Led

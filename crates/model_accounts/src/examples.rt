@@ -1,11 +1,14 @@
-//! Examples: what can be seen of a batch, and a client that commits one.
+//! Examples: what can be seen of a batch, a client that commits one, two clients in one group, and which entries groups
+//! made.
 
-ghost use Rattle.std.specs.Prelude.{[], ◌∷◌, None};
+ghost use Rattle.std.specs.Prelude.{◌≡◌, List, [], ◌∷◌, None};
+ghost use Rattle.model_base.specs.Groups.{Group};
 ghost use Rattle.model_accounts.specs.Sights.{Saw};
 ghost use Rattle.model_accounts.specs.Accounts.{Wrote};
 ghost use Rattle.model_accounts.specs.Closing.{IsClosing};
 ghost use Rattle.model_accounts.specs.ClientRuns.{HaveRun};
-ghost use Rattle.model_accounts.specs.Examples.{settings, two_records, plain, one_batch, one_group, first_version, second_version, sight_of, before, after, commands, calls};
+ghost use Rattle.model_accounts.specs.Examples.{settings, two_records, plain, one_batch, one_group, first_version, second_version, sight_of, before, after, commands, calls, pair_settings, pair_trace, pair_group, pair_accounts, three_attempts, group_of_call};
+ghost use Rattle.model_accounts.specs.Parts.{names_made};
 
 /// A batch is seen whole or not at all.
 pub fn whole_batches_alone()
@@ -19,4 +22,19 @@ pub fn one_commit()
     ensures wrote { Wrote settings before two_records plain 1 2 after }
     ensures run { HaveRun settings (commands ∷ []) (calls ∷ []) (after ∷ []) }
     ensures closing { IsClosing settings 0 one_batch (one_group ∷ []) (after ∷ []) 2 None }
+{}
+
+/// Two clients whose batches, of one record each, went as one group. Each is told the group's end. Where one is told the
+/// end of its own batch, it is no closing, whatever the groups.
+pub fn two_in_a_group()
+    ensures closing { IsClosing pair_settings 0 pair_trace (pair_group ∷ []) (pair_accounts 2) 2 None }
+    ensures own_end { (groups : List Group)
+        → IsClosing pair_settings 0 pair_trace groups (pair_accounts 1) 2 None → ⊥ }
+{}
+
+/// A group made the entries of those of its members that succeeded: of a client's commits that were accepted, refused and
+/// accepted the second made none, and the third the client's second entry.
+pub fn entries_of_groups()
+    ensures none { names_made (three_attempts ∷ []) (group_of_call 1) ≡ [] }
+    ensures second { names_made (three_attempts ∷ []) (group_of_call 2) ≡ (1, 2) ∷ [] }
 {}

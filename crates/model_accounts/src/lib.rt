@@ -8,6 +8,7 @@
 //! - `specs/Sights`: what a client sees while a run goes on, and of which traces that may have been seen.
 //!   `specs/Versions` has the versions of entries.
 //! - `specs/Accounts`: a client's account, and what each kind of call does to it.
+//! - `specs/Parts`: which entries each group of commits made.
 //! - `specs/Closing`: what the closing says of all accounts.
 //! - `specs/ClientRuns`: a client's calls one after another, and its whole run.
 //! - `specs/Led`: what the log's holder at the time knows of the groups that it took in hand.
@@ -25,6 +26,6 @@ mod sights;
 
 pub use calls::{commits_are_steps, reads_are_steps, slowdowns_are_steps, stops_are_steps};
 pub use closings::{attempts_are_shown, closed_runs_are_legal, led_groups, logs_hold_the_history};
-pub use examples::{one_commit, whole_batches_alone};
+pub use examples::{entries_of_groups, one_commit, two_in_a_group, whole_batches_alone};
 pub use runs::{calls_one_after_another, runs_end};
 pub use sights::{earlier_sights, sights_of_the_table, sights_of_traces};

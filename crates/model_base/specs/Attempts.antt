@@ -21,12 +21,7 @@ pub record Attempt : Type 0 where
 
 -- what grouping sees of it
 abbrev pub item_of : Attempt → Item
-item_of h = record {
-  size = size_of_batch h.records;
-  sync = h.options.sync;
-  no_log = h.options.no_log;
-  no_slowdown = h.options.no_slowdown;
-}
+item_of h = record { size = size_of_batch h.records; options = h.options }
 
 -- a client's commits, with one more where it came to a leader's hand
 abbrev pub with_attempt : List Attempt → List Record → WriteOptions → Option WriteStatus → List Attempt

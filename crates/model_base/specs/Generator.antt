@@ -64,8 +64,8 @@ batches_drawn (suc n) client state =
     let batch = batch_drawn client state in batch.made ++ batches_drawn n client batch.state
 
 -- The script of a seed, for so many clients with so many batches each. A client's batches don't depend on the others.
-abbrev pub generated : ℕ → ℕ → ℕ → Script
-generated seed clients batches =
+abbrev pub script_of_seed : ℕ → ℕ → ℕ → Script
+script_of_seed seed clients batches =
     map (λ client. batches_drawn batches client (first_state seed client)) (range_with_len 1 clients)
 
 abbrev pub number_line : List ℕ → ℕ → List ℕ

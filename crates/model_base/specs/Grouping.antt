@@ -17,8 +17,9 @@ size_of items = sum_by (λ i. i.size) items
 
 -- a writer fits, where the sizes up to it come to this sum
 abbrev pub fits : ℕ → Item → ℕ → Item → Bool
-fits max leader total i = (not i.sync || leader.sync) && same_bool i.no_slowdown leader.no_slowdown
-    && same_bool i.no_log leader.no_log && nat_le total (cap max leader)
+fits max leader total i = (not i.options.sync || leader.options.sync)
+    && same_bool i.options.no_slowdown leader.options.no_slowdown
+    && same_bool i.options.no_log leader.options.no_log && nat_le total (cap max leader)
 
 -- the writer at a place of the queue, whose first is the leader, fits
 abbrev pub fits_at : ℕ → List Item → ℕ → Bool

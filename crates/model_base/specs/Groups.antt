@@ -127,7 +127,7 @@ pub record Proceeds (controller_calls : List ControllerCall) (delays : List ℕ)
     pub there : slice_get controller_calls place
         ≡ Some (record { client = by; action = delay now bytes; told = Some numbers })
     pub each : AllByRecursion
-        (λ (i : Item). MayProceed controller_calls delays by place numbers i.no_slowdown) items
+        (λ (i : Item). MayProceed controller_calls delays by place numbers i.options.no_slowdown) items
 
 abbrev pub is_slowed : WriteStatus → Bool
 is_slowed (slowed place) = true

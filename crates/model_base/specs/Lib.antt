@@ -1,4 +1,5 @@
 pub mod Counts
+pub mod OptionBits
 pub mod Varint
 pub mod Batch
 pub mod Checksum
@@ -13,6 +14,7 @@ pub mod Grouping
 pub mod Controller
 pub mod Tokens
 pub mod Trace
+pub mod Settings
 pub mod Attempts
 pub mod Groups
 pub mod Progress

@@ -13,7 +13,11 @@ pub data Kind : Type 0 where
   middle : Kind
   last : Kind
 
--- A log may have a number of its own, which then stands in each header. The codes of the kinds are others there.
+-- A log's format: one may have a number of its own, which then stands in each header. The codes of the kinds are others
+-- there. A plain log has none.
+abbrev pub plain_log : Option ℕ
+plain_log = None
+
 abbrev pub kind_code : Option ℕ → Kind → ℕ
 kind_code None full = 1
 kind_code None first = 2

@@ -2,7 +2,7 @@
 use Rattle.std.specs.Prelude.{◌≡◌, ℕ, ◌<◌, Bool, Option, List, [], ◌∷◌, length, take, map, flat_map, None}
 use Rattle.std.specs.List.{AllByRecursion}
 use Rattle.model_base.specs.Batch.{Record, group_record}
-use Rattle.model_base.specs.Log.{text}
+use Rattle.model_base.specs.Log.{text, plain_log}
 use Rattle.model_base.specs.History.{Entry, RunsFollow, logged}
 use Rattle.model_base.specs.Calls.{Outcome}
 
@@ -23,8 +23,8 @@ records_of groups = map record_of_entries groups
 -- The log holds these groups: its content up to the printed length is the text of their records.
 pub record IsLogOf (o : Outcome) (content : List ℕ) (groups : List (List Entry)) : Type 0 where
   pub of_history : AreGroupsOf o.history groups
-  pub content_is : take o.log_len content ≡ text None (records_of groups)
-  pub length_is : o.log_len ≡ length (text None (records_of groups))
+  pub content_is : take o.log_len content ≡ text plain_log (records_of groups)
+  pub length_is : o.log_len ≡ length (text plain_log (records_of groups))
 
 -- a call of `add_group`, and the count of faults that it was answered where it failed
 pub record GroupCall : Type 0 where

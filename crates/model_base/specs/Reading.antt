@@ -7,7 +7,7 @@ use Rattle.model_base.specs.declared.log.Damage.TheVariants.{ShortHeader, Zeros,
 use Rattle.model_base.specs.declared.log.EndReason.{EndReason}
 use Rattle.model_base.specs.declared.log.EndReason.TheVariants as ends
 use Rattle.model_base.specs.Checksum.{crc32c, masked}
-use Rattle.model_base.specs.Log.{Kind, full, first, middle, last, Fragment, AreOneRecord, kinds_of, header_len, room, next_place, placed, FitFrom}
+use Rattle.model_base.specs.Log.{Kind, full, first, middle, last, Fragment, AreOneRecord, kinds_of, header_len, room, next_place, placed, FitFrom, plain_log}
 
 -- a fragment, the end of what there is, or damage
 pub data Seen : Type 0 where
@@ -41,15 +41,15 @@ kind_of_code None code = if code == 1 then Some full else (if code == 2 then Som
     else (if code == 3 then Some middle else (if code == 4 then Some last else None)))
 
 -- the fragment of this kind, where its checksum is right
-abbrev pub checked : List ℕ → Option Kind → Seen
-checked bytes None = damage (BadType (type_field bytes))
-checked bytes (Some k) = if checksum_field bytes == masked (crc32c (type_field bytes ∷ part_field None bytes))
-    then fragment (record { kind = k; part = part_field None bytes }) else damage BadChecksum
+abbrev pub seen_of_kind : List ℕ → Option Kind → Seen
+seen_of_kind bytes None = damage (BadType (type_field bytes))
+seen_of_kind bytes (Some k) = if checksum_field bytes == masked (crc32c (type_field bytes ∷ part_field plain_log bytes))
+    then fragment (record { kind = k; part = part_field plain_log bytes }) else damage BadChecksum
 
 -- the same of a log with a number, where a fragment of another log is found before its length is looked at
-abbrev pub checked_numbered : ℕ → List ℕ → Option Kind → Seen
-checked_numbered n bytes None = damage (BadType (type_field bytes))
-checked_numbered n bytes (Some k) =
+abbrev pub seen_of_kind_numbered : ℕ → List ℕ → Option Kind → Seen
+seen_of_kind_numbered n bytes None = damage (BadType (type_field bytes))
+seen_of_kind_numbered n bytes (Some k) =
     if not (bytes_eq (take 4 (drop 7 bytes)) (to_le_bytes w32 n)) then damage (OldLog (number_field bytes))
     else if nat_lt (length bytes) (11 + length_field bytes) then damage BadLength
     else if checksum_field bytes == masked (crc32c (type_field bytes ∷ to_le_bytes w32 n ++ part_field (Some n) bytes))
@@ -63,13 +63,13 @@ seen_within None space bytes =
     else if nat_lt (length bytes) 7 then damage ShortHeader
     else if are_zeros (take 7 bytes) then damage Zeros
     else if nat_lt (length bytes) (7 + length_field bytes) then damage BadLength
-    else checked bytes (kind_of_code None (type_field bytes))
+    else seen_of_kind bytes (kind_of_code plain_log (type_field bytes))
 seen_within (Some n) space bytes =
     if nat_lt space 11 then (if are_zeros bytes then nothing else damage BadTrailer)
     else if length bytes == 0 then nothing
     else if nat_lt (length bytes) 11 then damage ShortHeader
     else if are_zeros (take 11 bytes) then damage Zeros
-    else checked_numbered n bytes (kind_of_code (Some n) (type_field bytes))
+    else seen_of_kind_numbered n bytes (kind_of_code (Some n) (type_field bytes))
 
 -- the same at a place of a block, of whose bytes the file has these
 abbrev pub seen_in_block : Option ℕ → List ℕ → ℕ → Seen

@@ -1,6 +1,7 @@
 -- The text of a script: lines of words, and what each line says.
 use Rattle.std.specs.Prelude.{ℕ, ◌+◌, ◌-◌, ◌*◌, ◌^◌, Bool, true, false, not, ◌&&◌, List, [], ◌∷◌, ◌++◌, length, fold, Option, Some, None, Result, Ok, Err, codes, decimal, bytes_eq, nat_lt, nat_le, ◌==◌, if◌then◌else◌, option_map}
 use Rattle.std.specs.List.{list_all, slice_split, enumerate_from}
+use Rattle.model_base.specs.declared.limits.TheConstants.{MAX_CLIENTS, TEXT_LIMIT}
 use Rattle.model_base.specs.declared.script.ScriptFault.{ScriptFault}
 use Rattle.model_base.specs.declared.script.ScriptFault.TheVariants.{Long, Byte, Word, Form, Client, Clients, NoClient, NoSchedule}
 use Rattle.model_base.specs.Batch.{value, deletion, single_deletion, log_data}
@@ -81,7 +82,7 @@ abbrev pub some_words : (List (List ℕ) → Line) → List (List ℕ) → Read 
 some_words line [] = Err Form
 some_words line (w ∷ ws) = Ok (line (w ∷ ws))
 
--- the flags `sync` and `nolog`, each or not, in this order
+-- the flags `sync`, `nolog` and `noslow`, each or not, in this order
 abbrev pub is_first : List ℕ → List (List ℕ) → Bool
 is_first w [] = false
 is_first w (v ∷ vs) = bytes_eq v w
@@ -92,13 +93,6 @@ behind_first there vs = vs
 
 abbrev pub commit_flags : List (List ℕ) → Read Line
 commit_flags ws =
-    let sync = is_first (codes "sync") ws in let behind_sync = behind_first sync ws in
-    let no_log = is_first (codes "nolog") behind_sync in let rest = behind_first no_log behind_sync in
-    no_word (command (commit (record { sync = sync; no_log = no_log; no_slowdown = false }))) rest
-
--- the same with the flag `noslow` behind them
-abbrev pub all_commit_flags : List (List ℕ) → Read Line
-all_commit_flags ws =
     let sync = is_first (codes "sync") ws in let after_sync = behind_first sync ws in
     let no_log = is_first (codes "nolog") after_sync in let after_no_log = behind_first no_log after_sync in
     let no_slowdown = is_first (codes "noslow") after_no_log in let rest = behind_first no_slowdown after_no_log in
@@ -108,19 +102,6 @@ all_commit_flags ws =
 pub record CommandForm : Type 0 where
   pub word : List ℕ
   pub rest : List (List ℕ) → Read Line
-
--- batches of every kind of record, commits with flags, and reads of one key
-abbrev pub forms : List CommandForm
-forms =
-    record { word = codes "client"; rest = one_number section }
-    ∷ record { word = codes "put"; rest = two_words (λ k v. command (add (value k v))) }
-    ∷ record { word = codes "del"; rest = one_word (λ k. command (add (deletion k))) }
-    ∷ record { word = codes "sdel"; rest = one_word (λ k. command (add (single_deletion k))) }
-    ∷ record { word = codes "note"; rest = one_word (λ t. command (add (log_data t))) }
-    ∷ record { word = codes "clear"; rest = no_word (command clear) }
-    ∷ record { word = codes "commit"; rest = commit_flags }
-    ∷ record { word = codes "get"; rest = one_word (λ k. command (get k)) }
-    ∷ []
 
 -- reads of several keys at once, and of all keys in a range
 abbrev pub read_forms : List CommandForm
@@ -138,7 +119,7 @@ token_forms =
     ∷ record { word = codes "unslow"; rest = no_word (command unslow) }
     ∷ []
 
--- batches of every kind of record, commits with every flag, and every read
+-- batches of every kind of record, commits with flags, and every read
 abbrev pub client_forms : List CommandForm
 client_forms =
     record { word = codes "client"; rest = one_number section }
@@ -147,7 +128,7 @@ client_forms =
     ∷ record { word = codes "sdel"; rest = one_word (λ k. command (add (single_deletion k))) }
     ∷ record { word = codes "note"; rest = one_word (λ t. command (add (log_data t))) }
     ∷ record { word = codes "clear"; rest = no_word (command clear) }
-    ∷ record { word = codes "commit"; rest = all_commit_flags }
+    ∷ record { word = codes "commit"; rest = commit_flags }
     ∷ record { word = codes "get"; rest = one_word (λ k. command (get k)) }
     ∷ read_forms
 
@@ -197,13 +178,9 @@ pub record Grammar : Type 0 where
   pub client_limit : ℕ
   pub forms : List CommandForm
 
--- that of one client
-abbrev pub run_grammar : Grammar
-run_grammar = record { text_limit = 16777216; client_limit = 1; forms = forms }
-
--- that of several clients, with every line
+-- that with every line
 abbrev pub whole_grammar : Grammar
-whole_grammar = record { text_limit = 16777216; client_limit = 16; forms = whole_forms }
+whole_grammar = record { text_limit = TEXT_LIMIT; client_limit = MAX_CLIENTS; forms = whole_forms }
 
 abbrev pub with_line : ℕ → Script → Line → Read Script
 with_line most script (section n) = with_section most script n

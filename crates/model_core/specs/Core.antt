@@ -68,8 +68,8 @@ pub record State : Type 0 where
 abbrev pub idle_client : List Command → Client
 idle_client commands = record { left = commands; added = []; calls = []; idle = true }
 
-abbrev pub opened : Options → List (List Command) → State
-opened o plans = record {
+abbrev pub opening_state : Options → List (List Command) → State
+opening_state o plans = record {
   clients = map idle_client plans;
   queue = [];
   log = free;
@@ -112,8 +112,8 @@ ahead calls added (c ∷ left) client =
 abbrev pub next_call : Client → Ahead
 next_call client = ahead client.calls client.added client.left client
 
-abbrev pub told : Client → Command → Reply → Client
-told client command reply = record client {
+abbrev pub after_reply : Client → Command → Reply → Client
+after_reply client command reply = record client {
   calls = client.calls ++ record { command = command; reply = reply } ∷ [];
   idle = true;
 }
@@ -121,12 +121,7 @@ told client command reply = record client {
 -- Batches
 
 abbrev pub item_of : Writer → Item
-item_of w = record {
-  size = size_of_batch w.records;
-  sync = w.options.sync;
-  no_log = w.options.no_log;
-  no_slowdown = w.options.no_slowdown;
-}
+item_of w = record { size = size_of_batch w.records; options = w.options }
 
 -- the checks before a batch is linked; the core knows no write controller, so nobody holds a token
 abbrev pub refusal_of : Options → WriteOptions → List Record → Option Refusal

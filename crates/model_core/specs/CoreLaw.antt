@@ -17,16 +17,16 @@ hand free = []
 hand (led c) = []
 hand (handed c) = []
 
-abbrev pub joined : List (List Writer) → List Writer
-joined wss = flat_map (λ ws. ws) wss
+abbrev pub writers_in : List (List Writer) → List Writer
+writers_in wss = flat_map (λ ws. ws) wss
 
 -- the clients whose writers are in line, the first linked of them first
 abbrev pub in_order : State → List ℕ
-in_order s = map (λ (w : Writer). w.client) (joined s.second ++ hand s.log ++ s.queue)
+in_order s = map (λ (w : Writer). w.client) (writers_in s.second ++ hand s.log ++ s.queue)
 
 -- all clients that wait for an answer: those in line, and those whose writers have left with one
-abbrev pub waiting : State → List ℕ
-waiting s = in_order s ++ map (λ (w : Writer). w.client) s.leaving
+abbrev pub waiting_clients : State → List ℕ
+waiting_clients s = in_order s ++ map (λ (w : Writer). w.client) s.leaving
 
 -- who leads the log is first in the queue
 abbrev pub LedIsFirst : LogPhase → List Writer → Type 0
@@ -56,14 +56,14 @@ hand_with_runs (built ws) = []
 hand_with_runs (handed c) = []
 
 -- the groups with runs that aren't published, in order
-abbrev pub unpublished : Options → State → TablePhase → List Writer
-unpublished o s published = if o.pipelined then joined (tail_of s.second) ++ hand_with_runs s.log else []
+abbrev pub unpublished_writers : Options → State → TablePhase → List Writer
+unpublished_writers o s published = if o.pipelined then writers_in (tail_of s.second) ++ hand_with_runs s.log else []
   where
     tail_of : List (List Writer) → List (List Writer)
     tail_of [] = []
     tail_of (ws ∷ wss) = wss
-unpublished o s still = joined s.second ++ hand_with_runs s.log
-unpublished o s (launched ins fin) = joined s.second ++ hand_with_runs s.log
+unpublished_writers o s still = writers_in s.second ++ hand_with_runs s.log
+unpublished_writers o s (launched ins fin) = writers_in s.second ++ hand_with_runs s.log
 
 -- the entry is that of a member with a run
 pub record IsEntryOf (w : Writer) (x : Entry) : Type 0 where
@@ -101,8 +101,8 @@ SameLogFlag (w ∷ ws) = AllByRecursion (λ (v : Writer). v.options.no_log ≡ w
 pub record IsCore (o : Options) (s : State) : Type 0 where
   -- each client is idle, or waits in just one place, once
   pub once : (c : ℕ) (client : Client) → client_at s c ≡ Some client
-      → count_by (λ n. n == c) (waiting s) ≡ (if client.idle then 0 else 1)
-  pub clients : AllByRecursion (λ c. IsSome (client_at s c)) (waiting s)
+      → count_by (λ n. n == c) (waiting_clients s) ≡ (if client.idle then 0 else 1)
+  pub clients : AllByRecursion (λ c. IsSome (client_at s c)) (waiting_clients s)
   pub led_is_first : LedIsFirst s.log s.queue
   pub single_stage : o.pipelined ≡ false → s.second ≡ []
   pub unmarked : o.pipelined ≡ false → IsUnmarked s.log
@@ -115,7 +115,7 @@ pub record IsCore (o : Options) (s : State) : Type 0 where
   -- the published sequence is a boundary, and the entries past it are those of the groups on the way
   pub front : List Entry
   pub is_boundary : IsUpTo o.start s.entries s.last front
-  pub ahead : AllZip IsEntryOf (filter has_run (unpublished o s s.table)) is_boundary.rest
+  pub ahead : AllZip IsEntryOf (filter has_run (unpublished_writers o s s.table)) is_boundary.rest
   -- all up to it is in the table, and what is there past it belongs to the launched group
   pub in_table : AllByRecursion (λ x. Contains s.inserted x) front
   pub from_entries : AllByRecursion (λ x. Contains s.entries x × (Contains front x ⊎ IsInsertedAhead s.table x))
@@ -140,7 +140,7 @@ IsSubsequence (x ∷ xs) (y ∷ ys) = ((x ≡ y) × IsSubsequence xs ys) ⊎ IsS
 -- nobody passes another: a link adds nobody, or its client at the end, if that didn't wait; other events add nobody
 abbrev pub KeepsOrder : Event → State → State → Type 0
 KeepsOrder (e.Link c) old new =
-    (in_order new ≡ in_order old) ⊎ ((in_order new ≡ in_order old ++ c ∷ []) × (among c (waiting old) ≡ false))
+    (in_order new ≡ in_order old) ⊎ ((in_order new ≡ in_order old ++ c ∷ []) × (among c (waiting_clients old) ≡ false))
 KeepsOrder other old new = IsSubsequence (in_order new) (in_order old)
 
 pub record Keeps (event : Event) (old new : State) : Type 0 where

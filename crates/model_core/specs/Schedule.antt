@@ -2,7 +2,7 @@
 use Rattle.std.specs.Prelude.{ℕ, Bool, false, ◌&&◌, List, [], ◌∷◌, ◌++◌, length, fold, Option, Some, None, Result, Ok, Err, codes, bytes_eq, nat_lt, nat_le, ◌==◌, if◌then◌else◌, option_and_then, find}
 use Rattle.std.specs.List.{enumerate_from}
 use Rattle.model_base.specs.declared.script.ScriptFault.TheVariants.{Long, Byte, Word, Form, NoClient, NoSchedule}
-use Rattle.model_base.specs.Script.{Script, Read, ◌>>=◌, Grammar, forms, Fault, at_line, lines_of, words_of, are_plain, is_passed_over, number_of, line_of, with_line}
+use Rattle.model_base.specs.Script.{Script, Read, ◌>>=◌, Grammar, Fault, at_line, lines_of, words_of, are_plain, is_passed_over, number_of, line_of, with_line}
 use Rattle.model_core.specs.declared.event.Event.{Event}
 use Rattle.model_core.specs.declared.event.Event.TheVariants as e
 
@@ -55,8 +55,8 @@ is_first_word word (w ∷ ws) = bytes_eq w word
 abbrev pub begins_schedule : List ℕ → Bool
 begins_schedule line = are_plain line && is_first_word (codes "schedule") (words_of line)
 
-abbrev pub begun : Script → List (List ℕ) → Read Draft
-begun script ws = if length ws == 1 then Ok (record { script = script; events = Some [] }) else Err Form
+abbrev pub after_schedule_line : Script → List (List ℕ) → Read Draft
+after_schedule_line script ws = if length ws == 1 then Ok (record { script = script; events = Some [] }) else Err Form
 
 abbrev pub in_script : Script → Draft
 in_script script = record { script = script; events = None }
@@ -67,7 +67,7 @@ with_event script events event = record { script = script; events = Some (events
 -- a line more, in the script or in the schedule
 abbrev pub line_added : Grammar → List EventWord → Script → Option (List Event) → List ℕ → Read Draft
 line_added g words script None line =
-    if begins_schedule line then begun script (words_of line)
+    if begins_schedule line then after_schedule_line script (words_of line)
     else line_of g.forms line >>= with_line g.client_limit script >>= λ s. Ok (in_script s)
 line_added g words script (Some events) line =
     event_of (length script) words line >>= λ event. Ok (with_event script events event)
@@ -91,16 +91,12 @@ with_schedule [] events = Err (record { line = 0; kind = NoClient })
 with_schedule (cs ∷ rest) None = Err (record { line = 0; kind = NoSchedule })
 with_schedule (cs ∷ rest) (Some events) = Ok (record { script = cs ∷ rest; events = events })
 
-abbrev pub finished : Result Draft Fault → Result Schedule Fault
-finished (Err fault) = Err fault
-finished (Ok d) = with_schedule d.script d.events
+abbrev pub schedule_of_draft : Result Draft Fault → Result Schedule Fault
+schedule_of_draft (Err fault) = Err fault
+schedule_of_draft (Ok d) = with_schedule d.script d.events
 
 -- What a script and its schedule say, or the first fault; before all a text that is too long.
 abbrev pub schedule_of : Grammar → List EventWord → List ℕ → Result Schedule Fault
 schedule_of g words text =
     if nat_lt g.text_limit (length text) then Err (record { line = 0; kind = Long })
-    else finished (lines_read g words text)
-
--- a script of several clients, whose lines are those of one client's
-abbrev pub clients_grammar : Grammar
-clients_grammar = record { text_limit = 16777216; client_limit = 16; forms = forms }
+    else schedule_of_draft (lines_read g words text)

@@ -10,7 +10,7 @@ use Rattle.model_base.specs.Batch.{Record}
 use Rattle.model_base.specs.History.{Entry}
 use Rattle.model_base.specs.Grouping.{group_len}
 use Rattle.model_base.specs.Calls.{Command, commit, Reply, accepted, refused}
-use Rattle.model_core.specs.Core.{Options, Writer, Client, LogPhase, free, led, built, in_log, marked, handed, TablePhase, still, launched, published, State, opened, client_at, with_client, next_call, told, item_of, refusal_of, leads, with_runs, has_run, all_answered, entries_of, last_entry, table_group, among, runners, read_reply}
+use Rattle.model_core.specs.Core.{Options, Writer, Client, LogPhase, free, led, built, in_log, marked, handed, TablePhase, still, launched, published, State, opening_state, client_at, with_client, next_call, after_reply, item_of, refusal_of, leads, with_runs, has_run, all_answered, entries_of, last_entry, table_group, among, runners, read_reply}
 
 -- a fact lets an event come
 abbrev pub when : Bool → State → Option State
@@ -19,7 +19,7 @@ when false s = None
 
 -- link c: c is idle and its next call is a commit. It is refused at once, or goes to the end of the queue
 abbrev pub link_with : Options → State → ℕ → Client → WriteOptions → Option Refusal → State
-link_with o s c client how (Some why) = with_client s c (told client (commit how) (refused why))
+link_with o s c client how (Some why) = with_client s c (after_reply client (commit how) (refused why))
 link_with o s c client how None = record (with_client s c (record client { idle = false })) {
   queue = s.queue ++ record { client = c; options = how; records = client.added; answer = None } ∷ [];
 }
@@ -155,11 +155,11 @@ abbrev pub added_after : Reply → List Record → List Record
 added_after (accepted a b records) added = []
 added_after other added = added
 
-abbrev pub completed : Client → Writer → Reply → Client
-completed client w reply = record (told client (commit w.options) reply) { added = added_after reply client.added }
+abbrev pub after_completion : Client → Writer → Reply → Client
+after_completion client w reply = record (after_reply client (commit w.options) reply) { added = added_after reply client.added }
 
 abbrev pub complete_with : State → ℕ → Option Client → Writer → Option Reply → Option State
-complete_with s m (Some client) w (Some reply) = Some (record (with_client s m (completed client w reply)) {
+complete_with s m (Some client) w (Some reply) = Some (record (with_client s m (after_completion client w reply)) {
   leaving = filter (λ (x : Writer). not (x.client == m)) s.leaving;
 })
 complete_with s m other w reply = None
@@ -171,7 +171,7 @@ complete s m (Some w) = complete_with s m (client_at s m) w w.answer
 -- read c: c is idle, and its next call is a read. It is answered at the published sequence
 abbrev pub read_with : State → ℕ → Client → Command → Option Reply → Option State
 read_with s c client command None = None
-read_with s c client command (Some reply) = Some (with_client s c (told client command reply))
+read_with s c client command (Some reply) = Some (with_client s c (after_reply client command reply))
 
 abbrev pub read_call : State → ℕ → Client → Option Command → Option State
 read_call s c client None = None
@@ -207,14 +207,14 @@ pub record Replayed : Type 0 where
   pub taken : ℕ
   pub skipped : ℕ
 
-abbrev pub replayed : Replayed → Option State → Replayed
-replayed r None = record r { skipped = r.skipped + 1 }
-replayed r (Some s) = record r { state = s; taken = r.taken + 1 }
+abbrev pub after_event : Replayed → Option State → Replayed
+after_event r None = record r { skipped = r.skipped + 1 }
+after_event r (Some s) = record r { state = s; taken = r.taken + 1 }
 
 abbrev pub replay : Options → State → List Event → Replayed
 replay o s events =
-    fold (λ r event. replayed r (step o r.state event)) (record { state = s; taken = 0; skipped = 0 }) events
+    fold (λ r event. after_event r (step o r.state event)) (record { state = s; taken = 0; skipped = 0 }) events
 
 -- the state after a list of events from the opening on
 abbrev pub state_after : Options → List (List Command) → List Event → State
-state_after o plans events = (replay o (opened o plans) events).state
+state_after o plans events = (replay o (opening_state o plans) events).state

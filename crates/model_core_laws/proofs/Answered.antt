@@ -9,9 +9,9 @@ use Rattle.model_base.specs.Outcomes.{entries_of_client}
 use Rattle.model_base.specs.Runs.{commands_of}
 use Rattle.model_base.specs.Progress.{next_entry, batch_after}
 use Rattle.model_base.specs.Calls.{Command, commit, Reply, quiet, accepted, refused, found, found_each, rows, done, held, not_held, no_memory, Call}
-use Rattle.model_core.specs.Core.{Options, Writer, Client, State, opened, idle_client, client_at}
+use Rattle.model_core.specs.Core.{Options, Writer, Client, State, opening_state, idle_client, client_at}
 use Rattle.model_core.specs.Step.{step, replay}
-use Rattle.model_core.specs.CoreLaw.{IsCore, hand, joined, waiting}
+use Rattle.model_core.specs.CoreLaw.{IsCore, hand, writers_in, waiting_clients}
 use Rattle.model_core.specs.Replies.{entries_told, AreRight, IsOnItsWay, IsAnswered, lines_at, AreRepliesOf}
 use Rattle.model_core_laws.proofs.Kept.{kept, by_events}
 use Rattle.model_core_laws.proofs.Opening.{opening}
@@ -33,7 +33,7 @@ no_call_before (b ∷ before) c after e = cc
 none_right : (o : Options) (s : State) → AreRight o s []
 none_right o s before c after e = absurd (no_call_before before c after e)
 
-opened_client : (o : Options) (plans : List (List Command)) (i : ℕ) (client : Client) → slice_get (map idle_client plans) i ≡ Some client → IsToldSoFar o plans (opened o plans) (suc i) client
+opened_client : (o : Options) (plans : List (List Command)) (i : ℕ) (client : Client) → slice_get (map idle_client plans) i ≡ Some client → IsToldSoFar o plans (opening_state o plans) (suc i) client
 opened_client o plans i client is = so_far
   where
     opened_at : (all : List (List Command)) (k : ℕ) → slice_get (map idle_client all) k ≡ Some client → (lines : List Command) × (slice_get all k ≡ Some lines) × (idle_client lines ≡ client)
@@ -41,17 +41,17 @@ opened_client o plans i client is = so_far
     opened_at (lines ∷ all) zero is = (lines, refl, cc)
     opened_at (lines ∷ all) (suc k) is = opened_at all k is
 
-    so_far : IsToldSoFar o plans (opened o plans) (suc i) client
-    so_far = let at = opened_at plans i is in subst (IsToldSoFar o plans (opened o plans) (suc i)) at.2 (record {
+    so_far : IsToldSoFar o plans (opening_state o plans) (suc i) client
+    so_far = let at = opened_at plans i is in subst (IsToldSoFar o plans (opening_state o plans) (suc i)) at.2 (record {
       added = refl;
-      right = none_right o (opened o plans);
+      right = none_right o (opening_state o plans);
       seen_published = omega arith;
       log_failed = λ knows. absurd (cc);
       asked = λ idle lines there. (let e : lines ≡ at.0 = cc (at.1, there) in e);
       entries = λ idle. refl;
     })
 
-told_at_opening : (o : Options) (plans : List (List Command)) → Told o plans (opened o plans)
+told_at_opening : (o : Options) (plans : List (List Command)) → Told o plans (opening_state o plans)
 told_at_opening o plans = record {
   core = opening o plans;
   count = length-map plans idle_client;
@@ -62,7 +62,7 @@ told_at_opening o plans = record {
   one_kind = tt;
 }
   where
-    each : (c : ℕ) (client : Client) → client_at (opened o plans) c ≡ Some client → IsToldSoFar o plans (opened o plans) c client
+    each : (c : ℕ) (client : Client) → client_at (opening_state o plans) c ≡ Some client → IsToldSoFar o plans (opening_state o plans) c client
     each zero client is = absurd (cc)
     each (suc i) client is = opened_client o plans i client is
 
@@ -86,9 +86,9 @@ told_by_each o plans s t (e.Exit c) told is core = told_by_exit o plans s t c to
 told_by_each o plans s t (e.Complete m) told is core = told_by_complete o plans s t m told is core
 told_by_each o plans s t (e.Read c) told is core = told_by_read o plans s t c told is core
 
-pub told_after : (o : Options) (plans : List (List Command)) (events : List Event) → Told o plans (replay o (opened o plans) events).state
+pub told_after : (o : Options) (plans : List (List Command)) (events : List Event) → Told o plans (replay o (opening_state o plans) events).state
 told_after o plans events = by_events (Told o plans) o (λ s t event told is. told_by_each o plans s t event told is (kept o s t event told.core is).0) events
-    (record { state = opened o plans; taken = 0; skipped = 0 }) (told_at_opening o plans)
+    (record { state = opening_state o plans; taken = 0; skipped = 0 }) (told_at_opening o plans)
 
 -- What it says of a client
 
@@ -128,8 +128,8 @@ by_answer o s c client w waits same batch (Some no_memory) is = absurd is
 waiting_answered : (o : Options) (plans : List (List Command)) (s : State) (c : ℕ) (lines : List Command) (client : Client) → lines_at plans c ≡ Some lines → client_at s c ≡ Some client → client.idle ≡ false → Told o plans s
     → IsAnswered o s c lines client
 waiting_answered o plans s c lines client at is waits told =
-    let a = waiting_parts c s in let b : times c (waiting s) ≡ 1 = told.core.once c client is ∙ rw waits refl in
-    let d = there_append c ((joined s.second ++ hand s.log) ++ s.queue) s.leaving in let e = there_append c (joined s.second ++ hand s.log) s.queue in let f = there_append c (joined s.second) (hand s.log) in
+    let a = waiting_parts c s in let b : times c (waiting_clients s) ≡ 1 = told.core.once c client is ∙ rw waits refl in
+    let d = there_append c ((writers_in s.second ++ hand s.log) ++ s.queue) s.leaving in let e = there_append c (writers_in s.second ++ hand s.log) s.queue in let f = there_append c (writers_in s.second) (hand s.log) in
     let member = member_of (Waits o plans s) c (writers s) (omega arith) told.waits in let w = member.0 in let wait = member.2 in
     let same : wait.client ≡ client = (let there : client_at s c ≡ Some wait.client = subst (λ c. client_at s c ≡ Some wait.client) member.1 wait.there in cc) in
     let rest : List Command = commit w.options ∷ client.left in
@@ -148,6 +148,6 @@ answered_client o plans s c lines client at is told = by client.idle refl
     by true idle = let so_far = told.each c client is in record { rest = client.left; asked = so_far.asked idle lines at; right = so_far.right; seen_published = so_far.seen_published; entries = inl (so_far.entries idle) }
     by false waits = waiting_answered o plans s c lines client at is waits told
 
-pub replies : (o : Options) (plans : List (List Command)) (events : List Event) → AreRepliesOf o plans (replay o (opened o plans) events).state
+pub replies : (o : Options) (plans : List (List Command)) (events : List Event) → AreRepliesOf o plans (replay o (opening_state o plans) events).state
 replies o plans events = let told = told_after o plans events in
-    record { is_history = told.core.is_history; of_clients = told.of_clients; count = told.count; each = λ c lines client at is. answered_client o plans (replay o (opened o plans) events).state c lines client at is told }
+    record { is_history = told.core.is_history; of_clients = told.of_clients; count = told.count; each = λ c lines client at is. answered_client o plans (replay o (opening_state o plans) events).state c lines client at is told }

@@ -5,7 +5,7 @@ use Rattle.std.proofs.lemmas.Bool.{cases_eq}
 use Rattle.model_base.specs.Batch.{Record, count_of}
 use Rattle.model_base.specs.Calls.{Command, add, clear, Call}
 use Rattle.model_core.specs.Core.{Options, Writer, Client, TablePhase, still, launched, published, State, client_at, with_client, ahead, has_run}
-use Rattle.model_core.specs.CoreLaw.{IsCore, LedIsFirst, IsTable, IsEntryOf, hand, unpublished, waiting}
+use Rattle.model_core.specs.CoreLaw.{IsCore, LedIsFirst, IsTable, IsEntryOf, hand, unpublished_writers, waiting_clients}
 use Rattle.model_core_laws.proofs.Tables.{times}
 
 -- going ahead to the next call leaves a client idle
@@ -51,16 +51,16 @@ still_there s c old new is n some = by (cases_eq c n)
 
 -- each client waits just once, where the one that was replaced and the others do
 pub once_after : (s t : State) (c : ℕ) (old new : Client) → client_at s c ≡ Some old → t.clients ≡ (with_client s c new).clients
-    → times c (waiting t) ≡ (if new.idle then 0 else 1)
-    → ((n : ℕ) (client : Client) → (c ≡ n → ⊥) → client_at s n ≡ Some client → times n (waiting t) ≡ (if client.idle then 0 else 1))
-    → (n : ℕ) (client : Client) → client_at (with_client s c new) n ≡ Some client → times n (waiting t) ≡ (if client.idle then 0 else 1)
+    → times c (waiting_clients t) ≡ (if new.idle then 0 else 1)
+    → ((n : ℕ) (client : Client) → (c ≡ n → ⊥) → client_at s n ≡ Some client → times n (waiting_clients t) ≡ (if client.idle then 0 else 1))
+    → (n : ℕ) (client : Client) → client_at (with_client s c new) n ≡ Some client → times n (waiting_clients t) ≡ (if client.idle then 0 else 1)
 once_after s t c old new is same here others n client at = by (cases_eq c n)
   where
-    by : (c ≡ n) ⊎ (c ≡ n → ⊥) → times n (waiting t) ≡ (if client.idle then 0 else 1)
+    by : (c ≡ n) ⊎ (c ≡ n → ⊥) → times n (waiting_clients t) ≡ (if client.idle then 0 else 1)
     by (inl e) =
         let f : client_at (with_client s c new) n ≡ Some new = subst (λ m. client_at (with_client s c new) m ≡ Some new) e (replaced s c old new is) in
         let g : new ≡ client = cc in
-        subst (λ (x : Client). times n (waiting t) ≡ (if x.idle then 0 else 1)) g (subst (λ m. times m (waiting t) ≡ (if new.idle then 0 else 1)) e here)
+        subst (λ (x : Client). times n (waiting_clients t) ≡ (if x.idle then 0 else 1)) g (subst (λ m. times m (waiting_clients t) ≡ (if new.idle then 0 else 1)) e here)
     by (inr other) = others n client other (sym (unchanged s c n old new is other) ∙ at)
 
 -- Those that wait, and their places
@@ -69,7 +69,7 @@ once_after s t c old new is same here others n client at = by (cases_eq c n)
 abbrev pub with_places : State → List Client → List Writer → List Writer → State
 with_places s clients queue leaving = record s { clients = clients; queue = queue; leaving = leaving }
 
-same_ahead : (o : Options) (s : State) (clients : List Client) (queue leaving : List Writer) (table : TablePhase) → unpublished o s table ≡ unpublished o (with_places s clients queue leaving) table
+same_ahead : (o : Options) (s : State) (clients : List Client) (queue leaving : List Writer) (table : TablePhase) → unpublished_writers o s table ≡ unpublished_writers o (with_places s clients queue leaving) table
 same_ahead o s clients queue leaving still = refl
 same_ahead o s clients queue leaving (launched ins fin) = refl
 same_ahead o s clients queue leaving published = refl
@@ -81,8 +81,8 @@ same_table o s clients queue leaving published is = is
 
 -- the law needs no more than who waits where
 pub places : (o : Options) (s : State) (clients : List Client) (queue leaving : List Writer)
-    → ((c : ℕ) (client : Client) → client_at (with_places s clients queue leaving) c ≡ Some client → times c (waiting (with_places s clients queue leaving)) ≡ (if client.idle then 0 else 1))
-    → AllByRecursion (λ c. IsSome (client_at (with_places s clients queue leaving) c)) (waiting (with_places s clients queue leaving))
+    → ((c : ℕ) (client : Client) → client_at (with_places s clients queue leaving) c ≡ Some client → times c (waiting_clients (with_places s clients queue leaving)) ≡ (if client.idle then 0 else 1))
+    → AllByRecursion (λ c. IsSome (client_at (with_places s clients queue leaving) c)) (waiting_clients (with_places s clients queue leaving))
     → LedIsFirst s.log queue
     → AllByRecursion (λ (w : Writer). 0 < count_of w.records) (hand s.log ++ queue)
     → IsCore o s → IsCore o (with_places s clients queue leaving)

@@ -8,8 +8,8 @@ use Rattle.model_base.specs.declared.write.WriteOptions.{WriteOptions}
 use Rattle.model_base.specs.declared.write.Refusal.{Refusal}
 use Rattle.model_base.specs.declared.write.Refusal.TheVariants as no
 use Rattle.model_base.specs.Calls.{Command, commit, Reply, refused}
-use Rattle.model_core.specs.Core.{Options, Writer, Client, LogPhase, free, led, built, in_log, marked, handed, TablePhase, still, launched, published, State, client_at, with_client, next_call, told, refusal_of, with_runs, has_run, all_answered, table_group, read_reply}
-use Rattle.model_core.specs.Step.{when, step, link, link_call, link_with, elect, build, group_size, log_group, logged_group, leave, fault, refuse, boundary, to_second, next, launch, insert, entry_ahead, finish, publish, group_last, exit, without_table_group, complete, complete_with, completed, read, read_call, read_with}
+use Rattle.model_core.specs.Core.{Options, Writer, Client, LogPhase, free, led, built, in_log, marked, handed, TablePhase, still, launched, published, State, client_at, with_client, next_call, after_reply, refusal_of, with_runs, has_run, all_answered, table_group, read_reply}
+use Rattle.model_core.specs.Step.{when, step, link, link_call, link_with, elect, build, group_size, log_group, logged_group, leave, fault, refuse, boundary, to_second, next, launch, insert, entry_ahead, finish, publish, group_last, exit, without_table_group, complete, complete_with, after_completion, read, read_call, read_with}
 use Rattle.model_core.specs.Halves.{list_half_of, table_half_of, moves_list, moves_table, TableStep, ListStep, logged_with}
 use Rattle.model_core_laws.proofs.Tables.{when_some}
 
@@ -35,7 +35,7 @@ by_read : (P : State → Type 0) (s t : State) (c : ℕ) → ((client : Client) 
 by_read P s t c holds came = by_client (client_at s c) came
   where
     by_reply : (client : Client) (command : Command) (reply : Option Reply) → read_with s c client command reply ≡ Some t → P t
-    by_reply client command (Some reply) came = let after : with_client s c (told client command reply) ≡ t = cc in subst P after (holds (told client command reply))
+    by_reply client command (Some reply) came = let after : with_client s c (after_reply client command reply) ≡ t = cc in subst P after (holds (after_reply client command reply))
     by_reply client command None came = absurd (cc)
 
     by_call : (client : Client) (call : Option Command) → read_call s c client call ≡ Some t → P t
@@ -57,7 +57,7 @@ by_complete P s t m holds came = by_writer (find (λ (w : Writer). w.client == m
   where
     by_client : (w : Writer) (client : Option Client) (reply : Option Reply) → complete_with s m client w reply ≡ Some t → P t
     by_client w (Some client) (Some reply) came =
-        let new = completed client w reply in
+        let new = after_completion client w reply in
         let left = filter (λ (x : Writer). not (x.client == m)) s.leaving in
         let after : record (with_client s m new) { leaving = left } ≡ t = cc in
         subst P after (holds new)

@@ -4,8 +4,8 @@ use Rattle.model_core.specs.declared.event.Event.{Event}
 use Rattle.model_core.specs.declared.event.Event.TheVariants as e
 use Rattle.model_base.specs.declared.write.Refusal.TheVariants as no
 use Rattle.model_base.specs.Calls.{Command}
-use Rattle.model_core.specs.Core.{Options, State, opened}
-use Rattle.model_core.specs.Step.{step, Replayed, replayed, replay}
+use Rattle.model_core.specs.Core.{Options, State, opening_state}
+use Rattle.model_core.specs.Step.{step, Replayed, after_event, replay}
 use Rattle.model_core.specs.CoreLaw.{IsCore, IsSubsequence, KeepsOrder, Keeps, in_order}
 use Rattle.model_core_laws.proofs.KeptByBuild.{kept_by_build}
 use Rattle.model_core_laws.proofs.KeptByComplete.{kept_by_complete}
@@ -47,13 +47,13 @@ kept o s t (e.Read c) core is = nobody_added o s t (e.Read c) (λ order. order) 
 
 -- What holds at a state and is kept by each event that comes holds after every list of events.
 pub by_events : (P : State → Type 0) (o : Options) → ((s t : State) (event : Event) → P s → step o s event ≡ Some t → P t) → (events : List Event) (r : Replayed) → P r.state
-    → P (fold (λ r event. replayed r (step o r.state event)) r events).state
+    → P (fold (λ r event. after_event r (step o r.state event)) r events).state
 by_events P o keeps [] r holds = holds
-by_events P o keeps (event ∷ events) r holds = by_events P o keeps events (replayed r (step o r.state event)) (by_step (step o r.state event) refl)
+by_events P o keeps (event ∷ events) r holds = by_events P o keeps events (after_event r (step o r.state event)) (by_step (step o r.state event) refl)
   where
-    by_step : (after : Option State) → step o r.state event ≡ after → P (replayed r after).state
+    by_step : (after : Option State) → step o r.state event ≡ after → P (after_event r after).state
     by_step None is = holds
     by_step (Some t) is = keeps r.state t event holds is
 
-pub every_list : (o : Options) (plans : List (List Command)) (events : List Event) → IsCore o (replay o (opened o plans) events).state
-every_list o plans events = by_events (IsCore o) o (λ s t event core is. (kept o s t event core is).0) events (record { state = opened o plans; taken = 0; skipped = 0 }) (opening o plans)
+pub every_list : (o : Options) (plans : List (List Command)) (events : List Event) → IsCore o (replay o (opening_state o plans) events).state
+every_list o plans events = by_events (IsCore o) o (λ s t event core is. (kept o s t event core is).0) events (record { state = opening_state o plans; taken = 0; skipped = 0 }) (opening o plans)

@@ -5,7 +5,7 @@ use Rattle.std.proofs.lemmas.List.{take-append-drop, append-nil}
 use Rattle.model_base.specs.Batch.{count_of}
 use Rattle.model_core.specs.Core.{Options, Writer, LogPhase, free, led, built, in_log, marked, handed, State, has_run, table_group}
 use Rattle.model_core.specs.Step.{build, group_size}
-use Rattle.model_core.specs.CoreLaw.{IsCore, hand, in_order, joined, HasInserted}
+use Rattle.model_core.specs.CoreLaw.{IsCore, hand, in_order, writers_in, HasInserted}
 use Rattle.model_core_laws.proofs.Groups.{one_flag}
 use Rattle.model_core_laws.proofs.Relined.{lined, relined, same_line, same_table, same_unpublished, kept_order}
 use Rattle.model_core_laws.proofs.Tables.{AddsNobody, when_some}
@@ -15,7 +15,7 @@ abbrev built_of : State → ℕ → State
 built_of s n = lined s s.second (built (take n s.queue)) (drop n s.queue) s.leaving s.log_failed
 
 same_order : (s : State) (n d : ℕ) → s.log ≡ led d → in_order s ≡ in_order (built_of s n)
-same_order s n d is = ap (map (λ (w : Writer). w.client)) (rw is (rw (append_assoc (joined s.second) (take n s.queue) (drop n s.queue), take-append-drop n s.queue, append-nil (joined s.second))))
+same_order s n d is = ap (map (λ (w : Writer). w.client)) (rw is (rw (append_assoc (writers_in s.second) (take n s.queue) (drop n s.queue), take-append-drop n s.queue, append-nil (writers_in s.second))))
 
 built_keeps : (o : Options) (s : State) (d : ℕ) → s.log ≡ led d → IsCore o s → IsCore o (built_of s (group_size o s)) × AddsNobody s (built_of s (group_size o s))
 built_keeps o s d is core = let n = group_size o s in let t = built_of s n in let e = same_order s n d is in let whole : hand s.log ++ s.queue ≡ take n s.queue ++ drop n s.queue = rw is (sym (take-append-drop n s.queue)) in

@@ -3,8 +3,8 @@ use Rattle.std.proofs.Common.{◌≡◌, ℕ, ◌≤◌, Bool, true, false, not,
 use Rattle.std.proofs.lemmas.Bool.{ne_eqb, eqb-true, cond-true, cond-false}
 use Rattle.model_base.specs.Calls.{Reply}
 use Rattle.model_core.specs.Core.{Options, Writer, Client, State, client_at, with_client}
-use Rattle.model_core.specs.Step.{complete, complete_with, completed}
-use Rattle.model_core.specs.CoreLaw.{IsCore, in_order, waiting}
+use Rattle.model_core.specs.Step.{complete, complete_with, after_completion}
+use Rattle.model_core.specs.CoreLaw.{IsCore, in_order, waiting_clients}
 use Rattle.model_core_laws.proofs.Clients.{still_there, once_after, places}
 use Rattle.model_core_laws.proofs.Lists.{all_weaker}
 use Rattle.model_core_laws.proofs.Tables.{AddsNobody, all_fewer, keeps, subsequence_self, times, times_cons, there, there_filtered, waiting_parts, waits_once}
@@ -53,7 +53,7 @@ module _ (o : Options) (s : State) (m : ℕ) (old new : Client) (w : Writer) (is
   abbrev after : State
   after = record (with_client s m new) { leaving = without m s.leaving }
 
-  none_now : times m (waiting after) ≡ 0
+  none_now : times m (waiting_clients after) ≡ 0
   none_now =
       let a = waiting_parts m after in
       let b = waiting_parts m s in
@@ -62,20 +62,20 @@ module _ (o : Options) (s : State) (m : ℕ) (old new : Client) (w : Writer) (is
       let f = none_without m s.leaving in
       omega arith
 
-  others : (n : ℕ) (other : Client) → (m ≡ n → ⊥) → client_at s n ≡ Some other → times n (waiting after) ≡ (if other.idle then 0 else 1)
+  others : (n : ℕ) (other : Client) → (m ≡ n → ⊥) → client_at s n ≡ Some other → times n (waiting_clients after) ≡ (if other.idle then 0 else 1)
   others n other apart at = same ∙ core.once n other at
     where
-      same : times n (waiting after) ≡ times n (waiting s)
+      same : times n (waiting_clients after) ≡ times n (waiting_clients s)
       same = let a = waiting_parts n after in let b = waiting_parts n s in let d = others_without m n s.leaving apart in omega arith
 
-  fewer : (n : ℕ) → times n (waiting after) ≤ times n (waiting s)
+  fewer : (n : ℕ) → times n (waiting_clients after) ≤ times n (waiting_clients s)
   fewer n = let a = waiting_parts n after in let b = waiting_parts n s in let d = there_filtered n (λ (x : Writer). not (x.client == m)) s.leaving in omega arith
 
   completing : IsCore o after × AddsNobody s after
   completing = (
     places o s (with_client s m new).clients s.queue (without m s.leaving)
         (once_after s after m old new is refl (none_now ∙ sym (ap (λ b. if b then 0 else 1) idle)) others)
-        (all_fewer _ (waiting s) (waiting after) fewer (all_weaker _ _ (still_there s m old new is) (waiting s) core.clients))
+        (all_fewer _ (waiting_clients s) (waiting_clients after) fewer (all_weaker _ _ (still_there s m old new is) (waiting_clients s) core.clients))
         core.led_is_first core.counted core,
     keeps s after (subsequence_self (in_order s)) refl refl,
   )
@@ -85,8 +85,8 @@ kept_by_complete o s t m core e = by_writer (find (λ (w : Writer). w.client == 
   where
     by_client : (w : Writer) → find (λ (x : Writer). x.client == m) s.leaving ≡ Some w → (client : Option Client) → client_at s m ≡ client → (reply : Option Reply) → complete_with s m client w reply ≡ Some t → IsCore o t × AddsNobody s t
     by_client w left (Some client) is (Some reply) e =
-        let done : record (with_client s m (completed client w reply)) { leaving = without m s.leaving } ≡ t = cc in
-        subst (λ (x : State). IsCore o x × AddsNobody s x) done (completing o s m client (completed client w reply) w is refl left core)
+        let done : record (with_client s m (after_completion client w reply)) { leaving = without m s.leaving } ≡ t = cc in
+        subst (λ (x : State). IsCore o x × AddsNobody s x) done (completing o s m client (after_completion client w reply) w is refl left core)
     by_client w left (Some client) is None e = absurd (cc)
     by_client w left None is reply e = absurd (cc)
 

@@ -5,7 +5,7 @@ use Rattle.std.proofs.lemmas.List.{map-append}
 use Rattle.model_base.specs.History.{Entry}
 use Rattle.model_core.specs.Core.{Options, Writer, Client, LogPhase, free, led, built, in_log, marked, handed, TablePhase, still, launched, published, State, client_at, leads, has_run, table_group}
 use Rattle.model_core.specs.Step.{exit, leave, without_table_group}
-use Rattle.model_core.specs.CoreLaw.{IsCore, HasInserted, IsEntryOf, IsSubsequence, joined, hand, waiting, in_order}
+use Rattle.model_core.specs.CoreLaw.{IsCore, HasInserted, IsEntryOf, IsSubsequence, writers_in, hand, waiting_clients, in_order}
 use Rattle.model_core_laws.proofs.Lists.{all_back}
 use Rattle.model_core_laws.proofs.Tables.{AddsNobody, when_some, all_fewer, subsequence_self, subsequence_after, keeps, with_table, times, there_append, waiting_parts, some_led}
 
@@ -34,18 +34,18 @@ module _ (o : Options) (s : State) (ws : List Writer) (wss : List (List Writer))
   abbrev after : State
   after = record (with_groups s wss log still) { leaving = s.leaving ++ ws }
 
-  as_often : (c : ℕ) → times c (waiting after) ≡ times c (waiting before)
+  as_often : (c : ℕ) → times c (waiting_clients after) ≡ times c (waiting_clients before)
   as_often c =
       let a = waiting_parts c after in
       let b = waiting_parts c before in
-      let d = there_append c ws (joined wss) in
+      let d = there_append c ws (writers_in wss) in
       let e = there_append c s.leaving ws in
       omega arith
 
   from_second : IsCore (record o { pipelined = true }) after
   from_second = record {
     once = λ (c : ℕ) (client : Client) is. as_often c ∙ core.once c client is;
-    clients = all_fewer (λ c. IsSome (client_at s c)) (waiting before) (waiting after) (λ (c : ℕ). le_of_eq (as_often c)) core.clients;
+    clients = all_fewer (λ c. IsSome (client_at s c)) (waiting_clients before) (waiting_clients after) (λ (c : ℕ). le_of_eq (as_often c)) core.clients;
     led_is_first = core.led_is_first;
     single_stage = λ e. absurd (cc);
     unmarked = λ e. absurd (cc);
@@ -69,10 +69,10 @@ module _ (o : Options) (s : State) (ws : List Writer) (wss : List (List Writer))
 
   order_of_second : AddsNobody before after
   order_of_second = keeps before after (
-      let regroup : ((ws ++ joined wss) ++ hand log) ++ s.queue ≡ ws ++ ((joined wss ++ hand log) ++ s.queue) =
-      ap (λ xs. xs ++ s.queue) (append_assoc ws (joined wss) (hand log)) ∙ append_assoc ws (joined wss ++ hand log) s.queue in
+      let regroup : ((ws ++ writers_in wss) ++ hand log) ++ s.queue ≡ ws ++ ((writers_in wss ++ hand log) ++ s.queue) =
+      ap (λ xs. xs ++ s.queue) (append_assoc ws (writers_in wss) (hand log)) ∙ append_assoc ws (writers_in wss ++ hand log) s.queue in
       subst (λ ns. IsSubsequence (in_order after) ns)
-      (sym (ap (map (λ (w : Writer). w.client)) regroup ∙ map-append (λ (w : Writer). w.client) ws ((joined wss ++ hand log) ++ s.queue)))
+      (sym (ap (map (λ (w : Writer). w.client)) regroup ∙ map-append (λ (w : Writer). w.client) ws ((writers_in wss ++ hand log) ++ s.queue)))
       (subsequence_after (map (λ (w : Writer). w.client) ws) (in_order after) (in_order after) (subsequence_self (in_order after)))) refl refl
 
 -- the group in the log leaves
@@ -83,7 +83,7 @@ module _ (o : Options) (s : State) (second : List (List Writer)) (ws : List Writ
   abbrev with_free : State
   with_free = record (with_groups s second free still) { leaving = s.leaving ++ ws }
 
-  as_often_single : (c : ℕ) → times c (waiting with_free) ≡ times c (waiting with_log)
+  as_often_single : (c : ℕ) → times c (waiting_clients with_free) ≡ times c (waiting_clients with_log)
   as_often_single c =
       let a = waiting_parts c with_free in
       let b = waiting_parts c with_log in
@@ -93,7 +93,7 @@ module _ (o : Options) (s : State) (second : List (List Writer)) (ws : List Writ
   from_log : IsCore (record o { pipelined = false }) with_free
   from_log = record {
     once = λ (c : ℕ) (client : Client) is. as_often_single c ∙ core.once c client is;
-    clients = all_fewer (λ c. IsSome (client_at s c)) (waiting with_log) (waiting with_free) (λ (c : ℕ). le_of_eq (as_often_single c)) core.clients;
+    clients = all_fewer (λ c. IsSome (client_at s c)) (waiting_clients with_log) (waiting_clients with_free) (λ (c : ℕ). le_of_eq (as_often_single c)) core.clients;
     led_is_first = tt;
     single_stage = core.single_stage;
     unmarked = λ e. tt;
@@ -103,7 +103,7 @@ module _ (o : Options) (s : State) (second : List (List Writer)) (ws : List Writ
     assigned = core.assigned;
     front = core.front;
     is_boundary = core.is_boundary;
-    ahead = subst (λ wss. AllZip IsEntryOf (filter has_run (joined wss ++ [])) core.is_boundary.rest) (sym (core.single_stage refl)) core.ahead;
+    ahead = subst (λ wss. AllZip IsEntryOf (filter has_run (writers_in wss ++ [])) core.is_boundary.rest) (sym (core.single_stage refl)) core.ahead;
     in_table = core.in_table;
     from_entries = core.from_entries;
     is_table = tt;
@@ -116,7 +116,7 @@ module _ (o : Options) (s : State) (second : List (List Writer)) (ws : List Writ
   }
 
   order_of_log : AddsNobody with_log with_free
-  order_of_log = keeps with_log with_free (left_out (joined second) ws s.queue) refl refl
+  order_of_log = keeps with_log with_free (left_out (writers_in second) ws s.queue) refl refl
 
 exiting : (o : Options) (s : State) (pipelined : Bool) (second : List (List Writer)) (log : LogPhase)
     → 0 < length (table_group (record o { pipelined = pipelined }) (with_groups s second log published))

@@ -5,7 +5,7 @@ use Rattle.std.proofs.lemmas.List.{append-nil}
 use Rattle.std.proofs.lemmas.List.Concat.{flat_map-append}
 use Rattle.model_core.specs.Core.{Options, Writer, LogPhase, free, led, built, in_log, marked, handed, TablePhase, still, launched, published, State, leads, has_run, table_group, first_group}
 use Rattle.model_core.specs.Step.{boundary, to_second, next}
-use Rattle.model_core.specs.CoreLaw.{IsCore, IsTable, hand, hand_with_runs, in_order, joined, unpublished, HasInserted}
+use Rattle.model_core.specs.CoreLaw.{IsCore, IsTable, hand, hand_with_runs, in_order, writers_in, unpublished_writers, HasInserted}
 use Rattle.model_core_laws.proofs.KeptByElect.{rephased}
 use Rattle.model_core_laws.proofs.Lists.{all_back, all_of, and_parts}
 use Rattle.model_core_laws.proofs.Relined.{lined, relined, same_line, same_table, kept_order}
@@ -43,11 +43,11 @@ kept_by_next o s t c core e = by_phase s.log refl e
 abbrev second_of : State → ℕ → List Writer → State
 second_of s c ws = lined s (s.second ++ ws ∷ []) (handed c) s.queue s.leaving s.log_failed
 
-joined_more : (wss : List (List Writer)) (ws : List Writer) → joined (wss ++ ws ∷ []) ≡ joined wss ++ ws
+joined_more : (wss : List (List Writer)) (ws : List Writer) → writers_in (wss ++ ws ∷ []) ≡ writers_in wss ++ ws
 joined_more wss ws = flat_map-append (λ (ws : List Writer). ws) wss (ws ∷ []) ∙ rw append-nil
 
 same_order : (s : State) (c : ℕ) (ws : List Writer) → s.log ≡ marked ws → in_order s ≡ in_order (second_of s c ws)
-same_order s c ws is = ap (map (λ (w : Writer). w.client)) (rw is (rw (joined_more s.second ws) (ap (λ line. line ++ s.queue) (sym (append-nil (joined s.second ++ ws))))))
+same_order s c ws is = ap (map (λ (w : Writer). w.client)) (rw is (rw (joined_more s.second ws) (ap (λ line. line ++ s.queue) (sym (append-nil (writers_in s.second ++ ws))))))
 
 first_same : (wss : List (List Writer)) (ws : List Writer) → 0 < length (first_group wss) → first_group wss ≡ first_group (wss ++ ws ∷ [])
 first_same [] ws some = absurd (omega arith)
@@ -68,14 +68,14 @@ inserted_kept o s c ws two still is have = all_of (HasInserted s.inserted still)
 inserted_kept o s c ws two published is have = all_of (HasInserted s.inserted published) (λ w. tt) (filter has_run (table_group o (second_of s c ws)))
 inserted_kept o s c ws two (launched ins fin) is have = subst (λ vs. AllByRecursion (HasInserted s.inserted (launched ins fin)) (filter has_run vs)) (group_same o s c ws two is.0) have
 
-ahead_kept : (o : Options) (s : State) (c : ℕ) (ws : List Writer) → o.pipelined ≡ true → s.log ≡ marked ws → (table : TablePhase) → IsTable o s table → unpublished o s table ≡ unpublished o (second_of s c ws) table
-ahead_kept o s c ws two log still is = rw log (rw (joined_more s.second ws) (sym (append-nil (joined s.second ++ ws))))
-ahead_kept o s c ws two log (launched ins fin) is = rw log (rw (joined_more s.second ws) (sym (append-nil (joined s.second ++ ws))))
+ahead_kept : (o : Options) (s : State) (c : ℕ) (ws : List Writer) → o.pipelined ≡ true → s.log ≡ marked ws → (table : TablePhase) → IsTable o s table → unpublished_writers o s table ≡ unpublished_writers o (second_of s c ws) table
+ahead_kept o s c ws two log still is = rw log (rw (joined_more s.second ws) (sym (append-nil (writers_in s.second ++ ws))))
+ahead_kept o s c ws two log (launched ins fin) is = rw log (rw (joined_more s.second ws) (sym (append-nil (writers_in s.second ++ ws))))
 ahead_kept o s c ws two log published is = by_second s.second refl (rw two at is)
   where
-    by_second : (wss : List (List Writer)) → s.second ≡ wss → 0 < length (first_group wss) → unpublished o s published ≡ unpublished o (second_of s c ws) published
+    by_second : (wss : List (List Writer)) → s.second ≡ wss → 0 < length (first_group wss) → unpublished_writers o s published ≡ unpublished_writers o (second_of s c ws) published
     by_second [] e some = absurd (omega arith)
-    by_second (v ∷ vs) e some = rw (e, two, log) (rw (joined_more vs ws) (sym (append-nil (joined vs ++ ws))))
+    by_second (v ∷ vs) e some = rw (e, two, log) (rw (joined_more vs ws) (sym (append-nil (writers_in vs ++ ws))))
 
 seconded : (o : Options) (s : State) (c : ℕ) (ws : List Writer) → s.log ≡ marked ws → o.pipelined ≡ true → IsCore o s → IsCore o (second_of s c ws) × AddsNobody s (second_of s c ws)
 seconded o s c ws log two core = let e = same_order s c ws log in (

@@ -7,7 +7,7 @@ use Rattle.model_base.specs.declared.write.Refusal.TheVariants as no
 use Rattle.model_base.specs.Calls.{Reply, refused}
 use Rattle.model_core.specs.Core.{Options, Writer, LogPhase, free, led, built, in_log, marked, handed, State, leads, has_run, table_group, all_answered}
 use Rattle.model_core.specs.Step.{fault, refuse, is_no_slowdown}
-use Rattle.model_core.specs.CoreLaw.{IsCore, IsSubsequence, hand, in_order, waiting, joined, HasInserted}
+use Rattle.model_core.specs.CoreLaw.{IsCore, IsSubsequence, hand, in_order, waiting_clients, writers_in, HasInserted}
 use Rattle.model_core_laws.proofs.Lists.{all_append, all_front, all_back, count_append}
 use Rattle.model_core_laws.proofs.Relined.{SameMembers, lined, relined, same_table, same_unpublished}
 use Rattle.model_core_laws.proofs.Tables.{AddsNobody, subsequence_self, subsequence_after, subsequence_both, when_some}
@@ -32,21 +32,21 @@ moved_all P xs ws ys zs a =
     (all_append P zs ws (all_back P ((xs ++ ws) ++ ys) zs a) (all_back P xs ws two))
 
 -- where the clients wait, part by part
-pub order_parts : (s : State) → in_order s ≡ (map client_of (joined s.second) ++ map client_of (hand s.log)) ++ map client_of s.queue
-order_parts s = map-append client_of (joined s.second ++ hand s.log) s.queue ∙ ap (λ two. two ++ map client_of s.queue) (map-append client_of (joined s.second) (hand s.log))
+pub order_parts : (s : State) → in_order s ≡ (map client_of (writers_in s.second) ++ map client_of (hand s.log)) ++ map client_of s.queue
+order_parts s = map-append client_of (writers_in s.second ++ hand s.log) s.queue ∙ ap (λ two. two ++ map client_of s.queue) (map-append client_of (writers_in s.second) (hand s.log))
 
-pub waiting_parts : (s : State) → waiting s ≡ ((map client_of (joined s.second) ++ map client_of (hand s.log)) ++ map client_of s.queue) ++ map client_of s.leaving
+pub waiting_parts : (s : State) → waiting_clients s ≡ ((map client_of (writers_in s.second) ++ map client_of (hand s.log)) ++ map client_of s.queue) ++ map client_of s.leaving
 waiting_parts s = ap (λ line. line ++ map client_of s.leaving) (order_parts s)
 
-left_waiting : (s : State) (ws : List Writer) (log_failed : Bool) → waiting (left_of s ws log_failed) ≡ ((map client_of (joined s.second) ++ []) ++ map client_of s.queue) ++ (map client_of s.leaving ++ map client_of ws)
-left_waiting s ws log_failed = waiting_parts (left_of s ws log_failed) ∙ ap (λ leaving. ((map client_of (joined s.second) ++ []) ++ map client_of s.queue) ++ leaving) (map-append client_of s.leaving ws)
+left_waiting : (s : State) (ws : List Writer) (log_failed : Bool) → waiting_clients (left_of s ws log_failed) ≡ ((map client_of (writers_in s.second) ++ []) ++ map client_of s.queue) ++ (map client_of s.leaving ++ map client_of ws)
+left_waiting s ws log_failed = waiting_parts (left_of s ws log_failed) ∙ ap (λ leaving. ((map client_of (writers_in s.second) ++ []) ++ map client_of s.queue) ++ leaving) (map-append client_of s.leaving ws)
 
-left_members : (s : State) (ws : List Writer) (log_failed : Bool) → map client_of (hand s.log) ≡ map client_of ws → SameMembers (waiting s) (waiting (left_of s ws log_failed))
+left_members : (s : State) (ws : List Writer) (log_failed : Bool) → map client_of (hand s.log) ≡ map client_of ws → SameMembers (waiting_clients s) (waiting_clients (left_of s ws log_failed))
 left_members s ws log_failed e =
-    let before : waiting s ≡ ((map client_of (joined s.second) ++ map client_of ws) ++ map client_of s.queue) ++ map client_of s.leaving = waiting_parts s ∙ rw e refl in
+    let before : waiting_clients s ≡ ((map client_of (writers_in s.second) ++ map client_of ws) ++ map client_of s.queue) ++ map client_of s.leaving = waiting_parts s ∙ rw e refl in
     let after = left_waiting s ws log_failed in record {
-      counts = λ p. rw (before, after) (moved_counts p (map client_of (joined s.second)) (map client_of ws) (map client_of s.queue) (map client_of s.leaving));
-      all = λ P a. rw after (moved_all P (map client_of (joined s.second)) (map client_of ws) (map client_of s.queue) (map client_of s.leaving) (rw before at a));
+      counts = λ p. rw (before, after) (moved_counts p (map client_of (writers_in s.second)) (map client_of ws) (map client_of s.queue) (map client_of s.leaving));
+      all = λ P a. rw after (moved_all P (map client_of (writers_in s.second)) (map client_of ws) (map client_of s.queue) (map client_of s.leaving) (rw before at a));
     }
 
 part_left_out : (xs ws ys : List ℕ) → IsSubsequence ((xs ++ []) ++ ys) ((xs ++ ws) ++ ys)
@@ -54,8 +54,8 @@ part_left_out xs ws ys = rw (append-nil xs, append_assoc xs ws ys) (subsequence_
 
 left_order : (s : State) (ws : List Writer) (log_failed : Bool) → IsSubsequence (in_order (left_of s ws log_failed)) (in_order s)
 left_order s ws log_failed =
-    let before = order_parts s in let after : in_order (left_of s ws log_failed) ≡ (map client_of (joined s.second) ++ []) ++ map client_of s.queue = order_parts (left_of s ws log_failed) in
-    rw (before, after) (part_left_out (map client_of (joined s.second)) (map client_of (hand s.log)) (map client_of s.queue))
+    let before = order_parts s in let after : in_order (left_of s ws log_failed) ≡ (map client_of (writers_in s.second) ++ []) ++ map client_of s.queue = order_parts (left_of s ws log_failed) in
+    rw (before, after) (part_left_out (map client_of (writers_in s.second)) (map client_of (hand s.log)) (map client_of s.queue))
 
 pub left_core : (o : Options) (s : State) (us ws : List Writer) (log_failed : Bool) → s.log ≡ built us → map client_of us ≡ map client_of ws → (s.log_failed ≡ true → log_failed ≡ true)
     → IsCore o s → IsCore o (left_of s ws log_failed) × AddsNobody s (left_of s ws log_failed)

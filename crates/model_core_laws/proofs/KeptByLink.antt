@@ -10,9 +10,9 @@ use Rattle.model_base.specs.Batch.{Record, count_of}
 use Rattle.model_base.specs.Progress.{early_refusal}
 use Rattle.model_base.specs.Calls.{Command, commit, refused}
 use Rattle.model_core.specs.declared.event.Event.TheVariants.{Link}
-use Rattle.model_core.specs.Core.{Options, Writer, Client, LogPhase, free, led, built, in_log, marked, handed, State, client_at, with_client, next_call, told, refusal_of, among}
+use Rattle.model_core.specs.Core.{Options, Writer, Client, LogPhase, free, led, built, in_log, marked, handed, State, client_at, with_client, next_call, after_reply, refusal_of, among}
 use Rattle.model_core.specs.Step.{link, link_call, link_with}
-use Rattle.model_core.specs.CoreLaw.{IsCore, Keeps, LedIsFirst, joined, hand, in_order, waiting}
+use Rattle.model_core.specs.CoreLaw.{IsCore, Keeps, LedIsFirst, writers_in, hand, in_order, waiting_clients}
 use Rattle.model_core_laws.proofs.Clients.{ahead_idle, replaced, still_there, once_after, places}
 use Rattle.model_core_laws.proofs.KeptByRead.{kept_idle}
 use Rattle.model_core_laws.proofs.Lists.{all_weaker, all_append}
@@ -55,35 +55,35 @@ module _ (o : Options) (s : State) (c : ℕ) (old client : Client) (how : WriteO
   abbrev after : State
   after = record (with_client s c waits) { queue = s.queue ++ writer ∷ [] }
 
-  one_more : (n : ℕ) → times n (waiting after) ≡ times n (waiting s) + times n (c ∷ [])
+  one_more : (n : ℕ) → times n (waiting_clients after) ≡ times n (waiting_clients s) + times n (c ∷ [])
   one_more n =
       let a = waiting_parts n after in
       let b = waiting_parts n s in
       let d = there_append n s.queue (writer ∷ []) in
       omega arith
 
-  none_before : times c (waiting s) ≡ 0
+  none_before : times c (waiting_clients s) ≡ 0
   none_before = core.once c old is ∙ ap (λ b. if b then 0 else 1) idle
 
-  one_now : times c (waiting after) ≡ 1
+  one_now : times c (waiting_clients after) ≡ 1
   one_now = let a = one_more c in let b = none_before in let d = times_here c [] in omega arith
 
-  others : (n : ℕ) (other : Client) → (c ≡ n → ⊥) → client_at s n ≡ Some other → times n (waiting after) ≡ (if other.idle then 0 else 1)
+  others : (n : ℕ) (other : Client) → (c ≡ n → ⊥) → client_at s n ≡ Some other → times n (waiting_clients after) ≡ (if other.idle then 0 else 1)
   others n other apart at = same ∙ core.once n other at
     where
-      same : times n (waiting after) ≡ times n (waiting s)
+      same : times n (waiting_clients after) ≡ times n (waiting_clients s)
       same =
           let a = one_more n in
           let b = times_cons n c [] in
           let d : cond {A = ℕ} (c == n) 1 0 ≡ 0 = cond-false {A = ℕ} (c == n) 1 0 (ne_eqb c n apart) in
           omega arith
 
-  within : AllByRecursion (λ n. IsSome (client_at after n)) (waiting after)
-  within = all_fewer (λ n. IsSome (client_at after n)) (c ∷ waiting s) (waiting after) fewer
-      (ap is_some (replaced s c old waits is), all_weaker _ _ (still_there s c old waits is) (waiting s) core.clients)
+  within : AllByRecursion (λ n. IsSome (client_at after n)) (waiting_clients after)
+  within = all_fewer (λ n. IsSome (client_at after n)) (c ∷ waiting_clients s) (waiting_clients after) fewer
+      (ap is_some (replaced s c old waits is), all_weaker _ _ (still_there s c old waits is) (waiting_clients s) core.clients)
     where
-      fewer : (n : ℕ) → times n (waiting after) ≤ times n (c ∷ waiting s)
-      fewer n = let a = one_more n in let b = times_cons n c (waiting s) in let d = times_cons n c [] in omega arith
+      fewer : (n : ℕ) → times n (waiting_clients after) ≤ times n (c ∷ waiting_clients s)
+      fewer n = let a = one_more n in let b = times_cons n c (waiting_clients s) in let d = times_cons n c [] in omega arith
 
   linking : IsCore o after
   linking =
@@ -96,17 +96,17 @@ module _ (o : Options) (s : State) (c : ℕ) (old client : Client) (how : WriteO
       core
 
   order : in_order after ≡ in_order s ++ c ∷ []
-  order = ap (map (λ (w : Writer). w.client)) (sym (append_assoc (joined s.second ++ hand s.log) s.queue (writer ∷ []))) ∙ map-append (λ (w : Writer). w.client) ((joined s.second ++ hand s.log) ++ s.queue) (writer ∷ [])
+  order = ap (map (λ (w : Writer). w.client)) (sym (append_assoc (writers_in s.second ++ hand s.log) s.queue (writer ∷ []))) ∙ map-append (λ (w : Writer). w.client) ((writers_in s.second ++ hand s.log) ++ s.queue) (writer ∷ [])
 
   keeps_linking : Keeps (Link c) s after
-  keeps_linking = record { order = inr (order, not_among c (waiting s) none_before); log_failed = λ was. (refl, was) }
+  keeps_linking = record { order = inr (order, not_among c (waiting_clients s) none_before); log_failed = λ was. (refl, was) }
 
 pub kept_by_link : (o : Options) (s t : State) (c : ℕ) → IsCore o s → link o s c (client_at s c) ≡ Some t → IsCore o t × Keeps (Link c) s t
 kept_by_link o s t c core e = by_client (client_at s c) refl e
   where
     by_refusal : (old client : Client) → client_at s c ≡ Some old → old.idle ≡ true → client.idle ≡ true → (how : WriteOptions) (why : Option Refusal) → refusal_of o how client.added ≡ why → link_with o s c client how why ≡ t → IsCore o t × Keeps (Link c) s t
     by_refusal old client is was now how (Some why) refusal e = subst (λ (x : State). IsCore o x × Keeps (Link c) s x) e
-        ((kept_idle o s c old (told client (commit how) (refused why)) is was refl core).0, record { order = inl refl; log_failed = λ failed. (refl, failed) })
+        ((kept_idle o s c old (after_reply client (commit how) (refused why)) is was refl core).0, record { order = inl refl; log_failed = λ failed. (refl, failed) })
     by_refusal old client is was now how None refusal e =
         let some = something o.batch_bytes client.added how refusal in
         subst (λ (x : State). IsCore o x × Keeps (Link c) s x) e (linking o s c old client how is was some core, keeps_linking o s c old client how is was some core)

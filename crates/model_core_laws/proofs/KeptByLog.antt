@@ -7,7 +7,7 @@ use Rattle.std.proofs.lemmas.List.Elements.{filter-append, Contains-append_left}
 use Rattle.model_base.specs.History.{Entry, IsHistory, RunsFollow, last_sequence, logged, is_logged}
 use Rattle.model_core.specs.Core.{Options, Writer, LogPhase, free, led, built, in_log, marked, handed, TablePhase, still, launched, published, State, leads, has_run, table_group, with_runs, entries_of}
 use Rattle.model_core.specs.Step.{log_group, logged_group, with_group, is_unlogged}
-use Rattle.model_core.specs.CoreLaw.{IsCore, IsTable, IsEntryOf, IsInsertedAhead, in_order, waiting, joined, unpublished, HasInserted, SameLogFlag}
+use Rattle.model_core.specs.CoreLaw.{IsCore, IsTable, IsEntryOf, IsInsertedAhead, in_order, waiting_clients, writers_in, unpublished_writers, HasInserted, SameLogFlag}
 use Rattle.model_core_laws.proofs.Histories.{history_more, last_sequence_append, last_is, runs_follow}
 use Rattle.model_core_laws.proofs.KeptByLeaving.{client_of, order_parts, left_core}
 use Rattle.model_core_laws.proofs.Lists.{all_append, all_front, all_back, all_of, all_weaker, zip_append, and_parts}
@@ -16,17 +16,17 @@ use Rattle.model_core_laws.proofs.Runs.{Counts, same_clients, still_counted, sam
 use Rattle.model_core_laws.proofs.Tables.{AddsNobody, when_some}
 
 -- the group joins the unpublished ones
-ahead_more : (o : Options) (s : State) (us vs : List Writer) (xs : List Entry) → s.log ≡ built us → (table : TablePhase) → IsTable o s table → unpublished o (with_group s vs xs) table ≡ unpublished o s table ++ vs
-ahead_more o s us vs xs log still is = rw log (rw (append-nil (joined s.second)) refl)
-ahead_more o s us vs xs log (launched ins fin) is = rw log (rw (append-nil (joined s.second)) refl)
+ahead_more : (o : Options) (s : State) (us vs : List Writer) (xs : List Entry) → s.log ≡ built us → (table : TablePhase) → IsTable o s table → unpublished_writers o (with_group s vs xs) table ≡ unpublished_writers o s table ++ vs
+ahead_more o s us vs xs log still is = rw log (rw (append-nil (writers_in s.second)) refl)
+ahead_more o s us vs xs log (launched ins fin) is = rw log (rw (append-nil (writers_in s.second)) refl)
 ahead_more o s us vs xs log published is = by_stage o.pipelined refl
   where
-    by_stage : (b : Bool) → o.pipelined ≡ b → unpublished o (with_group s vs xs) published ≡ unpublished o s published ++ vs
+    by_stage : (b : Bool) → o.pipelined ≡ b → unpublished_writers o (with_group s vs xs) published ≡ unpublished_writers o s published ++ vs
     by_stage true two = rw (two, log) (by_second s.second)
       where
-        by_second : (wss : List (List Writer)) → unpublished (record o { pipelined = true }) (with_group (record s { second = wss }) vs xs) published ≡ unpublished (record o { pipelined = true }) (record s { second = wss; log = built us }) published ++ vs
+        by_second : (wss : List (List Writer)) → unpublished_writers (record o { pipelined = true }) (with_group (record s { second = wss }) vs xs) published ≡ unpublished_writers (record o { pipelined = true }) (record s { second = wss; log = built us }) published ++ vs
         by_second [] = refl
-        by_second (w ∷ wss) = rw (append-nil (joined wss)) refl
+        by_second (w ∷ wss) = rw (append-nil (writers_in wss)) refl
     by_stage false one = absurd (let none : 0 < 0 = rw (one, log) at is in omega (arith, none))
 
 -- with something in the table the group there is the same one
@@ -73,7 +73,7 @@ grouped : (o : Options) (s : State) (us : List Writer) → s.log ≡ built us �
 grouped o s us log some alive core =
     let vs = with_runs s.assigned us in let xs = entries_of s vs in let t : State = with_group s vs xs in
     let order : in_order s ≡ in_order t = same_order s us vs xs log (same_clients s.assigned us) in
-    let line = same_line (waiting s) (waiting t) (ap (λ line. line ++ map client_of s.leaving) order) in
+    let line = same_line (waiting_clients s) (waiting_clients t) (ap (λ line. line ++ map client_of s.leaving) order) in
     let counted : AllByRecursion Counts (us ++ s.queue) = rw log at core.counted in
     let flag : SameLogFlag vs = same_log_flag s.assigned us (rw log at core.one_log_flag) in
     let new : IsHistory s.assigned xs = runs_history s s.assigned us (all_front Counts us s.queue counted) in
@@ -90,8 +90,8 @@ grouped o s us log some alive core =
         assigned = last_is s.assigned xs ∙ (ap (λ n. last_sequence n xs) core.assigned ∙ sym (last_sequence_append o.start s.entries xs));
         front = core.front;
         is_boundary = record { rest = core.is_boundary.rest ++ xs; split = ap (λ es. es ++ xs) core.is_boundary.split ∙ append_assoc core.front core.is_boundary.rest xs; ends = core.is_boundary.ends };
-        ahead = rw (ahead_more o s us vs xs log s.table core.is_table, filter-append has_run (unpublished o s s.table) vs)
-            (zip_append IsEntryOf (filter has_run (unpublished o s s.table)) core.is_boundary.rest (filter has_run vs) xs core.ahead (runs_entries s s.assigned us));
+        ahead = rw (ahead_more o s us vs xs log s.table core.is_table, filter-append has_run (unpublished_writers o s s.table) vs)
+            (zip_append IsEntryOf (filter has_run (unpublished_writers o s s.table)) core.is_boundary.rest (filter has_run vs) xs core.ahead (runs_entries s s.assigned us));
         in_table = core.in_table;
         from_entries = all_weaker (λ x. Contains s.entries x × (Contains core.front x ⊎ IsInsertedAhead s.table x)) (λ x. Contains (s.entries ++ xs) x × (Contains core.front x ⊎ IsInsertedAhead s.table x))
             (λ x h. (Contains-append_left s.entries xs x h.0, h.1)) s.inserted core.from_entries;

@@ -7,7 +7,7 @@ use Rattle.model_base.specs.Calls.{Reply, accepted}
 use Rattle.model_base.specs.History.{Entry, IsHistory, last_sequence, last_of}
 use Rattle.model_core.specs.Core.{Options, Writer, TablePhase, still, launched, published, State, has_run, table_group, among, runners}
 use Rattle.model_core.specs.Step.{publish, is_last, group_last}
-use Rattle.model_core.specs.CoreLaw.{IsCore, HasInserted, IsInsertedAhead, IsEntryOf, joined, hand_with_runs, unpublished}
+use Rattle.model_core.specs.CoreLaw.{IsCore, HasInserted, IsInsertedAhead, IsEntryOf, writers_in, hand_with_runs, unpublished_writers}
 use Rattle.model_core_laws.proofs.Histories.{last_sequence_append, same_entry}
 use Rattle.model_core_laws.proofs.Lists.{all_weaker, all_append, all_contained, all_at, contains_cases, zip_left, all_weaker_at}
 use Rattle.model_core_laws.proofs.Tables.{AddsNobody, when_some, among_from_all, among_from_times, cut_ahead, times_among, times_here, times_cons, in_hand_once, with_table, keeps_with_table, groups_split, members, there, there_append, there_filtered, waiting_parts, waits_once}
@@ -55,14 +55,14 @@ member_there (v ∷ ws) w is = by (contains_cases v ws w is) (member_there ws w)
 
 -- who has an entry after the group isn't in the group
 no_member : (o : Options) (s : State) (x : Entry) (ws back : List Writer) (entries : List Entry) → IsCore o s
-    → joined s.second ++ hand_with_runs s.log ≡ ws ++ back → 1 ≤ there x.client ws → AllZip IsEntryOf (filter has_run back) entries → Contains entries x → ⊥
+    → writers_in s.second ++ hand_with_runs s.log ≡ ws ++ back → 1 ≤ there x.client ws → AllZip IsEntryOf (filter has_run back) entries → Contains entries x → ⊥
 no_member o s x ws back entries core split some zip is =
     let p = zip_left IsEntryOf (filter has_run back) entries x zip is in
     let behind : 1 ≤ there x.client (filter has_run back) = subst (λ n. 1 ≤ there n (filter has_run back)) (sym p.1.client) (member_there (filter has_run back) p.0 p.2) in
     let a = there_filtered x.client has_run back in
     let b = there_append x.client ws back in
     let d = ap (there x.client) split in
-    let f = there_append x.client (joined s.second) (hand_with_runs s.log) in
+    let f = there_append x.client (writers_in s.second) (hand_with_runs s.log) in
     let g = in_hand_once x.client s.log in
     let e = waiting_parts x.client s in
     let n = waits_once o s x.client core in
@@ -114,7 +114,7 @@ module _ (o : Options) (s : State) (ins fin : List ℕ) (done : list_all (λ c. 
 
       by : Contains (core.front ++ own) x ⊎ Contains behind x → Contains (core.front ++ own) x ⊎ IsInsertedAhead published x
       by (inl front) = inl front
-      by (inr back) = absurd (no_member o (with_table s (launched ins fin)) x (table_group o s) (unpublished o s published) behind core (groups_split o s core.single_stage core.is_table.0) member (cut_ahead o s ins fin core).at_back back)
+      by (inr back) = absurd (no_member o (with_table s (launched ins fin)) x (table_group o s) (unpublished_writers o s published) behind core (groups_split o s core.single_stage core.is_table.0) member (cut_ahead o s ins fin core).at_back back)
 
   -- the law at a state with a launched group
   publishing : IsCore o (record (with_table s published) { last = group_last s.last (table_group o s) })

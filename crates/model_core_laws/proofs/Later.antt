@@ -10,9 +10,9 @@ use Rattle.model_base.specs.declared.write.Refusal.TheVariants as no
 use Rattle.model_base.specs.declared.write.WriteOptions.{WriteOptions}
 use Rattle.model_base.specs.Batch.{Record}
 use Rattle.model_base.specs.Calls.{Command, add, clear, commit, get, many, scan, stop, unstop, slow, unslow, Reply, quiet, accepted, refused, found, found_each, rows, done, held, not_held, no_memory, Call}
-use Rattle.model_core.specs.Core.{Options, Writer, Client, LogPhase, free, led, built, in_log, marked, handed, TablePhase, still, launched, published, State, opened, client_at, with_client, next_call, ahead, told, refusal_of, read_reply, leads, has_run, with_runs, entries_of, table_group, runners, among, all_answered}
-use Rattle.model_core.specs.Step.{step, replay, replayed, Replayed, link, link_call, link_with, elect, build, group_size, log_group, logged_group, fault, refuse, is_no_slowdown, boundary, to_second, next, launch, insert, entry_ahead, finish, publish, is_last, group_last, exit, leave, without_table_group, complete, complete_with, completed, read, read_call, read_with, when}
-use Rattle.model_core.specs.CoreLaw.{IsCore, hand, joined}
+use Rattle.model_core.specs.Core.{Options, Writer, Client, LogPhase, free, led, built, in_log, marked, handed, TablePhase, still, launched, published, State, opening_state, client_at, with_client, next_call, ahead, after_reply, refusal_of, read_reply, leads, has_run, with_runs, entries_of, table_group, runners, among, all_answered}
+use Rattle.model_core.specs.Step.{step, replay, after_event, Replayed, link, link_call, link_with, elect, build, group_size, log_group, logged_group, fault, refuse, is_no_slowdown, boundary, to_second, next, launch, insert, entry_ahead, finish, publish, is_last, group_last, exit, leave, without_table_group, complete, complete_with, after_completion, read, read_call, read_with, when}
+use Rattle.model_core.specs.CoreLaw.{IsCore, hand, writers_in}
 use Rattle.model_core.specs.Replies.{IsFrom, IsLater}
 use Rattle.model_core_laws.proofs.Lists.{all_append, all_weaker, all_back}
 use Rattle.model_core_laws.proofs.Kept.{kept, by_events}
@@ -209,7 +209,7 @@ by_link : (o : Options) (s t : State) (c : ℕ) → link o s c (client_at s c) �
 by_link o s t c e = by_client (client_at s c) refl e
   where
     by_refusal : (old : Client) → client_at s c ≡ Some old → (how : WriteOptions) (why : Option Refusal) → link_with o s c (next_call old).client how why ≡ t → IsLater s t
-    by_refusal old is how (Some why) e = subst (IsLater s) e (later_client s (link_with o s c (next_call old).client how (Some why)) c old (told (next_call old).client (commit how) (refused why)) is refl refl refl
+    by_refusal old is how (Some why) e = subst (IsLater s) e (later_client s (link_with o s c (next_call old).client how (Some why)) c old (after_reply (next_call old).client (commit how) (refused why)) is refl refl refl
         (told_one_more s.last old.calls (next_call old).client.calls (record { command = commit how; reply = refused why }) tt (next_told s.last old)))
     by_refusal old is how None e = subst (IsLater s) e (later_client s (link_with o s c (next_call old).client how None) c old (record (next_call old).client { idle = false }) is refl refl refl (next_told s.last old))
 
@@ -254,7 +254,7 @@ by_read s t c e = by_client (client_at s c) refl e
     by_reply : (old : Client) → client_at s c ≡ Some old → (command : Command) (reply : Option Reply) → read_reply s command ≡ reply → read_with s c (next_call old).client command reply ≡ Some t → IsLater s t
     by_reply old is command None none e = absurd (cc)
     by_reply old is command (Some reply) some e =
-        let new = told (next_call old).client command reply in let after : with_client s c new ≡ t = cc in
+        let new = after_reply (next_call old).client command reply in let after : with_client s c new ≡ t = cc in
         subst (IsLater s) after (later_client s (with_client s c new) c old new is refl refl refl
         (told_one_more s.last old.calls (next_call old).client.calls (record { command = command; reply = reply }) (read_from s command reply some) (next_told s.last old)))
 
@@ -289,10 +289,10 @@ by_complete o plans s t m so_far e = by_writer (find (λ (w : Writer). w.client 
   where
     by_client : (w : Writer) → find (λ (x : Writer). x.client == m) s.leaving ≡ Some w → (client : Option Client) → client_at s m ≡ client → (reply : Option Reply) → w.answer ≡ reply → complete_with s m client w reply ≡ Some t → IsLater s t
     by_client w left (Some client) is (Some reply) answer e =
-        let waits = (found_is m s.leaving w left).1 (Waits o plans s) (all_back (Waits o plans s) ((joined s.second ++ hand s.log) ++ s.queue) s.leaving so_far.waits) in
+        let waits = (found_is m s.leaving w left).1 (Waits o plans s) (all_back (Waits o plans s) ((writers_in s.second ++ hand s.log) ++ s.queue) s.leaving so_far.waits) in
         let from = answer_from o s waits.client w w.answer reply answer waits.answer in
-        let u : State = record (with_client s m (completed client w reply)) { leaving = filter (λ (x : Writer). not (x.client == m)) s.leaving } in let after : u ≡ t = cc in
-        subst (IsLater s) after (later_client s u m client (completed client w reply) is refl refl refl
+        let u : State = record (with_client s m (after_completion client w reply)) { leaving = filter (λ (x : Writer). not (x.client == m)) s.leaving } in let after : u ≡ t = cc in
+        subst (IsLater s) after (later_client s u m client (after_completion client w reply) is refl refl refl
         (told_one_more s.last client.calls client.calls (record { command = commit w.options; reply = reply }) from ([], append-nil client.calls, tt)))
     by_client w left (Some client) is None answer e = absurd (cc)
     by_client w left None is reply answer e = absurd (cc)
@@ -323,10 +323,10 @@ fold_append : {A B : Type 0} (f : B → A → B) (b : B) (xs ys : List A) → fo
 fold_append f b [] ys = refl
 fold_append f b (x ∷ xs) ys = fold_append f (f b x) xs ys
 
-pub later : (o : Options) (plans : List (List Command)) (events more : List Event) → IsLater (replay o (opened o plans) events).state (replay o (opened o plans) (events ++ more)).state
+pub later : (o : Options) (plans : List (List Command)) (events more : List Event) → IsLater (replay o (opening_state o plans) events).state (replay o (opening_state o plans) (events ++ more)).state
 later o plans events more =
-    let f : Replayed → Event → Replayed = λ r event. replayed r (step o r.state event) in
-    let start : Replayed = record { state = opened o plans; taken = 0; skipped = 0 } in
+    let f : Replayed → Event → Replayed = λ r event. after_event r (step o r.state event) in
+    let start : Replayed = record { state = opening_state o plans; taken = 0; skipped = 0 } in
     let s = (fold f start events).state in
     let after = by_events (λ t. Told o plans t × IsLater s t) o
     (λ t u event both is. (told_by_each o plans t u event both.0 is (kept o t u event both.0.core is).0, later_trans s t u both.1 (later_each o plans t u event both.0 is)))

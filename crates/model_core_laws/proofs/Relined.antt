@@ -3,7 +3,7 @@ use Rattle.std.proofs.Common.{◌≡◌, ℕ, ◌<◌, Bool, true, false, List, 
 use Rattle.std.specs.List.{AllByRecursion, AllZip, count_by}
 use Rattle.model_base.specs.Batch.{count_of}
 use Rattle.model_core.specs.Core.{Options, Writer, LogPhase, TablePhase, still, launched, published, State, has_run, table_group}
-use Rattle.model_core.specs.CoreLaw.{IsCore, IsSubsequence, IsTable, IsUnmarked, LedIsFirst, SameLogFlag, HasInserted, IsEntryOf, hand, hand_with_runs, waiting, in_order, unpublished}
+use Rattle.model_core.specs.CoreLaw.{IsCore, IsSubsequence, IsTable, IsUnmarked, LedIsFirst, SameLogFlag, HasInserted, IsEntryOf, hand, hand_with_runs, waiting_clients, in_order, unpublished_writers}
 use Rattle.model_core_laws.proofs.Tables.{AddsNobody, subsequence_self}
 
 -- the state with its writers elsewhere
@@ -20,13 +20,13 @@ same_line xs ys e = record { counts = λ p. ap (count_by p) (sym e); all = λ P 
 
 -- what has to be shown of the writers' new places
 pub record AreInPlace (o : Options) (s t : State) : Type 1 where
-  pub members : SameMembers (waiting s) (waiting t)
+  pub members : SameMembers (waiting_clients s) (waiting_clients t)
   pub led : LedIsFirst t.log t.queue
   pub single : o.pipelined ≡ false → t.second ≡ []
   pub unmarked : o.pipelined ≡ false → IsUnmarked t.log
   pub counted : AllByRecursion (λ (w : Writer). 0 < count_of w.records) (hand t.log ++ t.queue)
   pub one_log_flag : SameLogFlag (hand t.log)
-  pub ahead : unpublished o s s.table ≡ unpublished o t s.table
+  pub ahead : unpublished_writers o s s.table ≡ unpublished_writers o t s.table
   pub is_table : IsTable o t s.table
   pub has_inserted : AllByRecursion (HasInserted s.inserted s.table) (filter has_run (table_group o t))
 
@@ -62,7 +62,7 @@ same_table o s t still e is = is
 same_table o s t (launched ins fin) e is = rw e at is
 same_table o s t published e is = rw e at is
 
-pub same_unpublished : (o : Options) (s t : State) (table : TablePhase) → s.second ≡ t.second → hand_with_runs s.log ≡ hand_with_runs t.log → unpublished o s table ≡ unpublished o t table
+pub same_unpublished : (o : Options) (s t : State) (table : TablePhase) → s.second ≡ t.second → hand_with_runs s.log ≡ hand_with_runs t.log → unpublished_writers o s table ≡ unpublished_writers o t table
 same_unpublished o s t still e f = rw (e, f)
 same_unpublished o s t (launched ins fin) e f = rw (e, f)
 same_unpublished o s t published e f = rw (e, f)

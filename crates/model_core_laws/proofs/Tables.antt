@@ -8,7 +8,7 @@ use Rattle.std.proofs.lemmas.List.Folds.{list_any-append}
 use Rattle.std.proofs.lemmas.Bool.{or_cases, or_left, or_right, eqb-true, eq-eqb, cond-true, cond-false, cases_lt}
 use Rattle.model_base.specs.History.{Entry}
 use Rattle.model_core.specs.Core.{Options, Writer, Client, client_at, leads, LogPhase, free, led, built, in_log, marked, handed, TablePhase, launched, published, State, has_run, table_group, in_hand, among}
-use Rattle.model_core.specs.CoreLaw.{IsCore, IsSubsequence, in_order, waiting, joined, hand, hand_with_runs, unpublished, IsEntryOf}
+use Rattle.model_core.specs.CoreLaw.{IsCore, IsSubsequence, in_order, waiting_clients, writers_in, hand, hand_with_runs, unpublished_writers, IsEntryOf}
 use Rattle.model_core.specs.Step.{when}
 use Rattle.model_core_laws.proofs.Lists.{Parted, parted}
 
@@ -114,11 +114,11 @@ keeps_with_table s a b inserted last = keeps (with_table s a) (record (with_tabl
 pub split_groups : (o : Options) (s : State) (pipelined : Bool) (second : List (List Writer)) (log : LogPhase)
     → (pipelined ≡ false → second ≡ [])
     → 0 < length (table_group (record o { pipelined = pipelined }) (record s { second = second; log = log }))
-    → joined second ++ hand_with_runs log
-    ≡ table_group (record o { pipelined = pipelined }) (record s { second = second; log = log }) ++ unpublished (record o { pipelined = pipelined }) (record s { second = second; log = log }) published
+    → writers_in second ++ hand_with_runs log
+    ≡ table_group (record o { pipelined = pipelined }) (record s { second = second; log = log }) ++ unpublished_writers (record o { pipelined = pipelined }) (record s { second = second; log = log }) published
 split_groups o s true [] log single some = refl
-split_groups o s true (ws ∷ wss) log single some = append_assoc ws (joined wss) (hand_with_runs log)
-split_groups o s false second log single some = ap (λ wss. joined wss ++ hand_with_runs log) (single refl) ∙ by log some
+split_groups o s true (ws ∷ wss) log single some = append_assoc ws (writers_in wss) (hand_with_runs log)
+split_groups o s false second log single some = ap (λ wss. writers_in wss ++ hand_with_runs log) (single refl) ∙ by log some
   where
     by : (log : LogPhase) → 0 < length (in_hand log) → hand_with_runs log ≡ in_hand log ++ []
     by (in_log ws) some = sym (append-nil ws)
@@ -128,7 +128,7 @@ split_groups o s false second log single some = ap (λ wss. joined wss ++ hand_w
     by (marked ws) some = absurd (omega arith)
     by (handed c) some = absurd (omega arith)
 
-pub groups_split : (o : Options) (s : State) → (o.pipelined ≡ false → s.second ≡ []) → 0 < length (table_group o s) → joined s.second ++ hand_with_runs s.log ≡ table_group o s ++ unpublished o s published
+pub groups_split : (o : Options) (s : State) → (o.pipelined ≡ false → s.second ≡ []) → 0 < length (table_group o s) → writers_in s.second ++ hand_with_runs s.log ≡ table_group o s ++ unpublished_writers o s published
 groups_split o s single some = split_groups o s o.pipelined s.second s.log single some
 
 -- the members of the group in the table that have runs
@@ -156,18 +156,18 @@ there_filtered c p (w ∷ ws) = by (p w) (there_filtered c p ws)
     by false le = let e = times_cons c w.client (map (λ (w : Writer). w.client) ws) in omega arith
 
 -- all that wait, by the place where they wait
-pub waiting_parts : (c : ℕ) (s : State) → times c (waiting s) ≡ there c (joined s.second) + there c (hand s.log) + there c s.queue + there c s.leaving
+pub waiting_parts : (c : ℕ) (s : State) → times c (waiting_clients s) ≡ there c (writers_in s.second) + there c (hand s.log) + there c s.queue + there c s.leaving
 waiting_parts c s =
     let a = times_append c (in_order s) (map (λ (w : Writer). w.client) s.leaving) in
-    let b = there_append c (joined s.second ++ hand s.log) s.queue in
-    let d = there_append c (joined s.second) (hand s.log) in
+    let b = there_append c (writers_in s.second ++ hand s.log) s.queue in
+    let d = there_append c (writers_in s.second) (hand s.log) in
     omega arith
 
 -- who waits, waits once
-pub waits_once : (o : Options) (s : State) (c : ℕ) → IsCore o s → times c (waiting s) ≤ 1
-waits_once o s c core = by (cases_lt 0 (times c (waiting s)))
+pub waits_once : (o : Options) (s : State) (c : ℕ) → IsCore o s → times c (waiting_clients s) ≤ 1
+waits_once o s c core = by (cases_lt 0 (times c (waiting_clients s)))
   where
-    at : (client : Option Client) → client_at s c ≡ client → is_some client ≡ true → times c (waiting s) ≤ 1
+    at : (client : Option Client) → client_at s c ≡ client → is_some client ≡ true → times c (waiting_clients s) ≤ 1
     at None is some = absurd (cc)
     at (Some client) is some = let e = core.once c client is in let f = at_most client.idle in omega arith
       where
@@ -175,8 +175,8 @@ waits_once o s c core = by (cases_lt 0 (times c (waiting s)))
         at_most true = omega arith
         at_most false = omega arith
 
-    by : (0 < times c (waiting s)) ⊎ (times c (waiting s) ≤ 0) → times c (waiting s) ≤ 1
-    by (inl some) = at (client_at s c) refl (among_from_all (λ d. is_some (client_at s d) ≡ true) c (waiting s) core.clients (among_from_times c (waiting s) some))
+    by : (0 < times c (waiting_clients s)) ⊎ (times c (waiting_clients s) ≤ 0) → times c (waiting_clients s) ≤ 1
+    by (inl some) = at (client_at s c) refl (among_from_all (λ d. is_some (client_at s d) ≡ true) c (waiting_clients s) core.clients (among_from_times c (waiting_clients s) some))
     by (inr none) = omega arith
 
 -- a group in hand that has its runs is the group in hand
@@ -189,11 +189,11 @@ in_hand_once c (marked ws) = omega arith
 in_hand_once c (handed d) = omega arith
 
 -- the entries past the published sequence: those of the launched group, and those after it
-pub cut_ahead : (o : Options) (s : State) (ins fin : List ℕ) (core : IsCore o (with_table s (launched ins fin))) → Parted IsEntryOf (members o s) (filter has_run (unpublished o s published)) core.is_boundary.rest
+pub cut_ahead : (o : Options) (s : State) (ins fin : List ℕ) (core : IsCore o (with_table s (launched ins fin))) → Parted IsEntryOf (members o s) (filter has_run (unpublished_writers o s published)) core.is_boundary.rest
 cut_ahead o s ins fin core =
     let split = groups_split o s core.single_stage core.is_table.0 in
-    parted IsEntryOf (members o s) (filter has_run (unpublished o s published)) core.is_boundary.rest
-    (subst (λ ws. AllZip IsEntryOf ws core.is_boundary.rest) (ap (filter has_run) split ∙ filter-append has_run (table_group o s) (unpublished o s published)) core.ahead)
+    parted IsEntryOf (members o s) (filter has_run (unpublished_writers o s published)) core.is_boundary.rest
+    (subst (λ ws. AllZip IsEntryOf ws core.is_boundary.rest) (ap (filter has_run) split ∙ filter-append has_run (table_group o s) (unpublished_writers o s published)) core.ahead)
 
 -- a led group isn't empty
 pub some_led : (c : ℕ) (ws : List Writer) → leads c ws ≡ true → 0 < length ws

@@ -14,14 +14,14 @@ use Rattle.model_base.specs.Runs.{commands_of}
 use Rattle.model_base.specs.Outcomes.{entries_of_client}
 use Rattle.model_base.specs.Calls.{Command, add, clear, commit, get, many, scan, stop, unstop, slow, unslow, Reply, quiet, accepted, refused, found, found_each, rows, done, held, not_held, no_memory, Call}
 use Rattle.model_core.specs.Core.{Options, Writer, Client, LogPhase, free, led, built, in_log, marked, handed, State, client_at}
-use Rattle.model_core.specs.CoreLaw.{IsCore, hand, joined}
+use Rattle.model_core.specs.CoreLaw.{IsCore, hand, writers_in}
 use Rattle.model_core.specs.Replies.{seen_up_to, knows_log_failed, entries_told, ReadsAt, Gets, GetsMany, Scans, IsHandled, MayRefuse, MayReply, AreRight, lines_at}
 use Rattle.model_core_laws.proofs.Groups.{SameSlowdown}
 use Rattle.model_core_laws.proofs.Lists.{all_append, all_weaker}
 
 -- all that wait, wherever they stand
 abbrev pub writers : State → List Writer
-writers s = ((joined s.second ++ hand s.log) ++ s.queue) ++ s.leaving
+writers s = ((writers_in s.second ++ hand s.log) ++ s.queue) ++ s.leaving
 
 -- those that have no answer yet
 abbrev pub unanswered : LogPhase → List Writer → List Writer

@@ -6,8 +6,8 @@ use Rattle.std.proofs.lemmas.List.{length-set}
 use Rattle.model_base.specs.History.{Entry}
 use Rattle.model_base.specs.Runs.{commands_of}
 use Rattle.model_base.specs.Calls.{Command, Reply}
-use Rattle.model_core.specs.Core.{Options, Writer, Client, State, client_at, with_client, next_call, told}
-use Rattle.model_core.specs.CoreLaw.{IsCore, hand, joined, waiting}
+use Rattle.model_core.specs.Core.{Options, Writer, Client, State, client_at, with_client, next_call, after_reply}
+use Rattle.model_core.specs.CoreLaw.{IsCore, hand, writers_in, waiting_clients}
 use Rattle.model_core.specs.Replies.{lines_at}
 use Rattle.model_core_laws.proofs.Clients.{replaced, unchanged, still_there}
 use Rattle.model_core_laws.proofs.Given.{IsAbsent, absent}
@@ -93,15 +93,15 @@ next_asked o plans s c client idle is command e lines there = (goes_ahead o s c 
 -- who is idle waits nowhere
 pub idle_absent : (o : Options) (s : State) (c : ℕ) (client : Client) → client_at s c ≡ Some client → client.idle ≡ true → IsCore o s → IsAbsent c (writers s)
 idle_absent o s c client is idle core = absent c (writers s)
-    (let a = waiting_parts c s in let b : times c (waiting s) ≡ 0 = core.once c client is ∙ rw idle refl in
-    let d = there_append c ((joined s.second ++ hand s.log) ++ s.queue) s.leaving in let e = there_append c (joined s.second ++ hand s.log) s.queue in let f = there_append c (joined s.second) (hand s.log) in omega arith)
+    (let a = waiting_parts c s in let b : times c (waiting_clients s) ≡ 0 = core.once c client is ∙ rw idle refl in
+    let d = there_append c ((writers_in s.second ++ hand s.log) ++ s.queue) s.leaving in let e = there_append c (writers_in s.second ++ hand s.log) s.queue in let f = there_append c (writers_in s.second) (hand s.log) in omega arith)
 
 -- a call that is answered at once
 pub answered : (o : Options) (plans : List (List Command)) (s : State) (c : ℕ) (old : Client) (command : Command) (reply : Reply) → client_at s c ≡ Some old → old.idle ≡ true → (next_call old).call ≡ Some command
     → IsReady o s c ((next_call old).client.calls ++ record { command = command; reply = reply } ∷ []) (next_call old).client.added
-    → Told o plans s → IsCore o (with_client s c (told (next_call old).client command reply)) → Told o plans (with_client s c (told (next_call old).client command reply))
+    → Told o plans s → IsCore o (with_client s c (after_reply (next_call old).client command reply)) → Told o plans (with_client s c (after_reply (next_call old).client command reply))
 answered o plans s c old command reply is idle call ready so_far =
-    let a = (next_call old).client in let new = told a command reply in let t = with_client s c new in
+    let a = (next_call old).client in let new = after_reply a command reply in let t = with_client s c new in
     let on : GoesOn s t c old new = record { there = is; clients = refl; entries = refl; log_failed = refl; last = refl } in
     told_with o plans s t c old new on
     (record {

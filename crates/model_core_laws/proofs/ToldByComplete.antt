@@ -13,8 +13,8 @@ use Rattle.model_base.specs.Runs.{commands_of}
 use Rattle.model_base.specs.Outcomes.{entries_of_client}
 use Rattle.model_base.specs.Calls.{Command, commit, Reply, quiet, accepted, refused, found, found_each, rows, done, held, not_held, no_memory, Call}
 use Rattle.model_core.specs.Core.{Options, Writer, Client, State, TablePhase, still, launched, published, client_at, with_client, has_run}
-use Rattle.model_core.specs.Step.{complete, complete_with, completed, added_after}
-use Rattle.model_core.specs.CoreLaw.{IsCore, IsEntryOf, hand, hand_with_runs, joined, unpublished}
+use Rattle.model_core.specs.Step.{complete, complete_with, after_completion, added_after}
+use Rattle.model_core.specs.CoreLaw.{IsCore, IsEntryOf, hand, hand_with_runs, writers_in, unpublished_writers}
 use Rattle.model_core.specs.Replies.{is_log_fault, MayRefuse, entries_told, lines_at}
 use Rattle.model_core_laws.proofs.Given.{absent}
 use Rattle.model_core_laws.proofs.Histories.{history_front, history_up_to}
@@ -50,14 +50,14 @@ contains_own c (y ∷ xs) x is = by (y.client == c) is (contains_own c xs x)
     by false at later = contains_tail y xs x (later at)
 
 -- those on the way wait in the second queue or in hand
-on_the_way : (o : Options) (s : State) (table : TablePhase) (c : ℕ) → there c (unpublished o s table) ≤ there c (joined s.second) + there c (hand s.log)
-on_the_way o s still c = let a = there_append c (joined s.second) (hand_with_runs s.log) in let b = in_hand_once c s.log in omega arith
-on_the_way o s (launched ins fin) c = let a = there_append c (joined s.second) (hand_with_runs s.log) in let b = in_hand_once c s.log in omega arith
+on_the_way : (o : Options) (s : State) (table : TablePhase) (c : ℕ) → there c (unpublished_writers o s table) ≤ there c (writers_in s.second) + there c (hand s.log)
+on_the_way o s still c = let a = there_append c (writers_in s.second) (hand_with_runs s.log) in let b = in_hand_once c s.log in omega arith
+on_the_way o s (launched ins fin) c = let a = there_append c (writers_in s.second) (hand_with_runs s.log) in let b = in_hand_once c s.log in omega arith
 on_the_way o s published c = by o.pipelined s.second
   where
-    by : (pipelined : Bool) (second : List (List Writer)) → there c (unpublished (record o { pipelined = pipelined }) (record s { second = second }) published) ≤ there c (joined second) + there c (hand s.log)
+    by : (pipelined : Bool) (second : List (List Writer)) → there c (unpublished_writers (record o { pipelined = pipelined }) (record s { second = second }) published) ≤ there c (writers_in second) + there c (hand s.log)
     by true [] = let b = in_hand_once c s.log in omega arith
-    by true (ws ∷ wss) = let a = there_append c (joined wss) (hand_with_runs s.log) in let b = in_hand_once c s.log in let d = there_append c ws (joined wss) in omega arith
+    by true (ws ∷ wss) = let a = there_append c (writers_in wss) (hand_with_runs s.log) in let b = in_hand_once c s.log in let d = there_append c ws (writers_in wss) in omega arith
     by false second = omega arith
 
 left_is_published : (o : Options) (s : State) (m : ℕ) (w : Writer) (x : Entry) → IsCore o s → find (λ (x : Writer). x.client == m) s.leaving ≡ Some w → x.client ≡ m → Contains s.entries x → last_of x ≤ s.last
@@ -67,10 +67,10 @@ left_is_published o s m w x core left client is = by (Contains-append_cases core
     by (inl at) = let a = history_up_to o.start core.front x (history_front o.start core.front core.is_boundary.rest (subst (IsHistory o.start) core.is_boundary.split core.is_history)) at in
         let b = core.is_boundary.ends in omega arith
     by (inr at) =
-        let z = zip_left IsEntryOf (filter has_run (unpublished o s s.table)) core.is_boundary.rest x core.ahead at in
+        let z = zip_left IsEntryOf (filter has_run (unpublished_writers o s s.table)) core.is_boundary.rest x core.ahead at in
         let same : z.0.client ≡ m = sym z.1.client ∙ client in
-        let a : 1 ≤ there m (filter has_run (unpublished o s s.table)) = subst (λ c. 1 ≤ there c (filter has_run (unpublished o s s.table))) same (member_there (filter has_run (unpublished o s s.table)) z.0 z.2) in
-        let b = there_filtered m has_run (unpublished o s s.table) in let d = on_the_way o s s.table m in
+        let a : 1 ≤ there m (filter has_run (unpublished_writers o s s.table)) = subst (λ c. 1 ≤ there c (filter has_run (unpublished_writers o s s.table))) same (member_there (filter has_run (unpublished_writers o s s.table)) z.0 z.2) in
+        let b = there_filtered m has_run (unpublished_writers o s s.table) in let d = on_the_way o s s.table m in
         let e = found_there m s.leaving w left in let f = waiting_parts m s in let g = waits_once o s m core in absurd (omega arith)
 
 -- a client that was told of the fault
@@ -117,11 +117,11 @@ completes o plans s m w client (Some not_held) reply e left same batch passed so
 completes o plans s m w client (Some no_memory) reply e left same batch passed so_far answer core = absurd answer
 
 completed_told : (o : Options) (plans : List (List Command)) (s : State) (m : ℕ) (w : Writer) (old : Client) (reply : Reply) → client_at s m ≡ Some old → find (λ (x : Writer). x.client == m) s.leaving ≡ Some w → w.answer ≡ Some reply
-    → Told o plans s → IsCore o (record (with_client s m (completed old w reply)) { leaving = without m s.leaving }) → Told o plans (record (with_client s m (completed old w reply)) { leaving = without m s.leaving })
+    → Told o plans s → IsCore o (record (with_client s m (after_completion old w reply)) { leaving = without m s.leaving }) → Told o plans (record (with_client s m (after_completion old w reply)) { leaving = without m s.leaving })
 completed_told o plans s m w old reply is left answer so_far =
-    let new = completed old w reply in let t : State = record (with_client s m new) { leaving = without m s.leaving } in
+    let new = after_completion old w reply in let t : State = record (with_client s m new) { leaving = without m s.leaving } in
     let on : GoesOn s t m old new = record { there = is; clients = refl; entries = refl; log_failed = refl; last = refl } in
-    let place = found_is m s.leaving w left in let parts = apart (Waits o plans s) (joined s.second) (hand s.log) s.queue s.leaving so_far.waits in
+    let place = found_is m s.leaving w left in let parts = apart (Waits o plans s) (writers_in s.second) (hand s.log) s.queue s.leaving so_far.waits in
     let waits = place.1 (Waits o plans s) parts.at_leaving in
     let same : waits.client ≡ old = (let e : client_at s m ≡ Some waits.client = subst (λ c. client_at s c ≡ Some waits.client) place.0 waits.there in cc) in
     let ready = completes o plans s m w old w.answer reply answer left place.0 (waits.batch ∙ ap (λ (c : Client). batch_after c.calls) same) waits.passed (so_far.each m old is)
@@ -137,8 +137,8 @@ completed_told o plans s m w old reply is left answer so_far =
           ∙ asked_push old.calls (record { command = commit w.options; reply = reply }) old.left;
       entries = λ idle. ready.entries;
     })
-    (together (Waits o plans t) (joined s.second) (hand s.log) s.queue (without m s.leaving) (record {
-      at_second = others_wait o plans s t m old new on (joined s.second) (absent m (joined s.second) (omega arith)) parts.at_second;
+    (together (Waits o plans t) (writers_in s.second) (hand s.log) s.queue (without m s.leaving) (record {
+      at_second = others_wait o plans s t m old new on (writers_in s.second) (absent m (writers_in s.second) (omega arith)) parts.at_second;
       at_hand = others_wait o plans s t m old new on (hand s.log) (absent m (hand s.log) (omega arith)) parts.at_hand;
       at_queue = others_wait o plans s t m old new on s.queue (absent m s.queue (omega arith)) parts.at_queue;
       at_leaving = others_wait o plans s t m old new on (without m s.leaving) (absent m (without m s.leaving) (none_without m s.leaving))
@@ -151,7 +151,7 @@ told_by_complete o plans s t m so_far e core = by_writer (find (λ (w : Writer).
   where
     by_client : (w : Writer) → find (λ (x : Writer). x.client == m) s.leaving ≡ Some w → (client : Option Client) → client_at s m ≡ client → (reply : Option Reply) → w.answer ≡ reply → complete_with s m client w reply ≡ Some t → Told o plans t
     by_client w left (Some client) is (Some reply) answer e =
-        becomes o plans (record (with_client s m (completed client w reply)) { leaving = without m s.leaving }) t (cc) core (completed_told o plans s m w client reply is left answer so_far)
+        becomes o plans (record (with_client s m (after_completion client w reply)) { leaving = without m s.leaving }) t (cc) core (completed_told o plans s m w client reply is left answer so_far)
     by_client w left (Some client) is None answer e = absurd (cc)
     by_client w left None is reply answer e = absurd (cc)
 

@@ -6,7 +6,7 @@ use Rattle.model_base.specs.declared.write.Refusal.TheVariants as no
 use Rattle.model_base.specs.Calls.{Command, refused, Call}
 use Rattle.model_core.specs.Core.{Options, Writer, LogPhase, free, led, built, in_log, marked, handed, State, leads, all_answered}
 use Rattle.model_core.specs.Step.{fault, refuse, is_no_slowdown}
-use Rattle.model_core.specs.CoreLaw.{IsCore, hand, joined}
+use Rattle.model_core.specs.CoreLaw.{IsCore, hand, writers_in}
 use Rattle.model_core.specs.Replies.{MayRefuse}
 use Rattle.model_core_laws.proofs.Groups.{SameSlowdown}
 use Rattle.model_core_laws.proofs.KeptByLeaving.{left_of}
@@ -40,13 +40,13 @@ told_left : (o : Options) (plans : List (List Command)) (s : State) (ws : List W
 told_left o plans s ws log_failed why log dies may told =
     let vs = all_answered (refused why) ws in let t : State = left_of s vs log_failed in
     let grows : Grows s t = record { new = []; entries = sym (append-nil s.entries); log_failed = dies; last = omega arith } in
-    let before = apart (Waits o plans s) (joined s.second) (hand s.log) s.queue s.leaving told.waits in
+    let before = apart (Waits o plans s) (writers_in s.second) (hand s.log) s.queue s.leaving told.waits in
     let hands : AllByRecursion (Waits o plans s) ws = subst (AllByRecursion (Waits o plans s)) (ap hand log) before.at_hand in
     let none : AllByRecursion (λ (w : Writer). w.answer ≡ None) (ws ++ s.queue) = rw log at told.none in
     let same : (us : List Writer) → AllByRecursion (Waits o plans s) us → AllByRecursion (Waits o plans t) us = all_weaker (Waits o plans s) (Waits o plans t) (λ w is. waits_same o plans s t w grows refl refl is) in
     told_without o plans s t grows refl (λ c client there idle. refl) tt
-    (together (Waits o plans t) (joined s.second) [] s.queue (s.leaving ++ vs) (record {
-      at_second = same (joined s.second) before.at_second;
+    (together (Waits o plans t) (writers_in s.second) [] s.queue (s.leaving ++ vs) (record {
+      at_second = same (writers_in s.second) before.at_second;
       at_hand = tt;
       at_queue = same s.queue before.at_queue;
       at_leaving = all_append (Waits o plans t) s.leaving vs (same s.leaving before.at_leaving) (all_refused o plans s t grows refl refl why ws may (all_front _ ws s.queue none) hands);

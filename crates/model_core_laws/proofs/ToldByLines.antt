@@ -7,7 +7,7 @@ use Rattle.model_base.specs.History.{IsHistory}
 use Rattle.model_base.specs.Calls.{Command}
 use Rattle.model_core.specs.Core.{Options, Writer, LogPhase, free, led, built, in_log, marked, handed, TablePhase, still, launched, published, State, leads, table_group, runners, among, first_group, in_hand}
 use Rattle.model_core.specs.Step.{elect, build, group_size, boundary, to_second, next, launch, insert, finish, publish, exit, is_last, group_last, entry_ahead, leave}
-use Rattle.model_core.specs.CoreLaw.{IsCore, hand, joined}
+use Rattle.model_core.specs.CoreLaw.{IsCore, hand, writers_in}
 use Rattle.model_core_laws.proofs.Groups.{one_slowdown}
 use Rattle.model_core_laws.proofs.Histories.{history_right, history_front, history_rises}
 use Rattle.model_core_laws.proofs.KeptByPublish.{group_ends}
@@ -46,7 +46,7 @@ told_by_elect o plans s t c told e core = by_phase s.log refl e
     by_phase (handed d) is e = absurd (cc)
 
 same_built : (s : State) (n d : ℕ) → s.log ≡ led d → writers s ≡ writers (record s { log = built (take n s.queue); queue = drop n s.queue })
-same_built s n d is = ap (λ line. line ++ s.leaving) (rw is (rw (append_assoc (joined s.second) (take n s.queue) (drop n s.queue), take-append-drop n s.queue, append-nil (joined s.second))))
+same_built s n d is = ap (λ line. line ++ s.leaving) (rw is (rw (append_assoc (writers_in s.second) (take n s.queue) (drop n s.queue), take-append-drop n s.queue, append-nil (writers_in s.second))))
 
 pub told_by_build : (o : Options) (plans : List (List Command)) (s t : State) (c : ℕ) → Told o plans s → build o s c s.log ≡ Some t → IsCore o t → Told o plans t
 told_by_build o plans s t c told e core = by_phase s.log refl e
@@ -77,7 +77,7 @@ told_by_boundary o plans s t c told e core = by_phase s.log refl e
 
 same_seconds : (s : State) (c : ℕ) (ws : List Writer) → s.log ≡ marked ws → writers s ≡ writers (record s { log = handed c; second = s.second ++ ws ∷ [] })
 same_seconds s c ws is = ap (λ line. (line ++ s.queue) ++ s.leaving)
-    (rw is (sym (ap (λ line. line ++ []) (flat_map-append (λ (ws : List Writer). ws) s.second (ws ∷ []) ∙ ap (λ ws. joined s.second ++ ws) (append-nil ws)) ∙ append-nil (joined s.second ++ ws))))
+    (rw is (sym (ap (λ line. line ++ []) (flat_map-append (λ (ws : List Writer). ws) s.second (ws ∷ []) ∙ ap (λ ws. writers_in s.second ++ ws) (append-nil ws)) ∙ append-nil (writers_in s.second ++ ws))))
 
 pub told_by_second : (o : Options) (plans : List (List Command)) (s t : State) (c : ℕ) → Told o plans s → to_second s c s.log ≡ Some t → IsCore o t → Told o plans t
 told_by_second o plans s t c told e core = by_phase s.log refl e
@@ -153,9 +153,9 @@ told_by_publish o plans s t m told e core = by_phase s.table refl e
     by_phase published is e = absurd (cc)
 
 -- the first group of the second queue, and those after it
-seconds_cut : (P : Writer → Type 0) (wss : List (List Writer)) → AllByRecursion P (joined wss) → AllByRecursion P (joined (drop 1 wss)) × AllByRecursion P (first_group wss)
+seconds_cut : (P : Writer → Type 0) (wss : List (List Writer)) → AllByRecursion P (writers_in wss) → AllByRecursion P (writers_in (drop 1 wss)) × AllByRecursion P (first_group wss)
 seconds_cut P [] a = (tt, tt)
-seconds_cut P (ws ∷ wss) a = (all_back P ws (joined wss) a, all_front P ws (joined wss) a)
+seconds_cut P (ws ∷ wss) a = (all_back P ws (writers_in wss) a, all_front P ws (writers_in wss) a)
 
 hand_in_log : (P : Writer → Type 0) (log : LogPhase) → AllByRecursion P (hand log) → AllByRecursion P (in_hand log)
 hand_in_log P (in_log ws) a = a
@@ -179,13 +179,13 @@ exited s pipelined = record (leave (if pipelined then record s { second = drop 1
 
 told_exited : (o : Options) (plans : List (List Command)) (s : State) (pipelined : Bool) → Told o plans s → IsCore o (exited s pipelined) → Told o plans (exited s pipelined)
 told_exited o plans s true told = told_lines o plans s (exited s true) refl refl refl (omega arith)
-    (λ P a. let p = apart P (joined s.second) (hand s.log) s.queue s.leaving a in let cut = seconds_cut P s.second p.at_second in
-    together P (joined (drop 1 s.second)) (hand s.log) s.queue (s.leaving ++ first_group s.second)
+    (λ P a. let p = apart P (writers_in s.second) (hand s.log) s.queue s.leaving a in let cut = seconds_cut P s.second p.at_second in
+    together P (writers_in (drop 1 s.second)) (hand s.log) s.queue (s.leaving ++ first_group s.second)
     (record { at_second = cut.0; at_hand = p.at_hand; at_queue = p.at_queue; at_leaving = all_append P s.leaving (first_group s.second) p.at_leaving cut.1 }))
     told.none told.one_kind told
 told_exited o plans s false told = told_lines o plans s (exited s false) refl refl refl (omega arith)
-    (λ P a. let p = apart P (joined s.second) (hand s.log) s.queue s.leaving a in
-    together P (joined s.second) [] s.queue (s.leaving ++ in_hand s.log)
+    (λ P a. let p = apart P (writers_in s.second) (hand s.log) s.queue s.leaving a in
+    together P (writers_in s.second) [] s.queue (s.leaving ++ in_hand s.log)
     (record { at_second = p.at_second; at_hand = tt; at_queue = p.at_queue; at_leaving = all_append P s.leaving (in_hand s.log) p.at_leaving (hand_in_log P s.log p.at_hand) }))
     (queue_unanswered (λ (w : Writer). w.answer ≡ None) s.log s.queue told.none) tt told
 

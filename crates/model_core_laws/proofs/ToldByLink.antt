@@ -6,7 +6,7 @@ use Rattle.model_base.specs.declared.write.WriteOptions.{WriteOptions}
 use Rattle.model_base.specs.Calls.{Command, commit, refused}
 use Rattle.model_core.specs.Core.{Options, Writer, Client, State, LogPhase, free, led, built, in_log, marked, handed, client_at, next_call, refusal_of}
 use Rattle.model_core.specs.Step.{link, link_call, link_with}
-use Rattle.model_core.specs.CoreLaw.{IsCore, hand, joined}
+use Rattle.model_core.specs.CoreLaw.{IsCore, hand, writers_in}
 use Rattle.model_core_laws.proofs.Lists.{all_append}
 use Rattle.model_core_laws.proofs.Ready.{ready_push, commit_refused, early_other}
 use Rattle.model_core_laws.proofs.Told.{Told, Waits, writers, unanswered}
@@ -28,7 +28,7 @@ linked_waits o plans s c old how is idle call passed so_far =
     let w : Writer = record { client = c; options = how; records = a.added; answer = None } in
     let on : GoesOn s t c old new = record { there = is; clients = refl; entries = refl; log_failed = refl; last = refl } in
     let ready = next_ready o plans s c old idle (so_far.each c old is) in
-    let parts = apart (Waits o plans t) (joined s.second) (hand s.log) s.queue s.leaving (others_wait o plans s t c old new on (writers s) (idle_absent o s c old is idle so_far.core) so_far.waits) in
+    let parts = apart (Waits o plans t) (writers_in s.second) (hand s.log) s.queue s.leaving (others_wait o plans s t c old new on (writers s) (idle_absent o s c old is idle so_far.core) so_far.waits) in
     let waits : Waits o plans t w = record {
       client = new;
       there = the_client s t c old new on;
@@ -38,7 +38,7 @@ linked_waits o plans s c old how is idle call passed so_far =
       answer = ready.entries;
     } in
     told_with o plans s t c old new on (record { added = ready.batch; right = ready.right; seen_published = ready.seen_published; log_failed = ready.log_failed; asked = λ never. absurd (cc); entries = λ never. absurd (cc) })
-    (together (Waits o plans t) (joined s.second) (hand s.log) (s.queue ++ w ∷ []) s.leaving
+    (together (Waits o plans t) (writers_in s.second) (hand s.log) (s.queue ++ w ∷ []) s.leaving
     (record { at_second = parts.at_second; at_hand = parts.at_hand; at_queue = all_append (Waits o plans t) s.queue (w ∷ []) parts.at_queue (waits, tt); at_leaving = parts.at_leaving }))
     refl (one_more_unanswered (λ (w : Writer). w.answer ≡ None) s.log s.queue w so_far.none refl) so_far
 

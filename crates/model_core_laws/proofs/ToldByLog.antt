@@ -10,7 +10,7 @@ use Rattle.model_base.specs.Outcomes.{entries_of_client}
 use Rattle.model_base.specs.Calls.{Command}
 use Rattle.model_core.specs.Core.{Options, Writer, Client, LogPhase, free, led, built, in_log, marked, handed, State, client_at, leads, has_run, with_runs, entries_of, entry_of, run_of}
 use Rattle.model_core.specs.Step.{log_group, logged_group, with_group}
-use Rattle.model_core.specs.CoreLaw.{IsCore, hand, joined, waiting}
+use Rattle.model_core.specs.CoreLaw.{IsCore, hand, writers_in, waiting_clients}
 use Rattle.model_core.specs.Replies.{seen_up_to, knows_log_failed, entries_told}
 use Rattle.model_core_laws.proofs.Given.{IsGiven, absent, others, own_absent, all_given}
 use Rattle.model_core_laws.proofs.Histories.{history_right, history_rises, history_front, last_sequence_append}
@@ -114,12 +114,12 @@ elsewhere o plans s t ws us grows clients new once = all_weaker_at (Waits o plan
 
 -- after the runs the members wait with their answers, and the others as before
 logged : (o : Options) (plans : List (List Command)) (s t : State) (ws : List Writer) (grows : Grows s t) → t.clients ≡ s.clients → s.log ≡ built ws → grows.new ≡ entries_of s (with_runs s.assigned ws)
-    → s.log_failed ≡ false → Told o plans s → Parts (Waits o plans t) (joined s.second) (with_runs s.assigned ws) s.queue s.leaving
+    → s.log_failed ≡ false → Told o plans s → Parts (Waits o plans t) (writers_in s.second) (with_runs s.assigned ws) s.queue s.leaving
 logged o plans s t ws grows clients log new alive told =
-    let before = apart (Waits o plans s) (joined s.second) (hand s.log) s.queue s.leaving told.waits in
+    let before = apart (Waits o plans s) (writers_in s.second) (hand s.log) s.queue s.leaving told.waits in
     let hands : AllByRecursion (Waits o plans s) ws = subst (AllByRecursion (Waits o plans s)) (ap hand log) before.at_hand in
     let none : AllByRecursion (λ (w : Writer). w.answer ≡ None) (ws ++ s.queue) = rw log at told.none in
-    let once : (c : ℕ) → there c (joined s.second) + there c ws + there c s.queue + there c s.leaving ≤ 1 = λ c.
+    let once : (c : ℕ) → there c (writers_in s.second) + there c ws + there c s.queue + there c s.leaving ≤ 1 = λ c.
     (let a = waiting_parts c s in let b = waits_once o s c told.core in let e : there c (hand s.log) ≡ there c ws = ap (λ phase. there c (hand phase)) log in omega arith) in
     let counted : AllByRecursion Counts (ws ++ s.queue) = rw log at told.core.counted in
     let logs : Logs o plans s grows.new = record {
@@ -129,7 +129,7 @@ logged o plans s t ws grows clients log new alive told =
     } in
     let given = all_given s s.assigned ws (others ws (λ c. let a = once c in omega arith)) in
     record {
-      at_second = elsewhere o plans s t ws (joined s.second) grows clients new (λ c. let a = once c in omega arith) before.at_second;
+      at_second = elsewhere o plans s t ws (writers_in s.second) grows clients new (λ c. let a = once c in omega arith) before.at_second;
       at_hand = all_given_wait o plans s t grows clients logs ws (with_runs s.assigned ws) (subst (λ xs. AllZip (IsGiven s s.assigned xs) ws (with_runs s.assigned ws)) (sym new) given) (all_front _ ws s.queue none) hands;
       at_queue = elsewhere o plans s t ws s.queue grows clients new (λ c. let a = once c in omega arith) before.at_queue;
       at_leaving = elsewhere o plans s t ws s.leaving grows clients new (λ c. let a = once c in omega arith) before.at_leaving;
@@ -139,7 +139,7 @@ logged o plans s t ws grows clients log new alive told =
 idle_same : (o : Options) (s : State) (ws : List Writer) → s.log ≡ built ws → IsCore o s → (c : ℕ) (client : Client) → client_at s c ≡ Some client → client.idle ≡ true
     → entries_of_client c (entries_of s (with_runs s.assigned ws)) ≡ []
 idle_same o s ws log core c client is idle = own_absent s c s.assigned ws (absent c ws
-    (let a = waiting_parts c s in let b : times c (waiting s) ≡ 0 = core.once c client is ∙ rw idle refl in let e : there c (hand s.log) ≡ there c ws = ap (λ phase. there c (hand phase)) log in omega arith))
+    (let a = waiting_parts c s in let b : times c (waiting_clients s) ≡ 0 = core.once c client is ∙ rw idle refl in let e : there c (hand s.log) ≡ there c ws = ap (λ phase. there c (hand phase)) log in omega arith))
 
 -- the new entries are of clients that are there
 of_members : (o : Options) (plans : List (List Command)) (s t : State) (ws : List Writer) → AllByRecursion (Waits o plans t) ws → AllByRecursion (λ (x : Entry). IsSome (client_at t x.client)) (entries_of s ws)
@@ -170,7 +170,7 @@ told_by_log o plans s t c told e core = by_phase s.log refl e
         let grows : Grows s u = record { new = entries_of s vs; entries = refl; log_failed = λ was. was; last = omega arith } in
         let parts = logged o plans s u ws grows refl log refl alive told in
         told_without o plans s u grows refl (λ c client is idle. idle_same o s ws log told.core c client is idle) (of_members o plans s u vs parts.at_hand)
-        (together (Waits o plans u) (joined s.second) vs s.queue s.leaving parts)
+        (together (Waits o plans u) (writers_in s.second) vs s.queue s.leaving parts)
         (all_back (λ (w : Writer). w.answer ≡ None) ws s.queue (rw log at told.none)) tt told
 
     left : (ws : List Writer) → s.log_failed ≡ false → s.log ≡ built ws → list_any has_run (with_runs s.assigned ws) ≡ false → IsCore o (left_of s (with_runs s.assigned ws) s.log_failed) → Told o plans (left_of s (with_runs s.assigned ws) s.log_failed)
@@ -178,7 +178,7 @@ told_by_log o plans s t c told e core = by_phase s.log refl e
         let grows : Grows s u = record { new = entries_of s vs; entries = sym (ap (λ xs. s.entries ++ xs) (none_given s vs none) ∙ append-nil s.entries); log_failed = λ was. was; last = omega arith } in
         let parts = logged o plans s u ws grows refl log refl alive told in
         told_without o plans s u grows refl (λ c client is idle. idle_same o s ws log told.core c client is idle) (of_members o plans s u vs parts.at_hand)
-        (together (Waits o plans u) (joined s.second) [] s.queue (s.leaving ++ vs)
+        (together (Waits o plans u) (writers_in s.second) [] s.queue (s.leaving ++ vs)
         (record { at_second = parts.at_second; at_hand = tt; at_queue = parts.at_queue; at_leaving = all_append (Waits o plans u) s.leaving vs parts.at_leaving parts.at_hand }))
         (all_back (λ (w : Writer). w.answer ≡ None) ws s.queue (rw log at told.none)) tt told
 

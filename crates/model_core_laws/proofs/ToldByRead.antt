@@ -6,7 +6,7 @@ use Rattle.model_base.specs.Batch.{Record}
 use Rattle.model_base.specs.Map.{Pairs, value_at, rows_within}
 use Rattle.model_base.specs.History.{Entry, IsHistory, last_sequence, last_of, map_of}
 use Rattle.model_base.specs.Calls.{Command, add, clear, commit, get, many, scan, stop, unstop, slow, unslow, Reply, found, found_each, rows, Call}
-use Rattle.model_core.specs.Core.{Options, Client, State, client_at, with_client, next_call, told, read_reply, published_map}
+use Rattle.model_core.specs.Core.{Options, Client, State, client_at, with_client, next_call, after_reply, read_reply, published_map}
 use Rattle.model_core.specs.Step.{read, read_call, read_with}
 use Rattle.model_core.specs.CoreLaw.{IsCore}
 use Rattle.model_core.specs.Replies.{ReadsAt}
@@ -64,7 +64,7 @@ told_by_read o plans s t c so_far e core = by_client (client_at s c) refl e
     by_reply old is idle command call None none e = absurd (cc)
     by_reply old is idle command call (Some reply) some e =
         let a = (next_call old).client in let ready = next_ready o plans s c old idle (so_far.each c old is) in
-        becomes o plans (with_client s c (told a command reply)) t (cc) core (answered o plans s c old command reply is idle call (read_ready o s c a.calls a.added command reply some so_far.core ready) so_far)
+        becomes o plans (with_client s c (after_reply a command reply)) t (cc) core (answered o plans s c old command reply is idle call (read_ready o s c a.calls a.added command reply some so_far.core ready) so_far)
 
     by_call : (old : Client) → client_at s c ≡ Some old → old.idle ≡ true → (call : Option Command) → (next_call old).call ≡ call → read_call s c (next_call old).client call ≡ Some t → Told o plans t
     by_call old is idle None call e = absurd (cc)

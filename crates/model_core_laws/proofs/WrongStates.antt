@@ -8,7 +8,7 @@ use Rattle.model_base.specs.History.{Entry, RunsFollow, last_sequence, logged}
 use Rattle.model_core.specs.Core.{Options, Writer, still, State, among}
 use Rattle.model_core.specs.declared.event.Event.{Event}
 use Rattle.model_core.specs.declared.event.Event.TheVariants as e
-use Rattle.model_core.specs.CoreLaw.{IsCore, IsInsertedAhead, IsSubsequence, KeepsOrder, Keeps, in_order, waiting}
+use Rattle.model_core.specs.CoreLaw.{IsCore, IsInsertedAhead, IsSubsequence, KeepsOrder, Keeps, in_order, waiting_clients}
 use Rattle.model_core_laws.specs.Examples.{single_stage, entry_at}
 use Rattle.model_core_laws.proofs.Lists.{contains_cases}
 use Rattle.model_core_laws.proofs.Tables.{times, there, waiting_parts, waits_once}
@@ -118,7 +118,7 @@ linked_twice s t before after keeps = by keeps.order
     by (inl same) = number_apart 1 2 (omega arith) (ap length (sym before ∙ (sym same ∙ after)))
     by (inr more) =
         let here : among 1 (in_order s) ≡ true = ap (among 1) before in
-        let there : among 1 (waiting s) ≡ true = list_any-append (λ n. n == 1) (in_order s) _ ∙ or_left (among 1 (in_order s)) _ here in
+        let there : among 1 (waiting_clients s) ≡ true = list_any-append (λ n. n == 1) (in_order s) _ ∙ or_left (among 1 (in_order s)) _ here in
         absurd (let both : true ≡ false = sym there ∙ more.1 in cc)
 
 pub added_unlinked : (s t : State) → in_order s ≡ [] → in_order t ≡ 1 ∷ [] → Keeps (e.Elect 1) s t → ⊥

@@ -10,7 +10,7 @@ use Rattle.model_base.specs.Runs.{commands_of}
 use Rattle.model_base.specs.Calls.{Command, add, commit, get, Reply, quiet, accepted, refused, found, Call}
 use Rattle.model_core.specs.declared.event.Event.{Event}
 use Rattle.model_core.specs.declared.event.Event.TheVariants as e
-use Rattle.model_core.specs.Core.{Options, Client, State, opened}
+use Rattle.model_core.specs.Core.{Options, Client, State, opening_state}
 use Rattle.model_core.specs.Step.{state_after}
 use Rattle.model_core.specs.Replies.{AreRepliesOf}
 
@@ -89,7 +89,7 @@ way_through_the_table = e.Launch 1 ∷ e.Insert 1 ∷ e.Finish 1 ∷ e.Publish 1
 
 -- one idle client that was told this, where the history has these entries and is published up to a sequence
 abbrev pub told_in : List Entry → ℕ → List Call → State
-told_in entries last calls = record (opened single_stage []) {
+told_in entries last calls = record (opening_state single_stage []) {
   clients = record { left = []; added = []; calls = calls; idle = true } ∷ [];
   entries = entries;
   assigned = last;

@@ -7,7 +7,7 @@ mod examples;
 ghost use Rattle.std.specs.Prelude.{◌≡◌, ◌++◌, false, List, Some};
 ghost use Rattle.model_core.specs.declared.event.Event.{Event};
 ghost use Rattle.model_base.specs.Calls.{Command};
-ghost use Rattle.model_core.specs.Core.{Options, State, opened};
+ghost use Rattle.model_core.specs.Core.{Options, State, opening_state};
 ghost use Rattle.model_core.specs.Step.{step, state_after};
 ghost use Rattle.model_core.specs.CoreLaw.{IsCore, Keeps};
 ghost use Rattle.model_core.specs.Halves.{list_half_of, table_half_of, moves_list, moves_table, TableStep, ListStep};
@@ -18,7 +18,7 @@ pub use examples::{one_write, wrong_replies, wrong_states};
 /// The law of the core: it holds at the opening, and each event keeps it. An event also keeps the order of those in
 /// line, and after a fault of the log none gives a run. So the law holds after every list of events.
 pub fn law()
-    ensures opening { (o : Options) (plans : List (List Command)) → IsCore o (opened o plans) }
+    ensures opening { (o : Options) (plans : List (List Command)) → IsCore o (opening_state o plans) }
     ensures kept { (o : Options) (s t : State) (event : Event) → IsCore o s → step o s event ≡ Some t
         → IsCore o t × Keeps event s t }
     ensures every_list { (o : Options) (plans : List (List Command)) (events : List Event)

@@ -7,7 +7,7 @@ use Rattle.model_base.specs.Varint.{varint_within}
 use Rattle.model_base.specs.declared.write.Refusal.TheVariants as no
 use Rattle.model_base.specs.Calls.{refused}
 use Rattle.model_base.specs.Controller as controller
-use Rattle.model_base.specs.Controller.{ControllerCall, Action, Numbers, After, Look, opening, delayed, numbers_after, answer, IsHistoryFrom}
+use Rattle.model_base.specs.Controller.{ControllerCall, Action, Numbers, After, Look, opening, after_delay, numbers_after, answer, IsHistoryFrom}
 use Rattle.model_base.specs.Tokens.{is_token, tokens_of, given_back}
 use Rattle.model_base.specs.Attempts.{WriteStatus, slowed}
 use Rattle.model_base.specs.Trace.{Trace}
@@ -30,7 +30,7 @@ tells_none n (controller.delay now bytes) calm l is = subst (λ (m : Look). m.st
 tells_none n controller.look calm l is = subst (λ (m : Look). m.stops ≡ 0) (some_same is) calm.0
 tells_none n other calm l is = absurd (cc)
 
-delay_calm : (n : Numbers) (now bytes : ℕ) → IsCalm n → (delayed n now bytes).numbers ≡ n
+delay_calm : (n : Numbers) (now bytes : ℕ) → IsCalm n → (after_delay n now bytes).numbers ≡ n
 delay_calm n now bytes calm =
     let none : (nat_lt 0 n.stops || (n.delays == 0)) ≡ true = rw (calm.0, calm.1) refl in
     ap (λ (a : After). a.numbers) (cond-true (nat_lt 0 n.stops || (n.delays == 0)) (record { numbers = n; wait = 0 }) _ none)

@@ -64,8 +64,8 @@ module _ (groups : List Group) (attempts : List (List Attempt)) (are_groups : Ar
         | inr on ↦ (
             let p = on.1 in
             let item = slice_get-map (λ (n : Member). n.item) g.members among ∙ ap (option_map (λ (n : Member). n.item)) at in
-            let no_wait : m.item.no_slowdown ≡ false = ap (λ (i : Item). i.no_slowdown) one.2.0.item ∙ ap (λ (h : Attempt). h.options.no_slowdown) is ∙ waits in
-            may_not (map (λ (h : Group). h.place) groups) p.by g.place p.now p.bytes p.numbers m.item.no_slowdown no_wait p.there (all_at _ _ among m.item p.each item))
+            let no_wait : m.item.options.no_slowdown ≡ false = ap (λ (i : Item). i.options.no_slowdown) one.2.0.item ∙ ap (λ (h : Attempt). h.options.no_slowdown) is ∙ waits in
+            may_not (map (λ (h : Group). h.place) groups) p.by g.place p.now p.bytes p.numbers m.item.options.no_slowdown no_wait p.there (all_at _ _ among m.item p.each item))
       ]
 
   pub never_written : ⊥

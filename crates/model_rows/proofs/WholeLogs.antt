@@ -3,7 +3,7 @@ use Rattle.std.proofs.Common.{[], ◌∷◌, None, refl}
 use Rattle.std.proofs.Math.Dec.{lit≤, lit<}
 use Rattle.model_base.specs.Varint.{varint_within}
 use Rattle.model_base.specs.Batch.{IsReadable, batch}
-use Rattle.model_base.specs.Log.{full}
+use Rattle.model_base.specs.Log.{full, plain_log}
 use Rattle.model_base.specs.Reading.{seen_within, clean}
 use Rattle.model_base.specs.Recovery.{IsRecovered, reading}
 use Rattle.model_rows.specs.Examples.{put_a1, put_b2}
@@ -15,7 +15,7 @@ readable_a = record { tag = refl; lengths = (lit< tt, (lit< tt, tt)) }
 readable_b : IsReadable put_b2
 readable_b = record { tag = refl; lengths = (lit< tt, (lit< tt, tt)) }
 
-pub both : IsRecovered None log_of_two both_recovered
+pub both : IsRecovered plain_log log_of_two both_recovered
 unfolding varint_within seen_within
 both = record {
   keeps = record {
@@ -37,7 +37,7 @@ both = record {
   ends = reading (clean (record { begun = tt; stand = record { rest = []; there = refl; fit = tt }; is_next = refl }));
 }
 
-pub none : IsRecovered None [] none_recovered
+pub none : IsRecovered plain_log [] none_recovered
 unfolding seen_within
 none = record {
   keeps = record {

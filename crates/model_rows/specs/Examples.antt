@@ -24,9 +24,12 @@ plain = record { sync = false; no_log = false; no_slowdown = false }
 abbrev pub noslow : WriteOptions
 noslow = record plain { no_slowdown = true }
 
--- a write of so many bytes without flags
+-- a write of so many bytes with these flags, and one without
+abbrev pub sized_with : ℕ → WriteOptions → Item
+sized_with n options = record { size = n; options = options }
+
 abbrev pub sized : ℕ → Item
-sized n = record { size = n; sync = false; no_log = false; no_slowdown = false }
+sized n = sized_with n plain
 
 -- a script's first fault stands in this line
 abbrev pub fault_at : ℕ → ScriptFault → Result Script Fault

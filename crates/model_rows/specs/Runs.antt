@@ -1,5 +1,6 @@
 -- Runs of one client, or of two: what they asked, and what the run came to.
 use Rattle.std.specs.Prelude.{ℕ, codes, List, [], ◌∷◌, Option, Some, None}
+use Rattle.model_base.specs.declared.limits.TheConstants.{MAX_SIZE}
 use Rattle.model_base.specs.declared.history.Flag.TheVariants.{Log}
 use Rattle.model_base.specs.declared.write.Refusal.TheVariants as no
 use Rattle.model_base.specs.Batch.{Record}
@@ -12,7 +13,7 @@ use Rattle.model_rows.specs.Examples.{put_a1, put_a2, put_b2, plain, noslow}
 
 -- one client, a fresh store, and the limits of RocksDB's groups and of a batch
 abbrev pub one_client : Settings
-one_client = record { start = 0; clients = 1; group_bytes = 1048576; batch_bytes = 16777216; opened = 0 }
+one_client = record { start = 0; clients = 1; group_bytes = 1048576; batch_bytes = MAX_SIZE; opened = 0 }
 
 abbrev pub two_clients : Settings
 two_clients = record one_client { clients = 2 }

@@ -1,7 +1,7 @@
 -- A log of two batches, and what it recovers.
 use Rattle.std.specs.Prelude.{ℕ, List, [], ◌∷◌, map, None}
 use Rattle.model_base.specs.declared.log.EndReason.TheVariants.{Clean}
-use Rattle.model_base.specs.Log.{text}
+use Rattle.model_base.specs.Log.{text, plain_log}
 use Rattle.model_base.specs.Recovery.{Logged, logged_bytes, Recovered}
 use Rattle.model_rows.specs.Examples.{put_a1, put_b2}
 
@@ -11,7 +11,7 @@ two_batches = record { first = 1; records = put_a1 ∷ [] } ∷ record { first =
 
 -- each in a record of its own
 abbrev pub log_of_two : List ℕ
-log_of_two = text None (map logged_bytes two_batches)
+log_of_two = text plain_log (map logged_bytes two_batches)
 
 abbrev pub both_recovered : Recovered
 both_recovered = record { batches = two_batches; kept = 48; at = 48; why = Clean }

@@ -4,7 +4,7 @@ ghost use Rattle.std.specs.Prelude.{◌≡◌, List, [], ◌∷◌, codes, None}
 ghost use Rattle.model_base.specs.declared.history.Flag.TheVariants.{Log};
 ghost use Rattle.model_base.specs.Batch.{value};
 ghost use Rattle.model_base.specs.Calls.{add, commit};
-ghost use Rattle.model_base.specs.Generator.{first_state, numbers_from, generated, summary_text};
+ghost use Rattle.model_base.specs.Generator.{first_state, numbers_from, script_of_seed, summary_text};
 ghost use Rattle.model_rows.specs.Examples.{put_a1, put_b2, plain};
 
 /// The first draws of client 1 of the seed 1.
@@ -15,7 +15,7 @@ pub fn first_draws()
 
 /// Its first batch has one record, a value: 908 gives the count, 22817 the key, 10239 the kind, and 12914 the value.
 pub fn first_batch()
-    ensures client_1_of_seed_1 { generated 1 1 1 ≡ (add (value (codes "c1k17") (codes "914")) ∷ commit plain ∷ [])
+    ensures client_1_of_seed_1 { script_of_seed 1 1 1 ≡ (add (value (codes "c1k17") (codes "914")) ∷ commit plain ∷ [])
         ∷ [] }
 {}
 

@@ -3,7 +3,7 @@
 ghost use Rattle.std.specs.Prelude.{◌≡◌, [], ◌∷◌, true};
 ghost use Rattle.model_base.specs.declared.group.Item.{Item};
 ghost use Rattle.model_base.specs.Grouping.{group_len};
-ghost use Rattle.model_rows.specs.Examples.{sized};
+ghost use Rattle.model_rows.specs.Examples.{plain, sized, sized_with};
 
 /// A leader that no one follows is its own group, however large it is.
 pub fn group_of_one()
@@ -18,8 +18,8 @@ pub fn groups_by_size()
 
 /// A leader that doesn't sync takes no write along that asks for it. One that does takes either.
 pub fn groups_by_options()
-    ensures sync_behind { group_len 1048576 (sized 100 ∷ record (sized 100) { sync = true } ∷ []) ≡ 1 }
-    ensures sync_ahead { group_len 1048576 (record (sized 100) { sync = true } ∷ sized 100 ∷ []) ≡ 2 }
-    ensures no_log_behind { group_len 1048576 (sized 100 ∷ record (sized 100) { no_log = true } ∷ []) ≡ 1 }
-    ensures no_slowdown_behind { group_len 1048576 (sized 100 ∷ record (sized 100) { no_slowdown = true } ∷ []) ≡ 1 }
+    ensures sync_behind { group_len 1048576 (sized 100 ∷ sized_with 100 (record plain { sync = true }) ∷ []) ≡ 1 }
+    ensures sync_ahead { group_len 1048576 (sized_with 100 (record plain { sync = true }) ∷ sized 100 ∷ []) ≡ 2 }
+    ensures no_log_behind { group_len 1048576 (sized 100 ∷ sized_with 100 (record plain { no_log = true }) ∷ []) ≡ 1 }
+    ensures no_slowdown_behind { group_len 1048576 (sized 100 ∷ sized_with 100 (record plain { no_slowdown = true }) ∷ []) ≡ 1 }
 {}

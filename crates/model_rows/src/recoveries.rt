@@ -1,6 +1,7 @@
 //! What logs recover.
 
 ghost use Rattle.std.specs.Prelude.{◌≡◌, [], ◌∷◌, codes, None};
+ghost use Rattle.model_base.specs.Log.{plain_log};
 ghost use Rattle.model_base.specs.Text.{hex, recovered_text};
 ghost use Rattle.model_base.specs.Recovery.{IsRecovered, recovered_map};
 ghost use Rattle.model_rows.specs.TwoBatches.{log_of_two, both_recovered, none_recovered};
@@ -9,7 +10,7 @@ ghost use Rattle.model_rows.specs.TwoBatches.{log_of_two, both_recovered, none_r
 pub fn two_batches_recovered()
     ensures bytes { hex log_of_two ≡ codes
         "e99f781911000101000000000000000100000001016101318f72bc7a1100010200000000000000010000000101620132" }
-    ensures recovered { IsRecovered None log_of_two both_recovered }
+    ensures recovered { IsRecovered plain_log log_of_two both_recovered }
     ensures map { recovered_map both_recovered ≡ (codes "a", codes "1") ∷ (codes "b", codes "2") ∷ [] }
     ensures text { recovered_text both_recovered ≡ codes
         "groups 2\n1 1 17\n2 1 17\nstate 2 2\n61 31\n62 32\nend 48 clean\n" }
@@ -17,6 +18,6 @@ pub fn two_batches_recovered()
 
 /// An empty log recovers nothing, and ends well.
 pub fn empty_log_recovered()
-    ensures recovered { IsRecovered None [] none_recovered }
+    ensures recovered { IsRecovered plain_log [] none_recovered }
     ensures text { recovered_text none_recovered ≡ codes "groups 0\nstate 0 0\nend 0 clean\n" }
 {}

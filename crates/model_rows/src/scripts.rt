@@ -5,52 +5,53 @@ ghost use Rattle.std.specs.List.{range_with_len};
 ghost use Rattle.model_base.specs.declared.script.ScriptFault.TheVariants.{Long, Byte, Word, Form, Client, Clients, NoClient};
 ghost use Rattle.model_base.specs.Batch.{deletion, single_deletion, log_data};
 ghost use Rattle.model_base.specs.Calls.{add, clear, commit, get, many, scan, stop, unstop, slow, unslow};
-ghost use Rattle.model_base.specs.Script.{script_of, run_grammar, whole_grammar};
+ghost use Rattle.model_base.specs.Script.{script_of, whole_grammar};
 ghost use Rattle.model_rows.specs.Examples.{put_a1, plain, fault_at};
+
+use model_base::TEXT_LIMIT;
 
 /// A script of one batch and one read. Its last line feed may lack.
 pub fn one_script()
-    ensures whole { script_of run_grammar (codes "client 1\nput a 1\ncommit\nget a\n")
+    ensures whole { script_of whole_grammar (codes "client 1\nput a 1\ncommit\nget a\n")
         ≡ Ok ((add put_a1 ∷ commit plain ∷ get (codes "a") ∷ []) ∷ []) }
-    ensures without_last_line_feed { script_of run_grammar (codes "client 1\nput a 1\ncommit\nget a")
+    ensures without_last_line_feed { script_of whole_grammar (codes "client 1\nput a 1\ncommit\nget a")
         ≡ Ok ((add put_a1 ∷ commit plain ∷ get (codes "a") ∷ []) ∷ []) }
 {}
 
 /// Each kind of record, and each way to commit.
 pub fn records_and_flags()
-    ensures records { script_of run_grammar (codes "client 1\ndel a\nsdel b\nnote c\nclear")
+    ensures records { script_of whole_grammar (codes "client 1\ndel a\nsdel b\nnote c\nclear")
         ≡ Ok ((add (deletion (codes "a")) ∷ add (single_deletion (codes "b")) ∷ add (log_data (codes "c")) ∷ clear ∷ [])
         ∷ []) }
-    ensures flags { script_of run_grammar (codes "client 1\ncommit sync\ncommit nolog\ncommit sync nolog")
+    ensures flags { script_of whole_grammar (codes "client 1\ncommit sync\ncommit nolog\ncommit sync nolog")
         ≡ Ok ((commit (record plain { sync = true }) ∷ commit (record plain { no_log = true })
         ∷ commit (record plain { sync = true; no_log = true }) ∷ []) ∷ []) }
 {}
 
 /// Comments and empty lines are passed over. Where there is nothing else there is no client.
 pub fn passed_over_lines()
-    ensures commented { script_of run_grammar (codes "# x\nclient 1\n\nput a 1\ncommit\nget a\n")
+    ensures commented { script_of whole_grammar (codes "# x\nclient 1\n\nput a 1\ncommit\nget a\n")
         ≡ Ok ((add put_a1 ∷ commit plain ∷ get (codes "a") ∷ []) ∷ []) }
-    ensures nothing_else { script_of run_grammar (codes "# x\n\n") ≡ fault_at 0 NoClient }
+    ensures nothing_else { script_of whole_grammar (codes "# x\n\n") ≡ fault_at 0 NoClient }
 {}
 
 /// Each kind of fault, and its line.
 pub fn faults_of_scripts()
-    ensures no_text { script_of run_grammar [] ≡ fault_at 0 NoClient }
-    ensures no_client { script_of run_grammar (codes "put a 1") ≡ fault_at 1 Client }
-    ensures unknown_word { script_of run_grammar (codes "client 1\npot a 1") ≡ fault_at 2 Word }
-    ensures too_few_words { script_of run_grammar (codes "client 1\nput a") ≡ fault_at 2 Form }
-    ensures two_spaces { script_of run_grammar (codes "client 1\nput  a 1") ≡ fault_at 2 Form }
-    ensures leading_zero { script_of run_grammar (codes "client 01") ≡ fault_at 1 Form }
-    ensures wrong_number { script_of run_grammar (codes "client 1\nclient 3") ≡ fault_at 2 Client }
-    ensures too_many_clients { script_of run_grammar (codes "client 1\nclient 2") ≡ fault_at 2 Clients }
-    ensures tab { script_of run_grammar (codes "client 1\nget\ta") ≡ fault_at 2 Byte }
-    ensures too_long { (text : List ℕ) → 16777216 < length text → script_of run_grammar text ≡ fault_at 0 Long }
-    ensures unknown_flag { script_of run_grammar (codes "client 1\ncommit noslow") ≡ fault_at 2 Form }
-    ensures flags_turned { script_of run_grammar (codes "client 1\ncommit nolog sync") ≡ fault_at 2 Form }
-    ensures flag_twice { script_of run_grammar (codes "client 1\ncommit sync sync") ≡ fault_at 2 Form }
-    ensures word_behind_clear { script_of run_grammar (codes "client 1\nclear a") ≡ fault_at 2 Form }
-    ensures two_keys { script_of run_grammar (codes "client 1\ndel a b") ≡ fault_at 2 Form }
-    ensures long_enough { script_of run_grammar (replicate 16384 35) ≡ fault_at 0 NoClient }
+    ensures no_text { script_of whole_grammar [] ≡ fault_at 0 NoClient }
+    ensures no_client { script_of whole_grammar (codes "put a 1") ≡ fault_at 1 Client }
+    ensures unknown_word { script_of whole_grammar (codes "client 1\npot a 1") ≡ fault_at 2 Word }
+    ensures too_few_words { script_of whole_grammar (codes "client 1\nput a") ≡ fault_at 2 Form }
+    ensures two_spaces { script_of whole_grammar (codes "client 1\nput  a 1") ≡ fault_at 2 Form }
+    ensures leading_zero { script_of whole_grammar (codes "client 01") ≡ fault_at 1 Form }
+    ensures wrong_number { script_of whole_grammar (codes "client 1\nclient 3") ≡ fault_at 2 Client }
+    ensures tab { script_of whole_grammar (codes "client 1\nget\ta") ≡ fault_at 2 Byte }
+    ensures too_long { (text : List ℕ) → TEXT_LIMIT < length text → script_of whole_grammar text ≡ fault_at 0 Long }
+    ensures unknown_flag { script_of whole_grammar (codes "client 1\ncommit fast") ≡ fault_at 2 Form }
+    ensures flags_turned { script_of whole_grammar (codes "client 1\ncommit nolog sync") ≡ fault_at 2 Form }
+    ensures flag_twice { script_of whole_grammar (codes "client 1\ncommit sync sync") ≡ fault_at 2 Form }
+    ensures word_behind_clear { script_of whole_grammar (codes "client 1\nclear a") ≡ fault_at 2 Form }
+    ensures two_keys { script_of whole_grammar (codes "client 1\ndel a b") ≡ fault_at 2 Form }
+    ensures long_enough { script_of whole_grammar (replicate 16384 35) ≡ fault_at 0 NoClient }
 {}
 
 /// The whole grammar: reads of several keys, the controller's tokens, every flag, and more than one client.
@@ -70,6 +71,4 @@ pub fn whole_scripts()
     ensures no_key { script_of whole_grammar (codes "client 1\nmany") ≡ fault_at 2 Form }
     ensures flags_turned { script_of whole_grammar (codes "client 1\ncommit noslow sync") ≡ fault_at 2 Form }
     ensures no_rate { script_of whole_grammar (codes "client 1\nslow") ≡ fault_at 2 Form }
-    ensures of_one_client { script_of run_grammar (codes "client 1\nmany a b") ≡ fault_at 2 Word }
-    ensures without_tokens { script_of run_grammar (codes "client 1\nstop") ≡ fault_at 2 Word }
 {}

@@ -4,7 +4,7 @@ use Rattle.std.specs.List.{AllByRecursion, list_any}
 use Rattle.model_base.specs.declared.history.Flag.{Flag}
 use Rattle.model_base.specs.declared.history.Flag.TheVariants.{Log, NoLog, Sync}
 use Rattle.model_base.specs.Batch.{Record, group_record}
-use Rattle.model_base.specs.Log.{text, text_from}
+use Rattle.model_base.specs.Log.{text, text_from, plain_log}
 use Rattle.model_base.specs.History.{Entry}
 use Rattle.model_base.specs.Trace.{Trace, Settings}
 use Rattle.model_base.specs.Attempts.{Attempt}
@@ -22,14 +22,14 @@ abbrev pub IsImageSince : {D : Type 0} → (D → ℕ) → (D → ℕ) → (D �
 IsImageSince moment from since old now image = (from now ≤ moment old) × since now (moment old) image
 
 -- all that was to be in the log: the groups' records, and perhaps the one whose write failed
-abbrev pub begun : List (List ℕ) → Option (List ℕ) → List (List ℕ)
-begun records None = records
-begun records (Some x) = records ++ x ∷ []
+abbrev pub with_failed_record : List (List ℕ) → Option (List ℕ) → List (List ℕ)
+with_failed_record records None = records
+with_failed_record records (Some x) = records ++ x ∷ []
 
 -- After the text of these records the content has what the failed write left of one more: a prefix of it, or nothing.
 pub record IsRest (records : List (List ℕ)) (content x : List ℕ) : Type 0 where
   pub some : ℕ
-  pub content_is : content ≡ text None records ++ take some (text_from None (length (text None records)) (x ∷ []))
+  pub content_is : content ≡ text plain_log records ++ take some (text_from plain_log (length (text plain_log records)) (x ∷ []))
 
 abbrev pub is_sync : Flag → Bool
 is_sync Sync = true
@@ -46,7 +46,7 @@ HaveSynced groups n = AllByRecursion (λ group. HasSync group → ⊥) (drop n g
 
 -- the text of the log up to the end of a group, by the number of groups before it
 abbrev pub text_through : List (List Entry) → ℕ → List ℕ
-text_through groups k = text None (records_of (take (k + 1) groups))
+text_through groups k = text plain_log (records_of (take (k + 1) groups))
 
 -- Nothing is written after a group that is to be synced until it is safe. So where any of an image stands after such a
 -- group's text, all of the text up to there stands before it. What could be reached before the run tells nothing.
@@ -55,9 +55,9 @@ HoldsSynced groups reached image = (k : ℕ) (group : List Entry) → slice_get 
     → HoldsUpTo reached (text_through groups k) image
 
 -- the record that the call that failed was to write, if one did
-abbrev pub tried : List GroupCall → Option (List ℕ)
-tried [] = None
-tried (c ∷ lost) = Some (record_of_call c)
+abbrev pub failed_record : List GroupCall → Option (List ℕ)
+failed_record [] = None
+failed_record (c ∷ lost) = Some (record_of_call c)
 
 module _ (group_bytes : ℕ) (attempts : List (List Attempt)) (o : Outcome) (groups : List (List Entry))
     (content : List ℕ) where
@@ -73,16 +73,16 @@ module _ (group_bytes : ℕ) (attempts : List (List Attempt)) (o : Outcome) (gro
   -- these records, and perhaps the failed one, are what a crash leaves a prefix of, in any such image, unless by chance
   abbrev pub LeavesPrefix : (List ℕ → Type 0) → (ℕ → Type 0) → Type 0
   LeavesPrefix left enough = (x : Option (List ℕ)) → IfSome x IsFailedWrite → (image : List ℕ) → left image
-      → NoChance None image (text None (begun (records_of groups) x))
-      → RecoversPrefix (begun (records_of groups) x) image enough
+      → NoChance plain_log image (text plain_log (with_failed_record (records_of groups) x))
+      → RecoversPrefix (with_failed_record (records_of groups) x) image enough
 
   -- What the log holds at the end, with some of the record that was tried where a call failed; and what a crash
   -- leaves, at some moment of the run (any), and at its end (now), when all that was synced is among it. It holds for
   -- each record that may be the failed one, and the one that was tried is among these: so nobody can choose one whose
   -- premise excludes an image.
   pub record IsCrashSafe (lost : List GroupCall) (reached : ℕ) (any now : List ℕ → Type 0) : Type 0 where
-    pub failed : MatchOption o.fault (content ≡ text None (records_of groups)) (λ count. (x : List ℕ)
-        × (tried lost ≡ Some x) × IsFailedWrite x)
+    pub failed : MatchOption o.fault (content ≡ text plain_log (records_of groups)) (λ count. (x : List ℕ)
+        × (failed_record lost ≡ Some x) × IsFailedWrite x)
     pub any_moment : LeavesPrefix any (λ n. ⊤)
     pub held : (image : List ℕ) → any image → HoldsSynced groups reached image
     pub at_end : LeavesPrefix now (HaveSynced groups)
@@ -96,7 +96,7 @@ pub record IsRun (settings : Settings) (ended : ℕ) (script : List (List Comman
   pub attempts : List (List Attempt)
   pub legal : IsLegalIn settings ended script trace attempts o
   pub writes : WritesLog settings.group_bytes wrote trace attempts o.fault
-  pub length_is : o.log_len ≡ length (text None (records_of writes.parts))
+  pub length_is : o.log_len ≡ length (text plain_log (records_of writes.parts))
 
 -- what the log of a run holds, and what a crash leaves of it
 pub record IsSafe {settings : Settings} {ended : ℕ} {script : List (List Command)} {wrote : List GroupCall → Type 0}

@@ -3,7 +3,7 @@ use Rattle.std.specs.Prelude.{ℕ, Bool, true, false, List, [], ◌∷◌, codes
 use Rattle.model_base.specs.declared.history.Flag.{Flag}
 use Rattle.model_base.specs.declared.history.Flag.TheVariants.{Log, Sync}
 use Rattle.model_base.specs.Batch.{Record, value}
-use Rattle.model_base.specs.Log.{text}
+use Rattle.model_base.specs.Log.{text, plain_log}
 use Rattle.model_base.specs.History.{Entry}
 use Rattle.model_base.specs.LogContents.{GroupCall, records_of}
 use Rattle.model_runs.specs.Crashes.{text_through}
@@ -29,7 +29,7 @@ two_entries = entry_of 1 Sync put_a ∷ entry_of 2 Log put_b ∷ []
 
 -- the text of both, and of the first, which has 24 bytes
 abbrev pub text_of_both : List ℕ
-text_of_both = text None (records_of two_groups)
+text_of_both = text plain_log (records_of two_groups)
 
 abbrev pub text_of_first : List ℕ
 text_of_first = text_through two_groups 0

@@ -11,10 +11,10 @@ use Rattle.model_base.specs.Progress.{batch_after}
 use Rattle.model_base.specs.Calls.{commit, refused, Call, Outcome}
 
 -- of a group's batches those whose runs fit, from the sequence given last on
-abbrev pub fitting : ℕ → List (List Record) → List (List Record)
-fitting last [] = []
-fitting last (r ∷ rs) =
-    if nat_le (last + count_of r) max_sequence then r ∷ fitting (last + count_of r) rs else fitting last rs
+abbrev pub batches_that_fit : ℕ → List (List Record) → List (List Record)
+batches_that_fit last [] = []
+batches_that_fit last (r ∷ rs) =
+    if nat_le (last + count_of r) max_sequence then r ∷ batches_that_fit (last + count_of r) rs else batches_that_fit last rs
 
 -- a commit that a leader took in hand had these records, was to be logged, and was answered the log's fault
 pub record IsLost (attempts : List (List Attempt)) (count : ℕ) (m : Member) (records : List Record) : Type 0 where
@@ -31,7 +31,7 @@ pub record IsLostGroup (group_bytes : ℕ) (attempts : List (List Attempt)) (cou
   pub is_group : IsGroup group_bytes members
   pub all : List (List Record)
   pub each : AllZip (IsLost attempts count) members all
-  pub batches_are : batches ≡ fitting last all
+  pub batches_are : batches ≡ batches_that_fit last all
   pub some : 0 < length batches
 
 -- What is seen of it in the transcripts: a commit that was to be logged had these records, and was answered the log's

@@ -2,6 +2,7 @@
 
 ghost use Rattle.std.specs.Prelude.{◌≡◌, ◌+◌, ◌<◌, ◌≤◌, ℕ, List, length, map, take, None, Some, slice_get};
 ghost use Rattle.std.specs.List.{AllByRecursion};
+ghost use Rattle.model_base.specs.Log.{plain_log};
 ghost use Rattle.model_base.specs.Batch.{IsBatch};
 ghost use Rattle.model_base.specs.History.{Entry};
 ghost use Rattle.model_base.specs.LogContents.{records_of};
@@ -16,5 +17,5 @@ pub fn synced_groups_are_recovered()
         → length (text_through groups k) < length image → reached < length image
         → (batches : List Logged) → map logged_bytes batches ≡ records_of (take (k + 1) groups)
         → AllByRecursion (λ b. IsBatch (logged_bytes b) b.first b.records) batches → AreInOrder 0 batches
-        → (r : Recovered) → IsRecovered None image r → k + 1 ≤ length r.batches }
+        → (r : Recovered) → IsRecovered plain_log image r → k + 1 ≤ length r.batches }
 {}

@@ -9,20 +9,20 @@ use Rattle.model_base.specs.History.{IsHistory}
 use Rattle.model_base.specs.Map.{Pairs}
 use Rattle.model_base.specs.Script.{Script}
 use Rattle.run_outcome.specs.declared.outcome.Outcome.{Outcome}
-use Rattle.run_calls.specs.declared.options.Options.{Options}
+use Rattle.model_base.specs.declared.options.Options.{Options}
 use Rattle.run_outcome.specs.Running.{Execution, execution_of, IsRunOf, HasRun, LeavesSafeLog, IsReached}
-use Rattle.run_execution.specs.declared.end.End.{End}
-use Rattle.run_execution.specs.declared.end.End.TheVariants as end
+use Rattle.run_execution.specs.declared.end.RunEnd.{RunEnd}
+use Rattle.run_execution.specs.declared.end.RunEnd.TheVariants as end
 use Rattle.run_execution.specs.Ends.{IsEnd}
 use Rattle.program_text.specs.Refusals.{not_empty, disk_fault}
 use Rattle.program_call.specs.declared.reading.ReadError.{ReadError}
 use Rattle.program_call.specs.declared.reading.ReadError.TheVariants as read
-use Rattle.program_call.specs.declared.telling.Form.{Form}
-use Rattle.program_call.specs.declared.telling.Status.{Status}
-use Rattle.program_call.specs.declared.telling.Status.TheVariants as status
+use Rattle.program_call.specs.declared.report.Form.{Form}
+use Rattle.program_call.specs.declared.report.Status.{Status}
+use Rattle.program_call.specs.declared.report.Status.TheVariants as status
 use Rattle.program_call.specs.Texts.{SaysTo}
-use Rattle.program_call.specs.Telling.{Refuses, EndsSo, TellsEnd, TellsReadError, text_of, code}
-use Rattle.program_call.specs.Outcomes.{Observed, IsScript, RanScript, RanWhole, DiskFailed, RanToSinkFault, RanOutOfMemory}
+use Rattle.program_call.specs.Reports.{Refuses, EndsSo, TellsEnd, TellsReadError, text_of, code}
+use Rattle.program_call.specs.Outcomes.{Observation, IsScript, RanScript, RanWhole, DiskFailed, RanToSinkFault, RanOutOfMemory}
 use Rattle.program_call.proofs.Memory.{all_whole, short_of}
 
 abbrev either : Bool → Type 0 → Type 0 → Type 0
@@ -30,7 +30,7 @@ either true A B = A
 either false A B = B
 
 -- What comes with each status of a run. `failed` to `fails` are the disk's counts of faults, `kf` to `kfs` the sink's.
-module _ (seen : Observed) (failed fails kf kfs : ℕ) where
+module _ (seen : Observation) (failed fails kf kfs : ℕ) where
   pub record AtWhole : Type 0 where
     pub whole : RanWhole seen
     pub empty : IfSome seen.opened (λ d. d.content ≡ [])
@@ -73,7 +73,7 @@ module _ (seen : Observed) (failed fails kf kfs : ℕ) where
 
 -- A script was to be run: `here` is what the devices tell.
 module _ (options : Options) (script : Script) (form : Form) (failed fails : ℕ) (images : List ℕ → Type 0) (wrote : List GroupCall → Type 0) (kf kfs : ℕ) (sold snew : Option (List ℕ)) (old new : Option Disk) where
-  abbrev here : Observed
+  abbrev here : Observation
   here = record { says = IsScript script; form = form; before = sold; after = snew; opened = old; ended = new; execution = λ s. execution_of options s failed fails images wrote }
 
   abbrev execution : Execution
@@ -148,7 +148,7 @@ module _ (options : Options) (script : Script) (form : Form) (failed fails : ℕ
   }))
   ran_so shown ran other so = absurd so
 
-  pub ended_so : (e : End) (given : Status) → IsEnd options script old new failed fails images wrote e → TellsEnd form sold snew kf kfs e given → At (code given)
+  pub ended_so : (e : RunEnd) (given : Status) → IsEnd options script old new failed fails images wrote e → TellsEnd form sold snew kf kfs e given → At (code given)
   ended_so (end.DiskFault count) given ends tells = disk_refused count given ends.0 ends.1 tells
   ended_so (end.NotEmpty len) given ends tells = has_bytes len given ends.0 ends.1 ends.2 tells
   ended_so end.NoMemory given ends tells = nothing here failed fails kf kfs given tells.0 ends tells.1

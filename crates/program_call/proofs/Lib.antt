@@ -1,6 +1,6 @@
 mod Refusing
 mod Unread
-mod Asked
+mod Invocation
 mod Memory
 mod Endings
 mod Runs

@@ -5,12 +5,12 @@ use Rattle.base_devices.specs.declared.source.Source as source
 use Rattle.base_devices.specs.declared.disk.Disk as disk
 use Rattle.base_devices.specs.declared.sink.Sink as sink
 use Rattle.model_base.specs.Script.{Script}
-use Rattle.run_calls.specs.declared.options.Options.{Options}
+use Rattle.model_base.specs.declared.options.Options.{Options}
 use Rattle.replay_core.specs.declared.state.CoreOptions.{CoreOptions}
-use Rattle.program_call.specs.declared.telling.Form.{Form}
-use Rattle.program_call.specs.declared.telling.Form.TheVariants as form
+use Rattle.program_call.specs.declared.report.Form.{Form}
+use Rattle.program_call.specs.declared.report.Form.TheVariants as form
 use Rattle.program_call.specs.Asking.{usual_options}
-use Rattle.program_call.specs.Outcomes.{observed, SaysScript, IsGenerated}
+use Rattle.program_call.specs.Outcomes.{observation_of, SaysScript, IsGenerated}
 use Rattle.program_call.specs.Recovers.{TellsDisk, Recovers, RecoversFront}
 use Rattle.program_call.specs.Answers.{RunsScript, AnswersRun, AnswersGenerate, AnswersRecover, AnswersReplay}
 use Rattle.program_call.proofs.Endings.{AtStatus}
@@ -35,9 +35,9 @@ no_text n six (inl e) = omega (arith, six, e)
 no_text n six (inr e) = omega (arith, six, e)
 
 module _ {S D K : Type 0} (source : source.Ghosts S) (disk : disk.Ghosts D) (sink : sink.Ghosts K) (had : S) (opened : D) (before : K) (n : ℕ) (six : n ≡ 6) where
-  runs_none : (says : Script → Type 0) (form : Form) (options : Options) → RunsScript disk sink (observed disk sink says form options opened opened before before) opened opened before before n
+  runs_none : (says : Script → Type 0) (form : Form) (options : Options) → RunsScript disk sink (observation_of disk sink says form options opened opened before before) opened opened before before n
   runs_none says form options =
-      let At : ℕ → Type 0 = λ m. AtStatus (observed disk sink says form options opened opened before before) (disk.faults opened) (disk.faults opened) (sink.faults before) (sink.faults before) m in
+      let At : ℕ → Type 0 = λ m. AtStatus (observation_of disk sink says form options opened opened before before) (disk.faults opened) (disk.faults opened) (sink.faults before) (sink.faults before) m in
       let none : At 6 = inl (record { untouched = refl; silent = refl }) in
       runs_script disk sink says form options opened opened before before n (subst At (sym six) none)
 

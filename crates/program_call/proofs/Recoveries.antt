@@ -5,14 +5,14 @@ use Rattle.base_devices.specs.Disk.{Disk}
 use Rattle.log_recovery.specs.declared.recovery.Recovered.{Recovered}
 use Rattle.log_recovery.specs.declared.recovery.RecoverError.{RecoverError}
 use Rattle.log_recovery.specs.declared.recovery.RecoverError.TheVariants as none
-use Rattle.program_call.specs.declared.telling.Status.{Status}
-use Rattle.program_call.specs.declared.telling.Status.TheVariants as status
+use Rattle.program_call.specs.declared.report.Status.{Status}
+use Rattle.program_call.specs.declared.report.Status.TheVariants as status
 use Rattle.log_recovery.specs.Recovering.{HasRecovered, IsRecoverError}
 use Rattle.run_outcome.specs.Running.{IsReached}
 use Rattle.program_text.specs.Refusals.{disk_fault}
 use Rattle.program_call.specs.Texts.{SaysTo}
 use Rattle.program_call.specs.Recovers.{TellsDisk, Recovers, RecoversFront}
-use Rattle.program_call.specs.Telling.{code, TellsRecovery}
+use Rattle.program_call.specs.Reports.{code, TellsRecovery}
 use Rattle.program_call.proofs.Refusing.{refused_as}
 
 pub recovery_refused : (failed fails kf kfs n : ℕ) (sold snew : Option (List ℕ)) (found : Result Recovered RecoverError) (given : Status) → n ≡ code given

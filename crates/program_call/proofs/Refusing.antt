@@ -3,10 +3,10 @@ use Rattle.std.proofs.Common.{◌≡◌, ◌⊎◌, inl, inr, ℕ, List, Option,
 use Rattle.std.specs.Prelude.{IfOk, OnErr}
 use Rattle.model_base.specs.declared.memory.NoMemory.{NoMemory}
 use Rattle.base_bytes.specs.declared.bytes.Bytes.{Bytes}
-use Rattle.program_call.specs.declared.telling.Status.{Status}
-use Rattle.program_call.specs.declared.telling.Status.TheVariants as status
+use Rattle.program_call.specs.declared.report.Status.{Status}
+use Rattle.program_call.specs.declared.report.Status.TheVariants as status
 use Rattle.program_call.specs.Texts.{SaysTo}
-use Rattle.program_call.specs.Telling.{Refuses, code}
+use Rattle.program_call.specs.Reports.{Refuses, code}
 
 pub refuses : (made : Result Bytes NoMemory) (text : List ℕ) (old new : Option (List ℕ)) (failed fails : ℕ) (wanted given : Status) → IfOk made (λ t. t ≡ text)
     → IfOk made (λ t. (given ≡ wanted) × SaysTo old new t failed fails) → OnErr made ((given ≡ status.Memory) × (new ≡ old)) → Refuses old new failed fails text wanted given

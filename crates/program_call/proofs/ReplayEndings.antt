@@ -6,11 +6,11 @@ use Rattle.model_base.specs.declared.memory.NoMemory.{NoMemory}
 use Rattle.model_core.specs.Schedule.{Schedule, schedule_of}
 use Rattle.replay_schedules.specs.declared.replaying.Replayed.{Replayed}
 use Rattle.replay_core.specs.declared.state.CoreOptions.{CoreOptions}
-use Rattle.program_call.specs.declared.telling.Status.{Status}
-use Rattle.program_call.specs.declared.telling.Status.TheVariants as status
+use Rattle.program_call.specs.declared.report.Status.{Status}
+use Rattle.program_call.specs.declared.report.Status.TheVariants as status
 use Rattle.program_call.specs.Replays.{SaysSchedule, Replays, ReplaysFront}
 use Rattle.replay_schedules.specs.Replayed.{ShowsReplayed, replayed_of}
-use Rattle.program_call.specs.Telling.{code, TellsReplay}
+use Rattle.program_call.specs.Reports.{code, TellsReplay}
 use Rattle.program_call.specs.Texts.{Stood}
 use Rattle.run_scripts.specs.ReplayLanguage.{replay_grammar, event_words}
 

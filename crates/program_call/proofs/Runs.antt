@@ -5,10 +5,10 @@ use Rattle.base_devices.specs.declared.sink.Sink as sink
 use Rattle.base_devices.specs.Disk.{Disk}
 use Rattle.model_base.specs.Calls as calls
 use Rattle.model_base.specs.Script.{Script}
-use Rattle.run_calls.specs.declared.options.Options.{Options}
-use Rattle.program_call.specs.declared.telling.Form.{Form}
+use Rattle.model_base.specs.declared.options.Options.{Options}
+use Rattle.program_call.specs.declared.report.Form.{Form}
 use Rattle.program_call.specs.Texts.{Stood}
-use Rattle.program_call.specs.Outcomes.{Observed, observed, RanScript, RanWhole, DiskFailed, RanOutOfMemory}
+use Rattle.program_call.specs.Outcomes.{Observation, observation_of, RanScript, RanWhole, DiskFailed, RanOutOfMemory}
 use Rattle.program_call.specs.Answers.{RunsScript}
 use Rattle.program_call.proofs.Endings.{AtStatus, AtWhole, AtFault, AtSinkFault, AtNotEmpty}
 
@@ -20,7 +20,7 @@ empty_so : (told : Option Disk) (n : ℕ) → (n ≡ 0 → IfSome told (λ d. d.
 empty_so None n at_0 at_5 = tt
 empty_so (Some d) n at_0 at_5 = λ some. (λ zero. not_some d.content (at_0 zero) some, λ five. not_some d.content (at_5 five) some)
 
-module _ {D K : Type 0} (disk : disk.Ghosts D) (sink : sink.Ghosts K) (seen : Observed) (opened ended : D) (before after : K) where
+module _ {D K : Type 0} (disk : disk.Ghosts D) (sink : sink.Ghosts K) (seen : Observation) (opened ended : D) (before after : K) where
   abbrev At : ℕ → Type 0
   At n = AtStatus seen (disk.faults opened) (disk.faults ended) (sink.faults before) (sink.faults after) n
 
@@ -38,10 +38,10 @@ module _ {D K : Type 0} (disk : disk.Ghosts D) (sink : sink.Ghosts K) (seen : Ob
 
 -- at a status that comes with so much
 pub runs_script : {D K : Type 0} (disk : disk.Ghosts D) (sink : sink.Ghosts K) (says : Script → Type 0) (form : Form) (options : Options) (opened ended : D) (before after : K) (n : ℕ)
-    → AtStatus (observed disk sink says form options opened ended before after) (disk.faults opened) (disk.faults ended) (sink.faults before) (sink.faults after) n
-    → RunsScript disk sink (observed disk sink says form options opened ended before after) opened ended before after n
+    → AtStatus (observation_of disk sink says form options opened ended before after) (disk.faults opened) (disk.faults ended) (sink.faults before) (sink.faults after) n
+    → RunsScript disk sink (observation_of disk sink says form options opened ended before after) opened ended before after n
 runs_script disk sink says form options opened ended before after n at =
-    let seen : Observed = observed disk sink says form options opened ended before after in
+    let seen : Observation = observation_of disk sink says form options opened ended before after in
     record {
       no_fault = λ e. let whole = at_whole disk sink seen opened ended before after n at e in (whole.disk, whole.sink);
       disk_failed = λ e. (at_fault disk sink seen opened ended before after n at e).rose;
@@ -65,15 +65,15 @@ completes_so (Some d) n Says (inr (inr (inl e))) not_3 not_5 at_7 = λ none. abs
 completes_so (Some d) n Says (inr (inr (inr (inl e)))) not_3 not_5 at_7 = λ none. inr e
 completes_so (Some d) n Says (inr (inr (inr (inr e)))) not_3 not_5 at_7 = λ none. absurd (let seven = at_7 e in omega (arith, seven.1, seven.2, none))
 
-pub completes : {D K : Type 0} (disk : disk.Ghosts D) (sink : sink.Ghosts K) (seen : Observed) (opened ended : D) (before after : K) (n : ℕ) → RunsScript disk sink seen opened ended before after n
+pub completes : {D K : Type 0} (disk : disk.Ghosts D) (sink : sink.Ghosts K) (seen : Observation) (opened ended : D) (before after : K) (n : ℕ) → RunsScript disk sink seen opened ended before after n
     → (n ≡ 0) ⊎ (n ≡ 3) ⊎ (n ≡ 5) ⊎ (n ≡ 6) ⊎ (n ≡ 7) → Stood (sink.faults before) (sink.faults after) → Stood (disk.faults opened) (disk.faults ended)
     → IfSome (disk.told opened) (λ d. length d.content ≡ 0 → (n ≡ 0) ⊎ (n ≡ 6))
 completes disk sink seen opened ended before after n runs one sink_stood disk_stood =
     completes_so (disk.told opened) n _ one (λ e. disk_stood (runs.disk_failed e)) (λ e. sink_stood (runs.sink_failed e)) runs.not_empty
 
 -- What says more of a script says it of the one that was run.
-module _ (seen : Observed) (says : Script → Type 0) (tells : (s : Script) → seen.says s → says s) where
-  abbrev retold : Observed
+module _ (seen : Observation) (says : Script → Type 0) (tells : (s : Script) → seen.says s → says s) where
+  abbrev retold : Observation
   retold = record { says = says; form = seen.form; before = seen.before; after = seen.after; opened = seen.opened; ended = seen.ended; execution = seen.execution }
 
   ran_script : (o : calls.Outcome) → RanScript seen o → RanScript retold o

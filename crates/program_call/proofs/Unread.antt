@@ -8,12 +8,12 @@ use Rattle.run_outcome.specs.Running.{IsReached}
 use Rattle.program_text.specs.Refusals.{source_fault, script_fault}
 use Rattle.program_call.specs.declared.reading.ReadError.{ReadError}
 use Rattle.program_call.specs.declared.reading.ReadError.TheVariants as read
-use Rattle.program_call.specs.declared.telling.Status.{Status}
+use Rattle.program_call.specs.declared.report.Status.{Status}
 use Rattle.model_core.specs.Schedule.{Schedule, schedule_of}
 use Rattle.run_scripts.specs.ReplayLanguage.{replay_grammar, event_words}
 use Rattle.program_call.specs.Reading.{IsScriptError, IsScheduleError}
 use Rattle.program_call.specs.Texts.{SaysTo, Stood}
-use Rattle.program_call.specs.Telling.{code, TellsReadError}
+use Rattle.program_call.specs.Reports.{code, TellsReadError}
 use Rattle.program_call.proofs.Refusing.{refused_as}
 
 -- whatever is said of an error, if a fault of it was reached in the call

@@ -3,7 +3,7 @@ use Rattle.std.proofs.Common.{◌≡◌, ℕ, ◌≤◌, Bool, true, false, cond
 use Rattle.std.proofs.lemmas.Bool.{ltb-false}
 use Rattle.model_base.specs.declared.script.ScriptFault.TheVariants.{Long}
 use Rattle.model_core.specs.Schedule as model
-use Rattle.model_core.specs.Schedule.{schedule_of, lines_read, finished}
+use Rattle.model_core.specs.Schedule.{schedule_of, lines_read, schedule_of_draft}
 use Rattle.run_scripts.specs.declared.schedule.Schedule.{Schedule}
 use Rattle.run_scripts.specs.Schedules as parsed
 use Rattle.run_scripts.specs.Scripts.{FitsBatches, HasClientsCommands}
@@ -14,7 +14,7 @@ use Rattle.run_scripts.specs.ReplayLanguage.{replay_grammar, event_words}
 said_len : (text : List ℕ) (s : model.Schedule) → schedule_of replay_grammar event_words text ≡ Ok s → length text ≤ 16777216
 said_len text s e = by_test (nat_lt 16777216 (length text)) refl e
   where
-    by_test : (b : Bool) → nat_lt 16777216 (length text) ≡ b → cond b (Err (record { line = 0; kind = Long })) (finished (lines_read replay_grammar event_words text)) ≡ Ok s → length text ≤ 16777216
+    by_test : (b : Bool) → nat_lt 16777216 (length text) ≡ b → cond b (Err (record { line = 0; kind = Long })) (schedule_of_draft (lines_read replay_grammar event_words text)) ≡ Ok s → length text ≤ 16777216
     by_test true is e = absurd (cc e)
     by_test false is e = let a = ltb-false 16777216 (length text) is in omega (arith, a)
 

@@ -6,23 +6,23 @@ use Rattle.base_devices.specs.declared.disk.Disk as disk
 use Rattle.base_devices.specs.declared.sink.Sink as sink
 use Rattle.model_base.specs.Counts.{Rose}
 use Rattle.model_base.specs.Script.{Script, Fault, script_of, whole_grammar}
-use Rattle.model_base.specs.Generator.{generated}
+use Rattle.model_base.specs.Generator.{script_of_seed}
 use Rattle.model_core.specs.Schedule.{Schedule, schedule_of}
 use Rattle.run_scripts.specs.ReplayLanguage.{replay_grammar, event_words}
-use Rattle.run_calls.specs.declared.options.Options.{Options}
+use Rattle.model_base.specs.declared.options.Options.{Options}
 use Rattle.replay_core.specs.declared.state.CoreOptions.{CoreOptions}
 use Rattle.program_text.specs.Refusals.{usage, script_fault, source_fault, disk_fault, not_empty}
 use Rattle.run_outcome.specs.Running.{IsReached}
-use Rattle.run_summary_laws.specs.Summaries.{summary_of}
-use Rattle.program_call.specs.declared.telling.Form.TheVariants as form
+use Rattle.run_laws.specs.Summaries.{summary_of}
+use Rattle.program_call.specs.declared.report.Form.TheVariants as form
 use Rattle.program_call.specs.Asking.{usual_options}
-use Rattle.program_call.specs.Outcomes.{Observed, observed, SaysScript, IsGenerated, RanWhole, DiskFailed, RanToSinkFault, RanOutOfMemory}
+use Rattle.program_call.specs.Outcomes.{Observation, observation_of, SaysScript, IsGenerated, RanWhole, DiskFailed, RanToSinkFault, RanOutOfMemory}
 use Rattle.program_call.specs.Recovers.{TellsDisk, Recovers, RecoversFront}
 use Rattle.program_call.specs.Replays.{Replays, ReplaysFront}
 use Rattle.program_call.specs.Texts.{Stood, SaysTo}
 
 -- A script was run over the log of a disk, or would have been.
-module _ {D K : Type 0} (disk : disk.Ghosts D) (sink : sink.Ghosts K) (seen : Observed) (opened ended : D)
+module _ {D K : Type 0} (disk : disk.Ghosts D) (sink : sink.Ghosts K) (seen : Observation) (opened ended : D)
     (before after : K) (status : ℕ) where
   pub record RunsScript : Type 0 where
     -- 0: no device failed. 3, 5: one did.
@@ -82,7 +82,7 @@ module _ {S D K : Type 0} (source : source.Ghosts S) (disk : disk.Ghosts D) (sin
         → IfSome (source.left has) (λ left. left ≡ [])
     -- a refusal of the text never comes to the disk
     pub disk_untouched : (status ≡ 2) ⊎ (status ≡ 4) → ended ≡ opened
-    pub runs : RunsScript disk sink (observed disk sink (SaysScript (source.left had)) form.Whole options opened ended
+    pub runs : RunsScript disk sink (observation_of disk sink (SaysScript (source.left had)) form.Whole options opened ended
         before after) opened ended before after status
     -- where no device fails, a script over an empty log ends well, lack of memory aside
     pub completes : Stood (source.faults had) (source.faults has) → Stood (sink.faults before) (sink.faults after)
@@ -94,14 +94,14 @@ module _ {S D K : Type 0} (source : source.Ghosts S) (disk : disk.Ghosts D) (sin
   pub record AnswersGenerate (seed clients batches : ℕ) (status : ℕ) : Type 0 where
     pub one : (status ≡ 0) ⊎ (status ≡ 3) ⊎ (status ≡ 5) ⊎ (status ≡ 6) ⊎ (status ≡ 7)
     pub source_untouched : has ≡ had
-    pub runs : RunsScript disk sink (observed disk sink (IsGenerated seed clients batches) form.Summary usual_options
+    pub runs : RunsScript disk sink (observation_of disk sink (IsGenerated seed clients batches) form.Summary usual_options
         opened ended before after) opened ended before after status
     -- where no device fails a run over an empty log ends well, lack of memory aside
     pub completes : Stood (sink.faults before) (sink.faults after) → Stood (disk.faults opened) (disk.faults ended)
         → IfSome (disk.told opened) (λ d. length d.content ≡ 0 → (status ≡ 0) ⊎ (status ≡ 6))
     -- the printed summary is the same whatever the schedule
     pub one_summary : status ≡ 0
-        → Appends (sink.taken before) (sink.taken after) (summary_of (generated seed clients batches))
+        → Appends (sink.taken before) (sink.taken after) (summary_of (script_of_seed seed clients batches))
 
   -- `recover`: what the log recovers is printed, whatever its bytes are, and nothing else is touched
   pub record AnswersRecover (status : ℕ) : Type 0 where

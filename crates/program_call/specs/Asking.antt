@@ -1,34 +1,35 @@
 -- What the words of a call ask for, with the options that they give.
 use Rattle.std.specs.Prelude.{◌≡◌, ℕ, Bool, List, Option, Some, None, String}
 use Rattle.std.specs.declared.alloc.Global.{Global}
-use Rattle.program_words.specs.declared.asked.Asked.TheVariants.{Run, Generate, Recover, Replay}
-use Rattle.program_words.specs.Meaning.{asked_of}
-use Rattle.run_calls.specs.declared.options.Options.{Options}
+use Rattle.model_base.specs.declared.limits.TheConstants.{MAX_SIZE}
+use Rattle.program_words.specs.declared.invocation.Invocation.TheVariants.{Run, Generate, Recover, Replay}
+use Rattle.program_words.specs.Meaning.{invocation_of}
+use Rattle.model_base.specs.declared.options.Options.{Options}
 use Rattle.replay_core.specs.declared.state.CoreOptions.{CoreOptions}
 
 -- they aren't lawful
 abbrev pub AskNothing : List (String Global) → Type 0
-AskNothing words = asked_of words ≡ None
+AskNothing words = invocation_of words ≡ None
 
 -- to run a script, in one stage or two, over a table of some shards, or of none
 abbrev pub AskToRun : List (String Global) → Options → Type 0
 AskToRun words options = (pipelined : Bool) × (shards : Option ℕ)
-    × (asked_of words ≡ Some (Run pipelined shards options.group_bytes options.batch_bytes options.last))
+    × (invocation_of words ≡ Some (Run pipelined shards options.group_bytes options.batch_bytes options.last))
 
 -- to run the script that a seed makes, for so many clients with so many batches each, over such a table
 abbrev pub AskToGenerate : List (String Global) → ℕ → ℕ → ℕ → Type 0
 AskToGenerate words seed clients batches = (pipelined : Bool) × (shards : Option ℕ)
-    × (asked_of words ≡ Some (Generate pipelined shards seed clients batches))
+    × (invocation_of words ≡ Some (Generate pipelined shards seed clients batches))
 
 -- with these options
 abbrev pub usual_options : Options
-usual_options = record { last = 0; group_bytes = 1048576; batch_bytes = 16777216 }
+usual_options = record { last = 0; group_bytes = 1048576; batch_bytes = MAX_SIZE }
 
 -- to say what the log recovers
 abbrev pub AskToRecover : List (String Global) → Type 0
-AskToRecover words = asked_of words ≡ Some Recover
+AskToRecover words = invocation_of words ≡ Some Recover
 
 -- to run a schedule on the core
 abbrev pub AskToReplay : List (String Global) → CoreOptions → Type 0
 AskToReplay words options =
-    asked_of words ≡ Some (Replay options.pipelined options.group_bytes options.batch_bytes options.last)
+    invocation_of words ≡ Some (Replay options.pipelined options.group_bytes options.batch_bytes options.last)

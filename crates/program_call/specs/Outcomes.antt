@@ -9,16 +9,16 @@ use Rattle.base_devices.specs.declared.disk.Disk as disk
 use Rattle.base_devices.specs.declared.sink.Sink as sink
 use Rattle.model_base.specs.Calls as calls
 use Rattle.model_base.specs.Script.{Script, script_of, whole_grammar}
-use Rattle.model_base.specs.Generator.{generated}
+use Rattle.model_base.specs.Generator.{script_of_seed}
 use Rattle.model_base.specs.Runs.{NoneWithoutMemory}
-use Rattle.run_calls.specs.declared.options.Options.{Options}
+use Rattle.model_base.specs.declared.options.Options.{Options}
 use Rattle.model_runs.specs.Crashes.{IsImageSince}
 use Rattle.run_outcome.specs.Running.{Execution, execution_of, IsRunOf, LeavesSafeLog, IsReached}
 use Rattle.model_runs.specs.Refusals.{AreRefusedForThemselves}
 use Rattle.log_writer.specs.Written.{IsWrittenFrom}
 use Rattle.program_text.specs.Refusals.{disk_fault}
-use Rattle.program_call.specs.declared.telling.Form.{Form}
-use Rattle.program_call.specs.Telling.{text_of}
+use Rattle.program_call.specs.declared.report.Form.{Form}
+use Rattle.program_call.specs.Reports.{text_of}
 use Rattle.program_call.specs.Texts.{SaysTo, TakesPrefix}
 
 -- The outcome of a run: it is legal, and the log was written by just the calls that wrote its history's groups. Where
@@ -34,7 +34,7 @@ RefusesForThemselves o = o.fault ≡ None → AllByRecursion AreRefusedForThemse
 
 -- Which script was to be run, how an outcome is printed, what the devices tell of the call, where they do, and how a
 -- script is run there
-pub record Observed : Type 1 where
+pub record Observation : Type 1 where
   pub says : Script → Type 0
   pub form : Form
   -- what the sink had taken before the call, and after it
@@ -45,9 +45,9 @@ pub record Observed : Type 1 where
   pub ended : Option Disk
   pub execution : Script → Execution
 
-abbrev pub observed : {D K : Type 0} → disk.Ghosts D → sink.Ghosts K → (Script → Type 0) → Form → Options → D → D → K
-    → K → Observed
-observed disk sink says form options opened ended before after = record {
+abbrev pub observation_of : {D K : Type 0} → disk.Ghosts D → sink.Ghosts K → (Script → Type 0) → Form → Options → D → D → K
+    → K → Observation
+observation_of disk sink says form options opened ended before after = record {
   says = says;
   form = form;
   before = sink.taken before;
@@ -68,7 +68,7 @@ IsScript this script = script ≡ this
 
 -- the script that a seed makes
 abbrev pub IsGenerated : ℕ → ℕ → ℕ → Script → Type 0
-IsGenerated seed clients batches script = script ≡ generated seed clients batches
+IsGenerated seed clients batches script = script ≡ script_of_seed seed clients batches
 
 -- some client's call found no memory
 pub record LacksMemory (o : calls.Outcome) : Type 0 where
@@ -80,7 +80,7 @@ pub record LacksMemory (o : calls.Outcome) : Type 0 where
   pub there : slice_get transcript place ≡ Some call
   pub reply : call.reply ≡ calls.no_memory
 
-module _ (seen : Observed) where
+module _ (seen : Observation) where
   -- A script was run, and this is its outcome.
   pub record RanScript (o : calls.Outcome) : Type 0 where
     pub script : Script

@@ -3,6 +3,7 @@ use Rattle.std.specs.Prelude.{◌≡◌, ℕ, ◌≤◌, List, length, Option, O
 use Rattle.std.specs.Io.KnownBytes.{Consumes, IsAtEnd}
 use Rattle.program_call.specs.declared.reading.ReadError.{ReadError}
 use Rattle.program_call.specs.declared.reading.ReadError.TheVariants.{Fault, Script, NoMemory}
+use Rattle.model_base.specs.declared.limits.TheConstants.{MAX_CLIENTS, TEXT_LIMIT}
 use Rattle.model_base.specs.Script as model
 use Rattle.run_scripts.specs.declared.script.Script as script
 use Rattle.run_scripts.specs.declared.schedule.Schedule.{Schedule}
@@ -15,7 +16,7 @@ use Rattle.run_scripts.specs.ReplayLanguage.{replay_grammar, event_words}
 -- it was read to its end, or to one byte past the limit of 16,777,216
 pub record HasRead (old new : Option (List ℕ)) (text : List ℕ) : Type 0 where
   pub consumed : Consumes old new text
-  pub whole : length text ≤ 16777216 → IsAtEnd new
+  pub whole : length text ≤ TEXT_LIMIT → IsAtEnd new
   pub at_most : length text ≤ 16777217
 
 -- a fault of the source, or no memory
@@ -28,7 +29,7 @@ IsReadError before now NoMemory = Unit {0}
 pub record HasScript (old new : Option (List ℕ)) (s : script.Script) : Type 0 where
   pub said : IfSome old (λ text. model.script_of model.whole_grammar text ≡ Ok (commands_of s))
   pub ended : IsAtEnd new
-  pub clients : (1 ≤ length s.clients.items) × (length s.clients.items ≤ 16)
+  pub clients : (1 ≤ length s.clients.items) × (length s.clients.items ≤ MAX_CLIENTS)
   pub fits : FitsBatches s
 
 -- no script: a fault of the source, another text, or no memory
@@ -43,7 +44,7 @@ pub record HasSchedule (old new : Option (List ℕ)) (s : Schedule) : Type 0 whe
   pub said : IfSome old (λ text. schedules.schedule_of replay_grammar event_words text
       ≡ Ok (schedule_of s))
   pub ended : IsAtEnd new
-  pub clients : (1 ≤ length s.script.clients.items) × (length s.script.clients.items ≤ 16)
+  pub clients : (1 ≤ length s.script.clients.items) × (length s.script.clients.items ≤ MAX_CLIENTS)
   pub fits : FitsBatches s.script
   pub commands : HasClientsCommands s.script
 

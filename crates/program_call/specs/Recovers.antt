@@ -1,5 +1,6 @@
 -- What the command `recover` promises.
 use Rattle.std.specs.Prelude.{ℕ, List, Option, Some, None, ⊤}
+use Rattle.model_base.specs.Log.{plain_log}
 use Rattle.base_devices.specs.Disk.{Disk}
 use Rattle.model_base.specs.Recovery.{Recovered, IsRecovered}
 use Rattle.model_base.specs.Text.{recovered_text}
@@ -13,11 +14,11 @@ TellsDisk before after disk P = ⊤
 -- status 0: the text of what the file recovers was printed
 pub record Recovers (before after file : List ℕ) : Type 0 where
   pub recovered : Recovered
-  pub is_recovered : IsRecovered None file recovered
+  pub is_recovered : IsRecovered plain_log file recovered
   pub printed : Prints before after (recovered_text recovered)
 
 -- status 5: a front of it was taken
 pub record RecoversFront (before after file : List ℕ) : Type 0 where
   pub recovered : Recovered
-  pub is_recovered : IsRecovered None file recovered
+  pub is_recovered : IsRecovered plain_log file recovered
   pub printed : PrintsFront before after (recovered_text recovered)

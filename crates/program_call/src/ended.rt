@@ -1,9 +1,9 @@
 //! How a call ended.
 
 ghost use Rattle.std.specs.Prelude.{◌≡◌};
-ghost use Rattle.program_call.specs.Telling.{code};
+ghost use Rattle.program_call.specs.Reports.{code};
 
-use crate::telling::Status;
+use crate::report::Status;
 
 /// How a call ended, and the disk that it was handed.
 pub struct Ended<D> {

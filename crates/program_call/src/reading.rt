@@ -4,8 +4,8 @@ ghost use Rattle.std.specs.Prelude.{◌≡◌, ◌+◌, ◌-◌, ◌≤◌, ◌<
 ghost use Rattle.program_call.specs.Reading.{HasRead, IsReadError, HasScript, IsScriptError, HasSchedule, IsScheduleError};
 
 use base_devices::Source;
-use model_base::ScriptFault;
-use run_scripts::{Schedule, Script, ScriptError, TEXT_LIMIT, parse_clients, parse_schedule};
+use model_base::{ScriptFault, TEXT_LIMIT};
+use run_scripts::{Schedule, Script, ScriptError, parse_clients, parse_schedule};
 use std::alloc::Global;
 
 /// How many bytes are asked for in a call.
@@ -30,6 +30,7 @@ fn read_text<S: Source>(alloc: Global, source: &mut S) -> Result<Vec<u8>, ReadEr
 {
     let mut text = Vec::new(alloc);
     let mut piece = [0; PIECE];
+    // The text is what was read so far, at most one byte past the limit.
     while text.len() <= TEXT_LIMIT {
         let room = (TEXT_LIMIT + 1 - text.len()).min(PIECE);
         let Ok(n) = source.read(&mut piece[..room]) else {

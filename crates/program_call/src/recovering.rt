@@ -8,7 +8,7 @@ ghost use Rattle.program_call.specs.Recovers.{TellsDisk, Recovers, RecoversFront
 ghost use Rattle.program_call.specs.Texts.{Stood, SaysTo};
 
 use crate::ended::{Ended, end_with};
-use crate::telling::tell_recovery;
+use crate::report::tell_recovery;
 use base_devices::{Disk, Sink};
 use log_recovery::recover;
 use std::alloc::Global;

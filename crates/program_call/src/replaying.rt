@@ -13,7 +13,7 @@ ghost use Rattle.program_call.specs.Texts.{Stood, SaysTo};
 
 use crate::ended::{Ended, end_with};
 use crate::reading::read_schedule;
-use crate::telling::{tell_read_error, tell_replay};
+use crate::report::{tell_read_error, tell_replay};
 use base_devices::{Sink, Source};
 use replay_core::CoreOptions;
 use replay_schedules::replay_schedule;

@@ -1,28 +1,25 @@
 //! The command `run`, and what it has in common with `gen`: a script is run over the log of a disk.
 
-ghost use Rattle.std.specs.Prelude.{◌≡◌, ◌≢◌, ◌⊎◌, ◌<◌, ◌≤◌, [], length, Ok, Err, IfSome};
+ghost use Rattle.std.specs.Prelude.{◌≡◌, ◌≢◌, ◌⊎◌, ◌<◌, ◌≤◌, [], length, Ok, Err, IfSome, MatchOption};
 ghost use Rattle.model_base.specs.Counts.{Rose};
 ghost use Rattle.model_base.specs.History.{max_sequence};
 ghost use Rattle.model_base.specs.Script.{Script as Said, Fault, script_of, whole_grammar};
 ghost use Rattle.run_scripts.specs.Scripts.{commands_of, FitsBatches};
-ghost use Rattle.engine_memory.specs.Tables.{HasShards};
 ghost use Rattle.program_text.specs.Refusals.{script_fault, source_fault};
 ghost use Rattle.run_outcome.specs.Running.{IsReached};
 ghost use Rattle.program_call.specs.Answers.{RunsScript};
-ghost use Rattle.program_call.specs.Outcomes.{observed, IsScript, SaysScript};
+ghost use Rattle.program_call.specs.Outcomes.{observation_of, IsScript, SaysScript};
 ghost use Rattle.program_call.specs.Texts.{Stood, SaysTo};
-ghost use Rattle.program_call.specs.declared.telling.Form.TheVariants as form;
+ghost use Rattle.program_call.specs.declared.report.Form.TheVariants as form;
 
 use crate::ended::{Ended, end_with};
 use crate::reading::read_script;
-use crate::telling::{Form, tell_end, tell_read_error};
+use crate::report::{Form, tell_end, tell_read_error};
 use base_devices::{Clock, Disk, Sink, Source};
 use engine_calls::Gate;
-use engine_memory::TableKind;
-use run_calls::Options;
-use run_execution::{Executed, execute};
+use model_base::{MAX_CLIENTS, MAX_SIZE};
+use run_execution::{Host, Setup, execute};
 use run_scripts::Script;
-use std::alloc::Global;
 use std::sync::Wait;
 use std::thread::Threads;
 
@@ -34,20 +31,9 @@ pub fn run_script<
     C: Clock + Send + Drop,
     G: Gate + Sync,
     R: Threads + Wait + Sync,
->(
-    rt: &R,
-    alloc: Global,
-    options: Options,
-    kind: TableKind,
-    pipelined: bool,
-    source: &mut S,
-    disk: D,
-    sink: &mut K,
-    clock: C,
-    gate: &G,
-) -> Ended<D>
-    requires options { (options.last ≤ max_sequence) × (options.batch_bytes ≤ 16777216) }
-    requires kind { HasShards kind }
+>(host: &Host<'_, R, G>, setup: Setup, source: &mut S, disk: D, sink: &mut K, clock: C) -> Ended<D>
+    requires options { (setup.options.last ≤ max_sequence) × (setup.options.batch_bytes ≤ MAX_SIZE) }
+    requires shards { 0 < setup.shards }
     ensures other { (result.status < 8) × (result.status ≢ 1) }
     ensures script { result.status ≡ 2 → (f : Fault)
         × IfSome (S.left source.old) (λ text. script_of whole_grammar text ≡ Err f)
@@ -62,8 +48,8 @@ pub fn run_script<
     ensures disk_untouched { (result.status ≡ 2) ⊎ (result.status ≡ 4) → result.disk ≡ disk }
     ensures read_to_end { (result.status ≡ 0) ⊎ (result.status ≡ 3) ⊎ (result.status ≡ 5) ⊎ (result.status ≡ 7)
         → IfSome (S.left source.new) (λ left. left ≡ []) }
-    ensures runs { RunsScript ⟦<D as Disk>⟧ ⟦<K as Sink>⟧ (observed ⟦<D as Disk>⟧ ⟦<K as Sink>⟧
-        (SaysScript (S.left source.old)) form.Whole options disk result.disk sink.old sink.new)
+    ensures runs { RunsScript ⟦<D as Disk>⟧ ⟦<K as Sink>⟧ (observation_of ⟦<D as Disk>⟧ ⟦<K as Sink>⟧
+        (SaysScript (S.left source.old)) form.Whole setup.options disk result.disk sink.old sink.new)
         disk result.disk sink.old sink.new result.status }
     ensures completes { Stood (S.faults source.old) (S.faults source.new)
         → Stood (K.faults sink.old) (K.faults sink.new) → Stood (D.faults disk) (D.faults result.disk)
@@ -71,21 +57,21 @@ pub fn run_script<
         → script_of whole_grammar text ≡ Ok script → length d.content ≡ 0
         → (result.status ≡ 0) ⊎ (result.status ≡ 6))) }
 {
-    match read_script(alloc, source) {
-        Ok(script) => run_and_tell(
-            rt,
-            alloc,
-            script,
-            options,
-            kind,
-            pipelined,
-            Form::Whole,
-            disk,
-            sink,
-            clock,
-            gate,
-        ),
-        Err(why) => end_with(tell_read_error(alloc, sink, why), disk),
+    match read_script(host.alloc, source) {
+        Ok(script) => run_and_tell(host, script, setup, Form::Whole, disk, sink, clock),
+        Err(why) => end_with(tell_read_error(host.alloc, sink, why), disk),
+    }
+}
+
+/// How many shards the table of a run has: as many as were asked for, or else one.
+pub fn shards_or_one(shards: Option<u64>) -> u32
+    requires { IfSome shards (λ n. (1 ≤ n) × (n ≤ 64)) }
+    ensures given { MatchOption shards (result ≡ 1) (λ n. result ≡ n) }
+    ensures some { 0 < result }
+{
+    match shards {
+        Some(shards) => shards as u32,
+        None => 1,
     }
 }
 
@@ -97,32 +83,26 @@ pub fn run_and_tell<
     G: Gate + Sync,
     R: Threads + Wait + Sync,
 >(
-    rt: &R,
-    alloc: Global,
+    host: &Host<'_, R, G>,
     script: Script,
-    options: Options,
-    kind: TableKind,
-    pipelined: bool,
+    setup: Setup,
     form: Form,
     disk: D,
     sink: &mut K,
     clock: C,
-    gate: &G,
 ) -> Ended<D>
-    requires clients { (1 ≤ length script.clients.items) × (length script.clients.items ≤ 16) }
+    requires clients { (1 ≤ length script.clients.items) × (length script.clients.items ≤ MAX_CLIENTS) }
     requires fits { FitsBatches script }
-    requires options { (options.last ≤ max_sequence) × (options.batch_bytes ≤ 16777216) }
-    requires kind { HasShards kind }
+    requires options { (setup.options.last ≤ max_sequence) × (setup.options.batch_bytes ≤ MAX_SIZE) }
+    requires shards { 0 < setup.shards }
     ensures status { (result.status ≡ 0) ⊎ (result.status ≡ 3) ⊎ (result.status ≡ 5) ⊎ (result.status ≡ 6)
         ⊎ (result.status ≡ 7) }
-    ensures runs { RunsScript ⟦<D as Disk>⟧ ⟦<K as Sink>⟧ (observed ⟦<D as Disk>⟧ ⟦<K as Sink>⟧
-        (IsScript (commands_of script)) form options disk result.disk sink.old sink.new)
+    ensures runs { RunsScript ⟦<D as Disk>⟧ ⟦<K as Sink>⟧ (observation_of ⟦<D as Disk>⟧ ⟦<K as Sink>⟧
+        (IsScript (commands_of script)) form setup.options disk result.disk sink.old sink.new)
         disk result.disk sink.old sink.new result.status }
 {
-    let Executed { disk, end } = execute(
-        rt, alloc, disk, clock, gate, &script, options, kind, pipelined,
-    );
+    let (disk, end) = execute(host, disk, clock, &script, setup);
     // What was asked is no longer needed while the text is made.
     drop(script);
-    end_with(tell_end(alloc, sink, form, &end), disk)
+    end_with(tell_end(host.alloc, sink, form, &end), disk)
 }

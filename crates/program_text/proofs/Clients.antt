@@ -8,7 +8,7 @@ use Rattle.std.proofs.lemmas.Option.{slice_get_within, get_or_from_slice_get}
 use Rattle.std.proofs.lemmas.List.FromFn.{length-enumerate_from, get_or-enumerate_from}
 use Rattle.model_base.specs.Batch.{batch}
 use Rattle.log_batch.specs.Contents.{Contents}
-use Rattle.run_calls.specs.declared.entry.Entry.{Entry}
+use Rattle.run_outcome.specs.declared.history_entry.HistoryEntry.{HistoryEntry}
 use Rattle.run_outcome.specs.declared.reply.Reply.{Reply}
 use Rattle.program_text.specs.ShownText.{client_lines, clients_lines, line_of, entry_line}
 
@@ -33,7 +33,7 @@ pub clients_all : (text : List ℕ) (xs : List (Vec Reply Global)) (i : ℕ) →
 clients_all text xs i le = ap (λ ps. text ++ flat_map client_lines ps) (take_all i (enumerate_from 1 xs) (omega (arith, length-enumerate_from 1 xs)))
 
 -- one batch more, whose bytes are these
-pub entry_more : (start text new : List ℕ) (xs : List (Entry Contents)) (i : ℕ) (x : Entry Contents) (bytes : List ℕ) → take (i + 1) xs ≡ take i xs ++ x ∷ [] → bytes ≡ batch x.batch.sequence x.batch.records
+pub entry_more : (start text new : List ℕ) (xs : List (HistoryEntry Contents)) (i : ℕ) (x : HistoryEntry Contents) (bytes : List ℕ) → take (i + 1) xs ≡ take i xs ++ x ∷ [] → bytes ≡ batch x.batch.sequence x.batch.records
     → text ≡ start ++ flat_map entry_line (take i xs) → new ≡ text ++ line_of x bytes → new ≡ start ++ flat_map entry_line (take (i + 1) xs)
 entry_more start text new xs i x bytes more is so_far e =
     e ∙ ap (λ b. text ++ line_of x b) is ∙ ap (λ t. t ++ entry_line x) so_far ∙ flat_map_more entry_line start (take i xs) x

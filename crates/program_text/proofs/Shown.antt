@@ -10,7 +10,7 @@ use Rattle.model_base.specs.Calls as calls
 use Rattle.model_base.specs.Text.{line, reply_text, client_text, entry_text, history_text, outcome_text}
 use Rattle.run_outcome.specs.declared.reply.Reply.{Reply}
 use Rattle.run_outcome.specs.declared.reply.Reply.TheVariants.{Accepted, Refused, Found, FoundEach, Rows, Done, Held, NotHeld, NoMemory}
-use Rattle.run_calls.specs.declared.entry.Entry.{Entry}
+use Rattle.run_outcome.specs.declared.history_entry.HistoryEntry.{HistoryEntry}
 use Rattle.run_outcome.specs.declared.outcome.Outcome.{Outcome}
 use Rattle.run_outcome.specs.Shows.{ShowsReply, ShowsReplies, with_replies, ShowsEntry, ShowsOutcome}
 use Rattle.program_text.specs.ShownText.{reply_line, client_lines, entry_line, history_lines, shown_text}
@@ -58,23 +58,23 @@ clients_shown n (x ∷ xs) (y ∷ ys) all =
     ap (λ t. line (codes "client" ∷ decimal n ∷ []) ++ t ++ flat_map client_lines (enumerate_from (n + 1) xs)) (replies_shown x.items y all.0)
     ∙ ap (λ t. client_text (n, y) ++ t) (clients_shown (n + 1) xs ys all.1)
 
-entry_shown : (s : Entry Contents) (e : history.Entry) → ShowsEntry s e → entry_line s ≡ entry_text e
+entry_shown : (s : HistoryEntry Contents) (e : history.Entry) → ShowsEntry s e → entry_line s ≡ entry_text e
 entry_shown s e shows = rw (shows.last, shows.batch, shows.client, shows.ordinal, shows.first, shows.flag) refl
 
 -- of batches in order
-entries_shown : (ss : List (Entry Contents)) (es : List history.Entry) → AllZip ShowsEntry ss es → flat_map entry_line ss ≡ flat_map entry_text es
+entries_shown : (ss : List (HistoryEntry Contents)) (es : List history.Entry) → AllZip ShowsEntry ss es → flat_map entry_line ss ≡ flat_map entry_text es
 entries_shown [] [] all = refl
 entries_shown [] (e ∷ es) all = absurd all
 entries_shown (s ∷ ss) [] all = absurd all
 entries_shown (s ∷ ss) (e ∷ es) all = rw (entry_shown s e all.0) (ap (λ t. entry_text e ++ t) (entries_shown ss es all.1))
 
-length_shown : (ss : List (Entry Contents)) (es : List history.Entry) → AllZip ShowsEntry ss es → length ss ≡ length es
+length_shown : (ss : List (HistoryEntry Contents)) (es : List history.Entry) → AllZip ShowsEntry ss es → length ss ≡ length es
 length_shown [] [] all = refl
 length_shown [] (e ∷ es) all = absurd all
 length_shown (s ∷ ss) [] all = absurd all
 length_shown (s ∷ ss) (e ∷ es) all = ap suc (length_shown ss es all.1)
 
-pub history_shown : (ss : List (Entry Contents)) (es : List history.Entry) → AllZip ShowsEntry ss es → history_lines ss ≡ history_text es
+pub history_shown : (ss : List (HistoryEntry Contents)) (es : List history.Entry) → AllZip ShowsEntry ss es → history_lines ss ≡ history_text es
 history_shown ss es all = rw (length_shown ss es all, entries_shown ss es all) refl
 
 -- of the whole outcome

@@ -13,7 +13,7 @@ use Rattle.model_base.specs.History as history
 use Rattle.model_base.specs.History.{IsHistory, last_of}
 use Rattle.model_base.specs.Map.{Pairs}
 use Rattle.model_base.specs.Script.{value_of_digits}
-use Rattle.run_calls.specs.declared.entry.Entry.{Entry}
+use Rattle.run_outcome.specs.declared.history_entry.HistoryEntry.{HistoryEntry}
 use Rattle.run_outcome.specs.declared.outcome.Outcome.{Outcome}
 use Rattle.run_outcome.specs.Shows.{ShowsEntry, ShowsOutcome}
 
@@ -24,16 +24,16 @@ zip_length P (x ∷ xs) [] all = absurd all
 zip_length P (x ∷ xs) (y ∷ ys) all = ap suc (zip_length P xs ys all.1)
 
 -- how many records the batches of the entries count
-abbrev pub shown_count : List (Entry Contents) → ℕ
-shown_count ss = sum_by (λ (s : Entry Contents). count_of s.batch.records) ss
+abbrev pub shown_count : List (HistoryEntry Contents) → ℕ
+shown_count ss = sum_by (λ (s : HistoryEntry Contents). count_of s.batch.records) ss
 
 -- with one more
-pub count_more : (ss : List (Entry Contents)) (i : ℕ) (s : Entry Contents) → slice_get ss i ≡ Some s → shown_count (take (i + 1) ss) ≡ shown_count (take i ss) + count_of s.batch.records
+pub count_more : (ss : List (HistoryEntry Contents)) (i : ℕ) (s : HistoryEntry Contents) → slice_get ss i ≡ Some s → shown_count (take (i + 1) ss) ≡ shown_count (take i ss) + count_of s.batch.records
 count_more ss i s is =
-    sum_by_more (λ (x : Entry Contents). count_of x.batch.records) ss i s (slice_get_within ss i s is)
-    ∙ ap (λ (x : Entry Contents). shown_count (take i ss) + count_of x.batch.records) (get_or_from_slice_get ss i s s is)
+    sum_by_more (λ (x : HistoryEntry Contents). count_of x.batch.records) ss i s (slice_get_within ss i s is)
+    ∙ ap (λ (x : HistoryEntry Contents). shown_count (take i ss) + count_of x.batch.records) (get_or_from_slice_get ss i s s is)
 
-count_shown : (start : ℕ) (ss : List (Entry Contents)) (es : List history.Entry) → IsHistory start es → AllZip ShowsEntry ss es
+count_shown : (start : ℕ) (ss : List (HistoryEntry Contents)) (es : List history.Entry) → IsHistory start es → AllZip ShowsEntry ss es
     → shown_count ss ≡ sum_by (λ (e : history.Entry). e.count) es
 count_shown start [] [] legal all = refl
 count_shown start [] (e ∷ es) legal all = absurd all
@@ -41,7 +41,7 @@ count_shown start (s ∷ ss) [] legal all = absurd all
 count_shown start (s ∷ ss) (e ∷ es) legal all =
     let here : count_of s.batch.records ≡ e.count = ap (λ (b : Contents). count_of b.records) all.0.batch ∙ sym legal.0.counted in
     let rest = count_shown (last_of e) ss es legal.1 all.1 in
-    sum_by-cons (λ (x : Entry Contents). count_of x.batch.records) s ss
+    sum_by-cons (λ (x : HistoryEntry Contents). count_of x.batch.records) s ss
     ∙ ap (λ n. n + shown_count ss) here
     ∙ ap (λ n. e.count + n) rest
     ∙ sym (sum_by-cons (λ (x : history.Entry). x.count) e es)

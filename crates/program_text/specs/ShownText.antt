@@ -8,7 +8,7 @@ use Rattle.model_base.specs.declared.log.EndReason.{EndReason}
 use Rattle.model_base.specs.Text.{line, hex, reply_text, flag_word, state_text, log_text, hex_word, end_words}
 use Rattle.run_outcome.specs.declared.reply.Reply.{Reply}
 use Rattle.run_outcome.specs.declared.reply.Reply.TheVariants.{Accepted, Refused, Found, FoundEach, Rows, Done, Held, NotHeld, NoMemory}
-use Rattle.run_calls.specs.declared.entry.Entry.{Entry}
+use Rattle.run_outcome.specs.declared.history_entry.HistoryEntry.{HistoryEntry}
 use Rattle.run_outcome.specs.declared.outcome.Outcome.{Outcome}
 use Rattle.log_recovery.specs.declared.kept.GroupNote.{GroupNote}
 use Rattle.log_recovery.specs.declared.recovery.Recovered.{Recovered}
@@ -51,14 +51,14 @@ abbrev pub clients_lines : List (Vec Reply Global) → List ℕ
 clients_lines transcripts = flat_map client_lines (enumerate_from 1 transcripts)
 
 -- the line of a batch with these bytes
-abbrev pub line_of : {B : Type 0} → Entry B → List ℕ → List ℕ
+abbrev pub line_of : {B : Type 0} → HistoryEntry B → List ℕ → List ℕ
 line_of e bytes =
     line (decimal e.first ∷ decimal e.last ∷ decimal e.client ∷ decimal e.ordinal ∷ flag_word e.flag ∷ hex bytes ∷ [])
 
-abbrev pub entry_line : Entry Contents → List ℕ
+abbrev pub entry_line : HistoryEntry Contents → List ℕ
 entry_line e = line_of e (batch e.batch.sequence e.batch.records)
 
-abbrev pub history_lines : List (Entry Contents) → List ℕ
+abbrev pub history_lines : List (HistoryEntry Contents) → List ℕ
 history_lines entries = line (codes "history" ∷ decimal (length entries) ∷ []) ++ flat_map entry_line entries
 
 abbrev pub shown_text : Outcome Pairs → List ℕ

@@ -22,6 +22,7 @@ pub fn put_number(text: &mut Bytes, number: u64) -> Result<(), NoMemory>
 pub fn put_numbers(text: &mut Bytes, numbers: &[u64]) -> Result<(), NoMemory>
     ensures { OnOk result (text.new ≡ text.old ++ flat_map (λ n. 32 ∷ decimal n) numbers.now) }
 {
+    // The numbers so far stand after the text.
     for number in numbers {
         text.append(b" ")?;
         put_number(text, *number)?;
@@ -43,6 +44,7 @@ pub fn put_hex(text: &mut Bytes, bytes: &[u8]) -> Result<(), NoMemory>
     ensures { OnOk result (text.new ≡ text.old ++ hex bytes.now) }
 {
     let mut rest = bytes;
+    // With the digits of the rest the text is whole.
     while rest.len() > PIECE {
         let (piece, behind) = rest.split_at(PIECE);
         put_piece(text, piece)?;

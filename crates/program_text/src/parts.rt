@@ -9,8 +9,7 @@ use crate::reads::{put_found_each, put_rows};
 use base_bytes::Bytes;
 use log_batch::Batch;
 use model_base::{Flag, NoMemory, Refusal};
-use run_calls::Entry;
-use run_outcome::{History, Reply};
+use run_outcome::{History, HistoryEntry, Reply};
 
 fn put_refusal(text: &mut Bytes, why: Refusal) -> Result<(), NoMemory>
     ensures { OnOk result (text.new ≡ text.old ++ line (codes "no" ∷ refusal_words why)) }
@@ -65,6 +64,7 @@ fn put_client(text: &mut Bytes, number: u64, replies: &Vec<Reply>) -> Result<(),
     ensures { OnOk result (text.new ≡ text.old ++ client_lines (number, replies.now)) }
 {
     put_line(text, b"client", &[number])?;
+    // The lines of the replies so far stand after the text.
     for reply in replies {
         put_reply(text, reply)?;
     }
@@ -75,6 +75,7 @@ fn put_client(text: &mut Bytes, number: u64, replies: &Vec<Reply>) -> Result<(),
 pub fn put_clients(text: &mut Bytes, transcripts: &[Vec<Reply>]) -> Result<(), NoMemory>
     ensures { OnOk result (text.new ≡ text.old ++ clients_lines transcripts.now) }
 {
+    // The lines of the clients so far stand after the text.
     for (before, replies) in transcripts.iter().enumerate() {
         put_client(text, before as u64 + 1, replies)?;
     }
@@ -92,7 +93,7 @@ fn flag_word(flag: Flag) -> &'static [u8]
 }
 
 /// Puts a batch's line behind the text. `B` is what stands for the batch, which has these bytes.
-fn put_entry<B>(text: &mut Bytes, entry: &Entry<B>, bytes: &[u8]) -> Result<(), NoMemory>
+fn put_entry<B>(text: &mut Bytes, entry: &HistoryEntry<B>, bytes: &[u8]) -> Result<(), NoMemory>
     ensures { OnOk result (text.new ≡ text.old ++ line_of entry.now bytes.now) }
 {
     put_number(text, entry.first)?;
@@ -109,6 +110,7 @@ pub fn put_history(text: &mut Bytes, history: &History) -> Result<(), NoMemory>
     ensures { OnOk result (text.new ≡ text.old ++ history_lines history.now) }
 {
     put_line(text, b"history", &[history.len() as u64])?;
+    // The lines of the batches so far stand after the text.
     for at in 0..history.len() {
         let entry = history.entry(at);
         put_entry(text, &entry, entry.batch.bytes())?;
@@ -117,10 +119,11 @@ pub fn put_history(text: &mut Bytes, history: &History) -> Result<(), NoMemory>
 }
 
 /// Puts the history of a schedule behind the text, as that of a run.
-pub fn put_entries(text: &mut Bytes, entries: &[Entry<Batch>]) -> Result<(), NoMemory>
+pub fn put_entries(text: &mut Bytes, entries: &[HistoryEntry<Batch>]) -> Result<(), NoMemory>
     ensures { OnOk result (text.new ≡ text.old ++ history_lines entries.now) }
 {
     put_line(text, b"history", &[entries.len() as u64])?;
+    // The lines of the entries so far stand after the text.
     for entry in entries {
         put_entry(text, entry, entry.batch.bytes())?;
     }

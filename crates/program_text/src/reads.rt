@@ -29,6 +29,7 @@ pub fn put_found_each(text: &mut Bytes, at: u64, values: &FoundList) -> Result<(
 {
     text.append(b"many")?;
     put_numbers(text, &[at, values.len() as u64])?;
+    // The values so far stand after the text.
     for found in values.as_slice() {
         put_found(text, found)?;
     }
@@ -52,6 +53,7 @@ pub fn put_rows(text: &mut Bytes, at: u64, rows: &PairList) -> Result<(), NoMemo
 {
     text.append(b"scan")?;
     put_numbers(text, &[at, rows.len() as u64])?;
+    // The lines of the rows so far stand after the text.
     for (key, value) in rows.as_slice() {
         put_row(text, key.as_slice(), value.as_slice())?;
     }

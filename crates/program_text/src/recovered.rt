@@ -40,6 +40,7 @@ fn put_groups(text: &mut Bytes, groups: &[GroupNote]) -> Result<(), NoMemory>
     ensures { OnOk result (text.new ≡ text.old ++ groups_lines groups.now) }
 {
     put_line(text, b"groups", &[groups.len() as u64])?;
+    // The lines of the groups so far stand after the text.
     for group in groups {
         put_group(text, group)?;
     }

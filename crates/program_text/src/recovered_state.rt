@@ -6,7 +6,7 @@ ghost use Rattle.program_text.specs.ShownText.{pair_line};
 
 use crate::lines::{put_hex, put_line};
 use base_bytes::Bytes;
-use log_recovery::RecoveredMap;
+use base_maps::ByteMap;
 use model_base::NoMemory;
 
 /// Puts bytes behind the text in lower-case digits, and `-` for no byte.
@@ -30,10 +30,11 @@ fn put_hex_pair(text: &mut Bytes, key: &[u8], value: &[u8]) -> Result<(), NoMemo
 }
 
 /// Puts the state that is recovered behind the text.
-pub fn put_recovered_map(text: &mut Bytes, last: u64, map: &RecoveredMap) -> Result<(), NoMemory>
+pub fn put_recovered_map(text: &mut Bytes, last: u64, map: &ByteMap) -> Result<(), NoMemory>
     ensures { OnOk result (text.new ≡ text.old ++ state_text hex_word last map.now) }
 {
     put_line(text, b"state", &[last, map.len() as u64])?;
+    // With the lines of the pairs that are left, those of all pairs stand after the text.
     for (key, value) in map.iter() {
         put_hex_pair(text, key, value)?;
     }

@@ -6,7 +6,8 @@ ghost use Rattle.model_base.specs.Text.{state_text};
 ghost use Rattle.program_text.specs.ShownText.{plain, pair_line};
 
 use crate::lines::put_line;
-use base_bytes::{Bytes, PairList, PairMap};
+use base_bytes::Bytes;
+use base_maps::ByteMap;
 use model_base::NoMemory;
 
 fn put_pair(text: &mut Bytes, key: &[u8], value: &[u8]) -> Result<(), NoMemory>
@@ -19,23 +20,13 @@ fn put_pair(text: &mut Bytes, key: &[u8], value: &[u8]) -> Result<(), NoMemory>
 }
 
 /// Puts the state of a map behind the text.
-pub fn put_map(text: &mut Bytes, last: u64, map: &PairMap) -> Result<(), NoMemory>
+pub fn put_map(text: &mut Bytes, last: u64, map: &ByteMap) -> Result<(), NoMemory>
     ensures { OnOk result (text.new ≡ text.old ++ state_text plain last map.now) }
 {
     put_line(text, b"state", &[last, map.len() as u64])?;
+    // With the lines of the pairs that are left, those of all pairs stand after the text.
     for (key, value) in map.iter() {
         put_pair(text, key, value)?;
-    }
-    Ok(())
-}
-
-/// Puts the state of keys with their values behind the text.
-pub fn put_pairs(text: &mut Bytes, last: u64, pairs: &PairList) -> Result<(), NoMemory>
-    ensures { OnOk result (text.new ≡ text.old ++ state_text plain last pairs.now) }
-{
-    put_line(text, b"state", &[last, pairs.len() as u64])?;
-    for (key, value) in pairs.as_slice() {
-        put_pair(text, key.as_slice(), value.as_slice())?;
     }
     Ok(())
 }

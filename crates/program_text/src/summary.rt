@@ -10,18 +10,15 @@ ghost use Rattle.model_base.specs.History.{IsHistory};
 ghost use Rattle.model_base.specs.Script.{value_of_digits};
 ghost use Rattle.run_outcome.specs.Shows.{ShowsOutcome};
 
-use base_bytes::{Bytes, PairList};
+use base_bytes::Bytes;
+use base_maps::ByteMap;
 use itoa::Buffer;
 use model_base::NoMemory;
 use run_outcome::{History, Outcome};
 use std::alloc::Global;
 
 /// The summary of an outcome, whose map's values have this sum as numbers.
-pub fn summary_text(
-    alloc: Global,
-    outcome: &Outcome<PairList>,
-    sum: u128,
-) -> Result<Bytes, NoMemory>
+pub fn summary_text(alloc: Global, outcome: &Outcome<ByteMap>, sum: u128) -> Result<Bytes, NoMemory>
     ensures { (o : calls.Outcome) (start : ℕ) → IsHistory start o.history → ShowsOutcome outcome.now o
         → sum ≡ sum_by (λ p. value_of_digits p.1) o.state → IfOk result (λ t. t ≡ model.summary_text o) }
 {
@@ -40,6 +37,7 @@ fn record_count(history: &History) -> u128
     ensures { result ≡ sum_by (λ entry. count_of entry.batch.records) history.now }
 {
     let mut count = 0;
+    // The count is that of the batches so far.
     for at in 0..history.len() {
         count += u128::from(history.entry(at).batch.count());
     }

@@ -10,20 +10,21 @@ ghost use Rattle.program_text.specs.Refusals as texts;
 
 use crate::lines::{put_line, put_numbers};
 use crate::parts::{put_clients, put_history, put_log};
-use crate::states::put_pairs;
-use base_bytes::{Bytes, PairList};
+use crate::states::put_map;
+use base_bytes::Bytes;
+use base_maps::ByteMap;
 use model_base::{NoMemory, ScriptFault};
 use run_outcome::Outcome;
 use std::alloc::Global;
 
 /// The text of an outcome: each client's replies, the history, the published state, the log.
-pub fn outcome_text(alloc: Global, outcome: &Outcome<PairList>) -> Result<Bytes, NoMemory>
+pub fn outcome_text(alloc: Global, outcome: &Outcome<ByteMap>) -> Result<Bytes, NoMemory>
     ensures { (o : calls.Outcome) → ShowsOutcome outcome.now o → IfOk result (λ t. t ≡ outcome_text o) }
 {
     let mut text = Bytes::new(alloc);
     put_clients(&mut text, &outcome.transcripts)?;
     put_history(&mut text, &outcome.history)?;
-    put_pairs(&mut text, outcome.last, &outcome.state)?;
+    put_map(&mut text, outcome.last, &outcome.state)?;
     put_log(&mut text, outcome.log_len, outcome.fault)?;
     Ok(text)
 }

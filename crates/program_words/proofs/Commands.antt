@@ -8,9 +8,9 @@ use Rattle.clap.specs.Walk.{Walk, finished, nothing_held, walk, walk_from, with_
 use Rattle.program_words.specs.Definition.{recover, replay, run}
 use Rattle.program_words.specs.Lawful as lawful
 use Rattle.program_words.specs.Lawful.{Given, Known, command_asked, generate_asked, lawful_in, number_or, options_of, recover_options, replay_options, replay_with, run_options, run_with, shards_given, value_of}
-use Rattle.program_words.specs.Meaning.{asked_by, asked_in, flag_in, number_in, replay_by, run_by, shards_in}
-use Rattle.program_words.specs.declared.asked.Asked.{Asked}
-use Rattle.program_words.specs.declared.asked.Asked.TheVariants.{Run, Recover, Replay}
+use Rattle.program_words.specs.Meaning.{invocation_by, invocation_in, flag_in, number_in, replay_by, run_by, shards_in}
+use Rattle.program_words.specs.declared.invocation.Invocation.{Invocation}
+use Rattle.program_words.specs.declared.invocation.Invocation.TheVariants.{Run, Recover, Replay}
 use Rattle.program_words.proofs.Four.{five, four, mapped_of}
 use Rattle.program_words.proofs.GivenValues.{flag_found, number_found, shards_found}
 use Rattle.program_words.proofs.LeafOptions.{Fits, given_shown, nothing_given, options_pass, rows_given}
@@ -28,9 +28,9 @@ record TakesOptions (s : Shape) (known : List Known) : Type 0 where
   defaults : Each DefaultPasses s.rules
   checks : (rows : List Row) → check_fault s rows false ≡ []
 
-options_ask : (name word : Text) (s : Shape) (known : List Known) → IsCommand word s → TakesOptions s known → (words : List Text) (given : Given) (asked : Asked)
-    → options_of known words ≡ Some given → (Each (Fits known) given → asked_by word (fold with_default (rows_given given) s.rules) ≡ Some asked)
-    → asked_in (name ∷ word ∷ words) ≡ Some asked
+options_ask : (name word : Text) (s : Shape) (known : List Known) → IsCommand word s → TakesOptions s known → (words : List Text) (given : Given) (asked : Invocation)
+    → options_of known words ≡ Some given → (Each (Fits known) given → invocation_by word (fold with_default (rows_given given) s.rules) ≡ Some asked)
+    → invocation_in (name ∷ word ∷ words) ≡ Some asked
 options_ask name word s known is takes words given asked e says =
     let ends = options_pass s known takes.options words [] given e [] None (nothing_given s known) in
     let end = between ends.last_rows ends.last_pending in
@@ -39,8 +39,8 @@ options_ask name word s known is takes words given asked e says =
     ap (walk_fault s [] (walk_from nothing_held)) (sym (append-nil words)) ∙ ends.passes [] ∙ no_words_fail s end in
     command_asks name word s is words asked
     (level_passes s words end takes.once takes.defaults walks passes ends.stands.settles (takes.checks (finished s.rules end.held)))
-    (ap (λ (w : Walk). asked_by word (finished s.rules w.held)) walks
-    ∙ ap (λ (rows : List Row). asked_by word (fold with_default rows s.rules)) ends.stands.rows_are
+    (ap (λ (w : Walk). invocation_by word (finished s.rules w.held)) walks
+    ∙ ap (λ (rows : List Row). invocation_by word (fold with_default rows s.rules)) ends.stands.rows_are
     ∙ says ends.stands.fits)
 
 -- ---- `run`
@@ -62,7 +62,7 @@ run_says given fits =
     (number_found run_options c (codes "batch-bytes") 12 16777216 16777216 (codes "16777216") refl refl refl given fits rows (given_shown (codes "batch-bytes") given))
     (number_found run_options c (codes "last") 0 72057594037927935 0 (codes "0") refl refl refl given fits rows (given_shown (codes "last") given))
 
-run_asks : (name : Text) (words : List Text) (given : Given) → options_of run_options words ≡ Some given → asked_in (name ∷ codes "run" ∷ words) ≡ Some (run_with given)
+run_asks : (name : Text) (words : List Text) (given : Given) → options_of run_options words ≡ Some given → invocation_in (name ∷ codes "run" ∷ words) ≡ Some (run_with given)
 run_asks name words given e = options_ask name (codes "run") (leaf run.top) run_options is_run run_takes words given (run_with given) e (run_says given)
 
 -- ---- `recover`
@@ -70,7 +70,7 @@ run_asks name words given e = options_ask name (codes "run") (leaf run.top) run_
 recover_takes : TakesOptions (leaf recover.top) recover_options
 recover_takes = record { options = tt; once = refl; defaults = tt; checks = λ rows. refl }
 
-recover_asks : (name : Text) (words : List Text) (given : Given) → options_of recover_options words ≡ Some given → asked_in (name ∷ codes "recover" ∷ words) ≡ Some Recover
+recover_asks : (name : Text) (words : List Text) (given : Given) → options_of recover_options words ≡ Some given → invocation_in (name ∷ codes "recover" ∷ words) ≡ Some Recover
 recover_asks name words given e = options_ask name (codes "recover") (leaf recover.top) recover_options is_recover recover_takes words given Recover e (λ fits. refl)
 
 -- ---- `replay`
@@ -91,33 +91,33 @@ replay_says given fits =
     (number_found replay_options c (codes "batch-bytes") 12 16777216 16777216 (codes "16777216") refl refl refl given fits rows (given_shown (codes "batch-bytes") given))
     (number_found replay_options c (codes "last") 0 72057594037927935 0 (codes "0") refl refl refl given fits rows (given_shown (codes "last") given))
 
-replay_asks : (name : Text) (words : List Text) (given : Given) → options_of replay_options words ≡ Some given → asked_in (name ∷ codes "replay" ∷ words) ≡ Some (replay_with given)
+replay_asks : (name : Text) (words : List Text) (given : Given) → options_of replay_options words ≡ Some given → invocation_in (name ∷ codes "replay" ∷ words) ≡ Some (replay_with given)
 replay_asks name words given e = options_ask name (codes "replay") (leaf replay.top) replay_options is_replay replay_takes words given (replay_with given) e (replay_says given)
 
 -- ---- all lawful words
 
-command_lawful : (name word : Text) (words : List Text) (asked : Asked) → command_asked word words ≡ Some asked → asked_in (name ∷ word ∷ words) ≡ Some asked
+command_lawful : (name word : Text) (words : List Text) (asked : Invocation) → command_asked word words ≡ Some asked → invocation_in (name ∷ word ∷ words) ≡ Some asked
 command_lawful name word words asked e = go (bytes_eq word (codes "run")) refl (bytes_eq word (codes "recover")) refl (bytes_eq word (codes "replay")) refl (bytes_eq word (codes "gen")) refl e
   where
     go : (a : Bool) → bytes_eq word (codes "run") ≡ a → (b : Bool) → bytes_eq word (codes "recover") ≡ b → (d : Bool) → bytes_eq word (codes "replay") ≡ d
         → (f : Bool) → bytes_eq word (codes "gen") ≡ f
         → cond a (option_map run_with (options_of run_options words)) (cond b (option_map (λ _. Recover) (options_of recover_options words)) (cond d (option_map replay_with (options_of replay_options words)) (cond f (generate_asked words) None))) ≡ Some asked
-        → asked_in (name ∷ word ∷ words) ≡ Some asked
+        → invocation_in (name ∷ word ∷ words) ≡ Some asked
     go true a b eb d ed f ef is =
         let given = mapped_of run_with (options_of run_options words) asked is in
-        subst (λ (w : Text). asked_in (name ∷ w ∷ words) ≡ Some asked) (sym ((bytes_eq-Decides _ _).0 a)) (run_asks name words given.0 given.1 ∙ ap Some given.2)
+        subst (λ (w : Text). invocation_in (name ∷ w ∷ words) ≡ Some asked) (sym ((bytes_eq-Decides _ _).0 a)) (run_asks name words given.0 given.1 ∙ ap Some given.2)
     go false a true b d ed f ef is =
         let given = mapped_of (λ (x : Given). Recover) (options_of recover_options words) asked is in
-        subst (λ (w : Text). asked_in (name ∷ w ∷ words) ≡ Some asked) (sym ((bytes_eq-Decides _ _).0 b)) (recover_asks name words given.0 given.1 ∙ ap Some given.2)
+        subst (λ (w : Text). invocation_in (name ∷ w ∷ words) ≡ Some asked) (sym ((bytes_eq-Decides _ _).0 b)) (recover_asks name words given.0 given.1 ∙ ap Some given.2)
     go false a false b true d f ef is =
         let given = mapped_of replay_with (options_of replay_options words) asked is in
-        subst (λ (w : Text). asked_in (name ∷ w ∷ words) ≡ Some asked) (sym ((bytes_eq-Decides _ _).0 d)) (replay_asks name words given.0 given.1 ∙ ap Some given.2)
+        subst (λ (w : Text). invocation_in (name ∷ w ∷ words) ≡ Some asked) (sym ((bytes_eq-Decides _ _).0 d)) (replay_asks name words given.0 given.1 ∙ ap Some given.2)
     go false a false b false d true f is =
-        subst (λ (w : Text). asked_in (name ∷ w ∷ words) ≡ Some asked) (sym ((bytes_eq-Decides _ _).0 f)) (generate_asks name words asked is)
+        subst (λ (w : Text). invocation_in (name ∷ w ∷ words) ≡ Some asked) (sym ((bytes_eq-Decides _ _).0 f)) (generate_asks name words asked is)
     go false a false b false d false f is = cc
 
 -- lawful words ask for what they say
-pub lawful_asks : (words : List Text) (asked : Asked) → lawful_in words ≡ Some asked → asked_in words ≡ Some asked
+pub lawful_asks : (words : List Text) (asked : Invocation) → lawful_in words ≡ Some asked → invocation_in words ≡ Some asked
 lawful_asks [] asked e = cc
 lawful_asks (name ∷ []) asked e = cc
 lawful_asks (name ∷ word ∷ words) asked e = command_lawful name word words asked e

@@ -10,8 +10,8 @@ use Rattle.clap.specs.Walk.{Names, Walk, answers_to, finished, has_row, is_empty
 use Rattle.clap.proofs.FaultLemmas.{stopped_fault}
 use Rattle.clap.proofs.OnLiterals.{clap_on_literals}
 use Rattle.program_words.specs.Definition.{generate, recover, replay, run, writepath}
-use Rattle.program_words.specs.Meaning.{asked_by, asked_in, is_taken}
-use Rattle.program_words.specs.declared.asked.Asked.{Asked}
+use Rattle.program_words.specs.Meaning.{invocation_by, invocation_in, is_taken}
+use Rattle.program_words.specs.declared.invocation.Invocation.{Invocation}
 use Rattle.program_words.proofs.LeafWalks.{leaf}
 use Rattle.program_words.proofs.Lists.{Each}
 
@@ -101,13 +101,13 @@ command_found name word s is words =
     ∙ ap (λ (id : Text). Some (id, rows_after s.rules [] words)) is.named
 
 -- what a command asks for by its own level
-pub command_asks : (name word : Text) (s : Shape) → IsCommand word s → (words : List Text) (asked : Asked)
-    → level_fault s [] nothing_held words false [] ≡ [] → asked_by word (rows_after s.rules [] words) ≡ Some asked
-    → asked_in (name ∷ word ∷ words) ≡ Some asked
-unfolding asked_in
+pub command_asks : (name word : Text) (s : Shape) → IsCommand word s → (words : List Text) (asked : Invocation)
+    → level_fault s [] nothing_held words false [] ≡ [] → invocation_by word (rows_after s.rules [] words) ≡ Some asked
+    → invocation_in (name ∷ word ∷ words) ≡ Some asked
+unfolding invocation_in
 command_asks name word s is words asked taken asks =
-    ap (λ (kinds : Kinds). cond (is_taken kinds) (option_and_then (λ p. asked_by p.0 p.1) (subcommand_of writepath (name ∷ word ∷ words))) None) (command_fault name word s is words ∙ taken)
-    ∙ ap (option_and_then (λ (p : Text × List Row). asked_by p.0 p.1)) (command_found name word s is words)
+    ap (λ (kinds : Kinds). cond (is_taken kinds) (option_and_then (λ p. invocation_by p.0 p.1) (subcommand_of writepath (name ∷ word ∷ words))) None) (command_fault name word s is words ∙ taken)
+    ∙ ap (option_and_then (λ (p : Text × List Row). invocation_by p.0 p.1)) (command_found name word s is words)
     ∙ asks
 
 -- ---- the level of a command

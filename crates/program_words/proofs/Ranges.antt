@@ -20,9 +20,9 @@ use Rattle.clap.proofs.OnLiterals.{clap_on_literals}
 use Rattle.clap.proofs.WalkLemmas.{both}
 use Rattle.program_words.specs.Definition.{batch_bytes, batches, clients, generate, group_bytes, last, recover, replay, run, seed, shards, writepath}
 use Rattle.program_words.specs.Limits.{KeepsLimits, KeepsShards}
-use Rattle.program_words.specs.Meaning.{asked_by, asked_in, flag_in, is_taken, number_in, shards_in, shards_of, whole_number}
-use Rattle.program_words.specs.declared.asked.Asked.{Asked}
-use Rattle.program_words.specs.declared.asked.Asked.TheVariants.{Run, Recover, Replay, Generate}
+use Rattle.program_words.specs.Meaning.{invocation_by, invocation_in, flag_in, is_taken, number_in, shards_in, shards_of, whole_number}
+use Rattle.program_words.specs.declared.invocation.Invocation.{Invocation}
+use Rattle.program_words.specs.declared.invocation.Invocation.TheVariants.{Run, Recover, Replay, Generate}
 use Rattle.program_words.proofs.Four.{five_of, four_of, some_of}
 use Rattle.program_words.proofs.LeafWalks.{leaf}
 use Rattle.program_words.proofs.Lists.{Each, find_holds}
@@ -166,7 +166,7 @@ shards_in_range c takes rows pass n is =
 
 -- what the command asks for, by words that its level takes, keeps the limits
 abbrev LevelKeeps : Shape → Type 0
-LevelKeeps s = (words : List Text) (asked : Asked) → level_fault s [] nothing_held words false [] ≡ [] → asked_by s.name (rows_after s.rules [] words) ≡ Some asked → KeepsLimits asked
+LevelKeeps s = (words : List Text) (asked : Invocation) → level_fault s [] nothing_held words false [] ≡ [] → invocation_by s.name (rows_after s.rules [] words) ≡ Some asked → KeepsLimits asked
 
 run_keeps : LevelKeeps (leaf run.top)
 run_keeps words asked none is =
@@ -227,22 +227,22 @@ taken_told : {X : Type 0} (kinds : Kinds) (o : Option X) (x : X) → cond (is_ta
 taken_told [] o x e = (refl, e)
 taken_told (k ∷ kinds) o x e = cc
 
-entered_keeps : (stop : Option (Text × List Text)) (asked : Asked) → entered_fault (built writepath) stop ≡ []
-    → option_and_then (λ (p : Text × List Row). asked_by p.0 p.1) (entered (built writepath) stop) ≡ Some asked → KeepsLimits asked
+entered_keeps : (stop : Option (Text × List Text)) (asked : Invocation) → entered_fault (built writepath) stop ≡ []
+    → option_and_then (λ (p : Text × List Row). invocation_by p.0 p.1) (entered (built writepath) stop) ≡ Some asked → KeepsLimits asked
 entered_keeps None asked none is = cc
 entered_keeps (Some q) asked none is = go (find (λ x. answers_to q.0 (label_of x)) (built writepath).subs) refl none is
   where
     go : (found : Option Shape) → find (λ x. answers_to q.0 (label_of x)) (built writepath).subs ≡ found
         → option_map_or (λ (s : Shape). level_fault s [] nothing_held q.1 false []) found [] ≡ []
-        → option_and_then (λ (p : Text × List Row). asked_by p.0 p.1) (option_map (λ (s : Shape). rows_at s q.1) found) ≡ Some asked → KeepsLimits asked
+        → option_and_then (λ (p : Text × List Row). invocation_by p.0 p.1) (option_map (λ (s : Shape). rows_at s q.1) found) ≡ Some asked → KeepsLimits asked
     go None e nothing says = cc
     go (Some s) e nothing says = find_holds LevelKeeps (λ x. answers_to q.0 (label_of x)) (built writepath).subs commands_keep s e q.1 asked nothing says
 
 -- what words ask for keeps the limits
-pub asked_keeps : (words : List Text) (asked : Asked) → asked_in words ≡ Some asked → KeepsLimits asked
-unfolding asked_in
+pub asked_keeps : (words : List Text) (asked : Invocation) → invocation_in words ≡ Some asked → KeepsLimits asked
+unfolding invocation_in
 asked_keeps words asked is =
-    let told = taken_told (fault_of writepath words) (option_and_then (λ (p : Text × List Row). asked_by p.0 p.1) (subcommand_of writepath words)) asked is in
+    let told = taken_told (fault_of writepath words) (option_and_then (λ (p : Text × List Row). invocation_by p.0 p.1) (subcommand_of writepath words)) asked is in
     let top = (built writepath).top in
     let names = names_of (built writepath) in
     let rest = argument_words writepath words in

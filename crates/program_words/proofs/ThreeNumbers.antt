@@ -15,9 +15,9 @@ use Rattle.clap.specs.declared.parser.matches.ValueSource.TheVariants.{CommandLi
 use Rattle.clap.proofs.OnLiterals.{clap_on_literals}
 use Rattle.program_words.specs.Definition.{batches, clients, generate, seed}
 use Rattle.program_words.specs.Lawful.{Given, Known, generate_asked, generate_options, generate_with, options_of, shards_given, value_of, within, word_of}
-use Rattle.program_words.specs.Meaning.{asked_in, flag_in, generate_by, number_in, shards_in, whole_number}
-use Rattle.program_words.specs.declared.asked.Asked.{Asked}
-use Rattle.program_words.specs.declared.asked.Asked.TheVariants.{Generate}
+use Rattle.program_words.specs.Meaning.{invocation_in, flag_in, generate_by, number_in, shards_in, whole_number}
+use Rattle.program_words.specs.declared.invocation.Invocation.{Invocation}
+use Rattle.program_words.specs.declared.invocation.Invocation.TheVariants.{Generate}
 use Rattle.program_words.proofs.Defaults.{stays}
 use Rattle.program_words.proofs.Four.{five, mapped_of, some_of}
 use Rattle.program_words.proofs.GivenValues.{flag_found, shards_found, unknown_is_none}
@@ -201,7 +201,7 @@ module _ (given : Given) (fits : Each (Fits generate_options) given) (s c b : Te
 -- ---- the command
 
 numbers_ask : (name : Text) (options : List Text) (given : Given) → options_of generate_options options ≡ Some given
-    → (s c b : Text) (i j k : ℕ) → AreNumbers s c b i j k → asked_in (name ∷ codes "gen" ∷ (options ++ s ∷ c ∷ b ∷ [])) ≡ Some (Generate (in_stages given) (shards_given given) i j k)
+    → (s c b : Text) (i j k : ℕ) → AreNumbers s c b i j k → invocation_in (name ∷ codes "gen" ∷ (options ++ s ∷ c ∷ b ∷ [])) ≡ Some (Generate (in_stages given) (shards_given given) i j k)
 unfolding walk_fault
 numbers_ask name options given e s c b i j k are =
     let ends = options_pass shape generate_options generate_has options [] given e [] None (nothing_given shape generate_options) in
@@ -241,7 +241,7 @@ numbers_ask name options given e s c b i j k are =
     (ap (λ (w : Walk). generate_by (finished shape.rules w.held)) walks ∙ ap generate_by rows_are ∙ rows_ask given fits s c b i j k are)
 
 numbers_then : (name : Text) (options : List Text) (given : Given) → options_of generate_options options ≡ Some given
-    → (numbers : List Text) (asked : Asked) → generate_with (in_stages given) (shards_given given) numbers ≡ Some asked → asked_in (name ∷ codes "gen" ∷ (options ++ numbers)) ≡ Some asked
+    → (numbers : List Text) (asked : Invocation) → generate_with (in_stages given) (shards_given given) numbers ≡ Some asked → invocation_in (name ∷ codes "gen" ∷ (options ++ numbers)) ≡ Some asked
 numbers_then name options given e [] asked is = cc
 numbers_then name options given e (s ∷ []) asked is = cc
 numbers_then name options given e (s ∷ c ∷ []) asked is = cc
@@ -258,9 +258,9 @@ numbers_then name options given e (s ∷ c ∷ b ∷ []) asked is =
     numbers_ask name options given e s c b of_seed.0 of_clients.0 of_batches.0 are ∙ ap Some of_batches.2
 numbers_then name options given e (s ∷ c ∷ b ∷ d ∷ words) asked is = cc
 
-pub generate_asks : (name : Text) (words : List Text) (asked : Asked) → generate_asked words ≡ Some asked → asked_in (name ∷ codes "gen" ∷ words) ≡ Some asked
+pub generate_asks : (name : Text) (words : List Text) (asked : Invocation) → generate_asked words ≡ Some asked → invocation_in (name ∷ codes "gen" ∷ words) ≡ Some asked
 generate_asks name words asked e =
     let place = length words - 3 in
     let given = some_of (λ (g : Given). generate_with (in_stages g) (shards_given g) (drop place words)) (options_of generate_options (take place words)) asked e in
-    subst (λ (ws : List Text). asked_in (name ∷ codes "gen" ∷ ws) ≡ Some asked) (take-append-drop place words)
+    subst (λ (ws : List Text). invocation_in (name ∷ codes "gen" ∷ ws) ≡ Some asked) (take-append-drop place words)
     (numbers_then name (take place words) given.0 given.1 (drop place words) asked given.2)

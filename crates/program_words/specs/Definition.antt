@@ -1,5 +1,6 @@
 -- The command of `clap` that reads the words of a call, as what clap's parse reads of a command.
 use Rattle.std.specs.Prelude.{ℕ, [], ◌∷◌, Some, true, codes}
+use Rattle.model_base.specs.declared.limits.TheConstants.{MAX_CLIENTS, MAX_SIZE}
 use Rattle.clap.specs.declared.builder.action.ArgAction.TheVariants.{SetTrue}
 use Rattle.clap.specs.Words.{App, Rule, Text, new_app, new_rule, with_rule, with_subcommand}
 use Rattle.clap.specs.declared.builder.value_parser.ValueParser.TheVariants.{Unsigned}
@@ -31,7 +32,7 @@ pipelined = flag (codes "pipelined")
 
 -- the most bytes of a batch
 abbrev pub batch_bytes : Rule
-batch_bytes = number_option (codes "batch-bytes") 12 16777216 (codes "16777216")
+batch_bytes = number_option (codes "batch-bytes") 12 MAX_SIZE (codes "16777216")
 
 -- the most bytes of a write group
 abbrev pub group_bytes : Rule
@@ -46,7 +47,7 @@ abbrev pub seed : Rule
 seed = number_word (codes "SEED") 0 2147483647
 
 abbrev pub clients : Rule
-clients = number_word (codes "CLIENTS") 1 16
+clients = number_word (codes "CLIENTS") 1 MAX_CLIENTS
 
 abbrev pub batches : Rule
 batches = number_word (codes "BATCHES") 1 100000

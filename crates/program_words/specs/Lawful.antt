@@ -2,9 +2,10 @@
 -- once, and with its value in a word of its own where it has one. Behind the options of `gen` stand its three numbers.
 use Rattle.std.specs.Prelude.{ℕ, ◌-◌, ◌^◌, ◌++◌, ◌&&◌, ◌||◌, Bool, true, false, List, [], ◌∷◌, Option, Some, None, String, string_bytes, map, find, length, take, drop, codes, bytes_eq, nat_le, if◌then◌else◌, unwrap_or, is_some, option_and_then, option_map}
 use Rattle.std.specs.declared.alloc.Global.{Global}
+use Rattle.model_base.specs.declared.limits.TheConstants.{MAX_CLIENTS, MAX_SIZE}
 use Rattle.model_base.specs.Script.{number_of}
-use Rattle.program_words.specs.declared.asked.Asked.{Asked}
-use Rattle.program_words.specs.declared.asked.Asked.TheVariants.{Run, Recover, Replay, Generate}
+use Rattle.program_words.specs.declared.invocation.Invocation.{Invocation}
+use Rattle.program_words.specs.declared.invocation.Invocation.TheVariants.{Run, Recover, Replay, Generate}
 
 -- the bytes of a word
 abbrev pub Word : Type 0
@@ -48,7 +49,7 @@ abbrev pub group_bytes : Known
 group_bytes = number (codes "group-bytes") 1 16777216
 
 abbrev pub batch_bytes : Known
-batch_bytes = number (codes "batch-bytes") 12 16777216
+batch_bytes = number (codes "batch-bytes") 12 MAX_SIZE
 
 abbrev pub last : Known
 last = number (codes "last") 0 (2 ^ 56 - 1)
@@ -114,23 +115,23 @@ shards_given given =
     if bytes_eq (unwrap_or (value_of table.name given) (codes "one")) (codes "shards")
     then Some (number_or 16 shards given) else None
 
-abbrev pub run_with : Given → Asked
+abbrev pub run_with : Given → Invocation
 run_with given = Run (is_some (value_of pipelined.name given)) (shards_given given)
-    (number_or 1048576 group_bytes given) (number_or 16777216 batch_bytes given) (number_or 0 last given)
+    (number_or 1048576 group_bytes given) (number_or MAX_SIZE batch_bytes given) (number_or 0 last given)
 
-abbrev pub replay_with : Given → Asked
+abbrev pub replay_with : Given → Invocation
 replay_with given = Replay (is_some (value_of pipelined.name given)) (number_or 1048576 group_bytes given)
-    (number_or 16777216 batch_bytes given) (number_or 0 last given)
+    (number_or MAX_SIZE batch_bytes given) (number_or 0 last given)
 
 -- `gen` wants a seed below 2^31, up to 16 clients, and up to 100000 batches of each
-abbrev pub generate_with : Bool → Option ℕ → List Word → Option Asked
+abbrev pub generate_with : Bool → Option ℕ → List Word → Option Invocation
 generate_with in_stages in_shards (seed ∷ clients ∷ batches ∷ []) =
     option_and_then (λ s. option_and_then (λ c. option_map (λ b. Generate in_stages in_shards s c b)
-    (within 1 100000 batches)) (within 1 16 clients)) (within 0 (2 ^ 31 - 1) seed)
+    (within 1 100000 batches)) (within 1 MAX_CLIENTS clients)) (within 0 (2 ^ 31 - 1) seed)
 generate_with in_stages in_shards _ = None
 
 -- its last three words are these numbers
-abbrev pub generate_asked : List Word → Option Asked
+abbrev pub generate_asked : List Word → Option Invocation
 generate_asked words =
     let before = length words - 3 in
     option_and_then (λ given. generate_with (is_some (value_of pipelined.name given)) (shards_given given)
@@ -138,7 +139,7 @@ generate_asked words =
     (options_of generate_options (take before words))
 
 -- what a command asks for with the words behind it
-abbrev pub command_asked : Word → List Word → Option Asked
+abbrev pub command_asked : Word → List Word → Option Invocation
 command_asked command words =
     if bytes_eq command (codes "run") then option_map run_with (options_of run_options words)
     else if bytes_eq command (codes "recover") then option_map (λ _. Recover) (options_of recover_options words)
@@ -147,11 +148,11 @@ command_asked command words =
     else None
 
 -- the program's name comes first, whatever it is
-abbrev pub lawful_in : List Word → Option Asked
+abbrev pub lawful_in : List Word → Option Invocation
 lawful_in [] = None
 lawful_in (name ∷ []) = None
 lawful_in (name ∷ command ∷ words) = command_asked command words
 
 -- what lawful words ask for
-abbrev pub lawful_of : List (String Global) → Option Asked
+abbrev pub lawful_of : List (String Global) → Option Invocation
 lawful_of words = lawful_in (map (λ w. string_bytes w) words)

@@ -1,7 +1,8 @@
 -- The limits of what words ask for.
 use Rattle.std.specs.Prelude.{ℕ, ◌^◌, ◌<◌, ◌≤◌, ⊤, Option, IfSome}
-use Rattle.program_words.specs.declared.asked.Asked.{Asked}
-use Rattle.program_words.specs.declared.asked.Asked.TheVariants.{Run, Recover, Replay, Generate}
+use Rattle.model_base.specs.declared.limits.TheConstants.{MAX_CLIENTS, MAX_SIZE}
+use Rattle.program_words.specs.declared.invocation.Invocation.{Invocation}
+use Rattle.program_words.specs.declared.invocation.Invocation.TheVariants.{Run, Recover, Replay, Generate}
 
 -- a table in shards has from one to 64
 abbrev pub KeepsShards : Option ℕ → Type 0
@@ -9,11 +10,11 @@ KeepsShards shards = IfSome shards (λ n. (1 ≤ n) × (n ≤ 64))
 
 -- a batch may have its head at least, a write group a byte, and the sequence number is below 2^56; a script that is
 -- made has from one client to 16, each with from one batch to 100000
-abbrev pub KeepsLimits : Asked → Type 0
+abbrev pub KeepsLimits : Invocation → Type 0
 KeepsLimits (Run pipelined shards group_bytes batch_bytes last) = KeepsShards shards × (1 ≤ group_bytes)
-    × (group_bytes ≤ 16777216) × (12 ≤ batch_bytes) × (batch_bytes ≤ 16777216) × (last < 2 ^ 56)
+    × (group_bytes ≤ 16777216) × (12 ≤ batch_bytes) × (batch_bytes ≤ MAX_SIZE) × (last < 2 ^ 56)
 KeepsLimits Recover = ⊤
 KeepsLimits (Replay pipelined group_bytes batch_bytes last) = (1 ≤ group_bytes) × (group_bytes ≤ 16777216)
-    × (12 ≤ batch_bytes) × (batch_bytes ≤ 16777216) × (last < 2 ^ 56)
+    × (12 ≤ batch_bytes) × (batch_bytes ≤ MAX_SIZE) × (last < 2 ^ 56)
 KeepsLimits (Generate pipelined shards seed clients batches) = KeepsShards shards × (seed < 2 ^ 31) × (1 ≤ clients)
-    × (clients ≤ 16) × (1 ≤ batches) × (batches ≤ 100000)
+    × (clients ≤ MAX_CLIENTS) × (1 ≤ batches) × (batches ≤ 100000)

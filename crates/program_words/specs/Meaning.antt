@@ -7,10 +7,10 @@ use Rattle.clap.specs.ValueTests.{is_numeral}
 use Rattle.clap.specs.declared.error.kind.ErrorKind.{ErrorKind}
 use Rattle.clap.specs.declared.error.kind.ErrorKind.TheVariants.{OutOfMemory}
 use Rattle.program_words.specs.Definition.{writepath}
-use Rattle.program_words.specs.declared.asked.Asked.{Asked}
-use Rattle.program_words.specs.declared.asked.Asked.TheVariants.{Run, Recover, Replay, Generate}
-use Rattle.program_words.specs.declared.asked.WordsError.{WordsError}
-use Rattle.program_words.specs.declared.asked.WordsError.TheVariants.{Usage, NoMemory}
+use Rattle.program_words.specs.declared.invocation.Invocation.{Invocation}
+use Rattle.program_words.specs.declared.invocation.Invocation.TheVariants.{Run, Recover, Replay, Generate}
+use Rattle.program_words.specs.declared.invocation.WordsError.{WordsError}
+use Rattle.program_words.specs.declared.invocation.WordsError.TheVariants.{Usage, NoMemory}
 
 -- every refusal by clap is one of the words, but for want of memory
 abbrev pub refusal_of : ErrorKind → WordsError
@@ -46,7 +46,7 @@ shards_in rows =
     option_and_then (λ kind. shards_of kind (number_in (codes "shards") rows)) (first_of (codes "table") rows)
 
 -- what `run` asks for, by its matches
-abbrev pub run_by : List Row → Option Asked
+abbrev pub run_by : List Row → Option Invocation
 run_by rows =
     option_and_then (λ pipelined. option_and_then (λ shards. option_and_then (λ group_bytes. option_and_then
     (λ batch_bytes. option_map (λ last. Run pipelined shards group_bytes batch_bytes last)
@@ -54,7 +54,7 @@ run_by rows =
     (shards_in rows)) (flag_in (codes "pipelined") rows)
 
 -- and `replay`
-abbrev pub replay_by : List Row → Option Asked
+abbrev pub replay_by : List Row → Option Invocation
 replay_by rows =
     option_and_then (λ pipelined. option_and_then (λ group_bytes. option_and_then
     (λ batch_bytes. option_map (λ last. Replay pipelined group_bytes batch_bytes last)
@@ -62,7 +62,7 @@ replay_by rows =
     (flag_in (codes "pipelined") rows)
 
 -- and `gen`
-abbrev pub generate_by : List Row → Option Asked
+abbrev pub generate_by : List Row → Option Invocation
 generate_by rows =
     option_and_then (λ pipelined. option_and_then (λ shards. option_and_then (λ seed. option_and_then
     (λ clients. option_map (λ batches. Generate pipelined shards seed clients batches)
@@ -70,8 +70,8 @@ generate_by rows =
     (shards_in rows)) (flag_in (codes "pipelined") rows)
 
 -- what a command and its matches ask for
-abbrev pub asked_by : Text → List Row → Option Asked
-asked_by name rows =
+abbrev pub invocation_by : Text → List Row → Option Invocation
+invocation_by name rows =
     if bytes_eq name (codes "run") then run_by rows
     else if bytes_eq name (codes "recover") then Some Recover
     else if bytes_eq name (codes "replay") then replay_by rows
@@ -84,11 +84,11 @@ is_taken [] = true
 is_taken (kind ∷ kinds) = false
 
 -- what the matches ask for, where clap takes the words
-unfoldable pub asked_in : List Text → Option Asked
-asked_in words =
+unfoldable pub invocation_in : List Text → Option Invocation
+invocation_in words =
     if is_taken (fault_of writepath words)
-    then option_and_then (λ p. asked_by p.0 p.1) (subcommand_of writepath words) else None
+    then option_and_then (λ p. invocation_by p.0 p.1) (subcommand_of writepath words) else None
 
 -- what the words ask for: the program's name, and the command with its options
-abbrev pub asked_of : List (String Global) → Option Asked
-asked_of words = asked_in (map (λ w. string_bytes w) words)
+abbrev pub invocation_of : List (String Global) → Option Invocation
+invocation_of words = invocation_in (map (λ w. string_bytes w) words)

@@ -7,6 +7,7 @@ ghost use Rattle.program_words.specs.Definition as clap_words;
 
 use clap::builder::ValueParser;
 use clap::{Arg, ArgAction, Command};
+use model_base::{MAX_CLIENTS, MAX_SIZE};
 use std::alloc::{AllocError, Global};
 
 /// The whole command.
@@ -68,7 +69,7 @@ fn generate<'a>(alloc: Global) -> Result<Command<'a>, AllocError>
     let staged = Command::new(alloc, "gen").arg(pipelined(alloc))?;
     with_table(staged, alloc)?
         .arg(number_word(alloc, "SEED", 0, 2147483647))?
-        .arg(number_word(alloc, "CLIENTS", 1, 16))?
+        .arg(number_word(alloc, "CLIENTS", 1, u64::from(MAX_CLIENTS)))?
         .arg(number_word(alloc, "BATCHES", 1, 100000))
 }
 
@@ -126,7 +127,7 @@ fn batch_bytes<'a>(alloc: Global) -> Arg<'a>
     ensures rule { rule_of result ≡ clap_words.batch_bytes }
     ensures local { result.global ≡ false }
 {
-    number_option(alloc, "batch-bytes", 12, 16777216, "16777216")
+    number_option(alloc, "batch-bytes", 12, MAX_SIZE, "16777216")
 }
 
 /// The most bytes of a write group.

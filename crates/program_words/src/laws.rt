@@ -2,15 +2,15 @@
 
 ghost use Rattle.std.specs.Prelude.{◌≡◌, List, [], ◌∷◌, Some, None, true, false, String, codes};
 ghost use Rattle.std.specs.declared.alloc.Global.{Global};
-ghost use Rattle.program_words.specs.declared.asked.Asked.{Asked};
-ghost use Rattle.program_words.specs.declared.asked.Asked.TheVariants.{Run, Recover, Replay, Generate};
+ghost use Rattle.program_words.specs.declared.invocation.Invocation.{Invocation};
+ghost use Rattle.program_words.specs.declared.invocation.Invocation.TheVariants.{Run, Recover, Replay, Generate};
 ghost use Rattle.program_words.specs.Lawful.{lawful_in, lawful_of};
-ghost use Rattle.program_words.specs.Meaning.{asked_in, asked_of};
+ghost use Rattle.program_words.specs.Meaning.{invocation_in, invocation_of};
 
 /// Lawful words ask for what they say.
 pub fn lawful_words()
-    ensures { (words : List (String Global)) (asked : Asked) → lawful_of words ≡ Some asked
-        → asked_of words ≡ Some asked }
+    ensures { (words : List (String Global)) (asked : Invocation) → lawful_of words ≡ Some asked
+        → invocation_of words ≡ Some asked }
 {}
 
 /// Lawful words, and what they say.
@@ -27,77 +27,77 @@ pub fn words_that_are_lawful()
 
 /// Words that ask for something, in lawful form and in another that is read too.
 pub fn words_that_ask()
-    ensures run { asked_in (codes "writepath" ∷ codes "run" ∷ []) ≡ Some (Run false None 1048576 16777216 0) }
-    ensures run_with_groups { asked_in (codes "writepath" ∷ codes "run" ∷ codes "--group-bytes" ∷ codes "1" ∷ [])
+    ensures run { invocation_in (codes "writepath" ∷ codes "run" ∷ []) ≡ Some (Run false None 1048576 16777216 0) }
+    ensures run_with_groups { invocation_in (codes "writepath" ∷ codes "run" ∷ codes "--group-bytes" ∷ codes "1" ∷ [])
         ≡ Some (Run false None 1 16777216 0) }
-    ensures run_in_shards { asked_in (codes "writepath" ∷ codes "run" ∷ codes "--table" ∷ codes "shards" ∷ [])
+    ensures run_in_shards { invocation_in (codes "writepath" ∷ codes "run" ∷ codes "--table" ∷ codes "shards" ∷ [])
         ≡ Some (Run false (Some 16) 1048576 16777216 0) }
-    ensures run_in_one { asked_in (codes "writepath" ∷ codes "run" ∷ codes "--shards" ∷ codes "7" ∷ [])
+    ensures run_in_one { invocation_in (codes "writepath" ∷ codes "run" ∷ codes "--shards" ∷ codes "7" ∷ [])
         ≡ Some (Run false None 1048576 16777216 0) }
-    ensures run_in_most_shards { asked_in (codes "writepath" ∷ codes "run" ∷ codes "--table" ∷ codes "shards"
+    ensures run_in_most_shards { invocation_in (codes "writepath" ∷ codes "run" ∷ codes "--table" ∷ codes "shards"
         ∷ codes "--shards" ∷ codes "64" ∷ codes "--last" ∷ codes "3" ∷ [])
         ≡ Some (Run false (Some 64) 1048576 16777216 3) }
-    ensures run_in_two_stages { asked_in (codes "writepath" ∷ codes "run" ∷ codes "--pipelined" ∷ [])
+    ensures run_in_two_stages { invocation_in (codes "writepath" ∷ codes "run" ∷ codes "--pipelined" ∷ [])
         ≡ Some (Run true None 1048576 16777216 0) }
-    ensures recover { asked_in (codes "writepath" ∷ codes "recover" ∷ []) ≡ Some Recover }
-    ensures replay { asked_in (codes "writepath" ∷ codes "replay" ∷ codes "--last" ∷ codes "7" ∷ codes "--group-bytes"
+    ensures recover { invocation_in (codes "writepath" ∷ codes "recover" ∷ []) ≡ Some Recover }
+    ensures replay { invocation_in (codes "writepath" ∷ codes "replay" ∷ codes "--last" ∷ codes "7" ∷ codes "--group-bytes"
         ∷ codes "1" ∷ []) ≡ Some (Replay false 1 16777216 7) }
-    ensures pipelined { asked_in (codes "writepath" ∷ codes "replay" ∷ codes "--last" ∷ codes "7" ∷ codes "--pipelined"
+    ensures pipelined { invocation_in (codes "writepath" ∷ codes "replay" ∷ codes "--last" ∷ codes "7" ∷ codes "--pipelined"
         ∷ []) ≡ Some (Replay true 1048576 16777216 7) }
-    ensures with_equals_sign { asked_in (codes "writepath" ∷ codes "run" ∷ codes "--last=4" ∷ [])
+    ensures with_equals_sign { invocation_in (codes "writepath" ∷ codes "run" ∷ codes "--last=4" ∷ [])
         ≡ Some (Run false None 1048576 16777216 4) }
-    ensures with_leading_zero { asked_in (codes "writepath" ∷ codes "run" ∷ codes "--last" ∷ codes "04" ∷ [])
+    ensures with_leading_zero { invocation_in (codes "writepath" ∷ codes "run" ∷ codes "--last" ∷ codes "04" ∷ [])
         ≡ Some (Run false None 1048576 16777216 4) }
-    ensures generate { asked_in (codes "writepath" ∷ codes "gen" ∷ codes "7" ∷ codes "16" ∷ codes "100000" ∷ [])
+    ensures generate { invocation_in (codes "writepath" ∷ codes "gen" ∷ codes "7" ∷ codes "16" ∷ codes "100000" ∷ [])
         ≡ Some (Generate false None 7 16 100000) }
-    ensures generate_in_shards { asked_in (codes "writepath" ∷ codes "gen" ∷ codes "--table" ∷ codes "shards"
+    ensures generate_in_shards { invocation_in (codes "writepath" ∷ codes "gen" ∷ codes "--table" ∷ codes "shards"
         ∷ codes "--shards" ∷ codes "2" ∷ codes "7" ∷ codes "2" ∷ codes "3" ∷ [])
         ≡ Some (Generate false (Some 2) 7 2 3) }
-    ensures generate_in_two_stages { asked_in (codes "writepath" ∷ codes "gen" ∷ codes "--pipelined" ∷ codes "7"
+    ensures generate_in_two_stages { invocation_in (codes "writepath" ∷ codes "gen" ∷ codes "--pipelined" ∷ codes "7"
         ∷ codes "2" ∷ codes "3" ∷ []) ≡ Some (Generate true None 7 2 3) }
 {}
 
 /// Words that ask for nothing.
 pub fn words_that_do_not_ask()
-    ensures no_command { asked_in (codes "writepath" ∷ []) ≡ None }
-    ensures unknown_command { asked_in (codes "writepath" ∷ codes "walk" ∷ []) ≡ None }
-    ensures unknown_word { asked_in (codes "writepath" ∷ codes "run" ∷ codes "x" ∷ []) ≡ None }
-    ensures option_of_another_command { asked_in (codes "writepath" ∷ codes "recover" ∷ codes "--last" ∷ codes "1" ∷ [])
+    ensures no_command { invocation_in (codes "writepath" ∷ []) ≡ None }
+    ensures unknown_command { invocation_in (codes "writepath" ∷ codes "walk" ∷ []) ≡ None }
+    ensures unknown_word { invocation_in (codes "writepath" ∷ codes "run" ∷ codes "x" ∷ []) ≡ None }
+    ensures option_of_another_command { invocation_in (codes "writepath" ∷ codes "recover" ∷ codes "--last" ∷ codes "1" ∷ [])
         ≡ None }
-    ensures option_without_value { asked_in (codes "writepath" ∷ codes "run" ∷ codes "--last" ∷ []) ≡ None }
-    ensures option_twice { asked_in (codes "writepath" ∷ codes "run" ∷ codes "--last" ∷ codes "1" ∷ codes "--last"
+    ensures option_without_value { invocation_in (codes "writepath" ∷ codes "run" ∷ codes "--last" ∷ []) ≡ None }
+    ensures option_twice { invocation_in (codes "writepath" ∷ codes "run" ∷ codes "--last" ∷ codes "1" ∷ codes "--last"
         ∷ codes "2" ∷ []) ≡ None }
-    ensures flag_twice { asked_in (codes "writepath" ∷ codes "replay" ∷ codes "--pipelined" ∷ codes "--pipelined" ∷ [])
+    ensures flag_twice { invocation_in (codes "writepath" ∷ codes "replay" ∷ codes "--pipelined" ∷ codes "--pipelined" ∷ [])
         ≡ None }
-    ensures flag_of_another_command { asked_in (codes "writepath" ∷ codes "recover" ∷ codes "--pipelined" ∷ [])
+    ensures flag_of_another_command { invocation_in (codes "writepath" ∷ codes "recover" ∷ codes "--pipelined" ∷ [])
         ≡ None }
-    ensures below_range { asked_in (codes "writepath" ∷ codes "run" ∷ codes "--batch-bytes" ∷ codes "11" ∷ []) ≡ None }
-    ensures above_range { asked_in (codes "writepath" ∷ codes "run" ∷ codes "--last" ∷ codes "72057594037927936" ∷ [])
+    ensures below_range { invocation_in (codes "writepath" ∷ codes "run" ∷ codes "--batch-bytes" ∷ codes "11" ∷ []) ≡ None }
+    ensures above_range { invocation_in (codes "writepath" ∷ codes "run" ∷ codes "--last" ∷ codes "72057594037927936" ∷ [])
         ≡ None }
-    ensures no_shards { asked_in (codes "writepath" ∷ codes "run" ∷ codes "--shards" ∷ codes "0" ∷ []) ≡ None }
-    ensures too_many_shards { asked_in (codes "writepath" ∷ codes "run" ∷ codes "--shards" ∷ codes "65" ∷ []) ≡ None }
-    ensures unknown_table { asked_in (codes "writepath" ∷ codes "run" ∷ codes "--table" ∷ codes "tree" ∷ []) ≡ None }
-    ensures table_twice { asked_in (codes "writepath" ∷ codes "run" ∷ codes "--table" ∷ codes "one" ∷ codes "--table"
+    ensures no_shards { invocation_in (codes "writepath" ∷ codes "run" ∷ codes "--shards" ∷ codes "0" ∷ []) ≡ None }
+    ensures too_many_shards { invocation_in (codes "writepath" ∷ codes "run" ∷ codes "--shards" ∷ codes "65" ∷ []) ≡ None }
+    ensures unknown_table { invocation_in (codes "writepath" ∷ codes "run" ∷ codes "--table" ∷ codes "tree" ∷ []) ≡ None }
+    ensures table_twice { invocation_in (codes "writepath" ∷ codes "run" ∷ codes "--table" ∷ codes "one" ∷ codes "--table"
         ∷ codes "one" ∷ []) ≡ None }
-    ensures table_of_recover { asked_in (codes "writepath" ∷ codes "recover" ∷ codes "--table" ∷ codes "one" ∷ [])
+    ensures table_of_recover { invocation_in (codes "writepath" ∷ codes "recover" ∷ codes "--table" ∷ codes "one" ∷ [])
         ≡ None }
-    ensures table_of_replay { asked_in (codes "writepath" ∷ codes "replay" ∷ codes "--table" ∷ codes "shards" ∷ [])
+    ensures table_of_replay { invocation_in (codes "writepath" ∷ codes "replay" ∷ codes "--table" ∷ codes "shards" ∷ [])
         ≡ None }
-    ensures seed_above_range { asked_in (codes "writepath" ∷ codes "gen" ∷ codes "2147483648" ∷ codes "1" ∷ codes "1"
+    ensures seed_above_range { invocation_in (codes "writepath" ∷ codes "gen" ∷ codes "2147483648" ∷ codes "1" ∷ codes "1"
         ∷ []) ≡ None }
-    ensures no_clients { asked_in (codes "writepath" ∷ codes "gen" ∷ codes "0" ∷ codes "0" ∷ codes "1" ∷ []) ≡ None }
-    ensures too_many_clients { asked_in (codes "writepath" ∷ codes "gen" ∷ codes "0" ∷ codes "17" ∷ codes "1" ∷ [])
+    ensures no_clients { invocation_in (codes "writepath" ∷ codes "gen" ∷ codes "0" ∷ codes "0" ∷ codes "1" ∷ []) ≡ None }
+    ensures too_many_clients { invocation_in (codes "writepath" ∷ codes "gen" ∷ codes "0" ∷ codes "17" ∷ codes "1" ∷ [])
         ≡ None }
-    ensures too_many_batches { asked_in (codes "writepath" ∷ codes "gen" ∷ codes "0" ∷ codes "1" ∷ codes "100001" ∷ [])
+    ensures too_many_batches { invocation_in (codes "writepath" ∷ codes "gen" ∷ codes "0" ∷ codes "1" ∷ codes "100001" ∷ [])
         ≡ None }
-    ensures too_few_numbers { asked_in (codes "writepath" ∷ codes "gen" ∷ codes "7" ∷ codes "2" ∷ []) ≡ None }
-    ensures too_many_numbers { asked_in (codes "writepath" ∷ codes "gen" ∷ codes "7" ∷ codes "2" ∷ codes "3"
+    ensures too_few_numbers { invocation_in (codes "writepath" ∷ codes "gen" ∷ codes "7" ∷ codes "2" ∷ []) ≡ None }
+    ensures too_many_numbers { invocation_in (codes "writepath" ∷ codes "gen" ∷ codes "7" ∷ codes "2" ∷ codes "3"
         ∷ codes "4" ∷ []) ≡ None }
-    ensures option_of_generate { asked_in (codes "writepath" ∷ codes "gen" ∷ codes "7" ∷ codes "2" ∷ codes "3"
+    ensures option_of_generate { invocation_in (codes "writepath" ∷ codes "gen" ∷ codes "7" ∷ codes "2" ∷ codes "3"
         ∷ codes "--last" ∷ codes "1" ∷ []) ≡ None }
-    ensures last_of_generate { asked_in (codes "writepath" ∷ codes "gen" ∷ codes "--last" ∷ codes "1" ∷ codes "7"
+    ensures last_of_generate { invocation_in (codes "writepath" ∷ codes "gen" ∷ codes "--last" ∷ codes "1" ∷ codes "7"
         ∷ codes "2" ∷ codes "3" ∷ []) ≡ None }
-    ensures help_of_command { asked_in (codes "writepath" ∷ codes "run" ∷ codes "--help" ∷ []) ≡ None }
-    ensures help { asked_in (codes "writepath" ∷ codes "help" ∷ codes "run" ∷ []) ≡ None }
-    ensures version { asked_in (codes "writepath" ∷ codes "--version" ∷ []) ≡ None }
+    ensures help_of_command { invocation_in (codes "writepath" ∷ codes "run" ∷ codes "--help" ∷ []) ≡ None }
+    ensures help { invocation_in (codes "writepath" ∷ codes "help" ∷ codes "run" ∷ []) ≡ None }
+    ensures version { invocation_in (codes "writepath" ∷ codes "--version" ∷ []) ≡ None }
 {}

@@ -7,7 +7,7 @@ use Rattle.std.proofs.lemmas.Option.{get_or_from_slice_get, slice_get_past}
 use Rattle.std.proofs.lemmas.List.Sums.{sum_by-cons, sum_by-append, sum_by-set}
 use Rattle.model_base.specs.Calls.{Command, Reply, Call}
 use Rattle.model_core.specs.Core as core
-use Rattle.model_core.specs.CoreLaw.{IsCore, in_order, waiting}
+use Rattle.model_core.specs.CoreLaw.{IsCore, in_order, waiting_clients}
 use Rattle.replay_plans.specs.declared.plan.ClientPlan.{ClientPlan}
 use Rattle.replay_core.specs.declared.writer.CoreReply.{CoreReply}
 use Rattle.replay_core.specs.declared.state.Seat.{Seat}
@@ -108,10 +108,10 @@ found_counts c (v ∷ leaving) w e = by_first (found_counts c leaving w) (v.clie
 pub leaving_is_busy : (o : core.Options) (s : core.State) (c : ℕ) (client : core.Client) (w : core.Writer) → IsCore o s → core.client_at s c ≡ Some client → find (λ (v : core.Writer). v.client == c) s.leaving ≡ Some w → client.idle ≡ false
 leaving_is_busy o s c client w is there found = by_idle client.idle (is.once c client there)
   where
-    there_are : 1 ≤ count_by (λ n. n == c) (waiting s)
+    there_are : 1 ≤ count_by (λ n. n == c) (waiting_clients s)
     there_are = omega (arith, sum_by-append (λ n. if n == c then 1 else 0) (in_order s) (map (λ (v : core.Writer). v.client) s.leaving), found_counts c s.leaving w found)
 
-    by_idle : (b : Bool) → count_by (λ n. n == c) (waiting s) ≡ (if b then 0 else 1) → b ≡ false
+    by_idle : (b : Bool) → count_by (λ n. n == c) (waiting_clients s) ≡ (if b then 0 else 1) → b ≡ false
     by_idle true e = absurd (omega (arith, there_are))
     by_idle false e = refl
 

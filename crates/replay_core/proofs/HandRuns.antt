@@ -14,12 +14,12 @@ use Rattle.replay_core.specs.declared.phases.LogPhase.TheVariants.{Free, Led, Bu
 use Rattle.replay_plans.specs.declared.plan.ClientPlan.{ClientPlan}
 use Rattle.replay_core.specs.declared.writer.Writer.{Writer}
 use Rattle.replay_plans.specs.Plans.{records_of}
-use Rattle.replay_core.specs.Shown.{CoreEntry, shown_writer, shown_entry, shown_log, cut, total}
+use Rattle.replay_core.specs.Shown.{CoreEntry, shown_writer, shown_entry, shown_log, groups_of_lengths, total}
 use Rattle.replay_core.specs.declared.state.State.{State}
 use Rattle.replay_core.specs.Leads.{leads_front}
 use Rattle.replay_core.specs.Phases.{has_group, is_built}
-use Rattle.replay_core.specs.Mirrors.{Mirrors, IsLine, AreWriters, IsClientOf, answered}
-use Rattle.replay_core.specs.Runs.{GotRuns, IsCounted, unanswered}
+use Rattle.replay_core.specs.Mirrors.{Mirrors, IsLine, AreWriters, IsClientOf, answers_in_hand}
+use Rattle.replay_core.specs.Runs.{GotRuns, IsCounted, without_answer}
 use Rattle.replay_core.proofs.LogEvents.{hand_of, leads_line, no_writer}
 use Rattle.replay_core.proofs.Removing.{cut_front}
 use Rattle.replay_core.proofs.TableEvents.{known_take, known_drop}
@@ -132,7 +132,7 @@ line_at plans s t second start len log log2 xs group line within size seconds qu
     let few : total second ≤ start = omega (arith, line.second_sum) in
     record {
       second_sum = line.second_sum;
-      second_groups = seconds ∙ line.second_groups ∙ sym (cut_front second start ws (gs ++ drop len (drop start ws)) few long) ∙ ap (cut second) (sym all);
+      second_groups = seconds ∙ line.second_groups ∙ sym (cut_front second start ws (gs ++ drop len (drop start ws)) few long) ∙ ap (groups_of_lengths second) (sym all);
       hand = hand ∙ ap (shown_log log2) (sym (ap (λ zs. take len (drop start zs)) all ∙ hand_at start len gs ws long gs_size));
       no_hand = λ e. cc (e, some);
       queue = queues ∙ line.queue ∙ sym (queue_at start len gs ws long gs_size) ∙ ap (drop (start + len)) (sym all);
@@ -146,28 +146,28 @@ hand_shown plans start len group xs h e =
     ∙ hand_at start len (map f group) (map f xs) (omega (arith, h, length-map xs f)) (length-map group f ∙ e)
 
 -- but for answers the line is as it was
-pub unanswered_at : (start len : ℕ) (group xs : List Writer) → map unanswered group ≡ map unanswered (take len (drop start xs)) → map unanswered (with_group_at start len group xs) ≡ map unanswered xs
+pub unanswered_at : (start len : ℕ) (group xs : List Writer) → map without_answer group ≡ map without_answer (take len (drop start xs)) → map without_answer (with_group_at start len group xs) ≡ map without_answer xs
 unanswered_at start len group xs e =
-    map_group_at unanswered start len group xs
-    ∙ ap (λ gs. take start (map unanswered xs) ++ (gs ++ drop len (drop start (map unanswered xs)))) (e ∙ sym (take-map unanswered len (drop start xs)) ∙ ap (take len) (sym (drop-map unanswered start xs)))
-    ∙ ap (λ ys. take start (map unanswered xs) ++ ys) (split_at len (drop start (map unanswered xs)))
-    ∙ split_at start (map unanswered xs)
+    map_group_at without_answer start len group xs
+    ∙ ap (λ gs. take start (map without_answer xs) ++ (gs ++ drop len (drop start (map without_answer xs)))) (e ∙ sym (take-map without_answer len (drop start xs)) ∙ ap (take len) (sym (drop-map without_answer start xs)))
+    ∙ ap (λ ys. take start (map without_answer xs) ++ ys) (split_at len (drop start (map without_answer xs)))
+    ∙ split_at start (map without_answer xs)
 
-known_alike : (n : ℕ) (xs ys : List Writer) → map unanswered ys ≡ map unanswered xs → AllByRecursion (IsClientOf n) xs → AllByRecursion (IsClientOf n) ys
+known_alike : (n : ℕ) (xs ys : List Writer) → map without_answer ys ≡ map without_answer xs → AllByRecursion (IsClientOf n) xs → AllByRecursion (IsClientOf n) ys
 known_alike n xs [] e h = tt
 known_alike n [] (y ∷ ys) e h = cc
 known_alike n (x ∷ xs) (y ∷ ys) e h =
     let client : y.client ≡ x.client = ap (λ ws. (get_or ws 0 no_writer).client) e in
     (record { from_one = omega (arith, h.0.from_one, client); few = omega (arith, h.0.few, client) }, known_alike n xs ys (ap (drop 1) e) h.1)
 
-map_unanswered : {B : Type 0} (f : Writer → B) → ((w : Writer) → f (unanswered w) ≡ f w) → (xs : List Writer) → map f (map unanswered xs) ≡ map f xs
+map_unanswered : {B : Type 0} (f : Writer → B) → ((w : Writer) → f (without_answer w) ≡ f w) → (xs : List Writer) → map f (map without_answer xs) ≡ map f xs
 map_unanswered f e [] = refl
-map_unanswered f e (x ∷ xs) = ap (λ y. y ∷ map f (map unanswered xs)) (e x) ∙ ap (λ ys. f x ∷ ys) (map_unanswered f e xs)
+map_unanswered f e (x ∷ xs) = ap (λ y. y ∷ map f (map without_answer xs)) (e x) ∙ ap (λ ys. f x ∷ ys) (map_unanswered f e xs)
 
-map_alike : {B : Type 0} (f : Writer → B) → ((w : Writer) → f (unanswered w) ≡ f w) → (xs ys : List Writer) → map unanswered ys ≡ map unanswered xs → map f ys ≡ map f xs
+map_alike : {B : Type 0} (f : Writer → B) → ((w : Writer) → f (without_answer w) ≡ f w) → (xs ys : List Writer) → map without_answer ys ≡ map without_answer xs → map f ys ≡ map f xs
 map_alike f e xs ys h = sym (map_unanswered f e ys) ∙ ap (map f) h ∙ map_unanswered f e xs
 
-pub writers_alike : (plans : List ClientPlan) (xs ys : List Writer) (items : List Item) → map unanswered ys ≡ map unanswered xs → AreWriters plans xs items → AreWriters plans ys items
+pub writers_alike : (plans : List ClientPlan) (xs ys : List Writer) (items : List Item) → map without_answer ys ≡ map without_answer xs → AreWriters plans xs items → AreWriters plans ys items
 writers_alike plans xs ys items e are = record {
   items_are = are.items_are ∙ sym (map_alike (λ w. core.item_of (shown_writer plans w)) (λ w. refl) xs ys e);
   counts_are = map_alike (λ (w : Writer). w.count) (λ w. refl) xs ys e ∙ are.counts_are ∙ sym (map_alike (λ (w : Writer). count_of (records_of plans w.client w.batch)) (λ w. refl) xs ys e);
@@ -197,7 +197,7 @@ abbrev pub Gives : State → core.State → List Writer → List CoreEntry → �
 Gives r s group es last old = AllByRecursion (IsCounted r.plans.items) old → s.entries ≡ map (shown_entry r.plans.items) r.entries.items → vec_len r.entries + length old ≤ vec_capacity r.entries
     → GotRuns r.plans.items s s.entries r.assigned old group es last
 
-pub built_unanswered : (log : LogPhase) (n : ℕ) → is_built log ≡ true → answered log n ≡ 0
+pub built_unanswered : (log : LogPhase) (n : ℕ) → is_built log ≡ true → answers_in_hand log n ≡ 0
 built_unanswered Built n e = refl
 built_unanswered Free n e = cc
 built_unanswered (Led d) n e = cc
@@ -228,12 +228,12 @@ pub size_of_group : (r : State) (all : List Writer) (n : ℕ) → all ≡ r.link
 size_of_group r all n e k = ap (λ j. length (take j (drop r.in_second all))) k ∙ ap (λ xs. length (take r.in_hand (drop r.in_second xs))) e ∙ group_len r
 
 hand_got_at : (o : core.Options) (r : State) (s : core.State) → Mirrors o r s → is_built r.log ≡ true → (group : List Writer) (es : List CoreEntry) (last : ℕ)
-    → map unanswered group ≡ map unanswered (group_of r) → Gives r s group es last (group_of r) → HandGot r s (with_group_at r.in_second r.in_hand group r.linked.items) group es last
+    → map without_answer group ≡ map without_answer (group_of r) → Gives r s group es last (group_of r) → HandGot r s (with_group_at r.in_second r.in_hand group r.linked.items) group es last
 hand_got_at o r s m built group es last same gives =
     let plans : List ClientPlan = r.plans.items in
     let f : Writer → core.Writer = shown_writer plans in
     let within : r.in_second ≤ length r.linked.items = omega (arith, r.groups_wait, r.linked.ok.0) in
-    let size : length group ≡ r.in_hand = sym (length-map group unanswered) ∙ ap length same ∙ length-map (group_of r) unanswered ∙ group_len r in
+    let size : length group ≡ r.in_hand = sym (length-map group without_answer) ∙ ap length same ∙ length-map (group_of r) without_answer ∙ group_len r in
     let counted : AllByRecursion (IsCounted plans) (group_of r) =
     known_take (IsCounted plans) r.in_hand (drop r.in_second r.linked.items) (known_drop (IsCounted plans) r.in_second r.linked.items (all_counted plans r.linked.items m.writers.counts_are)) in
     let room : vec_len r.entries + length (group_of r) ≤ vec_capacity r.entries =
@@ -250,10 +250,10 @@ hand_got_at o r s m built group es last same gives =
     }
 
 hand_got_in : (o : core.Options) (r : State) (s : core.State) → Mirrors o r s → is_built r.log ≡ true → (all : List Writer) (n : ℕ) (group : List Writer) (es : List CoreEntry) (last : ℕ) → all ≡ r.linked.items → n ≡ r.in_hand
-    → map unanswered group ≡ map unanswered (take n (drop r.in_second all)) → Gives r s group es last (take n (drop r.in_second all)) → HandGot r s (take r.in_second all ++ (group ++ drop n (drop r.in_second all))) group es last
+    → map without_answer group ≡ map without_answer (take n (drop r.in_second all)) → Gives r s group es last (take n (drop r.in_second all)) → HandGot r s (take r.in_second all ++ (group ++ drop n (drop r.in_second all))) group es last
 hand_got_in o r s m built all n group es last e k =
-    let P : List Writer → Type 0 = λ xs. map unanswered group ≡ map unanswered (take n (drop r.in_second xs)) → Gives r s group es last (take n (drop r.in_second xs)) → HandGot r s (with_group_at r.in_second n group xs) group es last in
-    let Q : ℕ → Type 0 = λ j. map unanswered group ≡ map unanswered (take j (drop r.in_second r.linked.items)) → Gives r s group es last (take j (drop r.in_second r.linked.items)) → HandGot r s (with_group_at r.in_second j group r.linked.items) group es last in
+    let P : List Writer → Type 0 = λ xs. map without_answer group ≡ map without_answer (take n (drop r.in_second xs)) → Gives r s group es last (take n (drop r.in_second xs)) → HandGot r s (with_group_at r.in_second n group xs) group es last in
+    let Q : ℕ → Type 0 = λ j. map without_answer group ≡ map without_answer (take j (drop r.in_second r.linked.items)) → Gives r s group es last (take j (drop r.in_second r.linked.items)) → HandGot r s (with_group_at r.in_second j group r.linked.items) group es last in
     subst P (sym e) (subst Q (sym k) (hand_got_at o r s m built group es last))
 
 drop_none : {A : Type 0} (n : ℕ) (xs : List A) → length xs ≡ n → drop n xs ≡ []
@@ -268,12 +268,12 @@ written_over n xs ys e k =
     sym (take-length xs) ∙ ap (λ j. take j xs) e ∙ ap (take n) over
 
 pub hand_got : (o : core.Options) (r : State) (s : core.State) → Mirrors o r s → is_built r.log ≡ true → (all : List Writer) (n : ℕ) (group : List Writer) (es : List CoreEntry) (last : ℕ) → all ≡ r.linked.items → n ≡ r.in_hand
-    → map unanswered group ≡ map unanswered (take n (drop r.in_second all)) → Gives r s group es last (take n (drop r.in_second all))
+    → map without_answer group ≡ map without_answer (take n (drop r.in_second all)) → Gives r s group es last (take n (drop r.in_second all))
     → HandGot r s (take (vec_len r.linked) ((take r.in_second all ++ (group ++ drop n (drop r.in_second all))) ++ drop (length (take r.in_second all ++ (group ++ drop n (drop r.in_second all)))) r.linked.items)) group es last
 hand_got o r s m built all n group es last e k same gives =
     let line : List Writer = take r.in_second all ++ (group ++ drop n (drop r.in_second all)) in
     let P : List Writer → Type 0 = λ xs. HandGot r s xs group es last in
-    let long : length line ≡ length all = sym (length-map line unanswered) ∙ ap length (unanswered_at r.in_second n group all same) ∙ length-map all unanswered in
+    let long : length line ≡ length all = sym (length-map line without_answer) ∙ ap length (unanswered_at r.in_second n group all same) ∙ length-map all without_answer in
     let full : length r.linked.items ≡ vec_len r.linked = sym r.linked.ok.0 in
     subst P (written_over (vec_len r.linked) line r.linked.items (long ∙ ap length e ∙ full) full) (hand_got_in o r s m built all n group es last e k same gives)
 

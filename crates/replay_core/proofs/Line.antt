@@ -7,13 +7,13 @@ use Rattle.model_base.specs.Grouping.{group_len}
 use Rattle.model_core.specs.Core as core
 use Rattle.replay_plans.specs.declared.plan.ClientPlan.{ClientPlan}
 use Rattle.replay_core.specs.declared.writer.Writer.{Writer}
-use Rattle.replay_core.specs.Shown.{shown_writer, cut, total}
+use Rattle.replay_core.specs.Shown.{shown_writer, groups_of_lengths, total}
 
-pub cut_push : {A : Type 0} (ns : List ℕ) (n : ℕ) (xs : List A) → cut (ns ++ n ∷ []) xs ≡ cut ns xs ++ take n (drop (total ns) xs) ∷ []
+pub cut_push : {A : Type 0} (ns : List ℕ) (n : ℕ) (xs : List A) → groups_of_lengths (ns ++ n ∷ []) xs ≡ groups_of_lengths ns xs ++ take n (drop (total ns) xs) ∷ []
 cut_push [] n xs = refl
 cut_push (k ∷ ns) n xs =
     let later : drop (total ns) (drop k xs) ≡ drop (total (k ∷ ns)) xs = drop-drop (total ns) k xs in
-    ap (λ gs. take k xs ∷ gs) (cut_push ns n (drop k xs)) ∙ ap (λ ys. (take k xs ∷ cut ns (drop k xs)) ++ take n ys ∷ []) later
+    ap (λ gs. take k xs ∷ gs) (cut_push ns n (drop k xs)) ∙ ap (λ ys. (take k xs ∷ groups_of_lengths ns (drop k xs)) ++ take n ys ∷ []) later
 
 pub sum_push : (ns : List ℕ) (n : ℕ) → total (ns ++ n ∷ []) ≡ total ns + n
 sum_push [] n = grind arith

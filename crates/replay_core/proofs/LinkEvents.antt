@@ -16,7 +16,7 @@ use Rattle.replay_core.specs.declared.phases.LogPhase.{LogPhase}
 use Rattle.replay_plans.specs.declared.plan.Lines.{Lines}
 use Rattle.replay_core.specs.declared.writer.Writer.{Writer}
 use Rattle.replay_plans.specs.Plans.{records_in, records_of}
-use Rattle.replay_core.specs.Shown.{shown_writer, shown_log, cut, total}
+use Rattle.replay_core.specs.Shown.{shown_writer, shown_log, groups_of_lengths, total}
 use Rattle.replay_core.specs.Mirrors.{IsLine, IsClientOf, AreWriters, lines_left}
 use Rattle.replay_plans.specs.Ahead.{commit_of}
 
@@ -58,20 +58,20 @@ all_push : {A : Type 0} (P : A → Type 0) (xs : List A) (x : A) → AllByRecurs
 all_push P [] x h k = (k, tt)
 all_push P (y ∷ xs) x h k = (h.0, all_push P xs x h.1 k)
 
-cut_longer : {A : Type 0} (ns : List ℕ) (xs ys : List A) → total ns ≤ length xs → cut ns (xs ++ ys) ≡ cut ns xs
+cut_longer : {A : Type 0} (ns : List ℕ) (xs ys : List A) → total ns ≤ length xs → groups_of_lengths ns (xs ++ ys) ≡ groups_of_lengths ns xs
 cut_longer [] xs ys h = refl
 cut_longer (n ∷ ns) xs ys h =
     let front : take n (xs ++ ys) ≡ take n xs = take-append-le n xs ys (omega (arith, h)) in
     let back : drop n (xs ++ ys) ≡ drop n xs ++ ys = drop-append-le n xs ys (omega (arith, h)) in
-    let rest : cut ns (drop n xs ++ ys) ≡ cut ns (drop n xs) = cut_longer ns (drop n xs) ys (omega (arith, h, length-drop n xs)) in
-    ap (λ zs. zs ∷ cut ns (drop n (xs ++ ys))) front ∙ ap (λ zs. take n xs ∷ cut ns zs) back ∙ ap (λ gs. take n xs ∷ gs) rest
+    let rest : groups_of_lengths ns (drop n xs ++ ys) ≡ groups_of_lengths ns (drop n xs) = cut_longer ns (drop n xs) ys (omega (arith, h, length-drop n xs)) in
+    ap (λ zs. zs ∷ groups_of_lengths ns (drop n (xs ++ ys))) front ∙ ap (λ zs. take n xs ∷ groups_of_lengths ns zs) back ∙ ap (λ gs. take n xs ∷ gs) rest
 
 pub line_push : (ws : List core.Writer) (w : core.Writer) (second : List ℕ) (in_second in_hand : ℕ) (log : LogPhase) (s : core.State) (clients : List core.Client) → in_second + in_hand ≤ length ws
     → IsLine ws second in_second in_hand log s → IsLine (ws ++ w ∷ []) second in_second in_hand log (record s { clients = clients; queue = s.queue ++ w ∷ [] })
 line_push ws w second in_second in_hand log s clients h line =
     let front : drop in_second (ws ++ w ∷ []) ≡ drop in_second ws ++ w ∷ [] = drop-append-le in_second ws (w ∷ []) (omega (arith, h)) in
     let hand : take in_hand (drop in_second ws ++ w ∷ []) ≡ take in_hand (drop in_second ws) = take-append-le in_hand (drop in_second ws) (w ∷ []) (omega (arith, h, length-drop in_second ws)) in
-    let groups : cut second (ws ++ w ∷ []) ≡ cut second ws = cut_longer second ws (w ∷ []) (omega (arith, h, line.second_sum)) in
+    let groups : groups_of_lengths second (ws ++ w ∷ []) ≡ groups_of_lengths second ws = cut_longer second ws (w ∷ []) (omega (arith, h, line.second_sum)) in
     record {
       second_sum = line.second_sum;
       second_groups = line.second_groups ∙ sym groups;

@@ -14,7 +14,7 @@ use Rattle.replay_core.specs.declared.writer.Writer.{Writer}
 use Rattle.replay_core.specs.Leads.{leads_at, leads_front}
 use Rattle.replay_core.specs.Phases.{has_group, is_free, is_led_by, is_built, is_in_log, is_marked, is_handed_by}
 use Rattle.replay_core.specs.Shown.{shown_writer, shown_log}
-use Rattle.replay_core.specs.Mirrors.{Mirrors, answered}
+use Rattle.replay_core.specs.Mirrors.{Mirrors, answers_in_hand}
 
 -- the writers of a state as the machine has them
 abbrev pub line_of : State → List core.Writer
@@ -122,7 +122,7 @@ free_has_none InLog e = cc
 free_has_none Marked e = cc
 free_has_none (Handed d) e = cc
 
-pub free_unanswered : (log : LogPhase) (n : ℕ) → is_free log ≡ true → answered log n ≡ 0
+pub free_unanswered : (log : LogPhase) (n : ℕ) → is_free log ≡ true → answers_in_hand log n ≡ 0
 free_unanswered Free n e = refl
 free_unanswered (Led d) n e = cc
 free_unanswered Built n e = cc
@@ -138,7 +138,7 @@ led_has_none c InLog e = cc
 led_has_none c Marked e = cc
 led_has_none c (Handed d) e = cc
 
-pub led_unanswered : (c : ℕ) (log : LogPhase) (n : ℕ) → is_led_by c log ≡ true → answered log n ≡ 0
+pub led_unanswered : (c : ℕ) (log : LogPhase) (n : ℕ) → is_led_by c log ≡ true → answers_in_hand log n ≡ 0
 led_unanswered c (Led d) n e = refl
 led_unanswered c Free n e = cc
 led_unanswered c Built n e = cc
@@ -146,7 +146,7 @@ led_unanswered c InLog n e = cc
 led_unanswered c Marked n e = cc
 led_unanswered c (Handed d) n e = cc
 
-pub logged_answered : (log : LogPhase) (n : ℕ) → is_in_log log ≡ true → answered log n ≡ n
+pub logged_answered : (log : LogPhase) (n : ℕ) → is_in_log log ≡ true → answers_in_hand log n ≡ n
 logged_answered InLog n e = refl
 logged_answered Free n e = cc
 logged_answered (Led d) n e = cc
@@ -154,7 +154,7 @@ logged_answered Built n e = cc
 logged_answered Marked n e = cc
 logged_answered (Handed d) n e = cc
 
-pub marked_answered : (log : LogPhase) (n : ℕ) → is_marked log ≡ true → answered log n ≡ n
+pub marked_answered : (log : LogPhase) (n : ℕ) → is_marked log ≡ true → answers_in_hand log n ≡ n
 marked_answered Marked n e = refl
 marked_answered Free n e = cc
 marked_answered (Led d) n e = cc

@@ -78,13 +78,13 @@ pub record Answered (s : core.State) (c : ℕ) (client : core.Client) (plan : Cl
 
 pub read_answered : (s : core.State) (c n : ℕ) (client : core.Client) (plan : ClientPlan) (seat : Seat) (line : Option Command) → option_map_or is_read line false ≡ true → s.last ≡ n
     → core.client_at s c ≡ Some client → client.idle ≡ true → (core.next_call client).call ≡ line
-    → ((command : Command) (reply : Reply) → line ≡ Some command → IsReply (ReadAt n) reply → is_answer reply ≡ Some reply → IsClient plan seat (core.told (core.next_call client).client command reply))
+    → ((command : Command) (reply : Reply) → line ≡ Some command → IsReply (ReadAt n) reply → is_answer reply ≡ Some reply → IsClient plan seat (core.after_reply (core.next_call client).client command reply))
     → Answered s c client plan seat line
 read_answered s c n client plan seat line reads last there idle call told =
     let read : IsRead s line = read_is s line reads in
     let P : ℕ → Type 0 = λ k. IsReply (ReadAt k) read.reply in
     record {
-      new = core.told (core.next_call client).client read.command read.reply;
+      new = core.after_reply (core.next_call client).client read.command read.reply;
       comes = ap (event.read s c) there ∙ ap (λ b. if b then event.read_call s c (core.next_call client).client (core.next_call client).call else None) idle
           ∙ ap (event.read_call s c (core.next_call client).client) (call ∙ read.line)
           ∙ ap (event.read_with s c (core.next_call client).client read.command) read.answered;

@@ -12,8 +12,8 @@ use Rattle.replay_plans.specs.declared.plan.ClientPlan.{ClientPlan}
 use Rattle.replay_core.specs.declared.writer.Writer.{Writer}
 use Rattle.replay_core.specs.Leads.{first_len}
 use Rattle.replay_plans.specs.Plans.{records_of}
-use Rattle.replay_core.specs.Shown.{shown_writer, cut, total}
-use Rattle.replay_core.specs.Mirrors.{AreWriters, IsClientOf, answered}
+use Rattle.replay_core.specs.Shown.{shown_writer, groups_of_lengths, total}
+use Rattle.replay_core.specs.Mirrors.{AreWriters, IsClientOf, answers_in_hand}
 use Rattle.replay_core.proofs.TableEvents.{known_take, known_drop}
 
 -- what is left without a part in the middle
@@ -40,21 +40,21 @@ drop_of_take n start xs h =
     ap (λ k. drop n (take k xs)) e ∙ drop-take n (start - n) xs
 
 -- the groups of the second queue stand before what is left out
-pub cut_front : {A : Type 0} (ns : List ℕ) (start : ℕ) (xs back : List A) → total ns ≤ start → start ≤ length xs → cut ns (take start xs ++ back) ≡ cut ns xs
+pub cut_front : {A : Type 0} (ns : List ℕ) (start : ℕ) (xs back : List A) → total ns ≤ start → start ≤ length xs → groups_of_lengths ns (take start xs ++ back) ≡ groups_of_lengths ns xs
 cut_front [] start xs back few h = refl
 cut_front (n ∷ ns) start xs back few h =
     let len : length (take start xs) ≡ start = length-take-le start xs h in
     let one : take n (take start xs ++ back) ≡ take n xs = take-append-le n (take start xs) back (omega (arith, len)) ∙ take-take n start xs (omega arith) in
     let rest : drop n (take start xs ++ back) ≡ take (start - n) (drop n xs) ++ back = drop-append-le n (take start xs) back (omega (arith, len)) ∙ ap (λ ys. ys ++ back) (drop_of_take n start xs (omega arith)) in
-    let later : cut ns (take (start - n) (drop n xs) ++ back) ≡ cut ns (drop n xs) = cut_front ns (start - n) (drop n xs) back (omega arith) (omega (arith, length-drop n xs)) in
-    ap (λ ys. ys ∷ cut ns (drop n (take start xs ++ back))) one ∙ ap (λ zs. take n xs ∷ cut ns zs) rest ∙ ap (λ gs. take n xs ∷ gs) later
+    let later : groups_of_lengths ns (take (start - n) (drop n xs) ++ back) ≡ groups_of_lengths ns (drop n xs) = cut_front ns (start - n) (drop n xs) back (omega arith) (omega (arith, length-drop n xs)) in
+    ap (λ ys. ys ∷ groups_of_lengths ns (drop n (take start xs ++ back))) one ∙ ap (λ zs. take n xs ∷ groups_of_lengths ns zs) rest ∙ ap (λ gs. take n xs ∷ gs) later
 
 pub drop_without : {A : Type 0} (start end : ℕ) (xs : List A) → start ≤ length xs → drop (start + 0) (without start end xs) ≡ drop end xs
 drop_without start end xs h =
     let len : length (take start xs) ≡ start = length-take-le start xs h in
     ap (λ n. drop (n + 0) (without start end xs)) (sym len) ∙ drop-append-add (take start xs) (drop end xs) 0
 
-pub answered_few : (log : LogPhase) (n : ℕ) → answered log n ≤ n
+pub answered_few : (log : LogPhase) (n : ℕ) → answers_in_hand log n ≤ n
 answered_few Free n = omega arith
 answered_few (Led d) n = omega arith
 answered_few Built n = omega arith

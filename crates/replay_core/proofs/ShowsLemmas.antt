@@ -4,7 +4,7 @@ use Rattle.model_core.specs.declared.event.Event.{Event}
 use Rattle.model_core.specs.Core as core
 use Rattle.model_core.specs.Step.{step}
 use Rattle.replay_core.specs.declared.state.State.{State}
-use Rattle.replay_core.specs.Mirrors.{Mirrors, Stepped, IsClient}
+use Rattle.replay_core.specs.Mirrors.{Mirrors, MirrorsStep, IsClient}
 use Rattle.replay_core.specs.Shows.{Shows, ShowsStep, Takes, AreAlike, AreAlikeClients}
 use Rattle.replay_core.specs.Steps.{Steps}
 use Rattle.replay_core.proofs.ClientLemmas.{get_some}
@@ -17,7 +17,7 @@ pub mirrors : (r : State) (o : core.Options) (s : core.State) → Shows r o s �
 unfolding Shows
 mirrors r o s h = h
 
-shows_step : (v : Option core.State) (o : core.Options) (s : core.State) (came : Bool) (new : State) → Stepped v o s came new → ShowsStep v o s came new
+shows_step : (v : Option core.State) (o : core.Options) (s : core.State) (came : Bool) (new : State) → MirrorsStep v o s came new → ShowsStep v o s came new
 shows_step None o s came new h = (h.0, shows new o s h.1)
 shows_step (Some t) o s came new h = (h.0, shows new o t h.1)
 

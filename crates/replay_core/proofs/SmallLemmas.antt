@@ -1,21 +1,11 @@
 -- Clients whose plans are small, on their way.
-use Rattle.std.proofs.Common.{◌≡◌, ◌+◌, ◌≤◌, List, [], ◌∷◌, ◌++◌, length, Some, ◌∙◌, arith}
-use Rattle.std.proofs.lemmas.List.{length-append}
+use Rattle.std.proofs.Common.{◌≡◌, ◌+◌, ◌≤◌, List, [], ◌∷◌, ◌++◌, Some, arith}
 use Rattle.model_base.specs.declared.write.WriteOptions.{WriteOptions}
-use Rattle.model_base.specs.Batch.{Record, count_of, record_bytes, header, body, size_of_batch}
+use Rattle.model_base.specs.Batch.{Record, size_of_batch}
 use Rattle.model_base.specs.Calls.{Command, add, clear, commit, get, many, scan, stop, unstop, slow, unslow, quiet, Call}
 use Rattle.model_core.specs.Core as core
 use Rattle.replay_plans.specs.Small.{AreSmall}
-
-body_push : (rs : List Record) (r : Record) → length (body (rs ++ r ∷ [])) ≡ length (body rs) + length (record_bytes r)
-body_push [] r = length-append (record_bytes r) [] ∙ (let e : length (record_bytes r) + 0 ≡ 0 + length (record_bytes r) = omega arith in e)
-body_push (x ∷ rs) r = length-append (record_bytes x) (body (rs ++ r ∷ [])) ∙ (let e : length (record_bytes x) + length (body (rs ++ r ∷ [])) ≡ length (record_bytes x ++ body rs) + length (record_bytes r) = omega (arith, body_push rs r, length-append (record_bytes x) (body rs)) in e)
-
-pub size_is : (rs : List Record) → size_of_batch rs ≡ 12 + length (body rs)
-size_is rs = length-append (header 0 (count_of rs)) (body rs)
-
-pub size_push : (rs : List Record) (r : Record) → size_of_batch (rs ++ r ∷ []) ≡ size_of_batch rs + length (record_bytes r)
-size_push rs r = omega (arith, size_is rs, size_is (rs ++ r ∷ []), body_push rs r)
+use Rattle.replay_plans.proofs.SizeLemmas.{size_is, size_push}
 
 -- A plan that is small with a batch is small with a smaller one.
 small_less : (less more : List Record) (left : List Command) → size_of_batch less ≤ size_of_batch more → AreSmall more left → AreSmall less left

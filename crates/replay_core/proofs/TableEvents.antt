@@ -18,7 +18,7 @@ use Rattle.replay_core.specs.declared.writer.Writer.{Writer}
 use Rattle.replay_core.specs.declared.state.State.{State}
 use Rattle.replay_core.specs.Phases.{is_in_log, is_still, is_launched, is_published, is_finished}
 use Rattle.replay_core.specs.Leads.{leads_front, table_start, table_len, table_part, first_len, has_run, last_after}
-use Rattle.replay_core.specs.Shown.{shown_writer, shown_answer, shown_log, cut}
+use Rattle.replay_core.specs.Shown.{shown_writer, shown_answer, shown_log, groups_of_lengths}
 use Rattle.replay_core.specs.Mirrors.{Mirrors, IsTable, IsLaunched, IsClientOf, mark_of}
 use Rattle.replay_core.proofs.LogEvents.{line_of, leads_line}
 
@@ -26,7 +26,7 @@ use Rattle.replay_core.proofs.LogEvents.{line_of, leads_line}
 abbrev pub in_table : {A : Type 0} → State → List A → List A
 in_table r xs = table_part r.options.pipelined r.in_second r.second.items r.log r.in_hand xs
 
-first_of_cut : (ns : List ℕ) (ws : List core.Writer) → core.first_group (cut ns ws) ≡ take (first_len ns) ws
+first_of_cut : (ns : List ℕ) (ws : List core.Writer) → core.first_group (groups_of_lengths ns ws) ≡ take (first_len ns) ws
 first_of_cut [] ws = refl
 first_of_cut (n ∷ ns) ws = refl
 
@@ -38,7 +38,7 @@ hand_in_log InLog n start ws = refl
 hand_in_log Marked n start ws = refl
 hand_in_log (Handed d) n start ws = refl
 
-group_by : (pipelined : Bool) (r : State) (s : core.State) (ws : List core.Writer) → s.second ≡ cut r.second.items ws → s.log ≡ shown_log r.log (take r.in_hand (drop r.in_second ws))
+group_by : (pipelined : Bool) (r : State) (s : core.State) (ws : List core.Writer) → s.second ≡ groups_of_lengths r.second.items ws → s.log ≡ shown_log r.log (take r.in_hand (drop r.in_second ws))
     → (if pipelined then core.first_group s.second else core.in_hand s.log) ≡ table_part pipelined r.in_second r.second.items r.log r.in_hand ws
 group_by true r s ws e h = ap core.first_group e ∙ first_of_cut r.second.items ws
 group_by false r s ws e h = ap core.in_hand h ∙ hand_in_log r.log r.in_hand r.in_second ws

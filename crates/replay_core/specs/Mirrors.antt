@@ -16,7 +16,7 @@ use Rattle.replay_core.specs.declared.writer.Writer.{Writer}
 use Rattle.replay_plans.specs.Answers.{answers_of}
 use Rattle.replay_core.specs.Replies.{AreReplies}
 use Rattle.replay_plans.specs.Plans.{records_in, records_of}
-use Rattle.replay_core.specs.Shown.{options_of, shown_writer, shown_entry, shown_log, cut, total}
+use Rattle.replay_core.specs.Shown.{options_of, shown_writer, shown_entry, shown_log, groups_of_lengths, total}
 use Rattle.replay_core.specs.declared.state.Seat.{Seat}
 use Rattle.replay_core.specs.declared.state.State.{State}
 use Rattle.replay_core.specs.Leads.{finished_last}
@@ -46,7 +46,7 @@ pub record AreClients (plans : List ClientPlan) (seats : List Seat) (clients : L
 pub record IsLine (ws : List core.Writer) (second : List ℕ) (in_second in_hand : ℕ) (log : LogPhase) (s : core.State) :
     Type 0 where
   pub second_sum : in_second ≡ total second
-  pub second_groups : s.second ≡ cut second ws
+  pub second_groups : s.second ≡ groups_of_lengths second ws
   pub hand : s.log ≡ shown_log log (take in_hand (drop in_second ws))
   pub no_hand : has_group log ≡ false → in_hand ≡ 0
   pub queue : s.queue ≡ drop (in_second + in_hand) ws
@@ -91,13 +91,13 @@ AreDone plans left leaving = (c : ℕ)
 -- Room: what each vector may still come to have
 
 -- those of the group in hand that have their answers
-abbrev pub answered : LogPhase → ℕ → ℕ
-answered phase.Free n = 0
-answered (phase.Led c) n = 0
-answered phase.Built n = 0
-answered phase.InLog n = n
-answered phase.Marked n = n
-answered (phase.Handed c) n = 0
+abbrev pub answers_in_hand : LogPhase → ℕ → ℕ
+answers_in_hand phase.Free n = 0
+answers_in_hand (phase.Led c) n = 0
+answers_in_hand phase.Built n = 0
+answers_in_hand phase.InLog n = n
+answers_in_hand phase.Marked n = n
+answers_in_hand (phase.Handed c) n = 0
 
 abbrev pub lines_left : List core.Client → ℕ
 lines_left clients = sum_by (λ (c : core.Client). length c.left) clients
@@ -107,7 +107,7 @@ pub record HasRoom (r : State) (left : ℕ) : Type 0 where
   pub items : vec_len r.linked + left ≤ vec_capacity r.items
   pub second : vec_len r.second + vec_len r.linked + left ≤ vec_capacity r.second + r.in_second
   pub entries : vec_len r.entries + vec_len r.linked + left ≤ vec_capacity r.entries + r.in_second
-      + answered r.log r.in_hand
+      + answers_in_hand r.log r.in_hand
   pub groups : vec_len r.groups ≤ vec_len r.entries
   pub group_room : vec_capacity r.entries ≤ vec_capacity r.groups
 
@@ -127,6 +127,6 @@ pub record Mirrors (o : core.Options) (r : State) (s : core.State) : Type 0 wher
   pub room : HasRoom r (lines_left s.clients)
 
 -- What an event came to: it could not come and all is as it was, or this is the state after it.
-abbrev pub Stepped : Option core.State → core.Options → core.State → Bool → State → Type 0
-Stepped None o s came new = (came ≡ false) × Mirrors o new s
-Stepped (Some t) o s came new = (came ≡ true) × Mirrors o new t
+abbrev pub MirrorsStep : Option core.State → core.Options → core.State → Bool → State → Type 0
+MirrorsStep None o s came new = (came ≡ false) × Mirrors o new s
+MirrorsStep (Some t) o s came new = (came ≡ true) × Mirrors o new t

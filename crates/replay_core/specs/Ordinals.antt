@@ -1,6 +1,6 @@
 -- How many accepted batches each client has.
 use Rattle.std.specs.Prelude.{◌≡◌, ◌==◌, ℕ, zero, suc, List, Option, Some, None, slice_get, count_by}
-use Rattle.run_calls.specs.declared.entry.Entry.{Entry}
+use Rattle.run_outcome.specs.declared.history_entry.HistoryEntry.{HistoryEntry}
 use Rattle.replay_plans.specs.declared.plan.Lines.{Lines}
 
 -- a client's count, the first that of client 1
@@ -9,6 +9,6 @@ count_for counts zero = None
 count_for counts (suc c) = slice_get counts c
 
 -- a client that has a count has so many entries
-abbrev pub AreCounts : List ℕ → List (Entry Lines) → Type 0
+abbrev pub AreCounts : List ℕ → List (HistoryEntry Lines) → Type 0
 AreCounts counts entries = (c n : ℕ) → count_for counts c ≡ Some n
-    → n ≡ count_by (λ (e : Entry Lines). e.client == c) entries
+    → n ≡ count_by (λ (e : HistoryEntry Lines). e.client == c) entries

@@ -13,8 +13,8 @@ abbrev pub IsCounted : List ClientPlan → Writer → Type 0
 IsCounted plans w = w.count ≡ count_of (records_of plans w.client w.batch)
 
 -- a writer but for its answer
-abbrev pub unanswered : Writer → Writer
-unanswered w = record { client = w.client; options = w.options; batch = w.batch; count = w.count; answer = None }
+abbrev pub without_answer : Writer → Writer
+without_answer w = record { client = w.client; options = w.options; batch = w.batch; count = w.count; answer = None }
 
 -- Writers got their runs in order after the sequence `last`. An entry for each that has one went after those in
 -- `front`, and `given` is the sequence given last.

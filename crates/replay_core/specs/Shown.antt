@@ -4,8 +4,8 @@ use Rattle.model_base.specs.Batch.{Record}
 use Rattle.model_base.specs.History as history
 use Rattle.model_base.specs.Calls.{Reply, accepted, refused}
 use Rattle.model_core.specs.Core as core
-use Rattle.run_calls.specs.declared.entry.Entry.{Entry}
-use Rattle.run_calls.specs.Entries.{entry_of}
+use Rattle.run_outcome.specs.declared.history_entry.HistoryEntry.{HistoryEntry}
+use Rattle.run_outcome.specs.HistoryEntries.{entry_of}
 use Rattle.replay_plans.specs.Plans.{records_of}
 use Rattle.replay_plans.specs.declared.plan.ClientPlan.{ClientPlan}
 use Rattle.replay_core.specs.declared.phases.LogPhase.{LogPhase}
@@ -48,7 +48,7 @@ shown_writer plans w = record {
 
 -- an entry of the history, of a batch that stands in its client's plan
 abbrev pub CoreEntry : Type 0
-CoreEntry = Entry Lines
+CoreEntry = HistoryEntry Lines
 
 abbrev pub shown_entry : List ClientPlan → CoreEntry → history.Entry
 shown_entry plans e = entry_of (λ (x : CoreEntry). records_of plans x.client x.batch) e
@@ -63,9 +63,9 @@ shown_log Marked ws = core.marked ws
 shown_log (Handed c) ws = core.handed c
 
 -- a list cut into groups of these lengths, from its first item on
-abbrev pub cut : {A : Type 0} → List ℕ → List A → List (List A)
-cut [] xs = []
-cut (n ∷ ns) xs = take n xs ∷ cut ns (drop n xs)
+abbrev pub groups_of_lengths : {A : Type 0} → List ℕ → List A → List (List A)
+groups_of_lengths [] xs = []
+groups_of_lengths (n ∷ ns) xs = take n xs ∷ groups_of_lengths ns (drop n xs)
 
 -- what stands for a client, by its number
 abbrev pub of_client : {A : Type 0} → List A → ℕ → Option A

@@ -4,13 +4,13 @@ use Rattle.model_core.specs.Core as core
 use Rattle.model_core.specs.CoreLaw.{IsCore}
 use Rattle.model_core.specs.Step.{leave}
 use Rattle.replay_core.specs.declared.state.State.{State}
-use Rattle.replay_core.specs.Mirrors.{Mirrors, Stepped}
+use Rattle.replay_core.specs.Mirrors.{Mirrors, MirrorsStep}
 use Rattle.replay_core.specs.Shown.{shown_writer}
 
 -- From each state of the machine that the code's state mirrors the event comes in both, or in neither.
 abbrev pub Steps : (core.Options → core.State → Option core.State) → State → Bool → State → Type 0
 Steps event old came new = (o : core.Options) (s : core.State) → IsCore o s → Mirrors o old s
-    → Stepped (event o s) o s came new
+    → MirrorsStep (event o s) o s came new
 
 -- the writers of the group in hand
 abbrev pub hand_in : State → List core.Writer

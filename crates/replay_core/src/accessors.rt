@@ -6,7 +6,7 @@ ghost use Rattle.std.specs.List.{AllByRecursion};
 use crate::state::State;
 use crate::writer::CoreReply;
 use replay_plans::{ClientPlan, Lines};
-use run_calls::Entry;
+use run_outcome::HistoryEntry;
 
 impl<'a> State<'a> {
     ghost use Rattle.model_core.specs.Core as core;
@@ -38,7 +38,7 @@ impl<'a> State<'a> {
 
     /// The batches that were given runs, in the order of their runs. Each is of a client that there is, and of at least
     /// one record that counts.
-    pub fn entries(&self) -> &[Entry<Lines>]
+    pub fn entries(&self) -> &[HistoryEntry<Lines>]
         ensures shown { (o : core.Options) (s : core.State) → Shows self.now o s
             → map (shown_entry (plans_in self.now)) result.now ≡ s.entries }
         ensures within { (o : core.Options) (s : core.State) → IsCore o s → Shows self.now o s

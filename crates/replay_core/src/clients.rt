@@ -7,9 +7,9 @@ use crate::room::push_both;
 use crate::seats::{answer, next_call, settle, wait};
 use crate::state::State;
 use crate::writer::{CoreReply, Writer};
+use log_batch::refusal_at_once;
 use model_base::{Item, WriteOptions};
 use replay_plans::{Lines, commit_at, is_read, measure_batch};
-use run_calls::refusal_at_once;
 
 impl State<'_> {
     ghost use Rattle.std.specs.Prelude.{find, ◌==◌, ◌<◌, vec_len};
@@ -116,18 +116,7 @@ fn new_writer(client: u32, options: WriteOptions, batch: Lines, count: u64) -> W
 
 /// What grouping sees of a writer.
 fn item_of(options: WriteOptions, size: u64) -> Item
-    ensures { result ≡ record {
-      size = size;
-      sync = options.sync;
-      no_log = options.no_log;
-      no_slowdown =
-          options.no_slowdown;
-    } }
+    ensures { result ≡ record { size = size; options = options } }
 {
-    Item {
-        size,
-        sync: options.sync,
-        no_log: options.no_log,
-        no_slowdown: options.no_slowdown,
-    }
+    Item { size, options }
 }

@@ -56,6 +56,7 @@ pub(crate) fn note_group(done: &mut Vec<Option<Writer>>, group: &[Writer])
         → AllByRecursion (IsClientOf (length done.old.items)) group.now
         → AreDone plans done.new.items (leaving ++ map (shown_writer plans) group.now) }
 {
+    // The writers so far have left.
     for writer in group {
         note_done(done, *writer);
     }
@@ -69,6 +70,7 @@ pub(crate) fn note_refused(done: &mut Vec<Option<Writer>>, group: &[Writer], why
         → AreDone plans done.new.items (leaving ++ core.all_answered (refused why)
         (map (shown_writer plans) group.now)) }
 {
+    // The writers so far have left, each with the refusal.
     for writer in group {
         note_done(
             done,
@@ -90,6 +92,7 @@ pub(crate) fn remove_range<T: Copy>(items: &mut Vec<T>, start: usize, len: usize
     ensures len { vec_len items.new + len ≡ vec_len items.old }
     ensures capacity { vec_capacity items.old ≤ vec_capacity items.new }
 {
+    // So many items from `start` on are gone, and the others are as they were.
     for _ in 0..len {
         items.remove(start);
     }

@@ -7,7 +7,7 @@ ghost use Rattle.replay_core.specs.Fresh.{IsFresh};
 
 use crate::phases::{LogPhase, Mark, TablePhase};
 use crate::state::{CoreOptions, Seat, State};
-use model_base::NoMemory;
+use model_base::{MAX_CLIENTS, NoMemory};
 use replay_plans::ClientPlan;
 use std::alloc::Global;
 
@@ -27,11 +27,11 @@ impl<'a> State<'a> {
         options: CoreOptions,
     ) -> Result<State<'a>, NoMemory>
         requires some { 1 ≤ vec_len plans }
-        requires few { vec_len plans ≤ 16 }
+        requires few { vec_len plans ≤ MAX_CLIENTS }
         requires small { AllByRecursion IsSmallPlan plans.items }
         requires last_fits { options.last ≤ 2 ^ 56 - 1 }
         ensures shows { IfOk result (λ r. Shows r (options_of options)
-            (core.opened (options_of options) plans.entry.items)) }
+            (core.opening_state (options_of options) plans.entry.items)) }
         ensures plans { IfOk result (λ r. plans_in r ≡ plans.entry.items) }
     {
         let room = total_lines(&plans)?;
@@ -87,6 +87,7 @@ fn total_lines(plans: &[ClientPlan<'_>]) -> Result<usize, NoMemory>
     ensures { IfOk result (λ count. count ≡ sum_by (λ (p : ClientPlan). length p) plans.now) }
 {
     let mut count = 0usize;
+    // The count is that of the lines of the plans so far.
     for plan in plans {
         count = count.checked_add(plan.len()).ok_or(NoMemory)?;
     }
@@ -99,6 +100,7 @@ fn new_seats(alloc: Global, plans: &[ClientPlan<'_>]) -> Result<Vec<Seat>, NoMem
     ensures len { IfOk result (λ seats. vec_len seats ≡ length plans.now) }
 {
     let mut seats = Vec::new(alloc);
+    // Each plan so far has a seat.
     for plan in plans {
         seats.push(Seat::new(alloc, plan.len())?)?;
     }
@@ -111,6 +113,7 @@ fn repeated<T: Copy>(alloc: Global, item: T, len: usize) -> Result<Vec<T>, NoMem
     ensures len { IfOk result (λ list. vec_len list ≡ len) }
 {
     let mut list = Vec::new(alloc);
+    // The list has the item as many times as the loop ran.
     for _count in 0..len {
         list.push(item)?;
     }

@@ -1,17 +1,17 @@
 //! How many accepted batches each client has: the count before a batch makes its ordinal.
 
 ghost use Rattle.std.specs.Prelude.{◌≡◌, ◌<◌, ◌≤◌, ◌+◌, ◌-◌, ◌^◌, ◌++◌, ◌∷◌, [], ◌==◌, List, length, take, count_by};
-ghost use Rattle.run_calls.specs.declared.entry.Entry.{Entry};
+ghost use Rattle.run_outcome.specs.declared.history_entry.HistoryEntry.{HistoryEntry};
 ghost use Rattle.replay_plans.specs.declared.plan.Lines.{Lines};
 ghost use Rattle.replay_core.specs.Ordinals.{AreCounts, count_for};
 
 use replay_plans::Lines;
-use run_calls::Entry;
+use run_outcome::HistoryEntry;
 
 /// How many of the first `before` entries are a client's. Its count says so, and where it has none they are counted.
 pub(crate) fn accepted_before(
     counts: &[u64],
-    entries: &[Entry<Lines>],
+    entries: &[HistoryEntry<Lines>],
     before: usize,
     client: u32,
 ) -> u64
@@ -27,7 +27,7 @@ pub(crate) fn accepted_before(
 }
 
 /// How many of the first `before` entries are a client's, counted one after another.
-fn counted_before(entries: &[Entry<Lines>], before: usize, client: u32) -> u64
+fn counted_before(entries: &[HistoryEntry<Lines>], before: usize, client: u32) -> u64
     requires { before ≤ length entries.now }
     ensures counted { result ≡ count_by (λ e. e.client == client) (take before entries.now) }
     ensures few { result ≤ before }
@@ -49,18 +49,19 @@ fn count_for(counts: &[u64], client: u32) -> Option<u64>
 }
 
 /// Adds the entries that have come after others to the clients' counts.
-pub(crate) fn count_entries(counts: &mut [u64], entries: &[Entry<Lines>])
-    ensures { (front : List (Entry Lines)) → length front + length entries.now < 2 ^ 64
+pub(crate) fn count_entries(counts: &mut [u64], entries: &[HistoryEntry<Lines>])
+    ensures { (front : List (HistoryEntry Lines)) → length front + length entries.now < 2 ^ 64
         → AreCounts counts.old front → AreCounts counts.new (front ++ entries.now) }
 {
+    // The entries so far are counted, each for its client.
     for entry in entries {
         count_one(counts, entry);
     }
 }
 
 /// Adds an entry to its client's count, where that has one.
-fn count_one(counts: &mut [u64], entry: &Entry<Lines>)
-    ensures { (front : List (Entry Lines)) → length front < 2 ^ 64 - 1 → AreCounts counts.old front
+fn count_one(counts: &mut [u64], entry: &HistoryEntry<Lines>)
+    ensures { (front : List (HistoryEntry Lines)) → length front < 2 ^ 64 - 1 → AreCounts counts.old front
         → AreCounts counts.new (front ++ entry.now ∷ []) }
 {
     let Some(place) = (entry.client as usize).checked_sub(1) else {

@@ -6,20 +6,21 @@ ghost use Rattle.model_core.specs.Core as core;
 ghost use Rattle.replay_plans.specs.declared.plan.ClientPlan.{ClientPlan};
 ghost use Rattle.replay_core.specs.Shown.{shown_entry};
 ghost use Rattle.replay_core.specs.Ordinals.{AreCounts};
-ghost use Rattle.replay_core.specs.Runs.{GotRuns, IsCounted, unanswered};
+ghost use Rattle.replay_core.specs.Runs.{GotRuns, IsCounted, without_answer};
 
 use crate::ordinals::accepted_before;
 use crate::room::push_within;
 use crate::writer::{Answer, Writer};
+use log_batch::{flag_of, next_run};
 use replay_plans::Lines;
-use run_calls::{Entry, flag_of, next_run};
+use run_outcome::HistoryEntry;
 
 /// Gives the writers of a group their runs in order, after the sequence `last`, and an entry to each that has one. A
 /// writer whose run doesn't fit is refused, and later ones that fit get theirs. `counts` are the clients' entries so
 /// far. The result is the sequence given last.
 pub(crate) fn give_runs(
     group: &mut [Writer],
-    entries: &mut Vec<Entry<Lines>>,
+    entries: &mut Vec<HistoryEntry<Lines>>,
     counts: &[u64],
     last: u64,
 ) -> u64
@@ -29,7 +30,7 @@ pub(crate) fn give_runs(
         → s.entries ≡ map (shown_entry plans) entries.old.items
         → vec_len entries.old + length group.old ≤ vec_capacity entries.old
         → GotRuns plans s s.entries last group.old group.new entries.new.items result }
-    ensures writers { map unanswered group.new ≡ map unanswered group.old }
+    ensures writers { map without_answer group.new ≡ map without_answer group.old }
     ensures fits { result ≤ 2 ^ 56 - 1 }
     ensures front { take (vec_len entries.old) entries.new.items ≡ entries.old.items }
     ensures lower { vec_len entries.old ≤ vec_len entries.new }
@@ -38,6 +39,7 @@ pub(crate) fn give_runs(
 {
     let before = entries.len();
     let mut given = last;
+    // The writers so far have their runs or refusals, and `given` is the sequence given last.
     for writer in group.iter_mut() {
         given = give_run(writer, entries, counts, before, given);
     }
@@ -48,7 +50,7 @@ pub(crate) fn give_runs(
 /// its own group, and `counts` are those before. The result is the sequence given last.
 fn give_run(
     writer: &mut Writer,
-    entries: &mut Vec<Entry<Lines>>,
+    entries: &mut Vec<HistoryEntry<Lines>>,
     counts: &[u64],
     before: usize,
     last: u64,
@@ -61,7 +63,7 @@ fn give_run(
         → vec_len entries.old < vec_capacity entries.old
         → GotRuns plans s (map (shown_entry plans) entries.old.items) last (writer.old ∷ [])
         (writer.new ∷ []) entries.new.items result }
-    ensures writer { unanswered writer.new ≡ unanswered writer.old }
+    ensures writer { without_answer writer.new ≡ without_answer writer.old }
     ensures fits { result ≤ 2 ^ 56 - 1 }
     ensures front { take before entries.new.items ≡ take before entries.old.items }
     ensures lower { vec_len entries.old ≤ vec_len entries.new }
@@ -75,7 +77,7 @@ fn give_run(
             return last;
         }
     };
-    let entry = Entry {
+    let entry = HistoryEntry {
         client: writer.client,
         ordinal: accepted_before(counts, entries, before, writer.client) + 1,
         first: run.first,

@@ -21,7 +21,7 @@ use replay_plans::{Ahead, ClientPlan, look_ahead};
 pub(crate) fn told(seat: &mut Seat, reply: CoreReply)
     ensures { (plan : ClientPlan) (client : core.Client) (command : calls.Command) (r : calls.Reply)
         → IsClient plan seat.old client → client.idle ≡ false → IsReply reply r → is_answer r ≡ Some r
-        → IsClient plan seat.new (core.told client command r) }
+        → IsClient plan seat.new (core.after_reply client command r) }
 {
     push_within(&mut seat.replies, reply);
     seat.idle = true;
@@ -39,7 +39,7 @@ pub(crate) fn empty_batch(seat: &mut Seat)
 pub(crate) fn settle(seat: &mut Seat, answer: Answer)
     ensures { (plan : ClientPlan) (client : core.Client) (w : core.Writer) (records : List Record)
         → IsClient plan seat.old client → client.idle ≡ false
-        → IsClient plan seat.new (event.completed client w (shown_reply records answer)) }
+        → IsClient plan seat.new (event.after_completion client w (shown_reply records answer)) }
 {
     match answer {
         Answer::Accepted { first, last } => {
@@ -68,7 +68,7 @@ pub(crate) fn answer(seat: &mut Seat, ahead: Ahead, reply: CoreReply)
         → IsClient plan seat.old client → client.idle ≡ true
         → IsAhead plan seat.old.next ahead client.calls client (core.next_call client)
         → ahead.call < length plan → IsReply reply r → is_answer r ≡ Some r
-        → IsClient plan seat.new (core.told (core.next_call client).client command r) }
+        → IsClient plan seat.new (core.after_reply (core.next_call client).client command r) }
 {
     seat.next = ahead.next;
     seat.from = ahead.from;

@@ -7,7 +7,7 @@ use crate::phases::{LogPhase, Mark, TablePhase};
 use crate::writer::{CoreReply, Writer};
 use model_base::Item;
 use replay_plans::{ClientPlan, Lines};
-use run_calls::Entry;
+use run_outcome::HistoryEntry;
 
 /// How the core is set up.
 #[derive(Clone, Copy, Debug, PartialEq, Eq)]
@@ -61,7 +61,7 @@ pub struct State<'a> {
     pub(crate) last_finished: Option<u32>,
     /// How many entries each logged group has.
     pub(crate) groups: Vec<u64>,
-    pub(crate) entries: Vec<Entry<Lines>>,
+    pub(crate) entries: Vec<HistoryEntry<Lines>>,
     /// How many of them each client has.
     pub(crate) accepted: Vec<u64>,
     /// The sequence given last.

@@ -59,12 +59,12 @@ impl State<'_> {
 
 impl Counts {
     ghost use Rattle.std.specs.Prelude.{◌+◌, ◌-◌, ◌^◌, ◌<◌};
-    ghost use Rattle.replay_core.specs.Counted.{counted};
+    ghost use Rattle.replay_core.specs.Counted.{counts_after_event};
 
     /// The counts after one more event, which came or not.
-    fn counted(self, came: bool) -> Counts
+    fn after_event(self, came: bool) -> Counts
         requires { self.taken + self.skipped < 2 ^ 64 - 1 }
-        ensures { result ≡ counted came self }
+        ensures { result ≡ counts_after_event came self }
     {
         if came {
             Counts {
@@ -90,9 +90,10 @@ pub fn replay(state: &mut State<'_>, events: &[Event]) -> Counts
         taken: 0,
         skipped: 0,
     };
+    // The state is that after the events so far, and the counts say how many of these came.
     for event in events {
         let came = state.step(*event);
-        counts = counts.counted(came);
+        counts = counts.after_event(came);
     }
     counts
 }

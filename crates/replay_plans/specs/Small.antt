@@ -1,5 +1,6 @@
 -- The sizes of what lines add, and plans whose batches aren't too large.
 use Rattle.std.specs.Prelude.{ℕ, ◌+◌, ◌-◌, ◌^◌, min, nat_le, ◌≤◌, Bool, true, List, [], ◌∷◌, ◌++◌, length, Option, Some, None, if◌then◌else◌}
+use Rattle.model_base.specs.declared.limits.TheConstants.{MAX_SIZE}
 use Rattle.model_base.specs.Batch.{Record, is_counted, record_bytes, size_of_batch}
 use Rattle.model_base.specs.Calls.{Command, add, clear, commit}
 use Rattle.run_command_list.specs.Kinds.{record_added}
@@ -19,7 +20,7 @@ abbrev pub AreSmall : List Record → List Command → Type 0
 AreSmall added [] = Unit {0}
 AreSmall added (add r ∷ left) = AreSmall (added ++ r ∷ []) left
 AreSmall added (clear ∷ left) = AreSmall [] left
-AreSmall added (commit how ∷ left) = (size_of_batch added ≤ 16777216) × AreSmall added left
+AreSmall added (commit how ∷ left) = (size_of_batch added ≤ MAX_SIZE) × AreSmall added left
 AreSmall added (other ∷ left) = AreSmall added left
 
 abbrev pub IsSmallPlan : List Command → Type 0
@@ -29,7 +30,7 @@ IsSmallPlan plan = AreSmall [] plan
 
 -- whether a command may come to a batch of so many bytes
 abbrev pub fits : Command → ℕ → Bool
-fits (commit how) size = nat_le size 16777216
+fits (commit how) size = nat_le size MAX_SIZE
 fits other size = true
 
 -- a size with the bytes of a record, up to the largest 64-bit number

@@ -29,6 +29,7 @@ pub fn look_ahead(plan: &ClientPlan<'_>, at: usize, from: usize) -> Ahead
 {
     let end = plan.len();
     let mut begin = from;
+    // The lines so far only add to the batch, which begins at `begin`, or empty it.
     for place in at..end {
         match plan.line(place).kind() {
             CommandKind::Addition => {}

@@ -4,7 +4,7 @@ ghost use Rattle.std.specs.Prelude.{◌≡◌, ◌<◌, ◌≤◌, ◌+◌, ◌-
 ghost use Rattle.model_base.specs.Batch.{record_bytes, size_of_batch};
 ghost use Rattle.model_base.specs.Varint.{varint};
 ghost use Rattle.log_batch.specs.View.{record_of};
-ghost use Rattle.run_calls.specs.Measures.{measure_of};
+ghost use Rattle.log_batch.specs.Measures.{measure_of};
 ghost use Rattle.run_command_list.specs.Kinds.{record_added};
 ghost use Rattle.run_command_list.specs.Views.{command_of};
 ghost use Rattle.replay_plans.specs.Small.{record_size, record_count};
@@ -12,8 +12,7 @@ ghost use Rattle.replay_plans.specs.Plans.{added_between};
 
 use crate::plan::{ClientPlan, Lines};
 use base_bytes::varint32_len;
-use log_batch::RecordView;
-use run_calls::{BATCH_HEADER_LEN, Measure};
+use log_batch::{HEADER_LEN, Measure, RecordView};
 use run_command_list::CommandView;
 
 /// Measures the batch of some lines. A size that passes `u64::MAX` stays there.
@@ -23,10 +22,11 @@ pub fn measure_batch(plan: &ClientPlan<'_>, batch: Lines) -> Measure
         → result ≡ measure_of (added_between batch.from batch.to plan.now) }
 {
     let mut measure = Measure {
-        size: BATCH_HEADER_LEN,
+        size: HEADER_LEN as u64,
         count: 0,
     };
     let end = batch.to.min(plan.len());
+    // The measure is that of the lines so far.
     for place in batch.from..end {
         measure = with_line(measure, plan.line(place));
     }

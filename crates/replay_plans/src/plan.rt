@@ -32,6 +32,7 @@ impl<'a> ClientPlan<'a> {
         ensures { IfOk result (λ plan. plan ≡ commands.now) }
     {
         let mut lines = Vec::with_capacity(alloc, commands.len())?;
+        // The plan has the commands so far, in order.
         for command in commands.commands() {
             lines.push(command)?;
         }

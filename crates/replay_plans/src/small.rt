@@ -7,17 +7,16 @@ ghost use Rattle.replay_plans.specs.Small.{AreSmall, IsSmallPlan, fits, size_aft
 
 use crate::measure::line_size;
 use crate::plan::ClientPlan;
-use run_calls::BATCH_HEADER_LEN;
+use log_batch::HEADER_LEN;
+use model_base::MAX_SIZE;
 use run_command_list::{CommandKind, CommandView};
-
-/// The most bytes of a batch that a commit may come to: 16 MiB.
-const MOST_BYTES: u64 = 16777216;
 
 /// Whether no commit of these plans comes to a batch of more than 16 MiB, even if none before it is accepted.
 /// The core requires it of its clients' plans.
 pub fn are_small(plans: &[ClientPlan<'_>]) -> bool
     ensures { result ≡ true ↔ AllByRecursion IsSmallPlan plans.now }
 {
+    // The plans so far are small.
     for plan in plans {
         if !is_small(plan) {
             return false;
@@ -30,7 +29,8 @@ pub fn are_small(plans: &[ClientPlan<'_>]) -> bool
 fn is_small(plan: &ClientPlan<'_>) -> bool
     ensures { result ≡ true ↔ AreSmall [] plan.now }
 {
-    let mut size = BATCH_HEADER_LEN;
+    let mut size = HEADER_LEN as u64;
+    // No commit so far comes to too large a batch, and what is added so far has this size.
     for place in 0..plan.len() {
         let line = plan.line(place);
         if !fits(line, size) {
@@ -46,7 +46,7 @@ fn fits(line: &CommandView<'_>, size: u64) -> bool
     ensures { result ≡ fits (command_of line.now) size }
 {
     match line.kind() {
-        CommandKind::Commit => size <= MOST_BYTES,
+        CommandKind::Commit => size <= MAX_SIZE,
         _ => true,
     }
 }
@@ -56,7 +56,7 @@ fn size_after(line: &CommandView<'_>, size: u64) -> u64
     ensures { result ≡ size_after (command_of line.now) size }
 {
     match line.kind() {
-        CommandKind::Clear => BATCH_HEADER_LEN,
+        CommandKind::Clear => HEADER_LEN as u64,
         _ => size.saturating_add(line_size(line)),
     }
 }

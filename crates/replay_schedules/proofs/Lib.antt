@@ -1,3 +1,4 @@
+pub mod MapLemmas
 mod SmallPlans
 mod ReplayedClients
 mod ReplayedHistory

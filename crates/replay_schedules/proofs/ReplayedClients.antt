@@ -26,7 +26,7 @@ use Rattle.replay_core.specs.declared.writer.CoreReply.{CoreReply}
 use Rattle.replay_core.specs.declared.writer.CoreReply.TheVariants.{Accepted, Refused, ReadAt}
 use Rattle.replay_plans.specs.Answers.{answers_of}
 use Rattle.replay_core.specs.Replies.{AreReplies}
-use Rattle.replay_views.specs.Maps.{map_up_to}
+use Rattle.replay_schedules.specs.Maps.{map_up_to}
 use Rattle.run_outcome.specs.Shows.{ShowsReply, ShowsReplies}
 use Rattle.replay_schedules.specs.Replaying.{reply_by, first_reply, replies_by, next_reply, IsTranscript, AreTranscripts}
 

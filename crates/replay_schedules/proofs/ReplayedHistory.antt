@@ -7,7 +7,7 @@ use Rattle.std.proofs.lemmas.List.{take_more, map-append}
 use Rattle.std.proofs.lemmas.List.Elements.{filter_map-append}
 use Rattle.model_base.specs.Batch.{Record}
 use Rattle.model_base.specs.History as history
-use Rattle.log_batch.specs.Contents.{Contents, added}
+use Rattle.log_batch.specs.Contents.{Contents, with_addition}
 use Rattle.model_base.specs.Calls.{Command, add}
 use Rattle.run_command_list.specs.declared.command_view.CommandView.{CommandView}
 use Rattle.run_command_list.specs.Kinds.{record_added}
@@ -15,7 +15,7 @@ use Rattle.run_command_list.specs.Views.{command_of}
 use Rattle.replay_plans.specs.declared.plan.ClientPlan.{ClientPlan}
 use Rattle.replay_core.specs.Shown.{CoreEntry, shown_entry}
 use Rattle.replay_core.specs.Within.{IsWithinPlans}
-use Rattle.replay_views.specs.Maps.{added_by}
+use Rattle.replay_schedules.specs.Maps.{records_added}
 use Rattle.run_outcome.specs.Shows.{ShowsEntry}
 use Rattle.replay_schedules.specs.Replaying.{entry_by}
 
@@ -32,15 +32,15 @@ pub history_shown : (plans : List ClientPlan) (es : List CoreEntry) (entries : L
 history_shown plans es entries within are = subst (AllZip ShowsEntry (map (entry_by plans) es)) are (entries_shown plans es within)
 
 -- what a line adds stands after the others
-line_added : (old : Contents) (x : Command) → (option_map_or (added old) (record_added x) old).records ≡ old.records ++ filter_map record_added (x ∷ [])
+line_added : (old : Contents) (x : Command) → (option_map_or (with_addition old) (record_added x) old).records ≡ old.records ++ filter_map record_added (x ∷ [])
 line_added old (add r) = refl
 line_added old other = sym (append-nil old.records)
 
 -- a line more
-pub line_more : (lines : List CommandView) (i : ℕ) (x : CommandView) (old new : Contents) → i < length lines → x ≡ get_or lines i x → old.records ≡ added_by (take i lines)
-    → new ≡ option_map_or (added old) (record_added (command_of x)) old → new.records ≡ added_by (take (i + 1) lines)
+pub line_more : (lines : List CommandView) (i : ℕ) (x : CommandView) (old new : Contents) → i < length lines → x ≡ get_or lines i x → old.records ≡ records_added (take i lines)
+    → new ≡ option_map_or (with_addition old) (record_added (command_of x)) old → new.records ≡ records_added (take (i + 1) lines)
 line_more lines i x old new here is so_far e =
-    let more : added_by (take (i + 1) lines) ≡ added_by (take i lines) ++ filter_map record_added (command_of x ∷ []) =
-    ap added_by (take_more lines i x here ∙ ap (λ y. take i lines ++ y ∷ []) (sym is)) ∙ ap (filter_map record_added) (map-append command_of (take i lines) (x ∷ []))
+    let more : records_added (take (i + 1) lines) ≡ records_added (take i lines) ++ filter_map record_added (command_of x ∷ []) =
+    ap records_added (take_more lines i x here ∙ ap (λ y. take i lines ++ y ∷ []) (sym is)) ∙ ap (filter_map record_added) (map-append command_of (take i lines) (x ∷ []))
     ∙ filter_map-append record_added (map command_of (take i lines)) (command_of x ∷ []) in
     ap (λ (b : Contents). b.records) e ∙ line_added old (command_of x) ∙ ap (λ (rs : List Record). rs ++ filter_map record_added (command_of x ∷ [])) so_far ∙ sym more

@@ -1,7 +1,7 @@
 -- The core that was run shows what the schedule came to.
 use Rattle.std.proofs.Common.{◌≡◌, List, [], ◌∷◌, sym, subst}
 use Rattle.std.specs.List.{AllByRecursion}
-use Rattle.model_core.specs.Core.{opened}
+use Rattle.model_core.specs.Core.{opening_state}
 use Rattle.model_core.specs.CoreLaw.{IsCore}
 use Rattle.model_core.specs.Replies.{AreRepliesOf}
 use Rattle.model_core_laws.proofs.Kept.{every_list}
@@ -30,10 +30,10 @@ are_said plans script same said = each_said plans (subst (AllByRecursion (AllByR
 
 -- the core was opened with the script's commands, and took its events
 pub is_replay : (o : CoreOptions) (s : Schedule) (plans : List ClientPlan) (old new : code.State) (counts : Counts) → plans ≡ commands_of s.script
-    → Shows old (options_of o) (opened (options_of o) plans) → Replays s.events.items old counts new → IsReplay (options_of o) counts new (replayed_of o (schedule_of s))
+    → Shows old (options_of o) (opening_state (options_of o) plans) → Replays s.events.items old counts new → IsReplay (options_of o) counts new (replayed_of o (schedule_of s))
 is_replay o s plans old new counts same shows run =
     let core = options_of o in
-    run core (opened core (commands_of s.script)) (every_list core (commands_of s.script) []) (subst (λ lines. Shows old core (opened core lines)) same shows)
+    run core (opening_state core (commands_of s.script)) (every_list core (commands_of s.script) []) (subst (λ lines. Shows old core (opening_state core lines)) same shows)
 
 pub is_core : (o : CoreOptions) (s : Schedule) → IsCore (options_of o) (replayed_of o (schedule_of s)).state
 is_core o s = every_list (options_of o) (commands_of s.script) s.events.items

@@ -1,7 +1,7 @@
 -- What a schedule of events comes to on the core of its script's clients.
 use Rattle.std.specs.Prelude.{◌≡◌, length, map}
 use Rattle.std.specs.List.{AllZip}
-use Rattle.model_core.specs.Core.{Client, opened, published_map}
+use Rattle.model_core.specs.Core.{Client, opening_state, published_map}
 use Rattle.model_core.specs.Step as core
 use Rattle.model_core.specs.Schedule.{Schedule}
 use Rattle.replay_core.specs.declared.state.CoreOptions.{CoreOptions}
@@ -11,7 +11,7 @@ use Rattle.run_outcome.specs.Shows.{ShowsReplies, ShowsEntry}
 
 -- the schedule, run on the core with these options from its opening
 abbrev pub replayed_of : CoreOptions → Schedule → core.Replayed
-replayed_of o s = core.replay (options_of o) (opened (options_of o) s.script) s.events
+replayed_of o s = core.replay (options_of o) (opening_state (options_of o) s.script) s.events
 
 -- The values show what the schedule came to.
 pub record ShowsReplayed (shown : Replayed) (r : core.Replayed) : Type 0 where

@@ -10,7 +10,7 @@ use Rattle.model_core.specs.CoreLaw.{IsCore}
 use Rattle.model_base.specs.Calls.{Command, commit, get, many, scan}
 use Rattle.run_outcome.specs.declared.reply.Reply.{Reply}
 use Rattle.run_outcome.specs.declared.reply.Reply.TheVariants as reply
-use Rattle.run_calls.specs.declared.entry.Entry.{Entry}
+use Rattle.run_outcome.specs.declared.history_entry.HistoryEntry.{HistoryEntry}
 use Rattle.log_batch.specs.Contents.{Contents}
 use Rattle.replay_plans.specs.declared.plan.ClientPlan.{ClientPlan}
 use Rattle.replay_core.specs.declared.state.State.{State}
@@ -21,7 +21,7 @@ use Rattle.replay_core.specs.Replies.{AreReplies}
 use Rattle.replay_plans.specs.Plans.{records_of}
 use Rattle.replay_core.specs.Shown.{CoreEntry}
 use Rattle.replay_core.specs.Shows.{Shows}
-use Rattle.replay_views.specs.Maps.{map_up_to}
+use Rattle.replay_schedules.specs.Maps.{map_up_to}
 
 -- it is so in each state of the machine of events that the core shows
 abbrev pub InEachShown : State → (machine.State → Type 0) → Type 0
@@ -77,7 +77,7 @@ pub record AreTranscripts (s : machine.State) (plans : List ClientPlan) (count :
 -- The history
 
 -- an entry of the core, with its batch
-abbrev pub entry_by : List ClientPlan → CoreEntry → Entry Contents
+abbrev pub entry_by : List ClientPlan → CoreEntry → HistoryEntry Contents
 entry_by plans e = record {
   client = e.client;
   ordinal = e.ordinal;

@@ -4,29 +4,30 @@ ghost use Rattle.std.specs.Prelude.{◌≡◌, IfOk, OnOk};
 ghost use Rattle.std.specs.List.{AllZip};
 ghost use Rattle.std.specs.Option.{option_map_or};
 ghost use Rattle.run_outcome.specs.Shows.{ShowsEntry};
-ghost use Rattle.log_batch.specs.Contents.{Contents, added};
+ghost use Rattle.log_batch.specs.Contents.{Contents, with_addition};
 ghost use Rattle.log_batch.specs.View.{record_of};
 ghost use Rattle.run_command_list.specs.Kinds.{record_added};
 ghost use Rattle.run_command_list.specs.Views.{command_of};
 ghost use Rattle.replay_core.specs.Shown.{plans_in};
-ghost use Rattle.replay_views.specs.Maps.{added_by};
+ghost use Rattle.replay_schedules.specs.Maps.{records_added};
 ghost use Rattle.replay_schedules.specs.Replaying.{InEachShown, entry_by};
 
+use crate::maps::batch_lines;
 use log_batch::{AddError, Batch, RecordView};
 use model_base::NoMemory;
 use replay_core::State;
 use replay_plans::Lines;
-use replay_views::batch_lines;
-use run_calls::Entry;
 use run_command_list::CommandView;
+use run_outcome::HistoryEntry;
 use std::alloc::Global;
 
 /// The history of the core's entries, each with its batch.
-pub fn history_of(alloc: Global, core: &State<'_>) -> Result<Vec<Entry<Batch>>, NoMemory>
+pub fn history_of(alloc: Global, core: &State<'_>) -> Result<Vec<HistoryEntry<Batch>>, NoMemory>
     ensures { InEachShown core.now (λ s. IfOk result (λ history. AllZip ShowsEntry history.items s.entries)) }
 {
     let entries = core.entries();
     let mut history = Vec::with_capacity(alloc, entries.len())?;
+    // The history has the entries so far, each with its batch.
     for entry in entries {
         history.push(entry_of(alloc, core, entry)?)?;
     }
@@ -34,7 +35,11 @@ pub fn history_of(alloc: Global, core: &State<'_>) -> Result<Vec<Entry<Batch>>, 
 }
 
 /// An entry of the history, with its batch.
-fn entry_of(alloc: Global, core: &State<'_>, entry: &Entry<Lines>) -> Result<Entry<Batch>, NoMemory>
+fn entry_of(
+    alloc: Global,
+    core: &State<'_>,
+    entry: &HistoryEntry<Lines>,
+) -> Result<HistoryEntry<Batch>, NoMemory>
     ensures { IfOk result (λ shown. shown ≡ entry_by (plans_in core.now) entry.now) }
 {
     let mut batch = match batch_lines(core, entry) {
@@ -42,7 +47,7 @@ fn entry_of(alloc: Global, core: &State<'_>, entry: &Entry<Lines>) -> Result<Ent
         None => Batch::new(alloc)?,
     };
     batch.set_sequence(entry.first);
-    Ok(Entry {
+    Ok(HistoryEntry {
         client: entry.client,
         ordinal: entry.ordinal,
         first: entry.first,
@@ -54,9 +59,10 @@ fn entry_of(alloc: Global, core: &State<'_>, entry: &Entry<Lines>) -> Result<Ent
 
 /// The batch of what lines add.
 fn batch_of(alloc: Global, lines: &[CommandView<'_>]) -> Result<Batch, NoMemory>
-    ensures { IfOk result (λ batch. batch.records ≡ added_by lines.now) }
+    ensures { IfOk result (λ batch. batch.records ≡ records_added lines.now) }
 {
     let mut batch = Batch::new(alloc)?;
+    // The batch has what the lines so far add.
     for line in lines {
         add_line(&mut batch, line)?;
     }
@@ -65,7 +71,8 @@ fn batch_of(alloc: Global, lines: &[CommandView<'_>]) -> Result<Batch, NoMemory>
 
 /// Adds what a line adds. A batch that would be too large is one for which there is no memory.
 fn add_line(batch: &mut Batch, line: &CommandView<'_>) -> Result<(), NoMemory>
-    ensures { OnOk result (batch.new ≡ option_map_or (added batch.old) (record_added (command_of line.now)) batch.old) }
+    ensures { OnOk result
+        (batch.new ≡ option_map_or (with_addition batch.old) (record_added (command_of line.now)) batch.old) }
 {
     let Some(view) = line.record() else {
         return Ok(());
@@ -78,7 +85,7 @@ fn add_line(batch: &mut Batch, line: &CommandView<'_>) -> Result<(), NoMemory>
 
 /// Adds a record of any kind.
 fn add_record(batch: &mut Batch, view: RecordView<'_>) -> Result<(), AddError>
-    ensures { OnOk result (batch.new ≡ added batch.old (record_of view.entry)) }
+    ensures { OnOk result (batch.new ≡ with_addition batch.old (record_of view.entry)) }
 {
     match view {
         RecordView::Value { key, value } => batch.put(key, value),

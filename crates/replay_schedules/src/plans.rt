@@ -13,6 +13,7 @@ pub fn plans_of(alloc: Global, script: &Script) -> Result<Vec<ClientPlan<'_>>, N
     ensures { IfOk result (λ plans. plans.items ≡ commands_of script.now) }
 {
     let mut plans = Vec::with_capacity(alloc, script.clients.len())?;
+    // There is a plan for each client so far.
     for commands in &script.clients {
         plans.push(ClientPlan::of(alloc, commands)?)?;
     }

@@ -6,15 +6,14 @@ ghost use Rattle.run_scripts.specs.Scripts.{FitsBatches, HasClientsCommands};
 ghost use Rattle.replay_schedules.specs.Replayed.{ShowsReplayed, replayed_of};
 
 use crate::history::history_of;
+use crate::maps::map;
 use crate::plans::plans_of;
 use crate::replies::transcripts_of;
-use base_bytes::PairMap;
+use base_maps::ByteMap;
 use log_batch::Batch;
-use model_base::NoMemory;
+use model_base::{MAX_CLIENTS, NoMemory};
 use replay_core::{CoreOptions, Counts, State, replay};
-use replay_views::map;
-use run_calls::Entry;
-use run_outcome::Reply;
+use run_outcome::{HistoryEntry, Reply};
 use run_scripts::Schedule;
 use std::alloc::Global;
 
@@ -26,10 +25,10 @@ pub struct Replayed {
     /// The replies of each client to its commits and reads so far, in order of the clients' numbers.
     pub transcripts: Vec<Vec<Reply>>,
     /// The batches that were given runs, in order of their sequences.
-    pub history: Vec<Entry<Batch>>,
+    pub history: Vec<HistoryEntry<Batch>>,
     /// The published sequence, and the map there.
     pub last: u64,
-    pub map: PairMap,
+    pub map: ByteMap,
     /// How many groups were logged.
     pub groups: u64,
 }
@@ -42,7 +41,7 @@ pub fn replay_schedule(
     options: CoreOptions,
 ) -> Result<Replayed, NoMemory>
     requires some { 1 ≤ length schedule.script.clients.items }
-    requires few { length schedule.script.clients.items ≤ 16 }
+    requires few { length schedule.script.clients.items ≤ MAX_CLIENTS }
     requires fits { FitsBatches schedule.script }
     requires commands { HasClientsCommands schedule.script }
     requires last { options.last ≤ 2 ^ 56 - 1 }

@@ -4,26 +4,27 @@ ghost use Rattle.std.specs.Prelude.{◌≡◌, ◌++◌, ◌≤◌, length, drop
 ghost use Rattle.base_bytes.specs.Answers.{found_value};
 ghost use Rattle.run_command_list.specs.Views.{command_of};
 ghost use Rattle.replay_core.specs.Shown.{plans_in};
-ghost use Rattle.replay_views.specs.Maps.{IsMapOf};
+ghost use Rattle.replay_schedules.specs.Maps.{IsMapOf};
 ghost use Rattle.replay_schedules.specs.Replaying.{InEachShown, read_by, reply_by, first_reply, next_reply, replies_by, AreTranscripts};
 
+use crate::reading::MapUpTo;
 use base_bytes::{Bytes, Found};
-use model_base::NoMemory;
+use model_base::{MAX_CLIENTS, NoMemory};
 use replay_core::{CoreReply, State};
 use replay_plans::ClientPlan;
-use replay_views::MapUpTo;
 use run_command_list::{CommandKind, CommandView};
 use run_outcome::Reply;
 use std::alloc::Global;
 
 /// What each client was told.
 pub fn transcripts_of(alloc: Global, core: &State<'_>) -> Result<Vec<Vec<Reply>>, NoMemory>
-    requires { length (plans_in core.now) ≤ 16 }
+    requires { length (plans_in core.now) ≤ MAX_CLIENTS }
     ensures { InEachShown core.now (λ s. IfOk result (λ t.
         AreTranscripts s (plans_in core.now) (length (plans_in core.now)) t.items)) }
 {
     let plans = core.plans();
     let mut transcripts = Vec::with_capacity(alloc, plans.len())?;
+    // There is a transcript for each client so far.
     for (before, plan) in plans.iter().enumerate() {
         let told = core.replies(before as u32 + 1);
         transcripts.push(replies_of(alloc, plan, told, core)?)?;
@@ -43,6 +44,7 @@ fn replies_of(
 {
     let mut reads = MapUpTo::new(alloc);
     let mut replies = Vec::with_capacity(alloc, told.len())?;
+    // The replies are those to the lines so far.
     for place in 0..plan.len() {
         add_reply(&mut replies, &mut reads, plan.line(place), told, core)?;
     }

@@ -8,7 +8,7 @@ use Rattle.std.specs.Prelude.{Result, Ok, Err, is_err, OnOk, true, false}
 use Rattle.model_base.specs.Batch.{count_of, size_of_batch}
 use Rattle.log_batch.specs.Contents.{Contents}
 use Rattle.log_batch.proofs.OwnRecords.{own_readable}
-use Rattle.run_batches.specs.declared.kept.Kept.{Kept}
+use Rattle.run_batches.specs.declared.accepted.AcceptedBatch.{AcceptedBatch}
 use Rattle.run_batches.specs.OneBatch.{batch_bytes, IsBatchOf}
 use Rattle.run_batches.specs.Layout.{bytes_of, body, ends_from}
 use Rattle.run_batches.specs.OneList.{Fits, AreBatches, same_batches}
@@ -26,10 +26,10 @@ small_batch bytes b spelled sequence count size = record {
   count_fits = count;
 }
 
-body-added : (batches : List (Kept Contents)) (k : Kept Contents) → body (batches ++ k ∷ []) ≡ body batches ++ bytes_of k
+body-added : (batches : List (AcceptedBatch Contents)) (k : AcceptedBatch Contents) → body (batches ++ k ∷ []) ≡ body batches ++ bytes_of k
 body-added batches k = flat_map-append bytes_of batches (k ∷ []) ∙ ap (λ (l : List ℕ). body batches ++ l) (append-nil (bytes_of k))
 
-ends-added : (begin end : ℕ) (batches : List (Kept Contents)) (k : Kept Contents) → end ≡ begin + length (body (batches ++ k ∷ [])) → ends_from begin (batches ++ k ∷ []) ≡ ends_from begin batches ++ end ∷ []
+ends-added : (begin end : ℕ) (batches : List (AcceptedBatch Contents)) (k : AcceptedBatch Contents) → end ≡ begin + length (body (batches ++ k ∷ [])) → ends_from begin (batches ++ k ∷ []) ≡ ends_from begin batches ++ end ∷ []
 ends-added begin end [] k is =
     let first : begin + length (bytes_of k) ≡ end = omega (arith, is, length-append (bytes_of k) []) in
     ap (λ (n : ℕ). n ∷ []) first
@@ -37,12 +37,12 @@ ends-added begin end (j ∷ batches) k is =
     ap (λ (l : List ℕ). (begin + length (bytes_of j)) ∷ l)
     (ends-added (begin + length (bytes_of j)) end batches k (omega (arith, is, length-append (bytes_of j) (body (batches ++ k ∷ [])))))
 
-all_fit : (batches : List (Kept Contents)) (k : Kept Contents) → AllByRecursion Fits batches → Fits k → AllByRecursion Fits (batches ++ k ∷ [])
+all_fit : (batches : List (AcceptedBatch Contents)) (k : AcceptedBatch Contents) → AllByRecursion Fits batches → Fits k → AllByRecursion Fits (batches ++ k ∷ [])
 all_fit [] k fit one = (one, tt)
 all_fit (j ∷ batches) k fit one = (fit.0, all_fit batches k fit.1 one)
 
 -- the list with a batch more
-pub with_batch : (old now ends later : List ℕ) (h : AreBatches old ends) (k : Kept Contents) → Fits k → now ≡ old ++ bytes_of k → later ≡ ends ++ length now ∷ []
+pub with_batch : (old now ends later : List ℕ) (h : AreBatches old ends) (k : AcceptedBatch Contents) → Fits k → now ≡ old ++ bytes_of k → later ≡ ends ++ length now ∷ []
     → (more : AreBatches now later) × (more.batches ≡ h.batches ++ k ∷ [])
 with_batch old now ends later h k fits is is_later =
     let spelled : now ≡ body (h.batches ++ k ∷ []) = is ∙ ap (λ (l : List ℕ). l ++ bytes_of k) h.spelled ∙ sym (body-added h.batches k) in

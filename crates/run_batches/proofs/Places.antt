@@ -4,14 +4,14 @@ use Rattle.std.proofs.Math.Seq.{take-length, take-append_seam, drop-append_seam}
 use Rattle.std.specs.List.{AllByRecursion}
 use Rattle.std.specs.Prelude.{Some, slice_get, slice_range}
 use Rattle.log_batch.specs.Contents.{Contents}
-use Rattle.run_batches.specs.declared.kept.Kept.{Kept}
+use Rattle.run_batches.specs.declared.accepted.AcceptedBatch.{AcceptedBatch}
 use Rattle.run_batches.specs.Layout.{bytes_of, body, ends_from}
 use Rattle.run_batches.specs.OneList.{Fits, AreBatches}
 use Rattle.run_batches.proofs.Additions.{as_before}
 
 -- the batch at a place, between the bytes of those before it and of those behind it
-record Stands (begin : ℕ) (batches : List (Kept Contents)) (at : ℕ) : Type 0 where
-  pub kept : Kept Contents
+record Stands (begin : ℕ) (batches : List (AcceptedBatch Contents)) (at : ℕ) : Type 0 where
+  pub kept : AcceptedBatch Contents
   pub is : slice_get batches at ≡ Some kept
   pub fits : Fits kept
   pub before : List ℕ
@@ -20,7 +20,7 @@ record Stands (begin : ℕ) (batches : List (Kept Contents)) (at : ℕ) : Type 0
   pub begins : get_or (begin ∷ ends_from begin batches) at 0 ≡ begin + length before
   pub ends : get_or (ends_from begin batches) at 0 ≡ begin + length before + length (bytes_of kept)
 
-stands : (begin : ℕ) (batches : List (Kept Contents)) (at : ℕ) → AllByRecursion Fits batches → at < length batches → Stands begin batches at
+stands : (begin : ℕ) (batches : List (AcceptedBatch Contents)) (at : ℕ) → AllByRecursion Fits batches → at < length batches → Stands begin batches at
 stands begin [] at fit within = absurd (omega (arith, within))
 stands begin (k ∷ batches) zero fit within = record {
   kept = k;
@@ -47,13 +47,13 @@ stands begin (k ∷ batches) (suc at) fit within =
     }
 
 -- There are as many ends as batches.
-pub as_many_ends : (begin : ℕ) (batches : List (Kept Contents)) → length (ends_from begin batches) ≡ length batches
+pub as_many_ends : (begin : ℕ) (batches : List (AcceptedBatch Contents)) → length (ends_from begin batches) ≡ length batches
 as_many_ends begin [] = refl
 as_many_ends begin (k ∷ batches) = omega (arith, as_many_ends (begin + length (bytes_of k)) batches)
 
 -- The bytes from where the batch at a place begins to where it ends are the batch's.
-pub record IsAt (bytes ends : List ℕ) (batches : List (Kept Contents)) (at : ℕ) : Type 0 where
-  pub kept : Kept Contents
+pub record IsAt (bytes ends : List ℕ) (batches : List (AcceptedBatch Contents)) (at : ℕ) : Type 0 where
+  pub kept : AcceptedBatch Contents
   pub is : slice_get batches at ≡ Some kept
   pub fits : Fits kept
   pub at_in : at < length ends
@@ -84,11 +84,11 @@ is_at bytes ends h at at_in =
     }
 
 -- The same by what calls say of the bytes, of the ends and of the list.
-pub found_at : (bytes ends : List ℕ) (h : AreBatches bytes ends) (at : ℕ) (slice places : List ℕ) (batches : List (Kept Contents)) → slice ≡ bytes → places ≡ ends → h.batches ≡ batches → at < length batches → IsAt slice places batches at
+pub found_at : (bytes ends : List ℕ) (h : AreBatches bytes ends) (at : ℕ) (slice places : List ℕ) (batches : List (AcceptedBatch Contents)) → slice ≡ bytes → places ≡ ends → h.batches ≡ batches → at < length batches → IsAt slice places batches at
 found_at bytes ends h at slice places batches is_slice is_places is at_in =
     let same = as_before bytes slice ends places h is_slice is_places in
     let all : same.0.batches ≡ batches = same.1 ∙ is in
-    subst (λ (l : List (Kept Contents)). IsAt slice places l at) all (is_at slice places same.0 at (omega (arith, at_in, ap length all)))
+    subst (λ (l : List (AcceptedBatch Contents)). IsAt slice places l at) all (is_at slice places same.0 at (omega (arith, at_in, ap length all)))
 
 -- What stands behind the first byte.
 pub behind_first : (part : List ℕ) (x : ℕ) (own : List ℕ) → part ≡ x ∷ own → take (length part - 1) (drop 1 part) ≡ own

@@ -3,7 +3,7 @@ use Rattle.std.specs.Prelude.{ℕ, ◌+◌, List, [], ◌∷◌, length, flat_ma
 use Rattle.model_base.specs.declared.history.Flag.{Flag}
 use Rattle.model_base.specs.declared.history.Flag.TheVariants.{Log, NoLog, Sync}
 use Rattle.log_batch.specs.Contents.{Contents}
-use Rattle.run_batches.specs.declared.kept.Kept.{Kept}
+use Rattle.run_batches.specs.declared.accepted.AcceptedBatch.{AcceptedBatch}
 use Rattle.run_batches.specs.OneBatch.{batch_bytes}
 
 abbrev pub byte_of : Flag → ℕ
@@ -16,15 +16,15 @@ abbrev pub flag_of : ℕ → Flag
 flag_of byte = if byte == 0 then Log else (if byte == 1 then NoLog else Sync)
 
 -- a batch behind its flag
-abbrev pub bytes_of : Kept Contents → List ℕ
+abbrev pub bytes_of : AcceptedBatch Contents → List ℕ
 bytes_of kept = byte_of kept.flag ∷ batch_bytes kept.batch
 
 -- batches one after another
-abbrev pub body : List (Kept Contents) → List ℕ
+abbrev pub body : List (AcceptedBatch Contents) → List ℕ
 body batches = flat_map bytes_of batches
 
 -- where each of them ends, if the first begins here
-abbrev pub ends_from : ℕ → List (Kept Contents) → List ℕ
+abbrev pub ends_from : ℕ → List (AcceptedBatch Contents) → List ℕ
 ends_from begin [] = []
 ends_from begin (kept ∷ rest) =
     (begin + length (bytes_of kept)) ∷ ends_from (begin + length (bytes_of kept)) rest

@@ -8,17 +8,17 @@ use mathlib.Core.HLevel.{is_prop→PathP}
 use Rattle.model_base.specs.declared.history.Flag.{Flag}
 use Rattle.model_base.specs.declared.history.Flag.TheVariants.{Log, NoLog, Sync}
 use Rattle.log_batch.specs.Contents.{Contents}
-use Rattle.run_batches.specs.declared.kept.Kept.{Kept}
+use Rattle.run_batches.specs.declared.accepted.AcceptedBatch.{AcceptedBatch}
 use Rattle.run_batches.specs.OneBatch.{batch_bytes, IsBatchOf, IsBatchOf-prop, one_batch}
 use Rattle.run_batches.specs.Layout.{byte_of, flag_of, bytes_of, body, ends_from}
 
 -- what is told by its bytes
-abbrev pub Fits : Kept Contents → Type 0
+abbrev pub Fits : AcceptedBatch Contents → Type 0
 Fits kept = IsBatchOf (batch_bytes kept.batch) kept.batch
 
 -- The bytes are those of batches, and each ends where `ends` says. No other batches have these bytes and ends.
 pub record AreBatches (bytes ends : List ℕ) : Type 0 where
-  pub batches : List (Kept Contents)
+  pub batches : List (AcceptedBatch Contents)
   pub fit : AllByRecursion Fits batches
   pub spelled : bytes ≡ body batches
   pub ends_are : ends ≡ ends_from 0 batches
@@ -28,7 +28,7 @@ flag_back Log = refl
 flag_back NoLog = refl
 flag_back Sync = refl
 
-one_kept : (a b : Kept Contents) → Fits a → Fits b → bytes_of a ≡ bytes_of b → a ≡ b
+one_kept : (a b : AcceptedBatch Contents) → Fits a → Fits b → bytes_of a ≡ bytes_of b → a ≡ b
 one_kept a b fit_a fit_b same =
     let flags : a.flag ≡ b.flag =
     sym (flag_back a.flag) ∙ ap (λ (l : List ℕ). flag_of (get_or l 0 0)) same ∙ flag_back b.flag in
@@ -46,7 +46,7 @@ same_fronts a b x y long same = (
       ∙ ap (λ (n : ℕ). drop n (b ++ y)) long ∙ drop-append_seam b y,
 )
 
-one_list : (begin : ℕ) (a b : List (Kept Contents)) → AllByRecursion Fits a → AllByRecursion Fits b
+one_list : (begin : ℕ) (a b : List (AcceptedBatch Contents)) → AllByRecursion Fits a → AllByRecursion Fits b
     → body a ≡ body b → ends_from begin a ≡ ends_from begin b → a ≡ b
 one_list begin [] [] fit_a fit_b same ends = refl
 one_list begin [] (l ∷ b) fit_a fit_b same ends = absurd (omega (arith, ap length ends))
@@ -56,10 +56,10 @@ one_list begin (k ∷ a) (l ∷ b) fit_a fit_b same ends =
     let parts = same_fronts (bytes_of k) (bytes_of l) (body a) (body b) (omega (arith, end)) same in
     let rest = one_list (begin + length (bytes_of k)) a b fit_a.1 fit_b.1 parts.1
     (ap (λ (e : List ℕ). drop 1 e) ends ∙ ap (λ (n : ℕ). ends_from n b) (sym end)) in
-    ap (λ (v : Kept Contents). v ∷ a) (one_kept k l fit_a.0 fit_b.0 parts.0)
-    ∙ ap (λ (r : List (Kept Contents)). l ∷ r) rest
+    ap (λ (v : AcceptedBatch Contents). v ∷ a) (one_kept k l fit_a.0 fit_b.0 parts.0)
+    ∙ ap (λ (r : List (AcceptedBatch Contents)). l ∷ r) rest
 
-Fits-prop : (k : Kept Contents) → IsProp (Fits k)
+Fits-prop : (k : AcceptedBatch Contents) → IsProp (Fits k)
 Fits-prop k = IsBatchOf-prop (batch_bytes k.batch) k.batch
 
 pub same_batches : (bytes ends : List ℕ) (x y : AreBatches bytes ends) → x.batches ≡ y.batches

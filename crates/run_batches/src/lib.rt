@@ -11,9 +11,9 @@
 //! No length stands among them. Where each batch ends stands in a list beside the bytes, so that each is found at once.
 #![tactic(auto)]
 
-mod kept;
+mod accepted;
 mod layout;
 mod list;
 
-pub use kept::{Kept, KeptBatch};
+pub use accepted::{AcceptedBatch, AcceptedBatchRef};
 pub use list::BatchList;

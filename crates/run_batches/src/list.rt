@@ -4,7 +4,7 @@ ghost use Rattle.std.specs.Prelude.{◌≡◌, ◌<◌, ◌≤◌, ◌++◌, ◌
 ghost use Rattle.run_batches.specs.OneList.{AreBatches, AreBatches-prop};
 
 use crate::layout::{byte_of, bytes_of, flag_of};
-use crate::{Kept, KeptBatch};
+use crate::{AcceptedBatch, AcceptedBatchRef};
 use log_batch::Batch;
 use model_base::{Flag, NoMemory};
 use std::alloc::Global;
@@ -21,9 +21,9 @@ pub struct BatchList {
 impl Model for BatchList {
     ghost use Rattle.std.specs.Prelude.{List};
     ghost use Rattle.log_batch.specs.Contents.{Contents};
-    ghost use Rattle.run_batches.specs.declared.kept.Kept.{Kept};
+    ghost use Rattle.run_batches.specs.declared.accepted.AcceptedBatch.{AcceptedBatch};
 
-    ghost Value = { List (Kept Contents) };
+    ghost Value = { List (AcceptedBatch Contents) };
 
     ghost view = { λ l. l.holds.batches };
 }
@@ -73,14 +73,14 @@ impl BatchList {
     }
 
     /// The batch at a place, from 0 on.
-    pub fn get(&self, at: usize) -> Kept<KeptBatch<'_>>
+    pub fn get(&self, at: usize) -> AcceptedBatch<AcceptedBatchRef<'_>>
         requires { at < length self.now }
         ensures { slice_get self.now at ≡ Some result }
     {
         let part = part_at(&self.bytes, &self.ends, at);
-        Kept {
+        AcceptedBatch {
             flag: flag_of(part[0]),
-            batch: KeptBatch::of(&part[1..]),
+            batch: AcceptedBatchRef::of(&part[1..]),
         }
     }
 }

@@ -2,6 +2,7 @@
 use Rattle.std.specs.Prelude.{ℕ, ◌+◌, ◌*◌, Bool, true, false, List, [], ◌∷◌, ◌++◌, length, flat_map}
 use Rattle.std.specs.Int.{w32, w64, to_le_bytes}
 use Rattle.model_base.specs.declared.write.WriteOptions.{WriteOptions}
+use Rattle.model_base.specs.OptionBits.{option_bits}
 use Rattle.model_base.specs.Batch.{value, deletion, single_deletion, log_data}
 use Rattle.model_base.specs.Calls.{Command, add, clear, commit, get, many, scan, stop, unstop, slow, unslow}
 
@@ -12,13 +13,6 @@ bytes_of_word bytes = to_le_bytes w32 (length bytes) ++ bytes
 abbrev pub bytes_of_words : List (List ℕ) → List ℕ
 bytes_of_words words = flat_map bytes_of_word words
 
-abbrev pub bit_of : Bool → ℕ
-bit_of true = 1
-bit_of false = 0
-
-abbrev pub flags_of : WriteOptions → ℕ
-flags_of options = bit_of options.sync + 2 * bit_of options.no_log + 4 * bit_of options.no_slowdown
-
 -- a tag, and what stands behind it
 abbrev pub bytes_of : Command → List ℕ
 bytes_of (add (value key v)) = 1 ∷ (bytes_of_word key ++ bytes_of_word v)
@@ -26,7 +20,7 @@ bytes_of (add (deletion key)) = 2 ∷ bytes_of_word key
 bytes_of (add (single_deletion key)) = 3 ∷ bytes_of_word key
 bytes_of (add (log_data text)) = 4 ∷ bytes_of_word text
 bytes_of clear = 5 ∷ []
-bytes_of (commit options) = 6 ∷ flags_of options ∷ []
+bytes_of (commit options) = 6 ∷ option_bits options ∷ []
 bytes_of (get key) = 7 ∷ bytes_of_word key
 bytes_of (many keys) = 8 ∷ (to_le_bytes w32 (length keys) ++ bytes_of_words keys)
 bytes_of (scan lo hi) = 9 ∷ (bytes_of_word lo ++ bytes_of_word hi)

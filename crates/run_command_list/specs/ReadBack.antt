@@ -8,9 +8,10 @@ use Rattle.std.specs.Int.{w32, w64, to_le_bytes}
 use Rattle.model_base.specs.declared.write.WriteOptions.{WriteOptions}
 use Rattle.model_base.specs.Batch.{value, deletion, single_deletion, log_data}
 use Rattle.model_base.specs.Calls.{Command, add, clear, commit, get, many, scan, stop, unstop, slow, unslow}
-use Rattle.run_command_list.specs.Layout.{bytes_of_word, bytes_of_words, flags_of, bytes_of}
+use Rattle.model_base.specs.OptionBits.{option_bits, options_of_bits}
+use Rattle.run_command_list.specs.Layout.{bytes_of_word, bytes_of_words, bytes_of}
 use Rattle.run_command_list.specs.Contents.{AreShort, Fits}
-use Rattle.run_command_list.specs.Reading.{read_byte, read_fixed32, read_fixed64, read_front, read_word, read_words, options_of, one_word, two_words, some_flags, many_words, some_rate, read_command}
+use Rattle.run_command_list.specs.Reading.{read_byte, read_fixed32, read_fixed64, read_front, read_word, read_words, one_word, two_words, some_flags, many_words, some_rate, read_command}
 
 pub fixed32_back : (n : ℕ) (x : List ℕ) → n < 2 ^ 32 → read_fixed32 (to_le_bytes w32 n ++ x) ≡ Some (n, x)
 unfolding read_fixed32
@@ -52,9 +53,9 @@ words_back (w ∷ ws) x short =
       words_back ws x short.1,
     ) refl
 
-pub flags_back : (o : WriteOptions) → options_of (flags_of o) ≡ o
+pub flags_back : (o : WriteOptions) → options_of_bits (option_bits o) ≡ o
 flags_back o = go o.sync o.no_log o.no_slowdown where
-  go : (a b c : Bool) → options_of (flags_of (record { sync = a; no_log = b; no_slowdown = c }))
+  go : (a b c : Bool) → options_of_bits (option_bits (record { sync = a; no_log = b; no_slowdown = c }))
       ≡ record { sync = a; no_log = b; no_slowdown = c }
   go true true true = refl
   go true true false = refl
@@ -94,7 +95,7 @@ rate_back : (rate : ℕ) (x : List ℕ) → rate < 2 ^ 64 → some_rate (to_le_b
 unfolding some_rate
 rate_back rate x fits = rw (fixed64_back rate x fits) refl
 
-options_back : (o : WriteOptions) (x : List ℕ) → some_flags (flags_of o ∷ x) ≡ Some (commit o, x)
+options_back : (o : WriteOptions) (x : List ℕ) → some_flags (option_bits o ∷ x) ≡ Some (commit o, x)
 unfolding some_flags read_byte
 options_back o x = ap (λ (p : WriteOptions). Some (commit p, x)) (flags_back o)
 

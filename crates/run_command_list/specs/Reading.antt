@@ -2,6 +2,7 @@
 use Rattle.std.specs.Prelude.{ℕ, zero, suc, ◌/◌, ◌%◌, List, [], ◌∷◌, length, take, drop, Option, Some, None, option_and_then, nat_lt, ◌==◌, if◌then◌else◌}
 use Rattle.std.specs.Int.{w32, w64, from_le_bytes}
 use Rattle.model_base.specs.declared.write.WriteOptions.{WriteOptions}
+use Rattle.model_base.specs.OptionBits.{options_of_bits}
 use Rattle.model_base.specs.Batch.{value, deletion, single_deletion, log_data}
 use Rattle.model_base.specs.Calls.{Command, add, clear, commit, get, many, scan, stop, unstop, slow, unslow}
 
@@ -41,13 +42,6 @@ read_words (suc n) bytes = do
   q ← read_words n p.1
   Some (p.0 ∷ q.0, q.1)
 
-abbrev pub options_of : ℕ → WriteOptions
-options_of flags = record {
-  sync = flags % 2 == 1;
-  no_log = flags / 2 % 2 == 1;
-  no_slowdown = flags / 4 % 2 == 1;
-}
-
 -- what stands behind the tag of a command
 unfoldable pub one_word : (List ℕ → Command) → List ℕ → Read Command
 one_word made bytes = do
@@ -63,7 +57,7 @@ two_words made bytes = do
 unfoldable pub some_flags : List ℕ → Read Command
 some_flags bytes = do
   p ← read_byte bytes
-  Some (commit (options_of p.0), p.1)
+  Some (commit (options_of_bits p.0), p.1)
 
 unfoldable pub many_words : List ℕ → Read Command
 many_words bytes = do

@@ -1,7 +1,7 @@
 //! The bytes of a command: a tag, and what stands behind it.
 
 ghost use Rattle.std.specs.Prelude.{◌≡◌, ◌<◌, ◌^◌, ◌++◌, ◌∷◌, [], length, take, OnOk, OnErr};
-ghost use Rattle.run_command_list.specs.Layout.{bytes_of_word, bit_of, flags_of, bytes_of};
+ghost use Rattle.run_command_list.specs.Layout.{bytes_of_word, bytes_of};
 ghost use Rattle.run_command_list.specs.Contents.{Fits};
 ghost use Rattle.run_command_list.specs.Views.{command_of, HasShortWords};
 
@@ -34,20 +34,6 @@ pub const UNSTOP: u8 = 11;
 pub const SLOW: u8 = 12;
 
 pub const UNSLOW: u8 = 13;
-
-fn bit_of(flag: bool) -> u8
-    ensures value { result ≡ bit_of flag }
-    ensures limit { result < 2 }
-{
-    if flag { 1 } else { 0 }
-}
-
-/// The flags of a commit as a byte.
-fn flags_of(options: WriteOptions) -> u8
-    ensures { result ≡ flags_of options }
-{
-    bit_of(options.sync) + 2 * bit_of(options.no_log) + 4 * bit_of(options.no_slowdown)
-}
 
 /// Puts a word behind the bytes, and its length before it. Where memory fails, a part of it may stand there, as in
 /// all that follow.
@@ -85,7 +71,7 @@ pub fn append_command(bytes: &mut Bytes, command: &CommandView<'_>) -> Result<()
         CommandView::SingleDelete { key } => append_tagged(bytes, SINGLE_DELETE, key),
         CommandView::Note { text } => append_tagged(bytes, NOTE, text),
         CommandView::Clear => bytes.append(&[CLEAR]),
-        CommandView::Commit { options } => bytes.append(&[COMMIT, flags_of(*options)]),
+        CommandView::Commit { options } => bytes.append(&[COMMIT, options.bits()]),
         CommandView::Get { key } => append_tagged(bytes, GET, key),
         CommandView::Many { keys } => {
             bytes.append(&[MANY])?;

@@ -3,7 +3,7 @@
 ghost use Rattle.std.specs.Prelude.{◌≡◌, ◌<◌, ◌^◌, ◌++◌, length, option_map, IfSome};
 ghost use Rattle.std.specs.Int.{w32, to_le_bytes};
 ghost use Rattle.run_command_list.specs.Layout.{bytes_of_word};
-ghost use Rattle.run_command_list.specs.Reading.{read_byte, read_fixed32, read_fixed64, read_word, options_of, one_word, two_words, some_flags, many_words, some_rate, read_behind, read_command};
+ghost use Rattle.run_command_list.specs.Reading.{read_byte, read_fixed32, read_fixed64, read_word, one_word, two_words, some_flags, many_words, some_rate, read_behind, read_command};
 ghost use Rattle.run_command_list.specs.Views.{command_of};
 
 use crate::layout::{
@@ -56,21 +56,11 @@ pub fn split_word(bytes: &[u8]) -> Option<(&[u8], &[u8])>
     Some(behind.split_at(len as usize))
 }
 
-fn options_of(flags: u8) -> WriteOptions
-    ensures { result ≡ options_of flags }
-{
-    WriteOptions {
-        sync: flags % 2 == 1,
-        no_log: flags / 2 % 2 == 1,
-        no_slowdown: flags / 4 % 2 == 1,
-    }
-}
-
 fn split_flags(bytes: &[u8]) -> Option<(CommandView<'_>, &[u8])>
     ensures { option_map (λ p. (command_of p.0, p.1.now)) result ≡ some_flags bytes.now }
 {
     let (flags, rest) = split_byte(bytes)?;
-    let options = options_of(flags);
+    let options = WriteOptions::of_bits(u64::from(flags));
     Some((CommandView::Commit { options }, rest))
 }
 

@@ -5,7 +5,7 @@ use Rattle.std.proofs.lemmas.List.{take_all, take-map, append-nil}
 use Rattle.std.specs.List.{AllZip}
 use Rattle.base_devices.specs.Disk.{Disk, IsImage}
 use Rattle.model_base.specs.Batch.{group_record}
-use Rattle.model_base.specs.Log.{text_from, text}
+use Rattle.model_base.specs.Log.{text_from, text, plain_log}
 use Rattle.model_base.specs.History.{Entry}
 use Rattle.model_base.specs.Attempts.{Attempt}
 use Rattle.model_base.specs.Calls.{Outcome}
@@ -14,7 +14,7 @@ use Rattle.log_writer.specs.Written.{if_worked, written_by, begun_by, HaveSynced
 use Rattle.log_writer.proofs.Calls.{begun_front}
 use Rattle.log_writer.proofs.Keeping.{text_append, text_front}
 use Rattle.model_runs.specs.Lost.{IsLostGroup}
-use Rattle.model_runs.specs.Crashes.{IsRest, HasSync, HaveSynced, HoldsSynced, tried, IsFailedWrite}
+use Rattle.model_runs.specs.Crashes.{IsRest, HasSync, HaveSynced, HoldsSynced, failed_record, IsFailedWrite}
 use Rattle.model_runs.specs.Written.{WroteEntries, AreLost}
 use Rattle.model_accounts.proofs.Logs.{same_records, has_synced}
 
@@ -71,29 +71,29 @@ none_written group_bytes attempts (Some count) last lost are = let c = are.0 in 
 -- A log's content
 
 -- the text of records, and some of what would stand after it
-text_and_rest : (records : List (List ℕ)) (x content : List ℕ) (many : ℕ) → content ≡ take many (text None (records ++ x ∷ [])) → length (text None records) ≤ many → IsRest records content x
+text_and_rest : (records : List (List ℕ)) (x content : List ℕ) (many : ℕ) → content ≡ take many (text plain_log (records ++ x ∷ [])) → length (text plain_log records) ≤ many → IsRest records content x
 text_and_rest records x content many is whole =
-    let front : List ℕ = text None records in
-    let rest : List ℕ = text_from None (length front) (x ∷ []) in
-    let both : text None (records ++ x ∷ []) ≡ front ++ rest = text_append 0 records (x ∷ []) ∙ ap (λ (n : ℕ). front ++ text_from None n (x ∷ [])) (zero-add (length front)) in
+    let front : List ℕ = text plain_log records in
+    let rest : List ℕ = text_from plain_log (length front) (x ∷ []) in
+    let both : text plain_log (records ++ x ∷ []) ≡ front ++ rest = text_append 0 records (x ∷ []) ∙ ap (λ (n : ℕ). front ++ text_from plain_log n (x ∷ [])) (zero-add (length front)) in
     let some : ℕ = many - length front in
     let cut : many ≡ length front + some = omega (arith, whole) in
     record { some = some; content_is = is ∙ ap (take many) both ∙ ap (λ (n : ℕ). take n (front ++ rest)) cut ∙ take-append-add front rest some }
 
 -- the text of what was written stands in front
-pub written_front : (d : Disk) (calls : List GroupCall) (safe : ℕ) → HoldsCalls d calls safe → take (length (text None (written_by calls))) d.content ≡ text None (written_by calls)
+pub written_front : (d : Disk) (calls : List GroupCall) (safe : ℕ) → HoldsCalls d calls safe → take (length (text plain_log (written_by calls))) d.content ≡ text plain_log (written_by calls)
 written_front d calls safe holds =
-    let front : List ℕ = text None (written_by calls) in
+    let front : List ℕ = text plain_log (written_by calls) in
     let begun = begun_front calls [] in
     let all : begun_by calls ≡ written_by calls ++ begun.0 = ap begun_by (sym (append-nil calls)) ∙ begun.1 in
-    ap (take (length front)) holds.content ∙ take-take (length front) holds.many (text None (begun_by calls)) holds.whole
-    ∙ ap (λ (l : List (List ℕ)). take (length front) (text None l)) all ∙ ap (take (length front)) (text_append 0 (written_by calls) begun.0) ∙ take-append_seam front (text_from None (0 + length front) begun.0)
+    ap (take (length front)) holds.content ∙ take-take (length front) holds.many (text plain_log (begun_by calls)) holds.whole
+    ∙ ap (λ (l : List (List ℕ)). take (length front) (text plain_log l)) all ∙ ap (take (length front)) (text_append 0 (written_by calls) begun.0) ∙ take-append_seam front (text_from plain_log (0 + length front) begun.0)
 
 -- so what was safe of it stands in front of each image
-pub safe_front : (d : Disk) (calls : List GroupCall) (safe : ℕ) (image : List ℕ) → HoldsCalls d calls safe → IsImage d image → take (length (text None (take safe (written_by calls)))) image ≡ text None (take safe (written_by calls))
+pub safe_front : (d : Disk) (calls : List GroupCall) (safe : ℕ) (image : List ℕ) → HoldsCalls d calls safe → IsImage d image → take (length (text plain_log (take safe (written_by calls)))) image ≡ text plain_log (take safe (written_by calls))
 safe_front d calls safe image holds is =
-    let front : List ℕ = text None (take safe (written_by calls)) in
-    let whole : List ℕ = text None (written_by calls) in
+    let front : List ℕ = text plain_log (take safe (written_by calls)) in
+    let whole : List ℕ = text plain_log (written_by calls) in
     let n : ℕ = length front in
     let in_front : take n whole ≡ front = text_front (written_by calls) safe in
     let within : n ≤ length whole = omega (arith, ap length in_front, length-take n whole) in
@@ -117,15 +117,15 @@ module _ (group_bytes : ℕ) (attempts : List (List Attempt)) (last : ℕ) (grou
   held_is fault are reached image holds = λ k group at has.
       let call = sync_call groups calls lost k group each at has in
       let same : take (k + 1) (written_by (calls ++ lost)) ≡ records_of (take (k + 1) groups) = ap (take (k + 1)) (written_is fault are) ∙ take-map record_of_entries (k + 1) groups in
-      subst (λ (l : List (List ℕ)). length (text None l) < length image → reached < length image → take (length (text None l)) image ≡ text None l) same (holds k call.call call.there call.worked call.to_sync)
+      subst (λ (l : List (List ℕ)). length (text plain_log l) < length image → reached < length image → take (length (text plain_log l)) image ≡ text plain_log l) same (holds k call.call call.there call.worked call.to_sync)
 
   -- a failed write left some of the record that it was to put
   pub failed_write : (d : Disk) (safe : ℕ) → HoldsCalls d (calls ++ lost) safe → (o : Outcome) → o.last ≡ last → (fault : Option ℕ) → o.fault ≡ fault → AreLost group_bytes attempts fault last lost
-      → MatchOption fault (d.content ≡ text None records) (λ count. (x : List ℕ) × (tried lost ≡ Some x) × IsFailedWrite group_bytes attempts o groups d.content x)
+      → MatchOption fault (d.content ≡ text plain_log records) (λ count. (x : List ℕ) × (failed_record lost ≡ Some x) × IsFailedWrite group_bytes attempts o groups d.content x)
   failed_write d safe holds o end None e are =
       let written : written_by (calls ++ lost) ≡ records = written_is None are in
       let all : begun_by (calls ++ lost) ≡ records = begun_for groups calls lost each ∙ ap (λ l. map record_of_call calls ++ begun_by l) are ∙ append-nil (map record_of_call calls) ∙ same_records groups calls each in
-      holds.content ∙ ap (λ (l : List (List ℕ)). take holds.many (text None l)) all ∙ take_all holds.many (text None records) (let whole = holds.whole in omega (arith, whole, ap (λ (l : List (List ℕ)). length (text None l)) written))
+      holds.content ∙ ap (λ (l : List (List ℕ)). take holds.many (text plain_log l)) all ∙ take_all holds.many (text plain_log records) (let whole = holds.whole in omega (arith, whole, ap (λ (l : List (List ℕ)). length (text plain_log l)) written))
   failed_write d safe holds o end (Some count) e are =
       let c = are.0 in
       let x : List ℕ = record_of_call c in
@@ -134,14 +134,14 @@ module _ (group_bytes : ℕ) (attempts : List (List Attempt)) (last : ℕ) (grou
       let all : begun_by (calls ++ lost) ≡ records ++ x ∷ [] =
       begun_for groups calls lost each ∙ ap (λ l. map record_of_call calls ++ l) (ap begun_by are.1 ∙ one_begun c (Some count) call.failed) ∙ ap (λ l. l ++ x ∷ []) (same_records groups calls each) in (
         x,
-        ap tried are.1,
+        ap failed_record are.1,
         record {
           count = count;
           fault = e;
           batches = c.batches;
           lost = subst (λ (n : ℕ). IsLostGroup group_bytes attempts count n c.batches) (sym end) call.batches;
           same = ap (λ (n : ℕ). group_record n c.batches) (call.first ∙ ap (λ (n : ℕ). n + 1) (sym end));
-          rest = text_and_rest records x d.content holds.many (holds.content ∙ ap (λ (l : List (List ℕ)). take holds.many (text None l)) all)
-              (let whole = holds.whole in omega (arith, whole, ap (λ (l : List (List ℕ)). length (text None l)) written));
+          rest = text_and_rest records x d.content holds.many (holds.content ∙ ap (λ (l : List (List ℕ)). take holds.many (text plain_log l)) all)
+              (let whole = holds.whole in omega (arith, whole, ap (λ (l : List (List ℕ)). length (text plain_log l)) written));
         },
       )

@@ -6,7 +6,7 @@ use Rattle.std.specs.List.{AllByRecursion, AllZip}
 use Rattle.base_devices.specs.Disk.{Disk, Told, IsImage, LeavesOnly}
 use Rattle.base_devices.specs.declared.disk.Disk.{Ghosts}
 use Rattle.model_base.specs.Batch.{size_of_batch}
-use Rattle.model_base.specs.Log.{text}
+use Rattle.model_base.specs.Log.{text, plain_log}
 use Rattle.model_base.specs.History.{Entry, RunsFollow, IsHistory, last_sequence, logged}
 use Rattle.model_base.specs.Attempts.{Attempt}
 use Rattle.model_base.specs.Trace.{Settings, Trace}
@@ -25,7 +25,7 @@ use Rattle.log_writer.specs.Adding.{GroupCall, Adds}
 use Rattle.log_writer.specs.Written.{Wrote, no_call, one_more, IsWritten, written_by, HoldsSynced as HoldsCallsSynced, HoldsCalls, Stands}
 use Rattle.log_writer.proofs.Calls.{synced_later}
 use Rattle.log_writer.proofs.Keeping.{keeps_prefix}
-use Rattle.model_runs.specs.Crashes.{IsImageSince, begun, HaveSynced, IsFailedWrite, LeavesPrefix, IsCrashSafe}
+use Rattle.model_runs.specs.Crashes.{IsImageSince, with_failed_record, HaveSynced, IsFailedWrite, LeavesPrefix, IsCrashSafe}
 use Rattle.run_outcome.specs.Running.{Execution, IsRunOf, LeavesSafeLog, GoesOn}
 use Rattle.model_runs.specs.Written.{WroteEntries, AreLost, WritesLog}
 use Rattle.run_execution.proofs.LoggedGroups.{Suits, each_has_entries, rising_groups}
@@ -33,13 +33,13 @@ use Rattle.run_execution.proofs.GroupCalls.{written_front, safe_front, written_i
 
 -- What recovery finds
 
-any_prefix : (records : List (List ℕ)) (image : List ℕ) → NoChance None image (text None records) → RecoversPrefix records image (λ n. ⊤)
+any_prefix : (records : List (List ℕ)) (image : List ℕ) → NoChance plain_log image (text plain_log records) → RecoversPrefix records image (λ n. ⊤)
 any_prefix records image none r is =
-    let front : map logged_bytes r.batches ≡ take (length r.batches) records = recovers_front None image records r is none in
+    let front : map logged_bytes r.batches ≡ take (length r.batches) records = recovers_front plain_log image records r is none in
     record { many = length r.batches; some = omega (arith, ap length front, length_map logged_bytes r.batches, length-take (length r.batches) records); same = front; enough = tt }
 
 -- all that was begun goes on after the groups' records
-begins_with : (records : List (List ℕ)) (x : Option (List ℕ)) → (more : List (List ℕ)) × (begun records x ≡ records ++ more)
+begins_with : (records : List (List ℕ)) (x : Option (List ℕ)) → (more : List (List ℕ)) × (with_failed_record records x ≡ records ++ more)
 begins_with records None = ([], sym (append-nil records))
 begins_with records (Some x) = (x ∷ [], refl)
 
@@ -65,10 +65,10 @@ module _ (trace : Trace) (attempts : List (List Attempt)) (group_bytes : ℕ) (o
     at_end x may image is none r recovered =
         let some : safe ≤ length records = omega (arith, holds.some, ap length written) in
         let more = begins_with records x in
-        let same : take safe (begun records x) ≡ take safe (written_by all) = ap (take safe) more.1 ∙ take-append-le safe records more.0 some ∙ ap (take safe) (sym written) in
-        let keeps = keeps_prefix (begun records x) safe image (omega (arith, some, ap length more.1, length-append records more.0))
-        (subst (λ (l : List (List ℕ)). length (text None l) ≤ length image) (sym same) (omega (arith, holds.synced, is.no_shorter)))
-        (subst (λ (l : List (List ℕ)). take (length (text None l)) image ≡ text None l) (sym same) (safe_front d all safe image holds is)) in
+        let same : take safe (with_failed_record records x) ≡ take safe (written_by all) = ap (take safe) more.1 ∙ take-append-le safe records more.0 some ∙ ap (take safe) (sym written) in
+        let keeps = keeps_prefix (with_failed_record records x) safe image (omega (arith, some, ap length more.1, length-append records more.0))
+        (subst (λ (l : List (List ℕ)). length (text plain_log l) ≤ length image) (sym same) (omega (arith, holds.synced, is.no_shorter)))
+        (subst (λ (l : List (List ℕ)). take (length (text plain_log l)) image ≡ text plain_log l) (sym same) (safe_front d all safe image holds is)) in
         let rising = subst AreRisingBatches (sym (same ∙ ap (take safe) written)) (rising_groups trace.start trace.entries groups calls safe is_history suit cut runs each) in
         let prefix = keeps.recovered rising none r recovered in
         record {
@@ -81,15 +81,15 @@ module _ (trace : Trace) (attempts : List (List Attempt)) (group_bytes : ℕ) (o
     crash_safe : (reached : ℕ) (any : List ℕ → Type 0) → ((image : List ℕ) → any image → HoldsCallsSynced reached all image) → IsCrashSafe group_bytes attempts o groups d.content lost reached any (IsImage d)
     crash_safe reached any held = record {
       failed = failed_write group_bytes attempts last groups calls lost each d safe holds o end o.fault refl are;
-      any_moment = λ x may image left none. any_prefix (begun records x) image none;
+      any_moment = λ x may image left none. any_prefix (with_failed_record records x) image none;
       held = λ image left. held_is group_bytes attempts last groups calls lost each o.fault are reached image (held image left);
       at_end = at_end;
     }
 
     -- and the content up to the log's length is the groups' text
-    log_left : o.log_len ≡ length (text None records) → IsLogOf o d.content groups
+    log_left : o.log_len ≡ length (text plain_log records) → IsLogOf o d.content groups
     log_left len =
-        let same : text None (written_by all) ≡ text None records = ap (text None) written in
+        let same : text plain_log (written_by all) ≡ text plain_log records = ap (text plain_log) written in
         record {
           of_history = record { cut = ap logged history ∙ sym cut; none_empty = each_has_entries groups calls each; runs = runs };
           content_is = ap (λ (n : ℕ). take n d.content) (len ∙ ap length (sym same)) ∙ written_front d all safe holds ∙ same;
@@ -177,9 +177,9 @@ module _ {D : Type 0} {ghosts : Ghosts D} where
 
   -- the length of the closed log, where its calls wrote the groups of an outcome's trace
   pub len_is : (trace : Trace) (attempts : List (List Attempt)) (group_bytes : ℕ) (wrote : List GroupCall → Type 0) (log : LogWriter D ghosts) (writes : WritesLog group_bytes wrote trace attempts (fault_of log))
-      → Stands (writes.calls ++ writes.lost) log → len_of log ≡ length (text None (records_of writes.parts))
+      → Stands (writes.calls ++ writes.lost) log → len_of log ≡ length (text plain_log (records_of writes.parts))
   len_is trace attempts group_bytes wrote log writes stands =
-      stands.len ∙ ap (λ (l : List (List ℕ)). length (text None l)) (written_is group_bytes attempts (last_sequence trace.start trace.entries) writes.parts writes.calls writes.lost writes.each (fault_of log) writes.none_else)
+      stands.len ∙ ap (λ (l : List (List ℕ)). length (text plain_log l)) (written_is group_bytes attempts (last_sequence trace.start trace.entries) writes.parts writes.calls writes.lost writes.each (fault_of log) writes.none_else)
 
   -- what it holds, and what a crash leaves of it
   pub safe_log : (disk : D) (opened log : LogWriter D ghosts) (execution : Execution) (o : Outcome) (run : IsRunOf execution o) → length execution.script ≤ 16

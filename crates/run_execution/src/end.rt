@@ -2,77 +2,71 @@
 
 ghost use Rattle.std.specs.Prelude.{◌≡◌};
 ghost use Rattle.log_writer.specs.Words.{disk_of};
+ghost use Rattle.run_threads.specs.Runs.{log_of};
 ghost use Rattle.run_execution.specs.Ends.{end_of_run};
 
-use base_bytes::PairList;
 use base_devices::Disk;
+use base_maps::ByteMap;
 use log_writer::{LogWriter, OpenError};
 use run_outcome::Outcome;
-use run_threads_outcome::{Lacks, Parts, Ran};
+use run_threads::ClientsEnd;
 
 /// How a run ended.
 #[derive(Drop)]
-pub enum End {
-    /// The disk failed before the log was opened, for the how many-th time.
+pub enum RunEnd {
+    /// The disk failed before the log was opened. This is the disk's fault count.
     DiskFault { count: u64 },
     /// The log holds so many bytes already.
     NotEmpty { len: u64 },
-    /// Nothing was run for lack of memory.
+    /// Nothing was run, since there was no memory for it.
     NoMemory,
     /// All was run, and there was no memory for its outcome.
     NoOutcome,
     /// It has this outcome.
-    Ran(Outcome<PairList>),
+    Ran(Outcome<ByteMap>),
 }
 
-/// The disk that a run gives back, and how it ended.
-pub struct Executed<D> {
-    pub disk: D,
-    pub end: End,
-}
-
-impl From<OpenError> for End {
+impl From<OpenError> for RunEnd {
     ghost use Rattle.run_execution.specs.Ends.{end_of};
     ghost use Rattle.std.specs.Prelude.{◌≡◌};
 
     ghost from_gives = { λ why end. end ≡ end_of why };
 
-    fn from(why: OpenError) -> End {
+    fn from(why: OpenError) -> RunEnd {
         match why {
-            OpenError::Fault { count } => End::DiskFault { count },
-            OpenError::NotEmpty { len } => End::NotEmpty { len },
-            OpenError::NoMemory => End::NoMemory,
+            OpenError::Fault { count } => RunEnd::DiskFault { count },
+            OpenError::NotEmpty { len } => RunEnd::NotEmpty { len },
+            OpenError::NoMemory => RunEnd::NoMemory,
         }
     }
 }
 
 /// Gives the disk of a run's log back, with how the run ended.
-pub fn ended<D: Disk>(ran: Ran<LogWriter<D>>) -> Executed<D>
-    ensures disk { result.disk ≡ disk_of ran.log }
-    ensures end { result.end ≡ end_of_run ran }
+pub fn end_run<D: Disk>(ran: ClientsEnd<LogWriter<D>>) -> (D, RunEnd)
+    ensures disk { result.0 ≡ disk_of (log_of ran) }
+    ensures end { result.1 ≡ end_of_run ran }
 {
-    let Ran { log, last, parts } = ran;
-    let log_len = log.len();
-    let fault = log.fault();
-    Executed {
-        disk: log.into_disk(),
-        end: match parts {
-            Ok(
-                Parts {
-                    transcripts,
-                    history,
-                    state,
-                },
-            ) => End::Ran(Outcome {
+    match ran {
+        ClientsEnd::NotRun { log } => (log.into_disk(), RunEnd::NoMemory),
+        ClientsEnd::Untold { log, last: _ } => (log.into_disk(), RunEnd::NoOutcome),
+        ClientsEnd::Told {
+            log,
+            last,
+            transcripts,
+            history,
+            state,
+        } => {
+            let log_len = log.len();
+            let fault = log.fault();
+            let outcome = Outcome {
                 transcripts,
                 history,
                 last,
                 state,
                 log_len,
                 fault,
-            }),
-            Err(Lacks::Outcome) => End::NoOutcome,
-            Err(Lacks::Run) => End::NoMemory,
-        },
+            };
+            (log.into_disk(), RunEnd::Ran(outcome))
+        }
     }
 }

@@ -1,6 +1,6 @@
 //! A run of a script: its clients, each in a thread of its own, over the write path of a disk's log.
 //!
-//! [`execute`] opens the log, runs all clients over it, and says how it ended ([`End`]) with the disk. However the
+//! [`execute`] opens the log, runs all clients over it, and says how it ended ([`RunEnd`]) with the disk. However the
 //! threads interleave, the outcome is legal, and the log holds its logged batches; a crash at any moment leaves a
 //! prefix of them to recover (`specs/Ends`, by the words of `model_runs`).
 #![tactic(auto)]
@@ -8,7 +8,9 @@
 mod end;
 mod laws;
 mod running;
+mod setup;
 mod shared_gate;
 
-pub use end::{End, Executed};
+pub use end::RunEnd;
 pub use running::execute;
+pub use setup::{Host, Setup};

@@ -2,7 +2,7 @@
 use Rattle.std.proofs.Common.{◌≡◌, ℕ, zero, suc, ◌+◌, ◌%◌, ◌<◌, ◌≤◌, List, [], ◌∷◌, ◌++◌, decimal, arith}
 use Rattle.std.specs.List.{AllByRecursion}
 use Rattle.model_base.specs.Calls as calls
-use Rattle.model_base.specs.Generator.{next_state, number_at, first_state, key_of, record_drawn, records_drawn, plain, batch_drawn, batches_drawn, generated}
+use Rattle.model_base.specs.Generator.{next_state, number_at, first_state, key_of, record_drawn, records_drawn, plain, batch_drawn, batches_drawn, script_of_seed}
 use Rattle.run_scripts.specs.Scripts.{IsShort, AddsShort, IsScriptCommand}
 use Rattle.run_generator.proofs.Sizes.{key_len, value_len, of_drawn, of_each}
 
@@ -31,9 +31,9 @@ batches_made (suc n) client state few =
     let records = records_made (1 + number_at begun % 4) client begun few in
     made-append (batch_drawn client state).made _ (made-append _ (calls.commit plain ∷ []) records (tt, tt)) (batches_made n client (batch_drawn client state).state few)
 
-generated_made : (seed clients batches : ℕ) → clients ≤ 16 → AllByRecursion (AllByRecursion IsScriptCommand) (generated seed clients batches)
+generated_made : (seed clients batches : ℕ) → clients ≤ 16 → AllByRecursion (AllByRecursion IsScriptCommand) (script_of_seed seed clients batches)
 generated_made seed clients batches few =
     of_each (AllByRecursion IsScriptCommand) (λ client. batches_drawn batches client (first_state seed client)) 1 clients (λ client within. batches_made batches client (first_state seed client) (omega arith))
 
-pub generated_said : (seed n batches : ℕ) (clients : List (List calls.Command)) → n ≤ 16 → clients ≡ generated seed n batches → AllByRecursion (AllByRecursion IsScriptCommand) clients
+pub generated_said : (seed n batches : ℕ) (clients : List (List calls.Command)) → n ≤ 16 → clients ≡ script_of_seed seed n batches → AllByRecursion (AllByRecursion IsScriptCommand) clients
 generated_said seed n batches clients few is = rw is (generated_made seed n batches few)

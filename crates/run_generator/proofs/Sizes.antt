@@ -8,7 +8,7 @@ use Rattle.std.proofs.lemmas.Nat.{mod_below}
 use Rattle.model_base.specs.Varint.{varint, varint_within}
 use Rattle.model_base.specs.Batch.{Record, value, deletion, count_of, varstring, record_bytes, header, body, size_of_batch}
 use Rattle.model_base.specs.Calls.{Command, add, commit}
-use Rattle.model_base.specs.Generator.{Draw, next_state, number_at, first_state, key_of, record_drawn, records_drawn, plain, batch_drawn, batches_drawn, generated}
+use Rattle.model_base.specs.Generator.{Draw, next_state, number_at, first_state, key_of, record_drawn, records_drawn, plain, batch_drawn, batches_drawn, script_of_seed}
 use Rattle.run_scripts.specs.Scripts.{additions_of}
 
 -- a short length is spelled in one byte
@@ -101,6 +101,6 @@ pub of_each : (P : List Command → Type 0) (f : ℕ → List Command) (first n 
 of_each P f first zero each = tt
 of_each P f first (suc n) each = (each first (omega arith), of_each P f (first + 1) n (λ client within. each client (omega arith)))
 
-pub generated_fits : (seed clients batches : ℕ) → clients ≤ 16 → batches ≤ 100000 → AllByRecursion (λ cs. size_of_batch (additions_of cs) ≤ 16777216) (generated seed clients batches)
+pub generated_fits : (seed clients batches : ℕ) → clients ≤ 16 → batches ≤ 100000 → AllByRecursion (λ cs. size_of_batch (additions_of cs) ≤ 16777216) (script_of_seed seed clients batches)
 generated_fits seed clients batches few bounded =
     of_each (λ cs. size_of_batch (additions_of cs) ≤ 16777216) (λ client. batches_drawn batches client (first_state seed client)) 1 clients (λ client within. client_fits seed client batches (omega arith) bounded)

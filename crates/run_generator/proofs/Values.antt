@@ -5,7 +5,7 @@ use Rattle.std.proofs.lemmas.Fmt.{decimal_by_steps}
 use Rattle.std.proofs.lemmas.List.Sums.{fold_push}
 use Rattle.model_base.specs.Calls.{Command, add, commit}
 use Rattle.model_base.specs.Script.{value_of_digits}
-use Rattle.model_base.specs.Generator.{next_state, number_at, first_state, record_drawn, records_drawn, plain, batch_drawn, batches_drawn, generated}
+use Rattle.model_base.specs.Generator.{next_state, number_at, first_state, record_drawn, records_drawn, plain, batch_drawn, batches_drawn, script_of_seed}
 use Rattle.run_generator.specs.Values.{HasSmallValue}
 use Rattle.run_generator.proofs.Sizes.{of_drawn, of_each}
 
@@ -37,6 +37,6 @@ batches_small (suc n) client state =
     let records = records_small (1 + number_at begun % 4) client begun in
     small-append (batch_drawn client state).made _ (small-append _ (commit plain ∷ []) records (tt, tt)) (batches_small n client (batch_drawn client state).state)
 
-pub generated_small : (seed clients batches : ℕ) → AllByRecursion (λ cs. AllByRecursion HasSmallValue cs) (generated seed clients batches)
+pub generated_small : (seed clients batches : ℕ) → AllByRecursion (λ cs. AllByRecursion HasSmallValue cs) (script_of_seed seed clients batches)
 generated_small seed clients batches =
     of_each (λ cs. AllByRecursion HasSmallValue cs) (λ client. batches_drawn batches client (first_state seed client)) 1 clients (λ client within. batches_small batches client (first_state seed client))

@@ -5,7 +5,7 @@ ghost use Rattle.model_base.specs.Generator.{first_state, records_drawn, batch_d
 
 use crate::draws::Draws;
 use crate::records::add_record;
-use model_base::{NoMemory, WriteOptions};
+use model_base::{MAX_CLIENTS, NoMemory, WriteOptions};
 use run_command_list::{CommandList, CommandView};
 use std::alloc::Global;
 
@@ -27,11 +27,12 @@ fn add_records(
     draws: &mut Draws,
     commands: &mut CommandList,
 ) -> Result<(), NoMemory>
-    requires { client ≤ 16 }
+    requires { client ≤ MAX_CLIENTS }
     ensures records { OnOk result (commands.new ≡ commands.old ++ (records_drawn count client draws.old.state).made) }
     ensures state { OnOk result (draws.new.state ≡ (records_drawn count client draws.old.state).state) }
 {
     let mut left = count;
+    // The records so far and those that are left are all that the draws make.
     while left > 0 {
         add_record(alloc, client, draws, commands)?;
         left -= 1;
@@ -46,7 +47,7 @@ fn add_batch(
     draws: &mut Draws,
     commands: &mut CommandList,
 ) -> Result<(), NoMemory>
-    requires { client ≤ 16 }
+    requires { client ≤ MAX_CLIENTS }
     ensures batch { OnOk result (commands.new ≡ commands.old ++ (batch_drawn client draws.old.state).made) }
     ensures state { OnOk result (draws.new.state ≡ (batch_drawn client draws.old.state).state) }
 {
@@ -62,12 +63,13 @@ pub fn batches_of(
     client: u32,
     batches: u64,
 ) -> Result<CommandList, NoMemory>
-    requires { client ≤ 16 }
+    requires { client ≤ MAX_CLIENTS }
     ensures { IfOk result (λ commands. commands ≡ batches_drawn batches client (first_state seed client)) }
 {
     let mut draws = Draws::of_client(seed, client);
     let mut commands = CommandList::new(alloc);
     let mut left = batches;
+    // The batches so far and those that are left are all that the draws make.
     while left > 0 {
         add_batch(alloc, client, &mut draws, &mut commands)?;
         left -= 1;

@@ -1,21 +1,21 @@
 //! The script of all clients.
 
 ghost use Rattle.std.specs.Prelude.{◌≡◌, ◌≤◌, IfOk};
-ghost use Rattle.model_base.specs.Generator.{generated};
+ghost use Rattle.model_base.specs.Generator.{script_of_seed};
 ghost use Rattle.run_scripts.specs.Scripts.{commands_of, FitsBatches, HasScriptCommands};
 ghost use Rattle.run_generator.specs.Values.{HasSmallValues};
 
 use crate::batches::batches_of;
-use model_base::NoMemory;
+use model_base::{MAX_CLIENTS, NoMemory};
 use run_scripts::Script;
 use std::alloc::Global;
 
 /// The script that a seed makes: for each client its batches, each written by a plain commit. A client's batches don't
 /// depend on the others, and each client has keys of its own.
 pub fn generate(alloc: Global, seed: u64, clients: u32, batches: u64) -> Result<Script, NoMemory>
-    requires clients { (1 ≤ clients) × (clients ≤ 16) }
+    requires clients { (1 ≤ clients) × (clients ≤ MAX_CLIENTS) }
     requires batches { (1 ≤ batches) × (batches ≤ 100000) }
-    ensures ok { IfOk result (λ s. commands_of s ≡ generated seed clients batches) }
+    ensures ok { IfOk result (λ s. commands_of s ≡ script_of_seed seed clients batches) }
 
     // All that a client adds fits one batch, whatever becomes of its commits.
     ensures fits { IfOk result FitsBatches }
@@ -29,6 +29,7 @@ pub fn generate(alloc: Global, seed: u64, clients: u32, batches: u64) -> Result<
     let mut script = Script {
         clients: Vec::new(alloc),
     };
+    // The script so far is that of the clients so far.
     for before in 0..clients {
         let commands = batches_of(alloc, seed, before + 1, batches)?;
         script.clients.push(commands)?;

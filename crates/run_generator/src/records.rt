@@ -7,7 +7,7 @@ ghost use Rattle.model_base.specs.Generator.{key_of, record_drawn};
 use crate::draws::Draws;
 use base_bytes::Bytes;
 use itoa::Buffer;
-use model_base::NoMemory;
+use model_base::{MAX_CLIENTS, NoMemory};
 use run_command_list::{CommandList, CommandView};
 use std::alloc::Global;
 
@@ -39,7 +39,7 @@ pub fn add_record(
     draws: &mut Draws,
     commands: &mut CommandList,
 ) -> Result<(), NoMemory>
-    requires { client ≤ 16 }
+    requires { client ≤ MAX_CLIENTS }
     ensures record { OnOk result (commands.new ≡ commands.old ++ add (record_drawn client draws.old.state).made ∷ []) }
     ensures state { OnOk result (draws.new.state ≡ (record_drawn client draws.old.state).state) }
 {

@@ -3,16 +3,20 @@
 ghost use Rattle.std.specs.Prelude.{◌≡◌, Some, None, if◌then◌else◌};
 ghost use Rattle.run_generator.specs.Values.{have_numbers, sum_of_values};
 
-use base_bytes::PairList;
+use base_maps::ByteMap;
 use run_scripts::value_of_digits;
 
 /// The sum of a map's values as numbers, if each of them is below `2^64`.
-pub fn sum_of(pairs: &PairList) -> Option<u128>
-    ensures { result ≡ (if have_numbers pairs.now then Some (sum_of_values pairs.now) else None) }
+pub fn sum_of(map: &ByteMap) -> Option<u128>
+    ensures { result ≡ (if have_numbers map.now then Some (sum_of_values map.now) else None) }
 {
+    // So many numbers below 2^64 come to less than 2^128.
+    let count = map.len();
+    prove!(count <= usize::MAX);
     let mut sum: u128 = 0;
-    for (_, value) in pairs.as_slice() {
-        sum += u128::from(value_of_digits(value.as_slice())?);
+    // What is summed up and what is left make the whole sum, and each value so far is below 2^64.
+    for (_, value) in map.iter() {
+        sum += u128::from(value_of_digits(value)?);
     }
     Some(sum)
 }

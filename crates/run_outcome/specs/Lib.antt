@@ -1,3 +1,4 @@
+pub mod HistoryEntries
 pub mod Histories
 pub mod Places
 pub mod Views

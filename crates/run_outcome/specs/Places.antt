@@ -3,46 +3,46 @@ use Rattle.std.specs.Prelude.{◌≡◌, ℕ, ◌+◌, ◌-◌, ◌<◌, ◌≤�
 use Rattle.std.specs.List.{All}
 use Rattle.model_base.specs.declared.history.Flag.TheVariants.{Log}
 use Rattle.log_batch.specs.Contents.{Contents, empty}
-use Rattle.run_calls.specs.declared.entry.Entry.{Entry}
-use Rattle.run_batches.specs.declared.kept.Kept.{Kept}
-use Rattle.run_outcome.specs.declared.places.Place.{Place}
+use Rattle.run_outcome.specs.declared.history_entry.HistoryEntry.{HistoryEntry}
+use Rattle.run_batches.specs.declared.accepted.AcceptedBatch.{AcceptedBatch}
+use Rattle.run_outcome.specs.declared.places.BatchPlace.{BatchPlace}
 use Rattle.run_outcome.specs.Histories.{entry_of}
 
 -- the places of a client's batches in order, from this one on
-abbrev pub places_from : ℕ → ℕ → List (Kept Contents) → List Place
+abbrev pub places_from : ℕ → ℕ → List (AcceptedBatch Contents) → List BatchPlace
 places_from client at [] = []
 places_from client at (kept ∷ rest) =
     record { first = kept.batch.sequence; client = client; at = at } ∷ places_from client (at + 1) rest
 
 -- those of clients one after another, from that of this number on
-abbrev pub places_by : ℕ → List (List (Kept Contents)) → List Place
+abbrev pub places_by : ℕ → List (List (AcceptedBatch Contents)) → List BatchPlace
 places_by client [] = []
 places_by client (kept ∷ others) = places_from client 0 kept ++ places_by (client + 1) others
 
 -- a batch that says nothing
-abbrev pub no_batch : Kept Contents
+abbrev pub no_batch : AcceptedBatch Contents
 no_batch = record { flag = Log; batch = empty }
 
-module _ (lists : List (List (Kept Contents))) where
-  abbrev pub list_at : Place → List (Kept Contents)
+module _ (lists : List (List (AcceptedBatch Contents))) where
+  abbrev pub list_at : BatchPlace → List (AcceptedBatch Contents)
   list_at place = slice_index_or lists (place.client - 1) []
 
   -- the batch there, or one that says nothing
-  abbrev pub kept_at : Place → Kept Contents
+  abbrev pub kept_at : BatchPlace → AcceptedBatch Contents
   kept_at place = slice_index_or (list_at place) place.at no_batch
 
-  abbrev pub entry_at : Place → Entry Contents
+  abbrev pub entry_at : BatchPlace → HistoryEntry Contents
   entry_at place = entry_of place.client (place.at + 1) (kept_at place)
 
-  abbrev pub entries_at : List Place → List (Entry Contents)
+  abbrev pub entries_at : List BatchPlace → List (HistoryEntry Contents)
   entries_at order = map entry_at order
 
   -- there is a batch, which begins with this sequence
-  pub record IsPlace (place : Place) : Type 0 where
+  pub record IsPlace (place : BatchPlace) : Type 0 where
     pub numbered : 1 ≤ place.client
     pub client : place.client ≤ length lists
     pub within : place.at < length (list_at place)
     pub first : place.first ≡ (kept_at place).batch.sequence
 
-  abbrev pub ArePlaces : List Place → Type 0
+  abbrev pub ArePlaces : List BatchPlace → Type 0
   ArePlaces order = All IsPlace order

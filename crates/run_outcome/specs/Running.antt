@@ -7,9 +7,9 @@ use Rattle.model_base.specs.Map.{Pairs}
 use Rattle.model_base.specs.Trace.{Settings}
 use Rattle.model_base.specs.Calls as calls
 use Rattle.model_base.specs.LogContents.{GroupCall}
-use Rattle.run_calls.specs.declared.options.Options.{Options}
+use Rattle.model_base.specs.declared.options.Options.{Options}
 use Rattle.run_outcome.specs.declared.outcome.Outcome.{Outcome}
-use Rattle.run_calls.specs.Settings.{settings_of}
+use Rattle.model_base.specs.Settings.{settings_of}
 use Rattle.run_outcome.specs.Shows.{ShowsOutcome}
 use Rattle.model_runs.specs.Refusals.{AreRefusedForThemselves}
 use Rattle.model_runs.specs.Crashes.{IsRun, IsSafe}

@@ -9,7 +9,7 @@ use Rattle.model_base.specs.Calls as calls
 use Rattle.log_batch.specs.Contents.{Contents}
 use Rattle.run_outcome.specs.declared.reply.Reply.{Reply}
 use Rattle.run_outcome.specs.declared.reply.Reply.TheVariants.{Accepted, Refused, Found, FoundEach, Rows, Done, Held, NotHeld, NoMemory}
-use Rattle.run_calls.specs.declared.entry.Entry.{Entry}
+use Rattle.run_outcome.specs.declared.history_entry.HistoryEntry.{HistoryEntry}
 use Rattle.run_outcome.specs.declared.outcome.Outcome.{Outcome}
 
 abbrev pub lacks_memory : Reply → Bool
@@ -46,7 +46,7 @@ with_replies cs = filter (λ (c : calls.Call). not (is_quiet c.reply)) cs
 abbrev pub ShowsReplies : List Reply → List calls.Call → Type 0
 ShowsReplies replies cs = AllZip ShowsReply replies (with_replies cs)
 
-pub record ShowsEntry (shown : Entry Contents) (e : history.Entry) : Type 0 where
+pub record ShowsEntry (shown : HistoryEntry Contents) (e : history.Entry) : Type 0 where
   pub client : e.client ≡ shown.client
   pub ordinal : e.ordinal ≡ shown.ordinal
   pub first : e.first ≡ shown.first

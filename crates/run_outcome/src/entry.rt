@@ -3,19 +3,19 @@
 ghost use Rattle.std.specs.Prelude.{◌≡◌, ◌<◌, length, Some, slice_get};
 ghost use Rattle.run_outcome.specs.Histories.{entries_of};
 
-use run_batches::{BatchList, Kept, KeptBatch};
-use run_calls::Entry;
+use crate::history_entry::HistoryEntry;
+use run_batches::{AcceptedBatch, AcceptedBatchRef, BatchList};
 
 /// The entry of the batch at a place of a client's list, from 0 on.
-pub fn entry_of(client: u32, at: usize, list: &BatchList) -> Entry<KeptBatch<'_>>
+pub fn entry_of(client: u32, at: usize, list: &BatchList) -> HistoryEntry<AcceptedBatchRef<'_>>
     requires { at < length list.now }
     ensures { slice_get (entries_of client list.now) at ≡ Some result }
 {
     // So the ordinal doesn't overflow.
     prove!(at < list.len());
-    let Kept { flag, batch } = list.get(at);
+    let AcceptedBatch { flag, batch } = list.get(at);
     let first = batch.sequence();
-    Entry {
+    HistoryEntry {
         client,
         ordinal: at as u64 + 1,
         first,

@@ -5,10 +5,10 @@ ghost use Rattle.std.specs.List.Sorted.{IsNonDecreasingBy};
 ghost use Rattle.run_outcome.specs.Histories.{entries_of, entries_of_all};
 
 use crate::entry::entry_of;
+use crate::history_entry::HistoryEntry;
 use crate::merged::Merged;
 use model_base::NoMemory;
-use run_batches::{BatchList, KeptBatch};
-use run_calls::Entry;
+use run_batches::{AcceptedBatchRef, BatchList};
 use std::alloc::Global;
 use std::marker::Model;
 
@@ -30,9 +30,9 @@ enum Batches {
 impl Model for History {
     ghost use Rattle.std.specs.Prelude.{List};
     ghost use Rattle.log_batch.specs.Contents.{Contents};
-    ghost use Rattle.run_calls.specs.declared.entry.Entry.{Entry};
+    ghost use Rattle.run_outcome.specs.declared.history_entry.HistoryEntry.{HistoryEntry};
 
-    ghost Value = { List (Entry Contents) };
+    ghost Value = { List (HistoryEntry Contents) };
 
     ghost use Rattle.run_outcome.specs.Views.{entries_in};
 
@@ -74,7 +74,7 @@ impl History {
     }
 
     /// The batch at a place, from 0 on.
-    pub fn entry(&self, at: usize) -> Entry<KeptBatch<'_>>
+    pub fn entry(&self, at: usize) -> HistoryEntry<AcceptedBatchRef<'_>>
         requires { at < length self.now }
         ensures { slice_get self.now at ≡ Some result }
     {

@@ -5,6 +5,7 @@
 //! - [`History`] puts the accepted batches of all clients into the order of their sequences, and leaves them where they
 //!   are. A client that is alone has its batches in order already. Those of several are found by their places
 //!   (`places`), which are sorted by first sequences (`merged`): a place takes sixteen bytes.
+//!   [`HistoryEntry`] is one of them with its run.
 //! - [`Outcome`] is all of it, with the map and the log's length.
 //!
 //! - `specs/Shows`: the replies, the entries and the outcome of the model that values show.
@@ -16,11 +17,13 @@
 
 mod entry;
 mod history;
+mod history_entry;
 mod merged;
 mod outcome;
 mod places;
 mod reply;
 
 pub use history::History;
+pub use history_entry::HistoryEntry;
 pub use outcome::Outcome;
 pub use reply::Reply;

@@ -5,10 +5,10 @@ ghost use Rattle.std.specs.List.Sorted.{IsNonDecreasingBy};
 ghost use Rattle.run_outcome.specs.Histories.{entries_of_all};
 
 use crate::entry::entry_of;
-use crate::places::{Place, places_of};
+use crate::history_entry::HistoryEntry;
+use crate::places::{BatchPlace, places_of};
 use model_base::NoMemory;
-use run_batches::{BatchList, KeptBatch};
-use run_calls::Entry;
+use run_batches::{AcceptedBatchRef, BatchList};
 use std::alloc::Global;
 use std::marker::Model;
 
@@ -18,15 +18,15 @@ use std::marker::Model;
 #[derive(Drop)]
 pub struct Merged {
     lists: Vec<BatchList>,
-    order: Vec<Place>,
+    order: Vec<BatchPlace>,
 }
 
 impl Model for Merged {
     ghost use Rattle.std.specs.Prelude.{List};
     ghost use Rattle.log_batch.specs.Contents.{Contents};
-    ghost use Rattle.run_calls.specs.declared.entry.Entry.{Entry};
+    ghost use Rattle.run_outcome.specs.declared.history_entry.HistoryEntry.{HistoryEntry};
 
-    ghost Value = { List (Entry Contents) };
+    ghost Value = { List (HistoryEntry Contents) };
 
     ghost use Rattle.run_outcome.specs.Places.{entries_at, ArePlaces};
 
@@ -57,7 +57,7 @@ impl Merged {
     }
 
     /// The batch at a place of the order, from 0 on.
-    pub fn entry(&self, at: usize) -> Entry<KeptBatch<'_>>
+    pub fn entry(&self, at: usize) -> HistoryEntry<AcceptedBatchRef<'_>>
         requires { at < length self.now }
         ensures { slice_get self.now at ≡ Some result }
     {

@@ -9,7 +9,7 @@ use std::alloc::Global;
 
 /// Where a batch stands, with the first sequence of its run. It takes sixteen bytes.
 #[derive(Drop)]
-pub struct Place {
+pub struct BatchPlace {
     pub first: u64,
     /// In whose list. Clients are numbered from 1.
     pub client: u32,
@@ -18,7 +18,7 @@ pub struct Place {
 }
 
 /// The places of all clients' batches, client by client. There is no memory for more than 2^32 - 1 batches of a client.
-pub fn places_of(alloc: Global, lists: &[BatchList]) -> Result<Vec<Place>, NoMemory>
+pub fn places_of(alloc: Global, lists: &[BatchList]) -> Result<Vec<BatchPlace>, NoMemory>
     requires { length lists.now < 2 ^ 32 }
     ensures { IfOk result (λ places. places.items ≡ places_by 1 lists.now) }
 {
@@ -42,7 +42,7 @@ fn count_of(lists: &[BatchList]) -> usize
 }
 
 /// Puts the places of a client's batches behind the others.
-fn add_places(places: &mut Vec<Place>, client: u32, list: &BatchList) -> Result<(), NoMemory>
+fn add_places(places: &mut Vec<BatchPlace>, client: u32, list: &BatchList) -> Result<(), NoMemory>
     ensures { OnOk result (places.new.items ≡ places.old.items ++ places_from client 0 list.now) }
 {
     let Ok(len) = u32::try_from(list.len()) else {
@@ -50,7 +50,7 @@ fn add_places(places: &mut Vec<Place>, client: u32, list: &BatchList) -> Result<
     };
     for at in 0..len {
         let first = list.get(at as usize).batch.sequence();
-        places.push(Place { first, client, at })?;
+        places.push(BatchPlace { first, client, at })?;
     }
     Ok(())
 }

@@ -83,24 +83,24 @@ flag_taken flag (w ∷ ws) word = by_first (bytes_eq w flag) (bytes_eq-Decides w
 abbrev pub left_of_commit : Bool → Bool → Bool → List (List ℕ) → model.Read model.Line
 left_of_commit sync no_log no_slowdown rest = model.no_word (model.command (commit (record { sync = sync; no_log = no_log; no_slowdown = no_slowdown }))) rest
 
-flags_are_words : (ws : List (List ℕ)) → behind_word model.all_commit_flags ws ≡ model.all_commit_flags ws
+flags_are_words : (ws : List (List ℕ)) → behind_word model.commit_flags ws ≡ model.commit_flags ws
 flags_are_words ws =
     let behind_sync = model.behind_first (model.is_first (codes "sync") ws) ws in
     let behind_log = model.behind_first (model.is_first (codes "nolog") behind_sync) behind_sync in
     no_word-words _ _ (model.behind_first (model.is_first (codes "noslow") behind_log) behind_log) (flag_taken (codes "sync") ws refl ∙ flag_taken (codes "nolog") behind_sync refl ∙ flag_taken (codes "noslow") behind_log refl)
 
 pub flags_read : (ws behind_sync behind_log rest : List (List ℕ)) (sync no_log no_slowdown : Bool) → sync ≡ model.is_first (codes "sync") ws → behind_sync ≡ model.behind_first sync ws → no_log ≡ model.is_first (codes "nolog") behind_sync → behind_log ≡ model.behind_first no_log behind_sync
-    → no_slowdown ≡ model.is_first (codes "noslow") behind_log → rest ≡ model.behind_first no_slowdown behind_log → behind_word model.all_commit_flags ws ≡ left_of_commit sync no_log no_slowdown rest
+    → no_slowdown ≡ model.is_first (codes "noslow") behind_log → rest ≡ model.behind_first no_slowdown behind_log → behind_word model.commit_flags ws ≡ left_of_commit sync no_log no_slowdown rest
 flags_read ws behind_sync behind_log rest sync no_log no_slowdown is_sync is_behind_sync is_no_log is_behind_log is_no_slowdown is_rest =
     flags_are_words ws ∙ rw (is_rest, is_no_slowdown, is_behind_log, is_no_log, is_behind_sync, is_sync) refl
 
 -- something is left behind the flags
-pub flags_read-more : (ws : List (List ℕ)) (rest : Option (Bor (List ℕ))) (sync no_log no_slowdown : Bool) → behind_word model.all_commit_flags ws ≡ left_of_commit sync no_log no_slowdown (parts_of 32 (option_copied rest)) → is_some rest ≡ true
-    → behind_word model.all_commit_flags ws ≡ Err Form
+pub flags_read-more : (ws : List (List ℕ)) (rest : Option (Bor (List ℕ))) (sync no_log no_slowdown : Bool) → behind_word model.commit_flags ws ≡ left_of_commit sync no_log no_slowdown (parts_of 32 (option_copied rest)) → is_some rest ≡ true
+    → behind_word model.commit_flags ws ≡ Err Form
 flags_read-more ws rest sync no_log no_slowdown is some = is ∙ no_word-more _ rest some
 
 -- nothing is left behind the flags
-pub flags_read-none : (ws : List (List ℕ)) (rest : Option (Bor (List ℕ))) (sync no_log no_slowdown : Bool) → behind_word model.all_commit_flags ws ≡ left_of_commit sync no_log no_slowdown (parts_of 32 (option_copied rest)) → is_some rest ≡ false
-    → behind_word model.all_commit_flags ws ≡ left_of_commit sync no_log no_slowdown []
+pub flags_read-none : (ws : List (List ℕ)) (rest : Option (Bor (List ℕ))) (sync no_log no_slowdown : Bool) → behind_word model.commit_flags ws ≡ left_of_commit sync no_log no_slowdown (parts_of 32 (option_copied rest)) → is_some rest ≡ false
+    → behind_word model.commit_flags ws ≡ left_of_commit sync no_log no_slowdown []
 flags_read-none ws None sync no_log no_slowdown is none = is
 flags_read-none ws (Some text) sync no_log no_slowdown is none = cc

@@ -1,12 +1,12 @@
 -- The language of a script with a schedule.
 use Rattle.std.specs.Prelude.{ℕ, List, [], ◌∷◌, ◌++◌, codes}
-use Rattle.model_base.specs.Script.{Grammar, client_forms}
-use Rattle.model_core.specs.Schedule.{EventWord, first_event_words, clients_grammar}
+use Rattle.model_base.specs.Script.{Grammar, client_forms, whole_grammar}
+use Rattle.model_core.specs.Schedule.{EventWord, first_event_words}
 use Rattle.model_core.specs.declared.event.Event.TheVariants.{Boundary, Second, Next}
 
--- all lines but those of the write controller's tokens, for several clients
+-- all lines but those of the write controller's tokens
 abbrev pub replay_grammar : Grammar
-replay_grammar = record clients_grammar { forms = client_forms }
+replay_grammar = record whole_grammar { forms = client_forms }
 
 -- all events but the write controller's have a word; these three may come in a pipelined path alone
 abbrev pub event_words : List EventWord

@@ -1,6 +1,7 @@
 -- The commands that a parsed script holds.
 use Rattle.std.specs.Prelude.{◌≡◌, ℕ, ◌+◌, ◌≤◌, List, [], ◌∷◌, length, sum_by, Result, Err}
 use Rattle.std.specs.List.{AllByRecursion}
+use Rattle.model_base.specs.declared.limits.TheConstants.{MAX_SIZE}
 use Rattle.model_base.specs.Batch.{Record, value, deletion, single_deletion, log_data, size_of_batch}
 use Rattle.model_base.specs.Calls.{Command, add, clear, commit, get, many, scan, stop, unstop, slow, unslow}
 use Rattle.model_base.specs.Script as model
@@ -19,7 +20,7 @@ additions_of (other ∷ cs) = additions_of cs
 
 -- all that a client adds fits one batch of 16 MiB, even if no commit is accepted
 abbrev pub FitsBatches : Script → Type 0
-FitsBatches script = AllByRecursion (λ cs. size_of_batch (additions_of cs) ≤ 16777216) (commands_of script)
+FitsBatches script = AllByRecursion (λ cs. size_of_batch (additions_of cs) ≤ MAX_SIZE) (commands_of script)
 
 -- how long a line is that adds a record, with its line feed; other lines aside
 abbrev pub line_len : Command → ℕ

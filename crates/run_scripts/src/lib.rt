@@ -11,6 +11,6 @@ mod script;
 mod words;
 
 pub use numbers::value_of_digits;
-pub use parser::{TEXT_LIMIT, parse_clients};
+pub use parser::parse_clients;
 pub use schedule::{Schedule, parse_schedule};
 pub use script::{Script, ScriptError};

@@ -275,7 +275,7 @@ fn read_alone<'a>(said: CommandView<'a>, rest: Option<&[u8]>) -> Result<Line<'a>
 /// Reads what stands after `commit`.
 fn read_commit(rest: Option<&[u8]>) -> Result<Line<'_>, LineError>
     ensures line { let words = parts_of 32 (option_copied rest.entry) in
-        Reads line_said (behind_word model.all_commit_flags words) result }
+        Reads line_said (behind_word model.commit_flags words) result }
     ensures len { IfOk result (λ l. said_len l ≡ 0) }
     ensures command { (language : Language) → IfOk result (MayBeSaid language) }
 {

@@ -32,15 +32,9 @@ use crate::language::Language;
 use crate::lines::{Line, LineError, is_passed_over, read_line};
 use crate::script::{Script, ScriptError};
 use crate::words::split_once;
-use model_base::ScriptFault;
+use model_base::{MAX_CLIENTS, ScriptFault, TEXT_LIMIT};
 use run_command_list::{CommandList, CommandView};
 use std::alloc::Global;
-
-/// How many bytes a script may have.
-pub const TEXT_LIMIT: usize = 16_777_216;
-
-/// How many clients a script may have.
-const CLIENT_LIMIT: u64 = 16;
 
 /// Parses a script of 1 to 16 clients, which may have every line. The first fault in its lines decides,
 /// and within a line the first kind in the order byte, word, form, client, clients. The text as a whole
@@ -48,7 +42,7 @@ const CLIENT_LIMIT: u64 = 16;
 pub fn parse_clients(alloc: Global, text: &[u8]) -> Result<Script, ScriptError>
     ensures script { IfOk result (λ s. script_of whole_grammar text.now ≡ Ok (commands_of s)) }
     ensures fault { IfErr result (IsFaultOf (script_of whole_grammar text.now)) }
-    ensures clients { IfOk result (λ s. (1 ≤ length s.clients.items) × (length s.clients.items ≤ 16)) }
+    ensures clients { IfOk result (λ s. (1 ≤ length s.clients.items) × (length s.clients.items ≤ MAX_CLIENTS)) }
 
     // All that a client adds fits one batch, whatever becomes of its commits.
     ensures fits { IfOk result FitsBatches }
@@ -64,7 +58,7 @@ fn read_script(alloc: Global, language: Language, text: &[u8]) -> Result<Script,
     ensures script { IfOk result (λ s. script_of (grammar_of language) text.now ≡ Ok (commands_of s)) }
     ensures fault { IfErr result (IsFaultOf (script_of (grammar_of language) text.now)) }
     ensures clients { IfOk result
-        (λ s. (1 ≤ length s.clients.items) × (length s.clients.items ≤ 16)) }
+        (λ s. (1 ≤ length s.clients.items) × (length s.clients.items ≤ MAX_CLIENTS)) }
     ensures fits { IfOk result FitsBatches }
     ensures commands { IfOk result (HasCommandsOf language) }
 {
@@ -88,7 +82,7 @@ fn read_script(alloc: Global, language: Language, text: &[u8]) -> Result<Script,
 fn read_lines(alloc: Global, language: Language, text: &[u8]) -> Result<Script, ScriptError>
     ensures script { IfOk result (λ s. lines_read (grammar_of language) text.now ≡ Ok (commands_of s)) }
     ensures fault { IfErr result (IsFaultOf (lines_read (grammar_of language) text.now)) }
-    ensures few { IfOk result (λ s. length s.clients.items ≤ 16) }
+    ensures few { IfOk result (λ s. length s.clients.items ≤ MAX_CLIENTS) }
     ensures small { IfOk result (λ s. script_len s ≤ length text.now + 1) }
     ensures commands { IfOk result (HasCommandsOf language) }
 {
@@ -117,8 +111,8 @@ fn add_line(
 ) -> Result<(), LineError>
     ensures script { Reads (λ _. commands_of script.new)
         (line_added (grammar_of language) (commands_of script.old) line.now) result }
-    ensures few { length script.old.clients.items ≤ 16
-        → OnOk result (length script.new.clients.items ≤ 16) }
+    ensures few { length script.old.clients.items ≤ MAX_CLIENTS
+        → OnOk result (length script.new.clients.items ≤ MAX_CLIENTS) }
     ensures len { OnOk result
         (script_len script.new ≤ script_len script.old + length line.now + 1) }
     ensures commands { HasCommandsOf language script.old → OnOk result (HasCommandsOf language script.new) }
@@ -138,8 +132,8 @@ pub fn add_said(
 ) -> Result<(), LineError>
     ensures script { Reads (λ _. commands_of script.new)
         (said_added (grammar_of language) (commands_of script.old) line.now) result }
-    ensures few { length script.old.clients.items ≤ 16
-        → OnOk result (length script.new.clients.items ≤ 16) }
+    ensures few { length script.old.clients.items ≤ MAX_CLIENTS
+        → OnOk result (length script.new.clients.items ≤ MAX_CLIENTS) }
     ensures len { OnOk result
         (script_len script.new ≤ script_len script.old + length line.now + 1) }
     ensures commands { HasCommandsOf language script.old → OnOk result (HasCommandsOf language script.new) }
@@ -157,9 +151,9 @@ pub fn add_said(
 /// Begins the section of a client after the others.
 fn add_section(alloc: Global, script: &mut Script, number: u64) -> Result<(), LineError>
     ensures script { Reads (λ _. commands_of script.new)
-        (model.with_section 16 (commands_of script.old) number) result }
-    ensures few { length script.old.clients.items ≤ 16
-        → OnOk result (length script.new.clients.items ≤ 16) }
+        (model.with_section MAX_CLIENTS (commands_of script.old) number) result }
+    ensures few { length script.old.clients.items ≤ MAX_CLIENTS
+        → OnOk result (length script.new.clients.items ≤ MAX_CLIENTS) }
     ensures len { OnOk result (script_len script.new ≡ script_len script.old) }
     ensures commands { (language : Language) → HasCommandsOf language script.old
         → OnOk result (HasCommandsOf language script.new) }
@@ -167,7 +161,7 @@ fn add_section(alloc: Global, script: &mut Script, number: u64) -> Result<(), Li
     if number != script.clients.len() as u64 + 1 {
         return Err(LineError::Fault(ScriptFault::Client));
     }
-    if number == CLIENT_LIMIT + 1 {
+    if number == u64::from(MAX_CLIENTS) + 1 {
         return Err(LineError::Fault(ScriptFault::Clients));
     }
     script.clients.push(CommandList::new(alloc))?;

@@ -20,10 +20,10 @@ ghost use Rattle.run_scripts.specs.ReplayLanguage.{replay_grammar, event_words};
 use crate::language::Language;
 use crate::lines::{LineError, are_plain, is_passed_over};
 use crate::numbers::number_of;
-use crate::parser::{TEXT_LIMIT, add_said};
+use crate::parser::add_said;
 use crate::script::{Script, ScriptError};
 use crate::words::split_once;
-use model_base::ScriptFault;
+use model_base::{MAX_CLIENTS, ScriptFault, TEXT_LIMIT};
 use model_core::Event;
 use std::alloc::Global;
 
@@ -52,7 +52,7 @@ pub fn parse_schedule(alloc: Global, text: &[u8]) -> Result<Schedule, ScriptErro
     // It has a client at least, all that each adds fits one batch, whatever becomes of its commits,
     // and no command is of another form than one that a script of several clients may say.
     ensures clients { IfOk result (λ s. (1 ≤ length s.script.clients.items)
-        × (length s.script.clients.items ≤ 16)) }
+        × (length s.script.clients.items ≤ MAX_CLIENTS)) }
     ensures fits { IfOk result (λ s. FitsBatches s.script) }
     ensures commands { IfOk result (λ s. HasClientsCommands s.script) }
 {
@@ -84,7 +84,7 @@ fn read_lines(alloc: Global, text: &[u8]) -> Result<Draft, ScriptError>
         ≡ Ok (draft_of d)) }
     ensures fault { IfErr result (IsScheduleFaultOf
         (model.lines_read replay_grammar event_words text.now)) }
-    ensures few { IfOk result (λ d. length d.script.clients.items ≤ 16) }
+    ensures few { IfOk result (λ d. length d.script.clients.items ≤ MAX_CLIENTS) }
     ensures small { IfOk result (λ d. script_len d.script ≤ length text.now + 1) }
     ensures commands { IfOk result (λ d. HasCommandsOf Language.Replay d.script) }
 {
@@ -109,9 +109,9 @@ fn read_lines(alloc: Global, text: &[u8]) -> Result<Draft, ScriptError>
 
 /// Reads one more line. After an error the draft is not used.
 fn add_line(alloc: Global, draft: &mut Draft, line: &[u8]) -> Result<(), LineError>
-    requires few { length draft.old.script.clients.items ≤ 16 }
+    requires few { length draft.old.script.clients.items ≤ MAX_CLIENTS }
     ensures draft { Reads (λ _. draft_of draft.new) (line_added (draft_of draft.old) line.now) result }
-    ensures few { OnOk result (length draft.new.script.clients.items ≤ 16) }
+    ensures few { OnOk result (length draft.new.script.clients.items ≤ MAX_CLIENTS) }
     ensures len { OnOk result
         (script_len draft.new.script ≤ script_len draft.old.script + length line.now + 1) }
     ensures commands { HasCommandsOf Language.Replay draft.old.script
@@ -150,7 +150,7 @@ fn no_events(alloc: Global, line: &[u8]) -> Result<Vec<Event>, LineError>
 
 /// Reads one more event of a script with so many clients.
 fn add_event(events: &mut Vec<Event>, clients: usize, line: &[u8]) -> Result<(), LineError>
-    requires { clients ≤ 16 }
+    requires { clients ≤ MAX_CLIENTS }
     ensures { Reads (λ _. events.new.items) (event_added clients events.old.items line.now) result }
 {
     let event = read_event(clients, line)?;
@@ -160,7 +160,7 @@ fn add_event(events: &mut Vec<Event>, clients: usize, line: &[u8]) -> Result<(),
 
 /// Reads a line of a schedule for a script with so many clients.
 fn read_event(clients: usize, line: &[u8]) -> Result<Event, LineError>
-    requires { clients ≤ 16 }
+    requires { clients ≤ MAX_CLIENTS }
     ensures { Reads (λ event. event) (model.event_of clients event_words line.now) result }
 {
     if !are_plain(line) {
@@ -179,7 +179,7 @@ fn read_event(clients: usize, line: &[u8]) -> Result<Event, LineError>
 
 /// The one word that is left of a line, as the number of a client of so many.
 fn client_alone(clients: usize, rest: Option<&[u8]>) -> Option<u32>
-    requires { clients ≤ 16 }
+    requires { clients ≤ MAX_CLIENTS }
     ensures { result ≡ model.client_alone clients (parts_of 32 (option_copied rest.entry)) }
 {
     let (word, behind) = split_once(rest?, b' ');

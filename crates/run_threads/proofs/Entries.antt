@@ -8,13 +8,13 @@ use Rattle.model_base.specs.Tokens.{holds_stop}
 use Rattle.model_base.specs.Trace.{Settings}
 use Rattle.model_base.specs.Progress.{next_entry, early_refusal}
 use Rattle.log_batch.specs.Contents.{Contents}
-use Rattle.run_batches.specs.declared.kept.Kept.{Kept}
-use Rattle.run_calls.specs.declared.entry.Entry.{Entry}
+use Rattle.run_batches.specs.declared.accepted.AcceptedBatch.{AcceptedBatch}
+use Rattle.run_outcome.specs.declared.history_entry.HistoryEntry.{HistoryEntry}
 use Rattle.run_outcome.specs.Shows.{ShowsEntry}
 use Rattle.run_outcome.specs.Histories.{last_in, entry_of, entries_of}
 use Rattle.run_outcome.proofs.Entries.{entries_of-push, length-entries_of}
 use Rattle.model_accounts.specs.Accounts.{Account, Keeps, IsRefusedLate, Refuses}
-use Rattle.run_threads.specs.Answers.{ShowsEntries, ShowsKept}
+use Rattle.run_threads.specs.Answers.{ShowsEntries, ShowsAccepted}
 use Rattle.run_threads.proofs.Lists.{zip_more, zip_length}
 
 -- the last sequence of a run is a number of 64 bits
@@ -22,14 +22,14 @@ run_ends : (first count : ℕ) → 1 ≤ count → first + count ≤ 2 ^ 64 → 
 run_ends first count some within = omega arith
 
 -- one more, with its run
-pub kept_more : (client first : ℕ) (mine : List history.Entry) (how : WriteOptions) (records : List Record) (kept : List (Kept Contents)) (k : Kept Contents) → ShowsKept client kept mine
+pub kept_more : (client first : ℕ) (mine : List history.Entry) (how : WriteOptions) (records : List Record) (kept : List (AcceptedBatch Contents)) (k : AcceptedBatch Contents) → ShowsAccepted client kept mine
     → k.flag ≡ history.flag_of how → k.batch ≡ record { sequence = first; records = records } → 1 ≤ count_of records → first + count_of records ≤ 2 ^ 64
-    → ShowsKept client (kept ++ k ∷ []) (mine ++ next_entry client mine how first records ∷ [])
+    → ShowsAccepted client (kept ++ k ∷ []) (mine ++ next_entry client mine how first records ∷ [])
 kept_more client first mine how records kept k so_far flagged made some within =
     let same = zip_length ShowsEntry (entries_of client kept) mine so_far in
     let count = length-entries_of client kept in
     let nth : 1 + length mine ≡ length kept + 1 = omega (arith, same, count) in
-    subst (λ (es : List (Entry Contents)). ShowsEntries es (mine ++ next_entry client mine how first records ∷ [])) (sym (entries_of-push client kept k))
+    subst (λ (es : List (HistoryEntry Contents)). ShowsEntries es (mine ++ next_entry client mine how first records ∷ [])) (sym (entries_of-push client kept k))
     (zip_more ShowsEntry (entries_of client kept) mine (entry_of client (length kept + 1) k) (next_entry client mine how first records) so_far (record {
       client = refl;
       ordinal = nth;

@@ -4,3 +4,10 @@ pub mod Hands
 pub mod Entries
 pub mod Going
 pub mod Moves
+pub mod Alone
+pub mod Fibres
+pub mod Last
+pub mod NotRun
+pub mod Owners
+pub mod Shown
+pub mod Whole

@@ -17,9 +17,9 @@ use Rattle.run_scripts.specs.Scripts.{additions_of}
 use Rattle.model_accounts.specs.Accounts.{Account}
 use Rattle.model_accounts.specs.Closing.{AreOurs}
 use Rattle.model_accounts.specs.ClientRuns.{HasRun}
-use Rattle.run_threads.specs.declared.batches.Batches.{Batches}
+use Rattle.run_threads.specs.declared.batches.ClientBatches.{ClientBatches}
 use Rattle.run_threads.specs.declared.jobs.Job.{Job}
-use Rattle.run_threads.specs.Answers.{kept_in, ShowsKept}
+use Rattle.run_threads.specs.Answers.{accepted_in, ShowsAccepted}
 use Rattle.run_threads.specs.Transcripts.{HasTold}
 use Rattle.run_threads.specs.Parts.{client_of, replies_of, batches_of}
 use Rattle.run_threads.specs.Jobs.{FitBatches, AreNew, HaveTold, HaveEntries, AreNone, IsRoom, AreReady, AreDone}
@@ -109,12 +109,12 @@ module _ {C : Type 0} (belongs : C → Type 0) (account : C → Account) (settin
         (subst belongs o.gives d.ours, ap (λ x. (account x).number) (sym o.gives) ∙ d.number);
   }
 
-  pub done_entries : (jobs : List (Job C)) (clients : List C) (batches : List Batches) → AreDone belongs account settings script jobs
+  pub done_entries : (jobs : List (Job C)) (clients : List C) (batches : List ClientBatches) → AreDone belongs account settings script jobs
       → clients ≡ map client_of jobs → batches ≡ map batches_of jobs → HaveEntries batches (map account clients)
   done_entries jobs clients batches done are batches_are =
       rw (are, batches_are, map_both account client_of jobs)
-      (zip_each (λ (b : Batches) (a : Account). ShowsKept a.number (kept_in b) a.mine) jobs batches_of (λ (j : Job C). account (client_of j))
-      (λ i d less. (let d' = done.each i d less in subst (λ (n : ℕ). ShowsKept n (kept_in (get_or jobs i d).batches) (account (get_or jobs i d).client).mine) (sym d'.number) d'.accepted)))
+      (zip_each (λ (b : ClientBatches) (a : Account). ShowsAccepted a.number (accepted_in b) a.mine) jobs batches_of (λ (j : Job C). account (client_of j))
+      (λ i d less. (let d' = done.each i d less in subst (λ (n : ℕ). ShowsAccepted n (accepted_in (get_or jobs i d).batches) (account (get_or jobs i d).client).mine) (sym d'.number) d'.accepted)))
 
   -- the transcripts of the clients from the one behind the number `n` on
   record Collected (n : ℕ) (jobs : List (Job C)) (rest : List (List Command)) : Type 0 where

@@ -1,39 +1,40 @@
 -- What one command of a client comes to.
 use Rattle.std.specs.Prelude.{◌≡◌, ◌⊎◌, ◌≤◌, ℕ, List, [], ◌∷◌, ◌++◌, Option, Result, Ok, Err, MatchOption}
 use Rattle.std.specs.List.{AllZip}
+use Rattle.model_base.specs.declared.limits.TheConstants.{MAX_SIZE}
 use Rattle.model_base.specs.declared.memory.NoMemory.{NoMemory}
 use Rattle.model_base.specs.Batch.{Record, size_of_batch}
 use Rattle.model_base.specs.History as history
 use Rattle.model_base.specs.Trace.{Settings}
 use Rattle.model_base.specs.Calls as calls
 use Rattle.log_batch.specs.Contents.{Contents}
-use Rattle.run_calls.specs.declared.entry.Entry.{Entry}
-use Rattle.run_batches.specs.declared.kept.Kept.{Kept}
+use Rattle.run_outcome.specs.declared.history_entry.HistoryEntry.{HistoryEntry}
+use Rattle.run_batches.specs.declared.accepted.AcceptedBatch.{AcceptedBatch}
 use Rattle.run_outcome.specs.declared.reply.Reply.{Reply}
 use Rattle.run_outcome.specs.Shows.{ShowsReply, ShowsEntry}
 use Rattle.run_outcome.specs.Histories.{entries_of}
 use Rattle.run_scripts.specs.Scripts.{additions_of}
 use Rattle.model_accounts.specs.Accounts.{Account}
-use Rattle.run_threads.specs.declared.batches.Batches.{Batches}
-use Rattle.run_threads.specs.declared.batches.AtHand.{AtHand}
-use Rattle.run_threads.specs.declared.batches.AtHand.TheVariants.{Nothing, Pending, Accepted}
+use Rattle.run_threads.specs.declared.batches.ClientBatches.{ClientBatches}
+use Rattle.run_threads.specs.declared.batches.CurrentBatch.{CurrentBatch}
+use Rattle.run_threads.specs.declared.batches.CurrentBatch.TheVariants.{Nothing, Pending, Accepted}
 use Rattle.model_accounts.specs.ClientRuns.{Goes, Lacks}
 
 -- the records of the batch in the making, which is begun with its first record
-abbrev pub records_in : AtHand → List Record
+abbrev pub records_in : CurrentBatch → List Record
 records_in Nothing = []
 records_in (Pending batch) = batch.records
 records_in (Accepted kept) = []
 
 -- the accepted batch that is still at hand
-abbrev pub last_kept : AtHand → List (Kept Contents)
-last_kept Nothing = []
-last_kept (Pending batch) = []
-last_kept (Accepted kept) = kept ∷ []
+abbrev pub last_accepted : CurrentBatch → List (AcceptedBatch Contents)
+last_accepted Nothing = []
+last_accepted (Pending batch) = []
+last_accepted (Accepted kept) = kept ∷ []
 
 -- a client's accepted batches: those of the list, and the one at hand
-abbrev pub kept_in : Batches → List (Kept Contents)
-kept_in batches = batches.list ++ last_kept batches.at_hand
+abbrev pub accepted_in : ClientBatches → List (AcceptedBatch Contents)
+accepted_in batches = batches.list ++ last_accepted batches.current
 
 -- what a client is told of a call: its reply, or nothing where it has none
 abbrev pub ShowsTold : Option Reply → calls.Call → Type 0
@@ -53,16 +54,16 @@ Answers settings v before command (Ok told) w after = GoesOn settings v before c
 Answers settings v before command (Err none) w after = Lacks settings v before command w
 
 -- the batches of a history are these entries
-abbrev pub ShowsEntries : List (Entry Contents) → List history.Entry → Type 0
+abbrev pub ShowsEntries : List (HistoryEntry Contents) → List history.Entry → Type 0
 ShowsEntries shown entries = AllZip ShowsEntry shown entries
 
 -- the accepted batches of a client are these entries
-abbrev pub ShowsKept : ℕ → List (Kept Contents) → List history.Entry → Type 0
-ShowsKept client kept entries = ShowsEntries (entries_of client kept) entries
+abbrev pub ShowsAccepted : ℕ → List (AcceptedBatch Contents) → List history.Entry → Type 0
+ShowsAccepted client kept entries = ShowsEntries (entries_of client kept) entries
 
 -- what the commands add, if they add something, fits into the batch
 abbrev pub HasRoom : List Record → List calls.Command → Type 0
-HasRoom records commands = size_of_batch (records ++ additions_of commands) ≤ 16777216
+HasRoom records commands = size_of_batch (records ++ additions_of commands) ≤ MAX_SIZE
 
 -- what a command leaves in the batch: nothing, or what was there with what the command adds
 abbrev pub IsLeft : List Record → calls.Command → List Record → Type 0

@@ -2,6 +2,7 @@
 use Rattle.std.specs.Prelude.{◌≡◌, ℕ, ◌+◌, ◌^◌, ◌<◌, ◌≤◌, List, [], length, Some, slice_get, slice_index_or, Vec, vec_len, vec_capacity}
 use Rattle.std.specs.List.{AllByRecursion, AllZip}
 use Rattle.std.specs.declared.alloc.Global.{Global}
+use Rattle.model_base.specs.declared.limits.TheConstants.{MAX_SIZE}
 use Rattle.model_base.specs.Batch.{size_of_batch}
 use Rattle.model_base.specs.Trace.{Settings}
 use Rattle.model_base.specs.Calls.{Command, Call}
@@ -10,14 +11,14 @@ use Rattle.run_outcome.specs.Shows.{ShowsReplies}
 use Rattle.run_scripts.specs.Scripts.{additions_of}
 use Rattle.model_accounts.specs.Accounts.{Account, newcomer}
 use Rattle.model_accounts.specs.ClientRuns.{HaveRun}
-use Rattle.run_threads.specs.declared.batches.Batches.{Batches}
+use Rattle.run_threads.specs.declared.batches.ClientBatches.{ClientBatches}
 use Rattle.run_threads.specs.declared.jobs.Job.{Job}
-use Rattle.run_threads.specs.Answers.{records_in, kept_in, ShowsKept}
+use Rattle.run_threads.specs.Answers.{records_in, accepted_in, ShowsAccepted}
 use Rattle.run_threads.specs.Transcripts.{HasTold}
 
 -- all that a client adds fits one batch of 16 MiB, even if no commit is accepted
 abbrev pub FitBatches : List (List Command) → Type 0
-FitBatches script = AllByRecursion (λ cs. size_of_batch (additions_of cs) ≤ 16777216) script
+FitBatches script = AllByRecursion (λ cs. size_of_batch (additions_of cs) ≤ MAX_SIZE) script
 
 -- no client has called anything
 pub record AreNew {C : Type 0} (account : C → Account) (start : ℕ) (clients : List C) : Type 0 where
@@ -31,12 +32,12 @@ pub record HaveTold (settings : Settings) (script : List (List Command)) (replie
   pub run : HaveRun settings script transcripts accounts
 
 -- the accepted batches are the clients' entries
-abbrev pub HaveEntries : List Batches → List Account → Type 0
-HaveEntries batches accounts = AllZip (λ b a. ShowsKept a.number (kept_in b) a.mine) batches accounts
+abbrev pub HaveEntries : List ClientBatches → List Account → Type 0
+HaveEntries batches accounts = AllZip (λ b a. ShowsAccepted a.number (accepted_in b) a.mine) batches accounts
 
 -- no batch was accepted, and none is in the making
-abbrev pub AreNone : Batches → Type 0
-AreNone batches = (kept_in batches ≡ []) × (records_in batches.at_hand ≡ [])
+abbrev pub AreNone : ClientBatches → Type 0
+AreNone batches = (accepted_in batches ≡ []) × (records_in batches.current ≡ [])
 
 -- a list with room for each client's replies, and nothing in it
 pub record IsRoom (script : List (List Command)) (room : List (Vec Reply Global)) : Type 0 where
@@ -57,7 +58,7 @@ module _ {C : Type 0} (belongs : C → Type 0) (account : C → Account) (settin
     pub none : job.replies.items ≡ []
     pub empty : vec_len job.replies ≡ 0
     pub no_batches : AreNone job.batches
-    pub fits : (d : List Command) → size_of_batch (additions_of (slice_index_or script i d)) ≤ 16777216
+    pub fits : (d : List Command) → size_of_batch (additions_of (slice_index_or script i d)) ≤ MAX_SIZE
     pub room : (d : List Command) → length (slice_index_or script i d) ≤ vec_capacity job.replies
 
   -- the same job, run
@@ -66,7 +67,7 @@ module _ {C : Type 0} (belongs : C → Type 0) (account : C → Account) (settin
     pub number : (account job.client).number ≡ i + 1
     pub told : (d : List Command) → HasTold settings (i + 1) (slice_index_or script i d) job.replies.items
         (account job.client)
-    pub accepted : ShowsKept (i + 1) (kept_in job.batches) (account job.client).mine
+    pub accepted : ShowsAccepted (i + 1) (accepted_in job.batches) (account job.client).mine
 
   pub record AreReady (jobs : List (Job C)) : Type 0 where
     pub each : (i : ℕ) (d : Job C) → i < length jobs → IsReady i (slice_index_or jobs i d)

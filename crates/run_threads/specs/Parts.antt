@@ -2,7 +2,7 @@
 use Rattle.std.specs.Prelude.{Vec}
 use Rattle.std.specs.declared.alloc.Global.{Global}
 use Rattle.run_outcome.specs.declared.reply.Reply.{Reply}
-use Rattle.run_threads.specs.declared.batches.Batches.{Batches}
+use Rattle.run_threads.specs.declared.batches.ClientBatches.{ClientBatches}
 use Rattle.run_threads.specs.declared.jobs.Job.{Job}
 
 abbrev pub client_of : {C : Type 0} → Job C → C
@@ -11,5 +11,5 @@ client_of job = job.client
 abbrev pub replies_of : {C : Type 0} → Job C → Vec Reply Global
 replies_of job = job.replies
 
-abbrev pub batches_of : {C : Type 0} → Job C → Batches
+abbrev pub batches_of : {C : Type 0} → Job C → ClientBatches
 batches_of job = job.batches

@@ -2,10 +2,10 @@
 
 ghost use Rattle.std.specs.Prelude.{◌≡◌, ◌≤◌, [], ◌∷◌, OnOk};
 ghost use Rattle.run_command_list.specs.Views.{command_of};
-ghost use Rattle.run_threads.specs.Answers.{records_in, kept_in, Answers, ShowsKept, HasRoom, IsLeft};
+ghost use Rattle.run_threads.specs.Answers.{records_in, accepted_in, Answers, ShowsAccepted, HasRoom, IsLeft};
 
 use crate::adding::{add, clear};
-use crate::batches::Batches;
+use crate::batches::ClientBatches;
 use crate::committing::commit;
 use crate::reading::{get, get_many, scan};
 use crate::tokens::{slow, stop, unslow, unstop};
@@ -23,18 +23,18 @@ pub fn answer<E: Engine, R: Wait>(
     alloc: Global,
     engine: &E,
     client: &mut E::Client,
-    batches: &mut Batches,
+    batches: &mut ClientBatches,
     command: CommandView<'_>,
 ) -> Result<Option<Reply>, NoMemory>
     requires belongs { E.belongs engine.now client.old }
-    requires entries { ShowsKept (E.account client.old).number (kept_in batches.old) (E.account client.old).mine }
-    requires fits { HasRoom (records_in batches.old.at_hand) (command_of command ∷ []) }
+    requires entries { ShowsAccepted (E.account client.old).number (accepted_in batches.old) (E.account client.old).mine }
+    requires fits { HasRoom (records_in batches.old.current) (command_of command ∷ []) }
     ensures belongs { E.belongs engine.now client.new }
-    ensures answers { Answers (E.settings engine.now) (E.account client.old) (records_in batches.old.at_hand)
-        (command_of command.entry) result (E.account client.new) (records_in batches.new.at_hand) }
-    ensures left { OnOk result (IsLeft (records_in batches.old.at_hand) (command_of command.entry)
-        (records_in batches.new.at_hand)) }
-    ensures entries { ShowsKept (E.account client.old).number (kept_in batches.new) (E.account client.new).mine }
+    ensures answers { Answers (E.settings engine.now) (E.account client.old) (records_in batches.old.current)
+        (command_of command.entry) result (E.account client.new) (records_in batches.new.current) }
+    ensures left { OnOk result (IsLeft (records_in batches.old.current) (command_of command.entry)
+        (records_in batches.new.current)) }
+    ensures entries { ShowsAccepted (E.account client.old).number (accepted_in batches.new) (E.account client.new).mine }
 {
     match command {
         CommandView::Put { key, value } => add(alloc, batches, RecordView::Value { key, value }),

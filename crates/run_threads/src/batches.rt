@@ -1,14 +1,14 @@
 //! A client's batches.
 
 use log_batch::Batch;
-use run_batches::{BatchList, Kept};
+use run_batches::{AcceptedBatch, BatchList};
 
 /// What a client has at hand: nothing, the batch in the making, or the last one that was accepted.
 #[derive(Drop)]
-pub enum AtHand {
+pub enum CurrentBatch {
     Nothing,
     Pending(Batch),
-    Accepted(Kept<Batch>),
+    Accepted(AcceptedBatch<Batch>),
 }
 
 /// A client's batches: those that were accepted, and what it has at hand.
@@ -16,7 +16,7 @@ pub enum AtHand {
 /// The last accepted batch stays at hand until the next one is begun, which may find no memory; so no batch that was
 /// written is lost for want of it. Then it goes into the list, and is emptied for the next one.
 #[derive(Drop)]
-pub struct Batches {
+pub struct ClientBatches {
     pub list: BatchList,
-    pub at_hand: AtHand,
+    pub current: CurrentBatch,
 }

@@ -4,14 +4,15 @@ ghost use Rattle.std.specs.Prelude.{◌≡◌, ◌+◌, ◌<◌, ◌≤◌, [], 
 ghost use Rattle.model_base.specs.Batch.{size_of_batch};
 ghost use Rattle.run_scripts.specs.Scripts.{additions_of};
 ghost use Rattle.model_accounts.specs.Accounts.{newcomer};
-ghost use Rattle.run_threads.specs.Answers.{kept_in, ShowsKept};
+ghost use Rattle.run_threads.specs.Answers.{accepted_in, ShowsAccepted};
 ghost use Rattle.run_threads.specs.Jobs.{AreNone};
-ghost use Rattle.run_threads.specs.Transcripts.{HasStopped, HasTold};
+ghost use Rattle.run_threads.specs.Transcripts.{HasTold};
 
 use crate::answer::answer;
-use crate::batches::Batches;
+use crate::batches::ClientBatches;
 use engine_calls::{Engine, Gate};
 use model_accounts::{calls_one_after_another, runs_end};
+use model_base::MAX_SIZE;
 use run_command_list::CommandList;
 use run_outcome::Reply;
 use std::alloc::Global;
@@ -28,11 +29,11 @@ pub fn run_client<E: Engine, G: Gate, R: Wait>(
     number: u32,
     commands: &CommandList,
     replies: &mut Vec<Reply>,
-    batches: &mut Batches,
+    batches: &mut ClientBatches,
 )
     requires belongs { E.belongs engine.now client.old }
     requires new { E.account client.old ≡ newcomer (E.settings engine.now).start number }
-    requires fits { size_of_batch (additions_of commands.now) ≤ 16777216 }
+    requires fits { size_of_batch (additions_of commands.now) ≤ MAX_SIZE }
     requires none { replies.old.items ≡ [] }
     requires empty { vec_len replies.old ≡ 0 }
     requires room { length commands.now ≤ vec_capacity replies.old }
@@ -40,50 +41,22 @@ pub fn run_client<E: Engine, G: Gate, R: Wait>(
     ensures belongs { E.belongs engine.now client.new }
     ensures told { HasTold (E.settings engine.now) number commands.now replies.new.items
         (E.account client.new) }
-    ensures accepted { ShowsKept number (kept_in batches.new) (E.account client.new).mine }
-{
-    runs_end();
-    gate.started(number);
-    run_commands(
-        rt, alloc, engine, gate, client, number, commands, replies, batches,
-    );
-    engine.end(rt, client);
-}
-
-/// Runs the commands, with all tokens that are taken and not given back.
-fn run_commands<E: Engine, G: Gate, R: Wait>(
-    rt: &R,
-    alloc: Global,
-    engine: &E,
-    gate: &G,
-    client: &mut E::Client,
-    number: u32,
-    commands: &CommandList,
-    replies: &mut Vec<Reply>,
-    batches: &mut Batches,
-)
-    requires belongs { E.belongs engine.now client.old }
-    requires new { E.account client.old ≡ newcomer (E.settings engine.now).start number }
-    requires fits { size_of_batch (additions_of commands.now) ≤ 16777216 }
-    requires none { replies.old.items ≡ [] }
-    requires empty { vec_len replies.old ≡ 0 }
-    requires room { length commands.now ≤ vec_capacity replies.old }
-    requires no_batches { AreNone batches.old }
-    ensures belongs { E.belongs engine.now client.new }
-    ensures stopped { HasStopped (E.settings engine.now) number commands.now replies.new.items
-        (E.account client.new) }
-    ensures accepted { ShowsKept number (kept_in batches.new) (E.account client.new).mine }
+    ensures accepted { ShowsAccepted number (accepted_in batches.new) (E.account client.new).mine }
 {
     calls_one_after_another();
+    runs_end();
+    gate.started(number);
     let mut call = 0;
+    // The commands so far are answered, what the others add fits into the batch, and there is room for their replies.
     for command in commands.commands() {
         let Ok(told) = answer(rt, alloc, engine, client, batches, command) else {
             tell(gate, number, call, replies, Some(Reply::NoMemory));
-            return;
+            return engine.end(rt, client);
         };
         tell(gate, number, call, replies, told);
         call += 1;
     }
+    engine.end(rt, client);
 }
 
 /// Keeps the reply to a call, if it has one, and says that the call was answered.

@@ -4,14 +4,14 @@ ghost use Rattle.std.specs.Prelude.{◌≡◌, ◌+◌, ◌-◌, ◌<◌, ◌≤
 ghost use Rattle.model_base.specs.Batch.{count_of};
 ghost use Rattle.model_base.specs.Calls as calls;
 ghost use Rattle.model_base.specs.History as history;
-ghost use Rattle.run_threads.specs.Answers.{records_in, kept_in, Answers, IsLeft, ShowsKept};
+ghost use Rattle.run_threads.specs.Answers.{records_in, accepted_in, Answers, IsLeft, ShowsAccepted};
 
-use crate::batches::{AtHand, Batches};
+use crate::batches::{ClientBatches, CurrentBatch};
 use engine_calls::Engine;
+use log_batch::flag_of;
 use model_accounts::{commits_are_steps, earlier_sights};
 use model_base::{NoMemory, Refusal, WriteOptions};
-use run_batches::Kept;
-use run_calls::flag_of;
+use run_batches::AcceptedBatch;
 use run_outcome::Reply;
 use std::mem;
 use std::sync::Wait;
@@ -21,30 +21,30 @@ pub fn commit<E: Engine, R: Wait>(
     rt: &R,
     engine: &E,
     client: &mut E::Client,
-    batches: &mut Batches,
+    batches: &mut ClientBatches,
     options: WriteOptions,
 ) -> Result<Option<Reply>, NoMemory>
     requires belongs { E.belongs engine.now client.old }
-    requires entries { ShowsKept (E.account client.old).number (kept_in batches.old) (E.account client.old).mine }
+    requires entries { ShowsAccepted (E.account client.old).number (accepted_in batches.old) (E.account client.old).mine }
     ensures belongs { E.belongs engine.now client.new }
-    ensures answers { Answers (E.settings engine.now) (E.account client.old) (records_in batches.old.at_hand)
-        (calls.commit options) result (E.account client.new) (records_in batches.new.at_hand) }
-    ensures left { IsLeft (records_in batches.old.at_hand) (calls.commit options) (records_in batches.new.at_hand) }
-    ensures entries { ShowsKept (E.account client.old).number (kept_in batches.new) (E.account client.new).mine }
+    ensures answers { Answers (E.settings engine.now) (E.account client.old) (records_in batches.old.current)
+        (calls.commit options) result (E.account client.new) (records_in batches.new.current) }
+    ensures left { IsLeft (records_in batches.old.current) (calls.commit options) (records_in batches.new.current) }
+    ensures entries { ShowsAccepted (E.account client.old).number (accepted_in batches.new) (E.account client.new).mine }
 {
     commits_are_steps();
     earlier_sights();
-    let batch = match mem::replace(&mut batches.at_hand, AtHand::Nothing) {
-        AtHand::Pending(batch) => batch,
+    let batch = match mem::replace(&mut batches.current, CurrentBatch::Nothing) {
+        CurrentBatch::Pending(batch) => batch,
         other => {
-            batches.at_hand = other;
+            batches.current = other;
             return Ok(Some(Reply::Refused(Refusal::Empty)));
         }
     };
     match engine.write(rt, client, batch, options) {
         Ok(receipt) => {
             let last = receipt.first + (u64::from(receipt.count) - 1);
-            batches.at_hand = AtHand::Accepted(Kept {
+            batches.current = CurrentBatch::Accepted(AcceptedBatch {
                 flag: flag_of(options),
                 batch: receipt.batch,
             });
@@ -54,7 +54,7 @@ pub fn commit<E: Engine, R: Wait>(
             }))
         }
         Err(refused) => {
-            batches.at_hand = AtHand::Pending(refused.batch);
+            batches.current = CurrentBatch::Pending(refused.batch);
             match refused.why {
                 Refusal::NoMemory => Err(NoMemory),
                 why => Ok(Some(Reply::Refused(why))),

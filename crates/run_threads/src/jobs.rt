@@ -3,21 +3,21 @@
 ghost use Rattle.std.specs.Prelude.{◌≡◌, ◌≤◌, [], map, vec_len, vec_capacity};
 ghost use Rattle.run_threads.specs.Parts.{client_of, replies_of, batches_of};
 
-use crate::batches::Batches;
+use crate::batches::ClientBatches;
 use run_outcome::Reply;
 
 /// A client with what it was told and its batches, or with the room for them.
 pub struct Job<C> {
     pub client: C,
     pub replies: Vec<Reply>,
-    pub batches: Batches,
+    pub batches: ClientBatches,
 }
 
 /// Moves each client and its room into a job.
 pub fn fill<C>(
     clients: &mut Vec<C>,
     replies: &mut Vec<Vec<Reply>>,
-    batches: &mut Vec<Batches>,
+    batches: &mut Vec<ClientBatches>,
     jobs: &mut Vec<Job<C>>,
 )
     requires same { (vec_len clients.old ≡ vec_len replies.old) × (vec_len clients.old ≡ vec_len batches.old) }
@@ -33,6 +33,8 @@ pub fn fill<C>(
         × (vec_capacity replies.new ≡ vec_capacity replies.old)
         × (vec_capacity batches.new ≡ vec_capacity batches.old) }
 {
+    // The jobs so far and what is left are all clients, in their order. They are taken from the front, so that the order
+    // stays without a second pass: there are sixteen at most.
     while !clients.is_empty() {
         let client = clients.remove(0);
         jobs.push_reserved(Job {
@@ -48,7 +50,7 @@ pub fn empty<C>(
     jobs: &mut Vec<Job<C>>,
     clients: &mut Vec<C>,
     replies: &mut Vec<Vec<Reply>>,
-    batches: &mut Vec<Batches>,
+    batches: &mut Vec<ClientBatches>,
 )
     requires none { (clients.old.items ≡ []) × (replies.old.items ≡ []) × (batches.old.items ≡ []) }
     requires empty { (vec_len clients.old ≡ 0) × (vec_len replies.old ≡ 0) × (vec_len batches.old ≡ 0) }
@@ -59,6 +61,7 @@ pub fn empty<C>(
     ensures batches { batches.new.items ≡ map batches_of jobs.old.items }
     ensures empty { vec_len jobs.new ≡ 0 }
 {
+    // What was taken apart so far and the jobs that are left are all clients, in their order.
     while !jobs.is_empty() {
         let job = jobs.remove(0);
         let Job {

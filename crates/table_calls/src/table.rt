@@ -170,6 +170,13 @@ pub trait Table<N: Versioned, P: GroupParts<N>> {
             (account seat.new) }
         ensures reached { last ≤ last_of (opening self.now).start (account seat.new).seen };
 
+    /// Waits until the client has seen what is published up to a sequence.
+    fn await_seen<R: Wait>(&self, rt: &R, seat: &mut Self::Seat, at_least: u64)
+        requires { ours self.now seat.old }
+        ensures ours { ours self.now seat.new }
+        ensures seen { Learns (opening self.now).start (account seat.old) (account seat.new) }
+        ensures reached { at_least ≤ last_of (opening self.now).start (account seat.new).seen };
+
     /// Gives the table up, with all seats.
     fn close(self, seats: Seats<Self::Seat, Self::Turn>)
         requires turn { our_turn self seats.turn }

@@ -6,7 +6,7 @@ use Rattle.std.proofs.lemmas.Bool.Decides.{eqb_tells}
 use Rattle.model_core.specs.declared.event.Event.{Event as CoreEvent}
 use Rattle.model_core.specs.declared.event.Event.TheVariants as core
 use Rattle.model_core.specs.Halves.{moves_table}
-use Rattle.model_core.specs.Core.{Options, free, still as at_rest, launched, published as is_published, State, leads, table_group, among, runners, with_client, next_call, told}
+use Rattle.model_core.specs.Core.{Options, free, still as at_rest, launched, published as is_published, State, leads, table_group, among, runners, with_client, next_call, after_reply}
 use Rattle.model_core.specs.Step.{step, when, launch, publish, exit, leave, without_table_group, read, read_call, read_with, is_last, group_last}
 use Rattle.table_rule.specs.declared.content.MemberVersions.{MemberVersions}
 use Rattle.table_rule.specs.Histories.{In, last_of}
@@ -179,13 +179,13 @@ module _ (start : ℕ) (o : Options) (team : ℕ → List ℕ) where
 
   pub reads_core : (s : State) (a b : TableNow) (found c : ℕ) → IsCoreOf start o team a s → IsRead start found a b → IsReading s c → (found ≡ s.last) × AreTaken start o team (core.Read c ∷ []) s b
   reads_core s a b found c is finds (client, command, reply, here, idle, next, answer) =
-      let t : State = with_client s c (told (next_call client).client command reply) in
+      let t : State = with_client s c (after_reply (next_call client).client command reply) in
       let may : step o s (core.Read c) ≡ Some t = ap (read s c) here ∙ (ap (λ b. if b then read_call s c (next_call client).client (next_call client).call else None) idle
       ∙ (ap (read_call s c (next_call client).client) next ∙ ap (read_with s c (next_call client).client command) answer)) in
       let now = stays_core s a b is finds.0 in
       (finds.1 ∙ sym is.0, (t, (t, may, refl), (now.0, moved b.mode now.1)))
     where
-      moved : (mode : Mode) → IsPhase start o team b s mode → IsPhase start o team b (with_client s c (told (next_call client).client command reply)) mode
+      moved : (mode : Mode) → IsPhase start o team b s mode → IsPhase start o team b (with_client s c (after_reply (next_call client).client command reply)) mode
       moved still phase = phase
       moved (running g) (group, more) = (group_stays s _ b.published b.published g (refl, refl) refl group, more)
       moved (ended m g) (group, more) = (group_stays s _ b.published b.published g (refl, refl) refl group, more)

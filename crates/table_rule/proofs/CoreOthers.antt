@@ -8,8 +8,8 @@ use Rattle.model_base.specs.declared.write.WriteOptions.{WriteOptions}
 use Rattle.model_base.specs.declared.write.Refusal.{Refusal}
 use Rattle.model_base.specs.declared.write.Refusal.TheVariants as no
 use Rattle.model_base.specs.Calls.{Command, commit, Reply}
-use Rattle.model_core.specs.Core.{Options, Writer, Client, LogPhase, free, led, built, in_log, marked, handed, State, client_at, with_client, next_call, told, refusal_of, leads, with_runs, has_run, in_hand, first_group, table_group, read_reply}
-use Rattle.model_core.specs.Step.{when, step, link, link_call, link_with, elect, build, log_group, logged_group, fault, refuse, boundary, to_second, next, complete, complete_with, completed, read, read_call, read_with}
+use Rattle.model_core.specs.Core.{Options, Writer, Client, LogPhase, free, led, built, in_log, marked, handed, State, client_at, with_client, next_call, after_reply, refusal_of, leads, with_runs, has_run, in_hand, first_group, table_group, read_reply}
+use Rattle.model_core.specs.Step.{when, step, link, link_call, link_with, elect, build, log_group, logged_group, fault, refuse, boundary, to_second, next, complete, complete_with, after_completion, read, read_call, read_with}
 use Rattle.model_core.specs.Halves.{moves_table}
 
 -- the table stays, and so does a group for it
@@ -65,7 +65,7 @@ by_read : (o : Options) (s t : State) (c : ℕ) → read s c (client_at s c) ≡
 by_read o s t c came = by_client (client_at s c) came
   where
     by_reply : (client : Client) (command : Command) (reply : Option Reply) → read_with s c client command reply ≡ Some t → Leaves o s t
-    by_reply client command (Some reply) came = let after : with_client s c (told client command reply) ≡ t = cc in subst (Leaves o s) after (refl, refl, λ _. refl)
+    by_reply client command (Some reply) came = let after : with_client s c (after_reply client command reply) ≡ t = cc in subst (Leaves o s) after (refl, refl, λ _. refl)
     by_reply client command None came = absurd (cc)
 
     by_call : (client : Client) (call : Option Command) → read_call s c client call ≡ Some t → Leaves o s t
@@ -86,7 +86,7 @@ by_complete o s t m came = by_writer (find (λ (w : Writer). w.client == m) s.le
     by_client : (w : Writer) (client : Option Client) (reply : Option Reply) → complete_with s m client w reply ≡ Some t → Leaves o s t
     by_client w (Some client) (Some reply) came =
         let left = filter (λ (x : Writer). not (x.client == m)) s.leaving in
-        let after : record (with_client s m (completed client w reply)) { leaving = left } ≡ t = cc in
+        let after : record (with_client s m (after_completion client w reply)) { leaving = left } ≡ t = cc in
         subst (Leaves o s) after (refl, refl, λ _. refl)
     by_client w (Some client) None came = absurd (cc)
     by_client w None reply came = absurd (cc)

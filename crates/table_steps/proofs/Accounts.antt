@@ -10,14 +10,11 @@ use Rattle.table_rule.specs.declared.view.Stage.TheVariants.{Idle, Waiting, Hold
 use Rattle.table_rule.specs.declared.view.Launched.{Launched}
 use Rattle.table_rule.specs.declared.view.Lock.TheVariants.{Free}
 use Rattle.table_steps.specs.declared.launching.Turn.{Turn}
-use Rattle.table_calls.specs.declared.finished.Finished.{Finished}
-use Rattle.table_calls.specs.declared.finished.Finished.TheVariants.{Last, Others}
 use Rattle.table_rule.specs.Histories.{Begins, IsHistory, last_of}
 use Rattle.table_rule.specs.Rule.{seat_state}
 use Rattle.table_rule.proofs.Histories.{last_snoc}
-use Rattle.table_rule.specs.Steps.{SeatNow, IsAt, IsPartOf, IsAwaited, MayTake, has_part, after_launch, launched_behind, work}
-use Rattle.table_steps.specs.Seen.{Ended, Published}
-use Rattle.table_calls.specs.Account.{Learns, Steps, Counts, Takes, Publishes, after_finish}
+use Rattle.table_rule.specs.Steps.{SeatNow, IsAt, IsClient, IsPartOf, IsAwaited, MayTake, has_part, after_launch, launched_behind, work}
+use Rattle.table_calls.specs.Account.{Learns, Steps, Takes, Publishes}
 use Rattle.table_steps.specs.Accounts.{launch_at, first_state, account_of, launch_of, Carries, Sits}
 
 module _ {T N : Type 0} where
@@ -31,12 +28,16 @@ module _ {T N : Type 0} where
   pub account_at : (c : ℕ) (z : Opening) (seen : List (List MemberVersions)) (stage : Stage) (m : SeatNow T N) (t : Option (Turn T N)) → IsAt c z seen Free stage m → account_of c m t ≡ record { number = c; seen = seen; stage = stage; launched = launch_of t }
   account_at c z seen stage m t at = ap (λ l. record { number = c; seen = (first_state l).seen; stage = (first_state l).stage; launched = launch_of t }) at
 
-  pub ended_sits : (c : ℕ) (z : Opening) (seen : List (List MemberVersions)) (u : Launched) (last k : ℕ) (m : SeatNow T N) → m.1 ≡ [] → last ≡ u.last → (f : Finished) → Ended c z seen u f m → (now : List (List MemberVersions)) × (stage : Stage) × IsAt c z now Free stage m × Carries {T = T} {N = N} k last stage m.1
-  ended_sits c z seen u last k m nil is f ok = (seen, after_finish u f, ok.3, carries f)
-    where
-      carries : (f : Finished) → Carries {T = T} {N = N} k last (after_finish u f) m.1
-      carries Last = (nil, is)
-      carries Others = nil
+  -- the stage of a seat that stands between two calls is a client's
+  pub client_stage : (k last : ℕ) (l : List (ℕ × Content T N)) (stage : Stage) → Carries k last stage l → IsClient stage
+  client_stage k last l Idle ok = tt
+  client_stage k last l (Waiting u) ok = tt
+  client_stage k last l (Holding w) ok = tt
+  client_stage k last l (Stored u) ok = tt
+  client_stage k last l (Publishing u) ok = tt
+  client_stage k last l Resting ok = absurd ok
+  client_stage k last l (Handing g ps) ok = absurd ok
+  client_stage k last l (Filling g p ps) ok = absurd ok
 
   -- who launched carries nothing, with a part of its own or without
   pub launched_sits : (c k last : ℕ) (u : Launched) (l : List (ℕ × Content T N)) → l ≡ [] → Carries {T = T} {N = N} k last (after_launch c u) l
@@ -45,6 +46,10 @@ module _ {T N : Type 0} where
       by : (b : Bool) → Carries {T = T} {N = N} k last (if b then Waiting u else Idle) l
       by true = nil
       by false = nil
+
+  -- a seat that stands where it stood has the same account
+  pub same_account : (c d : ℕ) (z : Opening) (seen : List (List MemberVersions)) (stage : Stage) (m m' : SeatNow T N) (t : Option (Turn T N)) → d ≡ c → IsAt c z seen Free stage m → IsAt c z seen Free stage m' → account_of d m' t ≡ account_of c m t
+  same_account c d z seen stage m m' t same a b = ap (λ (j : ℕ). account_of j m' t) same ∙ account_at c z seen stage m' t b ∙ sym (account_at c z seen stage m t a)
 
   pub steps_to : (c : ℕ) (z : Opening) (seen : List (List MemberVersions)) (old new : Stage) (m m' : SeatNow T N) (t : Option (Turn T N)) → IsAt c z seen Free old m → IsAt c z seen Free new m' → Steps (account_of c m t) new (account_of c m' t)
   steps_to c z seen old new m m' t a b = record {
@@ -84,18 +89,16 @@ module _ {T N : Type 0} where
   pub steps_on : (c d : ℕ) (z : Opening) (seen : List (List MemberVersions)) (old new : Stage) (m m' : SeatNow T N) (t : Option (Turn T N)) → d ≡ c → IsAt c z seen Free old m → IsAt c z seen Free new m' → Steps (account_of c m t) new (account_of d m' t)
   steps_on c d z seen old new m m' t same a b = subst (λ (j : ℕ). Steps (account_of c m t) new (account_of j m' t)) (sym same) (steps_to c z seen old new m m' t a b)
 
-  pub ended_counts : (c d : ℕ) (z : Opening) (seen : List (List MemberVersions)) (u : Launched) (m m' : SeatNow T N) (t : Option (Turn T N)) → d ≡ c → IsAt c z seen Free (Stored u) m → (f : Finished) → Ended c z seen u f m' → Counts (account_of c m t) u f (account_of d m' t)
-  ended_counts c d z seen u m m' t same at f ok = record { found = ok.0; within = ok.1; told = ok.2; steps = steps_on c d z seen (Stored u) (after_finish u f) m m' t same at ok.3 }
-
-  pub publishes_to : (c d : ℕ) (z : Opening) (seen : List (List MemberVersions)) (u : Launched) (m m' : SeatNow T N) (t : Option (Turn T N)) → d ≡ c → IsAt c z seen Free (Publishing u) m → Published c z seen u m' → Publishes z.start (account_of c m t) u (account_of d m' t)
-  publishes_to c d z seen u m m' t same a b =
-      let s = ap (λ l. (first_state l).seen) a in let n = ap (λ l. (first_state l).seen) b.0 in record {
-        number = same;
-        stage_is = ap (λ l. (first_state l).stage) b.0;
+  pub publishes_to : (c : ℕ) (z : Opening) (seen : List (List MemberVersions)) (u : Launched) (m m' : SeatNow T N) (t : Option (Turn T N)) → IsAt c z seen Free (Publishing u) m → IsAt c z (u.before ++ u.group ∷ []) Free Idle m'
+      → Begins seen u.before → IsHistory z.start (u.before ++ u.group ∷ []) → Publishes z.start (account_of c m t) u (account_of c m' t)
+  publishes_to c z seen u m m' t a b begins is_history =
+      let s = ap (λ l. (first_state l).seen) a in let n = ap (λ l. (first_state l).seen) b in record {
+        number = refl;
+        stage_is = ap (λ l. (first_state l).stage) b;
         launched_is = refl;
         seen_is = n;
-        seen_before = subst (λ (y : List (List MemberVersions)). Begins y u.before) (sym s) b.1;
-        is_history = subst (IsHistory z.start) (sym n) b.2;
+        seen_before = subst (λ (y : List (List MemberVersions)). Begins y u.before) (sym s) begins;
+        is_history = subst (IsHistory z.start) (sym n) is_history;
       }
 
   pub takes_to : (c d : ℕ) (z : Opening) (seen : List (List MemberVersions)) (stage : Stage) (u : Launched) (vs : List Version) (m m' : SeatNow T N) (t : Option (Turn T N)) → d ≡ c → IsAt c z seen Free stage m → IsAt c z seen Free (Holding (work u [] vs)) m' → IsPartOf z c seen u vs → IsAwaited stage u → Takes z (account_of c m t) vs (account_of d m' t)

@@ -10,111 +10,15 @@ ghost use Rattle.table_rule.specs.declared.view.Launched.{Launched};
 ghost use Rattle.table_rule.specs.declared.view.Stage.{Stage};
 ghost use Rattle.table_rule.specs.declared.view.Stage.TheVariants.{Holding, Stored, Publishing};
 ghost use Rattle.table_rule.specs.Steps.{AddsAll, AreOfShard, IsAt, MayTake, work};
-ghost use Rattle.table_steps.specs.Seen.{Took, Ended, Published};
+ghost use Rattle.table_calls.specs.Account.{Takes, Steps, Counts, Publishes};
+ghost use Rattle.table_steps.specs.Accounts.{account, opening_of, IsOurs};
 
+use crate::seat::TableSeat;
 use crate::shared::{Client, SharedTable};
 use crossbeam_utils::Backoff;
 use std::sync::Wait;
 use table_calls::{Finished, VersionNodes, VersionTree};
 use table_rule::{AddVersions, Content, Count, Publish, Settle, Take, VersionPlan};
-
-/// A member's nodes, and the last sequence of their group.
-#[derive(Drop)]
-pub(crate) struct Handed<N> {
-    pub(crate) nodes: N,
-    pub(crate) last: u64,
-}
-
-impl<T: VersionTree<N::Node>, N: VersionNodes> SharedTable<T, N> {
-    /// Waits for the member's nodes.
-    pub(crate) fn take<R: Wait>(&self, rt: &R, who: &mut Client<T, N>) -> Handed<N>
-        requires seat { (who.old.seat.table_id ≡ self.now.table.shared.table_id) × (0 < who.old.number)
-            × (who.old.number ≤ self.now.table.shared.key.clients) }
-        requires free { (seen : List (List MemberVersions)) × (stage : Stage)
-            × IsAt who.old.number self.now.table.shared.key seen Free stage who.old.seat.me × MayTake stage }
-        ensures seat { (who.new.seat.table_id ≡ who.old.seat.table_id) × (who.new.number ≡ who.old.number) }
-        ensures slot { who.new.seat.me.1 ≡ (self.now.table.shared.key.shards + who.old.number, Blank)
-            ∷ who.old.seat.me.1 }
-        ensures taken { (seen : List (List MemberVersions)) (stage : Stage)
-            → IsAt who.old.number self.now.table.shared.key seen Free stage who.old.seat.me → MayTake stage
-            → Took who.old.number self.now.table.shared.key seen stage result.last
-            (N.versions result.nodes) who.new.seat.me }
-    {
-        let shared = &self.table.shared;
-        let word = self.opening.shards as usize + 1 + who.number as usize;
-        let slot = self.opening.shards as usize + who.number as usize;
-        let backoff = Backoff::new();
-        for _ in rt.forever() {
-            let found = shared.load::<Take>(&mut who.seat, word);
-            if found == 1 {
-                match shared.exchange(&mut who.seat, slot, Content::Blank) {
-                    Content::Nodes(nodes, last) => return Handed { nodes, last },
-                    _ => unreachable!(),
-                }
-            }
-            self.handed.pause(rt, &backoff, who.number);
-        }
-        unreachable!()
-    }
-
-    /// All nodes of the member's part are in their trees.
-    pub(crate) fn settle(&self, who: &mut Client<T, N>)
-        requires seat { (who.old.seat.table_id ≡ self.now.table.shared.table_id) × (0 < who.old.number)
-            × (who.old.number ≤ self.now.table.shared.key.clients) }
-        requires added { (seen : List (List MemberVersions)) × (u : Launched) × (done : List Version)
-            × (more : List (ℕ × Content T N)) × IsAt who.old.number self.now.table.shared.key seen Free
-            (Holding (work u done [])) who.old.seat.me ×
-            (who.old.seat.me.1 ≡ (self.now.table.shared.key.shards + who.old.number, Blank) ∷ more) }
-        ensures seat { (who.new.seat.table_id ≡ who.old.seat.table_id) × (who.new.number ≡ who.old.number)
-            × (who.new.seat.me.1 ≡ rest who.old.seat.me.1) }
-        ensures stored { (seen : List (List MemberVersions)) (u : Launched) (done : List Version)
-            → IsAt who.old.number self.now.table.shared.key seen Free (Holding (work u done [])) who.old.seat.me
-            → IsAt who.old.number self.now.table.shared.key seen Free (Stored u) who.new.seat.me }
-    {
-        let word = self.opening.shards as usize + 1 + who.number as usize;
-        self.table.shared.store::<Settle>(&mut who.seat, word, 0);
-    }
-
-    /// Counts the member's part down.
-    pub(crate) fn finish(&self, who: &mut Client<T, N>) -> Finished
-        requires seat { who.old.seat.table_id ≡ self.now.table.shared.table_id }
-        requires stored { (seen : List (List MemberVersions)) × (u : Launched)
-            × IsAt who.old.number self.now.table.shared.key seen Free (Stored u) who.old.seat.me }
-        ensures seat { (who.new.seat.table_id ≡ who.old.seat.table_id) × (who.new.number ≡ who.old.number)
-            × (who.new.seat.me.1 ≡ who.old.seat.me.1) }
-        ensures ended { (seen : List (List MemberVersions)) (u : Launched)
-            → IsAt who.old.number self.now.table.shared.key seen Free (Stored u) who.old.seat.me
-            → Ended who.old.number self.now.table.shared.key seen u result who.new.seat.me }
-    {
-        let running = self.opening.shards as usize + 1;
-        let unfinished = self
-            .table
-            .shared
-            .fetch_sub::<Count>(&mut who.seat, running, 1);
-        if unfinished == 1 {
-            Finished::Last
-        } else {
-            Finished::Others
-        }
-    }
-
-    /// Publishes the group, whose last sequence is `last`.
-    pub(crate) fn publish(&self, who: &mut Client<T, N>, last: u64)
-        requires seat { who.old.seat.table_id ≡ self.now.table.shared.table_id }
-        requires last_one { (seen : List (List MemberVersions)) × (u : Launched)
-            × IsAt who.old.number self.now.table.shared.key seen Free (Publishing u) who.old.seat.me × (last ≡ u.last) }
-        ensures seat { (who.new.seat.table_id ≡ who.old.seat.table_id) × (who.new.number ≡ who.old.number)
-            × (who.new.seat.me.1 ≡ who.old.seat.me.1) }
-        ensures published { (seen : List (List MemberVersions)) (u : Launched)
-            → IsAt who.old.number self.now.table.shared.key seen Free (Publishing u) who.old.seat.me
-            → Published who.old.number self.now.table.shared.key seen u who.new.seat.me }
-    {
-        self.table
-            .shared
-            .store::<Publish>(&mut who.seat, self.opening.shards as usize, last);
-        self.published.ring();
-    }
-}
 
 impl<T: VersionTree<N::Node> + Drop, N: VersionNodes + Drop> SharedTable<T, N> {
     /// Puts nodes, the next of the member's part, into the tree of their shard, under one hold of its lock.
@@ -171,5 +75,85 @@ impl<T: VersionTree<N::Node> + Drop, N: VersionNodes + Drop> SharedTable<T, N> {
             _ => unreachable!(),
         }
         shared.store::<AddVersions<V>>(&mut who.seat, shard as usize, 0);
+    }
+}
+
+impl<T: VersionTree<N::Node> + Drop, N: VersionNodes + Drop> TableSeat<T, N> {
+    /// Waits until the client's part is handed out, and takes it.
+    pub fn take<R: Wait>(&mut self, table: &SharedTable<T, N>, rt: &R) -> N
+        requires ours { IsOurs table.now self.old }
+        requires free { MayTake (account self.old).stage }
+        ensures ours { IsOurs table.now self.new }
+        ensures taken { Takes (opening_of table.now) (account self.old) (N.versions result) (account self.new) }
+    {
+        let shared = &table.table.shared;
+        let word = table.opening.shards as usize + 1 + self.client.number as usize;
+        let slot = table.opening.shards as usize + self.client.number as usize;
+        let backoff = Backoff::new();
+        // The seat is as it was: nothing has been handed out yet.
+        for _ in rt.forever() {
+            let found = shared.load::<Take>(&mut self.client.seat, word);
+            if found == 1 {
+                match shared.exchange(&mut self.client.seat, slot, Content::Blank) {
+                    Content::Nodes(nodes, last) => {
+                        self.last = last;
+                        return nodes;
+                    }
+                    _ => unreachable!(),
+                }
+            }
+            table.handed.pause(rt, &backoff, self.client.number);
+        }
+        unreachable!()
+    }
+
+    /// All nodes of the client's part are in their trees.
+    pub fn settle(&mut self, table: &SharedTable<T, N>)
+        requires ours { IsOurs table.now self.old }
+        requires added { (u : Launched) × (done : List Version)
+            × ((account self.old).stage ≡ Holding (work u done [])) }
+        ensures ours { IsOurs table.now self.new }
+        ensures stored { (u : Launched) (done : List Version) → (account self.old).stage ≡ Holding (work u done [])
+            → Steps (account self.old) (Stored u) (account self.new) }
+    {
+        let word = table.opening.shards as usize + 1 + self.client.number as usize;
+        table
+            .table
+            .shared
+            .store::<Settle>(&mut self.client.seat, word, 0);
+    }
+    /// The client's part is finished. Just who finds no other member running is the last of the group.
+    pub fn finish(&mut self, table: &SharedTable<T, N>) -> Finished
+        requires ours { IsOurs table.now self.old }
+        requires stored { (u : Launched) × ((account self.old).stage ≡ Stored u) }
+        ensures ours { IsOurs table.now self.new }
+        ensures counted { (u : Launched) → (account self.old).stage ≡ Stored u
+            → Counts (account self.old) u result (account self.new) }
+    {
+        let running = table.opening.shards as usize + 1;
+        let unfinished = table
+            .table
+            .shared
+            .fetch_sub::<Count>(&mut self.client.seat, running, 1);
+        if unfinished == 1 {
+            Finished::Last
+        } else {
+            Finished::Others
+        }
+    }
+    /// Publishes the group, of which this client finished last. The client has then seen it.
+    pub fn publish(&mut self, table: &SharedTable<T, N>)
+        requires ours { IsOurs table.now self.old }
+        requires last_one { (u : Launched) × ((account self.old).stage ≡ Publishing u) }
+        ensures ours { IsOurs table.now self.new }
+        ensures published { (u : Launched) → (account self.old).stage ≡ Publishing u
+            → Publishes (opening_of table.now).start (account self.old) u (account self.new) }
+    {
+        let word = table.opening.shards as usize;
+        table
+            .table
+            .shared
+            .store::<Publish>(&mut self.client.seat, word, self.last);
+        table.published.ring();
     }
 }

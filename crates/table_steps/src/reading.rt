@@ -1,20 +1,21 @@
-//! Look-ups in a shard, as of what the seat has seen.
-ghost use Rattle.std.specs.Prelude.{◌≡◌, ℕ, ◌<◌, List, IfOk};
+//! What a client reads: the published sequence, and a shard's tree as of it.
+ghost use Rattle.std.specs.Prelude.{◌≡◌, ◌<◌, ◌≤◌, List, IfOk};
 ghost use Rattle.model_base.specs.Map.{value_at, rows_within};
 ghost use Rattle.base_bytes.specs.Answers.{found_value};
-ghost use Rattle.table_rule.specs.declared.content.MemberVersions.{MemberVersions};
 ghost use Rattle.table_rule.specs.declared.content.Version.{Version};
-ghost use Rattle.table_rule.specs.declared.view.Lock.TheVariants.{Free};
-ghost use Rattle.table_rule.specs.declared.view.Stage.{Stage};
-ghost use Rattle.table_rule.specs.Histories.{Runs, IsOrderUpTo, last_of, versions_of, of_shard, map_of};
-ghost use Rattle.table_rule.specs.Steps.{IsAt};
+ghost use Rattle.table_rule.specs.Histories.{IsHistory, IsOrderUpTo, last_of, versions_of, of_shard, map_of};
+ghost use Rattle.table_calls.specs.Account.{Learns};
+ghost use Rattle.table_steps.specs.Accounts.{account, opening_of, IsOurs};
 
-use crate::shared::{Client, SharedTable};
+use crate::seat::TableSeat;
+use crate::shared::SharedTable;
 use base_bytes::{Bytes, Found, Rows};
+use crossbeam_utils::Backoff;
 use model_base::NoMemory;
 use std::alloc::Global;
 use std::sync::Wait;
 use table_calls::{VersionNode, VersionNodes, VersionTree};
+use table_rule::Learn;
 
 /// What a tree has of a key as of a sequence.
 fn copied<B: VersionNode, T: VersionTree<B>>(
@@ -32,65 +33,88 @@ fn copied<B: VersionNode, T: VersionTree<B>>(
     }
 }
 
-impl<T: VersionTree<N::Node>, N: VersionNodes> SharedTable<T, N> {
+impl<T: VersionTree<N::Node> + Drop, N: VersionNodes + Drop> TableSeat<T, N> {
+    /// The published sequence.
+    pub fn last(&mut self, table: &SharedTable<T, N>) -> u64
+        requires { IsOurs table.now self.old }
+        ensures ours { IsOurs table.now self.new }
+        ensures seen { Learns (opening_of table.now).start (account self.old) (account self.new) }
+        ensures value { result ≡ last_of (opening_of table.now).start (account self.new).seen }
+    {
+        table
+            .table
+            .shared
+            .load::<Learn>(&mut self.client.seat, table.opening.shards as usize)
+    }
+    /// Waits until the client has seen what is published up to a sequence. It sleeps until a group is published.
+    pub fn await_seen<R: Wait>(&mut self, table: &SharedTable<T, N>, rt: &R, at_least: u64)
+        requires { IsOurs table.now self.old }
+        ensures ours { IsOurs table.now self.new }
+        ensures seen { Learns (opening_of table.now).start (account self.old) (account self.new) }
+        ensures reached { at_least ≤ last_of (opening_of table.now).start (account self.new).seen }
+    {
+        let backoff = Backoff::new();
+        // The client has seen more of what is published, if anything has changed.
+        for _ in rt.forever() {
+            let found = self.last(table);
+            if at_least <= found {
+                return;
+            }
+            table.published.pause(rt, &backoff);
+        }
+        unreachable!()
+    }
+
     /// The key's value in a shard, as of `at`, the end of what the seat has seen.
-    pub(crate) fn find<R: Wait>(
-        &self,
+    pub fn find<R: Wait>(
+        &mut self,
+        table: &SharedTable<T, N>,
         alloc: Global,
         rt: &R,
-        who: &mut Client<T, N>,
         shard: u64,
         key: &[u8],
         at: u64,
     ) -> Result<Found, NoMemory>
-        requires seat { (who.old.seat.table_id ≡ self.now.table.shared.table_id)
-            × (shard < self.now.table.shared.key.shards) }
-        requires seen { (seen : List (List MemberVersions)) × (stage : Stage)
-            × IsAt who.old.number self.now.table.shared.key seen Free stage who.old.seat.me
-            × Runs self.now.table.shared.key.start (versions_of seen)
-            × (at ≡ last_of self.now.table.shared.key.start seen) }
-        ensures seat { (who.new.seat.table_id ≡ who.old.seat.table_id) × (who.new.number ≡ who.old.number)
-            × (who.new.seat.me ≡ who.old.seat.me) }
-        ensures value { IfOk result (λ found. (seen : List (List MemberVersions)) (stage : Stage)
-            → IsAt who.old.number self.now.table.shared.key seen Free stage who.old.seat.me
-            → found_value found ≡ value_at (map_of (of_shard self.now.table.shared.key.shards shard (versions_of seen)))
+        requires ours { IsOurs table.now self.old }
+        requires shard { shard < (opening_of table.now).shards }
+        requires history { IsHistory (opening_of table.now).start (account self.old).seen }
+        requires at { at ≡ last_of (opening_of table.now).start (account self.old).seen }
+        ensures ours { IsOurs table.now self.new }
+        ensures same { account self.new ≡ account self.old }
+        ensures value { IfOk result (λ found. found_value found
+            ≡ value_at (map_of (of_shard (opening_of table.now).shards shard (versions_of (account self.old).seen)))
             key.now) }
     {
-        let tree = self.lock(rt, who, shard);
+        let tree = table.lock(rt, &mut self.client, shard);
         let found = copied::<N::Node, T>(alloc, &tree, key, at);
-        self.unlock(who, shard, tree);
+        table.unlock(&mut self.client, shard, tree);
         found
     }
-
     /// The keys of a shard from `lo` on and below `hi` with their values, as of `at`, the end of what the seat has
     /// seen.
-    pub(crate) fn find_rows<R: Wait>(
-        &self,
+    pub fn find_rows<R: Wait>(
+        &mut self,
+        table: &SharedTable<T, N>,
         alloc: Global,
         rt: &R,
-        who: &mut Client<T, N>,
         shard: u64,
         lo: &[u8],
         hi: &[u8],
         at: u64,
     ) -> Result<Rows, NoMemory>
-        requires seat { (who.old.seat.table_id ≡ self.now.table.shared.table_id)
-            × (shard < self.now.table.shared.key.shards) }
-        requires seen { (seen : List (List MemberVersions)) × (stage : Stage)
-            × IsAt who.old.number self.now.table.shared.key seen Free stage who.old.seat.me
-            × Runs self.now.table.shared.key.start (versions_of seen)
-            × (at ≡ last_of self.now.table.shared.key.start seen) }
-        ensures seat { (who.new.seat.table_id ≡ who.old.seat.table_id) × (who.new.number ≡ who.old.number)
-            × (who.new.seat.me ≡ who.old.seat.me) }
+        requires ours { IsOurs table.now self.old }
+        requires shard { shard < (opening_of table.now).shards }
+        requires history { IsHistory (opening_of table.now).start (account self.old).seen }
+        requires at { at ≡ last_of (opening_of table.now).start (account self.old).seen }
+        ensures ours { IsOurs table.now self.new }
+        ensures same { account self.new ≡ account self.old }
         ensures at { IfOk result (λ rows. rows.at ≡ at) }
-        ensures rows { IfOk result (λ rows. (seen : List (List MemberVersions)) (stage : Stage)
-            → IsAt who.old.number self.now.table.shared.key seen Free stage who.old.seat.me
-            → rows.rows ≡ rows_within lo.now hi.now (map_of
-            (of_shard self.now.table.shared.key.shards shard (versions_of seen)))) }
+        ensures rows { IfOk result (λ rows. rows.rows ≡ rows_within lo.now hi.now
+            (map_of (of_shard (opening_of table.now).shards shard (versions_of (account self.old).seen)))) }
     {
-        let tree = self.lock(rt, who, shard);
+        let tree = table.lock(rt, &mut self.client, shard);
         let rows = tree.range(alloc, lo, hi, at);
-        self.unlock(who, shard, tree);
+        table.unlock(&mut self.client, shard, tree);
         rows
     }
 }

@@ -1,4 +1,4 @@
-//! The table as all threads see it, and the steps that every seat makes: the load of LAST, and those on locks.
+//! The table as all threads see it, and the steps on locks.
 ghost use Rattle.std.specs.Prelude.{◌≡◌, ℕ, ◌+◌, ◌<◌, ◌≤◌, ◌^◌, List, [], ◌∷◌};
 ghost use Rattle.atomic_table.specs.Table.{rest};
 ghost use Rattle.table_rule.specs.declared.content.Content.{Content};
@@ -6,9 +6,8 @@ ghost use Rattle.table_rule.specs.declared.content.Content.TheVariants.{Blank};
 ghost use Rattle.table_rule.specs.declared.content.MemberVersions.{MemberVersions};
 ghost use Rattle.table_rule.specs.declared.view.Lock.TheVariants.{Free, Held};
 ghost use Rattle.table_rule.specs.declared.view.Stage.{Stage};
-ghost use Rattle.table_rule.specs.declared.view.Stage.TheVariants.{Idle};
-ghost use Rattle.table_rule.specs.Steps.{IsAt, IsClient};
-ghost use Rattle.table_steps.specs.Seen.{Locked, Sees};
+ghost use Rattle.table_rule.specs.Steps.{IsAt};
+ghost use Rattle.table_steps.specs.Seen.{Locked};
 
 use atomic_table::{Seat, Table};
 use base_waiting::{Bell, Bells};
@@ -16,7 +15,7 @@ use crossbeam_utils::Backoff;
 use std::alloc::Global;
 use std::sync::Wait;
 use table_calls::{VersionNodes, VersionTree};
-use table_rule::{Content, Learn, LockShard, Opening, TableLaw, UnlockShard, Versioned, View};
+use table_rule::{Content, LockShard, Opening, TableLaw, UnlockShard, Versioned, View};
 
 /// The words and slots of a table. `T` are its trees, and `N` a member's nodes.
 #[derive(Drop)]
@@ -40,44 +39,6 @@ pub(crate) struct Client<T, N> {
 }
 
 impl<T: VersionTree<N::Node>, N: VersionNodes> SharedTable<T, N> {
-    /// The published sequence.
-    pub(crate) fn last(&self, who: &mut Client<T, N>) -> u64
-        requires seat { who.old.seat.table_id ≡ self.now.table.shared.table_id }
-        requires free { (seen : List (List MemberVersions)) × (stage : Stage)
-            × IsAt who.old.number self.now.table.shared.key seen Free stage who.old.seat.me × IsClient stage }
-        ensures seat { (who.new.seat.table_id ≡ who.old.seat.table_id) × (who.new.number ≡ who.old.number)
-            × (who.new.seat.me.1 ≡ who.old.seat.me.1) }
-        ensures seen { (seen : List (List MemberVersions)) (stage : Stage)
-            → IsAt who.old.number self.now.table.shared.key seen Free stage who.old.seat.me
-            → Sees who.old.number self.now.table.shared.key seen stage result who.new.seat.me }
-    {
-        self.table
-            .shared
-            .load::<Learn>(&mut who.seat, self.opening.shards as usize)
-    }
-
-    /// Waits until the seat has seen the sequence `at_least`, and gives the published sequence that it has then seen.
-    pub(crate) fn await_seen<R: Wait>(&self, rt: &R, who: &mut Client<T, N>, at_least: u64) -> u64
-        requires seat { who.old.seat.table_id ≡ self.now.table.shared.table_id }
-        requires free { (seen : List (List MemberVersions))
-            × IsAt who.old.number self.now.table.shared.key seen Free Idle who.old.seat.me }
-        ensures seat { (who.new.seat.table_id ≡ who.old.seat.table_id) × (who.new.number ≡ who.old.number)
-            × (who.new.seat.me.1 ≡ who.old.seat.me.1) × (at_least ≤ result) }
-        ensures seen { (seen : List (List MemberVersions))
-            → IsAt who.old.number self.now.table.shared.key seen Free Idle who.old.seat.me
-            → Sees who.old.number self.now.table.shared.key seen Idle result who.new.seat.me }
-    {
-        let backoff = Backoff::new();
-        for _ in rt.forever() {
-            let found = self.last(who);
-            if at_least <= found {
-                return found;
-            }
-            self.published.pause(rt, &backoff);
-        }
-        unreachable!()
-    }
-
     /// Waits for a shard's lock, and takes its tree. It spins a few turns, and then yields.
     pub(crate) fn lock<R: Wait>(&self, rt: &R, who: &mut Client<T, N>, shard: u64) -> T
         requires seat { (who.old.seat.table_id ≡ self.now.table.shared.table_id)

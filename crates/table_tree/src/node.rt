@@ -6,7 +6,7 @@ ghost use Rattle.table_tree.specs.Nodes.{version_of, chain_of, HasBalance};
 ghost use Rattle.table_tree.specs.Chains.{alone};
 
 use crate::value::Value;
-use base_maps::Key;
+use base_maps::ByteKey;
 use std::marker::Model;
 use std::mem::{self, size_of};
 
@@ -26,7 +26,7 @@ pub(crate) enum Balance {
 #[cycle(tree)]
 #[derive(Drop)]
 pub struct Node {
-    pub(crate) key: Key,
+    pub(crate) key: ByteKey,
     pub(crate) left: Subtree,
     pub(crate) right: Subtree,
     pub(crate) balance: Balance,

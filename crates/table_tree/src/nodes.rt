@@ -10,7 +10,7 @@ ghost use Rattle.table_tree.specs.Chains.{insert_older};
 
 use crate::node::{Balance, Node, Nodes, Subtree};
 use crate::value::Value;
-use base_maps::Key;
+use base_maps::ByteKey;
 use log_batch::{Batch, RecordView};
 use model_base::NoMemory;
 use std::alloc::Global;
@@ -165,7 +165,7 @@ impl Node {
         Ok(Box::new(
             alloc,
             Node {
-                key: Key::copy(alloc, key)?,
+                key: ByteKey::copy(alloc, key)?,
                 left: Subtree::new(),
                 right: Subtree::new(),
                 balance: Balance::Even,

@@ -1,10 +1,9 @@
 //! The checks of a commit row by row, the runs that follow a sequence, and an outcome that lacks memory.
 
-use base_bytes::PairList;
-use log_batch::Batch;
+use base_maps::ByteMap;
+use log_batch::{Batch, MAX_SEQUENCE, Measure, Run, flag_of, next_run, refusal_at_once};
 use model_base::{Flag, Refusal, WriteOptions};
 use run_batches::BatchList;
-use run_calls::{MAX_SEQUENCE, Measure, Run, flag_of, next_run, refusal_at_once};
 use run_outcome::{History, Outcome, Reply};
 use std::test::Fail;
 
@@ -52,7 +51,7 @@ fn an_outcome_tells_of_want_of_memory(rt: HostRuntime) -> Result<(), Fail> {
         transcripts: vec![in rt.alloc(); replies]?,
         history: History::of_one(BatchList::new(rt.alloc())),
         last: 1,
-        state: PairList::new(rt.alloc()),
+        state: ByteMap::new(rt.alloc()),
         log_len: 24,
         fault: None,
     };

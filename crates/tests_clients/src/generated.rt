@@ -2,8 +2,8 @@
 
 ghost use Rattle.std.specs.Prelude.{◌≤◌};
 
-use base_bytes::{Bytes, PairList};
-use model_base::NoMemory;
+use base_maps::ByteMap;
+use model_base::{MAX_CLIENTS, NoMemory};
 use run_generator::{generate, sum_of};
 use run_scripts::parse_schedule;
 use std::alloc::Global;
@@ -19,7 +19,7 @@ fn check_script(
     batches: u64,
     text: &str,
 ) -> Result<(), Fail>
-    requires clients { (1 ≤ clients) × (clients ≤ 16) }
+    requires clients { (1 ≤ clients) × (clients ≤ MAX_CLIENTS) }
     requires batches { (1 ≤ batches) × (batches ≤ 100000) }
 {
     let script = generate(alloc, seed, clients, batches)?;
@@ -85,19 +85,19 @@ const SUMS: [(usize, Option<u128>); 3] = [
 ];
 
 // The first so many of the values, each at itself as its key.
-fn first_values(alloc: Global, count: usize) -> Result<PairList, NoMemory> {
-    let mut pairs = PairList::new(alloc);
+fn first_values(alloc: Global, count: usize) -> Result<ByteMap, NoMemory> {
+    let mut map = ByteMap::new(alloc);
     for value in VALUES.iter().take(count) {
-        pairs.push(Bytes::copy(alloc, value)?, Bytes::copy(alloc, value)?)?;
+        map.insert(value, value)?;
     }
-    Ok(pairs)
+    Ok(map)
 }
 
 #[test]
 fn values_are_summed_up(rt: HostRuntime) -> Result<(), Fail> {
     for (count, sum) in SUMS {
-        let pairs = first_values(rt.alloc(), count)?;
-        assert_eq!(rt; sum_of(&pairs), sum, "of {count} values");
+        let map = first_values(rt.alloc(), count)?;
+        assert_eq!(rt; sum_of(&map), sum, "of {count} values");
     }
     Ok(())
 }

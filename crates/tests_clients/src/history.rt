@@ -4,7 +4,7 @@ use log_batch::Batch;
 use model_base::Flag;
 use run_batches::BatchList;
 use run_outcome::History;
-use run_threads_outcome::{history_of, state_of};
+use run_threads::{history_of, state_of};
 use std::alloc::Global;
 use std::test::Fail;
 
@@ -77,10 +77,11 @@ fn history_is_in_order_of_sequences(rt: HostRuntime) -> Result<(), Fail> {
 fn map_is_that_of_the_whole_history(rt: HostRuntime) -> Result<(), Fail> {
     let history = whole(rt.alloc())?;
     let state = state_of(rt.alloc(), &history)?;
-    let [(b, four), (c, five)] = state.as_slice() else {
-        return Err(Fail::new("not two pairs"));
-    };
-    let left = [b.as_slice(), four.as_slice(), c.as_slice(), five.as_slice()];
-    assert_eq!(rt; left, LEFT);
+    let mut left = Vec::new(rt.alloc());
+    for (key, value) in state.iter() {
+        left.push(key)?;
+        left.push(value)?;
+    }
+    assert_eq!(rt; left.as_slice(), LEFT.as_slice());
     Ok(())
 }

@@ -2,10 +2,9 @@
 
 use base_bytes::{Bytes, Read, Reads, Rows};
 use engine_calls::{Clients, Closed, Engine, Held, NotHeld, Receipt, Refused};
-use log_batch::Batch;
+use log_batch::{Batch, Measure, refusal_at_once};
 use model_accounts::earlier_sights;
 use model_base::{NoMemory, Refusal, WriteOptions};
-use run_calls::{Measure, refusal_at_once};
 use std::sync::Wait;
 use std::sync::atomic::{AtomicU64, Ordering};
 

@@ -9,10 +9,10 @@ ghost use Rattle.run_scripts.specs.Scripts.{additions_of};
 
 use crate::mute::{Mute, MuteClient};
 use engine_calls::Gate;
-use model_base::{NoMemory, Refusal, WriteOptions};
+use model_base::{MAX_SIZE, NoMemory, Refusal, WriteOptions};
 use run_command_list::{CommandList, CommandView};
 use run_outcome::Reply;
-use run_threads::{AtHand, Batches, Transcripts, run_clients};
+use run_threads::{ClientBatches, CurrentBatch, run_clients};
 use std::alloc::Global;
 use std::process::Abort;
 use std::sync::atomic::AtomicU64;
@@ -57,7 +57,7 @@ fn two_clients(alloc: Global) -> Result<Vec<MuteClient>, NoMemory>
 }
 
 fn first_commands(alloc: Global) -> Result<CommandList, NoMemory>
-    ensures { IfOk result (λ commands. size_of_batch (additions_of commands) ≤ 16777216) }
+    ensures { IfOk result (λ commands. size_of_batch (additions_of commands) ≤ MAX_SIZE) }
 {
     let mut commands = CommandList::new(alloc);
     let (key, value) = (b"a".as_slice(), b"1".as_slice());
@@ -69,7 +69,7 @@ fn first_commands(alloc: Global) -> Result<CommandList, NoMemory>
 }
 
 fn second_commands(alloc: Global) -> Result<CommandList, NoMemory>
-    ensures { IfOk result (λ commands. size_of_batch (additions_of commands) ≤ 16777216) }
+    ensures { IfOk result (λ commands. size_of_batch (additions_of commands) ≤ MAX_SIZE) }
 {
     let mut commands = CommandList::new(alloc);
     let key = b"a".as_slice();
@@ -104,13 +104,13 @@ fn check_replies(rt: &impl Abort, replies: &[Vec<Reply>]) -> Result<(), Fail> {
 }
 
 /// No batch was accepted, and the first client's is still in the making.
-fn check_batches(rt: &impl Abort, batches: &[Batches]) -> Result<(), Fail> {
+fn check_batches(rt: &impl Abort, batches: &[ClientBatches]) -> Result<(), Fail> {
     let [first, second] = batches else {
         return Err(Fail::new("not two clients"));
     };
     assert_eq!(rt; (first.list.len(), second.list.len()), (0, 0));
-    assert!(rt; matches!(first.at_hand, AtHand::Pending(_)));
-    assert!(rt; matches!(second.at_hand, AtHand::Nothing));
+    assert!(rt; matches!(first.current, CurrentBatch::Pending(_)));
+    assert!(rt; matches!(second.current, CurrentBatch::Nothing));
     Ok(())
 }
 
@@ -125,17 +125,9 @@ fn clients_stop_for_want_of_memory_and_are_ended(rt: HostRuntime) -> Result<(), 
         started: AtomicU64::new(0),
         answered: AtomicU64::new(0),
     };
-    let clients = two_clients(rt.alloc())?;
+    let mut clients = two_clients(rt.alloc())?;
     let script = script(rt.alloc())?;
-    let told = match run_clients(&rt, rt.alloc(), &engine, clients, &script, &gate) {
-        Ok(told) => told,
-        Err((_, none)) => return Err(Fail::from(none)),
-    };
-    let Transcripts {
-        clients: _,
-        replies,
-        batches,
-    } = told;
+    let (replies, batches) = run_clients(&rt, rt.alloc(), &engine, &mut clients, &script, &gate)?;
     check_replies(&rt, &replies)?;
     check_batches(&rt, &batches)?;
     let counts = (

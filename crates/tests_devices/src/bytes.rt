@@ -2,9 +2,10 @@
 
 use crate::checks::check;
 use base_bytes::{
-    Bytes, Found, FoundList, PairList, PairMap, crc32c, extend, get_fixed32, get_fixed64,
-    get_varint32, mask, put_fixed32, put_fixed64, put_varint32, varint32_len,
+    Bytes, Found, FoundList, PairList, crc32c, extend, get_fixed32, get_fixed64, get_varint32,
+    mask, put_fixed32, put_fixed64, put_varint32, varint32_len,
 };
+use base_maps::ByteMap;
 use model_base::{CodeError, NoMemory};
 use std::alloc::Global;
 use std::process::Abort;
@@ -232,39 +233,53 @@ fn keeps_pairs_in_order(rt: HostRuntime) -> Result<(), Fail> {
     Ok(())
 }
 
-const INSERTED: [(&[u8], &[u8]); 5] = [
+const INSERTED: [(&[u8], &[u8]); 9] = [
     (b"b", b"1"),
     (b"", b"2"),
+    (b"a key of 20 bytes..2", b"6"),
     (b"ab", b"3"),
     (b"b", b"4"),
+    (b"a key of 20 bytes..1", b"7"),
     (b"a", b"5"),
+    (b"c key of 20 bytes...", b"8"),
+    (b"a key of 20 bytes..2", b"9"),
 ];
 
-const LEFT: [(&[u8], &[u8]); 3] = [(b"", b"2"), (b"a", b"5"), (b"b", b"4")];
+const LEFT: [(&[u8], &[u8]); 5] = [
+    (b"", b"2"),
+    (b"a", b"5"),
+    (b"a key of 20 bytes..2", b"9"),
+    (b"b", b"4"),
+    (b"c key of 20 bytes...", b"8"),
+];
 
-// The map of all pairs, without two keys, of which one isn't there.
-fn map_of_three(alloc: Global) -> Result<PairMap, NoMemory> {
-    let mut map = PairMap::new(alloc);
+// The map of all pairs, without four keys, of which two aren't there.
+fn map_of_five(alloc: Global) -> Result<ByteMap, NoMemory> {
+    let mut map = ByteMap::new(alloc);
     for (key, value) in &INSERTED {
         map.insert(key, value)?;
     }
     map.remove(b"ab");
     map.remove(b"abc");
+    map.remove(b"a key of 20 bytes..1");
+    map.remove(b"a key of 20 bytes..3");
     Ok(map)
 }
 
-fn check_map(rt: &impl Abort, map: &PairMap) {
-    check(rt, 0, &map.len(), &3);
+fn check_map(rt: &impl Abort, map: &ByteMap) {
+    check(rt, 0, &map.len(), &LEFT.len());
     check(rt, 1, &map.get(b"b"), &Some(b"4"));
     check(rt, 2, &map.get(b"ab"), &None);
+    check(rt, 3, &map.get(b"a key of 20 bytes..2"), &Some(b"9"));
+    check(rt, 4, &map.get(b"a key of 20 bytes..1"), &None);
     let mut wanted = LEFT.iter();
     for pair in map.iter() {
-        check(rt, 3, &Some(&pair), &wanted.next());
+        check(rt, 5, &Some(&pair), &wanted.next());
     }
 }
 
 #[test]
 fn has_the_last_value_of_each_key(rt: HostRuntime) -> Result<(), Fail> {
-    check_map(&rt, &map_of_three(rt.alloc())?);
+    check_map(&rt, &map_of_five(rt.alloc())?);
     Ok(())
 }

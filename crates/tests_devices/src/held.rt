@@ -6,7 +6,7 @@ use std::process::Abort;
 use std::sync::Wait;
 use std::test::Fail;
 use std::thread::{self, Threads};
-use tests_held_disk::{HeldDisk, Hold};
+use tests_held_disk::{AppendHold, HeldDisk};
 
 /// Appends through the trait, as the code above does.
 fn append_all<D: Disk>(disk: &mut D, pieces: &[&[u8]]) -> Result<(), Failed> {
@@ -17,7 +17,7 @@ fn append_all<D: Disk>(disk: &mut D, pieces: &[&[u8]]) -> Result<(), Failed> {
 }
 
 /// Arrives once the held append was begun, and answers whether the hold was open before.
-fn arrive_after<R: Wait>(rt: &R, hold: &Hold) -> bool {
+fn arrive_after<R: Wait>(rt: &R, hold: &AppendHold) -> bool {
     for _ in rt.forever() {
         if hold.is_entered() {
             break;
@@ -34,7 +34,7 @@ fn arrive_after<R: Wait>(rt: &R, hold: &Hold) -> bool {
 fn append_held<R: Threads + Wait + Sync>(
     rt: &R,
     disk: &mut HeldDisk<'_>,
-    hold: &Hold,
+    hold: &AppendHold,
 ) -> (Result<(), Failed>, bool, bool) {
     let (done, was_open) = thread::join(
         rt,
@@ -67,7 +67,7 @@ fn check_held<R: Threads + Wait + Abort + Sync>(
     before: &[&[u8]],
     safe: u64,
 ) -> MemDisk {
-    let hold = Hold::new(1);
+    let hold = AppendHold::new(1);
     let mut disk = HeldDisk::new(inner, &hold, at);
     let ahead = append_ahead(&mut disk, before);
     check(rt, 0, &ahead, &(Ok(()), Ok(safe), Ok(())));
@@ -106,7 +106,11 @@ const NOT_HELD: [(u64, u64, bool); 5] = [
 
 /// What two appends come to of which the second finds no room, whether the held one was begun, the faults, and the
 /// disk.
-fn append_two(inner: MemDisk, hold: &Hold, at: u64) -> ((Result<(), Failed>, bool, u64), MemDisk) {
+fn append_two(
+    inner: MemDisk,
+    hold: &AppendHold,
+    at: u64,
+) -> ((Result<(), Failed>, bool, u64), MemDisk) {
     let mut disk = HeldDisk::new(inner, hold, at);
     let done = append_all(&mut disk, &[b"a", b"b"]);
     let seen = (done, hold.is_entered(), disk.faults());
@@ -117,7 +121,7 @@ fn append_two(inner: MemDisk, hold: &Hold, at: u64) -> ((Result<(), Failed>, boo
 fn nobody_is_needed_or_no_append_is_held(rt: HostRuntime) -> Result<(), Fail> {
     for (row, (need, at, entered)) in NOT_HELD.iter().enumerate() {
         let inner = MemDisk::new(rt.alloc(), 1, b"", &[])?;
-        let (seen, inner) = append_two(inner, &Hold::new(*need), *at);
+        let (seen, inner) = append_two(inner, &AppendHold::new(*need), *at);
         check(&rt, row, &seen, &(Err(Failed), *entered, 1));
         check(&rt, row, &inner.content(), &b"a".as_slice());
     }

@@ -13,7 +13,7 @@ use Rattle.model_base.specs.Progress.{early_refusal}
 use Rattle.model_accounts.specs.Accounts.{Account, Keeps, Refuses, IsRefusedLate}
 use Rattle.model_accounts.specs.Closing.{AreOurs}
 use Rattle.engine_groups.specs.Clients.{account_in}
-use Rattle.engine_memory.specs.Tables.{opening_of, account_of, IsOurs}
+use Rattle.table_memory.specs.Meaning.{memory_table}
 use Rattle.tests_engine.specs.Callers.{Path, Member, Members, MayCall, IsCaller, AllMayCall, AreAll}
 
 -- a client that is refused keeps its number
@@ -30,10 +30,10 @@ whole_slice n new old count = subst (λ k. take k (new ++ drop (length new) old)
 
 module _ {D : Type 0} {ghosts : Ghosts D} (e : Path D ghosts) where
   -- all clients of the engine may call
-  pub from_ours : (n : ℕ) (cs : List (Member D ghosts)) → AreOurs (MayCall e) (account_in opening_of IsOurs account_of) n cs → AllMayCall e cs
+  pub from_ours : (n : ℕ) (cs : List (Member D ghosts)) → AreOurs (MayCall e) (account_in memory_table) n cs → AllMayCall e cs
   from_ours n cs ours = record { each = λ i d lt. let h = ours.each i _ (slice_get-get_or cs i d lt) in record { belongs = h.0; number = h.1 } }
 
-  pub to_ours : (n : ℕ) (cs : List (Member D ghosts)) → AllMayCall e cs → length cs ≡ n → AreOurs (MayCall e) (account_in opening_of IsOurs account_of) n cs
+  pub to_ours : (n : ℕ) (cs : List (Member D ghosts)) → AllMayCall e cs → length cs ≡ n → AreOurs (MayCall e) (account_in memory_table) n cs
   to_ours n cs all len = record {
     number_of = len;
     each = λ i c at. let h = subst (IsCaller e (i + 1)) (get_or_from_slice_get cs i c c at) (all.each i c (slice_get_within cs i c at)) in (h.belongs, h.number);

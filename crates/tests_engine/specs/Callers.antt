@@ -3,14 +3,14 @@ use Rattle.std.specs.Prelude.{◌≡◌, ℕ, ◌+◌, ◌<◌, List, length, sl
 use Rattle.base_devices.specs.declared.disk.Disk.{Ghosts}
 use Rattle.base_devices.specs.declared.stepped_clock.SteppedClock.{SteppedClock}
 use Rattle.table_tree.specs.declared.node.Nodes.{Nodes}
-use Rattle.engine_memory.specs.declared.memory_table.MemoryTable.{MemoryTable}
-use Rattle.engine_memory.specs.Tables.{Seat, Turn, opening_of, account_of, IsOurs}
+use Rattle.table_memory.specs.declared.memory_table.MemoryTable.{MemoryTable}
+use Rattle.table_memory.specs.Meaning.{Seat, Turn, memory_table}
 use Rattle.line_writers.specs.Seats.{clients_of}
 use Rattle.engine_calls.specs.declared.engine.Clients.{Clients}
 use Rattle.engine_calls.specs.declared.gate.OpenGate.{OpenGate}
 use Rattle.engine_groups.specs.declared.engine.GroupEngine.{GroupEngine}
-use Rattle.engine_groups.specs.declared.engine.Client.{Client}
-use Rattle.engine_groups.specs.declared.engine.Room.{Room}
+use Rattle.engine_groups.specs.declared.engine.EngineClient.{EngineClient}
+use Rattle.engine_groups.specs.declared.engine.ClosingRoom.{ClosingRoom}
 use Rattle.engine_groups.specs.Clients.{IsClientOf, HasRoomToClose, account_in}
 
 -- an engine over a disk, one of its clients, and all of them
@@ -18,19 +18,19 @@ abbrev pub Path : (D : Type 0) → Ghosts D → Type 0
 Path D ghosts = GroupEngine D MemoryTable SteppedClock OpenGate Seat Turn Nodes ghosts
 
 abbrev pub Member : (D : Type 0) → Ghosts D → Type 0
-Member D ghosts = Client D MemoryTable SteppedClock Seat Turn Nodes ghosts
+Member D ghosts = EngineClient D MemoryTable SteppedClock Seat Turn Nodes ghosts
 
 abbrev pub Members : (D : Type 0) → Ghosts D → Type 0
-Members D ghosts = Clients (Member D ghosts) (Room D MemoryTable SteppedClock Seat Turn Nodes ghosts)
+Members D ghosts = Clients (Member D ghosts) (ClosingRoom D MemoryTable SteppedClock Seat Turn Nodes ghosts)
 
 module _ {D : Type 0} {ghosts : Ghosts D} where
   -- the number of a client's account
   abbrev pub number_of : Member D ghosts → ℕ
-  number_of c = (account_in opening_of IsOurs account_of c).number
+  number_of c = (account_in memory_table c).number
 
   -- it is one of the engine's clients, between two of its calls
   abbrev pub MayCall : Path D ghosts → Member D ghosts → Type 0
-  MayCall e c = IsClientOf opening_of IsOurs account_of e c
+  MayCall e c = IsClientOf memory_table e c
 
   -- it is the engine's client of this number, between two of its calls
   pub record IsCaller (e : Path D ghosts) (n : ℕ) (c : Member D ghosts) : Type 0 where

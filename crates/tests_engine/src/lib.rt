@@ -9,4 +9,4 @@ mod script;
 #[cfg(test)]
 mod tests;
 
-pub use script::{Note, Step};
+pub use script::{Step, StepAnswer};

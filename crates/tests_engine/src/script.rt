@@ -27,7 +27,7 @@ pub enum Step {
 
 /// What a call answered.
 #[derive(Clone, Copy, Debug, PartialEq, Eq)]
-pub enum Note {
+pub enum StepAnswer {
     /// The batch was written under so many sequences from the first on, in a group that ends at `group_last`. It came
     /// back with this sequence set.
     Wrote {

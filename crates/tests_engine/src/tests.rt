@@ -5,9 +5,8 @@
 //! - `faults`: clients that write at once, while a call of the disk fails
 //! - `stops`: a client that stops writes, beside one that writes
 
-ghost use Rattle.std.specs.Prelude.{◌≤◌};
+ghost use Rattle.std.specs.Prelude.{◌<◌, ◌≤◌};
 ghost use Rattle.model_base.specs.History.{max_sequence};
-ghost use Rattle.engine_memory.specs.Tables.{HasShards};
 
 mod alone;
 mod at_once;
@@ -15,12 +14,10 @@ mod faults;
 mod playing;
 mod stops;
 
-use crate::script::{Note, Step};
+use crate::script::{Step, StepAnswer};
 use base_devices::MemDisk;
-use engine_memory::TableKind;
-use model_base::WriteOptions;
+use model_base::{MAX_SIZE, Options, WriteOptions};
 use playing::{closed, opened, play_at_once};
-use run_calls::Options;
 use std::alloc::Global;
 use std::process::Abort;
 use std::sync::{Mutex, Wait};
@@ -61,32 +58,32 @@ const READ_B: Step = Step::Read { key: b"b" };
 // sequence.
 #[derive(Drop)]
 struct Outcome {
-    notes: Vec<Vec<Note>>,
+    notes: Vec<Vec<StepAnswer>>,
     disk: MemDisk,
     len: u64,
     fault: Option<u64>,
     last: u64,
 }
 
-// Opens an engine over a table of this kind, in one stage or two, with a client for each script, lets all play at once,
-// and closes it. The disk has much room, and its calls with a number in the list fail. The first batch is written after
-// this sequence.
+// Opens an engine over a table of so many shards, in one stage or two, with a client for each script, lets all play at
+// once, and closes it. The disk has much room, and its calls with a number in the list fail. The first batch is written
+// after this sequence.
 fn ended<R: Threads + Wait + Abort + Sync>(
     rt: &R,
     alloc: Global,
     fails: &[u64],
     start: u64,
-    kind: TableKind,
+    shards: u32,
     pipelined: bool,
     scripts: &[Vec<Step>],
 ) -> Outcome
     requires start { start ≤ max_sequence }
-    requires kind { HasShards kind }
+    requires shards { 0 < shards }
 {
     let options = Options {
         last: start,
         group_bytes: 1048576,
-        batch_bytes: 16777216,
+        batch_bytes: MAX_SIZE,
     };
     let count = scripts.len();
     assert!(rt; 0 < count && count <= 16);
@@ -103,7 +100,7 @@ fn ended<R: Threads + Wait + Abort + Sync>(
         fails,
         count as u32,
         options,
-        kind,
+        shards,
         pipelined,
     );
     play_at_once(

@@ -4,16 +4,16 @@
 -- in memory tells of crashes before it doesn't speak of that. So nothing is told of them any more.
 use Rattle.std.specs.Prelude.{ℕ, ◌+◌, max, Bool, true, List, Option, Some, Result}
 use Rattle.base_devices.specs.Disk.{Disk}
-use Rattle.base_devices.specs.Listed.{FailsAsListed, counted}
+use Rattle.base_devices.specs.Listed.{FailsAsListed, faults_after_call}
 use Rattle.base_devices.specs.MemDisk.{disk_of, len_of, disk_calls, moment_of, from_of, since_of}
 use Rattle.base_devices.specs.declared.mem_disk.MemDisk.{MemDisk}
 use Rattle.tests_held_disk.specs.declared.disk.HeldDisk.{HeldDisk}
 use Rattle.tests_held_disk.specs.declared.disk.Turn.{Turn}
 use Rattle.tests_held_disk.specs.declared.disk.Turn.TheVariants.{Ahead, Past, Late}
-use Rattle.tests_held_disk.specs.declared.hold.Hold.{Hold}
+use Rattle.tests_held_disk.specs.declared.hold.AppendHold.{AppendHold}
 
 -- how many have to arrive
-abbrev pub need_of : Hold → ℕ
+abbrev pub need_of : AppendHold → ℕ
 need_of hold = hold.need
 
 -- the disk in memory
@@ -53,7 +53,7 @@ from_at (Late tried) from moment = max from (moment + 1)
 abbrev pub faults_at : Turn → ℕ → ℕ
 faults_at (Ahead others) faults = faults
 faults_at Past faults = faults
-faults_at (Late tried) faults = counted true faults
+faults_at (Late tried) faults = faults_after_call true faults
 
 -- the members of a held disk
 abbrev pub held_told : HeldDisk → Option Disk

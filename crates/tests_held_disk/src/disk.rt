@@ -2,7 +2,7 @@
 
 ghost use Rattle.std.specs.Prelude.{◌≡◌, ◌≢◌, ◌+◌, ◌-◌, ◌^◌, ◌<◌, ◌≤◌, length, false, IfOk, IfSome};
 
-use crate::Hold;
+use crate::AppendHold;
 use base_devices::{Disk, Failed, MemDisk};
 
 /// Where a disk stands to the append that is held.
@@ -16,14 +16,14 @@ enum Turn {
     Late(u64),
 }
 
-/// A disk in memory, one of whose appends waits until a [`Hold`] is open. All else is handed on to the disk in memory,
-/// and so is that append then.
+/// A disk in memory, one of whose appends waits until an [`AppendHold`] is open. All else is handed on to the disk in
+/// memory, and so is that append then.
 ///
 /// An append that waits in vain fails and writes nothing. Then the disk tells nothing more of crashes before now.
 #[derive(Drop)]
 pub struct HeldDisk<'h> {
     inner: MemDisk,
-    hold: &'h Hold,
+    hold: &'h AppendHold,
     turn: Turn,
 }
 
@@ -33,7 +33,7 @@ impl<'h> HeldDisk<'h> {
     ghost use Rattle.base_devices.specs.MemDisk.{told_of, from_of, disk_calls};
 
     /// Holds the `at`-th append to `inner` from now on, counted from 1. No append is held where `at` is 0.
-    pub fn new(inner: MemDisk, hold: &'h Hold, at: u64) -> HeldDisk<'h>
+    pub fn new(inner: MemDisk, hold: &'h AppendHold, at: u64) -> HeldDisk<'h>
         ensures inner { inner_of result ≡ inner }
         ensures left { left_of result ≡ at }
         ensures need { hold_need result ≡ need_of hold.now }

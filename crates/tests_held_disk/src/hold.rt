@@ -13,18 +13,18 @@ const MOST_TURNS: u64 = 1_000_000_000;
 
 /// Holds an append back until others have arrived. Threads share it by `&`, so nothing is known of how many have.
 #[derive(Drop)]
-pub struct Hold {
+pub struct AppendHold {
     need: u64,
     arrived: AtomicU64,
     entered: AtomicBool,
 }
 
-impl Hold {
-    /// It opens once [`arrive`](Hold::arrive) was called so many times, and is open at once where that is 0.
-    pub fn new(need: u64) -> Hold
+impl AppendHold {
+    /// It opens once [`arrive`](AppendHold::arrive) was called so many times, and is open at once where that is 0.
+    pub fn new(need: u64) -> AppendHold
         ensures { need_of result ≡ need }
     {
-        Hold {
+        AppendHold {
             need,
             arrived: AtomicU64::new(0),
             entered: AtomicBool::new(false),

@@ -9,4 +9,4 @@ mod disk;
 mod hold;
 
 pub use disk::HeldDisk;
-pub use hold::Hold;
+pub use hold::AppendHold;

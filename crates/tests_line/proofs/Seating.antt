@@ -2,20 +2,20 @@
 use Rattle.std.proofs.Common.{◌≡◌, ◌≢◌, Bool, true, false, ℕ, ◌+◌, ◌-◌, ◌<◌, ◌≤◌, ◌⊎◌, inl, inr, suc, List, [], ◌∷◌, ◌++◌, length, get_or, set, refl, sym, ap, ◌∙◌, subst, arith, length-append}
 use Rattle.std.proofs.lemmas.List.{get_or_push, get_or_append_left, get_or-set_other, get_or-set_same, length-set}
 use Rattle.std.proofs.lemmas.Bool.{cases_lt}
-use Rattle.line_rule.specs.declared.view.Stage.TheVariants.{Idle}
+use Rattle.line_rule.specs.declared.view.LineStage.TheVariants.{Idle}
 use Rattle.line_rule.specs.Rule.{hold}
 use Rattle.line_writers.specs.declared.writer.Writer.{Writer}
 use Rattle.line_writers.specs.declared.room.Lists.{Lists}
 use Rattle.line_writers.specs.declared.writer.Task.{Task}
 use Rattle.line_writers.specs.declared.writer.Task.TheVariants.{Awaits, Leads as Leads_, Helps, Queues, Serves}
 use Rattle.line_rule.specs.declared.view.Handling.{Handling}
-use Rattle.line_rule.specs.declared.view.Entry.{Entry}
+use Rattle.line_rule.specs.declared.view.QueuedWriter.{QueuedWriter}
 use Rattle.line_writers.specs.Roles.{IsNew, AreNew, IsLinked}
 use Rattle.line_writers.specs.Rooms.{AreReady, AllReady}
 use Rattle.line_writers.specs.Seats.{table_of, clients_of, Belongs, IsIn, IsChosen, IsOut, AllOut, AllThere, told, told_in_first}
-use Rattle.tests_line.specs.declared.counter.Ask.{Ask}
-use Rattle.tests_line.specs.declared.counter.Answer.{Answer}
-use Rattle.tests_line.specs.declared.counter.Counter.{Counter}
+use Rattle.tests_line.specs.declared.counter.CountRequest.{CountRequest}
+use Rattle.tests_line.specs.declared.counter.CountReply.{CountReply}
+use Rattle.tests_line.specs.declared.counter.CountLog.{CountLog}
 use Rattle.tests_line.specs.declared.counter.Nothing.{Nothing}
 use Rattle.tests_line.specs.declared.counter.Player.{Player}
 use Rattle.tests_line.specs.Players.{Counted, law, IsAsking, Leads, IsSat, MayWrite, AllMayWrite, AreSat}
@@ -55,18 +55,18 @@ pub is_next : (n made rest was : ℕ) → was + made ≡ n → rest + 1 ≡ was 
 is_next n made rest was all one = record { number = omega arith; left = omega arith; positive = omega arith; within = omega arith }
 
 module _ (list : Counted) where
-  pub new_last : (m : ℕ) (ws : List (Writer Ask Answer Counter Nothing)) (w : Writer Ask Answer Counter Nothing) → AreNew (table_of list) m (ws ++ w ∷ []) → AreNew (table_of list) m ws × IsNew (table_of list) (m - length ws) w
+  pub new_last : (m : ℕ) (ws : List (Writer CountRequest CountReply CountLog Nothing)) (w : Writer CountRequest CountReply CountLog Nothing) → AreNew (table_of list) m (ws ++ w ∷ []) → AreNew (table_of list) m ws × IsNew (table_of list) (m - length ws) w
   new_last m [] w new = (tt, subst (λ k. IsNew (table_of list) k w) (let h : m ≡ m - 0 = omega arith in h) new.0)
   new_last m (x ∷ xs) w new = let t = new_last (m - 1) xs w new.1 in ((new.0, t.0), subst (λ k. IsNew (table_of list) k w) (let h : m - 1 - length xs ≡ m - suc (length xs) = omega arith in h) t.1)
 
-  pub new_is_out : (k : ℕ) (w : Writer Ask Answer Counter Nothing) → IsNew (table_of list) k w → IsOut w
+  pub new_is_out : (k : ℕ) (w : Writer CountRequest CountReply CountLog Nothing) → IsNew (table_of list) k w → IsOut w
   new_is_out k w new = let view = ap (λ m. m.0) new.3 in let mine : told w ≡ [] = ap told_in_first view in (view ∙ (λ i. hold (sym new.0 i) Idle (sym mine i) ∷ []), ap (λ m. m.1) new.3)
 
-  pub new_sat : (k : ℕ) (w : Writer Ask Answer Counter Nothing) → IsNew (table_of list) k w → 0 < k → k ≤ clients_of list → IsSat list k w
+  pub new_sat : (k : ℕ) (w : Writer CountRequest CountReply CountLog Nothing) → IsNew (table_of list) k w → 0 < k → k ≤ clients_of list → IsSat list k w
   new_sat k w new positive within = ((new.2, subst (λ c. 0 < c) (sym new.0) positive, subst (λ c. c ≤ clients_of list) (sym new.0) within), new_is_out k w new, new.0)
 
   -- a writer that was linked is linked with what it was told
-  pub linked : (q : Ask) (mine : List (Ask × Answer)) (w : Writer Ask Answer Counter Nothing) → IsIn (law list) q mine w → IsAsking list w
+  pub linked : (q : CountRequest) (mine : List (CountRequest × CountReply)) (w : Writer CountRequest CountReply CountLog Nothing) → IsIn (law list) q mine w → IsAsking list w
   linked q mine w is = (q, subst (λ told. IsIn (law list) q told w) (sym (known w.task is)) is)
     where
       known : (task : Task) → IsLinked (law list) w.client task q mine w.seat.me → told w ≡ mine
@@ -77,10 +77,10 @@ module _ (list : Counted) where
       known Serves l = absurd l
 
   -- a writer that was chosen leads, and one that is done is out
-  pub leads : (own : Entry Ask) (seen : List (Handling Ask Answer)) (mine : List (Ask × Answer)) (w : Writer Ask Answer Counter Nothing) → Belongs list w → IsChosen own seen mine w → Leads list w
+  pub leads : (own : QueuedWriter CountRequest) (seen : List (Handling CountRequest CountReply)) (mine : List (CountRequest × CountReply)) (w : Writer CountRequest CountReply CountLog Nothing) → Belongs list w → IsChosen own seen mine w → Leads list w
   leads own seen mine w ours is = (ours, (own, seen, subst (λ told. IsChosen own seen told w) (sym (ap told_in_first is.0)) is))
 
-  pub done : (mine : List (Ask × Answer)) (w : Writer Ask Answer Counter Nothing) → w.seat.me.0 ≡ hold w.client Idle mine ∷ [] → w.seat.me.1 ≡ [] → IsOut w
+  pub done : (mine : List (CountRequest × CountReply)) (w : Writer CountRequest CountReply CountLog Nothing) → w.seat.me.0 ≡ hold w.client Idle mine ∷ [] → w.seat.me.1 ≡ [] → IsOut w
   done mine w at none = (at ∙ (λ i. hold w.client Idle (sym (ap told_in_first at) i) ∷ []), none)
 
   -- one more who may write
@@ -103,15 +103,15 @@ module _ (list : Counted) where
       )
 
   -- the writer of the next lesser client
-  pub sat_snoc : (m : ℕ) (ws : List (Writer Ask Answer Counter Nothing)) (w : Writer Ask Answer Counter Nothing) → AreSat list m ws → IsSat list (m - length ws) w → AreSat list m (ws ++ w ∷ [])
+  pub sat_snoc : (m : ℕ) (ws : List (Writer CountRequest CountReply CountLog Nothing)) (w : Writer CountRequest CountReply CountLog Nothing) → AreSat list m ws → IsSat list (m - length ws) w → AreSat list m (ws ++ w ∷ [])
   sat_snoc m [] w all sat = (subst (λ k. IsSat list k w) (let h : m - 0 ≡ m = omega arith in h) sat, tt)
   sat_snoc m (x ∷ xs) w all sat = (all.0, sat_snoc (m - 1) xs w all.1 (subst (λ k. IsSat list k w) (let h : m - suc (length xs) ≡ m - 1 - length xs = omega arith in h) sat))
 
-  pub sat_out : (m : ℕ) (ws : List (Writer Ask Answer Counter Nothing)) → AreSat list m ws → AllOut (table_of list) ws
+  pub sat_out : (m : ℕ) (ws : List (Writer CountRequest CountReply CountLog Nothing)) → AreSat list m ws → AllOut (table_of list) ws
   sat_out m [] all = tt
   sat_out m (w ∷ ws) all = (all.0.0.0, all.0.1, sat_out (m - 1) ws all.1)
 
-  pub sat_there : (n : ℕ) (ws : List (Writer Ask Answer Counter Nothing)) → AreSat list n ws → length ws ≡ n → AllThere n ws
+  pub sat_there : (n : ℕ) (ws : List (Writer CountRequest CountReply CountLog Nothing)) → AreSat list n ws → length ws ≡ n → AllThere n ws
   sat_there n [] all len i lo hi = absurd (omega arith)
   sat_there n (w ∷ ws) all len i lo hi = elim (cases_lt i n) [
     | inl lt ↦ inr (sat_there (n - 1) ws all.1 (omega arith) i lo (omega arith))

@@ -1,46 +1,50 @@
 -- Where those who take part stand.
 use Rattle.std.specs.Prelude.{◌≡◌, ℕ, ◌+◌, ◌-◌, ◌<◌, ◌≤◌, false, List, [], ◌∷◌, length, slice_index_or, vec_capacity, ⊤}
-use Rattle.line_rule.specs.declared.view.Entry.{Entry}
+use Rattle.line_rule.specs.declared.view.QueuedWriter.{QueuedWriter}
 use Rattle.line_rule.specs.declared.view.Handling.{Handling}
+use Rattle.line_rule.specs.Rule.{logs_from}
 use Rattle.line_writers.specs.declared.writer.Writer.{Writer}
 use Rattle.line_writers.specs.declared.line_writers.WriterList.{WriterList}
 use Rattle.line_writers.specs.declared.room.Lists.{Lists}
 use Rattle.line_writers.specs.Roles.{asks}
 use Rattle.line_writers.specs.Rooms.{TakesReplies, HasRoom, AreReady}
-use Rattle.line_writers.specs.Seats.{clients_of, start_of, piped_of, law_of, asks_of, Belongs, IsOut, IsIn, IsChosen, HasGroup}
+use Rattle.line_writers.specs.Seats.{clients_of, start_of, piped_of, about_of, asks_of, Belongs, IsOut, IsIn, IsChosen, HasGroup}
 use Rattle.line_writers.specs.Seats.{told}
-use Rattle.tests_line.specs.declared.counter.Ask.{Ask}
-use Rattle.tests_line.specs.declared.counter.Answer.{Answer}
-use Rattle.tests_line.specs.declared.counter.Counter.{Counter}
+use Rattle.tests_line.specs.declared.counter.CountRequest.{CountRequest}
+use Rattle.tests_line.specs.declared.counter.CountReply.{CountReply}
+use Rattle.tests_line.specs.declared.counter.CountLog.{CountLog}
 use Rattle.tests_line.specs.declared.counter.Nothing.{Nothing}
 use Rattle.tests_line.specs.declared.counter.Player.{Player}
 
 abbrev pub Counted : Type 0
-Counted = WriterList Ask Answer Counter Nothing ℕ
+Counted = WriterList CountRequest CountReply CountLog Nothing ℕ
 
 -- the list has no second one, and its numbers begin with 0
 abbrev pub IsPlain : Counted → Type 0
 IsPlain list = (start_of list ≡ 0) × (piped_of list ≡ false)
 
 -- the writer of this client is out of the list
-abbrev pub IsSat : Counted → ℕ → Writer Ask Answer Counter Nothing → Type 0
+abbrev pub IsSat : Counted → ℕ → Writer CountRequest CountReply CountLog Nothing → Type 0
 IsSat list k w = Belongs list w × IsOut w × (w.client ≡ k)
 
 -- what a counter of this list says of the handlings: nothing
-abbrev pub law : Counted → Counter → List (Handling Ask Answer) → Type 0
-law list = law_of (λ about c hs. about ≡ about) (λ about hs. about ≡ about) (λ c. 0) (λ a. (0, 0)) list
+abbrev pub law : Counted → CountLog → List (Handling CountRequest CountReply) → Type 0
+law list =
+    logs_from (λ c hs. about_of list ≡ about_of list) (λ hs. about_of list ≡ about_of list) (λ c. 0) (λ a. (0, 0))
+    (start_of list)
 
 -- what is asked of a request in this list: that its code is that of its item
-abbrev pub asked : Counted → Ask → ℕ → Type 0
+abbrev pub asked : Counted → CountRequest → ℕ → Type 0
 asked list = asks_of (λ a. a.item) (λ _ _. ⊤) list
 
 -- it is in the list, with a request
-abbrev pub IsAsking : Counted → Writer Ask Answer Counter Nothing → Type 0
-IsAsking list w = (q : Ask) × IsIn (law list) q (told w) w
+abbrev pub IsAsking : Counted → Writer CountRequest CountReply CountLog Nothing → Type 0
+IsAsking list w = (q : CountRequest) × IsIn (law list) q (told w) w
 
 -- it leads, and has the log
-abbrev pub Leads : Counted → Writer Ask Answer Counter Nothing → Type 0
-Leads list w = Belongs list w × ((own : Entry Ask) × (seen : List (Handling Ask Answer)) × IsChosen own seen (told w) w)
+abbrev pub Leads : Counted → Writer CountRequest CountReply CountLog Nothing → Type 0
+Leads list w = Belongs list w × ((own : QueuedWriter CountRequest) × (seen : List (Handling CountRequest CountReply))
+    × IsChosen own seen (told w) w)
 
 -- this client may write
 abbrev pub MayWrite : Counted → ℕ → Player → Type 0
@@ -59,14 +63,16 @@ pub record AllHaveAsked (list : Counted) (ps : List Player) : Type 0 where
   pub each : (i : ℕ) (d : Player) → i < length ps → HasAsked list (i + 1) (slice_index_or ps i d)
 
 -- the writers of the clients n, n - 1 and so on are out
-abbrev pub AreSat : Counted → ℕ → List (Writer Ask Answer Counter Nothing) → Type 0
+abbrev pub AreSat : Counted → ℕ → List (Writer CountRequest CountReply CountLog Nothing) → Type 0
 AreSat list n [] = Unit {0}
 AreSat list n (w ∷ ws) = IsSat list n w × AreSat list (n - 1) ws
 
 -- it leads, and has the requests of its group in its lists
-abbrev pub HasRequests : Counted → Writer Ask Answer Counter Nothing → Lists Ask Answer → Type 0
-HasRequests list w lists = Belongs list w × ((max : ℕ) × (own : Entry Ask) × (group left : List (Entry Ask))
-    × (seen : List (Handling Ask Answer))
+abbrev pub HasRequests : Counted → Writer CountRequest CountReply CountLog Nothing → Lists CountRequest CountReply
+    → Type 0
+HasRequests list w lists = Belongs list w
+    × ((max : ℕ) × (own : QueuedWriter CountRequest) × (group left : List (QueuedWriter CountRequest))
+    × (seen : List (Handling CountRequest CountReply))
     × HasGroup (asked list) (clients_of list) max own group left seen (told w) w
     × (lists.requests.list.items ≡ asks own group))
     × (length lists.requests.list.items ≤ clients_of list) × (clients_of list ≤ vec_capacity lists.requests.list)

@@ -9,4 +9,4 @@ mod counter;
 #[cfg(test)]
 mod tests;
 
-pub use counter::{Answer, Ask, Counter, Nothing, Player};
+pub use counter::{CountLog, CountReply, CountRequest, Nothing, Player};

@@ -5,13 +5,13 @@ ghost use Rattle.tests_line.specs.Players.{IsPlain, MayWrite, HasAsked, AllMayWr
 
 mod playing;
 
-use crate::counter::{Answer, Counter, Nothing, Player};
+use crate::counter::{CountLog, CountReply, Nothing, Player};
 use line_rule::Start;
 use line_writers::Role;
-use model_base::Item;
+use model_base::{Item, WriteOptions};
 use playing::{
-    Counted, MAX, PLAIN, ask, ask_all, closed, finish, finish_all, grouped, left, note, opened,
-    sized, taken, write_at_once,
+    Counted, MAX, PLAIN, UNFLAGGED, ask, ask_all, closed, finish, finish_all, grouped, left, note,
+    opened, sized, taken, write_at_once,
 };
 use std::alloc::Global;
 use std::mem;
@@ -21,17 +21,26 @@ use std::sync::{Barrier, Wait};
 use std::test::Fail;
 
 const SYNCED: Item = Item {
-    sync: true,
+    options: WriteOptions {
+        sync: true,
+        ..UNFLAGGED
+    },
     ..PLAIN
 };
 
 const UNLOGGED: Item = Item {
-    no_log: true,
+    options: WriteOptions {
+        no_log: true,
+        ..UNFLAGGED
+    },
     ..PLAIN
 };
 
 const HASTY: Item = Item {
-    no_slowdown: true,
+    options: WriteOptions {
+        no_slowdown: true,
+        ..UNFLAGGED
+    },
     ..PLAIN
 };
 
@@ -216,7 +225,7 @@ fn a_newcomer_leads_the_next_group(rt: HostRuntime) {
 }
 
 // Notes each number that a client was told, of which none was told to anyone yet; each is above the one before it.
-fn note_numbers(rt: &impl Abort, told: &[Answer], size: u64, noted: &mut [bool]) {
+fn note_numbers(rt: &impl Abort, told: &[CountReply], size: u64, noted: &mut [bool]) {
     let mut next = 0;
     for answer in told {
         let number = answer.number;
@@ -280,7 +289,7 @@ fn open_three(alloc: Global) -> Result<(usize, usize), (u64, u64, u64)> {
         group_bytes: MAX,
         about: 0,
     };
-    let counter = Counter { count: 5, sum: 6 };
+    let counter = CountLog { count: 5, sum: 6 };
     match Counted::open(alloc, &start, counter, Nothing { mark: 7 }) {
         Ok((_list, writers, lists)) => Ok((writers.len(), lists.len())),
         Err((log, right)) => Err((log.count, log.sum, right.mark)),

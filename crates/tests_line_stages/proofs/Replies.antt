@@ -3,7 +3,7 @@ use Rattle.std.proofs.Common.{◌≡◌, ℕ, ◌+◌, ◌<◌, List, [], ◌∷
 use Rattle.std.proofs.lemmas.Grind.{take_at_read}
 use Rattle.line_rule.specs.declared.view.Handling.{Handling}
 use Rattle.line_rule.specs.Rule.{last_run, given_runs}
-use Rattle.line_rule.specs.declared.view.Entry.{Entry}
+use Rattle.line_rule.specs.declared.view.QueuedWriter.{QueuedWriter}
 use Rattle.line_writers.specs.Roles.{firsts, IsMember, AreMembers}
 
 -- where no reply gives a number, the first one stays, and nothing is given runs
@@ -27,6 +27,6 @@ more_firsts rs qs i a x is lt at =
     firsts-append rs ((x.0, a) ∷ []) ∙ (ap (λ l. l ++ x.0 ∷ []) is ∙ sym (ap firsts cut ∙ firsts-append (take i qs) (x ∷ [])))
 
 -- one member more
-pub are_more : {Q P : Type 0} (n : ℕ) (ks : List ℕ) (k : ℕ) (gs : List (Entry Q × P)) → AreMembers n ks gs → IsMember n k gs → AreMembers n (ks ++ k ∷ []) gs
+pub are_more : {Q P : Type 0} (n : ℕ) (ks : List ℕ) (k : ℕ) (gs : List (QueuedWriter Q × P)) → AreMembers n ks gs → IsMember n k gs → AreMembers n (ks ++ k ∷ []) gs
 are_more n [] k gs all one = (one, tt)
 are_more n (j ∷ ks) k gs all one = (all.0, are_more n ks k gs all.1 one)

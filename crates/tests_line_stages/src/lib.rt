@@ -8,5 +8,5 @@ mod counter;
 #[cfg(test)]
 mod tests;
 
-pub use client::{Client, Stage};
-pub use counter::{Answer, Ask, Counter, Right};
+pub use client::{PlayerStage, StagePlayer};
+pub use counter::CountingRight;

@@ -5,8 +5,8 @@ mod leading;
 mod schedule;
 mod threads;
 
-use crate::client::Client;
-use crate::counter::{Answer, Counter, Right};
+use crate::client::StagePlayer;
+use crate::counter::CountingRight;
 use clients::{Counted, closed, opened};
 use leading::MAX;
 use line_rule::Start;
@@ -17,6 +17,7 @@ use std::process::Abort;
 use std::rt::HostRuntime;
 use std::sync::atomic::AtomicU64;
 use std::test::Fail;
+use tests_line::{CountLog, CountReply};
 use threads::write_at_once;
 
 /// Three log one after the other, and their groups are served in that order, each with the number that comes next. Who
@@ -94,7 +95,7 @@ fn schedules_on_one_thread(rt: HostRuntime) {
 }
 
 // Notes each number that a client was told, of which none was told to anyone yet; each is above the one before it.
-fn note_numbers(rt: &impl Abort, told: &[Answer], size: u64, noted: &mut [bool]) {
+fn note_numbers(rt: &impl Abort, told: &[CountReply], size: u64, noted: &mut [bool]) {
     let mut next = 0;
     // The numbers so far are noted, and all of them are below `next`.
     for answer in told {
@@ -113,7 +114,7 @@ fn note_numbers(rt: &impl Abort, told: &[Answer], size: u64, noted: &mut [bool])
 }
 
 // Each of the clients was told so many numbers with its own size, and each number was told once.
-fn check_told(rt: &impl Abort, alloc: Global, clients: &[Client], times: usize) {
+fn check_told(rt: &impl Abort, alloc: Global, clients: &[StagePlayer], times: usize) {
     let all = clients.len().wrapping_mul(times);
     let mut noted = vec![in alloc; false; all].expect(rt, "memory");
     let mut size = 0u64;
@@ -151,8 +152,8 @@ fn open_three(alloc: Global) -> Result<(usize, usize), (u64, u64, u64)> {
         group_bytes: MAX,
         about: 0,
     };
-    let counter = Counter { count: 5, sum: 6 };
-    let right = Right {
+    let counter = CountLog { count: 5, sum: 6 };
+    let right = CountingRight {
         next: 7,
         groups: 0,
         wrong: 0,

@@ -3,8 +3,8 @@
 use crate::checks::check;
 use crate::logs::{PUT, add_all, batch_bytes};
 use log_batch::RecordView::{Deletion, LogData, SingleDeletion, Value};
-use log_batch::{AddError, Batch, BatchView, MAX_SIZE, RecordView, read_batch};
-use model_base::BatchError;
+use log_batch::{AddError, Batch, BatchView, RecordView, read_batch};
+use model_base::{BatchError, MAX_SIZE};
 use std::alloc::{AllocError, Global};
 use std::process::Abort;
 use std::test::Fail;

@@ -2,10 +2,11 @@
 
 use crate::checks::check;
 use base_devices::MemDisk;
+use base_maps::ByteMap;
 use log_batch::RecordView::{Deletion, LogData, SingleDeletion, Value};
 use log_batch::{AddError, Batch, RecordView};
 use log_block::{BLOCK_LEN, Fragmenter, MAX_PART_LEN, header};
-use log_recovery::{End, RecoverError, RecoveredMap, recover};
+use log_recovery::{End, RecoverError, recover};
 use model_base::EndReason;
 use std::alloc::{AllocError, Global};
 use std::process::Abort;
@@ -107,7 +108,7 @@ pub(crate) fn check_cuts(
 }
 
 /// Compares the pairs of a map.
-pub(crate) fn check_map(rt: &impl Abort, map: &RecoveredMap, pairs: &[(&[u8], &[u8])]) {
+pub(crate) fn check_map(rt: &impl Abort, map: &ByteMap, pairs: &[(&[u8], &[u8])]) {
     check(rt, 0, &map.len(), &pairs.len());
     let mut wanted = pairs.iter();
     for pair in map.iter() {

@@ -6,9 +6,10 @@ use crate::logs::{
     LOG, PUT, Summary, add_all, batch_bytes, check_cuts, check_map, put_record, recovered,
 };
 use base_devices::MemDisk;
+use base_maps::ByteMap;
 use log_batch::RecordView::{Deletion, LogData, SingleDeletion, Value};
 use log_batch::{Batch, RecordView};
-use log_recovery::{GroupNote, RecoverError, RecoveredMap, recover};
+use log_recovery::{GroupNote, RecoverError, recover};
 use model_base::{Damage, EndReason, NoMemory};
 use std::alloc::{AllocError, Global};
 use std::test::Fail;
@@ -55,7 +56,7 @@ fn log_of_two(alloc: Global, value: &[u8]) -> Result<Vec<u8>, Fail> {
 }
 
 // The groups that a log recovers, and its map.
-fn whole(alloc: Global, log: &[u8]) -> Result<(Vec<GroupNote>, RecoveredMap), RecoverError> {
+fn whole(alloc: Global, log: &[u8]) -> Result<(Vec<GroupNote>, ByteMap), RecoverError> {
     let mut disk = MemDisk::new(alloc, log.len(), log, &[])?;
     let found = recover(alloc, &mut disk)?;
     Ok((found.groups, found.map))
@@ -222,13 +223,13 @@ const LEFT: [(&[u8], &[u8]); 5] = [
 ];
 
 // The map of all pairs, without two keys, of which one isn't there.
-fn map_of_five(alloc: Global) -> Result<RecoveredMap, NoMemory> {
-    let mut map = RecoveredMap::new(alloc);
+fn map_of_five(alloc: Global) -> Result<ByteMap, NoMemory> {
+    let mut map = ByteMap::new(alloc);
     for (key, value) in &INSERTED {
         map.insert(key, value)?;
     }
-    map.remove(b"sixteen bytes of it")?;
-    map.remove(b"sixteen bytes of i")?;
+    map.remove(b"sixteen bytes of it");
+    map.remove(b"sixteen bytes of i");
     Ok(map)
 }
 

@@ -160,6 +160,7 @@ fn check_row(rt: &impl Abort, alloc: Global, row: &Row) -> Result<(), Fail> {
 
 #[test]
 fn schedules_are_replayed(rt: HostRuntime) -> Result<(), Fail> {
+    // The rows so far came to what they say.
     for row in &ROWS {
         check_row(&rt, rt.alloc(), row)?;
     }

@@ -1,30 +1,43 @@
 //! How long the group is that a leader takes of two writers.
 
 use line_grouping::group_len;
-use model_base::Item;
+use model_base::{Item, WriteOptions};
 use std::process::Abort;
 
 const MAX: u64 = 1048576;
 
-const PLAIN: Item = Item {
-    size: 20,
+const UNFLAGGED: WriteOptions = WriteOptions {
     sync: false,
     no_log: false,
     no_slowdown: false,
 };
 
+const PLAIN: Item = Item {
+    size: 20,
+    options: UNFLAGGED,
+};
+
 const SYNCED: Item = Item {
-    sync: true,
+    options: WriteOptions {
+        sync: true,
+        ..UNFLAGGED
+    },
     ..PLAIN
 };
 
 const UNLOGGED: Item = Item {
-    no_log: true,
+    options: WriteOptions {
+        no_log: true,
+        ..UNFLAGGED
+    },
     ..PLAIN
 };
 
 const HASTY: Item = Item {
-    no_slowdown: true,
+    options: WriteOptions {
+        no_slowdown: true,
+        ..UNFLAGGED
+    },
     ..PLAIN
 };
 
@@ -111,6 +124,7 @@ fn check_row(rt: &impl Abort, row: &Row) {
 
 #[test]
 fn sizes_and_options_end_the_group(rt: HostRuntime) {
+    // The groups of the rows so far have the lengths that they say.
     for row in &ROWS {
         check_row(&rt, row);
     }

@@ -1,8 +1,8 @@
 //! Clients' commands, and a core that is opened for them.
 
-use model_base::WriteOptions;
+use log_batch::MAX_SEQUENCE;
+use model_base::{MAX_SIZE, WriteOptions};
 use replay_core::{ClientPlan, CoreOptions, State, are_small};
-use run_calls::MAX_SEQUENCE;
 use run_command_list::{CommandList, CommandView};
 use std::alloc::Global;
 use std::process::Abort;
@@ -17,6 +17,7 @@ pub(crate) const PLAIN: WriteOptions = WriteOptions {
 /// A client that puts 1 at each of these keys, commits that batch, and reads `a`.
 fn commands_of(rt: &impl Abort, alloc: Global, keys: &[&[u8]]) -> Result<CommandList, Fail> {
     let mut commands = CommandList::new(alloc);
+    // The batch has the keys so far.
     for key in keys {
         assert!(rt; key.len() <= 8);
         commands.push(CommandView::Put { key, value: b"1" })?;
@@ -33,6 +34,7 @@ pub(crate) fn clients_of(
     batches: &[&[&[u8]]],
 ) -> Result<Vec<CommandList>, Fail> {
     let mut clients = Vec::new(alloc);
+    // There is a client for each list so far.
     for keys in batches {
         clients.push(commands_of(rt, alloc, keys)?)?;
     }
@@ -47,13 +49,14 @@ pub(crate) fn opened<'a>(
     clients: &'a [CommandList],
 ) -> Result<State<'a>, Fail> {
     let mut plans = Vec::new(alloc);
+    // There is a plan for each client so far.
     for commands in clients {
         plans.push(ClientPlan::of(alloc, commands)?)?;
     }
     let options = CoreOptions {
         pipelined: false,
         group_bytes: 1048576,
-        batch_bytes: 16777216,
+        batch_bytes: MAX_SIZE,
         last,
     };
     assert!(rt; 1 <= plans.len() && plans.len() <= 16 && last <= MAX_SEQUENCE);

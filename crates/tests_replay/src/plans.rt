@@ -1,9 +1,9 @@
 //! The way of a plan to its next call.
 
 use crate::opening::PLAIN;
+use log_batch::Measure;
 use model_base::{NoMemory, WriteOptions};
 use replay_plans::{ClientPlan, Lines, are_small, commit_at, is_read, look_ahead, measure_batch};
-use run_calls::Measure;
 use run_command_list::{CommandKind, CommandList, CommandView};
 use std::alloc::Global;
 use std::test::Fail;

@@ -1,7 +1,8 @@
 //! Texts that no call comes to.
 
-use base_bytes::{Bytes, PairList};
-use log_recovery::{End, Recovered, RecoveredMap};
+use base_bytes::Bytes;
+use base_maps::ByteMap;
+use log_recovery::{End, Recovered};
 use model_base::{Damage, EndReason, NoMemory, Refusal};
 use program_text::{disk_fault, outcome_text, recovered_text, summary_text};
 use run_batches::BatchList;
@@ -11,7 +12,7 @@ use std::process::Abort;
 use std::test::Fail;
 
 /// A commit that the log's fault refuses, and a read that finds no memory.
-fn one_fault(alloc: Global) -> Result<Outcome<PairList>, NoMemory> {
+fn one_fault(alloc: Global) -> Result<Outcome<ByteMap>, NoMemory> {
     let replies = vec![in alloc;
         Reply::Refused(Refusal::LogFault { count: 1 }),
         Reply::Found { at: 0, value: None },
@@ -21,7 +22,7 @@ fn one_fault(alloc: Global) -> Result<Outcome<PairList>, NoMemory> {
         transcripts: vec![in alloc; replies]?,
         history: History::of_one(BatchList::new(alloc)),
         last: 0,
-        state: PairList::new(alloc),
+        state: ByteMap::new(alloc),
         log_len: 0,
         fault: Some(1),
     })
@@ -31,7 +32,7 @@ fn one_fault(alloc: Global) -> Result<Outcome<PairList>, NoMemory> {
 fn old_log(alloc: Global) -> Recovered {
     Recovered {
         groups: Vec::new(alloc),
-        map: RecoveredMap::new(alloc),
+        map: ByteMap::new(alloc),
         last: 0,
         kept: 0,
         end: End {

@@ -7,14 +7,14 @@ use model_core::Event;
 use model_core::Event::*;
 use replay_core::{State, replay};
 use replay_plans::Lines;
-use replay_views::{MapUpTo, batch_lines, map, map_at};
-use run_calls::Entry;
+use replay_schedules::{MapUpTo, batch_lines, map, map_at};
 use run_command_list::CommandList;
+use run_outcome::HistoryEntry;
 use std::alloc::Global;
 use std::process::Abort;
 use std::test::Fail;
 
-const ENTRY: Entry<Lines> = Entry {
+const ENTRY: HistoryEntry<Lines> = HistoryEntry {
     client: 1,
     ordinal: 1,
     first: 1,
@@ -62,6 +62,7 @@ fn a_write_is_read_from_its_sequence_on(rt: HostRuntime) -> Result<(), Fail> {
     let clients = clients_of(&rt, rt.alloc(), &KEYS)?;
     let state = written(&rt, rt.alloc(), &clients)?;
     let mut read = MapUpTo::new(rt.alloc());
+    // The reads so far found what they were to find.
     for (at, want) in READS {
         let found = read.value(&state, b"a", at)?;
         assert_eq!(rt; value_in(&found), want, "at {at}");

@@ -1,3 +1,2 @@
 mod Popped
 mod Numbering
-mod Crossing

@@ -1,8 +1,8 @@
 -- Which clients of a test may do what.
 use Rattle.std.specs.Prelude.{◌≡◌, Option, IfSome}
 use Rattle.table_calls.specs.Account.{IsReady}
-use Rattle.engine_memory.specs.declared.memory_table.MemoryTable.{MemoryTable}
-use Rattle.engine_memory.specs.Tables.{Seat, Turn, opening_of, account_of, IsOurs, IsTurnAtStart}
+use Rattle.table_memory.specs.declared.memory_table.MemoryTable.{MemoryTable}
+use Rattle.table_memory.specs.Meaning.{Seat, Turn, opening_of, account_of, IsOurs, IsTurnAtStart}
 
 -- the seat is of this table, and has nothing to do
 abbrev pub IsIdle : MemoryTable → Seat → Type 0

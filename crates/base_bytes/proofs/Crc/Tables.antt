@@ -6,7 +6,7 @@ use Rattle.std.proofs.lemmas.List.{get_or-map}
 use Rattle.std.proofs.lemmas.Nat.{xor_comm}
 use lib.Bits.{xor_assoc, xor_shifted}
 use Rattle.base_bytes.specs.declared.tables.TheConstants.{TABLE_0, TABLE_1, TABLE_2, TABLE_3, TABLE_4, TABLE_5, TABLE_6, TABLE_7}
-use Rattle.base_bytes.specs.declared.far_tables.TheConstants.{TABLE_8, TABLE_9, TABLE_10, TABLE_11, TABLE_12, TABLE_13, TABLE_14, TABLE_15}
+use Rattle.base_bytes.specs.declared.crc_tables_8_to_15.TheConstants.{TABLE_8, TABLE_9, TABLE_10, TABLE_11, TABLE_12, TABLE_13, TABLE_14, TABLE_15}
 use Rattle.base_bytes.specs.Register.{step, shift, take_in_byte}
 use Rattle.base_bytes.proofs.Crc.Register.{shift-xor}
 use Rattle.base_bytes.proofs.Crc.Table.{shift-low_bits, shift-shifted, shift-split, table-at}

@@ -1,5 +1,5 @@
 use Rattle.std.proofs.Common.{◌≡◌, None, length, map, take, ap, arith, length-take}
-use Rattle.model_base.specs.Log.{text}
+use Rattle.model_base.specs.Log.{text, plain_log}
 use Rattle.model_base.specs.Recovery.{logged_bytes}
 use Rattle.log_laws.proofs.Placed.{length_map}
 use Rattle.log_laws.proofs.Written.{text_spells}
@@ -12,13 +12,13 @@ use Rattle.log_recovery_laws.proofs.a_crash_leaves_a_prefix.Goals as goal
 pub returns : goal.returns
 returns c = record {
   recovered = λ image records are none.
-      let some = recovers_some None image are in
+      let some = recovers_some plain_log image are in
       let r = some.0 in
-      let front : map logged_bytes r.batches ≡ take (length r.batches) records = recovers_front None image records r some.1 none in
+      let front : map logged_bytes r.batches ≡ take (length r.batches) records = recovers_front plain_log image records r some.1 none in
       (r, some.1, record { many = length r.batches; some = omega (arith, ap length front, length_map logged_bytes r.batches, length-take (length r.batches) records); same = front; enough = tt });
   read = λ image records are none.
       let some = all_read_some None image are in
       let is = some.1 in
-      let front : some.0 ≡ take (length some.0) records = reads_front None image (text None records) is.kept some.0 records (text_spells None records) is.within is.spelled none in
+      let front : some.0 ≡ take (length some.0) records = reads_front plain_log image (text plain_log records) is.kept some.0 records (text_spells plain_log records) is.within is.spelled none in
       (some.0, is, record { many = length some.0; some = omega (arith, ap length front, length-take (length some.0) records); same = front; enough = tt });
 }

@@ -1,11 +1,10 @@
 // One client on its own, which writes one record. The clock stands at 1000.
 
 use super::{HASTY_PUT, PLAIN, PUT_A, PUT_B, READ_A, READ_B, ended, script};
-use crate::script::{Note, Step};
-use engine_memory::TableKind;
+use crate::script::{Step, StepAnswer};
+use log_batch::MAX_SEQUENCE;
 use log_recovery::recover;
 use model_base::Refusal;
-use run_calls::MAX_SEQUENCE;
 use std::alloc::Global;
 use std::process::Abort;
 use std::rt::HostRuntime;
@@ -20,7 +19,7 @@ const PUT_BOTH: Step = Step::Write {
 };
 
 /// The first sequence of all.
-const FIRST: Note = Note::Wrote {
+const FIRST: StepAnswer = StepAnswer::Wrote {
     first: 1,
     count: 1,
     group_last: 1,
@@ -40,7 +39,7 @@ struct Row {
     /// Which calls of the disk fail.
     fails: &'static [u64],
     steps: &'static [Step],
-    notes: &'static [Note],
+    notes: &'static [StepAnswer],
     /// The count of the log's fault.
     fault: Option<u64>,
     /// The sequence and the count of the record that is written.
@@ -56,10 +55,10 @@ const ROWS: [Row; 4] = [
         steps: &[PUT_A, PUT_B, PUT_B, READ_B, READ_A],
         notes: &[
             FIRST,
-            Note::Refused(Refusal::LogFault { count: 1 }),
-            Note::Refused(Refusal::LogFault { count: 1 }),
-            Note::SawNone { at: 1 },
-            Note::Saw { at: 1, byte: b'1' },
+            StepAnswer::Refused(Refusal::LogFault { count: 1 }),
+            StepAnswer::Refused(Refusal::LogFault { count: 1 }),
+            StepAnswer::SawNone { at: 1 },
+            StepAnswer::Saw { at: 1, byte: b'1' },
         ],
         fault: Some(1),
         start: AT_FIRST,
@@ -70,16 +69,16 @@ const ROWS: [Row; 4] = [
         fails: &[],
         steps: &[PUT_BOTH, PUT_A, PUT_B],
         notes: &[
-            Note::Refused(Refusal::SequenceFull {
+            StepAnswer::Refused(Refusal::SequenceFull {
                 last: 72057594037927934,
             }),
-            Note::Wrote {
+            StepAnswer::Wrote {
                 first: 72057594037927935,
                 count: 1,
                 group_last: 72057594037927935,
                 sequence: 72057594037927935,
             },
-            Note::Refused(Refusal::SequenceFull {
+            StepAnswer::Refused(Refusal::SequenceFull {
                 last: 72057594037927935,
             }),
         ],
@@ -101,16 +100,16 @@ const ROWS: [Row; 4] = [
             AGAIN,
         ],
         notes: &[
-            Note::Done,
-            Note::Refused(Refusal::Incomplete {
+            StepAnswer::Done,
+            StepAnswer::Refused(Refusal::Incomplete {
                 stops: 1,
                 delays: 0,
                 wait: 0,
             }),
-            Note::Refused(Refusal::SelfStop),
-            Note::Held,
-            Note::Done,
-            Note::NotHeld,
+            StepAnswer::Refused(Refusal::SelfStop),
+            StepAnswer::Held,
+            StepAnswer::Done,
+            StepAnswer::NotHeld,
             FIRST,
         ],
         fault: None,
@@ -122,13 +121,13 @@ const ROWS: [Row; 4] = [
         fails: &[],
         steps: &[Step::Slow { rate: 1 }, HASTY_PUT, Step::Unslow, AGAIN],
         notes: &[
-            Note::Done,
-            Note::Refused(Refusal::Incomplete {
+            StepAnswer::Done,
+            StepAnswer::Refused(Refusal::Incomplete {
                 stops: 0,
                 delays: 1,
                 wait: 16_001_000,
             }),
-            Note::Done,
+            StepAnswer::Done,
             FIRST,
         ],
         fault: None,
@@ -140,15 +139,7 @@ const ROWS: [Row; 4] = [
 fn check_row<R: Threads + Wait + Abort + Sync>(rt: &R, alloc: Global, row: &Row, pipelined: bool) {
     assert!(rt; row.last < MAX_SEQUENCE);
     let scripts = vec![in alloc; script(rt, alloc, row.steps, 1)].expect(rt, "memory");
-    let ended = ended(
-        rt,
-        alloc,
-        row.fails,
-        row.last,
-        TableKind::One,
-        pipelined,
-        &scripts,
-    );
+    let ended = ended(rt, alloc, row.fails, row.last, 1, pipelined, &scripts);
     let told = ended.notes.first().expect(rt, "notes");
     assert_eq!(rt; told.as_slice(), row.notes);
     let last = row.last + 1;

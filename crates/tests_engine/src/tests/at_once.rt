@@ -1,10 +1,9 @@
 // Clients that write at once: the runs that they are given, and what their reads see.
 
-ghost use Rattle.engine_memory.specs.Tables.{HasShards};
+ghost use Rattle.std.specs.Prelude.{◌<◌};
 
 use super::{PLAIN, PUT_A, READ_A, READ_B, ended, script};
-use crate::script::{Note, Step};
-use engine_memory::TableKind;
+use crate::script::{Step, StepAnswer};
 use std::alloc::Global;
 use std::process::Abort;
 use std::rt::HostRuntime;
@@ -25,13 +24,13 @@ struct Round {
 
 // At the end of each run the number of its write, where the clients' writes are counted from 1, client by client. All
 // that aren't reads are writes. Each has its run, which no other has.
-fn owners(rt: &impl Abort, notes: &[Vec<Note>], round: Round) -> [usize; 201] {
+fn owners(rt: &impl Abort, notes: &[Vec<StepAnswer>], round: Round) -> [usize; 201] {
     let mut owner = [0usize; 201];
     let mut write = 0usize;
     for told in notes {
         assert_eq!(rt; told.len(), round.calls);
         for note in told {
-            if let Note::Wrote {
+            if let StepAnswer::Wrote {
                 first,
                 count,
                 group_last,
@@ -68,7 +67,7 @@ fn two_write<R: Threads + Wait + Abort + Sync>(rt: &R, alloc: Global, pipelined:
     };
     let own = script(rt, alloc, &[PUT_A], 100);
     let others = script(rt, alloc, &[PUT_A], 100);
-    let ended = ended(rt, alloc, &[], 0, TableKind::One, pipelined, &[own, others]);
+    let ended = ended(rt, alloc, &[], 0, 1, pipelined, &[own, others]);
     assert_eq!(rt; (ended.last, ended.fault), (round.last, None));
     owners(rt, &ended.notes, round);
 }
@@ -138,10 +137,10 @@ fn writes_and_reads(
 }
 
 // A read at the end of a batch sees that batch's name at each of both keys. No read is within a batch.
-fn check_read(rt: &impl Abort, owner: &[usize; 201], note: Note) {
+fn check_read(rt: &impl Abort, owner: &[usize; 201], note: StepAnswer) {
     match note {
-        Note::Wrote { .. } => {}
-        Note::Saw { at, byte } => {
+        StepAnswer::Wrote { .. } => {}
+        StepAnswer::Saw { at, byte } => {
             let write = owner.get(at as usize).expect(rt, "one of 200");
             assert!(rt;
                 at % 2 == 0 && byte as usize == write.wrapping_add(BEFORE_NAMES),
@@ -152,14 +151,14 @@ fn check_read(rt: &impl Abort, owner: &[usize; 201], note: Note) {
     }
 }
 
-// Four clients write both keys and read them, over a table of any kind, in one stage or two.
+// Four clients write both keys and read them, over a table of any number of shards, in one stage or two.
 fn write_and_read_both<R: Threads + Wait + Abort + Sync>(
     rt: &R,
     alloc: Global,
-    kind: TableKind,
+    shards: u32,
     pipelined: bool,
 )
-    requires { HasShards kind }
+    requires { 0 < shards }
 {
     let mut scripts = Vec::with_capacity(alloc, 4).expect(rt, "memory");
     for names in &NAMED {
@@ -167,7 +166,7 @@ fn write_and_read_both<R: Threads + Wait + Abort + Sync>(
             .push(writes_and_reads(rt, alloc, names))
             .expect(rt, "memory");
     }
-    let ended = ended(rt, alloc, &[], 0, kind, pipelined, &scripts);
+    let ended = ended(rt, alloc, &[], 0, shards, pipelined, &scripts);
     assert_eq!(rt; (ended.last, ended.fault), (FOUR.last, None));
     let owner = owners(rt, &ended.notes, FOUR);
     for told in &ended.notes {
@@ -182,7 +181,7 @@ fn write_and_read_both<R: Threads + Wait + Abort + Sync>(
 fn no_read_sees_one_key_without_the_other(rt: HostRuntime) {
     let alloc = rt.alloc();
     for pipelined in [false, true] {
-        write_and_read_both(&rt, alloc, TableKind::One, pipelined);
-        write_and_read_both(&rt, alloc, TableKind::Shards(3), pipelined);
+        write_and_read_both(&rt, alloc, 1, pipelined);
+        write_and_read_both(&rt, alloc, 3, pipelined);
     }
 }

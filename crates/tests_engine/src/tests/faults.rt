@@ -1,9 +1,8 @@
 // Clients that write at once, while a call of the disk fails.
 
 use super::{PLAIN, ended, script};
-use crate::script::{Note, Step};
+use crate::script::{Step, StepAnswer};
 use base_devices::MemDisk;
-use engine_memory::TableKind;
 use log_recovery::recover;
 use model_base::{Refusal, WriteOptions};
 use std::alloc::Global;
@@ -28,12 +27,12 @@ const STEPS: [Step; 2] = [
 ];
 
 // Each commit was answered with its run or the log's fault, and a synced one that has a run is recovered.
-fn check_told(rt: &impl Abort, told: &[Note], fault: Option<u64>, recovered: u64) {
+fn check_told(rt: &impl Abort, told: &[StepAnswer], fault: Option<u64>, recovered: u64) {
     assert_eq!(rt; told.len(), 2);
     for (i, note) in told.iter().enumerate() {
         let is_lawful = match *note {
-            Note::Wrote { first, count, .. } => count == 2 && (i == 1 || first < recovered),
-            Note::Refused(Refusal::LogFault { count }) => fault == Some(count),
+            StepAnswer::Wrote { first, count, .. } => count == 2 && (i == 1 || first < recovered),
+            StepAnswer::Refused(Refusal::LogFault { count }) => fault == Some(count),
             _ => false,
         };
         assert!(rt; is_lawful, "{i}");
@@ -62,7 +61,7 @@ fn check_fault<R: Threads + Wait + Abort + Sync>(
             .push(script(rt, alloc, &STEPS, 1))
             .expect(rt, "memory");
     }
-    let ended = ended(rt, alloc, &[fails], 0, TableKind::One, pipelined, &scripts);
+    let ended = ended(rt, alloc, &[fails], 0, 1, pipelined, &scripts);
     let mut disk = safe_part(rt, alloc, ended.disk);
     let Ok(found) = recover(alloc, &mut disk) else {
         panic!(rt; "not recovered")

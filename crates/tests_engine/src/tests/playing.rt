@@ -2,36 +2,35 @@
 
 ghost use Rattle.std.specs.Prelude.{◌≡◌, ◌+◌, ◌<◌, ◌≤◌, length};
 ghost use Rattle.model_base.specs.History.{max_sequence};
-ghost use Rattle.engine_memory.specs.Tables.{HasShards};
 ghost use Rattle.line_writers.specs.Seats.{clients_of};
 ghost use Rattle.tests_engine.specs.Callers.{number_of, MayCall, IsCaller, AllMayCall, AreAll};
 
-use crate::script::{Note, Step};
+use crate::script::{Step, StepAnswer};
 use base_bytes::{Found, Read};
 use base_devices::{MemDisk, SteppedClock};
 use engine_calls::{Clients, Closed, OpenGate, Receipt};
-use engine_groups::{Client, GroupEngine, Room};
-use engine_memory::{MemoryTable, TableKind, open_engine};
+use engine_groups::{ClosingRoom, EngineClient, GroupEngine};
+use engine_memory::open_engine;
 use log_batch::Batch;
 use log_writer::LogWriter;
-use model_base::WriteOptions;
-use run_calls::Options;
+use model_base::{MAX_CLIENTS, MAX_SIZE, Options, WriteOptions};
 use std::alloc::Global;
 use std::process::Abort;
 use std::sync::{Mutex, Wait};
 use std::thread;
 use std::thread::Threads;
+use table_memory::MemoryTable;
 
 pub(super) type Path = GroupEngine<MemDisk, MemoryTable, SteppedClock, OpenGate>;
 
-pub(super) type Member = Client<MemDisk, MemoryTable, SteppedClock>;
+pub(super) type Member = EngineClient<MemDisk, MemoryTable, SteppedClock>;
 
-pub(super) type Members = Clients<Member, Room<MemDisk, MemoryTable, SteppedClock>>;
+pub(super) type Members = Clients<Member, ClosingRoom<MemDisk, MemoryTable, SteppedClock>>;
 
-pub(super) type Notes = Mutex<Vec<Note>>;
+pub(super) type Notes = Mutex<Vec<StepAnswer>>;
 
-// Opens an engine with a table of this kind, in one stage or two, over an empty disk with so much room, of whose calls
-// those of a list fail. The first looks at the disk's length. The clock stands at 1000.
+// Opens an engine with a table of so many shards, in one stage or two, over an empty disk with so much room, of whose
+// calls those of a list fail. The first looks at the disk's length. The clock stands at 1000.
 pub(super) fn opened(
     rt: &impl Abort,
     alloc: Global,
@@ -39,12 +38,12 @@ pub(super) fn opened(
     fails: &[u64],
     clients: u32,
     options: Options,
-    kind: TableKind,
+    shards: u32,
     pipelined: bool,
 ) -> (Path, Members)
-    requires options { (options.last ≤ max_sequence) × (options.batch_bytes ≤ 16777216) }
-    requires clients { (0 < clients) × (clients ≤ 16) }
-    requires kind { HasShards kind }
+    requires options { (options.last ≤ max_sequence) × (options.batch_bytes ≤ MAX_SIZE) }
+    requires clients { (0 < clients) × (clients ≤ MAX_CLIENTS) }
+    requires shards { 0 < shards }
     ensures all { AreAll result.0 result.1 }
     ensures clients { clients_of result.0.list ≡ clients }
 {
@@ -59,7 +58,7 @@ pub(super) fn opened(
         clients,
         OpenGate,
         options,
-        kind,
+        shards,
         pipelined,
     ) {
         Ok(opened) => opened,
@@ -77,8 +76,8 @@ fn batch_of(rt: &impl Abort, alloc: Global, rows: &[(&[u8], &[u8])]) -> Batch {
 }
 
 // The note of a batch that was written.
-fn wrote(receipt: &Receipt) -> Note {
-    Note::Wrote {
+fn wrote(receipt: &Receipt) -> StepAnswer {
+    StepAnswer::Wrote {
         first: receipt.first,
         count: receipt.count,
         group_last: receipt.group_last,
@@ -87,13 +86,13 @@ fn wrote(receipt: &Receipt) -> Note {
 }
 
 // The note of a read.
-fn saw(read: &Read) -> Note {
+fn saw(read: &Read) -> StepAnswer {
     let at = read.at;
     match &read.value {
-        Found::Absent => Note::SawNone { at },
+        Found::Absent => StepAnswer::SawNone { at },
         Found::Value(value) => match value.as_slice() {
-            [byte] => Note::Saw { at, byte: *byte },
-            _ => Note::SawAnother { at },
+            [byte] => StepAnswer::Saw { at, byte: *byte },
+            _ => StepAnswer::SawAnother { at },
         },
     }
 }
@@ -106,7 +105,7 @@ fn write<R: Wait>(
     batch: Batch,
     options: WriteOptions,
     back: &mut Option<Batch>,
-) -> Note
+) -> StepAnswer
     requires { MayCall engine.now client.old }
     ensures { MayCall engine.now client.new × (number_of client.new ≡ number_of client.old) }
 {
@@ -114,58 +113,58 @@ fn write<R: Wait>(
         Ok(receipt) => wrote(&receipt),
         Err(refused) => {
             *back = Some(refused.batch);
-            Note::Refused(refused.why)
+            StepAnswer::Refused(refused.why)
         }
     }
 }
 
-fn read<R: Wait>(rt: &R, engine: &Path, client: &mut Member, key: &[u8]) -> Note
+fn read<R: Wait>(rt: &R, engine: &Path, client: &mut Member, key: &[u8]) -> StepAnswer
     requires { MayCall engine.now client.old }
     ensures { MayCall engine.now client.new × (number_of client.new ≡ number_of client.old) }
 {
     match engine.get(rt, client, key) {
         Ok(read) => saw(&read),
-        Err(_) => Note::NoMemory,
+        Err(_) => StepAnswer::NoMemory,
     }
 }
 
-fn stop<R: Wait>(rt: &R, engine: &Path, client: &mut Member) -> Note
+fn stop<R: Wait>(rt: &R, engine: &Path, client: &mut Member) -> StepAnswer
     requires { MayCall engine.now client.old }
     ensures { MayCall engine.now client.new × (number_of client.new ≡ number_of client.old) }
 {
     match engine.stop(rt, client) {
-        Ok(()) => Note::Done,
-        Err(_) => Note::Held,
+        Ok(()) => StepAnswer::Done,
+        Err(_) => StepAnswer::Held,
     }
 }
 
-fn unstop<R: Wait>(rt: &R, engine: &Path, client: &mut Member) -> Note
+fn unstop<R: Wait>(rt: &R, engine: &Path, client: &mut Member) -> StepAnswer
     requires { MayCall engine.now client.old }
     ensures { MayCall engine.now client.new × (number_of client.new ≡ number_of client.old) }
 {
     match engine.unstop(rt, client) {
-        Ok(()) => Note::Done,
-        Err(_) => Note::NotHeld,
+        Ok(()) => StepAnswer::Done,
+        Err(_) => StepAnswer::NotHeld,
     }
 }
 
-fn slow<R: Wait>(rt: &R, engine: &Path, client: &mut Member, rate: u64) -> Note
+fn slow<R: Wait>(rt: &R, engine: &Path, client: &mut Member, rate: u64) -> StepAnswer
     requires { MayCall engine.now client.old }
     ensures { MayCall engine.now client.new × (number_of client.new ≡ number_of client.old) }
 {
     match engine.slow(rt, client, rate) {
-        Ok(()) => Note::Done,
-        Err(_) => Note::Held,
+        Ok(()) => StepAnswer::Done,
+        Err(_) => StepAnswer::Held,
     }
 }
 
-fn unslow<R: Wait>(rt: &R, engine: &Path, client: &mut Member) -> Note
+fn unslow<R: Wait>(rt: &R, engine: &Path, client: &mut Member) -> StepAnswer
     requires { MayCall engine.now client.old }
     ensures { MayCall engine.now client.new × (number_of client.new ≡ number_of client.old) }
 {
     match engine.unslow(rt, client) {
-        Ok(()) => Note::Done,
-        Err(_) => Note::NotHeld,
+        Ok(()) => StepAnswer::Done,
+        Err(_) => StepAnswer::NotHeld,
     }
 }
 
@@ -176,7 +175,7 @@ fn step<R: Wait + Abort>(
     client: &mut Member,
     step: Step,
     back: &mut Option<Batch>,
-) -> Note
+) -> StepAnswer
     requires { MayCall engine.now client.old }
     ensures { MayCall engine.now client.new × (number_of client.new ≡ number_of client.old) }
 {

@@ -1,8 +1,7 @@
 // A client that stops writes, beside one that writes.
 
 use super::{HASTY_PUT, PUT_B, ended, script};
-use crate::script::{Note, Step};
-use engine_memory::TableKind;
+use crate::script::{Step, StepAnswer};
 use model_base::Refusal;
 use std::alloc::Global;
 use std::process::Abort;
@@ -12,11 +11,11 @@ use std::thread::Threads;
 
 // Each second write may wait and has its run, and of the others those that meet a stop are refused. The runs have no
 // gap: this is the last sequence.
-fn last_written(rt: &impl Abort, told: &[Note]) -> u64 {
+fn last_written(rt: &impl Abort, told: &[StepAnswer]) -> u64 {
     let mut last = 0u64;
     for (i, note) in told.iter().enumerate() {
         let is_lawful = match *note {
-            Note::Wrote {
+            StepAnswer::Wrote {
                 first,
                 count,
                 group_last,
@@ -25,7 +24,7 @@ fn last_written(rt: &impl Abort, told: &[Note]) -> u64 {
                 last = last.wrapping_add(1);
                 (first, count, group_last, sequence) == (last, 1, last, last)
             }
-            Note::Refused(
+            StepAnswer::Refused(
                 Refusal::Incomplete {
                     stops,
                     delays,
@@ -43,17 +42,9 @@ fn last_written(rt: &impl Abort, told: &[Note]) -> u64 {
 fn stop_and_write<R: Threads + Wait + Abort + Sync>(rt: &R, alloc: Global, pipelined: bool) {
     let stops = script(rt, alloc, &[Step::Stop, Step::Unstop], 20);
     let writes = script(rt, alloc, &[HASTY_PUT, PUT_B], 20);
-    let ended = ended(
-        rt,
-        alloc,
-        &[],
-        0,
-        TableKind::One,
-        pipelined,
-        &[stops, writes],
-    );
+    let ended = ended(rt, alloc, &[], 0, 1, pipelined, &[stops, writes]);
     let stopping = ended.notes.first().expect(rt, "notes");
-    assert_eq!(rt; stopping.as_slice(), [Note::Done; 40].as_slice());
+    assert_eq!(rt; stopping.as_slice(), [StepAnswer::Done; 40].as_slice());
     let told = ended.notes.get(1).expect(rt, "notes");
     let last = last_written(rt, told);
     assert_eq!(rt; (told.len(), ended.last, ended.fault), (40, last, None));

@@ -6,38 +6,39 @@ ghost use Rattle.line_writers.specs.Rooms.{AreReady, AllReady};
 ghost use Rattle.line_writers.specs.Seats.{clients_of, AllNew, Belongs, IsOut};
 ghost use Rattle.tests_line.specs.Players.{IsPlain, IsSat, IsAsking, Leads, HasRequests, MayWrite, HasAsked, AllMayWrite, AllHaveAsked, AreSat};
 
-use crate::counter::{Answer, Ask, Counter, Nothing, Player};
+use crate::counter::{CountLog, CountReply, CountRequest, Nothing, Player};
 use line_rule::Start;
 use line_writers::{Lists, Replies, Requests, Role, Writer, WriterList, replies_in_order};
-use model_base::Item;
+use model_base::{Item, MAX_SIZE, WriteOptions};
 use std::alloc::Global;
 use std::process::Abort;
 use std::sync::{Barrier, Wait};
 use std::thread;
 use std::thread::Threads;
 
-/// The greatest size that a request may have.
-const LARGEST: u64 = 16777216;
-
 /// The bound that the grouping rule's worked examples take.
 pub(super) const MAX: u64 = 1048576;
 
-pub(super) const PLAIN: Item = Item {
-    size: 100,
+pub(super) const UNFLAGGED: WriteOptions = WriteOptions {
     sync: false,
     no_log: false,
     no_slowdown: false,
 };
 
-pub(super) type Counted = WriterList<Ask, Answer, Counter, Nothing>;
+pub(super) const PLAIN: Item = Item {
+    size: 100,
+    options: UNFLAGGED,
+};
 
-type Seat = Writer<Ask, Answer, Counter, Nothing>;
+pub(super) type Counted = WriterList<CountRequest, CountReply, CountLog, Nothing>;
+
+type Seat = Writer<CountRequest, CountReply, CountLog, Nothing>;
 
 // Answers each request with the counter's next number and its own size.
 pub(super) fn answer_all(
-    counter: &mut Counter,
-    requests: &mut Requests<Ask>,
-    replies: &mut Replies<Answer>,
+    counter: &mut CountLog,
+    requests: &mut Requests<CountRequest>,
+    replies: &mut Replies<CountReply>,
 )
     requires room { (replies.old.list.items ≡ []) × (vec_len replies.old.list ≡ 0)
         × (vec_len requests.old.list ≤ vec_capacity replies.old.list) }
@@ -52,7 +53,7 @@ pub(super) fn answer_all(
         let size = requests.list[i].1.item.size;
         replies.list.push_reserved((
             client,
-            Answer {
+            CountReply {
                 number: counter.count,
                 size,
             },
@@ -64,7 +65,11 @@ pub(super) fn answer_all(
 }
 
 // Takes the requests of the group.
-pub(super) fn grouped(list: &Counted, writer: &mut Seat, lists: &mut Lists<Ask, Answer>)
+pub(super) fn grouped(
+    list: &Counted,
+    writer: &mut Seat,
+    lists: &mut Lists<CountRequest, CountReply>,
+)
     requires leads { Leads list.now writer.old }
     requires ready { AreReady (clients_of list.now) lists.old }
     ensures client { writer.new.client ≡ writer.old.client }
@@ -77,9 +82,9 @@ pub(super) fn grouped(list: &Counted, writer: &mut Seat, lists: &mut Lists<Ask, 
 pub(super) fn left(
     list: &Counted,
     writer: &mut Seat,
-    lists: &mut Lists<Ask, Answer>,
-    mut counter: Counter,
-) -> (Answer, usize)
+    lists: &mut Lists<CountRequest, CountReply>,
+    mut counter: CountLog,
+) -> (CountReply, usize)
     requires group { HasRequests list.now writer.old lists.old }
     requires plain { IsPlain list.now }
     ensures out { IsSat list.now writer.old.client writer.new }
@@ -87,7 +92,7 @@ pub(super) fn left(
 {
     answer_all(&mut counter, &mut lists.requests, &mut lists.replies);
     let size = lists.replies.list.len();
-    replies_in_order::<Ask, Answer>();
+    replies_in_order::<CountRequest, CountReply>();
     let answer = list.exit(writer, counter, &mut lists.replies, &mut lists.room);
     (answer, size)
 }
@@ -95,9 +100,9 @@ pub(super) fn left(
 pub(super) fn lead(
     list: &Counted,
     writer: &mut Seat,
-    lists: &mut Lists<Ask, Answer>,
-    counter: Counter,
-) -> (Answer, usize)
+    lists: &mut Lists<CountRequest, CountReply>,
+    counter: CountLog,
+) -> (CountReply, usize)
     requires leads { Leads list.now writer.old }
     requires ready { AreReady (clients_of list.now) lists.old }
     requires plain { IsPlain list.now }
@@ -110,11 +115,11 @@ pub(super) fn lead(
 
 // Links the writer with a request.
 pub(super) fn ask<R: Wait>(rt: &R, list: &Counted, writer: &mut Seat, item: Item)
-    requires out { Belongs list.now writer.old × IsOut writer.old × (item.size ≤ 16777216) }
+    requires out { Belongs list.now writer.old × IsOut writer.old × (item.size ≤ MAX_SIZE) }
     ensures linked { Belongs list.now writer.new × IsAsking list.now writer.new
         × (writer.new.client ≡ writer.old.client) }
 {
-    list.link(rt, writer, item, Ask { item });
+    list.link(rt, writer, item, CountRequest { item });
 }
 
 // The answer, and the size of the group where the writer led.
@@ -122,8 +127,8 @@ pub(super) fn served<R: Wait>(
     rt: &R,
     list: &Counted,
     writer: &mut Seat,
-    lists: &mut Lists<Ask, Answer>,
-) -> (Answer, usize)
+    lists: &mut Lists<CountRequest, CountReply>,
+) -> (CountReply, usize)
     requires linked { Belongs list.now writer.old × IsAsking list.now writer.old }
     requires ready { AreReady (clients_of list.now) lists.old }
     requires plain { IsPlain list.now }
@@ -147,7 +152,7 @@ pub(super) fn finish<R: Wait>(rt: &R, list: &Counted, player: &mut Player)
     note(&mut player.told, answer);
 }
 
-pub(super) fn note(told: &mut Vec<Answer>, answer: Answer) {
+pub(super) fn note(told: &mut Vec<CountReply>, answer: CountReply) {
     if told.len() < told.capacity() {
         told.push_reserved(answer);
     }
@@ -166,7 +171,7 @@ pub(super) fn ask_all<R: Wait + Abort>(
 {
     for i in 0..players.len() {
         let item = items[i];
-        assert!(rt; item.size <= LARGEST);
+        assert!(rt; item.size <= MAX_SIZE);
         ask(rt, list, &mut players[i].writer, item);
     }
 }
@@ -199,7 +204,7 @@ pub(super) fn write_often<R: Wait>(
     linked: &Option<Barrier>,
 )
     requires out { MayWrite list.now player.old.writer.client player.old }
-    requires item { item.size ≤ 16777216 }
+    requires item { item.size ≤ MAX_SIZE }
     requires plain { IsPlain list.now }
     ensures { MayWrite list.now player.old.writer.client player.new }
 {
@@ -260,7 +265,7 @@ pub(super) fn opened(
     let Ok((list, writers, lists)) = WriterList::open(
         alloc,
         &start,
-        Counter { count: 0, sum: 0 },
+        CountLog { count: 0, sum: 0 },
         Nothing { mark: 7 },
     ) else {
         panic!(rt; "no memory")
@@ -274,7 +279,7 @@ pub(super) fn seated(
     alloc: Global,
     list: &Counted,
     mut writers: Vec<Seat>,
-    mut lists: Vec<Lists<Ask, Answer>>,
+    mut lists: Vec<Lists<CountRequest, CountReply>>,
     room: usize,
 ) -> Vec<Player>
     requires new { AllNew list.now writers.items × AllReady (clients_of list.now) lists.items }
@@ -307,7 +312,7 @@ pub(super) fn closed(
     alloc: Global,
     list: Counted,
     mut players: Vec<Player>,
-) -> (Counter, Nothing)
+) -> (CountLog, Nothing)
     requires { AllMayWrite list players.items × (vec_len players ≡ clients_of list) }
 {
     let mut writers = Vec::with_capacity(alloc, players.len()).expect(rt, "memory");

@@ -6,25 +6,30 @@ ghost use Rattle.line_writers.specs.Seats.{clients_of, AllNew, Belongs, IsOut};
 ghost use Rattle.tests_line_stages.specs.Clients.{IsPipelined, IsAsking, AllMayWrite, AllStand, AreIdle};
 
 use super::leading::MAX;
-use crate::client::{Client, Stage};
-use crate::counter::{Answer, Ask, Counter, Right};
+use crate::client::{PlayerStage, StagePlayer};
+use crate::counter::CountingRight;
 use line_rule::Start;
 use line_writers::{Lists, Writer, WriterList};
-use model_base::Item;
+use model_base::{Item, MAX_SIZE, WriteOptions};
 use std::alloc::Global;
 use std::process::Abort;
 use std::sync::Wait;
+use tests_line::{CountLog, CountReply, CountRequest};
 
-const PLAIN: Item = Item {
-    size: 100,
+const UNFLAGGED: WriteOptions = WriteOptions {
     sync: false,
     no_log: false,
     no_slowdown: false,
 };
 
-pub(super) type Counted = WriterList<Ask, Answer, Counter, Right>;
+const PLAIN: Item = Item {
+    size: 100,
+    options: UNFLAGGED,
+};
 
-pub(super) type Seat = Writer<Ask, Answer, Counter, Right>;
+pub(super) type Counted = WriterList<CountRequest, CountReply, CountLog, CountingRight>;
+
+pub(super) type Seat = Writer<CountRequest, CountReply, CountLog, CountingRight>;
 
 // A list over a counter at 0, and its clients in their order, each with room for so many answers.
 pub(super) fn opened(
@@ -32,7 +37,7 @@ pub(super) fn opened(
     alloc: Global,
     count: u32,
     room: usize,
-) -> (Counted, Vec<Client>)
+) -> (Counted, Vec<StagePlayer>)
     requires { (0 < count) × (count < 255) }
     ensures list { IsPipelined result.0 × (clients_of result.0 ≡ count) }
     ensures out { AllMayWrite result.0 result.1.items × AllStand result.0 result.1.items
@@ -45,8 +50,8 @@ pub(super) fn opened(
         group_bytes: MAX,
         about: 0,
     };
-    let counter = Counter { count: 0, sum: 0 };
-    let right = Right {
+    let counter = CountLog { count: 0, sum: 0 };
+    let right = CountingRight {
         next: 0,
         groups: 0,
         wrong: 0,
@@ -70,9 +75,9 @@ fn seated(
     alloc: Global,
     list: &Counted,
     mut writers: Vec<Seat>,
-    mut lists: Vec<Lists<Ask, Answer>>,
+    mut lists: Vec<Lists<CountRequest, CountReply>>,
     room: usize,
-) -> Vec<Client>
+) -> Vec<StagePlayer>
     requires new { AllNew list.now writers.items × AllReady (clients_of list.now) lists.items }
     requires len { (vec_len writers ≡ clients_of list.now) × (vec_len lists ≡ clients_of list.now) }
     ensures { AllMayWrite list.now result.items × AllStand list.now result.items
@@ -90,12 +95,12 @@ fn seated(
         };
         let told = Vec::with_capacity(alloc, room).expect(rt, "memory");
         let members = room_for(rt, alloc, count);
-        clients.push_reserved(Client {
+        clients.push_reserved(StagePlayer {
             writer,
             lists,
             members,
             told,
-            stage: Stage::Out,
+            stage: PlayerStage::Out,
         });
     }
     clients
@@ -106,8 +111,8 @@ pub(super) fn closed(
     rt: &impl Abort,
     alloc: Global,
     list: Counted,
-    mut clients: Vec<Client>,
-) -> (Counter, Right)
+    mut clients: Vec<StagePlayer>,
+) -> (CountLog, CountingRight)
     requires { AllMayWrite list clients.items × (vec_len clients ≡ clients_of list) }
 {
     let mut writers = Vec::with_capacity(alloc, clients.len()).expect(rt, "memory");
@@ -116,7 +121,7 @@ pub(super) fn closed(
 }
 
 // The writers, of the greatest number first.
-fn unseat(list: &Counted, clients: &mut Vec<Client>, writers: &mut Vec<Seat>)
+fn unseat(list: &Counted, clients: &mut Vec<StagePlayer>, writers: &mut Vec<Seat>)
     requires out { AllMayWrite list.now clients.old.items }
     requires room { (writers.old.items ≡ []) × (vec_len writers.old ≡ 0)
         × (vec_len clients.old ≤ vec_capacity writers.old) }
@@ -134,11 +139,11 @@ fn unseat(list: &Counted, clients: &mut Vec<Client>, writers: &mut Vec<Seat>)
 
 // Links the writer with a request.
 pub(super) fn ask<R: Wait>(rt: &R, list: &Counted, writer: &mut Seat, item: Item)
-    requires out { Belongs list.now writer.old × IsOut writer.old × (item.size ≤ 16777216) }
+    requires out { Belongs list.now writer.old × IsOut writer.old × (item.size ≤ MAX_SIZE) }
     ensures linked { Belongs list.now writer.new × IsAsking list.now writer.new
         × (writer.new.client ≡ writer.old.client) }
 {
-    list.link(rt, writer, item, Ask { item });
+    list.link(rt, writer, item, CountRequest { item });
 }
 
 pub(super) fn sized(size: u64) -> Item

@@ -1,7 +1,7 @@
 // How a leader makes its group, answers it, and serves it, each step allowed where it is made.
 
 ghost use Rattle.std.specs.Prelude.{◌≡◌, ℕ, ◌≤◌, List, [], vec_len, vec_capacity};
-ghost use Rattle.line_rule.specs.declared.view.Entry.{Entry};
+ghost use Rattle.line_rule.specs.declared.view.QueuedWriter.{QueuedWriter};
 ghost use Rattle.line_rule.specs.Chain.{heads, Within};
 ghost use Rattle.line_writers.specs.Roles.{firsts, pays, AreMembers};
 ghost use Rattle.line_writers.specs.Rooms.{AreReady};
@@ -9,16 +9,21 @@ ghost use Rattle.line_writers.specs.Seats.{clients_of};
 ghost use Rattle.tests_line_stages.specs.Clients.{IsPipelined, IsIdle, IsLeader, HasRequests, IsSentOn, MayServe, MayWrite};
 
 use super::clients::{Counted, Seat};
-use crate::client::Client;
-use crate::counter::{Answer, Ask, Counter, Right};
+use crate::client::StagePlayer;
+use crate::counter::CountingRight;
 use line_writers::{Lists, PipelinedRole, Replies, Requests, members_in_order, replies_in_order};
 use std::sync::Wait;
+use tests_line::{CountLog, CountReply, CountRequest};
 
 /// The bound that the grouping rule's worked examples take.
 pub(super) const MAX: u64 = 1048576;
 
 // Answers each request with the counter's next number and its own size.
-fn answer_all(counter: &mut Counter, requests: &mut Requests<Ask>, replies: &mut Replies<Answer>)
+fn answer_all(
+    counter: &mut CountLog,
+    requests: &mut Requests<CountRequest>,
+    replies: &mut Replies<CountReply>,
+)
     requires room { (replies.old.list.items ≡ []) × (vec_len replies.old.list ≡ 0)
         × (vec_len requests.old.list ≤ vec_capacity replies.old.list) }
     ensures replies { firsts replies.new.list.items ≡ firsts requests.old.list.items }
@@ -33,7 +38,7 @@ fn answer_all(counter: &mut Counter, requests: &mut Requests<Ask>, replies: &mut
         let size = requests.list[i].1.item.size;
         replies.list.push_reserved((
             client,
-            Answer {
+            CountReply {
                 number: counter.count,
                 size,
             },
@@ -45,7 +50,11 @@ fn answer_all(counter: &mut Counter, requests: &mut Requests<Ask>, replies: &mut
 }
 
 // Takes the requests of the group.
-pub(super) fn grouped(list: &Counted, writer: &mut Seat, lists: &mut Lists<Ask, Answer>)
+pub(super) fn grouped(
+    list: &Counted,
+    writer: &mut Seat,
+    lists: &mut Lists<CountRequest, CountReply>,
+)
     requires leads { IsLeader list.now writer.old }
     requires ready { AreReady (clients_of list.now) lists.old }
     ensures client { writer.new.client ≡ writer.old.client }
@@ -55,13 +64,14 @@ pub(super) fn grouped(list: &Counted, writer: &mut Seat, lists: &mut Lists<Ask, 
 }
 
 // Notes the members of a group beside its leader.
-fn note_members(replies: &Replies<Answer>, members: &mut Vec<u32>)
+fn note_members(replies: &Replies<CountReply>, members: &mut Vec<u32>)
     requires room { vec_len replies.now.list ≤ vec_capacity members.old }
     ensures room { vec_capacity members.new ≡ vec_capacity members.old }
-    ensures members { (n : ℕ) (own : Entry Ask) (p : Answer) (gs : List (Entry Ask × Answer))
+    ensures members { (n : ℕ) (own : QueuedWriter CountRequest) (p : CountReply)
+        (gs : List (QueuedWriter CountRequest × CountReply))
         → replies.now.list.items ≡ pays own p gs → Within n (heads gs) → AreMembers n members.new.items gs }
 {
-    members_in_order::<Ask, Answer>();
+    members_in_order::<CountRequest, CountReply>();
     members.clear();
     // The members before `i` are noted, but for the leader.
     for i in 1..replies.list.len() {
@@ -73,8 +83,8 @@ fn note_members(replies: &Replies<Answer>, members: &mut Vec<u32>)
 pub(super) fn sent<R: Wait>(
     rt: &R,
     list: &Counted,
-    client: &mut Client,
-    mut counter: Counter,
+    client: &mut StagePlayer,
+    mut counter: CountLog,
 ) -> (u64, u64)
     requires group { HasRequests list.now client.old.writer client.old.lists }
     requires pipelined { IsPipelined list.now × (clients_of list.now ≤ vec_capacity client.old.members) }
@@ -89,7 +99,7 @@ pub(super) fn sent<R: Wait>(
     );
     let next = counter.count;
     note_members(&client.lists.replies, &mut client.members);
-    replies_in_order::<Ask, Answer>();
+    replies_in_order::<CountRequest, CountReply>();
     list.exit_pipelined(
         rt,
         &mut client.writer,
@@ -104,25 +114,25 @@ pub(super) fn sent<R: Wait>(
 pub(super) fn refused(
     list: &Counted,
     writer: &mut Seat,
-    lists: &mut Lists<Ask, Answer>,
-    counter: Counter,
-) -> Answer
+    lists: &mut Lists<CountRequest, CountReply>,
+    counter: CountLog,
+) -> CountReply
     requires group { HasRequests list.now writer.old lists.old }
     requires pipelined { IsPipelined list.now }
     ensures out { IsIdle list.now writer.old.client writer.new }
     ensures ready { AreReady (clients_of list.now) lists.new }
 {
-    let mut uncounted = Counter {
+    let mut uncounted = CountLog {
         count: counter.count,
         sum: counter.sum,
     };
     answer_all(&mut uncounted, &mut lists.requests, &mut lists.replies);
-    replies_in_order::<Ask, Answer>();
+    replies_in_order::<CountRequest, CountReply>();
     list.exit(writer, counter, &mut lists.replies, &mut lists.room)
 }
 
 // Waits until the group, which is sent on, is the first of the second list.
-pub(super) fn right_for<R: Wait>(rt: &R, list: &Counted, client: &mut Client) -> Right
+pub(super) fn right_for<R: Wait>(rt: &R, list: &Counted, client: &mut StagePlayer) -> CountingRight
     requires sent { IsSentOn list.now client.old }
     requires pipelined { IsPipelined list.now }
     ensures client { client.new.writer.client ≡ client.old.writer.client }
@@ -137,7 +147,7 @@ pub(super) fn right_for<R: Wait>(rt: &R, list: &Counted, client: &mut Client) ->
 }
 
 // Tells all other members of the group to work beside their leader.
-pub(super) fn launched(list: &Counted, client: &mut Client)
+pub(super) fn launched(list: &Counted, client: &mut StagePlayer)
     requires serves { MayServe list.now client.old }
     ensures client { client.new.writer.client ≡ client.old.writer.client }
     ensures serves { MayServe list.now client.new }
@@ -146,7 +156,7 @@ pub(super) fn launched(list: &Counted, client: &mut Client)
 }
 
 // Leaves the second list: the client's own answer.
-pub(super) fn served(list: &Counted, client: &mut Client, right: Right) -> Answer
+pub(super) fn served(list: &Counted, client: &mut StagePlayer, right: CountingRight) -> CountReply
     requires serves { MayServe list.now client.old }
     requires pipelined { IsPipelined list.now }
     ensures { MayWrite list.now client.old.writer.client client.new }
@@ -155,7 +165,7 @@ pub(super) fn served(list: &Counted, client: &mut Client, right: Right) -> Answe
 }
 
 // Notes a group of these numbers in the right, of whose writers so many work beside the leader.
-pub(super) fn note_group(right: &mut Right, (first, next): (u64, u64), helpers: usize) {
+pub(super) fn note_group(right: &mut CountingRight, (first, next): (u64, u64), helpers: usize) {
     if right.next != first {
         right.wrong = right.wrong.wrapping_add(1);
     }

@@ -5,7 +5,7 @@ ghost use Rattle.tests_line_stages.specs.Clients.{IsPipelined, IsSentOn, HasAske
 
 use super::clients::{Counted, ask, sized};
 use super::leading::{grouped, launched, note_group, refused, right_for, sent, served};
-use crate::client::{Client, Stage};
+use crate::client::{PlayerStage, StagePlayer};
 use line_writers::PipelinedRole;
 use std::mem;
 use std::process::Abort;
@@ -46,7 +46,7 @@ pub(super) type Turn = (usize, Call, Seen);
 pub(super) fn play<R: Wait + Abort>(
     rt: &R,
     list: &Counted,
-    clients: &mut [Client],
+    clients: &mut [StagePlayer],
     schedule: &[Turn],
 )
     requires stand { AllStand list.now clients.old }
@@ -66,7 +66,7 @@ pub(super) fn play<R: Wait + Abort>(
 fn turn<R: Wait + Abort>(
     rt: &R,
     list: &Counted,
-    clients: &mut [Client],
+    clients: &mut [StagePlayer],
     i: usize,
     call: Call,
 ) -> Seen
@@ -78,7 +78,7 @@ fn turn<R: Wait + Abort>(
     called(rt, list, &mut clients[i], call)
 }
 
-fn called<R: Wait + Abort>(rt: &R, list: &Counted, client: &mut Client, call: Call) -> Seen
+fn called<R: Wait + Abort>(rt: &R, list: &Counted, client: &mut StagePlayer, call: Call) -> Seen
     requires stands { Stands list.now client.old.writer.client client.old }
     requires pipelined { IsPipelined list.now }
     ensures { Stands list.now client.old.writer.client client.new }
@@ -94,32 +94,32 @@ fn called<R: Wait + Abort>(rt: &R, list: &Counted, client: &mut Client, call: Ca
     }
 }
 
-fn link<R: Wait + Abort>(rt: &R, list: &Counted, client: &mut Client) -> Seen
+fn link<R: Wait + Abort>(rt: &R, list: &Counted, client: &mut StagePlayer) -> Seen
     requires stands { Stands list.now client.old.writer.client client.old }
     ensures { Stands list.now client.old.writer.client client.new }
 {
-    let Stage::Out = mem::replace(&mut client.stage, Stage::Out) else {
+    let PlayerStage::Out = mem::replace(&mut client.stage, PlayerStage::Out) else {
         panic!(rt; "it is in a list")
     };
     ask(rt, list, &mut client.writer, sized(1));
-    client.stage = Stage::Linked;
+    client.stage = PlayerStage::Linked;
     Seen::Nothing
 }
 
-fn await_role<R: Wait + Abort>(rt: &R, list: &Counted, client: &mut Client) -> Seen
+fn await_role<R: Wait + Abort>(rt: &R, list: &Counted, client: &mut StagePlayer) -> Seen
     requires stands { Stands list.now client.old.writer.client client.old }
     requires pipelined { IsPipelined list.now }
     ensures { Stands list.now client.old.writer.client client.new }
 {
-    match mem::replace(&mut client.stage, Stage::Out) {
-        Stage::Linked => await_first(rt, list, client),
-        Stage::Waits(first, next) => await_right(rt, list, client, (first, next)),
+    match mem::replace(&mut client.stage, PlayerStage::Out) {
+        PlayerStage::Linked => await_first(rt, list, client),
+        PlayerStage::Waits(first, next) => await_right(rt, list, client, (first, next)),
         _ => panic!(rt; "it has a role"),
     }
 }
 
 // Waits in the first list.
-fn await_first<R: Wait>(rt: &R, list: &Counted, client: &mut Client) -> Seen
+fn await_first<R: Wait>(rt: &R, list: &Counted, client: &mut StagePlayer) -> Seen
     requires asked { HasAsked list.now client.old.writer.client client.old }
     requires pipelined { IsPipelined list.now }
     ensures { Stands list.now client.old.writer.client client.new }
@@ -128,15 +128,15 @@ fn await_first<R: Wait>(rt: &R, list: &Counted, client: &mut Client) -> Seen
         PipelinedRole::LogLeader(counter) => {
             let count = counter.count;
             let has_groups = list.has_groups(&mut client.writer);
-            client.stage = Stage::Leads(counter);
+            client.stage = PlayerStage::Leads(counter);
             Seen::LogLeader(count, has_groups)
         }
         PipelinedRole::Parallel => {
-            client.stage = Stage::Linked;
+            client.stage = PlayerStage::Linked;
             Seen::Parallel
         }
         PipelinedRole::Done(answer) => {
-            client.stage = Stage::Out;
+            client.stage = PlayerStage::Out;
             Seen::Done(answer.number)
         }
         PipelinedRole::MemLeader(_) => unreachable!(),
@@ -144,7 +144,12 @@ fn await_first<R: Wait>(rt: &R, list: &Counted, client: &mut Client) -> Seen
 }
 
 // Waits in the second list.
-fn await_right<R: Wait>(rt: &R, list: &Counted, client: &mut Client, numbers: (u64, u64)) -> Seen
+fn await_right<R: Wait>(
+    rt: &R,
+    list: &Counted,
+    client: &mut StagePlayer,
+    numbers: (u64, u64),
+) -> Seen
     requires sent { IsSentOn list.now client.old }
     requires pipelined { IsPipelined list.now }
     ensures { Stands list.now client.old.writer.client client.new }
@@ -152,69 +157,69 @@ fn await_right<R: Wait>(rt: &R, list: &Counted, client: &mut Client, numbers: (u
     let mut right = right_for(rt, list, client);
     let next = right.next;
     note_group(&mut right, numbers, 0);
-    client.stage = Stage::Serves(right);
+    client.stage = PlayerStage::Serves(right);
     Seen::MemLeader(next)
 }
 
-fn group(rt: &impl Abort, list: &Counted, client: &mut Client) -> Seen
+fn group(rt: &impl Abort, list: &Counted, client: &mut StagePlayer) -> Seen
     requires stands { Stands list.now client.old.writer.client client.old }
     ensures { Stands list.now client.old.writer.client client.new }
 {
-    let Stage::Leads(counter) = mem::replace(&mut client.stage, Stage::Out) else {
+    let PlayerStage::Leads(counter) = mem::replace(&mut client.stage, PlayerStage::Out) else {
         panic!(rt; "it doesn't lead")
     };
     grouped(list, &mut client.writer, &mut client.lists);
-    client.stage = Stage::Grouped(counter);
+    client.stage = PlayerStage::Grouped(counter);
     Seen::Group(client.lists.requests.list.len())
 }
 
-fn exit(rt: &impl Abort, list: &Counted, client: &mut Client) -> Seen
+fn exit(rt: &impl Abort, list: &Counted, client: &mut StagePlayer) -> Seen
     requires stands { Stands list.now client.old.writer.client client.old }
     requires pipelined { IsPipelined list.now }
     ensures { Stands list.now client.old.writer.client client.new }
 {
-    let Stage::Grouped(counter) = mem::replace(&mut client.stage, Stage::Out) else {
+    let PlayerStage::Grouped(counter) = mem::replace(&mut client.stage, PlayerStage::Out) else {
         panic!(rt; "it has no group")
     };
     let answer = refused(list, &mut client.writer, &mut client.lists, counter);
-    client.stage = Stage::Out;
+    client.stage = PlayerStage::Out;
     Seen::Done(answer.number)
 }
 
-fn exit_pipelined<R: Wait + Abort>(rt: &R, list: &Counted, client: &mut Client) -> Seen
+fn exit_pipelined<R: Wait + Abort>(rt: &R, list: &Counted, client: &mut StagePlayer) -> Seen
     requires stands { Stands list.now client.old.writer.client client.old }
     requires pipelined { IsPipelined list.now }
     ensures { Stands list.now client.old.writer.client client.new }
 {
-    let Stage::Grouped(counter) = mem::replace(&mut client.stage, Stage::Out) else {
+    let PlayerStage::Grouped(counter) = mem::replace(&mut client.stage, PlayerStage::Out) else {
         panic!(rt; "it has no group")
     };
     let (first, next) = sent(rt, list, client, counter);
-    client.stage = Stage::Waits(first, next);
+    client.stage = PlayerStage::Waits(first, next);
     Seen::Nothing
 }
 
-fn launch_roles(rt: &impl Abort, list: &Counted, client: &mut Client) -> Seen
+fn launch_roles(rt: &impl Abort, list: &Counted, client: &mut StagePlayer) -> Seen
     requires stands { Stands list.now client.old.writer.client client.old }
     ensures { Stands list.now client.old.writer.client client.new }
 {
-    let Stage::Serves(right) = mem::replace(&mut client.stage, Stage::Out) else {
+    let PlayerStage::Serves(right) = mem::replace(&mut client.stage, PlayerStage::Out) else {
         panic!(rt; "it hasn't the right")
     };
     launched(list, client);
-    client.stage = Stage::Serves(right);
+    client.stage = PlayerStage::Serves(right);
     Seen::Nothing
 }
 
-fn exit_memtable(rt: &impl Abort, list: &Counted, client: &mut Client) -> Seen
+fn exit_memtable(rt: &impl Abort, list: &Counted, client: &mut StagePlayer) -> Seen
     requires stands { Stands list.now client.old.writer.client client.old }
     requires pipelined { IsPipelined list.now }
     ensures { Stands list.now client.old.writer.client client.new }
 {
-    let Stage::Serves(right) = mem::replace(&mut client.stage, Stage::Out) else {
+    let PlayerStage::Serves(right) = mem::replace(&mut client.stage, PlayerStage::Out) else {
         panic!(rt; "it hasn't the right")
     };
     let answer = served(list, client, right);
-    client.stage = Stage::Out;
+    client.stage = PlayerStage::Out;
     Seen::Done(answer.number)
 }

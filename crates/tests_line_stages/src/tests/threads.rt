@@ -7,16 +7,16 @@ ghost use Rattle.tests_line_stages.specs.Clients.{IsPipelined, IsLeader, IsSentO
 
 use super::clients::{Counted, ask, sized};
 use super::leading::{grouped, launched, note_group, right_for, sent, served};
-use crate::client::Client;
-use crate::counter::{Answer, Counter};
+use crate::client::StagePlayer;
 use crossbeam_utils::Backoff;
 use line_writers::PipelinedRole;
-use model_base::Item;
+use model_base::{Item, MAX_SIZE};
 use std::sync::Wait;
 use std::sync::atomic::AtomicU64;
 use std::sync::atomic::Ordering::SeqCst;
 use std::thread;
 use std::thread::Threads;
+use tests_line::{CountLog, CountReply};
 
 // Waits until all members have worked.
 fn await_members<R: Wait>(rt: &R, pending: &AtomicU64) {
@@ -35,10 +35,10 @@ fn await_members<R: Wait>(rt: &R, pending: &AtomicU64) {
 fn serve<R: Wait>(
     rt: &R,
     list: &Counted,
-    client: &mut Client,
+    client: &mut StagePlayer,
     numbers: (u64, u64),
     pending: &AtomicU64,
-) -> Answer
+) -> CountReply
     requires sent { IsSentOn list.now client.old }
     requires pipelined { IsPipelined list.now }
     ensures { MayWrite list.now client.old.writer.client client.new }
@@ -55,10 +55,10 @@ fn serve<R: Wait>(
 fn lead<R: Wait>(
     rt: &R,
     list: &Counted,
-    client: &mut Client,
-    counter: Counter,
+    client: &mut StagePlayer,
+    counter: CountLog,
     pending: &AtomicU64,
-) -> Answer
+) -> CountReply
     requires leads { IsLeader list.now client.old.writer }
     requires ready { AreReady (clients_of list.now) client.old.lists
         × (clients_of list.now ≤ vec_capacity client.old.members) }
@@ -70,14 +70,14 @@ fn lead<R: Wait>(
     serve(rt, list, client, numbers, pending)
 }
 
-fn note(told: &mut Vec<Answer>, answer: Answer) {
+fn note(told: &mut Vec<CountReply>, answer: CountReply) {
     if told.len() < told.capacity() {
         told.push_reserved(answer);
     }
 }
 
 // Waits for the role, and works beside its leader or leads where it is to, until it is done.
-fn finish<R: Wait>(rt: &R, list: &Counted, client: &mut Client, pending: &AtomicU64)
+fn finish<R: Wait>(rt: &R, list: &Counted, client: &mut StagePlayer, pending: &AtomicU64)
     requires asked { HasAsked list.now client.old.writer.client client.old }
     requires pipelined { IsPipelined list.now }
     ensures { MayWrite list.now client.old.writer.client client.new }
@@ -107,13 +107,13 @@ fn finish<R: Wait>(rt: &R, list: &Counted, client: &mut Client, pending: &Atomic
 fn write_often<R: Wait>(
     rt: &R,
     list: &Counted,
-    client: &mut Client,
+    client: &mut StagePlayer,
     item: Item,
     times: u64,
     pending: &AtomicU64,
 )
     requires out { MayWrite list.now client.old.writer.client client.old }
-    requires item { item.size ≤ 16777216 }
+    requires item { item.size ≤ MAX_SIZE }
     requires pipelined { IsPipelined list.now }
     ensures { MayWrite list.now client.old.writer.client client.new }
 {
@@ -128,7 +128,7 @@ fn write_often<R: Wait>(
 pub(super) fn write_at_once<R: Threads + Wait + Sync>(
     rt: &R,
     list: &Counted,
-    clients: &mut [Client],
+    clients: &mut [StagePlayer],
     times: u64,
     pending: &AtomicU64,
 )
@@ -137,7 +137,7 @@ pub(super) fn write_at_once<R: Threads + Wait + Sync>(
     ensures { AllMayWrite list.now clients.new × (length clients.new ≡ length clients.old) }
 {
     let threads = clients.len();
-    let each = |i: usize, client: &mut Client|
+    let each = |i: usize, client: &mut StagePlayer|
         requires { MayWrite list.now (i + 1) client.now × (i < 255) × IsPipelined list.now }
         ensures { MayWrite list.entry.now (i + 1) client.exit.now }
     { write_often(rt, list, client, sized(i as u64 + 1), times, pending) };

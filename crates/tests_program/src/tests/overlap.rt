@@ -17,7 +17,7 @@ use std::sync::atomic::Ordering::SeqCst;
 use std::sync::atomic::{AtomicBool, AtomicU64};
 use std::thread;
 use std::thread::Threads;
-use tests_held_disk::{HeldDisk, Hold};
+use tests_held_disk::{AppendHold, HeldDisk};
 
 /// How many turns a client waits at most: more than a test will take, so that a test in which nobody comes ends too.
 const MOST_TURNS: u64 = 1_000_000_000;
@@ -75,7 +75,7 @@ struct Meeting {
 #[derive(Drop)]
 struct Turnstile<'a> {
     meeting: Meeting,
-    hold: &'a Hold,
+    hold: &'a AppendHold,
     /// All locks that it was told of.
     locks: AtomicU64,
     /// How often clients came by.
@@ -89,7 +89,7 @@ struct Turnstile<'a> {
 }
 
 impl<'a> Turnstile<'a> {
-    fn new(meeting: Meeting, hold: &'a Hold) -> Turnstile<'a> {
+    fn new(meeting: Meeting, hold: &'a AppendHold) -> Turnstile<'a> {
         Turnstile {
             meeting,
             hold,
@@ -180,7 +180,7 @@ fn meet<R: Threads + Wait + Abort + Sync>(
     meeting: Meeting,
     path: WritePath,
 ) {
-    let hold = Hold::new(meeting.appends.1);
+    let hold = AppendHold::new(meeting.appends.1);
     let gate = Turnstile::new(meeting, &hold);
     let given = Given {
         words: meeting.words,

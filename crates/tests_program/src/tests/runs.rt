@@ -5,7 +5,7 @@ use super::{
     Fails, Given, ONE_TREE, OUTCOME, PATHS, PLAIN, RECORD, Row, SCRIPT, TWO_RECORDS, WritePath,
     check_rows, ended,
 };
-use run_scripts::TEXT_LIMIT;
+use model_base::TEXT_LIMIT;
 use std::alloc::Global;
 use std::process::Abort;
 use std::rt::HostRuntime;

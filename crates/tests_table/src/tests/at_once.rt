@@ -4,14 +4,13 @@ ghost use Rattle.std.specs.Prelude.{◌≡◌, ◌<◌, All, length};
 ghost use Rattle.table_rule.specs.declared.content.MemberVersions.{MemberVersions};
 ghost use Rattle.table_rule.specs.Histories.{In, Members, Runs, versions_in};
 ghost use Rattle.table_tree.specs.Parts.{group_of};
-ghost use Rattle.engine_memory.specs.Tables.{account_of, IsOurs, IsTurnAtStart, HasShards};
+ghost use Rattle.table_memory.specs.Meaning.{account_of, IsOurs, IsTurnAtStart};
 ghost use Rattle.tests_table.specs.Clients.{IsIdle, IsForFour, MayPlay};
 
 use super::nodes::node_of;
 use super::rows::{keys_of, value_of};
 use super::tables::{MemSeat, MemTurn, complete, taken};
 use base_bytes::{Bytes, Found};
-use engine_memory::{MemoryTable, TableKind};
 use std::alloc::Global;
 use std::process::Abort;
 use std::sync::Wait;
@@ -19,6 +18,7 @@ use std::test::Fail;
 use std::thread;
 use std::thread::Threads;
 use table_calls::Table;
+use table_memory::MemoryTable;
 use table_tree::{Nodes, Parts};
 
 // The published sequence when the table is opened, and the last one of the group.
@@ -176,15 +176,15 @@ fn play_at_once<R: Threads + Wait + Abort + Sync>(
     thread::for_each_mut(rt, players, threads, &each);
 }
 
-// Three members and a reader over a table of this kind: just one member publishes the group.
+// Three members and a reader over a table of so many shards: just one member publishes the group.
 fn race_over<R: Threads + Wait + Abort + Sync>(
     rt: &R,
     alloc: Global,
-    kind: TableKind,
+    shards: u32,
 ) -> Result<(), Fail>
-    requires { HasShards kind }
+    requires { 0 < shards }
 {
-    let (table, mut seats) = MemoryTable::open(alloc, 4, BEFORE, kind)?;
+    let (table, mut seats) = MemoryTable::open(alloc, 4, BEFORE, shards)?;
     let reader = taken(&table, &mut seats.clients)?;
     let third = taken(&table, &mut seats.clients)?;
     let second = taken(&table, &mut seats.clients)?;
@@ -204,6 +204,7 @@ fn race_over<R: Threads + Wait + Abort + Sync>(
 #[test]
 fn one_of_three_members_publishes(rt: HostRuntime) -> Result<(), Fail> {
     let alloc = rt.alloc();
-    race_over(&rt, alloc, TableKind::One)?;
-    race_over(&rt, alloc, TableKind::Shards(3))
+    race_over(&rt, alloc, 1)?;
+    race_over(&rt, alloc, 3)?;
+    race_over(&rt, alloc, 16)
 }

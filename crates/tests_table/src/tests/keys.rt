@@ -1,6 +1,6 @@
 // How keys compare.
 
-use base_maps::{Front, Key};
+use base_maps::{ByteKey, Front};
 use std::alloc::Global;
 use std::cmp::Ordering;
 use std::process::Abort;
@@ -8,10 +8,10 @@ use std::process::Abort;
 // Each of these is below the next, by every call that compares, and `as_slice` gives each back.
 fn check_order(rt: &impl Abort, alloc: Global, rows: &[&[u8]]) {
     for (at, row) in rows.iter().enumerate() {
-        let key = Key::copy(alloc, row).expect(rt, "memory");
+        let key = ByteKey::copy(alloc, row).expect(rt, "memory");
         assert_eq!(rt; key.as_slice(), *row);
         for (other_at, other_row) in rows.iter().enumerate() {
-            let other = Key::copy(alloc, other_row).expect(rt, "memory");
+            let other = ByteKey::copy(alloc, other_row).expect(rt, "memory");
             let order_of = other.order_of(row, Front::of(row));
             let want = at.cmp(&other_at);
             assert_eq!(rt;

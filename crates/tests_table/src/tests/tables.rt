@@ -5,18 +5,18 @@ ghost use Rattle.table_rule.specs.declared.view.Stage.TheVariants.{Idle};
 ghost use Rattle.table_rule.specs.Histories.{In, last_of, Runs};
 ghost use Rattle.table_rule.specs.Steps.{MayTake};
 ghost use Rattle.table_steps.specs.Accounts.{history_of};
-ghost use Rattle.engine_memory.specs.Tables.{opening_of, account_of, IsOurs, MayLaunch, HasShards};
+ghost use Rattle.table_memory.specs.Meaning.{opening_of, account_of, IsOurs, MayLaunch};
 ghost use Rattle.tests_table.specs.Clients.{IsIdle};
 
 use super::nodes::nodes_behind;
 use super::rows::{are_found, are_rows, is_found, keys_of, value_of};
 use base_bytes::Bytes;
-use engine_memory::{MemoryTable, TableKind};
 use std::alloc::Global;
 use std::process::Abort;
 use std::sync::Wait;
 use std::test::Fail;
 use table_calls::{Finished, Seats, Table};
+use table_memory::MemoryTable;
 use table_steps::{TableSeat, Turn};
 use table_tree::{Nodes, Parts, Tree};
 
@@ -125,19 +125,19 @@ pub(super) fn taken(table: &MemoryTable, seats: &mut Vec<MemSeat>) -> Result<Mem
     Ok(seat)
 }
 
-// A table of this kind for two clients, with its turn and their seats, from the first on.
+// A table of so many shards for two clients, with its turn and their seats, from the first on.
 fn open_for_two(
     alloc: Global,
-    kind: TableKind,
+    shards: u32,
 ) -> Result<(MemoryTable, MemTurn, MemSeat, MemSeat), Fail>
-    requires { HasShards kind }
+    requires { 0 < shards }
     ensures clients { IfOk result (λ opened. (opening_of opened.0).clients ≡ 2) }
     ensures turn { IfOk result (λ opened. MayLaunch opened.0 opened.1
         × (last_of (opening_of opened.0).start (history_of opened.1) ≡ 0)) }
     ensures first { IfOk result (λ opened. IsIdle opened.0 opened.2) }
     ensures second { IfOk result (λ opened. IsIdle opened.0 opened.3) }
 {
-    let (table, mut seats) = MemoryTable::open(alloc, 2, 0, kind)?;
+    let (table, mut seats) = MemoryTable::open(alloc, 2, 0, shards)?;
     let second = taken(&table, &mut seats.clients)?;
     let first = taken(&table, &mut seats.clients)?;
     Ok((table, seats.turn, first, second))
@@ -242,13 +242,13 @@ fn play<R: Wait + Abort>(
     turn
 }
 
-// All rounds over a table of this kind, which has so many locks.
-fn try_over<R: Wait + Abort>(rt: &R, alloc: Global, kind: TableKind, locks: u64) -> Result<(), Fail>
-    requires { HasShards kind }
+// All rounds over a table of so many shards, which has a lock for each.
+fn try_over<R: Wait + Abort>(rt: &R, alloc: Global, shards: u32) -> Result<(), Fail>
+    requires { 0 < shards }
 {
-    let (table, turn, mut leader, mut member) = open_for_two(alloc, kind)?;
+    let (table, turn, mut leader, mut member) = open_for_two(alloc, shards)?;
     assert!(rt; leader.number() == 1);
-    assert_eq!(rt; Table::<Nodes, Parts>::locks(&table), locks);
+    assert_eq!(rt; Table::<Nodes, Parts>::locks(&table), u64::from(shards));
     let turn = play(rt, alloc, &table, &mut leader, &mut member, turn, &ROUNDS);
     close(alloc, table, turn, leader, member)
 }
@@ -256,8 +256,8 @@ fn try_over<R: Wait + Abort>(rt: &R, alloc: Global, kind: TableKind, locks: u64)
 #[test]
 fn reads_what_is_published(rt: HostRuntime) -> Result<(), Fail> {
     let alloc = rt.alloc();
-    try_over(&rt, alloc, TableKind::One, 1)?;
-    try_over(&rt, alloc, TableKind::Shards(1), 1)?;
-    try_over(&rt, alloc, TableKind::Shards(3), 3)?;
-    try_over(&rt, alloc, TableKind::Shards(64), 64)
+    try_over(&rt, alloc, 1)?;
+    try_over(&rt, alloc, 3)?;
+    try_over(&rt, alloc, 16)?;
+    try_over(&rt, alloc, 64)
 }

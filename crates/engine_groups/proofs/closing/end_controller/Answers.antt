@@ -1,6 +1,6 @@
 use Rattle.std.proofs.Common.{◌≡◌, ℕ, ◌+◌, length-set, ◌∙◌, subst}
 use Rattle.engine_controller.specs.declared.pass.Pass.{Pass}
-use Rattle.engine_controller.specs.Passes.{client_of, noted, seen_by, GoesOn, IsPassOf}
+use Rattle.engine_controller.specs.Passes.{client_of, seen_by_note, seen_by, GoesOn, IsPassOf}
 use Rattle.engine_groups.proofs.FirstPass.{each_after, first_at, history_before, last_seen}
 use Rattle.engine_groups.proofs.closing.end_controller.Goals as goal
 
@@ -29,4 +29,4 @@ returns g c =
     let q = c.learn.new.pass in
     let goes = subst (λ n. GoesOn n (seen_by p) (seen_by q)) first.1 c.learn.ensures.seen in
     let h = c.close.ensures.history in
-    (h.0, history_before xs p q h.0 c.requires.some at goes h.1, last_seen xs q (noted c.args.note) h.0 c.requires.some c.learn.ensures.noted h.1)
+    (h.0, history_before xs p q h.0 c.requires.some at goes h.1, last_seen xs q (seen_by_note c.args.note) h.0 c.requires.some c.learn.ensures.noted h.1)

@@ -2,7 +2,7 @@ use Rattle.std.proofs.Common.{◌≡◌, ℕ, ◌+◌, ◌-◌, ◌≤◌, List,
 use Rattle.std.proofs.lemmas.Bool.{ne_eqb, false≢true}
 use Rattle.std.proofs.lemmas.List.{drop-drop}
 use Rattle.model_base.specs.Checksum.{crc32c, masked}
-use Rattle.model_base.specs.Log.{Kind, kind_code}
+use Rattle.model_base.specs.Log.{Kind, kind_code, plain_log}
 use Rattle.model_base.specs.Reading as reading
 use Rattle.model_base.specs.declared.log.Damage.TheVariants.{BadType, BadChecksum}
 use Rattle.log_block.specs.Fragments.{StandsThere}
@@ -30,7 +30,7 @@ right_checksum bytes len sum own is_code len_is there sum_is own_is same =
     ∙ ap (λ b. cond b (reading.fragment (record { kind = is_code.kind; part = take len (drop 7 bytes) })) (reading.damage BadChecksum)) (eq-eqb (reading.checksum_field bytes) (masked (crc32c (slice_index bytes 6 ∷ take len (drop 7 bytes)))) (sym sum_is ∙ (same ∙ own_is)))
 
 -- the part stands in the block behind the header
-there_in_block : (block : List ℕ) (at code len : ℕ) (kind : Kind) (seen : reading.Seen) → at + 7 ≤ length block → 7 + len ≤ length (drop at block) → code ≡ kind_code None kind
+there_in_block : (block : List ℕ) (at code len : ℕ) (kind : Kind) (seen : reading.Seen) → at + 7 ≤ length block → 7 + len ≤ length (drop at block) → code ≡ kind_code plain_log kind
     → seen ≡ reading.fragment (record { kind = kind; part = take len (drop 7 (drop at block)) }) → StandsThere block at code (at + 7) (at + 7 + len) seen
 there_in_block block at code len kind seen header there code_is seen_is = let len_is : len ≡ at + 7 + len - (at + 7) = omega arith in record {
   of_kind = kind;

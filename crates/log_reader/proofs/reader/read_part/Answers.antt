@@ -1,4 +1,5 @@
 use Rattle.std.proofs.Common.{◌+◌, ℕ, length, None, IfSome, sym, ◌∙◌, ap, subst}
+use Rattle.model_base.specs.Log.{plain_log}
 use Rattle.base_devices.specs.Disk.{Disk}
 use Rattle.model_base.specs.declared.log.EndReason.TheVariants as ends
 use Rattle.model_base.specs.Reading.{ReadingEnds}
@@ -50,5 +51,5 @@ returns-in-Ok-Damage-clause-step g c =
     let damage = c.in-Ok-Damage.damage in
     let sees : IfSome (g.D.Disk.told c.args.disk.now) (Looks old mid (seen.Damage damage)) = rw c.in-Ok-Damage.field-0-is at c.in-Ok-Damage.ensures.seen in
     if_one (g.D.Disk.told c.args.disk.now) (Looks old mid (seen.Damage damage)) _ sees
-    (λ d looks place on stood. subst (λ (at : ℕ). ReadingEnds None d.content place at (ends.Broken damage)) (sym c.offset.ensures)
+    (λ d looks place on stood. subst (λ (at : ℕ). ReadingEnds plain_log d.content place at (ends.Broken damage)) (sym c.offset.ensures)
     (ends_in_damage d.content place (offset_of old) (offset_of mid) damage c.args.begun c.args.in_hand.now.items stood (looks on)))

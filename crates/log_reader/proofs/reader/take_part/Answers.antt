@@ -1,6 +1,6 @@
 use Rattle.std.proofs.Common.{◌≡◌, ℕ, List, Option, Some, None, sym, ◌∙◌, ap, subst}
 use Rattle.model_base.specs.declared.log.EndReason.TheVariants as ends
-use Rattle.model_base.specs.Log.{Kind}
+use Rattle.model_base.specs.Log.{Kind, plain_log}
 use Rattle.model_base.specs.Reading.{ReadingEnds}
 use Rattle.log_reader.specs.declared.reader.Continuation.{Continuation}
 use Rattle.log_reader.specs.Windows.{offset_of, bytes_of}
@@ -16,7 +16,7 @@ continuation_there kind begun at place t same e = ap (continuation_of kind begun
 pub returns-in-Misplaced-clause-step : goal.returns-in-Misplaced-clause-step
 returns-in-Misplaced-clause-step c = λ file place offset on s n.
     let w = c.args.window.now in
-    subst (λ (at : ℕ). ReadingEnds None file place at ends.BadOrder) (sym c.offset-at.ensures)
+    subst (λ (at : ℕ). ReadingEnds plain_log file place at ends.BadOrder) (sym c.offset-at.ensures)
     (ends_in_order file place offset w.start (bytes_of w) w.at c.args.kind c.args.start c.args.end c.args.begun c.args.in_hand.now.items s n
     (continuation_there n.kind c.args.begun c.offset-at.result (offset_of w) _ c.offset-at.ensures (c.in-Misplaced.ensures n.kind n.code_is)))
 

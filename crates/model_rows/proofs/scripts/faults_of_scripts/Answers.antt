@@ -22,10 +22,6 @@ pub returns-clause-wrong_number : goal.returns-clause-wrong_number
 unfolding digits
 returns-clause-wrong_number c = refl
 
-pub returns-clause-too_many_clients : goal.returns-clause-too_many_clients
-unfolding digits
-returns-clause-too_many_clients c = refl
-
 pub returns-clause-tab : goal.returns-clause-tab
 unfolding digits
 returns-clause-tab c = refl

@@ -30,14 +30,6 @@ pub returns-clause-no_rate : goal.returns-clause-no_rate
 unfolding digits
 returns-clause-no_rate c = refl
 
-pub returns-clause-of_one_client : goal.returns-clause-of_one_client
-unfolding digits
-returns-clause-of_one_client c = refl
-
-pub returns-clause-without_tokens : goal.returns-clause-without_tokens
-unfolding digits
-returns-clause-without_tokens c = refl
-
 pub returns-clause-too_many_clients : goal.returns-clause-too_many_clients
 unfolding digits
 returns-clause-too_many_clients c = refl

@@ -5,9 +5,9 @@ use Rattle.std.proofs.lemmas.List.{length-map}
 use Rattle.std.proofs.lemmas.List.FromFn.{length-range_with_len}
 use Rattle.std.specs.List.{range_with_len}
 use Rattle.std.specs.Io.KnownBytes.{Appends}
-use Rattle.model_base.specs.Generator.{generated, batches_drawn, first_state}
+use Rattle.model_base.specs.Generator.{script_of_seed, batches_drawn, first_state}
 use Rattle.model_base.specs.Outcomes.{IsLegal}
-use Rattle.run_calls.specs.Settings.{settings_of}
+use Rattle.model_base.specs.Settings.{settings_of}
 use Rattle.run_scripts.specs.declared.script.Script.{Script}
 use Rattle.run_scripts.specs.Scripts.{commands_of}
 use Rattle.program_call.specs.Asking.{usual_options}
@@ -15,7 +15,7 @@ use Rattle.program_call.specs.Outcomes.{IsGenerated}
 use Rattle.program_call.proofs.Runs.{runs_retold, completes}
 use Rattle.program_call.proofs.generating.run_generated.Goals as goal
 
-has_clients : (script : Script) (seed clients batches : ℕ) → commands_of script ≡ generated seed clients batches → length script.clients.items ≡ clients
+has_clients : (script : Script) (seed clients batches : ℕ) → commands_of script ≡ script_of_seed seed clients batches → length script.clients.items ≡ clients
 has_clients script seed clients batches e =
     ap length e ∙ length-map (range_with_len 1 clients) (λ client. batches_drawn batches client (first_state seed client)) ∙ length-range_with_len 1 clients
 
@@ -41,9 +41,9 @@ returns-clause-one_summary g c = λ zero.
     let o = whole.outcome in
     let opened = g.D.Disk.faults c.args.disk in
     let ended = g.D.Disk.faults c.run_and_tell.result.disk in
-    let same : whole.ran.script ≡ generated seed clients batches = whole.ran.said ∙ c.in-Ok.ensures.ok in
+    let same : whole.ran.script ≡ script_of_seed seed clients batches = whole.ran.said ∙ c.in-Ok.ensures.ok in
     let run = whole.ran.is_outcome.run in
     let legal = subst (λ s. IsLegal (settings_of usual_options (length s) opened) ended s o) same (record { trace = run.trace; attempts = run.attempts; legal = run.legal }) in
-    let one = c.summaries_are_one.ensures.one_summary seed clients batches ended (settings_of usual_options (length (generated seed clients batches)) opened) o
+    let one = c.summaries_are_one.ensures.one_summary seed clients batches ended (settings_of usual_options (length (script_of_seed seed clients batches)) opened) o
     (omega arith) (omega arith) refl refl legal whole.no_fault whole.whole in
     subst (λ text. Appends (g.K.Sink.taken c.args.sink.now) (g.K.Sink.taken c.run_and_tell.new.sink) text) one whole.printed

@@ -10,10 +10,10 @@ use Rattle.program_call.proofs.running.run_and_tell.Goals as goal
 pub returns-clause-runs : goal.returns-clause-runs
 returns-clause-runs g c =
     let was = c.args.disk in
-    let disk = c.execute-disk.result.disk in
+    let disk = c.execute-disk.result.0 in
     let before = c.args.sink.now in
     let after = c.tell_end.new.sink in
     let script = commands_of c.args.script in
-    rw (c.end_with.ensures.status, c.end_with.ensures.disk) (runs_script _ _ (IsScript script) c.args.form c.args.options was disk before after _
-    (ended_so c.args.options script c.args.form (g.D.Disk.faults was) (g.D.Disk.faults disk) (IsImageSince g.D.Disk.moment g.D.Disk.from g.D.Disk.since was disk) (IsWrittenFrom g.D.Disk was disk) (g.K.Sink.faults before) (g.K.Sink.faults after)
-    (g.K.Sink.taken before) (g.K.Sink.taken after) (g.D.Disk.told was) (g.D.Disk.told disk) c.execute-disk.result.end c.tell_end.result c.execute-disk.ensures.end c.tell_end.ensures))
+    rw (c.end_with.ensures.status, c.end_with.ensures.disk) (runs_script _ _ (IsScript script) c.args.form c.args.setup.options was disk before after _
+    (ended_so c.args.setup.options script c.args.form (g.D.Disk.faults was) (g.D.Disk.faults disk) (IsImageSince g.D.Disk.moment g.D.Disk.from g.D.Disk.since was disk) (IsWrittenFrom g.D.Disk was disk) (g.K.Sink.faults before) (g.K.Sink.faults after)
+    (g.K.Sink.taken before) (g.K.Sink.taken after) (g.D.Disk.told was) (g.D.Disk.told disk) c.execute-disk.result.1 c.tell_end.result c.execute-disk.ensures.end c.tell_end.ensures))

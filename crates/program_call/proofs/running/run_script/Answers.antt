@@ -3,9 +3,9 @@ use Rattle.std.proofs.Common.{◌≡◌, ℕ, List, length, Option, Some, None, 
 use Rattle.base_devices.specs.Disk.{Disk}
 use Rattle.model_base.specs.Script.{Script, script_of, whole_grammar}
 use Rattle.run_scripts.specs.Scripts.{commands_of}
-use Rattle.program_call.specs.declared.telling.Form.TheVariants as form
+use Rattle.program_call.specs.declared.report.Form.TheVariants as form
 use Rattle.program_call.specs.Reading.{IsScriptError}
-use Rattle.program_call.specs.Outcomes.{IsScript, SaysScript, observed}
+use Rattle.program_call.specs.Outcomes.{IsScript, SaysScript, observation_of}
 use Rattle.program_call.proofs.Endings.{unread}
 use Rattle.program_call.proofs.Runs.{runs_script, runs_retold, completes}
 use Rattle.program_call.proofs.Unread.{source_failed, fault_said, unread_completes}
@@ -24,7 +24,7 @@ pub returns-in-Ok-clause-runs : goal.returns-in-Ok-clause-runs
 returns-in-Ok-clause-runs g c =
     let left = g.S.Source.left c.args.source.now in
     let script = commands_of c.in-Ok.script in
-    runs_retold (observed g.D.Disk g.K.Sink (IsScript script) form.Whole c.args.options c.args.disk c.run_and_tell.result.disk c.args.sink.now c.run_and_tell.new.sink) (SaysScript left) (λ s is. says_it left script s c.in-Ok.ensures.script.said is) _ _ _ _ _ _ _ c.run_and_tell.ensures.runs
+    runs_retold (observation_of g.D.Disk g.K.Sink (IsScript script) form.Whole c.args.setup.options c.args.disk c.run_and_tell.result.disk c.args.sink.now c.run_and_tell.new.sink) (SaysScript left) (λ s is. says_it left script s c.in-Ok.ensures.script.said is) _ _ _ _ _ _ _ c.run_and_tell.ensures.runs
 
 pub returns-in-Ok-clause-completes : goal.returns-in-Ok-clause-completes
 returns-in-Ok-clause-completes g c = λ source_stood sink_stood disk_stood.
@@ -60,6 +60,6 @@ returns-in-Err-clause-runs g c =
     let before = c.args.sink.now in
     let after = c.tell_read_error.new.sink in
     let says = SaysScript (g.S.Source.left c.args.source.now) in
-    rw (c.end_with.ensures.status, c.end_with.ensures.disk) (runs_script g.D.Disk g.K.Sink says form.Whole c.args.options was was before after _
-    (unread (observed g.D.Disk g.K.Sink says form.Whole c.args.options was was before after) (g.D.Disk.faults was) (g.D.Disk.faults was) (g.K.Sink.faults before) (g.K.Sink.faults after)
+    rw (c.end_with.ensures.status, c.end_with.ensures.disk) (runs_script g.D.Disk g.K.Sink says form.Whole c.args.setup.options was was before after _
+    (unread (observation_of g.D.Disk g.K.Sink says form.Whole c.args.setup.options was was before after) (g.D.Disk.faults was) (g.D.Disk.faults was) (g.K.Sink.faults before) (g.K.Sink.faults after)
     c.in-Err.why c.tell_read_error.result refl c.tell_read_error.ensures))

@@ -1,8 +1,8 @@
 use Rattle.std.proofs.Common.{refl}
 use Rattle.clap.proofs.OnLiterals.{clap_on_literals}
-use Rattle.program_words.specs.Meaning.{asked_in}
+use Rattle.program_words.specs.Meaning.{invocation_in}
 use Rattle.program_words.proofs.laws.words_that_do_not_ask.Goals as goal
 
 pub returns : goal.returns
-unfolding asked_in clap_on_literals
+unfolding invocation_in clap_on_literals
 returns c = record { no_command = refl; unknown_command = refl; unknown_word = refl; option_of_another_command = refl; option_without_value = refl; option_twice = refl; flag_twice = refl; flag_of_another_command = refl; below_range = refl; above_range = refl; no_shards = refl; too_many_shards = refl; unknown_table = refl; table_twice = refl; table_of_recover = refl; table_of_replay = refl; seed_above_range = refl; no_clients = refl; too_many_clients = refl; too_many_batches = refl; too_few_numbers = refl; too_many_numbers = refl; option_of_generate = refl; last_of_generate = refl; help_of_command = refl; help = refl; version = refl }

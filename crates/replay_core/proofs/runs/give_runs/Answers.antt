@@ -2,7 +2,7 @@ use Rattle.std.proofs.Common.{◌≡◌, ◌<◌, ℕ, List, length, take, vec_l
 use Rattle.std.specs.Prelude.{vec_capacity}
 use Rattle.std.proofs.Math.Seq.{take-length}
 use Rattle.replay_core.specs.declared.writer.Writer.{Writer}
-use Rattle.replay_core.specs.Runs.{GotRuns, unanswered}
+use Rattle.replay_core.specs.Runs.{GotRuns, without_answer}
 use Rattle.replay_core.proofs.RunLemmas.{got_none, next_got, set_alike, rest_more, same_at, counted_at, counted_same, entries_before}
 use Rattle.replay_core.proofs.runs.give_runs.Goals as goal
 
@@ -40,7 +40,7 @@ loop-writer-preserved c =
           next_got plans s c.args.last i old now c.loop-writer.entries.items c.loop-writer.given _ c.give_run-given.new.writer _ c.give_run-given.new.entries.items c.give_run-given.result
           lt lt_now same so_far (c.give_run-given.ensures.got plans s is_counted before free);
       rest = rest_more now old i c.give_run-given.new.writer inv.rest;
-      writers = set_alike unanswered now i c.give_run-given.new.writer _ lt_now c.give_run-given.ensures.writer ∙ inv.writers;
+      writers = set_alike without_answer now i c.give_run-given.new.writer _ lt_now c.give_run-given.ensures.writer ∙ inv.writers;
       same_len = search rules;
       fits = c.give_run-given.ensures.fits;
       front = ap (λ n. take n c.give_run-given.new.entries.items) (sym before_is) ∙ c.give_run-given.ensures.front ∙ ap (λ n. take n c.loop-writer.entries.items) before_is ∙ inv.front;

@@ -4,7 +4,7 @@ use Rattle.model_core.specs.declared.event.Event.{Event}
 use Rattle.model_core.specs.CoreLaw.{IsCore}
 use Rattle.model_core.specs.Step as table
 use Rattle.replay_core.specs.declared.step.Counts.{Counts}
-use Rattle.replay_core.specs.Counted.{counted}
+use Rattle.replay_core.specs.Counted.{counts_after_event}
 use Rattle.replay_core.specs.Replay.{IsReplay}
 use Rattle.replay_core.proofs.ReplayLemmas.{one_more, counted_sum, none_came}
 use Rattle.replay_core.proofs.step.replay.Goals as goal
@@ -13,9 +13,9 @@ pub loop-event-preserved : goal.loop-event-preserved
 loop-event-preserved c =
     let i = c.loop-event.event-index in
     let old = c.loop-event.counts in
-    let more : counted c.step-came.result old ≡ c.counted-counts.result = sym c.counted-counts.ensures in
-    let sum : c.counted-counts.result.taken + c.counted-counts.result.skipped ≡ i + 1 =
-    ap (λ (k : Counts). k.taken + k.skipped) c.counted-counts.ensures ∙ counted_sum c.step-came.result old ∙ ap (λ n. n + 1) c.loop-event.invariant.0 in (
+    let more : counts_after_event c.step-came.result old ≡ c.after_event-counts.result = sym c.after_event-counts.ensures in
+    let sum : c.after_event-counts.result.taken + c.after_event-counts.result.skipped ≡ i + 1 =
+    ap (λ (k : Counts). k.taken + k.skipped) c.after_event-counts.ensures ∙ counted_sum c.step-came.result old ∙ ap (λ n. n + 1) c.loop-event.invariant.0 in (
       sum,
       λ none.
           let before = none_came c.step-came.result old (ap (λ (k : Counts). k.taken) more ∙ none) in

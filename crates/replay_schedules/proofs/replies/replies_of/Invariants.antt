@@ -1,5 +1,5 @@
 use Rattle.std.proofs.Common.{◌≡◌, ◌++◌, drop, length}
-use Rattle.replay_views.specs.Maps.{IsMapOf}
+use Rattle.replay_schedules.specs.Maps.{IsMapOf}
 use Rattle.replay_schedules.specs.Replaying.{InEachShown, replies_by}
 use Rattle.replay_schedules.proofs.replies.replies_of.Given as goal
 

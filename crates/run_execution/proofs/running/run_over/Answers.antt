@@ -3,7 +3,7 @@ use denote.Exit.{yes}
 use denote.Param.{param}
 use denote.Param.Send.{param_send, arg_send}
 use Rattle.std.proofs.Common.{ℕ, length, ap, ◌∙◌, arith}
-use Rattle.run_calls.specs.Settings.{settings_of}
+use Rattle.model_base.specs.Settings.{settings_of}
 use Rattle.run_scripts.specs.Scripts.{commands_of}
 use Rattle.log_writer.specs.declared.writer.LogWriter.{LogWriter}
 use Rattle.log_writer.specs.Words.{disk_of, fault_of}
@@ -21,29 +21,29 @@ run_engine-requires-sync-E g c κs within = record { shared = (engine_sync (para
 pub returns-in-Ok-clause-end : goal.returns-in-Ok-clause-end
 returns-in-Ok-clause-end g c = λ disk has_opened.
     let script = commands_of c.args.script.now in
-    let options = c.args.options in
+    let options = c.args.setup.options in
     let ran = c.run_engine.result in
     let value = c.as_slice-commands.ensures.value in
     let settings = c.in-Ok.ensures.engine.1 ∙ ap (λ (n : ℕ). settings_of options n (g.D.Disk.faults (disk_of c.args.log))) (ap length value) ∙ ap (settings_of options (length script)) has_opened.no_fault in
-    let comes = comes_to fault_of (λ (l : LogWriter g.row.D.Denot g.D.Disk). g.D.Disk.faults (disk_of l)) ran.log ran.last ran.parts _ _ _ _ _ _ settings value (ap Wrote c.in-Ok.ensures.engine.0) c.run_engine.ensures in
-    rw (c.ended.ensures.end, c.ended.ensures.disk) (c.runs_leave_safe_logs.ensures.ends disk c.args.log ran.log options script ran.last ran.parts has_opened (omega (arith, c.requires.clients)) c.requires.options.1 comes)
+    let comes = comes_to fault_of (λ (l : LogWriter g.row.D.Denot g.D.Disk). g.D.Disk.faults (disk_of l)) ran _ _ _ _ _ _ settings value (ap Wrote c.in-Ok.ensures.engine.0) c.run_engine.ensures in
+    rw (c.end_run.ensures.end, c.end_run.ensures.disk) (c.runs_leave_safe_logs.ensures.ends disk c.args.log options script ran has_opened (omega (arith, c.requires.clients)) c.requires.options.1 comes)
 
 pub returns-in-Ok-clause-later : goal.returns-in-Ok-clause-later
 returns-in-Ok-clause-later g c =
     let script = commands_of c.args.script.now in
-    let options = c.args.options in
+    let options = c.args.setup.options in
     let ran = c.run_engine.result in
     let value = c.as_slice-commands.ensures.value in
     let settings = c.in-Ok.ensures.engine.1 ∙ ap (λ (n : ℕ). settings_of options n (g.D.Disk.faults (disk_of c.args.log))) (ap length value) in
-    let comes = comes_to fault_of (λ (l : LogWriter g.row.D.Denot g.D.Disk). g.D.Disk.faults (disk_of l)) ran.log ran.last ran.parts _ _ _ _ _ _ settings value (ap Wrote c.in-Ok.ensures.engine.0) c.run_engine.ensures in
-    rw c.ended.ensures.disk (c.runs_leave_safe_logs.ensures.time c.args.log ran.log options script (g.D.Disk.faults (disk_of c.args.log)) ran.last ran.parts comes).1
+    let comes = comes_to fault_of (λ (l : LogWriter g.row.D.Denot g.D.Disk). g.D.Disk.faults (disk_of l)) ran _ _ _ _ _ _ settings value (ap Wrote c.in-Ok.ensures.engine.0) c.run_engine.ensures in
+    rw c.end_run.ensures.disk (c.runs_leave_safe_logs.ensures.time c.args.log options script (g.D.Disk.faults (disk_of c.args.log)) ran comes).1
 
 pub returns-in-Ok-clause-time : goal.returns-in-Ok-clause-time
 returns-in-Ok-clause-time g c =
     let script = commands_of c.args.script.now in
-    let options = c.args.options in
+    let options = c.args.setup.options in
     let ran = c.run_engine.result in
     let value = c.as_slice-commands.ensures.value in
     let settings = c.in-Ok.ensures.engine.1 ∙ ap (λ (n : ℕ). settings_of options n (g.D.Disk.faults (disk_of c.args.log))) (ap length value) in
-    let comes = comes_to fault_of (λ (l : LogWriter g.row.D.Denot g.D.Disk). g.D.Disk.faults (disk_of l)) ran.log ran.last ran.parts _ _ _ _ _ _ settings value (ap Wrote c.in-Ok.ensures.engine.0) c.run_engine.ensures in
-    rw c.ended.ensures.disk (c.runs_leave_safe_logs.ensures.time c.args.log ran.log options script (g.D.Disk.faults (disk_of c.args.log)) ran.last ran.parts comes).0
+    let comes = comes_to fault_of (λ (l : LogWriter g.row.D.Denot g.D.Disk). g.D.Disk.faults (disk_of l)) ran _ _ _ _ _ _ settings value (ap Wrote c.in-Ok.ensures.engine.0) c.run_engine.ensures in
+    rw c.end_run.ensures.disk (c.runs_leave_safe_logs.ensures.time c.args.log options script (g.D.Disk.faults (disk_of c.args.log)) ran comes).0

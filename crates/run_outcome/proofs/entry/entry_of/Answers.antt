@@ -2,12 +2,12 @@ use Rattle.std.specs.Prelude.{Some}
 use Rattle.std.proofs.Common.{◌≡◌, ℕ, ◌+◌, ◌-◌, ◌^◌, min, ap, sym, ◌∙◌}
 use Rattle.model_base.specs.Batch.{count_of}
 use Rattle.log_batch.specs.Contents.{Contents}
-use Rattle.run_batches.specs.declared.kept.Kept.{Kept}
+use Rattle.run_batches.specs.declared.accepted.AcceptedBatch.{AcceptedBatch}
 use Rattle.run_outcome.specs.Histories.{last_in, entry_of}
 use Rattle.run_outcome.proofs.Entries.{entries_of-at}
 use Rattle.run_outcome.proofs.entry.entry_of.Goals as goal
 
-made : (client ordinal first last : ℕ) (kept : Kept Contents) → first ≡ kept.batch.sequence → last ≡ last_in kept.batch
+made : (client ordinal first last : ℕ) (kept : AcceptedBatch Contents) → first ≡ kept.batch.sequence → last ≡ last_in kept.batch
     → entry_of client ordinal kept ≡ record { client = client; ordinal = ordinal; first = first; last = last; flag = kept.flag; batch = kept.batch }
 made client ordinal first last kept begins ends = λ i. record { client = client; ordinal = ordinal; first = sym begins i; last = sym ends i; flag = kept.flag; batch = kept.batch }
 

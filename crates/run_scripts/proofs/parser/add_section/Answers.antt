@@ -8,7 +8,7 @@ use Rattle.run_scripts.proofs.parser.add_section.Goals as goal
 one_too_many : (script : Script) (n : ℕ) → n ≡ length script + 1 → n ≡ 17 → with_section 16 script n ≡ Err Clients
 one_too_many script n next past = rw (sym next, past) refl
 
-pub returns-then-number-clause-script : goal.returns-then-number-clause-script
-returns-then-number-clause-script c =
+pub returns-then-number-from-clause-script : goal.returns-then-number-from-clause-script
+returns-then-number-from-clause-script c =
     let clients = c.args.script.now.clients in
-    one_too_many (commands_of c.args.script.now) c.args.number (omega (arith, c.if-number-len.false, c.len.ensures, clients.ok.0)) c.if-number.true
+    one_too_many (commands_of c.args.script.now) c.args.number (omega (arith, c.if-number-len.false, c.len.ensures, clients.ok.0)) (omega (arith, c.if-number-from.true, c.from.ensures))

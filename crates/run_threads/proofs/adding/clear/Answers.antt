@@ -10,14 +10,14 @@ pub returns-in-Pending-clause-goes : goal.returns-in-Pending-clause-goes
 returns-in-Pending-clause-goes c = λ settings a. record {
   reply = calls.quiet;
   shows = refl;
-  goes = rw c.clear.ensures (c.commits_are_steps.ensures.cleared settings a (records_in c.args.batches.now.at_hand));
+  goes = rw c.clear.ensures (c.commits_are_steps.ensures.cleared settings a (records_in c.args.batches.now.current));
 }
 
 -- no batch is in the making
 pub returns-in_default : goal.returns-in_default
 returns-in_default c =
-    let before = records_in c.args.batches.now.at_hand in
-    let none = none_pending c.args.batches.now.at_hand c.in_default.not-Pending in
+    let before = records_in c.args.batches.now.current in
+    let none = none_pending c.args.batches.now.current c.in_default.not-Pending in
     record {
       goes = λ settings a. record {
         reply = calls.quiet;

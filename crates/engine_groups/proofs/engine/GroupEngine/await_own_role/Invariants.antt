@@ -4,7 +4,7 @@ use Rattle.table_rule.specs.Histories.{Begins}
 use Rattle.table_calls.specs.Account.{IsReady}
 use Rattle.line_writers.specs.Seats.{Belongs, IsIn, client_of, told}
 use Rattle.engine_groups.proofs.engine.GroupEngine.await_own_role.Given as goal
-use Rattle.engine_groups.specs.declared.requests.Request.{Request}
+use Rattle.engine_parts.specs.declared.requests.Request.{Request}
 use Rattle.engine_groups.specs.Law.{law_in}
 
 abbrev pub invariant-loop : goal.invariant-loop
@@ -14,10 +14,10 @@ invariant-loop g l = record {
   client : client_of l.writer ≡ client_of l.fn.writer;
   belongs : Belongs l.self.list l.writer;
   asked : Request;
-  was_in : IsIn (law_in g.T.Table.our_turn g.T.Table.history l.self.list) asked (told l.fn.writer) l.fn.writer;
-  is_in : (q : Request) → IsIn (law_in g.T.Table.our_turn g.T.Table.history l.self.list) q (told l.fn.writer) l.fn.writer → IsIn (law_in g.T.Table.our_turn g.T.Table.history l.self.list) q (told l.fn.writer) l.writer;
-  ours : g.T.Table.ours l.self.table l.seat;
-  ready : IsReady (g.T.Table.account l.seat);
-  number : (g.T.Table.account l.seat).number ≡ (g.T.Table.account l.fn.seat).number;
-  seen : Begins (g.T.Table.account l.fn.seat).seen (g.T.Table.account l.seat).seen;
+  was_in : IsIn (law_in g.Versions.Table l.self.list) asked (told l.fn.writer) l.fn.writer;
+  is_in : (q : Request) → IsIn (law_in g.Versions.Table l.self.list) q (told l.fn.writer) l.fn.writer → IsIn (law_in g.Versions.Table l.self.list) q (told l.fn.writer) l.writer;
+  ours : g.Versions.Table.ours l.self.table l.seat;
+  ready : IsReady (g.Versions.Table.account l.seat);
+  number : (g.Versions.Table.account l.seat).number ≡ (g.Versions.Table.account l.fn.seat).number;
+  seen : Begins (g.Versions.Table.account l.fn.seat).seen (g.Versions.Table.account l.seat).seen;
 }

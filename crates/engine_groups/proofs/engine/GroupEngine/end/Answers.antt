@@ -4,9 +4,9 @@ use Rattle.engine_groups.proofs.engine.GroupEngine.end.Goals as goal
 pub returns-clause-belongs : goal.returns-clause-belongs
 returns-clause-belongs g c =
     let E = c.end.ensures in
-    end_moved g.T.Table.opening g.T.Table.ours g.T.Table.account c.args.self.now c.args.client.now c.requires c.end.new.pass E.calls.0 _ _ E.calls.1 E.calls.2 E.own.0 E.own.1
+    end_moved g.Versions.Table c.args.self.now c.args.client.now c.requires c.end.new.pass E.calls.0 _ _ E.calls.1 E.calls.2 E.own.0 E.own.1
 
 pub returns-clause-back : goal.returns-clause-back
 returns-clause-back g c =
     let E = c.end.ensures in
-    end_gives g.T.Table.opening g.T.Table.ours g.T.Table.account c.args.self.now c.args.client.now c.requires c.end.new.pass E.calls.0 _ _ E.calls.1 E.calls.2 E.own.1 E.tokens
+    end_gives g.Versions.Table c.args.self.now c.args.client.now c.requires c.end.new.pass E.calls.0 _ _ E.calls.1 E.calls.2 E.own.1 E.tokens

@@ -10,11 +10,11 @@ use Rattle.line_writers.specs.Roles.{AreMembers}
 use Rattle.line_writers.specs.Seats.{bound_of, about_of, clients_of, told}
 use Rattle.engine_rule.specs.Commits.{AreAnswered, last_after_all}
 use Rattle.engine_stage_laws.specs.Served.{AreServed}
-use Rattle.engine_groups.specs.Handled.{commit_of}
-use Rattle.engine_groups.specs.Runs.{run_of}
+use Rattle.engine_parts.specs.Handled.{commit_of}
+use Rattle.engine_parts.specs.Runs.{run_of}
 use Rattle.engine_groups.proofs.LeftClients.{has_answered, left_client, roomy}
 use Rattle.engine_groups.proofs.Onto.{has_turn, serves_again, served_last, served_now, turn_out}
-use Rattle.engine_groups.proofs.Standing.{none_of}
+use Rattle.engine_parts.proofs.Standing.{none_of}
 use Rattle.engine_groups.proofs.engine.GroupEngine.hand_on.Goals as goal
 
 pub await_pipelined_role-requires : goal.await_pipelined_role-requires
@@ -33,7 +33,7 @@ turn_in-turn-requires g c =
     let sent = c.exit_pipelined.ensures.sent (bound_of e.list) own l.group l.left seen l.gs l.p l.has l.heads_are l.pays_are in
     let piped = l.seats.is_engine.pipelined ∙ c.requires.piped in
     let R = c.await_pipelined_role.ensures.right d from to (told w.writer) sent.0 in
-    let H = has_turn g.T.Table.our_turn g.T.Table.history about n d from to (told w.writer) c.await_pipelined_role.new.writer piped c.await_pipelined_role.result R in
+    let H = has_turn g.Versions.Table about n d from to (told w.writer) c.await_pipelined_role.new.writer piped c.await_pipelined_role.result R in
     (H.turn, H.turn_is)
 
 pub lead-turn-requires-clause-leads : goal.lead-turn-requires-clause-leads
@@ -44,7 +44,7 @@ lead-turn-requires-clause-leads g c =
     let sent = c.exit_pipelined.ensures.sent (bound_of e.list) own l.group l.left seen l.gs l.p l.has l.heads_are l.pays_are in
     let piped = l.seats.is_engine.pipelined ∙ c.requires.piped in
     let R = c.await_pipelined_role.ensures.right d from to (told w.writer) sent.0 in
-    let H = has_turn g.T.Table.our_turn g.T.Table.history about n d from to (told w.writer) c.await_pipelined_role.new.writer piped c.await_pipelined_role.result R in
+    let H = has_turn g.Versions.Table about n d from to (told w.writer) c.await_pipelined_role.new.writer piped c.await_pipelined_role.result R in
     let members = subst (λ ks. AreMembers n ks l.gs) (sym c.as_slice.ensures.value) h.beside in
     (c.await_pipelined_role.ensures.client.1, (d, from, to, told w.writer, H.has_right, members))
 
@@ -56,13 +56,13 @@ lead-turn-requires-clause-ours g c =
     let sent = c.exit_pipelined.ensures.sent (bound_of e.list) own l.group l.left seen l.gs l.p l.has l.heads_are l.pays_are in
     let piped = l.seats.is_engine.pipelined ∙ c.requires.piped in
     let R = c.await_pipelined_role.ensures.right d from to (told w.writer) sent.0 in
-    let H = has_turn g.T.Table.our_turn g.T.Table.history about n d from to (told w.writer) c.await_pipelined_role.new.writer piped c.await_pipelined_role.result R in
-    let t = turn_out g.T.Table.our_turn g.T.Table.history about n d from to (told w.writer) c.await_pipelined_role.new.writer c.await_pipelined_role.result c.turn_in-turn.result c.turn_in-turn.ensures H in
-    let home = g.T.Table.opening e.table in
+    let H = has_turn g.Versions.Table about n d from to (told w.writer) c.await_pipelined_role.new.writer piped c.await_pipelined_role.result R in
+    let t = turn_out g.Versions.Table about n d from to (told w.writer) c.await_pipelined_role.new.writer c.await_pipelined_role.result c.turn_in-turn.result c.turn_in-turn.ensures H in
+    let home = g.Versions.Table.opening e.table in
     let start_is = l.seats.is_engine.start in
     let answered = subst (λ (k : ℕ). AreAnswered k None (map commit_of seen)) start_is l.before.answered in
-    let last_is : last_of home.start (g.T.Table.history c.turn_in-turn.result) ≡ last_after_all home.start (map commit_of seen) = served_last home.start seen (g.T.Table.history c.turn_in-turn.result) l.before.handed_back answered t.1 in
-    (l.seats.seat, subst (λ k. g.T.Table.our_turn k c.turn_in-turn.result) l.seats.is_engine.table t.0, l.seats.ready)
+    let last_is : last_of home.start (g.Versions.Table.history c.turn_in-turn.result) ≡ last_after_all home.start (map commit_of seen) = served_last home.start seen (g.Versions.Table.history c.turn_in-turn.result) l.before.handed_back answered t.1 in
+    (l.seats.seat, subst (λ k. g.Versions.Table.our_turn k c.turn_in-turn.result) l.seats.is_engine.table t.0, l.seats.ready)
 
 pub lead-turn-requires-clause-next : goal.lead-turn-requires-clause-next
 lead-turn-requires-clause-next g c =
@@ -72,18 +72,18 @@ lead-turn-requires-clause-next g c =
     let sent = c.exit_pipelined.ensures.sent (bound_of e.list) own l.group l.left seen l.gs l.p l.has l.heads_are l.pays_are in
     let piped = l.seats.is_engine.pipelined ∙ c.requires.piped in
     let R = c.await_pipelined_role.ensures.right d from to (told w.writer) sent.0 in
-    let H = has_turn g.T.Table.our_turn g.T.Table.history about n d from to (told w.writer) c.await_pipelined_role.new.writer piped c.await_pipelined_role.result R in
-    let t = turn_out g.T.Table.our_turn g.T.Table.history about n d from to (told w.writer) c.await_pipelined_role.new.writer c.await_pipelined_role.result c.turn_in-turn.result c.turn_in-turn.ensures H in
-    let home = g.T.Table.opening e.table in
+    let H = has_turn g.Versions.Table about n d from to (told w.writer) c.await_pipelined_role.new.writer piped c.await_pipelined_role.result R in
+    let t = turn_out g.Versions.Table about n d from to (told w.writer) c.await_pipelined_role.new.writer c.await_pipelined_role.result c.turn_in-turn.result c.turn_in-turn.ensures H in
+    let home = g.Versions.Table.opening e.table in
     let start_is = l.seats.is_engine.start in
     let answered = subst (λ (k : ℕ). AreAnswered k None (map commit_of seen)) start_is l.before.answered in
-    let last_is : last_of home.start (g.T.Table.history c.turn_in-turn.result) ≡ last_after_all home.start (map commit_of seen) = served_last home.start seen (g.T.Table.history c.turn_in-turn.result) l.before.handed_back answered t.1 in
+    let last_is : last_of home.start (g.Versions.Table.history c.turn_in-turn.result) ≡ last_after_all home.start (map commit_of seen) = served_last home.start seen (g.Versions.Table.history c.turn_in-turn.result) l.before.handed_back answered t.1 in
     (subst (λ (m : ℕ). Runs m (versions_in (group_of w.layout.parts.parts))) (sym last_is) h.may.runs, h.may.some, h.may.members)
 
 pub lead-turn-requires-clause-parts : goal.lead-turn-requires-clause-parts
 lead-turn-requires-clause-parts g c =
     let e = c.args.self.now in let w = c.args.client.now in let h = c.requires.leaves.5 in
-    subst (λ ks. HaveParts (g.T.Table.account w.seat).number ks (group_of w.layout.parts.parts)) (sym c.as_slice.ensures.value) h.may.each
+    subst (λ ks. HaveParts (g.Versions.Table.account w.seat).number ks (group_of w.layout.parts.parts)) (sym c.as_slice.ensures.value) h.may.each
 
 pub lead-turn-requires-clause-end : goal.lead-turn-requires-clause-end
 lead-turn-requires-clause-end g c =
@@ -93,12 +93,12 @@ lead-turn-requires-clause-end g c =
     let sent = c.exit_pipelined.ensures.sent (bound_of e.list) own l.group l.left seen l.gs l.p l.has l.heads_are l.pays_are in
     let piped = l.seats.is_engine.pipelined ∙ c.requires.piped in
     let R = c.await_pipelined_role.ensures.right d from to (told w.writer) sent.0 in
-    let H = has_turn g.T.Table.our_turn g.T.Table.history about n d from to (told w.writer) c.await_pipelined_role.new.writer piped c.await_pipelined_role.result R in
-    let t = turn_out g.T.Table.our_turn g.T.Table.history about n d from to (told w.writer) c.await_pipelined_role.new.writer c.await_pipelined_role.result c.turn_in-turn.result c.turn_in-turn.ensures H in
-    let home = g.T.Table.opening e.table in
+    let H = has_turn g.Versions.Table about n d from to (told w.writer) c.await_pipelined_role.new.writer piped c.await_pipelined_role.result R in
+    let t = turn_out g.Versions.Table about n d from to (told w.writer) c.await_pipelined_role.new.writer c.await_pipelined_role.result c.turn_in-turn.result c.turn_in-turn.ensures H in
+    let home = g.Versions.Table.opening e.table in
     let start_is = l.seats.is_engine.start in
     let answered = subst (λ (k : ℕ). AreAnswered k None (map commit_of seen)) start_is l.before.answered in
-    let last_is : last_of home.start (g.T.Table.history c.turn_in-turn.result) ≡ last_after_all home.start (map commit_of seen) = served_last home.start seen (g.T.Table.history c.turn_in-turn.result) l.before.handed_back answered t.1 in
+    let last_is : last_of home.start (g.Versions.Table.history c.turn_in-turn.result) ≡ last_after_all home.start (map commit_of seen) = served_last home.start seen (g.Versions.Table.history c.turn_in-turn.result) l.before.handed_back answered t.1 in
     (h.may.ends ∙ ap (λ (m : ℕ). m + length (versions_in (group_of w.layout.parts.parts))) (sym last_is), c.ranges.end.fits)
 
 pub exit_memtable-requires-clause-serves : goal.exit_memtable-requires-clause-serves
@@ -109,14 +109,14 @@ exit_memtable-requires-clause-serves g c =
     let sent = c.exit_pipelined.ensures.sent (bound_of e.list) own l.group l.left seen l.gs l.p l.has l.heads_are l.pays_are in
     let piped = l.seats.is_engine.pipelined ∙ c.requires.piped in
     let R = c.await_pipelined_role.ensures.right d from to (told w.writer) sent.0 in
-    let H = has_turn g.T.Table.our_turn g.T.Table.history about n d from to (told w.writer) c.await_pipelined_role.new.writer piped c.await_pipelined_role.result R in
-    let t = turn_out g.T.Table.our_turn g.T.Table.history about n d from to (told w.writer) c.await_pipelined_role.new.writer c.await_pipelined_role.result c.turn_in-turn.result c.turn_in-turn.ensures H in
-    let home = g.T.Table.opening e.table in
+    let H = has_turn g.Versions.Table about n d from to (told w.writer) c.await_pipelined_role.new.writer piped c.await_pipelined_role.result R in
+    let t = turn_out g.Versions.Table about n d from to (told w.writer) c.await_pipelined_role.new.writer c.await_pipelined_role.result c.turn_in-turn.result c.turn_in-turn.ensures H in
+    let home = g.Versions.Table.opening e.table in
     let start_is = l.seats.is_engine.start in
     let answered = subst (λ (k : ℕ). AreAnswered k None (map commit_of seen)) start_is l.before.answered in
-    let last_is : last_of home.start (g.T.Table.history c.turn_in-turn.result) ≡ last_after_all home.start (map commit_of seen) = served_last home.start seen (g.T.Table.history c.turn_in-turn.result) l.before.handed_back answered t.1 in
+    let last_is : last_of home.start (g.Versions.Table.history c.turn_in-turn.result) ≡ last_after_all home.start (map commit_of seen) = served_last home.start seen (g.Versions.Table.history c.turn_in-turn.result) l.before.handed_back answered t.1 in
     let kept = subst (λ (k : ℕ). AreAnswered k None (map commit_of (seen ++ all))) start_is l.kept.answered in
-    let now = served_now home.start seen all (g.T.Table.history c.turn_in-turn.result) (group_of w.layout.parts.parts) l.before.handed_back answered l.kept.handed_back kept h.made t.1 in
+    let now = served_now home.start seen all (g.Versions.Table.history c.turn_in-turn.result) (group_of w.layout.parts.parts) l.before.handed_back answered l.kept.handed_back kept h.made t.1 in
     let published = subst (AreServed (map commit_of to)) (sym c.lead-turn.ensures.published) now in (
       c.lead-turn.ensures.client.1,
       (
@@ -125,7 +125,7 @@ exit_memtable-requires-clause-serves g c =
         to,
         told w.writer,
         c.lead-turn.ensures.leads d from to (told w.writer) H.has_right,
-        serves_again g.T.Table.our_turn g.T.Table.history about.table.value about.pipelined to c.lead-turn.result piped (subst (λ k. g.T.Table.our_turn k c.lead-turn.result) (sym l.seats.is_engine.table) c.lead-turn.ensures.ours.1) published,
+        serves_again g.Versions.Table about.table.value about.pipelined to c.lead-turn.result piped (subst (λ k. g.Versions.Table.our_turn k c.lead-turn.result) (sym l.seats.is_engine.table) c.lead-turn.ensures.ours.1) published,
         sent.1,
       ),
     )
@@ -138,17 +138,17 @@ returns-clause-fits g c =
     let sent = c.exit_pipelined.ensures.sent (bound_of e.list) own l.group l.left seen l.gs l.p l.has l.heads_are l.pays_are in
     let piped = l.seats.is_engine.pipelined ∙ c.requires.piped in
     let R = c.await_pipelined_role.ensures.right d from to (told w.writer) sent.0 in
-    let H = has_turn g.T.Table.our_turn g.T.Table.history about n d from to (told w.writer) c.await_pipelined_role.new.writer piped c.await_pipelined_role.result R in
+    let H = has_turn g.Versions.Table about n d from to (told w.writer) c.await_pipelined_role.new.writer piped c.await_pipelined_role.result R in
     let x = c.exit_memtable.ensures in let lead = c.lead-turn.ensures in
     let gone = x.out.1 d from to (told w.writer) (lead.leads d from to (told w.writer) H.has_right) in
     let emptied : c.lead-turn.new.parts.parts ≡ [] = none_of (λ (part : MemberNodes). record { member = part.member; versions = part.nodes }) c.lead-turn.new.parts.parts lead.emptied.0 in
-    left_client g.T.Table.opening g.T.Table.ours g.T.Table.account g.T.Table.our_turn g.T.Table.history e r.0 r.1 r.2 own seen w c.args.held l _
+    left_client g.Versions.Table e r.0 r.1 r.2 own seen w c.args.leadership l _
     refl refl x.client.1 (x.client.0 ∙ (lead.client.0 ∙ (c.await_pipelined_role.ensures.client.0 ∙ c.exit_pipelined.ensures.client.0))) x.out.0 (gone.0 ∙ (λ i. l.told_is i ++ (own.asked, l.p) ∷ [])) lead.ours.0 lead.ours.2 lead.seen.0 refl (
       l.requests,
       ((let k = c.exit_pipelined.new.replies.list.ok.0 in let none = ap length c.exit_pipelined.ensures.replies.0 in omega (arith, k, none)), c.exit_pipelined.ensures.replies.0, subst (λ (k : ℕ). n ≤ k) (sym c.exit_pipelined.ensures.replies.1) l.replies_room),
       x.room,
     )
-    (roomy n _ (record { no_plans = l.layout.no_plans; no_batches = l.layout.no_batches; clients_are = lead.emptied.1 ∙ l.layout.clients_are; plans = l.layout.plans; batches = l.layout.batches; members = l.layout.members }) emptied)
+    (roomy n _ (record { no_numberings = l.layout.no_numberings; no_batches = l.layout.no_batches; clients_are = lead.emptied.1 ∙ l.layout.clients_are; numberings = l.layout.numberings; batches = l.layout.batches; members = l.layout.members }) emptied)
 
 pub returns-clause-answered : goal.returns-clause-answered
 returns-clause-answered g c number start mine own seen h =
@@ -158,6 +158,6 @@ returns-clause-answered g c number start mine own seen h =
     let sent = c.exit_pipelined.ensures.sent (bound_of e.list) own l.group l.left seen l.gs l.p l.has l.heads_are l.pays_are in
     let piped = l.seats.is_engine.pipelined ∙ c.requires.piped in
     let R = c.await_pipelined_role.ensures.right d from to (told w.writer) sent.0 in
-    let H = has_turn g.T.Table.our_turn g.T.Table.history about n d from to (told w.writer) c.await_pipelined_role.new.writer piped c.await_pipelined_role.result R in
+    let H = has_turn g.Versions.Table about n d from to (told w.writer) c.await_pipelined_role.new.writer piped c.await_pipelined_role.result R in
     let gone = c.exit_memtable.ensures.out.1 d from to (told w.writer) (c.lead-turn.ensures.leads d from to (told w.writer) H.has_right) in
-    has_answered g.T.Table.opening g.T.Table.ours g.T.Table.account g.T.Table.our_turn g.T.Table.history e number start mine own seen w c.args.held l c.exit_memtable.result _ (gone.0 ∙ (λ i. l.told_is i ++ (own.asked, l.p) ∷ [])) gone.1
+    has_answered g.Versions.Table e number start mine own seen w c.args.leadership l c.exit_memtable.result _ (gone.0 ∙ (λ i. l.told_is i ++ (own.asked, l.p) ∷ [])) gone.1

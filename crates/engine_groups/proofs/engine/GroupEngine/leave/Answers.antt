@@ -9,7 +9,7 @@ returns-clause-fits g c =
     let number = r.0 in let start = r.1 in let mine = r.2 in let own = r.3 in let seen = r.4 in let l = r.5 in
     let x = c.exit.ensures in
     let out = x.out.2 (bound_of e.list) own l.group l.left seen l.gs l.p l.has l.heads_are l.pays_are in
-    left_client g.T.Table.opening g.T.Table.ours g.T.Table.account g.T.Table.our_turn g.T.Table.history e number start mine own seen w c.args.held l _
+    left_client g.Versions.Table e number start mine own seen w c.args.leadership l _
     refl refl x.out.0 x.client x.out.1 (out.0 ∙ (λ i. l.told_is i ++ (own.asked, l.p) ∷ [])) l.seats.seat l.seats.ready refl refl (
       l.requests,
       ((let k = c.exit.new.replies.list.ok.0 in let none = ap length x.room.1 in omega (arith, k, none)), x.room.1, subst (λ (k : ℕ). n ≤ k) (sym x.replies_room) l.replies_room),
@@ -21,4 +21,4 @@ pub returns-clause-answered : goal.returns-clause-answered
 returns-clause-answered g c number start mine own seen l =
     let e = c.args.self.now in let w = c.args.client.now in let x = c.exit.ensures in
     let out = x.out.2 (bound_of e.list) own l.group l.left seen l.gs l.p l.has l.heads_are l.pays_are in
-    has_answered g.T.Table.opening g.T.Table.ours g.T.Table.account g.T.Table.our_turn g.T.Table.history e number start mine own seen w c.args.held l c.exit.result _ (out.0 ∙ (λ i. l.told_is i ++ (own.asked, l.p) ∷ [])) out.1
+    has_answered g.Versions.Table e number start mine own seen w c.args.leadership l c.exit.result _ (out.0 ∙ (λ i. l.told_is i ++ (own.asked, l.p) ∷ [])) out.1

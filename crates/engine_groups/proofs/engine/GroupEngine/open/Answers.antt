@@ -1,38 +1,38 @@
 use Rattle.std.proofs.Common.{rules, ◌≡◌, ◌≤◌, sym, ◌∙◌, subst, arith}
 use Rattle.engine_controller.specs.Passes.{AreNew}
-use Rattle.engine_groups.specs.Layout.{AreRoomy}
+use Rattle.engine_parts.specs.Layout.{AreRoomy}
 use Rattle.engine_groups.proofs.Seating.{seats_count}
 use Rattle.engine_groups.proofs.engine.GroupEngine.open.Goals as goal
 
 pub overflow_cast-count : goal.overflow_cast-count
 overflow_cast-count g c =
-    let n = seats_count g.T.Table.ours g.T.Table.account c.args.table (g.T.Table.opening c.args.table).clients c.args.seats.clients c.requires.seats in
+    let n = seats_count g.Versions.Table c.args.table (g.Versions.Table.opening c.args.table).clients c.args.seats.clients c.requires.seats in
     let few = c.requires.clients.1 in let is = c.len-count.ensures in
     let small : c.len-count.result ≤ 16 = omega (arith, n, few, is) in
     search (rules, small)
 
 pub open-requires : goal.open-requires
 open-requires g c =
-    let n = seats_count g.T.Table.ours g.T.Table.account c.args.table (g.T.Table.opening c.args.table).clients c.args.seats.clients c.requires.seats in
+    let n = seats_count g.Versions.Table c.args.table (g.Versions.Table.opening c.args.table).clients c.args.seats.clients c.requires.seats in
     let some = c.requires.clients.0 in let few = c.requires.clients.1 in let is = c.len-count.ensures in
     record { clients = (omega (arith, n, some, is), omega (arith, n, few, is)) }
 
 pub open_with-requires-clause-controller : goal.open_with-requires-clause-controller
 open_with-requires-clause-controller g c =
-    let n = seats_count g.T.Table.ours g.T.Table.account c.args.table (g.T.Table.opening c.args.table).clients c.args.seats.clients c.requires.seats in
-    let count : c.len-count.result ≡ (g.T.Table.opening c.args.table).clients = c.len-count.ensures ∙ n in
+    let n = seats_count g.Versions.Table c.args.table (g.Versions.Table.opening c.args.table).clients c.args.seats.clients c.requires.seats in
+    let count : c.len-count.result ≡ (g.Versions.Table.opening c.args.table).clients = c.len-count.ensures ∙ n in
     subst (λ k. AreNew c.in-Ok.controller k c.in-Ok.passes) count c.in-Ok.ensures.new
 
 pub open_with-requires-clause-layouts : goal.open_with-requires-clause-layouts
 open_with-requires-clause-layouts g c =
-    let n = seats_count g.T.Table.ours g.T.Table.account c.args.table (g.T.Table.opening c.args.table).clients c.args.seats.clients c.requires.seats in
-    let count : c.len-count.result ≡ (g.T.Table.opening c.args.table).clients = c.len-count.ensures ∙ n in
+    let n = seats_count g.Versions.Table c.args.table (g.Versions.Table.opening c.args.table).clients c.args.seats.clients c.requires.seats in
+    let count : c.len-count.result ≡ (g.Versions.Table.opening c.args.table).clients = c.len-count.ensures ∙ n in
     let layouts = c.in-Ok-for_all.layouts in let all = c.in-Ok-for_all.ensures in
     (subst (λ k. AreRoomy k layouts.items) count all.1, sym layouts.ok.0 ∙ (all.0 ∙ count))
 
 pub open_with-requires-clause-room : goal.open_with-requires-clause-room
 open_with-requires-clause-room g c =
-    let n = seats_count g.T.Table.ours g.T.Table.account c.args.table (g.T.Table.opening c.args.table).clients c.args.seats.clients c.requires.seats in
-    let count : c.len-count.result ≡ (g.T.Table.opening c.args.table).clients = c.len-count.ensures ∙ n in
+    let n = seats_count g.Versions.Table c.args.table (g.Versions.Table.opening c.args.table).clients c.args.seats.clients c.requires.seats in
+    let count : c.len-count.result ≡ (g.Versions.Table.opening c.args.table).clients = c.len-count.ensures ∙ n in
     let made = c.in-Ok-with_capacity.ensures in let room = made.capacity in
     (made.items, omega (arith, count, room))

@@ -1,5 +1,5 @@
 use Rattle.std.proofs.Common.{◌≡◌, ℕ, ◌<◌, ◌≤◌, [], ◌∷◌, sym, ap, ◌∙◌, subst}
-use Rattle.line_rule.specs.declared.view.Stage.TheVariants.{Idle}
+use Rattle.line_rule.specs.declared.view.LineStage.TheVariants.{Idle}
 use Rattle.line_rule.specs.Rule.{hold}
 use Rattle.line_writers.specs.Seats.{told, told_in_first, clients_of}
 use Rattle.engine_rule.specs.Asked.{HasAsked}

@@ -8,10 +8,10 @@ use Rattle.engine_groups.proofs.engine.GroupEngine.see.Goals as goal
 pub returns-in-Some-clause-fits : goal.returns-in-Some-clause-fits
 returns-in-Some-clause-fits g c =
     let L = c.learn.ensures in
-    learn_moved g.T.Table.opening g.T.Table.ours g.T.Table.account c.args.self.now c.await_answer.new.client c.await_answer.ensures.fits c.learn.new.pass L.seen L.own.0 L.own.1
+    learn_moved g.Versions.Table c.args.self.now c.await_answer.new.client c.await_answer.ensures.fits c.learn.new.pass L.seen L.own.0 L.own.1
 
 pub returns-in-Some-clause-seen : goal.returns-in-Some-clause-seen
 returns-in-Some-clause-seen g c =
     let E = c.await_answer.ensures in let L = c.learn.ensures in
-    let more = learn_sees g.T.Table.opening g.T.Table.ours g.T.Table.account c.args.self.now c.await_answer.new.client E.fits c.learn.new.pass L.seen in
+    let more = learn_sees g.Versions.Table c.args.self.now c.await_answer.new.client E.fits c.learn.new.pass L.seen in
     (E.seen, subst (λ (z : ℕ × Pass). SeesMore z.0 (seen_by z.1) (seen_by c.learn.new.pass)) (λ i. (E.same.0 i, E.same.3 i)) more)

@@ -5,25 +5,25 @@ use Rattle.model_base.specs.History.{max_sequence}
 use Rattle.line_writers.specs.Seats.{bound_of, about_of, clients_of}
 use Rattle.engine_controller.specs.Delays.{delays_of}
 use Rattle.engine_controller.specs.Looks.{look_of}
-use Rattle.engine_controller.specs.Passes.{client_of, seen_by, noted, IsNoteOf}
+use Rattle.engine_controller.specs.Passes.{client_of, seen_by, seen_by_note, IsNoteOf}
 use Rattle.table_rule.specs.declared.content.MemberVersions.{MemberVersions}
 use Rattle.engine_rule.specs.Entries.{SeesMore}
 use Rattle.engine_rule.specs.Plans.{CommitRequest, ComesAfter, IsAskedFor, LetsProceed, MayNotWait, ProceedsWith}
-use Rattle.engine_groups.specs.declared.requests.Delay.{Delay}
-use Rattle.engine_groups.specs.declared.requests.Request.{Request}
-use Rattle.engine_groups.specs.declared.requests.Reply.{Reply}
-use Rattle.engine_groups.specs.Asking.{HasAskedFor, OnlyLooks, all_seen}
-use Rattle.engine_groups.specs.Handled.{HandsBack, InOrder, IsHeldUp, commit_requests_of, handled_with, seen_at}
-use Rattle.engine_groups.specs.Law.{LogStandsFor}
-use Rattle.engine_groups.specs.Led.{AreAlike, IsLedGroup}
-use Rattle.engine_groups.specs.Numbering.{AreBeside, others_in}
-use Rattle.engine_groups.specs.Staged.{published_with}
+use Rattle.engine_parts.specs.declared.requests.Delay.{Delay}
+use Rattle.engine_parts.specs.declared.requests.Request.{Request}
+use Rattle.engine_parts.specs.declared.requests.Answer.{Answer}
+use Rattle.engine_parts.specs.Asking.{HasAskedFor, OnlyLooks, all_seen}
+use Rattle.engine_parts.specs.Handled.{HandsBack, InOrder, IsHeldUp, commit_requests_of, handled_with, seen_at}
+use Rattle.engine_parts.specs.LogLaw.{LogStandsFor}
+use Rattle.engine_parts.specs.Led.{AreAlike, IsLedGroup}
+use Rattle.engine_parts.specs.Numbering.{AreBeside, others_in}
+use Rattle.engine_parts.specs.Staged.{published_with}
 use Rattle.engine_groups.proofs.Members.{beside_where, others_unnoted}
-use Rattle.engine_groups.proofs.Serves.{as_many, asked_after, asked_delays, asked_is, asked_sees, asked_shown, back_unnoted, first_flag, held_at, held_back, held_order, held_shown, led_unnoted, looks_sees, order_unnoted, proceeds, put_back, replies_at, replies_shown, stands_by, stands_held_up, stands_noted}
-use Rattle.engine_groups.proofs.Staging.{laid, no_runs_held}
-use Rattle.engine_groups.proofs.Standing.{last_low}
+use Rattle.engine_parts.proofs.Serves.{as_many, asked_after, asked_delays, asked_is, asked_sees, asked_shown, back_unnoted, first_flag, held_at, held_back, held_order, held_shown, led_unnoted, looks_sees, order_unnoted, proceeds, put_back, replies_at, replies_shown, stands_by, stands_held_up, stands_noted}
+use Rattle.engine_parts.proofs.Staging.{laid, no_runs_held}
+use Rattle.engine_parts.proofs.Standing.{last_low}
 use Rattle.engine_groups.proofs.Turning.{is_none_by}
-use Rattle.engine_groups.proofs.Views.{unseen_commits}
+use Rattle.engine_parts.proofs.Views.{unseen_commits}
 use Rattle.engine_groups.proofs.engine.GroupEngine.serve.Goals as goal
 
 -- the log alone
@@ -37,8 +37,8 @@ pub returns-then-not-proceeds-clause-served : goal.returns-then-not-proceeds-cla
 returns-then-not-proceeds-clause-served g c =
     let S = c.requires.served in let q = S.seats in let e = c.args.self.now in let v = c.args.client.now in
     let xs : List (ℕ × Request) = v.lists.requests.list.items in let k : ℕ = v.number in let was : List ControllerCall = seen_by v.pass in
-    let asked : List ControllerCall = noted c.args.held.asked in
-    let A = c.ask-look.ensures in let N = c.note-asked.ensures in let R = c.refuse_held_up.ensures in let no = c.may_proceed-proceeds.ensures.refused c.if-not-proceeds.true in
+    let asked : List ControllerCall = seen_by_note c.args.leadership.asked in
+    let A = c.ask-look.ensures in let N = c.note.ensures in let R = c.refuse_stalled.ensures in let no = c.may_proceed-proceeds.ensures.refused c.if-not-proceeds.true in
     let n : Look = look_of c.ask-look.result in let known : List ControllerCall = seen_by c.ask-look.new.pass in
     let L = v.lists.requests.list in let new : List (ℕ × Request) = c.ask-look.new.requests in let same = c.deref_mut.ensures.value in
     let h : HasAskedFor k was asked xs n known = subst (λ (z : ℕ × List (ℕ × Request)). HasAskedFor z.0 was asked z.1 n known) (λ i. (q.pass_number i, same i)) A.asked in
@@ -46,10 +46,10 @@ returns-then-not-proceeds-clause-served g c =
     let left_is : left ≡ all_seen xs = put_back xs new L.len L.ok.0 (A.requests ∙ ap all_seen same) in
     let d : Delay = record { pass = c.of.result } in
     let is : seen_at d ≡ known = ap seen_by c.of.ensures in
-    let ys : List (ℕ × Reply) = c.refuse_held_up.new.replies.items in
+    let ys : List (ℕ × Answer) = c.refuse_stalled.new.replies.items in
     let zip : AllZip (IsHeldUp e.controller d n) (all_seen xs) ys = subst (λ l. AllZip (IsHeldUp e.controller d n) l ys) left_is R.replies in
     let may : MayNotWait (commit_requests_of xs) = subst (λ (b : Bool). AreAlike b (commit_requests_of xs)) (ap (λ o. o.no_slowdown) (first_flag (bound_of e.list) (clients_of e.list) xs S.led left c.index.result.now left_is c.index.ensures) ∙ no.0) S.led.slowdown in
-    let still : seen_by c.note-asked.new.pass ≡ known = N.seen ∙ no.2 in
+    let still : seen_by c.note.new.pass ≡ known = N.seen ∙ no.2 in
     record {
       seats = record {
         is_engine = q.is_engine;
@@ -78,12 +78,12 @@ returns-then-not-proceeds-clause-served g c =
       of_delay = held_at e.controller d n known is xs ys zip;
     }
 
-pub returns-then-not-proceeds-clause-held : goal.returns-then-not-proceeds-clause-held
-returns-then-not-proceeds-clause-held g c hs st =
-    let S = c.requires.served in let q = S.seats in let e = c.args.self.now in let v = c.args.client.now in let about = about_of e.list in let path = c.args.held.path in
+pub returns-then-not-proceeds-clause-leadership : goal.returns-then-not-proceeds-clause-leadership
+returns-then-not-proceeds-clause-leadership g c hs st =
+    let S = c.requires.served in let q = S.seats in let e = c.args.self.now in let v = c.args.client.now in let about = about_of e.list in let path = c.args.leadership.path in
     let xs : List (ℕ × Request) = v.lists.requests.list.items in let k : ℕ = v.number in let was : List ControllerCall = seen_by v.pass in
-    let asked : List ControllerCall = noted c.args.held.asked in
-    let A = c.ask-look.ensures in let N = c.note-asked.ensures in let R = c.refuse_held_up.ensures in let no = c.may_proceed-proceeds.ensures.refused c.if-not-proceeds.true in
+    let asked : List ControllerCall = seen_by_note c.args.leadership.asked in
+    let A = c.ask-look.ensures in let N = c.note.ensures in let R = c.refuse_stalled.ensures in let no = c.may_proceed-proceeds.ensures.refused c.if-not-proceeds.true in
     let n : Look = look_of c.ask-look.result in let known : List ControllerCall = seen_by c.ask-look.new.pass in
     let L = v.lists.requests.list in let new : List (ℕ × Request) = c.ask-look.new.requests in let same = c.deref_mut.ensures.value in
     let h : HasAskedFor k was asked xs n known = subst (λ (z : ℕ × List (ℕ × Request)). HasAskedFor z.0 was asked z.1 n known) (λ i. (q.pass_number i, same i)) A.asked in
@@ -91,20 +91,20 @@ returns-then-not-proceeds-clause-held g c hs st =
     let left_is : left ≡ all_seen xs = put_back xs new L.len L.ok.0 (A.requests ∙ ap all_seen same) in
     let d : Delay = record { pass = c.of.result } in
     let is : seen_at d ≡ known = ap seen_by c.of.ensures in
-    let ys : List (ℕ × Reply) = c.refuse_held_up.new.replies.items in
+    let ys : List (ℕ × Answer) = c.refuse_stalled.new.replies.items in
     let zip : AllZip (IsHeldUp e.controller d n) (all_seen xs) ys = subst (λ l. AllZip (IsHeldUp e.controller d n) l ys) left_is R.replies in
     let may : MayNotWait (commit_requests_of xs) = subst (λ (b : Bool). AreAlike b (commit_requests_of xs)) (ap (λ o. o.no_slowdown) (first_flag (bound_of e.list) (clients_of e.list) xs S.led left c.index.result.now left_is c.index.ensures) ∙ no.0) S.led.slowdown in
-    let still : seen_by c.note-asked.new.pass ≡ known = N.seen ∙ no.2 in
+    let still : seen_by c.note.new.pass ≡ known = N.seen ∙ no.2 in
     let led : IsLedGroup about.group_bytes about.clients xs = subst (λ (z : ℕ × ℕ). IsLedGroup z.0 z.1 xs) (λ i. (sym q.is_engine.group_bytes i, sym q.is_engine.about_clients i)) S.led in
     record {
       turn = st.turn;
-      note = subst (λ ctl. IsNoteOf ctl c.note-asked.result) (sym q.is_engine.controller) N.note.0;
-      path = stands_by our_log as_is about.opened.value path.log st.published path.last tt tt about.start about.start about.clients about.clients about.group_bytes about.group_bytes known (noted c.note-asked.result) (hs ++ handled_with xs ys) refl refl refl refl (sym (N.note.1 ∙ no.2))
+      note = subst (λ ctl. IsNoteOf ctl c.note.result) (sym q.is_engine.controller) N.note.0;
+      path = stands_by our_log as_is about.opened.value path.log st.published path.last tt tt about.start about.start about.clients about.clients about.group_bytes about.group_bytes known (seen_by_note c.note.result) (hs ++ handled_with xs ys) refl refl refl refl (sym (N.note.1 ∙ no.2))
           (stands_held_up our_log as_is about.opened.value path.log st.published path.last e.controller d n tt about.start about.clients about.group_bytes asked known hs xs ys zip is led (asked_is k was asked known xs n h about.group_bytes about.clients led S.leads) (asked_after k was asked known xs n h) no.1 may st.path);
     }
 
-pub refuse_held_up-requires-clause-room : goal.refuse_held_up-requires-clause-room
-refuse_held_up-requires-clause-room g c =
+pub refuse_stalled-requires-clause-room : goal.refuse_stalled-requires-clause-room
+refuse_stalled-requires-clause-room g c =
     let S = c.requires.served in let q = S.seats in let e = c.args.self.now in let v = c.args.client.now in
     let xs : List (ℕ × Request) = v.lists.requests.list.items in
     let L = v.lists.requests.list in let new : List (ℕ × Request) = c.ask-look.new.requests in
@@ -122,14 +122,14 @@ returns-then-not-proceeds-clause-staged g c =
     let left : List (ℕ × Request) = take L.len (new ++ drop (length new) L.items) in
     let left_is : left ≡ all_seen xs = put_back xs new L.len L.ok.0 (c.ask-look.ensures.requests ∙ ap all_seen same) in
     let d : Delay = record { pass = c.of.result } in
-    let ys : List (ℕ × Reply) = c.refuse_held_up.new.replies.items in
-    let zip : AllZip (IsHeldUp e.controller d n) (all_seen xs) ys = subst (λ l. AllZip (IsHeldUp e.controller d n) l ys) left_is c.refuse_held_up.ensures.replies in
+    let ys : List (ℕ × Answer) = c.refuse_stalled.new.replies.items in
+    let zip : AllZip (IsHeldUp e.controller d n) (all_seen xs) ys = subst (λ l. AllZip (IsHeldUp e.controller d n) l ys) left_is c.refuse_stalled.ensures.replies in
     (S.layout.clear.2, refl, no_runs_held e.controller d n (all_seen xs) ys zip)
 
 pub log_phase-path-requires-clause-last : goal.log_phase-path-requires-clause-last
 log_phase-path-requires-clause-last g c =
-    let q = c.requires.served.seats in let e = c.args.self.now in let about = about_of e.list in let path = c.args.held.path in let st = c.requires.held.1 in
-    last_low our_log as_is tt about.opened.value about.start about.clients about.group_bytes (noted c.args.held.asked) path.log st.published path.last c.requires.held.0 st.path
+    let q = c.requires.served.seats in let e = c.args.self.now in let about = about_of e.list in let path = c.args.leadership.path in let st = c.requires.leadership.1 in
+    last_low our_log as_is tt about.opened.value about.start about.clients about.group_bytes (seen_by_note c.args.leadership.asked) path.log st.published path.last c.requires.leadership.0 st.path
     (subst (λ (k : ℕ). k ≤ max_sequence) (sym q.is_engine.start) q.is_engine.low)
 
 pub log_phase-path-requires-clause-group : goal.log_phase-path-requires-clause-group
@@ -146,8 +146,8 @@ pub returns-clause-served : goal.returns-clause-served
 returns-clause-served g c =
     let S = c.requires.served in let q = S.seats in let e = c.args.self.now in let v = c.args.client.now in
     let xs : List (ℕ × Request) = v.lists.requests.list.items in let k : ℕ = v.number in let was : List ControllerCall = seen_by v.pass in
-    let asked : List ControllerCall = noted c.args.held.asked in
-    let A = c.ask-look.ensures in let P = c.may_proceed-proceeds.ensures in let N = c.note-asked.ensures in let H = c.log_phase-path.ensures in
+    let asked : List ControllerCall = seen_by_note c.args.leadership.asked in
+    let A = c.ask-look.ensures in let P = c.may_proceed-proceeds.ensures in let N = c.note.ensures in let H = c.log_phase-path.ensures in
     let n : Look = look_of c.ask-look.result in let known : List ControllerCall = seen_by c.ask-look.new.pass in
     let L = v.lists.requests.list in let new : List (ℕ × Request) = c.ask-look.new.requests in let same = c.deref_mut.ensures.value in
     let h : HasAskedFor k was asked xs n known = subst (λ (z : ℕ × List (ℕ × Request)). HasAskedFor z.0 was asked z.1 n known) (λ i. (q.pass_number i, same i)) A.asked in
@@ -155,9 +155,9 @@ returns-clause-served g c =
     let left_is : left ≡ all_seen xs = put_back xs new L.len L.ok.0 (A.requests ∙ ap all_seen same) in
     let d : Delay = record { pass = c.of.result } in
     let is : seen_at d ≡ known = ap seen_by c.of.ensures in
-    let ys : List (ℕ × Reply) = c.log_phase-path.new.replies.items in
+    let ys : List (ℕ × Answer) = c.log_phase-path.new.replies.items in
     let own : client_of c.ask-look.new.pass ≡ k = A.pass.1 ∙ q.pass_number in
-    let looks : OnlyLooks k known (seen_by c.note-asked.new.pass) = subst (λ (z : ℕ × List ControllerCall). OnlyLooks z.0 known z.1) (λ i. (own i, sym N.seen i)) P.looks in
+    let looks : OnlyLooks k known (seen_by c.note.new.pass) = subst (λ (z : ℕ × List ControllerCall). OnlyLooks z.0 known z.1) (λ i. (own i, sym N.seen i)) P.looks in
     record {
       seats = record {
         is_engine = q.is_engine;
@@ -169,10 +169,10 @@ returns-clause-served g c =
         number = q.number;
       };
       layout = record {
-        no_plans = H.taken.1;
+        no_numberings = H.taken.1;
         no_batches = H.taken.2;
         clients_are = H.taken.3 ∙ S.layout.clear.3;
-        plans = subst (λ m. clients_of e.list ≤ m) (sym H.room.1) S.layout.plans;
+        numberings = subst (λ m. clients_of e.list ≤ m) (sym H.room.1) S.layout.numberings;
         batches = subst (λ m. clients_of e.list ≤ m) (sym H.room.2) S.layout.batches;
         members = subst (λ m. clients_of e.list ≤ m) (sym H.room.4) S.layout.members;
       };
@@ -187,18 +187,18 @@ returns-clause-served g c =
       taken = H.taken.0;
       requests_room = H.room.0;
       replies_room = H.room.3;
-      sees_more = looks_sees k was known (seen_by c.note-asked.new.pass) (asked_sees k was asked known xs n h) looks;
+      sees_more = looks_sees k was known (seen_by c.note.new.pass) (asked_sees k was asked known xs n h) looks;
       known = known;
       delays = looks.delays ∙ asked_delays k was asked known xs n h;
       of_delay = replies_at e.controller d known is ys H.replies.2;
     }
 
-pub returns-clause-held : goal.returns-clause-held
-returns-clause-held g c hs st =
-    let S = c.requires.served in let q = S.seats in let E = q.is_engine in let e = c.args.self.now in let v = c.args.client.now in let about = about_of e.list in let path = c.args.held.path in
+pub returns-clause-leadership : goal.returns-clause-leadership
+returns-clause-leadership g c hs st =
+    let S = c.requires.served in let q = S.seats in let E = q.is_engine in let e = c.args.self.now in let v = c.args.client.now in let about = about_of e.list in let path = c.args.leadership.path in
     let xs : List (ℕ × Request) = v.lists.requests.list.items in let k : ℕ = v.number in let was : List ControllerCall = seen_by v.pass in
-    let asked : List ControllerCall = noted c.args.held.asked in
-    let A = c.ask-look.ensures in let P = c.may_proceed-proceeds.ensures in let N = c.note-asked.ensures in let H = c.log_phase-path.ensures in
+    let asked : List ControllerCall = seen_by_note c.args.leadership.asked in
+    let A = c.ask-look.ensures in let P = c.may_proceed-proceeds.ensures in let N = c.note.ensures in let H = c.log_phase-path.ensures in
     let n : Look = look_of c.ask-look.result in let known : List ControllerCall = seen_by c.ask-look.new.pass in
     let L = v.lists.requests.list in let new : List (ℕ × Request) = c.ask-look.new.requests in let same = c.deref_mut.ensures.value in
     let h : HasAskedFor k was asked xs n known = subst (λ (z : ℕ × List (ℕ × Request)). HasAskedFor z.0 was asked z.1 n known) (λ i. (q.pass_number i, same i)) A.asked in
@@ -206,7 +206,7 @@ returns-clause-held g c hs st =
     let left_is : left ≡ all_seen xs = put_back xs new L.len L.ok.0 (A.requests ∙ ap all_seen same) in
     let d : Delay = record { pass = c.of.result } in
     let is : seen_at d ≡ known = ap seen_by c.of.ensures in
-    let ys : List (ℕ × Reply) = c.log_phase-path.new.replies.items in
+    let ys : List (ℕ × Answer) = c.log_phase-path.new.replies.items in
     let many : ℕ = v.layout.parts.clients in
     let led : IsLedGroup about.group_bytes many left = subst (λ (z : ℕ × ℕ × List (ℕ × Request)). IsLedGroup z.0 z.1 z.2) (λ i. (sym E.group_bytes i, sym S.layout.clear.3 i, sym left_is i)) (led_unnoted (bound_of e.list) (clients_of e.list) xs S.led) in
     let comes : ComesAfter asked (seen_at d) = subst (ComesAfter asked) (sym is) (asked_after k was asked known xs n h) in
@@ -225,8 +225,8 @@ returns-clause-held g c hs st =
     let unnoted = subst (λ l. LogStandsFor about.opened.value about.start many about.group_bytes went p.log now p.last (hs ++ handled_with l ys)) left_is after in
     let as_was = stands_noted our_log as_is about.opened.value p.log now p.last tt about.start many about.group_bytes went hs xs ys unnoted in
     record {
-      note = subst (λ ctl. IsNoteOf ctl c.note-asked.result) (sym E.controller) N.note.0;
-      path = stands_by our_log as_is about.opened.value p.log now p.last tt tt about.start about.start many about.clients about.group_bytes about.group_bytes went (noted c.note-asked.result) (hs ++ handled_with xs ys) refl refl (sym clients_are) refl (sym N.note.1) as_was;
+      note = subst (λ ctl. IsNoteOf ctl c.note.result) (sym E.controller) N.note.0;
+      path = stands_by our_log as_is about.opened.value p.log now p.last tt tt about.start about.start many about.clients about.group_bytes about.group_bytes went (seen_by_note c.note.result) (hs ++ handled_with xs ys) refl refl (sym clients_are) refl (sym N.note.1) as_was;
       turn = st.turn;
     }
 
@@ -238,6 +238,6 @@ returns-clause-beside g c =
     let left : List (ℕ × Request) = take L.len (new ++ drop (length new) L.items) in
     let left_is : left ≡ all_seen xs = put_back xs new L.len L.ok.0 (c.ask-look.ensures.requests ∙ ap all_seen c.deref_mut.ensures.value) in
     let others = ap others_in left_is ∙ others_unnoted xs in
-    let staged = is_none_by c.is_none.result c.args.held.turn c.is_none.ensures in
-    let told = beside_where c.may_be_apart.result c.is_none.result (others_in left) c.log_phase-path.new.layout.members.items c.log_phase-path.result.1 c.may_be_apart.ensures c.log_phase-path.ensures.beside in
+    let staged = is_none_by c.is_none.result c.args.leadership.turn c.is_none.ensures in
+    let told = beside_where c.may_be_apart-apart.result c.is_none.result (others_in left) c.log_phase-path.new.layout.members.items c.log_phase-path.result.1 c.may_be_apart-apart.ensures c.log_phase-path.ensures.beside in
     subst (λ (z : Bool × List ℕ). IfSome c.log_phase-path.result.1 (λ _. AreBeside z.0 z.1 c.log_phase-path.new.layout.members.items)) (λ i. (staged i, others i)) told

@@ -7,11 +7,11 @@ use Rattle.engine_groups.proofs.engine.GroupEngine.slow.Goals as goal
 pub returns-clause-belongs : goal.returns-clause-belongs
 returns-clause-belongs g c =
     let E = c.slow.ensures in
-    pass_moved g.T.Table.opening g.T.Table.ours g.T.Table.account c.args.self.now c.args.client.now c.requires c.slow.new.pass E.own.0 E.own.1
-    (token_delays g.T.Table.opening g.T.Table.ours g.T.Table.account c.args.self.now c.args.client.now c.requires _ _ c.slow.result c.slow.new.pass (controller.slow c.args.rate) refl E.done E.held)
+    pass_moved g.Versions.Table c.args.self.now c.args.client.now c.requires c.slow.new.pass E.own.0 E.own.1
+    (token_delays g.Versions.Table c.args.self.now c.args.client.now c.requires _ _ c.slow.result c.slow.new.pass (controller.slow c.args.rate) refl E.done E.held)
 
 pub returns-clause-done : goal.returns-clause-done
-returns-clause-done g c = on_ok c.slow.result (λ h. asks_if g.T.Table.opening g.T.Table.ours g.T.Table.account c.args.self.now c.args.client.now c.requires c.slow.new.pass (controller.slow c.args.rate) h.1 holds_slow false refl h.0) c.slow.ensures.done
+returns-clause-done g c = on_ok c.slow.result (λ h. asks_if g.Versions.Table c.args.self.now c.args.client.now c.requires c.slow.new.pass (controller.slow c.args.rate) h.1 holds_slow false refl h.0) c.slow.ensures.done
 
 pub returns-clause-held : goal.returns-clause-held
-returns-clause-held g c = on_err c.slow.result (λ h. keeps_if g.T.Table.opening g.T.Table.ours g.T.Table.account c.args.self.now c.args.client.now c.requires c.slow.new.pass holds_slow true h.0 h.1) c.slow.ensures.held
+returns-clause-held g c = on_err c.slow.result (λ h. keeps_if g.Versions.Table c.args.self.now c.args.client.now c.requires c.slow.new.pass holds_slow true h.0 h.1) c.slow.ensures.held

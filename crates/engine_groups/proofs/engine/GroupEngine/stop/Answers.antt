@@ -7,11 +7,11 @@ use Rattle.engine_groups.proofs.engine.GroupEngine.stop.Goals as goal
 pub returns-clause-belongs : goal.returns-clause-belongs
 returns-clause-belongs g c =
     let E = c.stop.ensures in
-    pass_moved g.T.Table.opening g.T.Table.ours g.T.Table.account c.args.self.now c.args.client.now c.requires c.stop.new.pass E.own.0 E.own.1
-    (token_delays g.T.Table.opening g.T.Table.ours g.T.Table.account c.args.self.now c.args.client.now c.requires _ _ c.stop.result c.stop.new.pass controller.stop refl E.done E.held)
+    pass_moved g.Versions.Table c.args.self.now c.args.client.now c.requires c.stop.new.pass E.own.0 E.own.1
+    (token_delays g.Versions.Table c.args.self.now c.args.client.now c.requires _ _ c.stop.result c.stop.new.pass controller.stop refl E.done E.held)
 
 pub returns-clause-done : goal.returns-clause-done
-returns-clause-done g c = on_ok c.stop.result (λ h. asks_if g.T.Table.opening g.T.Table.ours g.T.Table.account c.args.self.now c.args.client.now c.requires c.stop.new.pass controller.stop h.1 holds_stop false refl h.0) c.stop.ensures.done
+returns-clause-done g c = on_ok c.stop.result (λ h. asks_if g.Versions.Table c.args.self.now c.args.client.now c.requires c.stop.new.pass controller.stop h.1 holds_stop false refl h.0) c.stop.ensures.done
 
 pub returns-clause-held : goal.returns-clause-held
-returns-clause-held g c = on_err c.stop.result (λ h. keeps_if g.T.Table.opening g.T.Table.ours g.T.Table.account c.args.self.now c.args.client.now c.requires c.stop.new.pass holds_stop true h.0 h.1) c.stop.ensures.held
+returns-clause-held g c = on_err c.stop.result (λ h. keeps_if g.Versions.Table c.args.self.now c.args.client.now c.requires c.stop.new.pass holds_stop true h.0 h.1) c.stop.ensures.held

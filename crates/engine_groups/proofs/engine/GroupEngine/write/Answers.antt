@@ -13,7 +13,7 @@ use Rattle.model_accounts.specs.Accounts.{Account, Refuses}
 use Rattle.engine_rule.specs.Entries.{account_of, SeesMore}
 use Rattle.engine_rule.proofs.Own.{refused_looked}
 use Rattle.engine_groups.specs.Clients.{account_in, opened_log, own_commits, settings_of}
-use Rattle.engine_groups.specs.Handled.{AreHandled, ShowsDelay}
+use Rattle.engine_parts.specs.Handled.{AreHandled, ShowsDelay}
 use Rattle.engine_groups.proofs.Answered.{Concludes, above_seen, begins_on, begins_self, concludes, impatient_if, newest, none_is, note_of, refuses_late, sees_on}
 use Rattle.engine_groups.proofs.ClientMoves.{no_delays, pass_moved, same_tokens, seat_moved}
 use Rattle.engine_groups.proofs.engine.GroupEngine.write.Goals as goal
@@ -21,15 +21,15 @@ use Rattle.engine_groups.proofs.engine.GroupEngine.write.Goals as goal
 pub returns-then-stopping-clause-belongs : goal.returns-then-stopping-clause-belongs
 returns-then-stopping-clause-belongs g c =
     let L = c.look-look.ensures in
-    pass_moved g.T.Table.opening g.T.Table.ours g.T.Table.account c.args.self.now c.args.client.now c.requires c.look-look.new.pass L.own.0 L.own.1
-    (no_delays g.T.Table.opening g.T.Table.ours g.T.Table.account c.args.self.now c.args.client.now c.requires c.look-look.new.pass look (Some (look_of c.look-look.result)) L.asked refl)
+    pass_moved g.Versions.Table c.args.self.now c.args.client.now c.requires c.look-look.new.pass L.own.0 L.own.1
+    (no_delays g.Versions.Table c.args.self.now c.args.client.now c.requires c.look-look.new.pass look (Some (look_of c.look-look.result)) L.asked refl)
 
 pub returns-then-stopping-clause-err : goal.returns-then-stopping-clause-err
 returns-then-stopping-clause-err g c =
     let S = c.requires.seated in let v = c.args.client.now in let e = c.args.self.now in
-    let settings = settings_of g.T.Table.opening g.T.Table.ours g.T.Table.account e in
+    let settings = settings_of g.Versions.Table e in
     let how = c.args.options in let records = c.args.batch.records in
-    let stops = c.is_stopping-stopping.ensures ∙ ap holds_stop (same_tokens g.T.Table.opening g.T.Table.ours g.T.Table.account e v c.requires) in
+    let stops = c.is_stopping-stopping.ensures ∙ ap holds_stop (same_tokens g.Versions.Table e v c.requires) in
     let at_once = sym (ap (λ (b : Bool). early_refusal settings.batch_bytes b records how) stops) ∙ sym (c.refusal_at_once.ensures records c.of-measure.ensures.value) in
     let passed = at_once ∙ none_is c.refusal_at_once.result c.in_default.not-Some in
     let stopping : c.is_stopping-stopping.result ≡ true = c.if-stopping.true in
@@ -37,16 +37,16 @@ returns-then-stopping-clause-err g c =
     let L = c.look-look.ensures in let some = L.stopped (sym c.is_stopping-stopping.ensures ∙ stopping) in
     let ends = subst (λ (k : ℕ). EndsWith k (seen_by v.pass) look (Some (look_of c.look-look.result)) (seen_by c.look-look.new.pass)) S.pass_number L.asked in
     let impatient = impatient_if settings.batch_bytes records how (subst (λ (b : Bool). early_refusal settings.batch_bytes b records how ≡ None) held passed) in
-    let seen = (g.T.Table.account v.seat).seen in
+    let seen = (g.Versions.Table.account v.seat).seen in
     let refused = refused_looked v.start v.number (own_commits v.number (told v.writer)) records how seen seen (seen_by v.pass) (seen_by c.look-look.new.pass) (look_of c.look-look.result) (begins_self seen) ends impatient (inl some) in
-    subst (λ (r : Refused). Refuses settings (account_in g.T.Table.opening g.T.Table.ours g.T.Table.account v) records how r.why (account_of v.start v.number (own_commits v.number (told v.writer)) seen (seen_by c.look-look.new.pass))) (sym c.refused_by.ensures)
-    (refuses_late settings (account_in g.T.Table.opening g.T.Table.ours g.T.Table.account v) records how _ _ passed (inr refused))
+    subst (λ (r : Refused). Refuses settings (account_in g.Versions.Table v) records how r.why (account_of v.start v.number (own_commits v.number (told v.writer)) seen (seen_by c.look-look.new.pass))) (sym c.refused_by.ensures)
+    (refuses_late settings (account_in g.Versions.Table v) records how _ _ passed (inr refused))
 
 pub submit-answer-requires-clause-client : goal.submit-answer-requires-clause-client
 submit-answer-requires-clause-client g c =
     let v = c.args.client.now in let N = c.note.ensures in let L = c.last-shown in
-    let loaded = seat_moved g.T.Table.opening g.T.Table.ours g.T.Table.account c.args.self.now v c.requires L.new.seat L.ensures.ours L.ensures.seen in
-    pass_moved g.T.Table.opening g.T.Table.ours g.T.Table.account c.args.self.now (record v { seat = L.new.seat }) loaded c.note.new.pass N.own.0 N.own.1 (ap (delays_of v.number) N.seen)
+    let loaded = seat_moved g.Versions.Table c.args.self.now v c.requires L.new.seat L.ensures.ours L.ensures.seen in
+    pass_moved g.Versions.Table c.args.self.now (record v { seat = L.new.seat }) loaded c.note.new.pass N.own.0 N.own.1 (ap (delays_of v.number) N.seen)
 
 pub see-requires-clause-note : goal.see-requires-clause-note
 see-requires-clause-note g c =
@@ -56,17 +56,17 @@ see-requires-clause-note g c =
 pub returns : goal.returns
 returns g c =
     let S = c.requires.seated in let v = c.args.client.now in let e = c.args.self.now in
-    let settings = settings_of g.T.Table.opening g.T.Table.ours g.T.Table.account e in
+    let settings = settings_of g.Versions.Table e in
     let how = c.args.options in let records = c.args.batch.records in
-    let stops = c.is_stopping-stopping.ensures ∙ ap holds_stop (same_tokens g.T.Table.opening g.T.Table.ours g.T.Table.account e v c.requires) in
+    let stops = c.is_stopping-stopping.ensures ∙ ap holds_stop (same_tokens g.Versions.Table e v c.requires) in
     let at_once = sym (ap (λ (b : Bool). early_refusal settings.batch_bytes b records how) stops) ∙ sym (c.refusal_at_once.ensures records c.of-measure.ensures.value) in
     let passed = at_once ∙ none_is c.refusal_at_once.result c.in_default.not-Some in
     let N = c.note.ensures in let A = c.submit-answer.ensures.answered in let p = c.submit-answer.result in let w1 = c.submit-answer.new.client in
     let w2 = c.see.new.client in let E = c.see.ensures in
-    let L = c.last-shown in let loaded = (g.T.Table.account L.new.seat).seen in
-    let before = (g.T.Table.account v.seat).seen in let between = (g.T.Table.account w1.seat).seen in let now = (g.T.Table.account w2.seat).seen in
+    let L = c.last-shown in let loaded = (g.Versions.Table.account L.new.seat).seen in
+    let before = (g.Versions.Table.account v.seat).seen in let between = (g.Versions.Table.account w1.seat).seen in let now = (g.Versions.Table.account w2.seat).seen in
     let sees = begins_on before between now (begins_on before loaded between L.ensures.seen.seen c.submit-answer.ensures.seen.0) E.seen.0 in
-    let above = above_seen v.start (g.T.Table.opening e.table).start L.result before loaded p.answer S.start L.ensures.seen.seen L.ensures.value c.await_above.ensures in
+    let above = above_seen v.start (g.Versions.Table.opening e.table).start L.result before loaded p.answer S.start L.ensures.seen.seen L.ensures.value c.await_above.ensures in
     let first = subst (λ (l : List ControllerCall). SeesMore v.number l (seen_by w1.pass)) N.seen c.submit-answer.ensures.seen.1 in
     let second = subst (λ (k : ℕ). SeesMore k (seen_by w1.pass) (seen_by w2.pass)) A.number E.seen.1 in
     let more = sees_on v.number (seen_by v.pass) (seen_by w1.pass) (seen_by w2.pass) first second in
@@ -76,5 +76,5 @@ returns g c =
     let st : v.start ≡ w2.start = sym (E.same.1 ∙ A.start_same) in
     let nu : v.number ≡ w2.number = sym (E.same.0 ∙ A.number) in
     let told2 = sym A.told_now ∙ ap told (sym E.same.2) in
-    let all = subst (λ (z : Account). Concludes (opened_log e) settings (account_in g.T.Table.opening g.T.Table.ours g.T.Table.account v) c.args.batch how p.answer z) (λ i. account_of (st i) (nu i) (own_commits (nu i) (told2 i)) now (seen_by w2.pass)) done in
+    let all = subst (λ (z : Account). Concludes (opened_log e) settings (account_in g.Versions.Table v) c.args.batch how p.answer z) (λ i. account_of (st i) (nu i) (own_commits (nu i) (told2 i)) now (seen_by w2.pass)) done in
     record { belongs = E.fits; ok = all.accepted; back = all.back; synced = all.synced; err = all.refused; unchanged = all.unchanged }

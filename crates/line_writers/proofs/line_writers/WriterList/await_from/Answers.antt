@@ -8,23 +8,23 @@ use Rattle.line_writers.proofs.line_writers.WriterList.await_from.Goals as goal
 
 pub load-state-requires : goal.load-state-requires
 load-state-requires g c =
-    let r = c.requires.waits in let k : ℕ = c.args.writer.now.client in let z = c.args.self.now.sized in let q = c.requires.seat in
+    let w = c.state_word.ensures in let r = c.requires.waits in let k : ℕ = c.args.writer.now.client in let z = c.args.self.now.sized in let q = c.requires.seat in
     let same = c.loop.invariant.4 in (
       c.loop.invariant.3 ∙ c.requires.seat.0,
       omega arith,
-      looks_as _ _ _ _ (λ i. logs_picked g.L.Ledger.stands g.L.Ledger.kept g.L.Ledger.number_of g.P.Given.run_of (sym c.requires.start i) (sym c.requires.about i)) (λ i. kept_picked g.L.Ledger.kept (sym c.requires.about i)) _ _ c.loop.writer.seat.me k (2 * k + 2) r.0 r.1 r.2 refl (ap (λ m. m.0) same ∙ r.3) (ap (λ m. m.1) same ∙ r.4),
+      looks_as _ _ _ _ (λ i. logs_picked g.Reply.GivesRun.run_of g.Log.LogOfGroups (sym c.requires.start i) (sym c.requires.about i)) (λ i. kept_picked g.Log.LogOfGroups.kept (sym c.requires.about i)) _ _ c.loop.writer.seat.me k c.state_word.result r.0 r.1 r.2 c.state_word.ensures (ap (λ m. m.0) same ∙ r.3) (ap (λ m. m.1) same ∙ r.4),
     )
 
 pub claim-requires-clause-elected : goal.claim-requires-clause-elected
 claim-requires-clause-elected g c =
-    let stood = logs_picked g.L.Ledger.stands g.L.Ledger.kept g.L.Ledger.number_of g.P.Given.run_of g.B.PickedAbout.number g.B.PickedAbout.about in let r = c.requires.waits in let k : ℕ = c.args.writer.now.client in
+    let stood = logs_picked g.Reply.GivesRun.run_of g.Log.LogOfGroups g.B.PickedAbout.number g.B.PickedAbout.about in let r = c.requires.waits in let k : ℕ = c.args.writer.now.client in
     let same = c.loop.invariant.4 in
-    (r.0, r.2, subst (λ (j : ℕ). Elected stood j r.0 r.2 c.load-state.new.seat.me) (sym c.loop.invariant.2) ((c.load-state.ensures.2 k r.0 r.1 r.2 (ap (λ m. m.0) same ∙ r.3)).0 c.if-state-eq2.true))
+    (r.0, r.2, subst (λ (j : ℕ). Elected stood j r.0 r.2 c.load-state.new.seat.me) (sym c.loop.invariant.2) ((c.load-state.ensures.2 k r.0 r.1 r.2 (ap (λ m. m.0) same ∙ r.3)).0 c.if-state-eq-STATE_LEADS_LOG.true))
 
-pub returns-then-state-eq2-clause-role : goal.returns-then-state-eq2-clause-role
-returns-then-state-eq2-clause-role g c q past mine at slots =
-    let stood = logs_picked g.L.Ledger.stands g.L.Ledger.kept g.L.Ledger.number_of g.P.Given.run_of g.B.PickedAbout.number g.B.PickedAbout.about in let k : ℕ = c.args.writer.now.client in
+pub returns-then-state-eq-STATE_LEADS_LOG-clause-role : goal.returns-then-state-eq-STATE_LEADS_LOG-clause-role
+returns-then-state-eq-STATE_LEADS_LOG-clause-role g c q past mine at slots =
+    let stood = logs_picked g.Reply.GivesRun.run_of g.Log.LogOfGroups g.B.PickedAbout.number g.B.PickedAbout.about in let k : ℕ = c.args.writer.now.client in
     let same = c.loop.invariant.4 in
-    let e = (c.load-state.ensures.2 k q past mine (ap (λ m. m.0) same ∙ at)).0 c.if-state-eq2.true in
-    subst (λ (j : ℕ). Turns stood (kept_picked g.L.Ledger.kept g.B.PickedAbout.about) j c.claim.new.writer.task q mine (LogLeader c.claim.result) c.claim.new.writer.seat.me) c.loop.invariant.2
+    let e = (c.load-state.ensures.2 k q past mine (ap (λ m. m.0) same ∙ at)).0 c.if-state-eq-STATE_LEADS_LOG.true in
+    subst (λ (j : ℕ). Turns stood (kept_picked g.Log.LogOfGroups.kept g.B.PickedAbout.about) j c.claim.new.writer.task q mine (LogLeader c.claim.result) c.claim.new.writer.seat.me) c.loop.invariant.2
     (c.claim.ensures.leads q mine (subst (λ (j : ℕ). Elected stood j q mine c.load-state.new.seat.me) (sym c.loop.invariant.2) e))

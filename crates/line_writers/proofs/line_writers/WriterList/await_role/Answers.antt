@@ -7,18 +7,18 @@ use Rattle.line_writers.proofs.line_writers.WriterList.await_role.Goals as goal
 
 pub returns-in-Leads-clause-role : goal.returns-in-Leads-clause-role
 returns-in-Leads-clause-role g c =
-    let key = c.args.self.now.table.shared.key in let law = logs_from (g.L.Ledger.stands key.about) (g.L.Ledger.kept key.about) g.L.Ledger.number_of g.P.Given.run_of key.log in
+    let key = c.args.self.now.table.shared.key in let law = logs_from (g.Log.LogOfGroups.stands key.about) (g.Log.LogOfGroups.kept key.about) g.Log.LogOfGroups.number_of g.Reply.GivesRun.run_of key.log in
     let w = c.args.writer.now in let f = c.claim.ensures in let b = c.requires.0 in (
       (f.seat.0 ∙ b.0, subst (λ (j : ℕ). 0 < j) (sym f.seat.1) b.1, subst (λ (j : ℕ). j ≤ c.args.self.now.clients) (sym f.seat.1) b.2),
-      λ q link. subst (λ (j : ℕ). Becomes law (g.L.Ledger.kept key.about) j q (told w) (LogLeader c.claim.result) c.claim.new.writer.seat.me) (sym f.seat.1)
+      λ q link. subst (λ (j : ℕ). Becomes law (g.Log.LogOfGroups.kept key.about) j q (told w) (LogLeader c.claim.result) c.claim.new.writer.seat.me) (sym f.seat.1)
           (f.leads q (told w) (subst (λ task. IsLinked law w.client task q (told w) w.seat.me) c.in-Leads.is link)),
     )
 
 pub returns-in-Helps-clause-role : goal.returns-in-Helps-clause-role
 returns-in-Helps-clause-role g c =
-    let key = c.args.self.now.table.shared.key in let law = logs_from (g.L.Ledger.stands key.about) (g.L.Ledger.kept key.about) g.L.Ledger.number_of g.P.Given.run_of key.log in
+    let key = c.args.self.now.table.shared.key in let law = logs_from (g.Log.LogOfGroups.stands key.about) (g.Log.LogOfGroups.kept key.about) g.Log.LogOfGroups.number_of g.Reply.GivesRun.run_of key.log in
     let w = c.args.writer.now in let f = c.await_reply.ensures in let b = c.requires.0 in (
       (f.seat.0 ∙ b.0, subst (λ (j : ℕ). 0 < j) (sym f.seat.1) b.1, subst (λ (j : ℕ). j ≤ c.args.self.now.clients) (sym f.seat.1) b.2),
       λ q link. let h = subst (λ task. IsLinked law w.client task q (told w) w.seat.me) c.in-Helps.is link in
-          subst (λ (j : ℕ). HasReply (g.L.Ledger.kept key.about) j q (told w) c.await_reply.result c.await_reply.new.writer.seat.me) (sym f.seat.1) (f.reply q (told w) h.0 h.1),
+          subst (λ (j : ℕ). HasReply (g.Log.LogOfGroups.kept key.about) j q (told w) c.await_reply.result c.await_reply.new.writer.seat.me) (sym f.seat.1) (f.reply q (told w) h.0 h.1),
     )

@@ -3,7 +3,7 @@ use Rattle.std.proofs.Common.{◌≡◌, ℕ, ◌+◌, ◌≤◌, [], ◌∷◌,
 use mathlib.Core.Option.{some, some-injective}
 use lib.ListN.{get_elem?}
 use Rattle.std.specs.Slots.{slots_items}
-use Rattle.line_rule.specs.declared.content.Content.TheVariants.{Empty, Log, Right}
+use Rattle.line_rule.specs.declared.content.LineSlot.TheVariants.{Empty, TheLog, TheRight}
 use Rattle.line_rule.specs.Rule.{logs_from, Merges}
 use Rattle.line_rule.proofs.Opens.{closes}
 use Rattle.line_writers.specs.Seats.{AllOut, AllThere, holds_of}
@@ -32,8 +32,8 @@ take_all-requires-clause-held g c =
     let fin = c.close_with.ensures.values.2 in
     let k = closes _ _ fin.0 c.join_all.new.first.id c.join_all.new.first.me.0 fin.1.0 fin.1.1 (all_idle key all c.join_all.new.first.me.0 view (subst (λ (j : ℕ). AllThere j all) (sym same) o.1)) in
     let items = slots_items c.close_with.result.slots in
-    let log_there : get_elem? items 0 ≡ some (Log k.log) = fin.4 0 (Log k.log) k.log_home in
-    let right_there : get_elem? items (c.args.self.clients + 1) ≡ some (Right k.right) = subst (λ (j : ℕ). get_elem? items (j + 1) ≡ some (Right k.right)) same (fin.4 (key + 1) (Right k.right) k.right_home) in
+    let log_there : get_elem? items 0 ≡ some (TheLog k.log) = fin.4 0 (TheLog k.log) k.log_home in
+    let right_there : get_elem? items (c.args.self.clients + 1) ≡ some (TheRight k.right) = subst (λ (j : ℕ). get_elem? items (j + 1) ≡ some (TheRight k.right)) same (fin.4 (key + 1) (TheRight k.right) k.right_home) in
     (k.log, k.right, log_there, right_there, λ i lo hi. fin.4 i Empty (k.others i lo (subst (λ (j : ℕ). i ≤ j) (sym same) hi)))
 
 pub returns : goal.returns
@@ -45,8 +45,8 @@ returns g c =
     let fin = c.close_with.ensures.values.2 in
     let k = closes _ _ fin.0 c.join_all.new.first.id c.join_all.new.first.me.0 fin.1.0 fin.1.1 (all_idle key all c.join_all.new.first.me.0 view (subst (λ (j : ℕ). AllThere j all) (sym same) o.1)) in
     let items = slots_items c.close_with.result.slots in
-    let log_there : get_elem? items 0 ≡ some (Log k.log) = fin.4 0 (Log k.log) k.log_home in
-    let right_there : get_elem? items (c.args.self.clients + 1) ≡ some (Right k.right) = subst (λ (j : ℕ). get_elem? items (j + 1) ≡ some (Right k.right)) same (fin.4 (key + 1) (Right k.right) k.right_home) in
-    let log_is : k.log ≡ c.take_all.result.0 = one_log k.log c.take_all.result.0 (some-injective (Log k.log) (Log c.take_all.result.0) (sym log_there ∙ c.take_all.ensures.0)) in
-    let right_is : k.right ≡ c.take_all.result.1 = one_right k.right c.take_all.result.1 (some-injective (Right k.right) (Right c.take_all.result.1) (sym right_there ∙ c.take_all.ensures.1)) in
-    (k.handled, subst (λ l. logs_from (g.L.Ledger.stands shared.key.about) (g.L.Ledger.kept shared.key.about) g.L.Ledger.number_of g.P.Given.run_of shared.key.log l k.handled) log_is k.stood, (λ e. subst (λ r. g.L.Ledger.serves shared.key.about r []) right_is (subst (g.L.Ledger.serves shared.key.about k.right) (k.even.0 e) k.right_stood)), (λ e. subst (λ r. g.L.Ledger.serves shared.key.about r (given_runs g.P.Given.run_of k.handled)) right_is (subst (g.L.Ledger.serves shared.key.about k.right) (k.even.1 e) k.right_stood)), merged k.handled all all (λ h has. has) (subst (Merges k.handled) view k.merges))
+    let log_there : get_elem? items 0 ≡ some (TheLog k.log) = fin.4 0 (TheLog k.log) k.log_home in
+    let right_there : get_elem? items (c.args.self.clients + 1) ≡ some (TheRight k.right) = subst (λ (j : ℕ). get_elem? items (j + 1) ≡ some (TheRight k.right)) same (fin.4 (key + 1) (TheRight k.right) k.right_home) in
+    let log_is : k.log ≡ c.take_all.result.0 = one_log k.log c.take_all.result.0 (some-injective (TheLog k.log) (TheLog c.take_all.result.0) (sym log_there ∙ c.take_all.ensures.0)) in
+    let right_is : k.right ≡ c.take_all.result.1 = one_right k.right c.take_all.result.1 (some-injective (TheRight k.right) (TheRight c.take_all.result.1) (sym right_there ∙ c.take_all.ensures.1)) in
+    (k.handled, subst (λ l. logs_from (g.Log.LogOfGroups.stands shared.key.about) (g.Log.LogOfGroups.kept shared.key.about) g.Log.LogOfGroups.number_of g.Reply.GivesRun.run_of shared.key.log l k.handled) log_is k.stood, (λ e. subst (λ r. g.Log.LogOfGroups.serves shared.key.about r []) right_is (subst (g.Log.LogOfGroups.serves shared.key.about k.right) (k.even.0 e) k.right_stood)), (λ e. subst (λ r. g.Log.LogOfGroups.serves shared.key.about r (given_runs g.Reply.GivesRun.run_of k.handled)) right_is (subst (g.Log.LogOfGroups.serves shared.key.about k.right) (k.even.1 e) k.right_stood)), merged k.handled all all (λ h has. has) (subst (Merges k.handled) view k.merges))

@@ -1,11 +1,12 @@
-use Rattle.std.proofs.Common.{◌≡◌, ℕ, ◌+◌, ◌*◌, sym, ap, arith}
+use Rattle.line_rule.specs.Chain.{older_at}
+use Rattle.std.proofs.Common.{◌≡◌, ℕ, ◌+◌, ◌*◌, sym, ap, arith, ◌∙◌}
 use Rattle.line_rule.proofs.Marks.{cuts_marked}
 use Rattle.line_writers.proofs.line_writers.WriterList.cut_behind.Goals as goal
 
 pub store-requires : goal.store-requires
 store-requires g c =
-    let z = c.args.self.now.sized in let q = c.requires.seat in let key : c.args.self.now.table.shared.key.clients ≡ c.args.self.now.clients = z.2 in let o = c.requires.next in let k : ℕ = c.args.next in let by : o.4.by ≡ k = o.7 in let code : o.4.code ≡ c.args.code = o.8 in (q.0, omega arith, cuts_marked _ _ _ _ c.args.writer.now.seat.me c.args.writer.now.client (2 * k + 3) (256 * c.args.code) o.0 o.1 o.2 o.3 o.4 o.5 o.6 (ap (λ (j : ℕ). 2 * j + 3) (sym by)) (omega arith))
+    let w = c.older_word.ensures in let p = c.pack.ensures in let z = c.args.self.now.sized in let q = c.requires.seat in let key : c.args.self.now.table.shared.key.clients ≡ c.args.self.now.clients = z.2 in let o = c.requires.next in let k : ℕ = c.args.next in let by : o.4.by ≡ k = o.7 in let code : o.4.code ≡ c.args.code = o.8 in (q.0, omega arith, cuts_marked _ _ _ _ c.args.writer.now.seat.me c.args.writer.now.client c.older_word.result c.pack.result o.0 o.1 o.2 o.3 o.4 o.5 o.6 (c.older_word.ensures ∙ ap older_at (sym by)) (omega arith))
 
 pub returns-clause-cut : goal.returns-clause-cut
 returns-clause-cut g c lead mine b pre x at is by =
-    c.store.ensures.2 c.args.writer.now.client lead mine b pre x at is (ap (λ (j : ℕ). 2 * j + 3) (sym by))
+    c.store.ensures.2 c.args.writer.now.client lead mine b pre x at is (c.older_word.ensures ∙ ap older_at (sym by))

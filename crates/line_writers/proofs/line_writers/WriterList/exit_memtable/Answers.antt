@@ -1,6 +1,6 @@
 use Rattle.std.proofs.Common.{◌≡◌, ℕ, ◌<◌, ◌≤◌, [], ◌∷◌, ◌++◌, length, get_or, sym, ap, ◌∙◌, subst, arith}
-use Rattle.line_rule.specs.declared.content.Content.TheVariants.{Told}
-use Rattle.line_rule.specs.declared.view.Stage.TheVariants.{Idle, Settling}
+use Rattle.line_rule.specs.declared.content.LineSlot.TheVariants.{Told}
+use Rattle.line_rule.specs.declared.view.LineStage.TheVariants.{Idle, Settling}
 use Rattle.line_rule.specs.declared.view.Back.TheVariants.{Serving}
 use Rattle.line_rule.specs.Chain.{newest, heads}
 use Rattle.line_rule.specs.Plays.{At, AtWith, debt, slots_of}

@@ -1,6 +1,6 @@
 use Rattle.std.proofs.Common.{ℕ, List, [], ◌∷◌, sym, ap, ◌∙◌, subst, refl, arith, length, length-append}
 use Rattle.atomic_table.specs.Table.{rest, turned}
-use Rattle.line_rule.specs.declared.content.Content.TheVariants.{Empty, Told}
+use Rattle.line_rule.specs.declared.content.LineSlot.TheVariants.{Empty, Told}
 use Rattle.line_rule.proofs.Chains.{fronted}
 use Rattle.line_writers.proofs.Fills.{Filled, fills_first, on_top, same_front, fills_more}
 use Rattle.line_writers.proofs.line_writers.WriterList.fill.Goals as goal

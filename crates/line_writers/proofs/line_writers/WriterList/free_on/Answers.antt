@@ -1,9 +1,9 @@
 use Rattle.std.proofs.Common.{◌≡◌, ℕ, ◌+◌, ◌-◌, ◌^◌, ◌<◌, [], ◌∷◌, ◌++◌, length, get_or, sym, ap, ◌∙◌, subst, refl, arith}
 use Rattle.line_rule.specs.declared.view.Lead.{Lead}
-use Rattle.line_rule.specs.declared.content.Content.TheVariants.{Told, Log}
-use Rattle.line_rule.specs.declared.view.Stage.TheVariants.{Marking, Cutting, Settling}
+use Rattle.line_rule.specs.declared.content.LineSlot.TheVariants.{Told, TheLog}
+use Rattle.line_rule.specs.declared.view.LineStage.TheVariants.{Marking, Cutting, Settling}
 use Rattle.line_rule.specs.Chain.{pairs}
-use Rattle.line_rule.specs.Plays.{AtWith, walking, debt, slots_of, onward}
+use Rattle.line_rule.specs.Plays.{AtWith, lead_with_walk, debt, slots_of, back_after_log}
 use Rattle.line_rule.specs.Rule.{hold_at}
 use Rattle.line_writers.specs.Roles.{CodesFit, SeesMarked, HasTrace}
 use Rattle.line_writers.proofs.Surveys.{pair_at, length-pairs, code_fits}
@@ -15,19 +15,19 @@ use Rattle.line_writers.proofs.line_writers.WriterList.free_on.Goals as goal
 pub survey_marked-requires-clause-read : goal.survey_marked-requires-clause-read
 survey_marked-requires-clause-read g c =
     let o = c.requires.ready in let k : ℕ = c.args.writer.now.client in let slots : ℕ = c.args.self.now.table.shared.table_id.slots in let found : ℕ = c.free-found.result in let z = c.args.self.now.sized in
-    let w = (c.free-found.ensures.freed o.0 o.1 o.2 o.3 o.4 o.5 o.6 o.7 o.8 o.9).1 c.if-found-eq255.false in
-    let b = behind_marked k slots o.0 o.1 o.2 found c.args.writer.now.seat.me c.free-found.new.writer.seat.me w c.if-found-eq255.false in
+    let w = (c.free-found.ensures.freed o.0 o.1 o.2 o.3 o.4 o.5 o.6 o.7 o.8 o.9).1 c.if-found-eq-MARK.false in
+    let b = behind_marked k slots o.0 o.1 o.2 found c.args.writer.now.seat.me c.free-found.new.writer.seat.me w c.if-found-eq-MARK.false in
     let e1 : c.free-found.new.writer.client ≡ k = c.free-found.ensures.seat.1 in
-    let lead' : Lead g.row.Q.Denot g.row.P.Denot = walking o.0 b.walk in
+    let lead' : Lead g.row.Request.Denot g.row.Reply.Denot = lead_with_walk o.0 b.walk in
     subst (λ (j : ℕ). HasTrace (SeesMarked j) slots found c.free-found.new.writer.seat.me) (sym e1) b.read
 
 pub overflow_sub-len : goal.overflow_sub-len
 overflow_sub-len g c =
     let o = c.requires.ready in let k : ℕ = c.args.writer.now.client in let slots : ℕ = c.args.self.now.table.shared.table_id.slots in let found : ℕ = c.free-found.result in let z = c.args.self.now.sized in
-    let w = (c.free-found.ensures.freed o.0 o.1 o.2 o.3 o.4 o.5 o.6 o.7 o.8 o.9).1 c.if-found-eq255.false in
-    let b = behind_marked k slots o.0 o.1 o.2 found c.args.writer.now.seat.me c.free-found.new.writer.seat.me w c.if-found-eq255.false in
+    let w = (c.free-found.ensures.freed o.0 o.1 o.2 o.3 o.4 o.5 o.6 o.7 o.8 o.9).1 c.if-found-eq-MARK.false in
+    let b = behind_marked k slots o.0 o.1 o.2 found c.args.writer.now.seat.me c.free-found.new.writer.seat.me w c.if-found-eq-MARK.false in
     let e1 : c.free-found.new.writer.client ≡ k = c.free-found.ensures.seat.1 in
-    let lead' : Lead g.row.Q.Denot g.row.P.Denot = walking o.0 b.walk in
+    let lead' : Lead g.row.Request.Denot g.row.Reply.Denot = lead_with_walk o.0 b.walk in
     let sees : SeesMarked c.free-found.new.writer.client c.free-found.new.writer.seat.me b.walk = (lead', o.1, o.2, subst (λ (j : ℕ). AtWith j (Marking lead') o.1 o.2 c.free-found.new.writer.seat.me) (sym e1) b.at, refl) in
     let items : c.survey_marked.new.walk.items ≡ pairs (b.pre ++ b.x ∷ []) = c.survey_marked.ensures.walk b.walk sees ∙ ap pairs b.parts in
     let long : length c.survey_marked.new.walk.items ≡ length b.pre + 1 = ap length items ∙ (length-pairs (b.pre ++ b.x ∷ []) ∙ (ap length (sym b.parts) ∙ b.long)) in
@@ -36,10 +36,10 @@ overflow_sub-len g c =
 pub index-requires : goal.index-requires
 index-requires g c =
     let o = c.requires.ready in let k : ℕ = c.args.writer.now.client in let slots : ℕ = c.args.self.now.table.shared.table_id.slots in let found : ℕ = c.free-found.result in let z = c.args.self.now.sized in
-    let w = (c.free-found.ensures.freed o.0 o.1 o.2 o.3 o.4 o.5 o.6 o.7 o.8 o.9).1 c.if-found-eq255.false in
-    let b = behind_marked k slots o.0 o.1 o.2 found c.args.writer.now.seat.me c.free-found.new.writer.seat.me w c.if-found-eq255.false in
+    let w = (c.free-found.ensures.freed o.0 o.1 o.2 o.3 o.4 o.5 o.6 o.7 o.8 o.9).1 c.if-found-eq-MARK.false in
+    let b = behind_marked k slots o.0 o.1 o.2 found c.args.writer.now.seat.me c.free-found.new.writer.seat.me w c.if-found-eq-MARK.false in
     let e1 : c.free-found.new.writer.client ≡ k = c.free-found.ensures.seat.1 in
-    let lead' : Lead g.row.Q.Denot g.row.P.Denot = walking o.0 b.walk in
+    let lead' : Lead g.row.Request.Denot g.row.Reply.Denot = lead_with_walk o.0 b.walk in
     let sees : SeesMarked c.free-found.new.writer.client c.free-found.new.writer.seat.me b.walk = (lead', o.1, o.2, subst (λ (j : ℕ). AtWith j (Marking lead') o.1 o.2 c.free-found.new.writer.seat.me) (sym e1) b.at, refl) in
     let items : c.survey_marked.new.walk.items ≡ pairs (b.pre ++ b.x ∷ []) = c.survey_marked.ensures.walk b.walk sees ∙ ap pairs b.parts in
     let long : length c.survey_marked.new.walk.items ≡ length b.pre + 1 = ap length items ∙ (length-pairs (b.pre ++ b.x ∷ []) ∙ (ap length (sym b.parts) ∙ b.long)) in
@@ -48,10 +48,10 @@ index-requires g c =
 pub cut_behind-requires-clause-seat : goal.cut_behind-requires-clause-seat
 cut_behind-requires-clause-seat g c =
     let o = c.requires.ready in let k : ℕ = c.args.writer.now.client in let slots : ℕ = c.args.self.now.table.shared.table_id.slots in let found : ℕ = c.free-found.result in let z = c.args.self.now.sized in
-    let w = (c.free-found.ensures.freed o.0 o.1 o.2 o.3 o.4 o.5 o.6 o.7 o.8 o.9).1 c.if-found-eq255.false in
-    let b = behind_marked k slots o.0 o.1 o.2 found c.args.writer.now.seat.me c.free-found.new.writer.seat.me w c.if-found-eq255.false in
+    let w = (c.free-found.ensures.freed o.0 o.1 o.2 o.3 o.4 o.5 o.6 o.7 o.8 o.9).1 c.if-found-eq-MARK.false in
+    let b = behind_marked k slots o.0 o.1 o.2 found c.args.writer.now.seat.me c.free-found.new.writer.seat.me w c.if-found-eq-MARK.false in
     let e1 : c.free-found.new.writer.client ≡ k = c.free-found.ensures.seat.1 in
-    let lead' : Lead g.row.Q.Denot g.row.P.Denot = walking o.0 b.walk in
+    let lead' : Lead g.row.Request.Denot g.row.Reply.Denot = lead_with_walk o.0 b.walk in
     let sees : SeesMarked c.free-found.new.writer.client c.free-found.new.writer.seat.me b.walk = (lead', o.1, o.2, subst (λ (j : ℕ). AtWith j (Marking lead') o.1 o.2 c.free-found.new.writer.seat.me) (sym e1) b.at, refl) in
     let items : c.survey_marked.new.walk.items ≡ pairs (b.pre ++ b.x ∷ []) = c.survey_marked.ensures.walk b.walk sees ∙ ap pairs b.parts in
     let long : length c.survey_marked.new.walk.items ≡ length b.pre + 1 = ap length items ∙ (length-pairs (b.pre ++ b.x ∷ []) ∙ (ap length (sym b.parts) ∙ b.long)) in
@@ -66,10 +66,10 @@ cut_behind-requires-clause-seat g c =
 pub cut_behind-requires-clause-next : goal.cut_behind-requires-clause-next
 cut_behind-requires-clause-next g c =
     let o = c.requires.ready in let k : ℕ = c.args.writer.now.client in let slots : ℕ = c.args.self.now.table.shared.table_id.slots in let found : ℕ = c.free-found.result in let z = c.args.self.now.sized in
-    let w = (c.free-found.ensures.freed o.0 o.1 o.2 o.3 o.4 o.5 o.6 o.7 o.8 o.9).1 c.if-found-eq255.false in
-    let b = behind_marked k slots o.0 o.1 o.2 found c.args.writer.now.seat.me c.free-found.new.writer.seat.me w c.if-found-eq255.false in
+    let w = (c.free-found.ensures.freed o.0 o.1 o.2 o.3 o.4 o.5 o.6 o.7 o.8 o.9).1 c.if-found-eq-MARK.false in
+    let b = behind_marked k slots o.0 o.1 o.2 found c.args.writer.now.seat.me c.free-found.new.writer.seat.me w c.if-found-eq-MARK.false in
     let e1 : c.free-found.new.writer.client ≡ k = c.free-found.ensures.seat.1 in
-    let lead' : Lead g.row.Q.Denot g.row.P.Denot = walking o.0 b.walk in
+    let lead' : Lead g.row.Request.Denot g.row.Reply.Denot = lead_with_walk o.0 b.walk in
     let sees : SeesMarked c.free-found.new.writer.client c.free-found.new.writer.seat.me b.walk = (lead', o.1, o.2, subst (λ (j : ℕ). AtWith j (Marking lead') o.1 o.2 c.free-found.new.writer.seat.me) (sym e1) b.at, refl) in
     let items : c.survey_marked.new.walk.items ≡ pairs (b.pre ++ b.x ∷ []) = c.survey_marked.ensures.walk b.walk sees ∙ ap pairs b.parts in
     let long : length c.survey_marked.new.walk.items ≡ length b.pre + 1 = ap length items ∙ (length-pairs (b.pre ++ b.x ∷ []) ∙ (ap length (sym b.parts) ∙ b.long)) in
@@ -85,10 +85,10 @@ cut_behind-requires-clause-next g c =
 pub wake_on-requires-clause-seat : goal.wake_on-requires-clause-seat
 wake_on-requires-clause-seat g c =
     let o = c.requires.ready in let k : ℕ = c.args.writer.now.client in let slots : ℕ = c.args.self.now.table.shared.table_id.slots in let found : ℕ = c.free-found.result in let z = c.args.self.now.sized in
-    let w = (c.free-found.ensures.freed o.0 o.1 o.2 o.3 o.4 o.5 o.6 o.7 o.8 o.9).1 c.if-found-eq255.false in
-    let b = behind_marked k slots o.0 o.1 o.2 found c.args.writer.now.seat.me c.free-found.new.writer.seat.me w c.if-found-eq255.false in
+    let w = (c.free-found.ensures.freed o.0 o.1 o.2 o.3 o.4 o.5 o.6 o.7 o.8 o.9).1 c.if-found-eq-MARK.false in
+    let b = behind_marked k slots o.0 o.1 o.2 found c.args.writer.now.seat.me c.free-found.new.writer.seat.me w c.if-found-eq-MARK.false in
     let e1 : c.free-found.new.writer.client ≡ k = c.free-found.ensures.seat.1 in
-    let lead' : Lead g.row.Q.Denot g.row.P.Denot = walking o.0 b.walk in
+    let lead' : Lead g.row.Request.Denot g.row.Reply.Denot = lead_with_walk o.0 b.walk in
     let sees : SeesMarked c.free-found.new.writer.client c.free-found.new.writer.seat.me b.walk = (lead', o.1, o.2, subst (λ (j : ℕ). AtWith j (Marking lead') o.1 o.2 c.free-found.new.writer.seat.me) (sym e1) b.at, refl) in
     let items : c.survey_marked.new.walk.items ≡ pairs (b.pre ++ b.x ∷ []) = c.survey_marked.ensures.walk b.walk sees ∙ ap pairs b.parts in
     let long : length c.survey_marked.new.walk.items ≡ length b.pre + 1 = ap length items ∙ (length-pairs (b.pre ++ b.x ∷ []) ∙ (ap length (sym b.parts) ∙ b.long)) in
@@ -102,10 +102,10 @@ wake_on-requires-clause-seat g c =
 pub wake_on-requires-clause-ready : goal.wake_on-requires-clause-ready
 wake_on-requires-clause-ready g c =
     let o = c.requires.ready in let k : ℕ = c.args.writer.now.client in let slots : ℕ = c.args.self.now.table.shared.table_id.slots in let found : ℕ = c.free-found.result in let z = c.args.self.now.sized in
-    let w = (c.free-found.ensures.freed o.0 o.1 o.2 o.3 o.4 o.5 o.6 o.7 o.8 o.9).1 c.if-found-eq255.false in
-    let b = behind_marked k slots o.0 o.1 o.2 found c.args.writer.now.seat.me c.free-found.new.writer.seat.me w c.if-found-eq255.false in
+    let w = (c.free-found.ensures.freed o.0 o.1 o.2 o.3 o.4 o.5 o.6 o.7 o.8 o.9).1 c.if-found-eq-MARK.false in
+    let b = behind_marked k slots o.0 o.1 o.2 found c.args.writer.now.seat.me c.free-found.new.writer.seat.me w c.if-found-eq-MARK.false in
     let e1 : c.free-found.new.writer.client ≡ k = c.free-found.ensures.seat.1 in
-    let lead' : Lead g.row.Q.Denot g.row.P.Denot = walking o.0 b.walk in
+    let lead' : Lead g.row.Request.Denot g.row.Reply.Denot = lead_with_walk o.0 b.walk in
     let sees : SeesMarked c.free-found.new.writer.client c.free-found.new.writer.seat.me b.walk = (lead', o.1, o.2, subst (λ (j : ℕ). AtWith j (Marking lead') o.1 o.2 c.free-found.new.writer.seat.me) (sym e1) b.at, refl) in
     let items : c.survey_marked.new.walk.items ≡ pairs (b.pre ++ b.x ∷ []) = c.survey_marked.ensures.walk b.walk sees ∙ ap pairs b.parts in
     let long : length c.survey_marked.new.walk.items ≡ length b.pre + 1 = ap length items ∙ (length-pairs (b.pre ++ b.x ∷ []) ∙ (ap length (sym b.parts) ∙ b.long)) in
@@ -118,16 +118,16 @@ wake_on-requires-clause-ready g c =
     let by : b.x.by ≡ got.0 = sym (ap (λ (y : ℕ × ℕ). y.0) is) in
     let cut = c.cut_behind.ensures.cut lead' o.1 o.2 b.pre b.x at2 b.parts by in let e3 = c.cut_behind.ensures.seat.1 in let e4 = e3 ∙ e2 in
     let at3 = subst (λ (j : ℕ). AtWith j (Cutting lead' b.x) o.1 o.2 c.cut_behind.new.writer.seat.me) (sym e3) cut.0 in
-    let slot3 = cut.1 ∙ ap (λ m. m.1) me ∙ b.slots_same ∙ o.9 ∙ (λ i. (0, Log o.5) ∷ slots_of o.3 ((sym e4 i, Told o.4) ∷ o.6)) in
+    let slot3 = cut.1 ∙ ap (λ m. m.1) me ∙ b.slots_same ∙ o.9 ∙ (λ i. (0, TheLog o.5) ∷ slots_of o.3 ((sym e4 i, Told o.4) ∷ o.6)) in
     (lead', b.x, o.1, o.2, o.3, o.4, o.5, o.6, at3, o.8, slot3, o.10, o.11, by)
 
 pub returns-clause-settling : goal.returns-clause-settling
 returns-clause-settling g c lead mine y gs p l t at heads_are slot_is =
     let o = c.requires.ready in let k : ℕ = c.args.writer.now.client in let slots : ℕ = c.args.self.now.table.shared.table_id.slots in let found : ℕ = c.free-found.result in let z = c.args.self.now.sized in
-    let w = (c.free-found.ensures.freed o.0 o.1 o.2 o.3 o.4 o.5 o.6 o.7 o.8 o.9).1 c.if-found-eq255.false in
-    let b = behind_marked k slots o.0 o.1 o.2 found c.args.writer.now.seat.me c.free-found.new.writer.seat.me w c.if-found-eq255.false in
+    let w = (c.free-found.ensures.freed o.0 o.1 o.2 o.3 o.4 o.5 o.6 o.7 o.8 o.9).1 c.if-found-eq-MARK.false in
+    let b = behind_marked k slots o.0 o.1 o.2 found c.args.writer.now.seat.me c.free-found.new.writer.seat.me w c.if-found-eq-MARK.false in
     let e1 : c.free-found.new.writer.client ≡ k = c.free-found.ensures.seat.1 in
-    let lead' : Lead g.row.Q.Denot g.row.P.Denot = walking o.0 b.walk in
+    let lead' : Lead g.row.Request.Denot g.row.Reply.Denot = lead_with_walk o.0 b.walk in
     let sees : SeesMarked c.free-found.new.writer.client c.free-found.new.writer.seat.me b.walk = (lead', o.1, o.2, subst (λ (j : ℕ). AtWith j (Marking lead') o.1 o.2 c.free-found.new.writer.seat.me) (sym e1) b.at, refl) in
     let items : c.survey_marked.new.walk.items ≡ pairs (b.pre ++ b.x ∷ []) = c.survey_marked.ensures.walk b.walk sees ∙ ap pairs b.parts in
     let long : length c.survey_marked.new.walk.items ≡ length b.pre + 1 = ap length items ∙ (length-pairs (b.pre ++ b.x ∷ []) ∙ (ap length (sym b.parts) ∙ b.long)) in
@@ -142,10 +142,10 @@ returns-clause-settling g c lead mine y gs p l t at heads_are slot_is =
     let same = one_hold_at k k (Marking o.0) (Marking lead) o.1 mine o.2 y c.args.writer.now.seat.me.0 o.7 at in
     let le : o.0 ≡ lead = ap (lead_in o.0) same.1 in
     let at3 = subst (λ (j : ℕ). AtWith j (Cutting lead' b.x) o.1 o.2 c.cut_behind.new.writer.seat.me) (sym e3) cut.0 in
-    let at4 = at3 ∙ (λ i. hold_at c.cut_behind.new.writer.client (Cutting (walking (le i) b.walk) b.x) (same.2 i) (same.3 i) ∷ []) in
-    let slot4 = cut.1 ∙ ap (λ m. m.1) me ∙ b.slots_same ∙ slot_is ∙ (λ i. (0, Log l) ∷ slots_of gs ((sym e4 i, Told p) ∷ t)) in
-    let r = c.wake_on.ensures.woken (walking lead b.walk) b.x mine y gs p l t at4 heads_are slot4 in
-    (subst (λ (j : ℕ). AtWith j (Settling (debt gs lead.own p)) mine (onward y) c.wake_on.new.writer.seat.me) e4 r.0, r.1 ∙ (λ i. slots_of gs ((e4 i, Told p) ∷ t)))
+    let at4 = at3 ∙ (λ i. hold_at c.cut_behind.new.writer.client (Cutting (lead_with_walk (le i) b.walk) b.x) (same.2 i) (same.3 i) ∷ []) in
+    let slot4 = cut.1 ∙ ap (λ m. m.1) me ∙ b.slots_same ∙ slot_is ∙ (λ i. (0, TheLog l) ∷ slots_of gs ((sym e4 i, Told p) ∷ t)) in
+    let r = c.wake_on.ensures.woken (lead_with_walk lead b.walk) b.x mine y gs p l t at4 heads_are slot4 in
+    (subst (λ (j : ℕ). AtWith j (Settling (debt gs lead.own p)) mine (back_after_log y) c.wake_on.new.writer.seat.me) e4 r.0, r.1 ∙ (λ i. slots_of gs ((e4 i, Told p) ∷ t)))
 
-pub returns-then-found-eq255-clause-settling : goal.returns-then-found-eq255-clause-settling
-returns-then-found-eq255-clause-settling g c lead mine y gs p l t at heads_are slot_is = (c.free-found.ensures.freed lead mine y gs p l t at heads_are slot_is).0 c.if-found-eq255.true
+pub returns-then-found-eq-MARK-clause-settling : goal.returns-then-found-eq-MARK-clause-settling
+returns-then-found-eq-MARK-clause-settling g c lead mine y gs p l t at heads_are slot_is = (c.free-found.ensures.freed lead mine y gs p l t at heads_are slot_is).0 c.if-found-eq-MARK.true

@@ -11,5 +11,5 @@ invariant-loop-step g l = record {
   walk_room : vec_capacity l.walk ≡ vec_capacity l.fn.walk;
   count : length l.walk.items + l.step ≡ length l.fn.walk.items;
   asked_len : vec_len l.asked ≡ l.step + 1;
-  so_far : Gathered (asks_for g.Q.Itemized.item_of g.L.Ledger.lawful l.self.table.shared.key.about) l.self.clients l.max l.leader l.fn.writer.client l.fn.writer.seat.me l.writer.seat.me l.walk.items l.asked.items l.sum;
+  so_far : Gathered (asks_for g.Request.HasGroupingItem.item_of g.Log.LogOfGroups.lawful l.self.table.shared.key.about) l.self.clients l.max l.leader_code l.fn.writer.client l.fn.writer.seat.me l.writer.seat.me l.walk.items l.asked.items l.sum;
 }

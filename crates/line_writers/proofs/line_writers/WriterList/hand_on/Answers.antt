@@ -1,9 +1,9 @@
 use Rattle.std.proofs.Common.{◌≡◌, ℕ, ◌+◌, ◌-◌, ◌^◌, ◌<◌, [], ◌∷◌, ◌++◌, length, get_or, sym, ap, ◌∙◌, subst, arith}
 use Rattle.line_rule.specs.declared.view.Lead.{Lead}
-use Rattle.line_rule.specs.declared.content.Content.TheVariants.{Told, Log}
-use Rattle.line_rule.specs.declared.view.Stage.TheVariants.{Leading, Settling}
+use Rattle.line_rule.specs.declared.content.LineSlot.TheVariants.{Told, TheLog}
+use Rattle.line_rule.specs.declared.view.LineStage.TheVariants.{Leading, Settling}
 use Rattle.line_rule.specs.Chain.{pairs}
-use Rattle.line_rule.specs.Plays.{At, walking, in_hand, debt, slots_of}
+use Rattle.line_rule.specs.Plays.{At, lead_with_walk, in_hand, debt, slots_of}
 use Rattle.line_writers.specs.Roles.{HasRead, CodesFit}
 use Rattle.line_writers.proofs.Surveys.{pair_at, length-pairs, code_fits}
 use Rattle.line_rule.proofs.Enters.{one_hold}
@@ -25,7 +25,7 @@ overflow_sub-len g c =
     let w = (c.leave-found.ensures.left o.0 o.1 o.2 o.3 o.4 o.5 o.8.0 o.9).1 c.if-found-newest_member.false in
     let b = behind k slots o.0 o.1 found c.args.newest_member c.args.writer.now.seat.me c.leave-found.new.writer.seat.me w o.6 c.if-found-newest_member.false in
     let e1 : c.leave-found.new.writer.client ≡ k = c.leave-found.ensures.seat.1 in
-    let lead' : Lead g.row.Q.Denot g.row.P.Denot = walking o.0 (b.queue ++ in_hand o.0) in
+    let lead' : Lead g.row.Request.Denot g.row.Reply.Denot = lead_with_walk o.0 (b.queue ++ in_hand o.0) in
     let items : c.survey.new.walk.items ≡ pairs (b.pre ++ b.x ∷ in_hand o.0) = c.survey.ensures.walk lead' o.1 (subst (λ (j : ℕ). At j (Leading lead') o.1 c.leave-found.new.writer.seat.me) (sym e1) b.at) ∙ ap pairs b.parts in
     let long : length c.survey.new.walk.items ≡ length b.pre + 1 + length (in_hand o.0) = ap length items ∙ (length-pairs (b.pre ++ b.x ∷ in_hand o.0) ∙ (ap length (sym b.parts) ∙ b.long)) in
     let count : c.args.count ≡ length (in_hand o.0) = o.10 in
@@ -37,7 +37,7 @@ overflow_sub-len-2 g c =
     let w = (c.leave-found.ensures.left o.0 o.1 o.2 o.3 o.4 o.5 o.8.0 o.9).1 c.if-found-newest_member.false in
     let b = behind k slots o.0 o.1 found c.args.newest_member c.args.writer.now.seat.me c.leave-found.new.writer.seat.me w o.6 c.if-found-newest_member.false in
     let e1 : c.leave-found.new.writer.client ≡ k = c.leave-found.ensures.seat.1 in
-    let lead' : Lead g.row.Q.Denot g.row.P.Denot = walking o.0 (b.queue ++ in_hand o.0) in
+    let lead' : Lead g.row.Request.Denot g.row.Reply.Denot = lead_with_walk o.0 (b.queue ++ in_hand o.0) in
     let items : c.survey.new.walk.items ≡ pairs (b.pre ++ b.x ∷ in_hand o.0) = c.survey.ensures.walk lead' o.1 (subst (λ (j : ℕ). At j (Leading lead') o.1 c.leave-found.new.writer.seat.me) (sym e1) b.at) ∙ ap pairs b.parts in
     let long : length c.survey.new.walk.items ≡ length b.pre + 1 + length (in_hand o.0) = ap length items ∙ (length-pairs (b.pre ++ b.x ∷ in_hand o.0) ∙ (ap length (sym b.parts) ∙ b.long)) in
     let count : c.args.count ≡ length (in_hand o.0) = o.10 in
@@ -49,7 +49,7 @@ index-requires g c =
     let w = (c.leave-found.ensures.left o.0 o.1 o.2 o.3 o.4 o.5 o.8.0 o.9).1 c.if-found-newest_member.false in
     let b = behind k slots o.0 o.1 found c.args.newest_member c.args.writer.now.seat.me c.leave-found.new.writer.seat.me w o.6 c.if-found-newest_member.false in
     let e1 : c.leave-found.new.writer.client ≡ k = c.leave-found.ensures.seat.1 in
-    let lead' : Lead g.row.Q.Denot g.row.P.Denot = walking o.0 (b.queue ++ in_hand o.0) in
+    let lead' : Lead g.row.Request.Denot g.row.Reply.Denot = lead_with_walk o.0 (b.queue ++ in_hand o.0) in
     let items : c.survey.new.walk.items ≡ pairs (b.pre ++ b.x ∷ in_hand o.0) = c.survey.ensures.walk lead' o.1 (subst (λ (j : ℕ). At j (Leading lead') o.1 c.leave-found.new.writer.seat.me) (sym e1) b.at) ∙ ap pairs b.parts in
     let long : length c.survey.new.walk.items ≡ length b.pre + 1 + length (in_hand o.0) = ap length items ∙ (length-pairs (b.pre ++ b.x ∷ in_hand o.0) ∙ (ap length (sym b.parts) ∙ b.long)) in
     let count : c.args.count ≡ length (in_hand o.0) = o.10 in
@@ -61,7 +61,7 @@ wake-requires-clause-seat g c =
     let w = (c.leave-found.ensures.left o.0 o.1 o.2 o.3 o.4 o.5 o.8.0 o.9).1 c.if-found-newest_member.false in
     let b = behind k slots o.0 o.1 found c.args.newest_member c.args.writer.now.seat.me c.leave-found.new.writer.seat.me w o.6 c.if-found-newest_member.false in
     let e1 : c.leave-found.new.writer.client ≡ k = c.leave-found.ensures.seat.1 in
-    let lead' : Lead g.row.Q.Denot g.row.P.Denot = walking o.0 (b.queue ++ in_hand o.0) in
+    let lead' : Lead g.row.Request.Denot g.row.Reply.Denot = lead_with_walk o.0 (b.queue ++ in_hand o.0) in
     let items : c.survey.new.walk.items ≡ pairs (b.pre ++ b.x ∷ in_hand o.0) = c.survey.ensures.walk lead' o.1 (subst (λ (j : ℕ). At j (Leading lead') o.1 c.leave-found.new.writer.seat.me) (sym e1) b.at) ∙ ap pairs b.parts in
     let long : length c.survey.new.walk.items ≡ length b.pre + 1 + length (in_hand o.0) = ap length items ∙ (length-pairs (b.pre ++ b.x ∷ in_hand o.0) ∙ (ap length (sym b.parts) ∙ b.long)) in
     let count : c.args.count ≡ length (in_hand o.0) = o.10 in
@@ -79,7 +79,7 @@ wake-requires-clause-ready g c =
     let w = (c.leave-found.ensures.left o.0 o.1 o.2 o.3 o.4 o.5 o.8.0 o.9).1 c.if-found-newest_member.false in
     let b = behind k slots o.0 o.1 found c.args.newest_member c.args.writer.now.seat.me c.leave-found.new.writer.seat.me w o.6 c.if-found-newest_member.false in
     let e1 : c.leave-found.new.writer.client ≡ k = c.leave-found.ensures.seat.1 in
-    let lead' : Lead g.row.Q.Denot g.row.P.Denot = walking o.0 (b.queue ++ in_hand o.0) in
+    let lead' : Lead g.row.Request.Denot g.row.Reply.Denot = lead_with_walk o.0 (b.queue ++ in_hand o.0) in
     let items : c.survey.new.walk.items ≡ pairs (b.pre ++ b.x ∷ in_hand o.0) = c.survey.ensures.walk lead' o.1 (subst (λ (j : ℕ). At j (Leading lead') o.1 c.leave-found.new.writer.seat.me) (sym e1) b.at) ∙ ap pairs b.parts in
     let long : length c.survey.new.walk.items ≡ length b.pre + 1 + length (in_hand o.0) = ap length items ∙ (length-pairs (b.pre ++ b.x ∷ in_hand o.0) ∙ (ap length (sym b.parts) ∙ b.long)) in
     let count : c.args.count ≡ length (in_hand o.0) = o.10 in
@@ -89,8 +89,8 @@ wake-requires-clause-ready g c =
     let e2 : c.survey.new.writer.client ≡ k = c.survey.ensures.seat.1 ∙ e1 in
     let me = c.survey.ensures.seat.2 in
     let at = subst (λ (j : ℕ). At j (Leading lead') o.1 c.survey.new.writer.seat.me) (sym e2) (ap (λ m. m.0) me ∙ b.at) in
-    let slot = ap (λ m. m.1) me ∙ b.slots_same ∙ o.9 ∙ (λ i. (0, Log o.4) ∷ slots_of o.2 ((sym e2 i, Told o.3) ∷ [])) in
-    (lead', o.1, b.pre, b.x, o.2, o.3, o.4, (at, b.parts), sym (ap (λ (y : ℕ × ℕ). y.0) is), sym (ap (λ (y : ℕ × ℕ). y.1) is), o.7, (o.8.0, (Log o.4, slot), o.8.2, o.8.3), slot)
+    let slot = ap (λ m. m.1) me ∙ b.slots_same ∙ o.9 ∙ (λ i. (0, TheLog o.4) ∷ slots_of o.2 ((sym e2 i, Told o.3) ∷ [])) in
+    (lead', o.1, b.pre, b.x, o.2, o.3, o.4, (at, b.parts), sym (ap (λ (y : ℕ × ℕ). y.0) is), sym (ap (λ (y : ℕ × ℕ). y.1) is), o.7, (o.8.0, (TheLog o.4, slot), o.8.2, o.8.3), slot)
 
 pub returns-clause-settling : goal.returns-clause-settling
 returns-clause-settling g c lead mine gs p l at heads_are slot_is =
@@ -98,7 +98,7 @@ returns-clause-settling g c lead mine gs p l at heads_are slot_is =
     let w = (c.leave-found.ensures.left o.0 o.1 o.2 o.3 o.4 o.5 o.8.0 o.9).1 c.if-found-newest_member.false in
     let b = behind k slots o.0 o.1 found c.args.newest_member c.args.writer.now.seat.me c.leave-found.new.writer.seat.me w o.6 c.if-found-newest_member.false in
     let e1 : c.leave-found.new.writer.client ≡ k = c.leave-found.ensures.seat.1 in
-    let lead' : Lead g.row.Q.Denot g.row.P.Denot = walking o.0 (b.queue ++ in_hand o.0) in
+    let lead' : Lead g.row.Request.Denot g.row.Reply.Denot = lead_with_walk o.0 (b.queue ++ in_hand o.0) in
     let items : c.survey.new.walk.items ≡ pairs (b.pre ++ b.x ∷ in_hand o.0) = c.survey.ensures.walk lead' o.1 (subst (λ (j : ℕ). At j (Leading lead') o.1 c.leave-found.new.writer.seat.me) (sym e1) b.at) ∙ ap pairs b.parts in
     let long : length c.survey.new.walk.items ≡ length b.pre + 1 + length (in_hand o.0) = ap length items ∙ (length-pairs (b.pre ++ b.x ∷ in_hand o.0) ∙ (ap length (sym b.parts) ∙ b.long)) in
     let count : c.args.count ≡ length (in_hand o.0) = o.10 in
@@ -106,8 +106,8 @@ returns-clause-settling g c lead mine gs p l at heads_are slot_is =
     let me = c.survey.ensures.seat.2 in
     let same = one_lead o.0 lead (one_hold k k (Leading o.0) (Leading lead) o.1 mine c.args.writer.now.seat.me.0 o.5 at).1 in
     let w' = (c.leave-found.ensures.left lead mine gs p l at heads_are slot_is).1 c.if-found-newest_member.false in
-    let lead2 : Lead g.row.Q.Denot g.row.P.Denot = walking lead (w'.0 ++ in_hand lead) in
+    let lead2 : Lead g.row.Request.Denot g.row.Reply.Denot = lead_with_walk lead (w'.0 ++ in_hand lead) in
     let now = subst (λ (j : ℕ). At j (Leading lead2) mine c.survey.new.writer.seat.me) (sym e2) (ap (λ m. m.0) me ∙ w'.1) in
-    let slot = ap (λ m. m.1) me ∙ w'.2 ∙ slot_is ∙ (λ i. (0, Log l) ∷ slots_of gs ((sym e2 i, Told p) ∷ [])) in
+    let slot = ap (λ m. m.1) me ∙ w'.2 ∙ slot_is ∙ (λ i. (0, TheLog l) ∷ slots_of gs ((sym e2 i, Told p) ∷ [])) in
     let t = c.wake.ensures.left lead2 mine gs p l now heads_are slot in
     subst (λ (j : ℕ). At j (Settling (debt gs lead.own p)) mine c.wake.new.writer.seat.me × (c.wake.new.writer.seat.me.1 ≡ slots_of gs ((j, Told p) ∷ []))) e2 t

@@ -1,5 +1,5 @@
 use Rattle.std.proofs.Common.{[], ◌∷◌, ◌++◌, length, reverse, sym, ap, ◌∙◌, subst, arith, length-append, append_assoc}
-use Rattle.line_rule.specs.declared.view.Stage.TheVariants.{Idle}
+use Rattle.line_rule.specs.declared.view.LineStage.TheVariants.{Idle}
 use Rattle.line_rule.specs.Rule.{hold}
 use Rattle.line_rule.proofs.Opens.{joins}
 use Rattle.line_writers.specs.Seats.{AllOut, holds_of, told}

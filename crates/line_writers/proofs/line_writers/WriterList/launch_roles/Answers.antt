@@ -1,5 +1,5 @@
 use Rattle.std.proofs.Common.{ℕ, ◌<◌, ◌≤◌, [], ◌∷◌, sym, ap, ◌∙◌, subst}
-use Rattle.line_rule.specs.declared.view.Stage.TheVariants.{Settling}
+use Rattle.line_rule.specs.declared.view.LineStage.TheVariants.{Settling}
 use Rattle.line_rule.specs.declared.view.Back.TheVariants.{Serving}
 use Rattle.line_rule.specs.Plays.{debt}
 use Rattle.line_rule.specs.Rule.{hold_at}

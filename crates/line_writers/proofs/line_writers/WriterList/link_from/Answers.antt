@@ -3,8 +3,8 @@ use mathlib.Core.Logic.{dite}
 use mathlib.Core.Option.{none}
 use native.Mathlib.Decide.{ℕ_discrete}
 use Rattle.atomic_table.specs.Table.{rest}
-use Rattle.line_rule.specs.declared.content.Content.TheVariants.{Asked}
-use Rattle.line_rule.specs.declared.view.Stage.TheVariants.{Idle}
+use Rattle.line_rule.specs.declared.content.LineSlot.TheVariants.{Asked}
+use Rattle.line_rule.specs.declared.view.LineStage.TheVariants.{Idle}
 use Rattle.line_writers.specs.Roles.{IsLinked}
 use Rattle.line_rule.specs.Rule.{logs_picked}
 use Rattle.line_rule.proofs.Enters.{begins, peeks, aims, enters_as, one_hold}
@@ -12,10 +12,10 @@ use Rattle.line_writers.proofs.line_writers.WriterList.link_from.Goals as goal
 
 pub store-requires : goal.store-requires
 store-requires g c =
-    let z = c.args.self.now.sized in let q = c.requires.seat in (
+    let w = c.state_word.ensures in let z = c.args.self.now.sized in let q = c.requires.seat in (
       c.requires.seat.0,
       omega arith,
-      begins _ _ _ _ c.args.writer.now.seat.me c.args.writer.now.client (2 * c.args.writer.now.client + 2) c.requires.idle.0 refl c.requires.idle.1 c.requires.idle.2,
+      begins _ _ _ _ c.args.writer.now.seat.me c.args.writer.now.client c.state_word.result c.requires.idle.0 c.state_word.ensures c.requires.idle.1 c.requires.idle.2,
     )
 
 pub loop-init : goal.loop-init
@@ -34,10 +34,10 @@ load-newest-requires g c = let z = c.args.self.now.sized in (c.loop.invariant.3 
 
 pub store-requires-in-loop : goal.store-requires-in-loop
 store-requires-in-loop g c =
-    let z = c.args.self.now.sized in let q = c.requires.seat in let i = c.loop.invariant.4 in let k : ℕ = c.args.writer.now.client in (
+    let w = c.older_word.ensures in let z = c.args.self.now.sized in let q = c.requires.seat in let i = c.loop.invariant.4 in let k : ℕ = c.args.writer.now.client in (
       c.load-newest.ensures.0 ∙ c.loop.invariant.3 ∙ c.requires.seat.0,
       omega arith,
-      aims _ _ _ _ c.load-newest.new.seat.me k (2 * k + 3) i.0 _ i.1 refl (ap (λ m. m.0) c.load-newest.ensures.2.0 ∙ i.3),
+      aims _ _ _ _ c.load-newest.new.seat.me k c.older_word.result i.0 _ i.1 c.older_word.ensures (ap (λ m. m.0) c.load-newest.ensures.2.0 ∙ i.3),
     )
 
 pub compare_exchange-found-requires : goal.compare_exchange-found-requires
@@ -46,7 +46,7 @@ compare_exchange-found-requires g c =
     let b = c.store-in-loop.ensures.2 k i.0 i.1 (ap (λ m. m.0) c.load-newest.ensures.2.0 ∙ i.3) in (
       c.store-in-loop.ensures.0 ∙ c.load-newest.ensures.0 ∙ c.loop.invariant.3 ∙ c.requires.seat.0,
       omega arith,
-      enters_as _ _ _ (λ i. logs_picked g.L.Ledger.stands g.L.Ledger.kept g.L.Ledger.number_of g.P.Given.run_of (sym c.requires.start i) (sym c.requires.about i)) _ _ c.store-in-loop.new.seat.me k _ c.load-newest.result c.args.code c.args.request i.1 none refl b.0 (b.1 ∙ ap (λ m. m.1) c.load-newest.ensures.2.0 ∙ c.loop.invariant.5) (c.requires.code, c.requires.lawful),
+      enters_as _ _ _ (λ i. logs_picked g.Reply.GivesRun.run_of g.Log.LogOfGroups (sym c.requires.start i) (sym c.requires.about i)) _ _ c.store-in-loop.new.seat.me k _ c.load-newest.result c.args.code c.args.request i.1 none c.pack.ensures b.0 (b.1 ∙ ap (λ m. m.1) c.load-newest.ensures.2.0 ∙ c.loop.invariant.5) (c.requires.code, c.requires.lawful),
     )
 
 pub returns-then-found-newest-clause-seat : goal.returns-then-found-newest-clause-seat
@@ -54,13 +54,13 @@ returns-then-found-newest-clause-seat g c = (c.compare_exchange-found.ensures.0 
 
 pub returns-then-found-newest-clause-linked : goal.returns-then-found-newest-clause-linked
 returns-then-found-newest-clause-linked g c mine idle =
-    let stood = logs_picked g.L.Ledger.stands g.L.Ledger.kept g.L.Ledger.number_of g.P.Given.run_of g.B.PickedAbout.number g.B.PickedAbout.about in
+    let stood = logs_picked g.Reply.GivesRun.run_of g.Log.LogOfGroups g.B.PickedAbout.number g.B.PickedAbout.about in
     let i = c.loop.invariant.4 in let k : ℕ = c.args.writer.now.client in let newest : ℕ = c.load-newest.result in
     let b = c.store-in-loop.ensures.2 k i.0 i.1 (ap (λ m. m.0) c.load-newest.ensures.2.0 ∙ i.3) in
     let t = c.compare_exchange-found.ensures.2 k _ c.args.request i.1 b.0 (b.1 ∙ ap (λ m. m.1) c.load-newest.ensures.2.0 ∙ c.loop.invariant.5) in
     let m' = c.compare_exchange-found.new.seat.me in let hit : c.compare_exchange-found.result ≡ newest = c.if-found-newest.true in
     let same = one_hold k k Idle Idle i.1 mine c.args.writer.now.seat.me.0 i.2 idle in
-    subst (λ (x : List (g.row.Q.Denot × g.row.P.Denot)). IsLinked stood k c.task_of-writer.result c.args.request x m') same.2
+    subst (λ (x : List (g.row.Request.Denot × g.row.Reply.Denot)). IsLinked stood k c.task_of-writer.result c.args.request x m') same.2
     (dite (ℕ_discrete newest 0)
     (λ z. subst (λ b. IsLinked stood k b c.args.request i.1 m') (sym (c.task_of-writer.ensures.first z)) (t.0 hit (hit ∙ z)))
     (λ nz. subst (λ b. IsLinked stood k b c.args.request i.1 m') (sym (c.task_of-writer.ensures.behind nz)) (let e = t.1 hit (λ f. nz (sym hit ∙ f)) in (e.0, e.1, e.3, e.2))))

@@ -1,7 +1,8 @@
-use Rattle.std.proofs.Common.{◌≡◌, ℕ, ◌+◌, ◌*◌, sym, ap, arith}
+use Rattle.line_rule.specs.Chain.{state_at}
+use Rattle.std.proofs.Common.{◌≡◌, ℕ, ◌+◌, ◌*◌, sym, ap, arith, ◌∙◌}
 use Rattle.line_rule.proofs.Serves.{parallels}
 use Rattle.line_writers.proofs.line_writers.WriterList.make_parallel.Goals as goal
 
 pub store-requires : goal.store-requires
 store-requires g c =
-    let z = c.args.self.now.sized in let q = c.requires.seat in let key : c.args.self.now.table.shared.key.clients ≡ c.args.self.now.clients = z.2 in let o = c.requires.member in let k : ℕ = c.args.member in let by : o.2.0.by ≡ k = o.9 in (q.0, omega arith, parallels _ _ _ _ c.args.writer.now.seat.me c.args.writer.now.client (2 * k + 2) o.0 o.1 o.2 o.3 o.4 o.5 o.6 o.7 o.8 (ap (λ (j : ℕ). 2 * j + 2) (sym by)) (omega arith))
+    let w = c.state_word.ensures in let z = c.args.self.now.sized in let q = c.requires.seat in let key : c.args.self.now.table.shared.key.clients ≡ c.args.self.now.clients = z.2 in let o = c.requires.member in let k : ℕ = c.args.member in let by : o.2.0.by ≡ k = o.9 in (q.0, omega arith, parallels _ _ _ _ c.args.writer.now.seat.me c.args.writer.now.client c.state_word.result o.0 o.1 o.2 o.3 o.4 o.5 o.6 o.7 o.8 (c.state_word.ensures ∙ ap state_at (sym by)) (omega arith))

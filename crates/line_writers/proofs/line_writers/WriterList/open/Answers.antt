@@ -1,6 +1,6 @@
 use Rattle.std.proofs.Common.{ℕ, List, length, get_or, ap, ◌∙◌, refl, arith}
 use Rattle.std.proofs.lemmas.List.{length-replicate}
-use Rattle.line_rule.specs.declared.content.Content.TheVariants.{Empty, Log, Right}
+use Rattle.line_rule.specs.declared.content.LineSlot.TheVariants.{Empty, TheLog, TheRight}
 use Rattle.line_rule.proofs.Opens.{opens}
 use Rattle.line_writers.proofs.Contents.{length_between}
 use Rattle.line_writers.proofs.News.{zeros, zeros_one}
@@ -16,7 +16,7 @@ invariant_of-list g c =
     let o = c.in-Ok-new.ensures.ok in let q = c.requires.clients in
     let words = c.as_slice.ensures.value ∙ c.in-Ok-vec.ensures.items_if_clones_equal (λ y is. is) in
     record {
-      sized = (o.0 ∙ (ap length words ∙ length-replicate _ _), o.1 ∙ (ap length c.in-Ok-slots_for.ensures.ok ∙ length_between c.args.start.now.clients (Log c.args.log) Empty (Right c.args.right)), ap (λ k. k.clients) o.5, q.1, ap (λ k. k.group_bytes) o.5);
+      sized = (o.0 ∙ (ap length words ∙ length-replicate _ _), o.1 ∙ (ap length c.in-Ok-slots_for.ensures.ok ∙ length_between c.args.start.now.clients (TheLog c.args.log) Empty (TheRight c.args.right)), ap (λ k. k.clients) o.5, q.1, ap (λ k. k.group_bytes) o.5);
       some = q.0;
     }
 

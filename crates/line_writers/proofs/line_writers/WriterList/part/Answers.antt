@@ -1,9 +1,9 @@
 use Rattle.std.proofs.Common.{◌≡◌, ℕ, ◌+◌, ◌-◌, ◌^◌, ◌<◌, [], ◌∷◌, ◌++◌, length, get_or, sym, ap, ◌∙◌, subst, refl, arith}
 use Rattle.line_rule.specs.declared.view.Lead.{Lead}
-use Rattle.line_rule.specs.declared.view.Stage.TheVariants.{Leading, Cutting}
+use Rattle.line_rule.specs.declared.view.LineStage.TheVariants.{Leading, Cutting}
 use Rattle.line_rule.specs.declared.view.Back.TheVariants.{Parting}
 use Rattle.line_rule.specs.Chain.{pairs}
-use Rattle.line_rule.specs.Plays.{At, walking, in_hand, parting}
+use Rattle.line_rule.specs.Plays.{At, lead_with_walk, in_hand, squad_at_cut}
 use Rattle.line_rule.specs.Rule.{hold_at}
 use Rattle.line_writers.specs.Roles.{HasRead, CodesFit}
 use Rattle.line_writers.proofs.Surveys.{pair_at, length-pairs, code_fits}
@@ -21,7 +21,7 @@ survey-requires-clause-read g c =
     let w = (c.mark-found.ensures.marked o.0 o.1 o.2).1 c.if-found-newest_member.false in
     let b = behind k slots o.0 o.1 found c.args.newest_member c.args.writer.now.seat.me c.mark-found.new.writer.seat.me w o.3 c.if-found-newest_member.false in
     let e1 : c.mark-found.new.writer.client ≡ k = c.mark-found.ensures.seat.1 in
-    let lead' : Lead g.row.Q.Denot g.row.P.Denot = walking o.0 (b.queue ++ in_hand o.0) in
+    let lead' : Lead g.row.Request.Denot g.row.Reply.Denot = lead_with_walk o.0 (b.queue ++ in_hand o.0) in
     subst (λ (j : ℕ). HasRead slots j found c.mark-found.new.writer.seat.me) (sym e1) b.read
 
 pub overflow_sub-len : goal.overflow_sub-len
@@ -30,7 +30,7 @@ overflow_sub-len g c =
     let w = (c.mark-found.ensures.marked o.0 o.1 o.2).1 c.if-found-newest_member.false in
     let b = behind k slots o.0 o.1 found c.args.newest_member c.args.writer.now.seat.me c.mark-found.new.writer.seat.me w o.3 c.if-found-newest_member.false in
     let e1 : c.mark-found.new.writer.client ≡ k = c.mark-found.ensures.seat.1 in
-    let lead' : Lead g.row.Q.Denot g.row.P.Denot = walking o.0 (b.queue ++ in_hand o.0) in
+    let lead' : Lead g.row.Request.Denot g.row.Reply.Denot = lead_with_walk o.0 (b.queue ++ in_hand o.0) in
     let items : c.survey.new.walk.items ≡ pairs (b.pre ++ b.x ∷ in_hand o.0) = c.survey.ensures.walk lead' o.1 (subst (λ (j : ℕ). At j (Leading lead') o.1 c.mark-found.new.writer.seat.me) (sym e1) b.at) ∙ ap pairs b.parts in
     let long : length c.survey.new.walk.items ≡ length b.pre + 1 + length (in_hand o.0) = ap length items ∙ (length-pairs (b.pre ++ b.x ∷ in_hand o.0) ∙ (ap length (sym b.parts) ∙ b.long)) in
     let count : c.args.count ≡ length (in_hand o.0) = o.5 in
@@ -42,7 +42,7 @@ overflow_sub-len-2 g c =
     let w = (c.mark-found.ensures.marked o.0 o.1 o.2).1 c.if-found-newest_member.false in
     let b = behind k slots o.0 o.1 found c.args.newest_member c.args.writer.now.seat.me c.mark-found.new.writer.seat.me w o.3 c.if-found-newest_member.false in
     let e1 : c.mark-found.new.writer.client ≡ k = c.mark-found.ensures.seat.1 in
-    let lead' : Lead g.row.Q.Denot g.row.P.Denot = walking o.0 (b.queue ++ in_hand o.0) in
+    let lead' : Lead g.row.Request.Denot g.row.Reply.Denot = lead_with_walk o.0 (b.queue ++ in_hand o.0) in
     let items : c.survey.new.walk.items ≡ pairs (b.pre ++ b.x ∷ in_hand o.0) = c.survey.ensures.walk lead' o.1 (subst (λ (j : ℕ). At j (Leading lead') o.1 c.mark-found.new.writer.seat.me) (sym e1) b.at) ∙ ap pairs b.parts in
     let long : length c.survey.new.walk.items ≡ length b.pre + 1 + length (in_hand o.0) = ap length items ∙ (length-pairs (b.pre ++ b.x ∷ in_hand o.0) ∙ (ap length (sym b.parts) ∙ b.long)) in
     let count : c.args.count ≡ length (in_hand o.0) = o.5 in
@@ -54,7 +54,7 @@ index-requires g c =
     let w = (c.mark-found.ensures.marked o.0 o.1 o.2).1 c.if-found-newest_member.false in
     let b = behind k slots o.0 o.1 found c.args.newest_member c.args.writer.now.seat.me c.mark-found.new.writer.seat.me w o.3 c.if-found-newest_member.false in
     let e1 : c.mark-found.new.writer.client ≡ k = c.mark-found.ensures.seat.1 in
-    let lead' : Lead g.row.Q.Denot g.row.P.Denot = walking o.0 (b.queue ++ in_hand o.0) in
+    let lead' : Lead g.row.Request.Denot g.row.Reply.Denot = lead_with_walk o.0 (b.queue ++ in_hand o.0) in
     let items : c.survey.new.walk.items ≡ pairs (b.pre ++ b.x ∷ in_hand o.0) = c.survey.ensures.walk lead' o.1 (subst (λ (j : ℕ). At j (Leading lead') o.1 c.mark-found.new.writer.seat.me) (sym e1) b.at) ∙ ap pairs b.parts in
     let long : length c.survey.new.walk.items ≡ length b.pre + 1 + length (in_hand o.0) = ap length items ∙ (length-pairs (b.pre ++ b.x ∷ in_hand o.0) ∙ (ap length (sym b.parts) ∙ b.long)) in
     let count : c.args.count ≡ length (in_hand o.0) = o.5 in
@@ -66,7 +66,7 @@ cut_away-requires-clause-seat g c =
     let w = (c.mark-found.ensures.marked o.0 o.1 o.2).1 c.if-found-newest_member.false in
     let b = behind k slots o.0 o.1 found c.args.newest_member c.args.writer.now.seat.me c.mark-found.new.writer.seat.me w o.3 c.if-found-newest_member.false in
     let e1 : c.mark-found.new.writer.client ≡ k = c.mark-found.ensures.seat.1 in
-    let lead' : Lead g.row.Q.Denot g.row.P.Denot = walking o.0 (b.queue ++ in_hand o.0) in
+    let lead' : Lead g.row.Request.Denot g.row.Reply.Denot = lead_with_walk o.0 (b.queue ++ in_hand o.0) in
     let items : c.survey.new.walk.items ≡ pairs (b.pre ++ b.x ∷ in_hand o.0) = c.survey.ensures.walk lead' o.1 (subst (λ (j : ℕ). At j (Leading lead') o.1 c.mark-found.new.writer.seat.me) (sym e1) b.at) ∙ ap pairs b.parts in
     let long : length c.survey.new.walk.items ≡ length b.pre + 1 + length (in_hand o.0) = ap length items ∙ (length-pairs (b.pre ++ b.x ∷ in_hand o.0) ∙ (ap length (sym b.parts) ∙ b.long)) in
     let count : c.args.count ≡ length (in_hand o.0) = o.5 in
@@ -84,7 +84,7 @@ cut_away-requires-clause-next g c =
     let w = (c.mark-found.ensures.marked o.0 o.1 o.2).1 c.if-found-newest_member.false in
     let b = behind k slots o.0 o.1 found c.args.newest_member c.args.writer.now.seat.me c.mark-found.new.writer.seat.me w o.3 c.if-found-newest_member.false in
     let e1 : c.mark-found.new.writer.client ≡ k = c.mark-found.ensures.seat.1 in
-    let lead' : Lead g.row.Q.Denot g.row.P.Denot = walking o.0 (b.queue ++ in_hand o.0) in
+    let lead' : Lead g.row.Request.Denot g.row.Reply.Denot = lead_with_walk o.0 (b.queue ++ in_hand o.0) in
     let items : c.survey.new.walk.items ≡ pairs (b.pre ++ b.x ∷ in_hand o.0) = c.survey.ensures.walk lead' o.1 (subst (λ (j : ℕ). At j (Leading lead') o.1 c.mark-found.new.writer.seat.me) (sym e1) b.at) ∙ ap pairs b.parts in
     let long : length c.survey.new.walk.items ≡ length b.pre + 1 + length (in_hand o.0) = ap length items ∙ (length-pairs (b.pre ++ b.x ∷ in_hand o.0) ∙ (ap length (sym b.parts) ∙ b.long)) in
     let count : c.args.count ≡ length (in_hand o.0) = o.5 in
@@ -105,7 +105,7 @@ returns-clause-next g c =
     let w = (c.mark-found.ensures.marked o.0 o.1 o.2).1 c.if-found-newest_member.false in
     let b = behind k slots o.0 o.1 found c.args.newest_member c.args.writer.now.seat.me c.mark-found.new.writer.seat.me w o.3 c.if-found-newest_member.false in
     let e1 : c.mark-found.new.writer.client ≡ k = c.mark-found.ensures.seat.1 in
-    let lead' : Lead g.row.Q.Denot g.row.P.Denot = walking o.0 (b.queue ++ in_hand o.0) in
+    let lead' : Lead g.row.Request.Denot g.row.Reply.Denot = lead_with_walk o.0 (b.queue ++ in_hand o.0) in
     let items : c.survey.new.walk.items ≡ pairs (b.pre ++ b.x ∷ in_hand o.0) = c.survey.ensures.walk lead' o.1 (subst (λ (j : ℕ). At j (Leading lead') o.1 c.mark-found.new.writer.seat.me) (sym e1) b.at) ∙ ap pairs b.parts in
     let long : length c.survey.new.walk.items ≡ length b.pre + 1 + length (in_hand o.0) = ap length items ∙ (length-pairs (b.pre ++ b.x ∷ in_hand o.0) ∙ (ap length (sym b.parts) ∙ b.long)) in
     let count : c.args.count ≡ length (in_hand o.0) = o.5 in
@@ -122,7 +122,7 @@ returns-clause-parted g c lead mine at =
     let w = (c.mark-found.ensures.marked o.0 o.1 o.2).1 c.if-found-newest_member.false in
     let b = behind k slots o.0 o.1 found c.args.newest_member c.args.writer.now.seat.me c.mark-found.new.writer.seat.me w o.3 c.if-found-newest_member.false in
     let e1 : c.mark-found.new.writer.client ≡ k = c.mark-found.ensures.seat.1 in
-    let lead' : Lead g.row.Q.Denot g.row.P.Denot = walking o.0 (b.queue ++ in_hand o.0) in
+    let lead' : Lead g.row.Request.Denot g.row.Reply.Denot = lead_with_walk o.0 (b.queue ++ in_hand o.0) in
     let items : c.survey.new.walk.items ≡ pairs (b.pre ++ b.x ∷ in_hand o.0) = c.survey.ensures.walk lead' o.1 (subst (λ (j : ℕ). At j (Leading lead') o.1 c.mark-found.new.writer.seat.me) (sym e1) b.at) ∙ ap pairs b.parts in
     let long : length c.survey.new.walk.items ≡ length b.pre + 1 + length (in_hand o.0) = ap length items ∙ (length-pairs (b.pre ++ b.x ∷ in_hand o.0) ∙ (ap length (sym b.parts) ∙ b.long)) in
     let count : c.args.count ≡ length (in_hand o.0) = o.5 in
@@ -138,5 +138,5 @@ returns-clause-parted g c lead mine at =
     let cut = c.cut_away.ensures.cut lead' o.1 b.pre b.x (at2, b.parts) by in let e3 = c.cut_away.ensures.seat.1 ∙ e2 in
     let same = one_hold k k (Leading o.0) (Leading lead) o.1 mine c.args.writer.now.seat.me.0 o.2 at in
     let le : o.0 ≡ lead = one_lead o.0 lead same.1 in let walk = b.queue ++ in_hand o.0 in
-    let at4 = cut.0 ∙ (λ i. hold_at (e2 i) (Cutting (walking (le i) walk) b.x) (same.2 i) (Parting (parting (le i) g.B.PickedGiven.given) 0) ∷ []) in
+    let at4 = cut.0 ∙ (λ i. hold_at (e2 i) (Cutting (lead_with_walk (le i) walk) b.x) (same.2 i) (Parting (squad_at_cut (le i) g.B.PickedGiven.given) 0) ∷ []) in
     (walk, ((λ zero. let r0 = range.0 in absurd (omega arith)), (λ _. (b.x, by, at4))), cut.1 ∙ ap (λ m. m.1) me ∙ b.slots_same)

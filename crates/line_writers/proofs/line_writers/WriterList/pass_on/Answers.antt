@@ -1,6 +1,6 @@
 use Rattle.std.proofs.Common.{◌≡◌, ℕ, ◌+◌, ◌-◌, ◌^◌, ◌<◌, [], ◌∷◌, ◌++◌, length, get_or, sym, ap, ◌∙◌, subst, arith}
-use Rattle.line_rule.specs.declared.content.Content.TheVariants.{Right}
-use Rattle.line_rule.specs.declared.view.Stage.TheVariants.{Settling}
+use Rattle.line_rule.specs.declared.content.LineSlot.TheVariants.{TheRight}
+use Rattle.line_rule.specs.declared.view.LineStage.TheVariants.{Settling}
 use Rattle.line_rule.specs.declared.view.Back.TheVariants.{Serving, Passing}
 use Rattle.line_rule.specs.Chain.{pairs}
 use Rattle.line_rule.specs.Plays.{At, AtWith}
@@ -15,7 +15,7 @@ use Rattle.line_writers.proofs.line_writers.WriterList.pass_on.Goals as goal
 pub survey_second-requires-clause-read : goal.survey_second-requires-clause-read
 survey_second-requires-clause-read g c =
     let o = c.requires.ready in let k : ℕ = c.args.writer.now.client in let slots : ℕ = c.args.self.now.table.shared.table_id.slots in let found : ℕ = c.leave_second-found.result in let z = c.args.self.now.sized in
-    let w = (c.leave_second-found.ensures.left o.0 o.1 o.2 o.3 (c.args.self.now.clients + 1, Right o.4) o.5 o.6 o.7).1 c.if-found-newest_member.false in
+    let w = (c.leave_second-found.ensures.left o.0 o.1 o.2 o.3 (c.args.self.now.clients + 1, TheRight o.4) o.5 o.6 o.7).1 c.if-found-newest_member.false in
     let b = behind_second k slots o.0 o.1 o.2 found c.args.newest_member c.args.writer.now.seat.me c.leave_second-found.new.writer.seat.me w o.8 c.if-found-newest_member.false in
     let e1 : c.leave_second-found.new.writer.client ≡ k = c.leave_second-found.ensures.seat.1 in
     subst (λ (j : ℕ). HasTrace (SeesSecond j) slots found c.leave_second-found.new.writer.seat.me) (sym e1) b.read
@@ -23,7 +23,7 @@ survey_second-requires-clause-read g c =
 pub overflow_sub-len : goal.overflow_sub-len
 overflow_sub-len g c =
     let o = c.requires.ready in let k : ℕ = c.args.writer.now.client in let slots : ℕ = c.args.self.now.table.shared.table_id.slots in let found : ℕ = c.leave_second-found.result in let z = c.args.self.now.sized in
-    let w = (c.leave_second-found.ensures.left o.0 o.1 o.2 o.3 (c.args.self.now.clients + 1, Right o.4) o.5 o.6 o.7).1 c.if-found-newest_member.false in
+    let w = (c.leave_second-found.ensures.left o.0 o.1 o.2 o.3 (c.args.self.now.clients + 1, TheRight o.4) o.5 o.6 o.7).1 c.if-found-newest_member.false in
     let b = behind_second k slots o.0 o.1 o.2 found c.args.newest_member c.args.writer.now.seat.me c.leave_second-found.new.writer.seat.me w o.8 c.if-found-newest_member.false in
     let e1 : c.leave_second-found.new.writer.client ≡ k = c.leave_second-found.ensures.seat.1 in
     let sees : SeesSecond c.leave_second-found.new.writer.client c.leave_second-found.new.writer.seat.me b.walk = (o.0, o.1, o.2, subst (λ (j : ℕ). AtWith j (Settling o.0) o.1 (Serving o.2 b.walk) c.leave_second-found.new.writer.seat.me) (sym e1) b.at) in
@@ -35,7 +35,7 @@ overflow_sub-len g c =
 pub overflow_sub-len-2 : goal.overflow_sub-len-2
 overflow_sub-len-2 g c =
     let o = c.requires.ready in let k : ℕ = c.args.writer.now.client in let slots : ℕ = c.args.self.now.table.shared.table_id.slots in let found : ℕ = c.leave_second-found.result in let z = c.args.self.now.sized in
-    let w = (c.leave_second-found.ensures.left o.0 o.1 o.2 o.3 (c.args.self.now.clients + 1, Right o.4) o.5 o.6 o.7).1 c.if-found-newest_member.false in
+    let w = (c.leave_second-found.ensures.left o.0 o.1 o.2 o.3 (c.args.self.now.clients + 1, TheRight o.4) o.5 o.6 o.7).1 c.if-found-newest_member.false in
     let b = behind_second k slots o.0 o.1 o.2 found c.args.newest_member c.args.writer.now.seat.me c.leave_second-found.new.writer.seat.me w o.8 c.if-found-newest_member.false in
     let e1 : c.leave_second-found.new.writer.client ≡ k = c.leave_second-found.ensures.seat.1 in
     let sees : SeesSecond c.leave_second-found.new.writer.client c.leave_second-found.new.writer.seat.me b.walk = (o.0, o.1, o.2, subst (λ (j : ℕ). AtWith j (Settling o.0) o.1 (Serving o.2 b.walk) c.leave_second-found.new.writer.seat.me) (sym e1) b.at) in
@@ -47,7 +47,7 @@ overflow_sub-len-2 g c =
 pub index-requires : goal.index-requires
 index-requires g c =
     let o = c.requires.ready in let k : ℕ = c.args.writer.now.client in let slots : ℕ = c.args.self.now.table.shared.table_id.slots in let found : ℕ = c.leave_second-found.result in let z = c.args.self.now.sized in
-    let w = (c.leave_second-found.ensures.left o.0 o.1 o.2 o.3 (c.args.self.now.clients + 1, Right o.4) o.5 o.6 o.7).1 c.if-found-newest_member.false in
+    let w = (c.leave_second-found.ensures.left o.0 o.1 o.2 o.3 (c.args.self.now.clients + 1, TheRight o.4) o.5 o.6 o.7).1 c.if-found-newest_member.false in
     let b = behind_second k slots o.0 o.1 o.2 found c.args.newest_member c.args.writer.now.seat.me c.leave_second-found.new.writer.seat.me w o.8 c.if-found-newest_member.false in
     let e1 : c.leave_second-found.new.writer.client ≡ k = c.leave_second-found.ensures.seat.1 in
     let sees : SeesSecond c.leave_second-found.new.writer.client c.leave_second-found.new.writer.seat.me b.walk = (o.0, o.1, o.2, subst (λ (j : ℕ). AtWith j (Settling o.0) o.1 (Serving o.2 b.walk) c.leave_second-found.new.writer.seat.me) (sym e1) b.at) in
@@ -59,7 +59,7 @@ index-requires g c =
 pub clear_second-requires-clause-seat : goal.clear_second-requires-clause-seat
 clear_second-requires-clause-seat g c =
     let o = c.requires.ready in let k : ℕ = c.args.writer.now.client in let slots : ℕ = c.args.self.now.table.shared.table_id.slots in let found : ℕ = c.leave_second-found.result in let z = c.args.self.now.sized in
-    let w = (c.leave_second-found.ensures.left o.0 o.1 o.2 o.3 (c.args.self.now.clients + 1, Right o.4) o.5 o.6 o.7).1 c.if-found-newest_member.false in
+    let w = (c.leave_second-found.ensures.left o.0 o.1 o.2 o.3 (c.args.self.now.clients + 1, TheRight o.4) o.5 o.6 o.7).1 c.if-found-newest_member.false in
     let b = behind_second k slots o.0 o.1 o.2 found c.args.newest_member c.args.writer.now.seat.me c.leave_second-found.new.writer.seat.me w o.8 c.if-found-newest_member.false in
     let e1 : c.leave_second-found.new.writer.client ≡ k = c.leave_second-found.ensures.seat.1 in
     let sees : SeesSecond c.leave_second-found.new.writer.client c.leave_second-found.new.writer.seat.me b.walk = (o.0, o.1, o.2, subst (λ (j : ℕ). AtWith j (Settling o.0) o.1 (Serving o.2 b.walk) c.leave_second-found.new.writer.seat.me) (sym e1) b.at) in
@@ -77,7 +77,7 @@ clear_second-requires-clause-seat g c =
 pub clear_second-requires-clause-next : goal.clear_second-requires-clause-next
 clear_second-requires-clause-next g c =
     let o = c.requires.ready in let k : ℕ = c.args.writer.now.client in let slots : ℕ = c.args.self.now.table.shared.table_id.slots in let found : ℕ = c.leave_second-found.result in let z = c.args.self.now.sized in
-    let w = (c.leave_second-found.ensures.left o.0 o.1 o.2 o.3 (c.args.self.now.clients + 1, Right o.4) o.5 o.6 o.7).1 c.if-found-newest_member.false in
+    let w = (c.leave_second-found.ensures.left o.0 o.1 o.2 o.3 (c.args.self.now.clients + 1, TheRight o.4) o.5 o.6 o.7).1 c.if-found-newest_member.false in
     let b = behind_second k slots o.0 o.1 o.2 found c.args.newest_member c.args.writer.now.seat.me c.leave_second-found.new.writer.seat.me w o.8 c.if-found-newest_member.false in
     let e1 : c.leave_second-found.new.writer.client ≡ k = c.leave_second-found.ensures.seat.1 in
     let sees : SeesSecond c.leave_second-found.new.writer.client c.leave_second-found.new.writer.seat.me b.walk = (o.0, o.1, o.2, subst (λ (j : ℕ). AtWith j (Settling o.0) o.1 (Serving o.2 b.walk) c.leave_second-found.new.writer.seat.me) (sym e1) b.at) in
@@ -98,7 +98,7 @@ clear_second-requires-clause-next g c =
 pub call_next-requires-clause-seat : goal.call_next-requires-clause-seat
 call_next-requires-clause-seat g c =
     let o = c.requires.ready in let k : ℕ = c.args.writer.now.client in let slots : ℕ = c.args.self.now.table.shared.table_id.slots in let found : ℕ = c.leave_second-found.result in let z = c.args.self.now.sized in
-    let w = (c.leave_second-found.ensures.left o.0 o.1 o.2 o.3 (c.args.self.now.clients + 1, Right o.4) o.5 o.6 o.7).1 c.if-found-newest_member.false in
+    let w = (c.leave_second-found.ensures.left o.0 o.1 o.2 o.3 (c.args.self.now.clients + 1, TheRight o.4) o.5 o.6 o.7).1 c.if-found-newest_member.false in
     let b = behind_second k slots o.0 o.1 o.2 found c.args.newest_member c.args.writer.now.seat.me c.leave_second-found.new.writer.seat.me w o.8 c.if-found-newest_member.false in
     let e1 : c.leave_second-found.new.writer.client ≡ k = c.leave_second-found.ensures.seat.1 in
     let sees : SeesSecond c.leave_second-found.new.writer.client c.leave_second-found.new.writer.seat.me b.walk = (o.0, o.1, o.2, subst (λ (j : ℕ). AtWith j (Settling o.0) o.1 (Serving o.2 b.walk) c.leave_second-found.new.writer.seat.me) (sym e1) b.at) in
@@ -115,7 +115,7 @@ call_next-requires-clause-seat g c =
 pub call_next-requires-clause-passes : goal.call_next-requires-clause-passes
 call_next-requires-clause-passes g c =
     let o = c.requires.ready in let k : ℕ = c.args.writer.now.client in let slots : ℕ = c.args.self.now.table.shared.table_id.slots in let found : ℕ = c.leave_second-found.result in let z = c.args.self.now.sized in
-    let w = (c.leave_second-found.ensures.left o.0 o.1 o.2 o.3 (c.args.self.now.clients + 1, Right o.4) o.5 o.6 o.7).1 c.if-found-newest_member.false in
+    let w = (c.leave_second-found.ensures.left o.0 o.1 o.2 o.3 (c.args.self.now.clients + 1, TheRight o.4) o.5 o.6 o.7).1 c.if-found-newest_member.false in
     let b = behind_second k slots o.0 o.1 o.2 found c.args.newest_member c.args.writer.now.seat.me c.leave_second-found.new.writer.seat.me w o.8 c.if-found-newest_member.false in
     let e1 : c.leave_second-found.new.writer.client ≡ k = c.leave_second-found.ensures.seat.1 in
     let sees : SeesSecond c.leave_second-found.new.writer.client c.leave_second-found.new.writer.seat.me b.walk = (o.0, o.1, o.2, subst (λ (j : ℕ). AtWith j (Settling o.0) o.1 (Serving o.2 b.walk) c.leave_second-found.new.writer.seat.me) (sym e1) b.at) in
@@ -137,12 +137,12 @@ call_next-requires-clause-passes g c =
     (Settling o.0, o.1, o.2, b.x, o.4, o.5, at3, slot3 ∙ o.7, by, o.9)
 
 pub returns-then-found-newest_member-clause-passed : goal.returns-then-found-newest_member-clause-passed
-returns-then-found-newest_member-clause-passed g c d mine s line right t at slot = (c.leave_second-found.ensures.left d mine s line (c.args.self.now.clients + 1, Right right) t at slot).0 c.if-found-newest_member.true
+returns-then-found-newest_member-clause-passed g c d mine s line right t at slot = (c.leave_second-found.ensures.left d mine s line (c.args.self.now.clients + 1, TheRight right) t at slot).0 c.if-found-newest_member.true
 
 pub returns-clause-passed : goal.returns-clause-passed
 returns-clause-passed g c d mine s line right t at slot =
     let o = c.requires.ready in let k : ℕ = c.args.writer.now.client in let slots : ℕ = c.args.self.now.table.shared.table_id.slots in let found : ℕ = c.leave_second-found.result in let z = c.args.self.now.sized in
-    let w = (c.leave_second-found.ensures.left o.0 o.1 o.2 o.3 (c.args.self.now.clients + 1, Right o.4) o.5 o.6 o.7).1 c.if-found-newest_member.false in
+    let w = (c.leave_second-found.ensures.left o.0 o.1 o.2 o.3 (c.args.self.now.clients + 1, TheRight o.4) o.5 o.6 o.7).1 c.if-found-newest_member.false in
     let b = behind_second k slots o.0 o.1 o.2 found c.args.newest_member c.args.writer.now.seat.me c.leave_second-found.new.writer.seat.me w o.8 c.if-found-newest_member.false in
     let e1 : c.leave_second-found.new.writer.client ≡ k = c.leave_second-found.ensures.seat.1 in
     let sees : SeesSecond c.leave_second-found.new.writer.client c.leave_second-found.new.writer.seat.me b.walk = (o.0, o.1, o.2, subst (λ (j : ℕ). AtWith j (Settling o.0) o.1 (Serving o.2 b.walk) c.leave_second-found.new.writer.seat.me) (sym e1) b.at) in
@@ -162,5 +162,5 @@ returns-clause-passed g c d mine s line right t at slot =
     let at3 = subst (λ (j : ℕ). AtWith j (Settling o.0) o.1 (Passing o.2 b.x) c.clear_second.new.writer.seat.me) (sym e3) cl.0 in
     let slot3 = cl.1 ∙ ap (λ m. m.1) me ∙ b.slots_same in
     let same = one_hold_at k k (Settling o.0) (Settling d) o.1 mine (Serving o.2 o.3) (Serving s line) c.args.writer.now.seat.me.0 o.6 at in
-    let r = c.call_next.ensures.called (Settling o.0) o.1 o.2 b.x (c.args.self.now.clients + 1, Right right) t at3 (slot3 ∙ slot) in
+    let r = c.call_next.ensures.called (Settling o.0) o.1 o.2 b.x (c.args.self.now.clients + 1, TheRight right) t at3 (slot3 ∙ slot) in
     (subst (λ (j : ℕ). At j (Settling d) mine c.call_next.new.writer.seat.me) (e3 ∙ e2) (r.0 ∙ (λ i. hold c.clear_second.new.writer.client (same.1 i) (same.2 i) ∷ [])), r.1)

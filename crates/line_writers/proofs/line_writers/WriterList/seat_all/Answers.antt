@@ -1,6 +1,6 @@
 use Rattle.std.proofs.Common.{◌≡◌, ℕ, ◌+◌, ◌-◌, ◌<◌, [], ◌∷◌, length, sym, ap, ◌∙◌, subst, refl, arith}
 use Rattle.line_rule.specs.Rule.{newcomers, hold}
-use Rattle.line_rule.specs.declared.view.Stage.TheVariants.{Idle}
+use Rattle.line_rule.specs.declared.view.LineStage.TheVariants.{Idle}
 use Rattle.line_writers.specs.Roles.{AreNew}
 use Rattle.line_rule.proofs.Opens.{splits_first, left_is}
 use Rattle.line_writers.proofs.News.{new_snoc, length_snoc}

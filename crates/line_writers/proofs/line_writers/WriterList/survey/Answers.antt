@@ -1,7 +1,8 @@
+use Rattle.line_rule.specs.Chain.{older_at}
 use Rattle.std.proofs.Common.{◌≡◌, ℕ, ◌+◌, ◌*◌, ◌/◌, ◌%◌, List, sym, ap, ◌∙◌, subst, refl, arith}
 use Rattle.line_rule.specs.declared.view.Lead.{Lead}
 use Rattle.line_rule.specs.Chain.{pairs}
-use Rattle.line_rule.specs.declared.view.Stage.TheVariants.{Leading}
+use Rattle.line_rule.specs.declared.view.LineStage.TheVariants.{Leading}
 use Rattle.line_rule.proofs.Enters.{one_hold}
 use Rattle.line_rule.proofs.Leads.{traces, one_lead}
 use Rattle.line_writers.proofs.Surveys.{Surveyed, surveys, next_below, goes_on, all_read, codes_fit}
@@ -22,16 +23,13 @@ loop-step-init g c =
       so_far = subst (λ (l : List (ℕ × ℕ)). Surveyed k c.args.self.now.table.shared.table_id.slots c.args.writer.now.seat.me c.args.first l 0) (sym c.requires.seat.2) v;
     }
 
-pub overflow_mul-at : goal.overflow_mul-at
-overflow_mul-at g c = let z = c.args.self.now.sized in let b = next_below _ _ _ _ _ _ c.loop-step.invariant.so_far in omega arith
-
-pub overflow_add-at : goal.overflow_add-at
-overflow_add-at g c = let z = c.args.self.now.sized in let b = next_below _ _ _ _ _ _ c.loop-step.invariant.so_far in omega arith
+pub older_word-requires : goal.older_word-requires
+older_word-requires g c = let z = c.args.self.now.sized in let b = next_below _ _ _ _ _ _ c.loop-step.invariant.so_far in omega arith
 
 pub load-word-requires : goal.load-word-requires
 load-word-requires g c =
-    let z = c.args.self.now.sized in let b = next_below _ _ _ _ _ _ c.loop-step.invariant.so_far in
-    (c.loop-step.invariant.table ∙ c.requires.seat.0, omega arith, traces _ _ _ _ c.loop-step.writer.seat.me (2 * c.loop-step.at + 3))
+    let w = c.older_word.ensures in let z = c.args.self.now.sized in let b = next_below _ _ _ _ _ _ c.loop-step.invariant.so_far in
+    (c.loop-step.invariant.table ∙ c.requires.seat.0, omega arith, traces _ _ _ _ c.loop-step.writer.seat.me c.older_word.result)
 
 pub push_reserved-requires : goal.push_reserved-requires
 push_reserved-requires g c = let a = c.loop-step.invariant.len in let b = c.loop-step.invariant.room in let d = c.requires.seat.3 in omega arith
@@ -43,24 +41,24 @@ pub returns-then-at-eq0-clause-walk : goal.returns-then-at-eq0-clause-walk
 returns-then-at-eq0-clause-walk g c lead mine at =
     let v = c.loop-step.invariant.so_far in let k : ℕ = c.args.writer.now.client in let slots : ℕ = c.args.self.now.table.shared.table_id.slots in let z = c.args.self.now.sized in
     let o = one_hold k k (Leading v.lead) (Leading lead) v.mine mine c.loop-step.writer.seat.me.0 v.reads (ap (λ m. m.0) c.loop-step.invariant.me ∙ at) in let same : v.lead ≡ lead = one_lead v.lead lead o.1 in
-    let word = c.load-word.ensures.2.1 k v.lead v.mine v.pre v.x v.post v.reads v.parts (ap (λ (j : ℕ). 2 * j + 3) v.at_is) in
-    let all = all_read k slots c.loop-step.writer.seat.me c.loop-step.at c.loop-step.step c.loop-step.walk.items v c.load-word.result (omega arith) word c.if-at-eq0.true in
-    c.push_reserved.ensures.items ∙ all ∙ ap (λ (l : Lead g.row.Q.Denot g.row.P.Denot). pairs l.walk) same
+    let word = c.load-word.ensures.2.1 k v.lead v.mine v.pre v.x v.post v.reads v.parts (c.older_word.ensures ∙ ap older_at v.at_is) in
+    let all = all_read k slots c.loop-step.writer.seat.me c.loop-step.at c.loop-step.step c.loop-step.walk.items v c.of-older.result.client c.of-older.result.code (omega arith) c.of-older.ensures.byte (sym c.of-older.ensures.whole ∙ word) c.if-at-eq0.true in
+    c.push_reserved.ensures.items ∙ all ∙ ap (λ (l : Lead g.row.Request.Denot g.row.Reply.Denot). pairs l.walk) same
 
 pub loop-step-preserved : goal.loop-step-preserved
 loop-step-preserved g c =
     let v = c.loop-step.invariant.so_far in let k : ℕ = c.args.writer.now.client in let slots : ℕ = c.args.self.now.table.shared.table_id.slots in let z = c.args.self.now.sized in
-    let word = c.load-word.ensures.2.1 k v.lead v.mine v.pre v.x v.post v.reads v.parts (ap (λ (j : ℕ). 2 * j + 3) v.at_is) in
-    let next = goes_on k slots c.loop-step.writer.seat.me c.loop-step.at c.loop-step.step c.loop-step.walk.items v c.load-word.result (omega arith) word c.load-word.new.seat.me c.load-word.ensures.2.0 c.if-at-eq0.false in
+    let word = c.load-word.ensures.2.1 k v.lead v.mine v.pre v.x v.post v.reads v.parts (c.older_word.ensures ∙ ap older_at v.at_is) in
+    let next = goes_on k slots c.loop-step.writer.seat.me c.loop-step.at c.loop-step.step c.loop-step.walk.items v c.of-older.result.client c.of-older.result.code (omega arith) c.of-older.ensures.byte (sym c.of-older.ensures.whole ∙ word) c.load-word.new.seat.me c.load-word.ensures.2.0 c.if-at-eq0.false in
     record {
       client = c.loop-step.invariant.client;
       table = c.load-word.ensures.0 ∙ c.loop-step.invariant.table;
       me = c.load-word.ensures.2.0 ∙ c.loop-step.invariant.me;
       room = c.push_reserved.ensures.capacity ∙ c.loop-step.invariant.room;
       len = (let a = c.loop-step.invariant.len in let b = c.push_reserved.ensures.len in omega arith);
-      codes = subst CodesFit (sym c.push_reserved.ensures.items) (codes_fit c.loop-step.walk.items c.loop-step.at (c.load-word.result / 256) c.loop-step.invariant.codes (omega arith));
-      so_far = subst (λ (l : List (ℕ × ℕ)). Surveyed k slots c.load-word.new.seat.me (c.load-word.result % 256) l (c.loop-step.step + 1)) (sym c.push_reserved.ensures.items) next;
+      codes = subst CodesFit (sym c.push_reserved.ensures.items) (codes_fit c.loop-step.walk.items c.loop-step.at c.of-older.result.code c.loop-step.invariant.codes c.of-older.ensures.fits);
+      so_far = subst (λ (l : List (ℕ × ℕ)). Surveyed k slots c.load-word.new.seat.me c.of-older.result.client l (c.loop-step.step + 1)) (sym c.push_reserved.ensures.items) next;
     }
 
 pub returns-then-at-eq0-clause-codes : goal.returns-then-at-eq0-clause-codes
-returns-then-at-eq0-clause-codes g c = subst CodesFit (sym c.push_reserved.ensures.items) (codes_fit c.loop-step.walk.items c.loop-step.at (c.load-word.result / 256) c.loop-step.invariant.codes (omega arith))
+returns-then-at-eq0-clause-codes g c = subst CodesFit (sym c.push_reserved.ensures.items) (codes_fit c.loop-step.walk.items c.loop-step.at c.of-older.result.code c.loop-step.invariant.codes c.of-older.ensures.fits)

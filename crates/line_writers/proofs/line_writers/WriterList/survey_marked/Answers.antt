@@ -1,3 +1,4 @@
+use Rattle.line_rule.specs.Chain.{older_at}
 use Rattle.std.proofs.Common.{◌≢◌, ℕ, ◌+◌, ◌*◌, ◌/◌, ◌%◌, ◌<◌, ◌≤◌, List, sym, ap, ◌∙◌, subst, refl, arith}
 use Rattle.line_rule.specs.Chain.{pairs}
 use Rattle.line_rule.proofs.Marks.{traces_marked}
@@ -20,42 +21,39 @@ loop-step-init g c =
       so_far = subst (λ (l : List (ℕ × ℕ)). Traced (SeesMarked k) slots c.args.writer.now.seat.me c.args.first l 0) (sym c.requires.seat.2) v;
     }
 
-pub overflow_mul-at : goal.overflow_mul-at
-overflow_mul-at g c = let z = c.args.self.now.sized in let b = trace_below _ 255 _ _ _ _ _ c.loop-step.invariant.so_far in omega arith
-
-pub overflow_add-at : goal.overflow_add-at
-overflow_add-at g c = let z = c.args.self.now.sized in let b = trace_below _ 255 _ _ _ _ _ c.loop-step.invariant.so_far in omega arith
+pub older_word-requires : goal.older_word-requires
+older_word-requires g c = let z = c.args.self.now.sized in let b = trace_below _ 255 _ _ _ _ _ c.loop-step.invariant.so_far in omega arith
 
 pub load-word-requires : goal.load-word-requires
 load-word-requires g c =
-    let z = c.args.self.now.sized in let b = trace_below _ 255 _ _ _ _ _ c.loop-step.invariant.so_far in
-    (c.loop-step.invariant.table ∙ c.requires.seat.0, omega arith, traces_marked _ _ _ _ c.loop-step.writer.seat.me (2 * c.loop-step.at + 3))
+    let w = c.older_word.ensures in let z = c.args.self.now.sized in let b = trace_below _ 255 _ _ _ _ _ c.loop-step.invariant.so_far in
+    (c.loop-step.invariant.table ∙ c.requires.seat.0, omega arith, traces_marked _ _ _ _ c.loop-step.writer.seat.me c.older_word.result)
 
 pub push_reserved-requires : goal.push_reserved-requires
 push_reserved-requires g c = let a = c.loop-step.invariant.len in let b = c.loop-step.invariant.room in let d = c.requires.seat.3 in omega arith
 
-pub returns-then-at-eq255-clause-seat : goal.returns-then-at-eq255-clause-seat
-returns-then-at-eq255-clause-seat g c = let v = c.loop-step.invariant in (c.load-word.ensures.0 ∙ v.table, v.client, c.load-word.ensures.2.0 ∙ v.me, c.push_reserved.ensures.capacity ∙ v.room)
+pub returns-then-at-eq-MARK-clause-seat : goal.returns-then-at-eq-MARK-clause-seat
+returns-then-at-eq-MARK-clause-seat g c = let v = c.loop-step.invariant in (c.load-word.ensures.0 ∙ v.table, v.client, c.load-word.ensures.2.0 ∙ v.me, c.push_reserved.ensures.capacity ∙ v.room)
 
-pub returns-then-at-eq255-clause-walk : goal.returns-then-at-eq255-clause-walk
-returns-then-at-eq255-clause-walk g c line at =
-    let v = c.loop-step.invariant.so_far in let k : ℕ = c.args.writer.now.client in let slots : ℕ = c.args.self.now.table.shared.table_id.slots in let z = c.args.self.now.sized in let word = c.load-word.ensures.2.1 k v.reads.0 v.reads.1 v.reads.2 v.pre v.x v.post v.reads.3 (v.reads.4 ∙ v.parts) (ap (λ (j : ℕ). 2 * j + 3) v.at_is) in let few : slots ≤ 256 = omega arith in let apart : (j : ℕ) → 0 < j → j + 1 < slots → j ≢ 255 = λ j lo hi e. omega arith in
+pub returns-then-at-eq-MARK-clause-walk : goal.returns-then-at-eq-MARK-clause-walk
+returns-then-at-eq-MARK-clause-walk g c line at =
+    let v = c.loop-step.invariant.so_far in let k : ℕ = c.args.writer.now.client in let slots : ℕ = c.args.self.now.table.shared.table_id.slots in let z = c.args.self.now.sized in let word = c.load-word.ensures.2.1 k v.reads.0 v.reads.1 v.reads.2 v.pre v.x v.post v.reads.3 (v.reads.4 ∙ v.parts) (c.older_word.ensures ∙ ap older_at v.at_is) in let few : slots ≤ 256 = omega arith in let apart : (j : ℕ) → 0 < j → j + 1 < slots → j ≢ 255 = λ j lo hi e. omega arith in
     let same = one_marked k c.loop-step.writer.seat.me v.walk line v.reads (subst (λ m. SeesMarked k m line) (sym c.loop-step.invariant.me) at) in
-    c.push_reserved.ensures.items ∙ all_traced (SeesMarked k) 255 slots c.loop-step.writer.seat.me c.loop-step.at c.loop-step.step c.loop-step.walk.items v c.load-word.result few (omega arith) apart word c.if-at-eq255.true ∙ ap pairs same
+    c.push_reserved.ensures.items ∙ all_traced (SeesMarked k) 255 slots c.loop-step.writer.seat.me c.loop-step.at c.loop-step.step c.loop-step.walk.items v c.of-older.result.client c.of-older.result.code few (omega arith) apart c.of-older.ensures.byte (sym c.of-older.ensures.whole ∙ word) c.if-at-eq-MARK.true ∙ ap pairs same
 
 pub loop-step-preserved : goal.loop-step-preserved
 loop-step-preserved g c =
-    let v = c.loop-step.invariant.so_far in let k : ℕ = c.args.writer.now.client in let slots : ℕ = c.args.self.now.table.shared.table_id.slots in let z = c.args.self.now.sized in let word = c.load-word.ensures.2.1 k v.reads.0 v.reads.1 v.reads.2 v.pre v.x v.post v.reads.3 (v.reads.4 ∙ v.parts) (ap (λ (j : ℕ). 2 * j + 3) v.at_is) in let few : slots ≤ 256 = omega arith in let apart : (j : ℕ) → 0 < j → j + 1 < slots → j ≢ 255 = λ j lo hi e. omega arith in
-    let next = trace_on (SeesMarked k) 255 slots c.loop-step.writer.seat.me c.loop-step.at c.loop-step.step c.loop-step.walk.items v c.load-word.result few (omega arith) apart word c.load-word.new.seat.me c.load-word.ensures.2.0 c.if-at-eq255.false in
+    let v = c.loop-step.invariant.so_far in let k : ℕ = c.args.writer.now.client in let slots : ℕ = c.args.self.now.table.shared.table_id.slots in let z = c.args.self.now.sized in let word = c.load-word.ensures.2.1 k v.reads.0 v.reads.1 v.reads.2 v.pre v.x v.post v.reads.3 (v.reads.4 ∙ v.parts) (c.older_word.ensures ∙ ap older_at v.at_is) in let few : slots ≤ 256 = omega arith in let apart : (j : ℕ) → 0 < j → j + 1 < slots → j ≢ 255 = λ j lo hi e. omega arith in
+    let next = trace_on (SeesMarked k) 255 slots c.loop-step.writer.seat.me c.loop-step.at c.loop-step.step c.loop-step.walk.items v c.of-older.result.client c.of-older.result.code few (omega arith) apart c.of-older.ensures.byte (sym c.of-older.ensures.whole ∙ word) c.load-word.new.seat.me c.load-word.ensures.2.0 c.if-at-eq-MARK.false in
     record {
       client = c.loop-step.invariant.client;
       table = c.load-word.ensures.0 ∙ c.loop-step.invariant.table;
       me = c.load-word.ensures.2.0 ∙ c.loop-step.invariant.me;
       room = c.push_reserved.ensures.capacity ∙ c.loop-step.invariant.room;
       len = (let a = c.loop-step.invariant.len in let b = c.push_reserved.ensures.len in omega arith);
-      codes = subst CodesFit (sym c.push_reserved.ensures.items) (codes_fit c.loop-step.walk.items c.loop-step.at (c.load-word.result / 256) c.loop-step.invariant.codes (omega arith));
-      so_far = subst (λ (l : List (ℕ × ℕ)). Traced (SeesMarked k) slots c.load-word.new.seat.me (c.load-word.result % 256) l (c.loop-step.step + 1)) (sym c.push_reserved.ensures.items) next;
+      codes = subst CodesFit (sym c.push_reserved.ensures.items) (codes_fit c.loop-step.walk.items c.loop-step.at c.of-older.result.code c.loop-step.invariant.codes c.of-older.ensures.fits);
+      so_far = subst (λ (l : List (ℕ × ℕ)). Traced (SeesMarked k) slots c.load-word.new.seat.me c.of-older.result.client l (c.loop-step.step + 1)) (sym c.push_reserved.ensures.items) next;
     }
 
-pub returns-then-at-eq255-clause-codes : goal.returns-then-at-eq255-clause-codes
-returns-then-at-eq255-clause-codes g c = subst CodesFit (sym c.push_reserved.ensures.items) (codes_fit c.loop-step.walk.items c.loop-step.at (c.load-word.result / 256) c.loop-step.invariant.codes (omega arith))
+pub returns-then-at-eq-MARK-clause-codes : goal.returns-then-at-eq-MARK-clause-codes
+returns-then-at-eq-MARK-clause-codes g c = subst CodesFit (sym c.push_reserved.ensures.items) (codes_fit c.loop-step.walk.items c.loop-step.at c.of-older.result.code c.loop-step.invariant.codes c.of-older.ensures.fits)

@@ -1,8 +1,8 @@
 use Rattle.std.proofs.Common.{◌≡◌, ℕ, ◌<◌, ◌≤◌, [], ◌∷◌, ◌++◌, length, sym, ap, ◌∙◌, subst, refl, arith}
 use Rattle.line_writers.proofs.Tells.{tells_first, tells_next, tells_all, member_is, member_in, tells_more, tells_end, some_by}
 use Rattle.line_rule.specs.Rule.{hold}
-use Rattle.line_rule.specs.declared.content.Content.TheVariants.{Told}
-use Rattle.line_rule.specs.declared.view.Stage.TheVariants.{Settling}
+use Rattle.line_rule.specs.declared.content.LineSlot.TheVariants.{Told}
+use Rattle.line_rule.specs.declared.view.LineStage.TheVariants.{Settling}
 use Rattle.line_rule.specs.Plays.{At, debt, slots_of}
 use Rattle.line_rule.specs.Chain.{heads}
 use Rattle.line_writers.specs.Roles.{bys}

@@ -1,10 +1,11 @@
-use Rattle.std.proofs.Common.{◌≡◌, ℕ, ◌+◌, ◌*◌, sym, ap, arith}
+use Rattle.line_rule.specs.Chain.{state_at}
+use Rattle.std.proofs.Common.{◌≡◌, ℕ, ◌+◌, ◌*◌, sym, ap, arith, ◌∙◌}
 use Rattle.line_writers.proofs.Ways.{wakes_on}
 use Rattle.line_writers.proofs.line_writers.WriterList.wake_on.Goals as goal
 
 pub store-requires : goal.store-requires
 store-requires g c =
-    let z = c.args.self.now.sized in let q = c.requires.seat in let key : c.args.self.now.table.shared.key.clients ≡ c.args.self.now.clients = z.2 in let o = c.requires.ready in let k : ℕ = c.args.next in let by : o.1.by ≡ k = o.13 in (q.0, omega arith, wakes_on _ _ _ _ c.args.writer.now.seat.me c.args.writer.now.client (2 * k + 2) o.0 o.1 o.2 o.3 o.4 o.5 o.6 o.7 o.8 o.9 o.10 (ap (λ (j : ℕ). 2 * j + 2) (sym by)) (omega arith, omega arith) o.11 o.12)
+    let w = c.state_word.ensures in let z = c.args.self.now.sized in let q = c.requires.seat in let key : c.args.self.now.table.shared.key.clients ≡ c.args.self.now.clients = z.2 in let o = c.requires.ready in let k : ℕ = c.args.next in let by : o.1.by ≡ k = o.13 in (q.0, omega arith, wakes_on _ _ _ _ c.args.writer.now.seat.me c.args.writer.now.client c.state_word.result o.0 o.1 o.2 o.3 o.4 o.5 o.6 o.7 o.8 o.9 o.10 (c.state_word.ensures ∙ ap state_at (sym by)) (omega arith, omega arith) o.11 o.12)
 
 pub returns-clause-woken : goal.returns-clause-woken
 returns-clause-woken g c lead x mine b gs p l t at group slot =

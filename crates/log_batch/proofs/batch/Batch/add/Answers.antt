@@ -1,7 +1,7 @@
 use Rattle.std.proofs.Common.{◌≡◌, ◌+◌, [], ◌∷◌, ◌++◌, sym, ◌∙◌, ap, arith}
 use Rattle.std.proofs.lemmas.Grind.{common_steps}
 use Rattle.model_base.specs.Batch.{count_of, record_bytes, header, body, size_of_batch}
-use Rattle.log_batch.specs.Contents.{Contents, IsBatch, added}
+use Rattle.log_batch.specs.Contents.{Contents, IsBatch, with_addition}
 use Rattle.log_batch.specs.View.{record_of}
 use Rattle.log_batch.proofs.Additions.{records_are, count_of-added, counts_once, small_count, added_bytes, added_fits}
 use Rattle.log_batch.proofs.batch.Batch.add.Goals as goal
@@ -53,4 +53,4 @@ returns-clause-ok c =
     let r = record_of c.args.view in
     let are : (h : IsBatch c.overwrite.new.self old.sequence (old.count + c.sequences_of.result)) → h.records ≡ old.holds.records ++ r ∷ [] =
     λ h. records_are c.overwrite.new.self old.sequence (old.count + c.sequences_of.result) h (old.holds.records ++ r ∷ []) (counted c.before) (written c.before) in
-    rw are (ap (λ (v : Contents). added v r) c.self.view_is)
+    rw are (ap (λ (v : Contents). with_addition v r) c.self.view_is)

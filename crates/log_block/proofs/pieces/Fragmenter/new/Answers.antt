@@ -1,5 +1,6 @@
 use Rattle.std.proofs.Common.{◌≡◌, ℕ, ◌-◌, ◌%◌, List, ◌∷◌, length, None, sym, subst, arith}
 use Rattle.std.specs.Int.{div_ceil}
+use Rattle.model_base.specs.Log.{plain_log}
 use Rattle.model_base.specs.Log as log
 use Rattle.log_block.specs.declared.pieces.Piece.{Piece}
 use Rattle.log_block.specs.Pieces as pieces
@@ -14,17 +15,17 @@ use Rattle.log_block.proofs.pieces.Fragmenter.new.Goals as goal
 abbrev all_from : Piece → ℕ → List Piece
 all_from p len = p ∷ cutting.later_pieces (div_ceil (len - p.end) 32761) p.end len
 
-are_all : (bytes : List ℕ) (offset at len : ℕ) (p : Piece) → p ≡ cutting.first_piece at len → length bytes ≡ len → offset % 32768 ≡ at → pieces.ArePieces bytes offset 0 (all_from p len) (log.as_fragments (log.parts_of None offset bytes))
+are_all : (bytes : List ℕ) (offset at len : ℕ) (p : Piece) → p ≡ cutting.first_piece at len → length bytes ≡ len → offset % 32768 ≡ at → pieces.ArePieces bytes offset 0 (all_from p len) (log.as_fragments (log.parts_of plain_log offset bytes))
 are_all bytes offset at len p is len_is e =
-    subst (λ (q : Piece). pieces.ArePieces bytes offset 0 (all_from q len) (log.as_fragments (log.parts_of None offset bytes))) (sym is)
-    (subst (λ (n : ℕ). pieces.ArePieces bytes offset 0 (all_from (cutting.first_piece at n) n) (log.as_fragments (log.parts_of None offset bytes))) len_is (whole_are bytes offset at e))
+    subst (λ (q : Piece). pieces.ArePieces bytes offset 0 (all_from q len) (log.as_fragments (log.parts_of plain_log offset bytes))) (sym is)
+    (subst (λ (n : ℕ). pieces.ArePieces bytes offset 0 (all_from (cutting.first_piece at n) n) (log.as_fragments (log.parts_of plain_log offset bytes))) len_is (whole_are bytes offset at e))
 
 pub returns-clause-pieces : goal.returns-clause-pieces
 returns-clause-pieces c = λ offset bytes e len_is. are_all bytes offset c.args.block_offset c.args.len c.first_piece.result c.first_piece.ensures len_is e
 
 pub returns-clause-text : goal.returns-clause-text
 returns-clause-text c = λ offset bytes e len_is.
-    text_is bytes offset 0 (all_from c.first_piece.result c.args.len) (log.as_fragments (log.parts_of None offset bytes))
+    text_is bytes offset 0 (all_from c.first_piece.result c.args.len) (log.as_fragments (log.parts_of plain_log offset bytes))
     (are_all bytes offset c.args.block_offset c.args.len c.first_piece.result c.first_piece.ensures len_is e)
 
 pub returns-clause-cut : goal.returns-clause-cut

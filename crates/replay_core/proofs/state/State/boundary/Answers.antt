@@ -2,7 +2,7 @@ use Rattle.std.proofs.Common.{◌≡◌, true, false, refl, sym, ◌∙◌, ap, 
 use Rattle.model_core.specs.Core as core
 use Rattle.replay_core.specs.Leads.{leads_front}
 use Rattle.replay_core.specs.Phases.{is_in_log}
-use Rattle.replay_core.specs.Mirrors.{answered}
+use Rattle.replay_core.specs.Mirrors.{answers_in_hand}
 use Rattle.replay_core.proofs.Events.{first_fails, second_fails, both_hold, both_true, first_false, second_false}
 use Rattle.replay_core.proofs.LogEvents.{boundary_is, logged_answered}
 use Rattle.replay_core.proofs.state.State.boundary.Goals as goal
@@ -29,7 +29,7 @@ returns-clause-steps c = λ o s is_core m.
     let in_log : is_in_log r.log ≡ true = sym c.is_in_log.ensures ∙ c.if-not-is_in_log.false in
     let leads : leads_front c.args.client r.in_second r.in_hand r.linked.items ≡ true = sym c.leads_hand.ensures ∙ c.if-not-leads_hand.false in
     let pipelined : o.pipelined ≡ true = ap (λ (p : core.Options). p.pipelined) (sym m.options) ∙ c.if-not-self.false in
-    let all : answered r.log r.in_hand ≡ r.in_hand = logged_answered r.log r.in_hand in_log in
+    let all : answers_in_hand r.log r.in_hand ≡ r.in_hand = logged_answered r.log r.in_hand in_log in
     both_hold _ _ _ o _ s _ (boundary_is o r s c.args.client m) in_log (both_true _ _ pipelined leads) (record {
       options = m.options;
       clients = m.clients;

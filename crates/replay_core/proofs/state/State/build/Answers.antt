@@ -3,7 +3,7 @@ use Rattle.std.proofs.lemmas.List.{drop-drop}
 use Rattle.model_base.specs.Grouping.{group_len}
 use Rattle.model_core.specs.Step as event
 use Rattle.replay_core.specs.Phases.{is_led_by}
-use Rattle.replay_core.specs.Mirrors.{answered}
+use Rattle.replay_core.specs.Mirrors.{answers_in_hand}
 use Rattle.replay_core.proofs.Line.{items_queue, group_taken}
 use Rattle.model_core.specs.Core as core
 use Rattle.replay_core.proofs.Events.{passed_over, taken}
@@ -20,7 +20,7 @@ returns-clause-steps c = λ o s is_core m.
     let r = c.args.self.now in
     let led : is_led_by c.args.client r.log ≡ true = sym c.is_led_by.ensures ∙ c.if-not-is_led_by.false in
     let empty : r.in_hand ≡ 0 = m.line.no_hand (led_has_none c.args.client r.log led) in
-    let none : answered r.log r.in_hand ≡ 0 = led_unanswered c.args.client r.log r.in_hand led in
+    let none : answers_in_hand r.log r.in_hand ≡ 0 = led_unanswered c.args.client r.log r.in_hand led in
     let n : ℕ = c.group_size-self.result in
     let ws : List core.Writer = line_of r in
     let at : ℕ = r.in_second + r.in_hand in

@@ -67,7 +67,7 @@ returns-clause-steps c = λ o s is m.
     let client : core.Client = at.0 in
     let there : core.client_at s d ≡ Some client = client_of s d place client number at.1 in
     let busy : client.idle ≡ false = leaving_is_busy o s d client sw is there found in
-    let new : core.Client = event.completed client sw reply in
+    let new : core.Client = event.after_completion client sw reply in
     let t : core.State = record (core.with_client s d new) { leaving = filter (λ (x : core.Writer). not (x.client == d)) s.leaving } in
     let comes : event.complete s d (find (λ (v : core.Writer). v.client == d) s.leaving) ≡ Some t =
     ap (event.complete s d) found ∙ ap (λ x. event.complete_with s d x sw sw.answer) there ∙ ap (event.complete_with s d (Some client) sw) answered in

@@ -1,7 +1,7 @@
 use Rattle.std.proofs.Common.{◌≡◌, ◌+◌, true, refl, sym, ◌∙◌, arith}
 use Rattle.replay_core.specs.Leads.{leads_at}
 use Rattle.replay_core.specs.Phases.{is_free}
-use Rattle.replay_core.specs.Mirrors.{answered}
+use Rattle.replay_core.specs.Mirrors.{answers_in_hand}
 use Rattle.replay_core.proofs.Events.{first_fails, second_fails, both_hold}
 use Rattle.replay_core.proofs.LogEvents.{elect_is, free_has_none, free_unanswered}
 use Rattle.replay_core.proofs.state.State.elect.Goals as goal
@@ -21,7 +21,7 @@ returns-clause-steps c = λ o s is_core m.
     let r = c.args.self.now in
     let free : is_free r.log ≡ true = sym c.is_free.ensures ∙ c.if-not-is_free.false in
     let first : leads_at c.args.client (r.in_second + r.in_hand) r.linked.items ≡ true = sym c.leads.ensures ∙ c.if-not-leads.false in
-    let none : answered r.log r.in_hand ≡ 0 = free_unanswered r.log r.in_hand free in
+    let none : answers_in_hand r.log r.in_hand ≡ 0 = free_unanswered r.log r.in_hand free in
     both_hold _ _ _ o _ s _ (elect_is o r s c.args.client m) free first (record {
       options = m.options;
       clients = m.clients;

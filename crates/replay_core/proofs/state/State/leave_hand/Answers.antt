@@ -3,8 +3,8 @@ use Rattle.std.specs.List.{AllByRecursion}
 use Rattle.std.proofs.lemmas.List.{length-map}
 use Rattle.model_core.specs.Core as core
 use Rattle.replay_core.specs.declared.writer.Writer.{Writer}
-use Rattle.replay_core.specs.Shown.{shown_writer, total, cut}
-use Rattle.replay_core.specs.Mirrors.{AreWriters, AreDone, IsClientOf, answered}
+use Rattle.replay_core.specs.Shown.{shown_writer, total, groups_of_lengths}
+use Rattle.replay_core.specs.Mirrors.{AreWriters, AreDone, IsClientOf, answers_in_hand}
 use Rattle.replay_core.proofs.LogEvents.{line_of}
 use Rattle.replay_core.proofs.TableEvents.{known_take, known_drop}
 use Rattle.replay_core.proofs.LeavingLemmas.{all_known_len}
@@ -25,7 +25,7 @@ returns-clause-left c = λ o s m.
     let items : c.remove_range-2.new.items.items ≡ without start end r.items.items = c.remove_range-2.ensures.items in
     let line : map (shown_writer plans) c.remove_range.new.items.items ≡ without start end ws = ap (map (shown_writer plans)) linked ∙ map_without (shown_writer plans) start end r.linked.items in
     let few : total r.second.items ≤ start = omega (arith, m.line.second_sum) in
-    let few_answered : answered r.log r.in_hand ≤ r.in_hand = answered_few r.log r.in_hand in
+    let few_answered : answers_in_hand r.log r.in_hand ≤ r.in_hand = answered_few r.log r.in_hand in
     let group : List Writer = take (end - start) (drop start r.linked.items) in
     let clients : length plans ≡ length r.done.items = omega (arith, r.one_done_each, r.plans.ok.0, r.done.ok.0) in
     let known : AllByRecursion (IsClientOf (length r.done.items)) group = all_known_len _ _ group clients
@@ -42,7 +42,7 @@ returns-clause-left c = λ o s m.
       clients = m.clients;
       line = record {
         second_sum = m.line.second_sum;
-        second_groups = m.line.second_groups ∙ sym (cut_front r.second.items start ws (drop end ws) few (omega (arith, within))) ∙ ap (cut r.second.items) (sym line);
+        second_groups = m.line.second_groups ∙ sym (cut_front r.second.items start ws (drop end ws) few (omega (arith, within))) ∙ ap (groups_of_lengths r.second.items) (sym line);
         hand = refl;
         no_hand = λ e. refl;
         queue = m.line.queue ∙ sym (drop_without start end ws (omega (arith, within))) ∙ ap (drop (start + 0)) (sym line);

@@ -3,7 +3,7 @@ use Rattle.std.specs.List.{AllByRecursion, take-map}
 use Rattle.std.proofs.lemmas.List.{length-map, drop-drop, get_or_read}
 use Rattle.model_core.specs.Core as core
 use Rattle.replay_core.specs.declared.writer.Writer.{Writer}
-use Rattle.replay_core.specs.Shown.{shown_writer, shown_log, total, cut}
+use Rattle.replay_core.specs.Shown.{shown_writer, shown_log, total, groups_of_lengths}
 use Rattle.replay_core.specs.Mirrors.{AreWriters, AreDone, IsClientOf}
 use Rattle.replay_core.proofs.LogEvents.{line_of}
 use Rattle.replay_core.proofs.TableEvents.{known_take}
@@ -30,7 +30,7 @@ returns-clause-left c = λ o s m.
     let end_is : 0 + len ≡ n = omega (arith, len_is) in
     let line : map (shown_writer plans) c.remove_range.new.items.items ≡ drop n ws = ap (map (shown_writer plans)) linked ∙ map_without (shown_writer plans) 0 (0 + len) r.linked.items ∙ ap (λ k. drop k ws) end_is in
     let second : c.remove-self.new.self.items ≡ ns = c.remove-self.ensures.by_index.2 in
-    let groups : s.second ≡ take n ws ∷ cut ns (drop n ws) = m.line.second_groups ∙ ap (λ ks. cut ks ws) parts in
+    let groups : s.second ≡ take n ws ∷ groups_of_lengths ns (drop n ws) = m.line.second_groups ∙ ap (λ ks. groups_of_lengths ks ws) parts in
     let group : List Writer = take len r.linked.items in
     let clients : length plans ≡ length r.done.items = omega (arith, r.one_done_each, r.plans.ok.0, r.done.ok.0) in
     let known : AllByRecursion (IsClientOf (length r.done.items)) group = all_known_len _ _ group clients
@@ -49,7 +49,7 @@ returns-clause-left c = λ o s m.
       clients = m.clients;
       line = record {
         second_sum = (let e : r.in_second - len ≡ total ns = omega (arith, len_is, sum) in e ∙ ap total (sym second));
-        second_groups = ap (drop 1) groups ∙ ap (λ xs. cut ns xs) (sym line) ∙ ap (λ ks. cut ks (map (shown_writer plans) c.remove_range.new.items.items)) (sym second);
+        second_groups = ap (drop 1) groups ∙ ap (λ xs. groups_of_lengths ns xs) (sym line) ∙ ap (λ ks. groups_of_lengths ks (map (shown_writer plans) c.remove_range.new.items.items)) (sym second);
         hand = m.line.hand ∙ ap (λ xs. shown_log r.log (take r.in_hand xs)) (sym start) ∙ ap (λ xs. shown_log r.log (take r.in_hand (drop (r.in_second - len) xs))) (sym line);
         no_hand = m.line.no_hand;
         queue = m.line.queue ∙ sym (later r.in_hand) ∙ ap (drop (r.in_second - len + r.in_hand)) (sym line);

@@ -8,8 +8,8 @@ use Rattle.model_base.specs.declared.write.WriteOptions.{WriteOptions}
 use Rattle.model_base.specs.Batch.{Record, count_of, size_of_batch}
 use Rattle.model_base.specs.Progress.{early_refusal}
 use Rattle.model_base.specs.Calls.{commit, refused}
-use Rattle.run_calls.specs.declared.checks.Measure.{Measure}
-use Rattle.run_calls.specs.Measures.{measure_of}
+use Rattle.log_batch.specs.declared.checks.Measure.{Measure}
+use Rattle.log_batch.specs.Measures.{measure_of}
 use Rattle.model_core.specs.Core as core
 use Rattle.model_core.specs.Step as event
 use Rattle.replay_plans.specs.declared.plan.ClientPlan.{ClientPlan}
@@ -33,7 +33,7 @@ abbrev writer_of : ℕ → WriteOptions → List Record → core.Writer
 writer_of d how records = record { client = d; options = how; records = records; answer = None }
 
 abbrev sized : WriteOptions → ℕ → Item
-sized how n = record { size = n; sync = how.sync; no_log = how.no_log; no_slowdown = how.no_slowdown }
+sized how n = record { size = n; options = how }
 
 pub returns-in_default-clause-steps : goal.returns-in_default-clause-steps
 returns-in_default-clause-steps c = λ o s is_core m.
@@ -182,7 +182,7 @@ returns-in-Some-refusal_at_once-clause-steps c = λ o s is_core m.
     let R : Seat → Type 0 = λ x. IsAhead plan x.next a client.calls client (core.next_call client) in
     let fewer : length ahead.client.left + 1 ≤ length client.left = fewer_left plan seat client a ahead is next.1 line_there in
     let why = c.in-Some-refusal_at_once.why in
-    let new : core.Client = core.told ahead.client (commit how) (refused why) in
+    let new : core.Client = core.after_reply ahead.client (commit how) (refused why) in
     let t : core.State = core.with_client s d new in
     let comes : event.link o s d (core.client_at s d) ≡ Some t = begins ∙ ap (λ x. Some (event.link_with o s d ahead.client how x)) (refusal ∙ c.in-Some-refusal_at_once.is) in
     let after : IsClient plan c.answer.new.seat new = c.answer.ensures plan client (commit how) (refused why) (subst Q same_seat is) next.0 (subst R same_seat next.1) line_there refl refl in

@@ -6,7 +6,7 @@ use Rattle.model_core.specs.Core as core
 use Rattle.replay_plans.specs.declared.plan.ClientPlan.{ClientPlan}
 use Rattle.replay_core.specs.declared.writer.Writer.{Writer}
 use Rattle.replay_plans.specs.Plans.{records_of}
-use Rattle.replay_core.specs.Shown.{shown_writer, shown_entry, cut, total}
+use Rattle.replay_core.specs.Shown.{shown_writer, shown_entry, groups_of_lengths, total}
 use Rattle.replay_core.specs.Mirrors.{IsClientOf, lines_left}
 use Rattle.replay_core.proofs.OpeningLemmas.{fresh_clients, all_left, nobody_done}
 use Rattle.replay_core.proofs.ShowsLemmas.{shows}
@@ -41,7 +41,7 @@ returns-clause-shows c =
       clients = fresh_clients plans c.in_ok-seats.seats.items c.requires.small (let P : List ClientPlan → Type 0 = λ xs. AllZip IsFresh xs c.in_ok-seats.seats.items in subst P c.deref-2.ensures.value c.in_ok-seats.ensures.fresh);
       line = record {
         second_sum = sym (ap total second);
-        second_groups = sym (ap (λ ns. cut ns (map (shown_writer plans) c.in_ok-linked.linked.items)) second);
+        second_groups = sym (ap (λ ns. groups_of_lengths ns (map (shown_writer plans) c.in_ok-linked.linked.items)) second);
         hand = refl;
         no_hand = λ e. refl;
         queue = sym (ap (λ ws. drop 0 (map (shown_writer plans) ws)) linked);

@@ -3,10 +3,10 @@ use Rattle.std.specs.Prelude.{vec_capacity}
 use Rattle.model_core.specs.Core as core
 use Rattle.replay_core.specs.Leads.{leads_front}
 use Rattle.replay_core.specs.Phases.{is_marked}
-use Rattle.replay_core.specs.Mirrors.{answered}
+use Rattle.replay_core.specs.Mirrors.{answers_in_hand}
 use Rattle.replay_core.proofs.Events.{first_fails, second_fails, both_hold}
 use Rattle.replay_core.proofs.LogEvents.{second_is, marked_answered, leads_some, line_of, hand_of}
-use Rattle.replay_core.specs.Shown.{cut, total}
+use Rattle.replay_core.specs.Shown.{groups_of_lengths, total}
 use Rattle.replay_core.proofs.Line.{cut_push, sum_push}
 use Rattle.replay_core.proofs.state.State.to_second.Goals as goal
 
@@ -26,7 +26,7 @@ returns-clause-steps c = λ o s is_core m.
     let marked : is_marked r.log ≡ true = sym c.is_marked.ensures ∙ c.if-not-is_marked.false in
     let leads : leads_front c.args.client r.in_second r.in_hand r.linked.items ≡ true = sym c.leads_hand.ensures ∙ c.if-not-leads_hand.false in
     let some : 0 < r.in_hand = leads_some c.args.client r.in_second r.in_hand r.linked.items leads in
-    let all : answered r.log r.in_hand ≡ r.in_hand = marked_answered r.log r.in_hand marked in
+    let all : answers_in_hand r.log r.in_hand ≡ r.in_hand = marked_answered r.log r.in_hand marked in
     let space : vec_len r.second < vec_capacity r.second = omega (arith, m.room.second, some, r.groups_wait) in
     let pushed : c.push_within.new.items.items ≡ r.second.items ++ r.in_hand ∷ [] = c.push_within.ensures.pushed space in
     let ws : List core.Writer = line_of r in
@@ -36,8 +36,8 @@ returns-clause-steps c = λ o s is_core m.
       line = record {
         second_sum = ap (λ n. n + r.in_hand) m.line.second_sum ∙ sym (sum_push r.second.items r.in_hand) ∙ ap total (sym pushed);
         second_groups = ap (λ gs. gs ++ hand_of r ∷ []) m.line.second_groups
-            ∙ ap (λ n. cut r.second.items ws ++ take r.in_hand (drop n ws) ∷ []) m.line.second_sum
-            ∙ sym (cut_push r.second.items r.in_hand ws) ∙ ap (λ ns. cut ns ws) (sym pushed);
+            ∙ ap (λ n. groups_of_lengths r.second.items ws ++ take r.in_hand (drop n ws) ∷ []) m.line.second_sum
+            ∙ sym (cut_push r.second.items r.in_hand ws) ∙ ap (λ ns. groups_of_lengths ns ws) (sym pushed);
         hand = refl;
         no_hand = λ e. refl;
         queue = m.line.queue ∙ ap (λ n. drop n ws) (sym (add-zero (r.in_second + r.in_hand)));

@@ -1,7 +1,7 @@
 use Rattle.std.proofs.Common.{◌≡◌, ◌-◌, List, ℕ, length, take, drop, get_or, sym, ap, ◌∙◌, subst, arith}
 use Rattle.std.specs.Prelude.{Some}
 use Rattle.log_batch.specs.Contents.{Contents}
-use Rattle.run_batches.specs.declared.kept.Kept.{Kept}
+use Rattle.run_batches.specs.declared.accepted.AcceptedBatch.{AcceptedBatch}
 use Rattle.run_batches.specs.OneBatch.{batch_bytes, IsBatchOf, IsOneBatch, one_batch}
 use Rattle.run_batches.specs.Layout.{byte_of, flag_of, bytes_of}
 use Rattle.run_batches.specs.OneList.{flag_back}
@@ -52,4 +52,4 @@ returns c =
     let flag : c.flag_of.result ≡ p.kept.flag = c.flag_of.ensures ∙ ap (λ (b : List ℕ). flag_of (get_or b 0 0)) part ∙ flag_back p.kept.flag in
     let batch : c.of.result ≡ p.kept.batch = one_batch (batch_bytes p.kept.batch) c.of.result p.kept.batch (subst (λ (b : List ℕ). IsBatchOf b c.of.result) own c.of.ensures) p.fits in
     let kept : p.kept ≡ record { flag = c.flag_of.result; batch = c.of.result } = λ i. record { flag = sym flag i; batch = sym batch i } in
-    p.is ∙ ap (λ (k : Kept Contents). Some k) kept
+    p.is ∙ ap (λ (k : AcceptedBatch Contents). Some k) kept

@@ -1,7 +1,7 @@
 use Rattle.std.proofs.Common.{◌≡◌, List, ℕ, [], ◌∷◌, ◌++◌, length, refl, sym, ap, ◌∙◌, subst, arith, rules}
 use Rattle.std.proofs.lemmas.Grind.{common_steps}
 use Rattle.log_batch.specs.Contents.{Contents}
-use Rattle.run_batches.specs.declared.kept.Kept.{Kept}
+use Rattle.run_batches.specs.declared.accepted.AcceptedBatch.{AcceptedBatch}
 use Rattle.run_batches.specs.OneBatch.{batch_bytes, IsBatchOf}
 use Rattle.run_batches.specs.Layout.{byte_of, bytes_of}
 use Rattle.run_batches.specs.OneList.{AreBatches, same_batches}
@@ -27,7 +27,7 @@ returns-then-is_err-clause-err c =
     rw are c.self.view_is
 
 -- the batch that is added
-abbrev added : Else-is_err → Kept Contents
+abbrev added : Else-is_err → AcceptedBatch Contents
 added c = record { flag = c.args.flag; batch = c.args.batch.now }
 
 more : (c : Else-is_err) → (more : AreBatches c.append.new.bytes.items c.append.new.ends.items) × (more.batches ≡ c.self.inside.holds.batches ++ added c ∷ [])
@@ -47,4 +47,4 @@ pub returns-clause-ok : goal.returns-clause-ok
 returns-clause-ok c =
     let are : (h : AreBatches c.append.new.bytes.items c.append.new.ends.items) → h.batches ≡ c.self.inside.holds.batches ++ added c.before ∷ [] =
     λ h. same_batches c.append.new.bytes.items c.append.new.ends.items h (more c.before).0 ∙ (more c.before).1 in
-    rw are (ap (λ (v : List (Kept Contents)). v ++ added c.before ∷ []) c.self.view_is)
+    rw are (ap (λ (v : List (AcceptedBatch Contents)). v ++ added c.before ∷ []) c.self.view_is)

@@ -1,30 +1,69 @@
-use Rattle.std.proofs.Common.{◌≡◌, ℕ, ◌+◌, [], ◌∷◌, ap, ◌∙◌, subst}
+use Rattle.std.proofs.Common.{◌≡◌, ℕ, ◌+◌, [], ◌∷◌, Option, sym, ap, ◌∙◌, subst, arith}
+use Rattle.atomic_table.specs.Table.{rest}
 use Rattle.atomic_table.specs.Seated.{TableId}
-use Rattle.table_rule.specs.declared.content.Content.TheVariants.{Blank}
+use Rattle.table_rule.specs.declared.content.Content.TheVariants.{Blank, Nodes}
 use Rattle.table_rule.specs.declared.view.Opening.{Opening}
+use Rattle.table_rule.specs.declared.view.Lock.TheVariants.{Free}
 use Rattle.table_rule.specs.declared.view.Stage.TheVariants.{Holding}
-use Rattle.table_rule.specs.Steps.{MayTake, work}
-use Rattle.table_steps.specs.Accounts.{first_state}
+use Rattle.table_rule.specs.Rule.{seat_state}
+use Rattle.table_rule.specs.Steps.{IsPartOf, MayTake, work}
+use Rattle.table_rule.proofs.Handing.{takes_nodes}
+use Rattle.table_calls.specs.Account.{Takes}
+use Rattle.table_steps.specs.declared.launching.Turn.{Turn}
+use Rattle.table_steps.specs.Accounts.{first_state, account, account_of, Keeps}
+use Rattle.table_steps.proofs.Keyed.{fronted, same_nodes, shards_of}
 use Rattle.table_steps.proofs.Accounts.{stands, takes_to, empty}
 use Rattle.table_steps.proofs.seat.TableSeat.take.Goals as goal
 
-pub take-nodes-requires-clause-free : goal.take-nodes-requires-clause-free
-take-nodes-requires-clause-free g c =
+pub overflow_add-word : goal.overflow_add-word
+overflow_add-word g c =
     let z : Opening = c.args.table.now.table.shared.key in let id : TableId = c.args.table.now.table.shared.table_id in let k : ℕ = c.args.self.now.client.number in let o = c.requires.ours.0 in let m = c.args.self.now.client.seat.me in
-    (o.3.0, o.3.1, o.3.2, subst MayTake (ap (λ l. (first_state l).stage) o.3.2) c.requires.free)
+    let q = c.args.table.now.sized in let e = shards_of z c.args.table.now.opening q.2 in let cl : z.clients ≡ c.args.table.now.opening.clients = ap (λ (s : Opening). s.clients) q.2 in
+    let high = o.2 in omega (arith, high)
 
-pub returns-clause-ours : goal.returns-clause-ours
-returns-clause-ours g c =
+pub overflow_add-slot : goal.overflow_add-slot
+overflow_add-slot g c =
     let z : Opening = c.args.table.now.table.shared.key in let id : TableId = c.args.table.now.table.shared.table_id in let k : ℕ = c.args.self.now.client.number in let o = c.requires.ours.0 in let m = c.args.self.now.client.seat.me in
-    let may = subst MayTake (ap (λ l. (first_state l).stage) o.3.2) c.requires.free in
+    let q = c.args.table.now.sized in let e = shards_of z c.args.table.now.opening q.2 in let cl : z.clients ≡ c.args.table.now.opening.clients = ap (λ (s : Opening). s.clients) q.2 in
+    let high = o.2 in omega (arith, high)
+
+pub load-found-requires : goal.load-found-requires
+load-found-requires g c =
+    let z : Opening = c.args.table.now.table.shared.key in let id : TableId = c.args.table.now.table.shared.table_id in let k : ℕ = c.args.self.now.client.number in let o = c.requires.ours.0 in let m = c.args.self.now.client.seat.me in
+    let q = c.args.table.now.sized in let e = shards_of z c.args.table.now.opening q.2 in let cl : z.clients ≡ c.args.table.now.opening.clients = ap (λ (s : Opening). s.clients) q.2 in
+    let may = subst MayTake (ap (λ l. (first_state l).stage) o.3.2) c.requires.free in let v = c.loop.invariant in let high = o.2 in
+    (v.table ∙ o.0, omega (arith, high), takes_nodes g.T.Versioned.versions g.N.Versioned.versions z _ _ c.loop.self.client.seat.me k _ o.3.0 o.3.1 (λ i. e i + 1 + k) o.1 may (ap (λ m. m.0) v.seat ∙ o.3.2))
+
+pub exchange-requires : goal.exchange-requires
+exchange-requires g c =
+    let z : Opening = c.args.table.now.table.shared.key in let id : TableId = c.args.table.now.table.shared.table_id in let k : ℕ = c.args.self.now.client.number in let o = c.requires.ours.0 in let m = c.args.self.now.client.seat.me in
+    let q = c.args.table.now.sized in let e = shards_of z c.args.table.now.opening q.2 in
+    let may = subst MayTake (ap (λ l. (first_state l).stage) o.3.2) c.requires.free in let v = c.loop.invariant in
+    let t = (c.load-found.ensures.2 k z o.3.0 o.3.1 (ap (λ m. m.0) v.seat ∙ o.3.2) may).0 c.if-found-eq1.true in
+    (c.load-found.ensures.0 ∙ v.table ∙ o.0, (Nodes t.0 t.1.last, fronted c.load-found.new.seat.me.1 _ (Nodes t.0 t.1.last) _ (t.3 ∙ (λ i. (sym e i + k, Nodes t.0 t.1.last) ∷ c.loop.self.client.seat.me.1))))
+
+pub returns-in-Nodes-clause-ours : goal.returns-in-Nodes-clause-ours
+returns-in-Nodes-clause-ours g c =
+    let z : Opening = c.args.table.now.table.shared.key in let id : TableId = c.args.table.now.table.shared.table_id in let k : ℕ = c.args.self.now.client.number in let o = c.requires.ours.0 in let m = c.args.self.now.client.seat.me in
+    let q = c.args.table.now.sized in let e = shards_of z c.args.table.now.opening q.2 in
+    let may = subst MayTake (ap (λ l. (first_state l).stage) o.3.2) c.requires.free in let v = c.loop.invariant in
+    let t = (c.load-found.ensures.2 k z o.3.0 o.3.1 (ap (λ m. m.0) v.seat ∙ o.3.2) may).0 c.if-found-eq1.true in
+    let slot : ℕ = c.args.table.now.opening.shards + k in let held = c.load-found.new.seat.me.1 in
+    let same = same_nodes t.0 c.in-Nodes.nodes t.1.last c.in-Nodes.last (z.shards + k) slot held _ _ t.3 (c.exchange.ensures.2 ∙ ap (λ y. (slot, y) ∷ rest held) c.in-Nodes.is) in
+    let at = ap (λ m. m.0) c.exchange.ensures.3 ∙ t.2 ∙ ap (λ (y : g.row.N.Denot). seat_state k z o.3.0 Free (Holding (work t.1 [] (g.N.Versioned.versions y))) ∷ []) same.0 in
     let nil : m.1 ≡ [] = empty (z.shards + k) c.args.self.now.last m.1 o.3.1 may o.3.3 in
-    let t = c.take-nodes.ensures.taken o.3.0 o.3.1 o.3.2 may in
-    let s = c.take-nodes.ensures.seat in
-    (stands id z k c.take-nodes.new.who.number c.take-nodes.new.who.seat.table_id c.take-nodes.result.last c.take-nodes.new.who.seat.me (s.0 ∙ o.0) s.1 o.1 o.2 o.3.0 (Holding (work t.0 [] (g.N.Versioned.versions c.take-nodes.result.nodes))) t.1 (c.take-nodes.ensures.slot ∙ ap (λ l. (z.shards + k, Blank) ∷ l) nil, t.2), c.requires.ours.1)
+    let slots = ap (λ m. m.1) c.exchange.ensures.3 ∙ ap (λ l. (slot, Blank) ∷ rest l) t.3 ∙ (λ i. (e i + k, Blank) ∷ (v.seat i).1) ∙ ap (λ l. (z.shards + k, Blank) ∷ l) nil in
+    (stands id z k c.loop.self.client.number c.exchange.new.seat.table_id c.in-Nodes.last c.exchange.new.seat.me (c.exchange.ensures.0 ∙ c.load-found.ensures.0 ∙ v.table ∙ o.0) v.number o.1 o.2 o.3.0 (Holding (work t.1 [] (g.N.Versioned.versions c.in-Nodes.nodes))) at (slots, sym same.1), subst (Keeps id z) (sym v.turn) c.requires.ours.1)
 
-pub returns-clause-taken : goal.returns-clause-taken
-returns-clause-taken g c =
+pub returns-in-Nodes-clause-taken : goal.returns-in-Nodes-clause-taken
+returns-in-Nodes-clause-taken g c =
     let z : Opening = c.args.table.now.table.shared.key in let id : TableId = c.args.table.now.table.shared.table_id in let k : ℕ = c.args.self.now.client.number in let o = c.requires.ours.0 in let m = c.args.self.now.client.seat.me in
-    let may = subst MayTake (ap (λ l. (first_state l).stage) o.3.2) c.requires.free in
-    let t = c.take-nodes.ensures.taken o.3.0 o.3.1 o.3.2 may in
-    takes_to k c.take-nodes.new.who.number z o.3.0 o.3.1 t.0 (g.N.Versioned.versions c.take-nodes.result.nodes) m c.take-nodes.new.who.seat.me c.args.self.now.turn c.take-nodes.ensures.seat.1 o.3.2 t.1 t.3 t.4
+    let q = c.args.table.now.sized in let e = shards_of z c.args.table.now.opening q.2 in
+    let may = subst MayTake (ap (λ l. (first_state l).stage) o.3.2) c.requires.free in let v = c.loop.invariant in
+    let t = (c.load-found.ensures.2 k z o.3.0 o.3.1 (ap (λ m. m.0) v.seat ∙ o.3.2) may).0 c.if-found-eq1.true in
+    let slot : ℕ = c.args.table.now.opening.shards + k in let held = c.load-found.new.seat.me.1 in
+    let same = same_nodes t.0 c.in-Nodes.nodes t.1.last c.in-Nodes.last (z.shards + k) slot held _ _ t.3 (c.exchange.ensures.2 ∙ ap (λ y. (slot, y) ∷ rest held) c.in-Nodes.is) in
+    let at = ap (λ m. m.0) c.exchange.ensures.3 ∙ t.2 ∙ ap (λ (y : g.row.N.Denot). seat_state k z o.3.0 Free (Holding (work t.1 [] (g.N.Versioned.versions y))) ∷ []) same.0 in
+    let part = subst (λ (y : g.row.N.Denot). IsPartOf z k o.3.0 t.1 (g.N.Versioned.versions y)) same.0 t.4 in
+    subst (λ (u : Option (Turn g.row.T.Denot g.row.N.Denot)). Takes z (account c.args.self.now) (g.N.Versioned.versions c.in-Nodes.nodes) (account_of c.loop.self.client.number c.exchange.new.seat.me u)) (sym v.turn)
+    (takes_to k c.loop.self.client.number z o.3.0 o.3.1 t.1 (g.N.Versioned.versions c.in-Nodes.nodes) m c.exchange.new.seat.me c.args.self.now.turn v.number o.3.2 at part t.5)

@@ -16,7 +16,7 @@ use Rattle.engine_calls.proofs.gate.OpenGate.TheSendSync as gate
 use Rattle.engine_memory.proofs.Crossing.{client_send, engine_sync}
 use Rattle.tests_engine.specs.Callers.{IsCaller}
 use Rattle.tests_engine.proofs.script.Step.TheSendSync as step
-use Rattle.tests_engine.proofs.script.Note.TheSendSync as note
+use Rattle.tests_engine.proofs.script.StepAnswer.TheSendSync as note
 use Rattle.tests_engine.proofs.Crossing.{closure_sync}
 use Rattle.tests_engine.proofs.tests.playing.play_at_once.Goals as goal
 

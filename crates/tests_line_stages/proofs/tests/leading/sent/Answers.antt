@@ -3,8 +3,8 @@ use Rattle.line_rule.specs.Chain.{Within, all_answers}
 use Rattle.line_rule.specs.Plays.{debt}
 use Rattle.line_writers.specs.Roles.{firsts}
 use Rattle.line_writers.specs.Seats.{start_of, clients_of, told}
-use Rattle.tests_line_stages.specs.declared.counter.Ask.{Ask}
-use Rattle.tests_line_stages.specs.declared.counter.Answer.{Answer}
+use Rattle.tests_line.specs.declared.counter.CountRequest.{CountRequest}
+use Rattle.tests_line.specs.declared.counter.CountReply.{CountReply}
 use Rattle.tests_line_stages.proofs.Replies.{none_given}
 use Rattle.tests_line_stages.proofs.tests.leading.sent.Goals as goal
 
@@ -12,7 +12,7 @@ pub exit_pipelined-requires-clause-group : goal.exit_pipelined-requires-clause-g
 exit_pipelined-requires-clause-group g c =
     let f = c.requires.group in let t = f.1 in
     let p = c.replies_in_order.ensures t.1 t.2 c.answer_all.new.replies.list.items (c.answer_all.ensures.replies ∙ ap firsts t.6) in
-    (f.0, (t.0, t.1, t.2, t.3, t.4, p.0, p.1, t.5, p.2, p.3, (refl, refl, sym (none_given {Q = Ask} {P = Answer} (start_of c.args.list.now) (t.4 ++ all_answers t.1 p.1 p.0) c.requires.pipelined.0.0))))
+    (f.0, (t.0, t.1, t.2, t.3, t.4, p.0, p.1, t.5, p.2, p.3, (refl, refl, sym (none_given {Q = CountRequest} {P = CountReply} (start_of c.args.list.now) (t.4 ++ all_answers t.1 p.1 p.0) c.requires.pipelined.0.0))))
 
 pub returns-clause-sent : goal.returns-clause-sent
 returns-clause-sent g c =

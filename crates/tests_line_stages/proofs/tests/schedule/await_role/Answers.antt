@@ -1,5 +1,5 @@
 use Rattle.std.proofs.Common.{◌≡◌, subst}
-use Rattle.tests_line_stages.specs.declared.client.Stage.TheVariants.{Linked, Waits}
+use Rattle.tests_line_stages.specs.declared.client.PlayerStage.TheVariants.{Linked, Waits}
 use Rattle.tests_line_stages.specs.Clients.{StandsAt}
 use Rattle.tests_line_stages.proofs.tests.schedule.await_role.Goals as goal
 

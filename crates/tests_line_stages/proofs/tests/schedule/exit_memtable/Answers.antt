@@ -1,5 +1,5 @@
 use Rattle.std.proofs.Common.{◌≡◌, refl, subst}
-use Rattle.tests_line_stages.specs.declared.client.Stage.TheVariants.{Serves}
+use Rattle.tests_line_stages.specs.declared.client.PlayerStage.TheVariants.{Serves}
 use Rattle.tests_line_stages.specs.Clients.{StandsAt}
 use Rattle.tests_line_stages.proofs.tests.schedule.exit_memtable.Goals as goal
 

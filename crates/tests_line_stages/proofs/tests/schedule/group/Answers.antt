@@ -1,5 +1,5 @@
 use Rattle.std.proofs.Common.{◌≡◌, subst}
-use Rattle.tests_line_stages.specs.declared.client.Stage.TheVariants.{Leads}
+use Rattle.tests_line_stages.specs.declared.client.PlayerStage.TheVariants.{Leads}
 use Rattle.tests_line_stages.specs.Clients.{StandsAt}
 use Rattle.tests_line_stages.proofs.tests.schedule.group.Goals as goal
 

@@ -1,5 +1,5 @@
 use Rattle.std.proofs.Common.{◌≡◌, refl, subst, arith}
-use Rattle.tests_line_stages.specs.declared.client.Stage.TheVariants.{Out}
+use Rattle.tests_line_stages.specs.declared.client.PlayerStage.TheVariants.{Out}
 use Rattle.tests_line_stages.specs.Clients.{StandsAt}
 use Rattle.tests_line_stages.proofs.tests.schedule.link.Goals as goal
 

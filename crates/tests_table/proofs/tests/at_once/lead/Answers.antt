@@ -6,7 +6,7 @@ use Rattle.table_rule.specs.Histories.{Members, Runs, last_of, versions_in}
 use Rattle.table_rule.specs.Steps.{MayTake, launched_behind}
 use Rattle.table_tree.specs.Parts.{group_of}
 use Rattle.table_steps.specs.Accounts.{history_of}
-use Rattle.engine_memory.specs.Tables.{opening_of}
+use Rattle.table_memory.specs.Meaning.{opening_of}
 use Rattle.tests_table.proofs.tests.at_once.lead.Goals as goal
 
 pub launch-requires-clause-next : goal.launch-requires-clause-next

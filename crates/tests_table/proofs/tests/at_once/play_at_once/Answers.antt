@@ -12,7 +12,7 @@ use Rattle.std.proofs.alloc.Global.TheSendSync as heap
 use Rattle.tests_table.specs.Clients.{MayPlay}
 use Rattle.tests_table.specs.declared.tests.at_once.Player.{Player}
 use Rattle.tests_table.specs.contracts.tests.at_once.Player as player
-use Rattle.tests_table.proofs.Crossing.{seat_field_send, turn_field_send, table_sync}
+use Rattle.table_memory.proofs.Crossing.{seat_field_send, turn_field_send, table_sync}
 use Rattle.tests_table.proofs.tests.at_once.play_at_once.Goals as goal
 
 player_fields : AllSend (fields player.the_type)

@@ -3,8 +3,8 @@ use Rattle.std.proofs.Common.{◌≡◌, ℕ, [], ◌∷◌, Option, ap, sym, su
 use Rattle.std.proofs.lemmas.List.Elements.{All-from_recursion}
 use Rattle.std.specs.Prelude.{IfSome}
 use Rattle.table_rule.specs.declared.view.Opening.{Opening}
-use Rattle.engine_memory.specs.declared.memory_table.MemoryTable.{MemoryTable}
-use Rattle.engine_memory.specs.Tables.{Seat, Turn, opening_of, shards_of, IsTurnAtStart}
+use Rattle.table_memory.specs.declared.memory_table.MemoryTable.{MemoryTable}
+use Rattle.table_memory.specs.Meaning.{Seat, Turn, opening_of, IsTurnAtStart}
 use Rattle.tests_table.specs.Clients.{IsIdle, IsForFour, MayPlay}
 use Rattle.tests_table.specs.declared.tests.at_once.Player.{Player}
 use Rattle.tests_table.proofs.tests.at_once.race_over.Goals as goal
@@ -21,7 +21,7 @@ pub taken-requires : goal.taken-requires
 taken-requires g c = λ seat i. let start = c.in_ok-table.ensures.clients.1 seat i in (start.0, start.1)
 
 pub play_at_once-requires-clause-opening : goal.play_at_once-requires-clause-opening
-play_at_once-requires-clause-opening g c = λ κs outlives. for_four c.in_ok-table.table (shards_of c.args.kind) c.in_ok-table.ensures.table
+play_at_once-requires-clause-opening g c = λ κs outlives. for_four c.in_ok-table.table c.args.shards c.in_ok-table.ensures.table
 
 pub play_at_once-requires-clause-players : goal.play_at_once-requires-clause-players
 play_at_once-requires-clause-players g c = λ κs outlives.

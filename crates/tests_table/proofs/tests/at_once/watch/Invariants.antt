@@ -1,4 +1,4 @@
-use Rattle.engine_memory.specs.Tables.{IsOurs}
+use Rattle.table_memory.specs.Meaning.{IsOurs}
 use Rattle.tests_table.proofs.tests.at_once.watch.Given as goal
 
 abbrev pub invariant-loop : goal.invariant-loop

@@ -2,7 +2,7 @@
 use Rattle.std.proofs.Common.{◌∙◌, subst}
 use Rattle.table_calls.specs.declared.finished.Finished.{Finished}
 use Rattle.table_calls.specs.Account.{Counts}
-use Rattle.engine_memory.specs.Tables.{account_of}
+use Rattle.table_memory.specs.Meaning.{account_of}
 use Rattle.tests_table.proofs.tests.tables.complete.Goals as goal
 
 pub publish-requires-clause-last_one : goal.publish-requires-clause-last_one

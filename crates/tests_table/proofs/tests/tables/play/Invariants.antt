@@ -2,7 +2,7 @@
 use Rattle.std.proofs.Common.{◌≡◌}
 use Rattle.table_rule.specs.Histories.{last_of}
 use Rattle.table_steps.specs.Accounts.{history_of}
-use Rattle.engine_memory.specs.Tables.{opening_of, account_of, MayLaunch}
+use Rattle.table_memory.specs.Meaning.{opening_of, account_of, MayLaunch}
 use Rattle.tests_table.specs.Clients.{IsIdle}
 use Rattle.tests_table.proofs.tests.tables.play.Given as goal
 

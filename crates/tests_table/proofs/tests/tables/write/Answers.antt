@@ -8,7 +8,7 @@ use Rattle.table_rule.proofs.Histories.{last_snoc}
 use Rattle.table_tree.specs.Parts.{group_of}
 use Rattle.table_rule.specs.Steps.{launched_behind}
 use Rattle.table_steps.specs.Accounts.{history_of}
-use Rattle.engine_memory.specs.Tables.{opening_of, account_of}
+use Rattle.table_memory.specs.Meaning.{opening_of, account_of}
 use Rattle.tests_table.proofs.tests.tables.write.Goals as goal
 
 pub launch-requires-clause-next : goal.launch-requires-clause-next

@@ -1,5 +1,0 @@
-use Rattle.std.proofs.Common.{rules}
-use Rattle.engine_controller.proofs.numbers.Numbers.refilled.Goals as goal
-
-pub returns-clause-numbers : goal.returns-clause-numbers
-returns-clause-numbers c = search rules

@@ -1,0 +1,92 @@
+//! What a group's leader holds.
+
+ghost use Rattle.std.specs.Prelude.{◌≡◌, ◌⊎◌, None, Some};
+ghost use Rattle.engine_groups.specs.Turns.{turn_of};
+
+use base_devices::Disk;
+use engine_controller::{Controller, Note};
+use engine_parts::{Answer, LogPath, Request};
+use line_rule::LogOfGroups;
+use line_writers::PipelinedRole;
+use log_writer::LogWriter;
+use std::snapshot::Snapshot;
+use table_calls::Table;
+use table_tree::{Nodes, Parts};
+
+/// The engine that a list of writers is for: its table, its controller, its log as it was opened, its numbers, and
+/// whether its groups go into the table in a second stage.
+#[derive(Drop)]
+pub struct EngineAtOpening<Device: Disk, Versions, Time> {
+    pub table: Snapshot<Versions>,
+    pub controller: Snapshot<Controller<Time>>,
+    pub opened: Snapshot<LogWriter<Device>>,
+    pub start: u64,
+    pub clients: u64,
+    pub group_bytes: u64,
+    pub pipelined: bool,
+}
+
+/// What a leader takes over from the one before: the path of its group, the right to launch it where there is one
+/// stage, the clock, and what the one before had seen of the write controller.
+pub struct Leadership<Device: Disk, Versions: Table<Nodes, Parts>, Time> {
+    pub path: LogPath<Device>,
+    pub turn: Option<Versions::Turn>,
+    pub clock: Time,
+    pub asked: Note,
+}
+
+/// The right to launch groups, where that is a stage of its own.
+pub struct Right<Versions: Table<Nodes, Parts>> {
+    pub turn: Option<Versions::Turn>,
+}
+
+/// The right to launch, which a leader of the second list was given.
+pub(crate) fn turn_in<Device: Disk, Versions: Table<Nodes, Parts>, Time>(
+    role: PipelinedRole<Leadership<Device, Versions, Time>, Right<Versions>, Answer>,
+) -> Versions::Turn
+    requires { (u : Versions.Turn) × (turn_of role ≡ Some u) }
+    ensures { turn_of role ≡ Some result }
+{
+    match role {
+        PipelinedRole::MemLeader(Right { turn: Some(turn) }) => turn,
+        _ => unreachable!(),
+    }
+}
+
+/// The right to launch, which is at one of the two places.
+pub(crate) fn one_turn<Turn>(with_log: Option<Turn>, apart: Option<Turn>) -> Turn
+    requires { ((u : Turn) × (with_log ≡ Some u) × (apart ≡ None))
+        ⊎ ((u : Turn) × (with_log ≡ None) × (apart ≡ Some u)) }
+    ensures { ((with_log ≡ Some result) × (apart ≡ None)) ⊎ ((with_log ≡ None) × (apart ≡ Some result)) }
+{
+    match (with_log, apart) {
+        (Some(turn), None) => turn,
+        (None, Some(turn)) => turn,
+        _ => unreachable!(),
+    }
+}
+
+impl<Device: Disk, Versions: Table<Nodes, Parts>, Time> LogOfGroups<
+    Request,
+    Answer,
+    Right<Versions>,
+> for Leadership<Device, Versions, Time> {
+    type About = EngineAtOpening<Device, Versions, Time>;
+
+    ghost use Rattle.engine_parts.specs.Handled.{AreHandled, IsNoted};
+    ghost use Rattle.engine_groups.specs.Law.{LeadershipStandsFor, RightStandsFor};
+
+    ghost stands = { λ a l handled. LeadershipStandsFor Versions.Table a l handled };
+
+    ghost kept = { λ a handled. AreHandled a.controller.value a.opened.value a.start handled };
+
+    ghost serves = { λ a right served. RightStandsFor Versions.Table a right served };
+
+    ghost lawful = { λ a q. IsNoted a.controller.value q };
+
+    ghost number_of = { λ l. l.path.last };
+
+    fn number(&self) -> u64 {
+        self.path.last
+    }
+}

@@ -1,0 +1,58 @@
+//! How a client waits in the line of writers.
+
+ghost use Rattle.std.specs.Prelude.{◌≡◌};
+ghost use Rattle.table_rule.specs.Histories.{Begins};
+ghost use Rattle.table_calls.specs.Account.{IsReady};
+ghost use Rattle.line_writers.specs.Seats.{Belongs, HasRole, IsIn, client_of, told};
+ghost use Rattle.engine_parts.specs.declared.requests.Request.{Request as Asked};
+ghost use Rattle.engine_groups.specs.Law.{kept_in, law_in};
+
+use crate::engine::GroupEngine;
+use crate::leader::{Leadership, Right};
+use base_devices::{Clock, Disk};
+use engine_calls::Gate;
+use engine_memtable::work;
+use engine_parts::{Answer, Request};
+use line_writers::{PipelinedRole, Role, Writer};
+use std::sync::Wait;
+use table_calls::Table;
+use table_tree::{Nodes, Parts};
+
+impl<
+    Device: Disk,
+    Versions: Table<Nodes, Parts>,
+    Time: Clock + Drop,
+    Watch: Gate + Drop,
+> GroupEngine<Device, Versions, Time, Watch> {
+    /// Waits until the client leads a group, or has its reply. Until then it works beside its leader, where it is told
+    /// to.
+    pub(crate) fn await_own_role<R: Wait>(
+        &self,
+        rt: &R,
+        writer: &mut Writer<Request, Answer, Leadership<Device, Versions, Time>, Right<Versions>>,
+        seat: &mut Versions::Seat,
+    ) -> Role<Leadership<Device, Versions, Time>, Answer>
+        requires list { Belongs self.now.list writer.old
+            × ((q : Asked) × IsIn (law_in Versions.Table self.now.list) q (told writer.old) writer.old) }
+        requires seat { Versions.ours self.now.table seat.old × IsReady (Versions.account seat.old) }
+        ensures client { client_of writer.new ≡ client_of writer.old }
+        ensures role { Belongs self.now.list writer.new × ((q : Asked)
+            → IsIn (law_in Versions.Table self.now.list) q (told writer.old) writer.old
+            → HasRole (law_in Versions.Table self.now.list) (kept_in self.now.list)
+            q (told writer.old) result writer.new) }
+        ensures seat { Versions.ours self.now.table seat.new × IsReady (Versions.account seat.new)
+            × ((Versions.account seat.new).number ≡ (Versions.account seat.old).number)
+            × Begins (Versions.account seat.old).seen (Versions.account seat.new).seen }
+    {
+        // The request is in the list, and each part that the client was asked to insert is in the table.
+        for _ in rt.forever() {
+            match self.list.await_pipelined_role(rt, writer) {
+                PipelinedRole::LogLeader(leadership) => return Role::LogLeader(leadership),
+                PipelinedRole::Done(reply) => return Role::Done(reply),
+                PipelinedRole::Parallel => work::<Nodes, Parts, Versions, R>(rt, &self.table, seat),
+                _ => unreachable!(),
+            }
+        }
+        unreachable!()
+    }
+}

@@ -1,0 +1,12 @@
+pub mod Replies
+pub mod Sizes
+pub mod Apart
+pub mod Staging
+pub mod Views
+pub mod Standing
+pub mod Logged
+pub mod Whole
+pub mod Paying
+pub mod Serves
+pub mod Beside
+pub mod Roomy

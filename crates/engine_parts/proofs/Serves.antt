@@ -1,0 +1,285 @@
+-- What a leader that has asked for its group comes to, once its group is refused or written.
+use Rattle.std.proofs.Common.{◌≡◌, ℕ, ◌+◌, ◌-◌, Bool, true, get_or, take, drop, map, slice_get, Option, Some, IfSome, List, [], ◌∷◌, ◌++◌, length, refl, sym, ap, ◌∙◌, subst, arith, append-nil, length-append}
+use Rattle.std.specs.List.{AllByRecursion, AllZip}
+use Rattle.std.proofs.lemmas.List.{map-append, length-map, drop_all, take_all}
+use mathlib.Core.List.{IsPrefix}
+use Rattle.base_devices.specs.declared.disk.Disk.{Ghosts}
+use Rattle.model_base.specs.Controller.{ControllerCall, Look, HoldUp, delay}
+use Rattle.model_base.specs.Grouping.{size_of}
+use Rattle.model_base.specs.Tokens.{tokens_of}
+use Rattle.log_writer.specs.declared.writer.LogWriter.{LogWriter}
+use Rattle.log_writer.specs.Words.{fault_of}
+use Rattle.table_rule.specs.declared.content.MemberVersions.{MemberVersions}
+use Rattle.line_rule.specs.declared.view.Handling.{Handling}
+use Rattle.engine_controller.specs.Delays.{delays_of}
+use Rattle.engine_controller.specs.Passes.{EndsWith, seen_by_note, IsNoteOf}
+use Rattle.engine_controller.specs.declared.controller.Controller.{Controller}
+use Rattle.engine_controller.specs.declared.pass.Note.{Note}
+use Rattle.engine_controller.proofs.Account.{ends_begins, ends_tokens}
+use Rattle.engine_controller.proofs.Places.{ends_delays}
+use Rattle.engine_controller.proofs.Totals.{get_behind}
+use Rattle.engine_rule.specs.Commits.{Commit, held_up}
+use Rattle.engine_rule.specs.Consistent.{AreConsistent}
+use Rattle.engine_rule.specs.Entries.{SeesMore}
+use Rattle.engine_rule.specs.LogCalls.{SyncsFor}
+use Rattle.engine_rule.specs.Plans.{CommitRequest, item_of_request, all_held_up, AreLawful, AreLogged, AreUnlogged, ComesAfter, IsAskedFor, IsWholeGroup, LetsProceed, MayNotWait, ProceedsWith}
+use Rattle.engine_rule.proofs.OneGroup.{prefix_trans}
+use Rattle.engine_rule.proofs.Steps.{consistent_held_up}
+use Rattle.engine_parts.specs.declared.requests.Delay.{Delay}
+use Rattle.engine_parts.specs.declared.requests.Request.{Request}
+use Rattle.engine_parts.specs.declared.requests.Answer.{Answer}
+use Rattle.engine_parts.specs.Asking.{HasAskedFor, OnlyLooks, all_seen}
+use Rattle.engine_parts.specs.Handled.{ComesBack, HandsBack, InOrder, IsDelayed, IsHeldUp, IsNotHeldUp, IsReplyOf, ShowsDelay, answer_in, commit_of, commit_request_of, commit_requests_of, handled_with, noted_in, seen_at, seen_for}
+use Rattle.engine_parts.specs.LogLaw.{StandsFor}
+use Rattle.engine_parts.specs.Led.{AreAlike, IsLedGroup, LeadsBy}
+use Rattle.engine_parts.specs.Handled.{IsReplyAt}
+use Rattle.engine_parts.proofs.Views.{Saw, unnoted, unseen_commits}
+
+-- The delay that was asked for
+
+module _ (k : ℕ) (seen asked after : List ControllerCall) (requests : List (ℕ × Request)) (numbers : Look) (h : HasAskedFor k seen asked requests numbers after) where
+  abbrev bytes : ℕ
+  bytes = size_of (map item_of_request (commit_requests_of requests))
+
+  abbrev call : ControllerCall
+  call = record { client = k; action = delay h.now bytes; told = Some numbers }
+
+  ends : EndsWith k seen (delay h.now bytes) (Some numbers) after
+  ends = record {
+    between = h.goes_on.between;
+    is = h.is ∙ ap (λ (l : List ControllerCall). l ++ call ∷ []) h.goes_on.is;
+    others = h.goes_on.others;
+    legal = h.legal;
+  }
+
+  pub asked_sees : SeesMore k seen after
+  asked_sees = record {
+    begins = ends_begins k seen (delay h.now bytes) (Some numbers) after ends;
+    tokens = ends_tokens k seen (delay h.now bytes) (Some numbers) after ends ∙ append-nil (tokens_of k seen);
+  }
+
+  pub asked_delays : delays_of k after ≡ delays_of k seen ++ (length after - 1) ∷ []
+  asked_delays = ends_delays k seen (delay h.now bytes) (Some numbers) after ends
+
+  pub asked_after : ComesAfter asked after
+  asked_after = record { more = h.leaders.0; call = call; is = h.is ∙ ap (λ (l : List ControllerCall). l ++ call ∷ []) (sym h.leaders.1) }
+
+  pub asked_is : (group_bytes clients : ℕ) → IsLedGroup group_bytes clients requests → LeadsBy k requests → IsAskedFor (commit_requests_of requests) numbers after
+  asked_is group_bytes clients led leads =
+      let own : led.first.0 ≡ k = subst (LeadsBy k) led.leads leads in
+      record {
+        leader = commit_request_of led.first;
+        rest = commit_requests_of led.rest;
+        leads = ap commit_requests_of led.leads;
+        before = h.before;
+        now = h.now;
+        is = h.is ∙ ap (λ (c : ℕ). h.before ++ record { client = c; action = delay h.now bytes; told = Some numbers } ∷ []) (sym own);
+      }
+
+  size_after : length after ≡ length h.before + 1
+  size_after = ap length h.is ∙ length-append h.before (call ∷ [])
+
+  there : slice_get after (length after - 1) ≡ Some call
+  there =
+      let n : length after - 1 ≡ length h.before = (let s = size_after in omega (arith, s)) in
+      subst (λ (z : List ControllerCall × ℕ). slice_get z.0 z.1 ≡ Some call) (λ i. (sym h.is i, sym n i)) (get_behind h.before [] call)
+
+  pub asked_shown : (x : ℕ × Request) → Saw h.before x → IsDelayed (noted_in x.1.note) after numbers
+  asked_shown x saw = record {
+    by = k;
+    now = h.now;
+    bytes = bytes;
+    is_later = record {
+      later = (let l = ap length saw.1 in let m = length-append (noted_in x.1.note) saw.0 in let s = size_after in omega (arith, l, m, s));
+      there = there;
+    };
+  }
+
+-- and after it only looks
+pub looks_sees : (k : ℕ) (seen middle after : List ControllerCall) → SeesMore k seen middle → OnlyLooks k middle after → SeesMore k seen after
+looks_sees k seen middle after s o = record { begins = prefix_trans seen middle after s.begins o.begins; tokens = o.tokens ∙ s.tokens }
+
+-- What lets the leader go on
+
+lets_all : (k : ℕ) (numbers : Look) (known went : List ControllerCall) (b : Bool) (asks : List CommitRequest) → LetsProceed k numbers known went b → AreAlike b asks
+    → AllByRecursion (λ (a : CommitRequest). LetsProceed k numbers known went a.options.no_slowdown) asks
+lets_all k numbers known went b [] lets same = tt
+lets_all k numbers known went b (a ∷ asks) lets same = (subst (LetsProceed k numbers known went) (sym same.0) lets, lets_all k numbers known went b asks lets same.1)
+
+-- lets all of its group
+pub proceeds : (k : ℕ) (numbers : Look) (known went : List ControllerCall) (group_bytes clients : ℕ) (requests : List (ℕ × Request)) (led : IsLedGroup group_bytes clients requests) → LeadsBy k requests → IsPrefix known went
+    → LetsProceed k numbers known went led.first.1.options.no_slowdown → ProceedsWith (commit_requests_of requests) numbers known went
+proceeds k numbers known went group_bytes clients requests led leads begins lets =
+    let own : led.first.0 ≡ k = subst (LeadsBy k) led.leads leads in
+    record {
+      leader = commit_request_of led.first;
+      rest = commit_requests_of led.rest;
+      leads = ap commit_requests_of led.leads;
+      begins = begins;
+      each = lets_all led.first.0 numbers known went led.first.1.options.no_slowdown (commit_requests_of requests) (subst (λ (j : ℕ). LetsProceed j numbers known went led.first.1.options.no_slowdown) (sym own) lets) led.slowdown;
+    }
+
+-- Requests whose notes were taken
+
+pub led_unnoted : (group_bytes clients : ℕ) (requests : List (ℕ × Request)) → IsLedGroup group_bytes clients requests → IsLedGroup group_bytes clients (all_seen requests)
+led_unnoted group_bytes clients requests led =
+    let same : commit_requests_of requests ≡ commit_requests_of (all_seen requests) = sym (unseen_commits requests) in
+    record {
+      first = unnoted led.first;
+      rest = all_seen led.rest;
+      leads = ap all_seen led.leads;
+      lawful = subst (AreLawful clients) same led.lawful;
+      whole = subst (IsWholeGroup group_bytes) same led.whole;
+      logged = λ e. subst AreLogged same (led.logged e);
+      unlogged = λ e. subst AreUnlogged same (led.unlogged e);
+      syncs = subst (λ cs. SyncsFor cs led.first.1.options.sync) same led.syncs;
+      slowdown = subst (AreAlike led.first.1.options.no_slowdown) same led.slowdown;
+    }
+
+-- the first, as it is read
+pub first_flag : (group_bytes clients : ℕ) (requests : List (ℕ × Request)) (led : IsLedGroup group_bytes clients requests) (new : List (ℕ × Request)) (x : ℕ × Request) → new ≡ all_seen requests → x ≡ get_or new 0 x
+    → led.first.1.options ≡ x.1.options
+first_flag group_bytes clients requests led new x is at =
+    let one : x ≡ unnoted led.first = at ∙ ap (λ (l : List (ℕ × Request)). get_or l 0 x) (is ∙ ap all_seen led.leads) in
+    sym (ap (λ (y : ℕ × Request). y.1.options) one)
+
+-- the list that they were taken from has them again
+pub put_back : (xs new : List (ℕ × Request)) (len : ℕ) → len ≡ length xs → new ≡ all_seen xs → take len (new ++ drop (length new) xs) ≡ all_seen xs
+put_back xs new len l is =
+    let n : length (all_seen xs) ≡ length xs = length-map xs unnoted in
+    let none : drop (length (all_seen xs)) xs ≡ [] = drop_all (length (all_seen xs)) xs (omega (arith, n)) in
+    ap (λ (ys : List (ℕ × Request)). take len (ys ++ drop (length ys) xs)) is
+    ∙ (ap (λ (t : List (ℕ × Request)). take len (all_seen xs ++ t)) none ∙ (ap (take len) (append-nil (all_seen xs)) ∙ take_all len (all_seen xs) (omega (arith, n, l))))
+
+pub as_many : (xs left : List (ℕ × Request)) → left ≡ all_seen xs → length left ≡ length xs
+as_many xs left is = ap length is ∙ length-map xs unnoted
+
+pub order_unnoted : (requests : List (ℕ × Request)) (replies : List (ℕ × Answer)) → InOrder (all_seen requests) replies → InOrder requests replies
+order_unnoted [] [] h = tt
+order_unnoted [] (y ∷ replies) h = absurd h
+order_unnoted (x ∷ requests) [] h = absurd h
+order_unnoted (x ∷ requests) (y ∷ replies) h = (h.0, order_unnoted requests replies h.1)
+
+pub back_unnoted : (requests : List (ℕ × Request)) (replies : List (ℕ × Answer)) → AllByRecursion HandsBack (handled_with (all_seen requests) replies) → AllByRecursion HandsBack (handled_with requests replies)
+back_unnoted [] replies h = tt
+back_unnoted (x ∷ requests) [] h = tt
+back_unnoted (x ∷ requests) (y ∷ replies) h = (h.0, back_unnoted requests replies h.1)
+
+commits_unnoted : (requests : List (ℕ × Request)) (replies : List (ℕ × Answer)) → map commit_of (handled_with (all_seen requests) replies) ≡ map commit_of (handled_with requests replies)
+commits_unnoted [] replies = refl
+commits_unnoted (x ∷ requests) [] = refl
+commits_unnoted (x ∷ requests) (y ∷ replies) = ap (λ (l : List Commit). commit_of (record { by = x.0; asked = x.1; reply = y.1 }) ∷ l) (commits_unnoted requests replies)
+
+-- A written group
+
+module _ {C : Type 0} (controller : Controller C) (d : Delay) where
+  reply_shown : (x : ℕ × Request) (y : ℕ × Answer) → IsReplyOf d y → ShowsDelay controller (record { by = x.0; asked = x.1; reply = y.1 })
+  reply_shown x y r = record {
+    note = subst (λ (o : Option Note). IfSome o (λ note. IsNoteOf controller note × (seen_by_note note ≡ seen_for y.1))) (sym r.1) tt;
+    held_up = λ numbers e. absurd (subst IsNotHeldUp e r.2);
+  }
+
+  pub replies_shown : (requests : List (ℕ × Request)) (replies : List (ℕ × Answer)) → AllByRecursion (IsReplyOf d) replies → AllByRecursion (ShowsDelay controller) (handled_with requests replies)
+  replies_shown [] replies h = tt
+  replies_shown (x ∷ requests) [] h = tt
+  replies_shown (x ∷ requests) (y ∷ replies) h = (reply_shown x y h.0, replies_shown requests replies h.1)
+
+  pub replies_at : (known : List ControllerCall) → seen_at d ≡ known → (replies : List (ℕ × Answer)) → AllByRecursion (IsReplyOf d) replies → AllByRecursion (IsReplyAt known) replies
+  replies_at known is [] h = tt
+  replies_at known is (y ∷ replies) h = (ap seen_at h.0.0 ∙ is, replies_at known is replies h.1)
+
+-- A refused group
+
+module _ {C : Type 0} (controller : Controller C) (d : Delay) (numbers : Look) where
+  pub held_order : (requests : List (ℕ × Request)) (replies : List (ℕ × Answer)) → AllZip (IsHeldUp controller d numbers) (all_seen requests) replies → InOrder requests replies
+  held_order [] [] h = tt
+  held_order [] (y ∷ replies) h = absurd h
+  held_order (x ∷ requests) [] h = absurd h
+  held_order (x ∷ requests) (y ∷ replies) h = (h.0.0, held_order requests replies h.1)
+
+  pub held_back : (requests : List (ℕ × Request)) (replies : List (ℕ × Answer)) → AllZip (IsHeldUp controller d numbers) (all_seen requests) replies → AllByRecursion HandsBack (handled_with requests replies)
+  held_back [] replies h = tt
+  held_back (x ∷ requests) [] h = tt
+  held_back (x ∷ requests) (y ∷ replies) h = (subst (ComesBack x.1.batch) (sym h.0.1) (refl, tt), held_back requests replies h.1)
+
+  pub held_at : (known : List ControllerCall) → seen_at d ≡ known → (requests : List (ℕ × Request)) (replies : List (ℕ × Answer)) → AllZip (IsHeldUp controller d numbers) (all_seen requests) replies → AllByRecursion (IsReplyAt known) replies
+  held_at known is [] [] h = tt
+  held_at known is [] (y ∷ replies) h = absurd h
+  held_at known is (x ∷ requests) [] h = tt
+  held_at known is (x ∷ requests) (y ∷ replies) h = (ap seen_at h.0.2 ∙ is, held_at known is requests replies h.1)
+
+  one_commit : (x : ℕ × Request) (y : ℕ × Answer) (known : List ControllerCall) → seen_at d ≡ known → IsHeldUp controller d numbers (unnoted x) y
+      → commit_of (record { by = x.0; asked = x.1; reply = y.1 }) ≡ record { client = x.0; records = x.1.batch.records; options = x.1.options; answer = held_up numbers; controller_calls = known }
+  one_commit x y known is h =
+      let answer : answer_in y.1.answer ≡ held_up numbers = ap answer_in h.1 in
+      let calls : seen_for y.1 ≡ known = ap seen_at h.2 ∙ is in
+      (λ i. record { client = x.0; records = x.1.batch.records; options = x.1.options; answer = answer i; controller_calls = calls i })
+
+  pub held_commits : (known : List ControllerCall) → seen_at d ≡ known → (requests : List (ℕ × Request)) (replies : List (ℕ × Answer)) → AllZip (IsHeldUp controller d numbers) (all_seen requests) replies
+      → map commit_of (handled_with requests replies) ≡ all_held_up known numbers (commit_requests_of requests)
+  held_commits known is [] replies h = refl
+  held_commits known is (x ∷ requests) [] h = absurd h
+  held_commits known is (x ∷ requests) (y ∷ replies) h = (λ i. one_commit x y known is h.0 i ∷ held_commits known is requests replies h.1 i)
+
+  one_shown : (known : List ControllerCall) → seen_at d ≡ known → HoldUp numbers → (x : ℕ × Request) (y : ℕ × Answer) → IsHeldUp controller d numbers (unnoted x) y → x.1.options.no_slowdown ≡ true → IsDelayed (noted_in x.1.note) known numbers
+      → ShowsDelay controller (record { by = x.0; asked = x.1; reply = y.1 })
+  one_shown known is hold x y h may_not delayed =
+      let calls : seen_for y.1 ≡ known = ap seen_at h.2 ∙ is in
+      let note_is : y.1.note ≡ Some h.3.0 = h.3.1 in
+      let told : answer_in y.1.answer ≡ held_up numbers = ap answer_in h.1 in
+      record {
+        note = subst (λ (o : Option Note). IfSome o (λ note. IsNoteOf controller note × (seen_by_note note ≡ seen_for y.1))) (sym note_is) (h.3.2, h.3.3 ∙ sym (ap seen_at h.2));
+        held_up = λ other e.
+            let same : numbers ≡ other = told_same numbers other (sym told ∙ e) in
+            (may_not, subst HoldUp same hold, (h.3.0, note_is), subst (λ (z : List ControllerCall × Look). IsDelayed (noted_in x.1.note) z.0 z.1) (λ i. (sym calls i, same i)) delayed);
+      }
+    where
+      told_same : (a b : Look) → held_up a ≡ held_up b → a ≡ b
+      told_same a b e = cc
+
+  pub held_shown : (known before : List ControllerCall) → seen_at d ≡ known → HoldUp numbers → ((x : ℕ × Request) → Saw before x → IsDelayed (noted_in x.1.note) known numbers) → (requests : List (ℕ × Request)) (replies : List (ℕ × Answer))
+      → AllZip (IsHeldUp controller d numbers) (all_seen requests) replies → MayNotWait (commit_requests_of requests) → AllByRecursion (Saw before) requests → AllByRecursion (ShowsDelay controller) (handled_with requests replies)
+  held_shown known before is hold f [] replies h may saw = tt
+  held_shown known before is hold f (x ∷ requests) [] h may saw = tt
+  held_shown known before is hold f (x ∷ requests) (y ∷ replies) h may saw =
+      (one_shown known is hold x y h.0 may.0 (f x saw.0), held_shown known before is hold f requests replies h.1 may.1 saw.1)
+
+-- What stands
+
+module _ {D : Type 0} {ghosts : Ghosts D} {T U : Type 0} (our_turn : T → U → Type 0) (history : U → List (List MemberVersions)) (opened : LogWriter D ghosts) (log : LogWriter D ghosts) (turn : U) (last : ℕ) where
+  -- the numbers by other names
+  pub stands_by : (table table' : T) (start start' clients clients' group_bytes group_bytes' : ℕ) (asked asked' : List ControllerCall) (hs : List (Handling Request Answer))
+      → table ≡ table' → start ≡ start' → clients ≡ clients' → group_bytes ≡ group_bytes' → asked ≡ asked'
+      → StandsFor our_turn history table opened start clients group_bytes asked log turn last hs → StandsFor our_turn history table' opened start' clients' group_bytes' asked' log turn last hs
+  stands_by table table' start start' clients clients' group_bytes group_bytes' asked asked' hs a b c d e s =
+      subst (λ (z : T × ℕ × ℕ × ℕ × List ControllerCall). StandsFor our_turn history z.0 opened z.1 z.2 z.3 z.4 log turn last hs) (λ i. (a i, b i, c i, d i, e i)) s
+
+  -- the requests as they were
+  pub stands_noted : (table : T) (start clients group_bytes : ℕ) (asked : List ControllerCall) (hs : List (Handling Request Answer)) (requests : List (ℕ × Request)) (replies : List (ℕ × Answer))
+      → StandsFor our_turn history table opened start clients group_bytes asked log turn last (hs ++ handled_with (all_seen requests) replies)
+      → StandsFor our_turn history table opened start clients group_bytes asked log turn last (hs ++ handled_with requests replies)
+  stands_noted table start clients group_bytes asked hs requests replies s =
+      let same : map commit_of (hs ++ handled_with (all_seen requests) replies) ≡ map commit_of (hs ++ handled_with requests replies) =
+      map-append commit_of hs (handled_with (all_seen requests) replies) ∙ (ap (λ (l : List Commit). map commit_of hs ++ l) (commits_unnoted requests replies) ∙ sym (map-append commit_of hs (handled_with requests replies))) in
+      record {
+        our = s.our;
+        calls = s.calls;
+        wrote = s.wrote;
+        consistent = subst (λ (cs : List Commit). AreConsistent start clients group_bytes asked cs last (fault_of log) (history turn) s.calls) same s.consistent;
+      }
+
+  -- the group is refused
+  pub stands_held_up : {C : Type 0} (controller : Controller C) (d : Delay) (numbers : Look) (table : T) (start clients group_bytes : ℕ) (asked known : List ControllerCall) (hs : List (Handling Request Answer)) (requests : List (ℕ × Request)) (replies : List (ℕ × Answer))
+      → AllZip (IsHeldUp controller d numbers) (all_seen requests) replies → seen_at d ≡ known → IsLedGroup group_bytes clients requests → IsAskedFor (commit_requests_of requests) numbers known → ComesAfter asked known → HoldUp numbers
+      → MayNotWait (commit_requests_of requests) → StandsFor our_turn history table opened start clients group_bytes asked log turn last hs
+      → StandsFor our_turn history table opened start clients group_bytes known log turn last (hs ++ handled_with requests replies)
+  stands_held_up controller d numbers table start clients group_bytes asked known hs requests replies zip is led is_asked comes hold may s =
+      let same : map commit_of hs ++ all_held_up known numbers (commit_requests_of requests) ≡ map commit_of (hs ++ handled_with requests replies) =
+      ap (λ (l : List Commit). map commit_of hs ++ l) (sym (held_commits controller d numbers known is requests replies zip)) ∙ sym (map-append commit_of hs (handled_with requests replies)) in
+      record {
+        our = s.our;
+        calls = s.calls;
+        wrote = s.wrote;
+        consistent = subst (λ (cs : List Commit). AreConsistent start clients group_bytes known cs last (fault_of log) (history turn) s.calls) same
+            (consistent_held_up start clients group_bytes (map commit_of hs) last (history turn) s.calls (commit_requests_of requests) asked known numbers led.lawful led.whole is_asked comes (fault_of log) s.consistent hold may);
+      }

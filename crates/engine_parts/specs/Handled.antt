@@ -1,0 +1,208 @@
+-- Requests that were handled, as commits, and how a leader answers.
+use Rattle.std.specs.Prelude.{◌≡◌, ℕ, ◌+◌, ◌-◌, true, length, IfSome, List, [], ◌∷◌, ◌++◌, map, nat_le, if◌then◌else◌, Option, Some, None, Result, Ok, Err, ⊤}
+use Rattle.std.specs.List.{AllByRecursion}
+use Rattle.model_base.specs.declared.write.Refusal.{Refusal}
+use Rattle.model_base.specs.declared.write.Refusal.TheVariants.{Empty, TooLarge, SyncWithoutLog, SelfStop, NoMemory, Incomplete, LogFault, SequenceFull}
+use Rattle.model_base.specs.Batch.{count_of}
+use Rattle.model_base.specs.History.{max_sequence}
+use Rattle.model_base.specs.LogContents.{GroupCall}
+use Rattle.base_devices.specs.declared.disk.Disk.{Ghosts}
+use Rattle.log_writer.specs.declared.writer.LogWriter.{LogWriter}
+use Rattle.log_writer.specs.Written.{Wrote}
+use Rattle.engine_rule.specs.Entries.{entries_of}
+use Rattle.engine_rule.specs.LogCalls.{WroteParts}
+use Rattle.log_batch.specs.Contents.{Contents}
+use Rattle.line_rule.specs.declared.view.Handling.{Handling}
+use Rattle.model_base.specs.Controller as calls
+use Rattle.model_base.specs.Controller.{ControllerCall, Look, HoldUp}
+use Rattle.model_base.specs.Replies.{IsLater}
+use Rattle.std.specs.declared.snapshot.Snapshot.{Snapshot}
+use Rattle.engine_controller.specs.declared.controller.Controller.{Controller}
+use Rattle.engine_controller.specs.declared.pass.Note.{Note}
+use Rattle.engine_controller.specs.Passes.{seen_by, seen_by_note, IsNoteOf}
+use Rattle.engine_rule.specs.Commits.{Answer as CommitAnswer, accepted, held_up, failed, no_room, Commit, AreAnswered}
+use Rattle.engine_rule.specs.Plans.{CommitRequest, last_with}
+use Rattle.engine_parts.specs.declared.requests.Request.{Request}
+use Rattle.engine_parts.specs.declared.requests.Delay.{Delay}
+use Rattle.engine_calls.specs.declared.answers.Receipt.{Receipt}
+use Rattle.engine_calls.specs.declared.answers.Refused.{Refused}
+use Rattle.engine_parts.specs.declared.requests.Answer.{Answer}
+
+-- The answer as one to a commit. A leader gives only the first three refusals.
+abbrev pub answer_of_refusal : Refusal → CommitAnswer
+answer_of_refusal (LogFault count) = failed count
+answer_of_refusal (SequenceFull last) = no_room last
+answer_of_refusal (Incomplete stops delays wait) = held_up (record { stops = stops; delays = delays; wait = wait })
+answer_of_refusal Empty = no_room 0
+answer_of_refusal (TooLarge size) = no_room 0
+answer_of_refusal SyncWithoutLog = no_room 0
+answer_of_refusal SelfStop = no_room 0
+answer_of_refusal NoMemory = no_room 0
+
+abbrev pub answer_in : Result Receipt Refused → CommitAnswer
+answer_in (Ok receipt) = accepted receipt.first receipt.group_last
+answer_in (Err refused) = answer_of_refusal refused.why
+
+-- the controller's history up to the delay that was asked for the group
+abbrev pub seen_at : Delay → List ControllerCall
+seen_at delay = seen_by delay.pass.value
+
+abbrev pub seen_for : Answer → List ControllerCall
+seen_for p = seen_at p.delay.value
+
+abbrev pub commit_of : Handling Request Answer → Commit
+commit_of h = record {
+  client = h.by;
+  records = h.asked.batch.records;
+  options = h.asked.options;
+  answer = answer_in h.reply.answer;
+  controller_calls = seen_for h.reply;
+}
+
+-- what the request's note, if it has one, shows of the controller's history
+abbrev pub noted_in : Option Note → List ControllerCall
+noted_in None = []
+noted_in (Some note) = seen_by_note note
+
+-- the request's note, if it has one, is this controller's
+abbrev pub IsNoted : {Time : Type 0} → Controller Time → Request → Type 0
+IsNoted controller q = IfSome q.note (IsNoteOf controller)
+
+-- the refusals that a leader gives
+abbrev pub IsLate : Refusal → Type 0
+IsLate (LogFault count) = ⊤
+IsLate (SequenceFull last) = ⊤
+IsLate (Incomplete stops delays wait) = ⊤
+IsLate Empty = ⊥
+IsLate (TooLarge size) = ⊥
+IsLate SyncWithoutLog = ⊥
+IsLate SelfStop = ⊥
+IsLate NoMemory = ⊥
+
+-- the batch comes back, with its sequence where it was accepted, and else as it was
+abbrev pub ComesBack : Contents → Result Receipt Refused → Type 0
+ComesBack batch (Ok receipt) = (receipt.batch ≡ record batch { sequence = receipt.first })
+    × (receipt.count ≡ count_of batch.records)
+ComesBack batch (Err refused) = (refused.batch ≡ batch) × IsLate refused.why
+
+abbrev pub HandsBack : Handling Request Answer → Type 0
+HandsBack h = ComesBack h.asked.batch h.reply.answer
+
+-- a delay, told these numbers, is the last call that was seen, after all that the asker had seen
+pub record IsDelayed (seen_by_note seen : List ControllerCall) (numbers : Look) : Type 0 where
+  pub by : ℕ
+  pub now : ℕ
+  pub bytes : ℕ
+  pub is_later : IsLater seen (length seen_by_note) (length seen - 1)
+      (record { client = by; action = calls.delay now bytes; told = Some numbers })
+
+-- The note of a reply is the controller's, and shows what the leader had seen. Who is refused since writes are held up
+-- may not wait, has such a note, and was told the numbers of the group's delay.
+pub record ShowsDelay {Time : Type 0} (controller : Controller Time) (h : Handling Request Answer) : Type 0 where
+  pub note : IfSome h.reply.note (λ note. IsNoteOf controller note × (seen_by_note note ≡ seen_for h.reply))
+  pub held_up : (numbers : Look) → answer_in h.reply.answer ≡ held_up numbers
+      → (h.asked.options.no_slowdown ≡ true) × HoldUp numbers × ((note : Note) × (h.reply.note ≡ Some note))
+      × IsDelayed (noted_in h.asked.note) (seen_for h.reply) numbers
+
+-- The log that was opened so was written by calls that wrote the history of these commits, and no others worked.
+pub record HasWritten {Device : Type 0} {ghosts : Ghosts Device} (opened : LogWriter Device ghosts)
+    (commits : List Commit) : Type 0
+  where
+    pub calls : List GroupCall
+    pub log : LogWriter Device ghosts
+    pub wrote : Wrote opened calls log
+    pub worked : List GroupCall
+    pub lost : List GroupCall
+    pub both : calls ≡ worked ++ lost
+    pub parts : WroteParts (entries_of commits) worked
+
+-- What holds of all that was handled, wherever the log is: the answers are right, hand the batches back, and the log
+-- has what was accepted.
+pub record AreHandled {Time Device : Type 0} {ghosts : Ghosts Device} (controller : Controller Time)
+    (opened : LogWriter Device ghosts)
+    (start : ℕ) (handled : List (Handling Request Answer)) : Type 0 where
+  pub answered : AreAnswered start None (map commit_of handled)
+  pub handed_back : AllByRecursion HandsBack handled
+  pub shown : AllByRecursion (ShowsDelay controller) handled
+  pub written : HasWritten opened (map commit_of handled)
+
+-- A leader's requests and replies, with the clients' numbers
+
+abbrev pub commit_request_of : ℕ × Request → CommitRequest
+commit_request_of x = record { client = x.0; records = x.1.batch.records; options = x.1.options }
+
+abbrev pub commit_requests_of : List (ℕ × Request) → List CommitRequest
+commit_requests_of requests = map commit_request_of requests
+
+-- a value as it was snapshot_of
+abbrev pub snapshot_of : {X : Type 0} → X → Snapshot X
+snapshot_of x = record { marker = record {}; value = x }
+
+-- the reply with this answer in a group of this delay, without a note
+abbrev pub reply_with : Delay → Result Receipt Refused → Answer
+reply_with delay answer = record { answer = answer; delay = snapshot_of delay; note = None }
+
+abbrev pub accepted_reply : Delay → ℕ → ℕ → Request → Answer
+accepted_reply delay last group_last q = reply_with delay (Ok (record {
+  first = last + 1;
+  count = count_of q.batch.records;
+  group_last = group_last;
+  batch = record q.batch { sequence = last + 1 };
+}))
+
+abbrev pub refused_reply : Delay → Refusal → Request → Answer
+refused_reply delay why q = reply_with delay (Err (record { batch = q.batch; why = why }))
+
+-- the reply where `last` was given last, in a group that ends with `group_last`
+abbrev pub reply_at : Delay → ℕ → ℕ → Request → Answer
+reply_at delay last group_last q = if nat_le (last + count_of q.batch.records) max_sequence then
+    accepted_reply delay last group_last q
+    else refused_reply delay (SequenceFull last) q
+
+abbrev pub replies_of : Delay → ℕ → ℕ → List (ℕ × Request) → List (ℕ × Answer)
+replies_of delay last group_last [] = []
+replies_of delay last group_last (x ∷ requests) = (x.0, reply_at delay last group_last x.1)
+    ∷ replies_of delay (last_with last x.1.batch.records) group_last requests
+
+abbrev pub failures : Delay → ℕ → List (ℕ × Request) → List (ℕ × Answer)
+failures delay count [] = []
+failures delay count (x ∷ requests) = (x.0, refused_reply delay (LogFault count) x.1) ∷ failures delay count requests
+
+abbrev pub IsNotHeldUp : CommitAnswer → Type 0
+IsNotHeldUp (accepted first group_last) = ⊤
+IsNotHeldUp (held_up numbers) = ⊥
+IsNotHeldUp (failed count) = ⊤
+IsNotHeldUp (no_room at) = ⊤
+
+-- a reply in a group of this delay, without a note
+abbrev pub IsReplyOf : Delay → ℕ × Answer → Type 0
+IsReplyOf delay y = (y.1.delay.value ≡ delay) × (y.1.note ≡ None) × IsNotHeldUp (answer_in y.1.answer)
+
+abbrev pub held_up_with : Look → Contents → Refused
+held_up_with numbers batch =
+    record { batch = batch; why = Incomplete numbers.stops numbers.delays numbers.wait }
+
+-- each is refused since writes are held up, and has a note of what the leader has seen
+abbrev pub IsHeldUp : {Time : Type 0} → Controller Time → Delay → Look → ℕ × Request → ℕ × Answer → Type 0
+IsHeldUp controller delay numbers x y = (y.0 ≡ x.0)
+    × (y.1.answer ≡ Err (held_up_with numbers x.1.batch))
+    × (y.1.delay.value ≡ delay)
+    × ((note : Note) × (y.1.note ≡ Some note) × IsNoteOf controller note × (seen_by_note note ≡ seen_at delay))
+
+-- requests with their replies, which stand in the same order
+abbrev pub handled_with : List (ℕ × Request) → List (ℕ × Answer) → List (Handling Request Answer)
+handled_with [] replies = []
+handled_with (x ∷ requests) [] = []
+handled_with (x ∷ requests) (y ∷ replies) = record { by = x.0; asked = x.1; reply = y.1 } ∷ handled_with requests
+    replies
+
+-- each client's reply stands where its request stood
+abbrev pub InOrder : List (ℕ × Request) → List (ℕ × Answer) → Type 0
+InOrder [] [] = ⊤
+InOrder [] (y ∷ replies) = ⊥
+InOrder (x ∷ requests) [] = ⊥
+InOrder (x ∷ requests) (y ∷ replies) = (y.0 ≡ x.0) × InOrder requests replies
+
+-- the reply's delay is the last call that the client saw then
+abbrev pub IsReplyAt : List ControllerCall → ℕ × Answer → Type 0
+IsReplyAt known y = seen_for y.1 ≡ known

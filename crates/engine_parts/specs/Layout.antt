@@ -1,0 +1,28 @@
+-- What a leader has laid out.
+use Rattle.std.specs.Prelude.{◌≡◌, ℕ, ◌≤◌, List, [], ◌∷◌, vec_capacity, ⊤}
+use Rattle.engine_parts.specs.declared.layout.Layout.{Layout}
+
+-- nothing, and there is room for the parts of so many clients
+abbrev pub IsClear : ℕ → Layout → Type 0
+IsClear clients layout = (layout.numberings.items ≡ []) × (layout.batches.items ≡ []) × (layout.parts.parts ≡ [])
+    × (layout.parts.clients ≡ clients)
+
+-- nothing but parts, with room for so many
+pub record IsLaid (clients : ℕ) (layout : Layout) : Type 0 where
+  pub no_numberings : layout.numberings.items ≡ []
+  pub no_batches : layout.batches.items ≡ []
+  pub clients_are : layout.parts.clients ≡ clients
+  pub numberings : clients ≤ vec_capacity layout.numberings
+  pub batches : clients ≤ vec_capacity layout.batches
+  pub members : clients ≤ vec_capacity layout.members
+
+-- the same, with room for the batches of so many
+pub record IsRoomy (clients : ℕ) (layout : Layout) : Type 0 where
+  pub clear : IsClear clients layout
+  pub numberings : clients ≤ vec_capacity layout.numberings
+  pub batches : clients ≤ vec_capacity layout.batches
+  pub members : clients ≤ vec_capacity layout.members
+
+abbrev pub AreRoomy : ℕ → List Layout → Type 0
+AreRoomy clients [] = ⊤
+AreRoomy clients (x ∷ layouts) = IsRoomy clients x × AreRoomy clients layouts

@@ -1,0 +1,29 @@
+-- The group that a leader has in hand.
+use Rattle.std.specs.Prelude.{◌≡◌, ℕ, Bool, true, false, List, [], ◌∷◌}
+use Rattle.std.specs.List.{AllByRecursion}
+use Rattle.engine_rule.specs.Plans.{CommitRequest, AreLawful, AreLogged, AreUnlogged, IsWholeGroup}
+use Rattle.engine_rule.specs.LogCalls.{SyncsFor}
+use Rattle.engine_parts.specs.declared.requests.Request.{Request}
+use Rattle.engine_parts.specs.Handled.{commit_requests_of}
+
+-- all may not wait, or all may
+abbrev pub AreAlike : Bool → List CommitRequest → Type 0
+AreAlike no_slowdown requests = AllByRecursion (λ (q : CommitRequest). q.options.no_slowdown ≡ no_slowdown) requests
+
+-- The requests of a whole group, its leader's first. All are logged or none is, where one asks for a sync its leader
+-- does, and all may wait or none may.
+pub record IsLedGroup (group_bytes clients : ℕ) (requests : List (ℕ × Request)) : Type 0 where
+  pub first : ℕ × Request
+  pub rest : List (ℕ × Request)
+  pub leads : requests ≡ first ∷ rest
+  pub lawful : AreLawful clients (commit_requests_of requests)
+  pub whole : IsWholeGroup group_bytes (commit_requests_of requests)
+  pub logged : first.1.options.no_log ≡ false → AreLogged (commit_requests_of requests)
+  pub unlogged : first.1.options.no_log ≡ true → AreUnlogged (commit_requests_of requests)
+  pub syncs : SyncsFor (commit_requests_of requests) first.1.options.sync
+  pub slowdown : AreAlike first.1.options.no_slowdown (commit_requests_of requests)
+
+-- the first is the client's own
+abbrev pub LeadsBy : ℕ → List (ℕ × Request) → Type 0
+LeadsBy number [] = ⊥
+LeadsBy number (x ∷ requests) = x.0 ≡ number

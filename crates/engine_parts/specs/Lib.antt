@@ -1,0 +1,9 @@
+pub mod Items
+pub mod Runs
+pub mod Handled
+pub mod Asking
+pub mod Numbering
+pub mod Layout
+pub mod Led
+pub mod Staged
+pub mod LogLaw

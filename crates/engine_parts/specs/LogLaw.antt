@@ -1,0 +1,37 @@
+-- What a log stands for, with what it was written for.
+use Rattle.std.specs.Prelude.{ℕ, List, map, ⊤}
+use Rattle.base_devices.specs.declared.disk.Disk.{Ghosts}
+use Rattle.log_writer.specs.declared.writer.LogWriter.{LogWriter}
+use Rattle.log_writer.specs.Words.{fault_of}
+use Rattle.log_writer.specs.Written.{Wrote}
+use Rattle.model_base.specs.Controller.{ControllerCall}
+use Rattle.model_base.specs.LogContents.{GroupCall}
+use Rattle.table_rule.specs.declared.content.MemberVersions.{MemberVersions}
+use Rattle.line_rule.specs.declared.view.Handling.{Handling}
+use Rattle.engine_rule.specs.Consistent.{AreConsistent}
+use Rattle.engine_parts.specs.declared.requests.Request.{Request}
+use Rattle.engine_parts.specs.declared.requests.Answer.{Answer}
+use Rattle.engine_parts.specs.Handled.{commit_of}
+
+-- The right to launch is the table's, calls have written the log since it was opened, and log, table and the last
+-- sequence given are what the requests that were handled made. `asked` is the controller's history as the last leader
+-- had seen it when its group went on or was refused.
+pub record StandsFor {Device : Type 0} {ghosts : Ghosts Device} {Versions Turn : Type 0}
+    (our_turn : Versions → Turn → Type 0) (history : Turn → List (List MemberVersions)) (table : Versions)
+    (opened : LogWriter Device ghosts)
+    (start clients group_bytes : ℕ) (asked : List ControllerCall) (log : LogWriter Device ghosts) (turn : Turn)
+    (last : ℕ)
+    (handled : List (Handling Request Answer)) : Type 0 where
+  pub our : our_turn table turn
+  pub calls : List GroupCall
+  pub wrote : Wrote opened calls log
+  pub consistent : AreConsistent start clients group_bytes asked (map commit_of handled) last (fault_of log)
+      (history turn) calls
+
+-- The same of the log alone, where these groups are published, or are to be.
+abbrev pub LogStandsFor : {Device : Type 0} {ghosts : Ghosts Device} → LogWriter Device ghosts → ℕ → ℕ → ℕ
+    → List ControllerCall
+    → LogWriter Device ghosts → List (List MemberVersions) → ℕ → List (Handling Request Answer) → Type 0
+LogStandsFor opened start clients group_bytes asked log published last handled =
+    StandsFor (λ (t : ⊤) (u : List (List MemberVersions)). ⊤) (λ u. u) tt opened start clients group_bytes asked log
+    published last handled

@@ -1,0 +1,187 @@
+//! What a leader asks of the write controller, and how its group waits or is refused.
+
+ghost use Rattle.std.specs.Prelude.{◌≡◌, ◌≤◌, ◌<◌, ℕ, List, [], false, true, length, map, vec_capacity};
+ghost use Rattle.std.specs.List.{AllByRecursion, AllZip};
+ghost use Rattle.model_base.specs.Controller.{HoldUp};
+ghost use Rattle.model_base.specs.Grouping.{size_of};
+ghost use Rattle.engine_controller.specs.Looks.{look_of};
+ghost use Rattle.engine_controller.specs.Passes.{client_of, seen_by, seen_by_note, IsPassOf, IsNoteOf, GoesOn};
+ghost use Rattle.engine_rule.specs.Plans.{item_of_request, LetsProceed};
+ghost use Rattle.engine_parts.specs.Handled.{commit_requests_of, seen_at, held_up_with, IsNoted, IsHeldUp};
+ghost use Rattle.engine_parts.specs.Asking.{HasAskedFor, HasLearned, OnlyLooks, all_seen};
+
+use crate::numbering::{batch_of, take_first};
+use crate::requests::{Answer, Delay, Request};
+use base_devices::Clock;
+use engine_calls::Refused;
+use engine_controller::{Controller, Look, Note, Pass};
+use log_batch::Batch;
+use model_base::Refusal;
+use std::snapshot::Snapshot;
+use std::sync::Wait;
+
+/// How long a leader waits before it looks again whether writes are still stopped, in microseconds.
+const PAUSE: u64 = 1000;
+
+/// Asks for the delay of a group, of the sum of its sizes. Before that the leader's pass sees what the leaders before
+/// it and the members had seen.
+pub fn ask<Time: Clock, R: Wait>(
+    rt: &R,
+    controller: &Controller<Time>,
+    pass: &mut Pass,
+    clock: &mut Time,
+    before: Note,
+    requests: &mut [(u32, Request)],
+) -> Look
+    requires pass { IsPassOf controller.now pass.old }
+    requires notes { IsNoteOf controller.now before
+        × AllByRecursion (λ (x : ℕ × _). IsNoted controller.now x.1) requests.old }
+    requires few { length requests.old < 255 }
+    ensures pass { IsPassOf controller.now pass.new × (client_of pass.new ≡ client_of pass.old) }
+    ensures asked { HasAskedFor (client_of pass.old) (seen_by pass.old) (seen_by_note before) requests.old (look_of result)
+        (seen_by pass.new) }
+    ensures requests { requests.new ≡ all_seen requests.old }
+{
+    controller.learn(rt, pass, before);
+    learn_all(rt, controller, pass, requests);
+    let bytes = bytes_of(requests);
+    controller.delay(rt, pass, clock, bytes)
+}
+
+/// Lets the leader's pass see what the members had seen.
+fn learn_all<Time: Clock, R: Wait>(
+    rt: &R,
+    controller: &Controller<Time>,
+    pass: &mut Pass,
+    requests: &mut [(u32, Request)],
+)
+    requires pass { IsPassOf controller.now pass.old }
+    requires notes { AllByRecursion (λ (x : ℕ × _). IsNoted controller.now x.1) requests.old }
+    ensures pass { IsPassOf controller.now pass.new × (client_of pass.new ≡ client_of pass.old) }
+    ensures learned { HasLearned (client_of pass.old) (seen_by pass.old) requests.old (seen_by pass.new) }
+    ensures requests { requests.new ≡ all_seen requests.old }
+{
+    // The notes of the members before `i` are taken, and the pass has seen what they show.
+    for i in 0..requests.len() {
+        let member = &mut requests[i];
+        if let Some(note) = member.1.note.take() {
+            controller.learn(rt, pass, note);
+        }
+    }
+}
+
+/// The sum of the sizes of a group's batches.
+fn bytes_of(requests: &[(u32, Request)]) -> u64
+    requires { length requests.now < 255 }
+    ensures { result ≡ size_of (map item_of_request (commit_requests_of requests.now)) }
+{
+    let mut bytes = 0;
+    // `bytes` is the sum of the sizes of the batches before `i`.
+    for i in 0..requests.len() {
+        bytes += requests[i].1.batch.size();
+    }
+    bytes
+}
+
+/// Whether writes are stalled: stopped, or slowed down and this group is told to wait.
+fn is_stalled(look: Look) -> bool
+    ensures held_up { result ≡ true → HoldUp (look_of look) }
+    ensures free { HoldUp (look_of look) → result ≡ true }
+{
+    look.stops() > 0 || (look.delays() > 0 && look.wait() > 0)
+}
+
+/// Whether a group goes on. One that may wait waits first, and always does. One that may not does where writes aren't
+/// stalled.
+pub fn may_proceed<Time: Clock, R: Wait>(
+    rt: &R,
+    controller: &Controller<Time>,
+    pass: &mut Pass,
+    clock: &mut Time,
+    look: Look,
+    no_slowdown: bool,
+) -> bool
+    requires pass { IsPassOf controller.now pass.old }
+    ensures pass { IsPassOf controller.now pass.new × (client_of pass.new ≡ client_of pass.old) }
+    ensures looks { OnlyLooks (client_of pass.old) (seen_by pass.old) (seen_by pass.new) }
+    ensures proceeds { result ≡ true
+        → LetsProceed (client_of pass.old) (look_of look) (seen_by pass.old) (seen_by pass.new) no_slowdown }
+    ensures refused { result ≡ false
+        → (no_slowdown ≡ true) × HoldUp (look_of look) × (seen_by pass.new ≡ seen_by pass.old) }
+{
+    if no_slowdown {
+        return !is_stalled(look);
+    }
+    wait_while_stalled(rt, controller, pass, clock, look);
+    true
+}
+
+/// Waits as long as the group was told, and then while writes are stopped.
+fn wait_while_stalled<Time: Clock, R: Wait>(
+    rt: &R,
+    controller: &Controller<Time>,
+    pass: &mut Pass,
+    clock: &mut Time,
+    look: Look,
+)
+    requires pass { IsPassOf controller.now pass.old }
+    ensures pass { IsPassOf controller.now pass.new × (client_of pass.new ≡ client_of pass.old) }
+    ensures looks { OnlyLooks (client_of pass.old) (seen_by pass.old) (seen_by pass.new) }
+    ensures proceeds { LetsProceed (client_of pass.old) (look_of look) (seen_by pass.old) (seen_by pass.new) false }
+{
+    if look.wait() > 0 {
+        clock.pause(look.wait());
+    }
+    let mut stops = look.stops();
+    // `stops` is what the delay told, or the newest look behind it.
+    for _ in rt.forever() {
+        if stops == 0 {
+            return;
+        }
+        clock.pause(PAUSE);
+        stops = controller.look(rt, pass).stops();
+    }
+    unreachable!()
+}
+
+/// A batch is refused since writes are stalled.
+pub fn refused_by(look: Look, batch: Batch) -> Refused
+    ensures { result ≡ held_up_with (look_of look) batch }
+{
+    let why = Refusal::Incomplete {
+        stops: look.stops(),
+        delays: look.delays(),
+        wait: look.wait(),
+    };
+    Refused { batch, why }
+}
+
+/// Refuses all members since writes are stalled, each with a note of what the leader has seen.
+pub fn refuse_stalled<Time: Clock>(
+    controller: &Controller<Time>,
+    pass: &mut Pass,
+    look: Look,
+    delay: &Delay,
+    requests: &mut Vec<(u32, Request)>,
+    replies: &mut Vec<(u32, Answer)>,
+)
+    requires pass { IsPassOf controller.now pass.old × (seen_by pass.old ≡ seen_at delay.now) }
+    requires room { length requests.old.items ≤ vec_capacity replies.old }
+    requires empty { replies.old.items ≡ [] }
+    ensures pass { IsPassOf controller.now pass.new × (client_of pass.new ≡ client_of pass.old)
+        × (seen_by pass.new ≡ seen_by pass.old) }
+    ensures replies { AllZip (IsHeldUp controller.now delay.now (look_of look)) requests.old.items replies.new.items }
+    ensures taken { requests.new.items ≡ [] }
+    ensures room { (vec_capacity requests.new ≡ vec_capacity requests.old)
+        × (vec_capacity replies.new ≡ vec_capacity replies.old) }
+{
+    // Each request that is taken has its reply, in the same order, and the pass has seen no more.
+    while let Some((client, request)) = take_first(requests) {
+        let reply = Answer {
+            answer: Err(refused_by(look, batch_of(request))),
+            delay: Snapshot::of(delay),
+            note: Some(controller.note(pass)),
+        };
+        replies.push_reserved((client, reply));
+    }
+}

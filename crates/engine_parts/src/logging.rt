@@ -1,0 +1,168 @@
+//! The first stage of a leader's work: the group gets its runs, and is written to the log.
+
+ghost use Rattle.std.specs.Prelude.{◌≡◌, ◌≤◌, ◌<◌, ◌+◌, ◌-◌, ◌^◌, ℕ, List, [], ◌∷◌, ◌++◌, true, false, Ok, MatchOption, IfSome, length, vec_len, vec_capacity};
+ghost use Rattle.std.specs.List.{AllByRecursion};
+ghost use Rattle.model_base.specs.History.{max_sequence};
+ghost use Rattle.model_base.specs.Controller.{ControllerCall, Look as Numbers};
+ghost use Rattle.log_writer.specs.declared.writer.LogWriter.{LogWriter as Log};
+ghost use Rattle.log_writer.specs.Groups.{counts_of, body_lens_of};
+ghost use Rattle.log_writer.specs.Adding.{Adds, call_of};
+ghost use Rattle.table_rule.specs.declared.content.MemberVersions.{MemberVersions};
+ghost use Rattle.table_tree.specs.Parts.{group_of};
+ghost use Rattle.line_rule.specs.declared.view.Handling.{Handling};
+ghost use Rattle.engine_parts.specs.declared.requests.Request.{Request as Asked};
+ghost use Rattle.engine_parts.specs.declared.requests.Answer.{Answer as Told};
+ghost use Rattle.engine_parts.specs.Handled.{HandsBack, IsReplyOf, commit_requests_of, seen_at, handled_with, InOrder};
+ghost use Rattle.engine_rule.specs.Plans.{ComesAfter, IsAskedFor, ProceedsWith};
+ghost use Rattle.engine_parts.specs.Numbering.{AreBeside, AreEnough, answers, others_in};
+ghost use Rattle.engine_parts.specs.Layout.{IsClear};
+ghost use Rattle.engine_parts.specs.LogLaw.{LogStandsFor};
+ghost use Rattle.engine_parts.specs.Led.{IsLedGroup, LeadsBy};
+ghost use Rattle.engine_parts.specs.Staged.{published_with, IsStaged};
+
+use crate::layout::Layout;
+use crate::numbering::{GroupFate, answer_all, lay_out, refuse_all};
+use crate::requests::{Answer, Delay, Request};
+use base_devices::Disk;
+use log_batch::Batch;
+use log_writer::{Fault, LogWriter};
+use model_base::WriteOptions;
+
+/// The log, and the last sequence given.
+pub struct LogPath<Device: Disk> {
+    pub log: LogWriter<Device>,
+    pub last: u64,
+}
+
+/// Writes the batches that got runs behind `last` to the log, unless they are to stay out of it.
+fn log_group<Device: Disk>(
+    log: &mut LogWriter<Device>,
+    last: u64,
+    batches: &[Batch],
+    options: WriteOptions,
+) -> Result<(), Fault>
+    requires some { 0 < length batches.now }
+    requires counts { counts_of batches.now < 2 ^ 32 }
+    requires run { last + 1 + counts_of batches.now - 1 ≤ max_sequence }
+    requires lens { body_lens_of batches.now < 2 ^ 63 }
+    ensures skipped { options.no_log ≡ true → (result ≡ Ok tt) × (log.new ≡ log.old) }
+    ensures adds { options.no_log ≡ false → Adds (call_of (last + 1) batches.now options.sync result) log.old log.new }
+{
+    if options.no_log {
+        return Ok(());
+    }
+    log.add_group(last + 1, batches, options.sync)
+}
+
+/// Writes a group to the log, and answers each member. Where members have runs their parts lie on the layout then, for
+/// the table, apart if they may be, with those who are to work beside the leader, and the answer is the group's last
+/// sequence.
+pub fn log_phase<Device: Disk>(
+    path: LogPath<Device>,
+    leader: u32,
+    apart: bool,
+    delay: &Delay,
+    requests: &mut Vec<(u32, Request)>,
+    layout: &mut Layout,
+    replies: &mut Vec<(u32, Answer)>,
+) -> (LogPath<Device>, Option<u64>)
+    requires last { path.last ≤ max_sequence }
+    requires few { length requests.old.items < 255 }
+    requires group { (group_bytes : ℕ) × IsLedGroup group_bytes layout.old.parts.clients requests.old.items }
+    requires leads { LeadsBy leader requests.old.items }
+    requires layout { IsClear layout.old.parts.clients layout.old
+        × (length requests.old.items ≤ vec_capacity layout.old.numberings)
+        × (length requests.old.items ≤ vec_capacity layout.old.batches)
+        × (length requests.old.items ≤ vec_capacity layout.old.members) }
+    requires replies { (replies.old.items ≡ []) × (length requests.old.items ≤ vec_capacity replies.old) }
+    ensures path { (opened : Log Device ⟦<Device as Disk>⟧) (start group_bytes : ℕ) (asked went : List ControllerCall)
+        (published : List (List MemberVersions)) (handled : List (Handling Asked Told)) (numbers : Numbers)
+        → IsLedGroup group_bytes layout.old.parts.clients requests.old.items
+        → ComesAfter asked (seen_at delay.now)
+        → IsAskedFor (commit_requests_of requests.old.items) numbers (seen_at delay.now)
+        → ProceedsWith (commit_requests_of requests.old.items) numbers (seen_at delay.now) went
+        → LogStandsFor opened start layout.old.parts.clients group_bytes asked path.log published path.last handled
+        → LogStandsFor opened start layout.old.parts.clients group_bytes went result.0.log
+        (published_with result.1 layout.new.parts.parts published) result.0.last
+        (handled ++ handled_with requests.old.items replies.new.items) }
+    ensures staged { IsStaged leader layout.old.parts.clients path.last result.0.last result.1 layout.new.members.items
+        layout.new.parts.parts replies.new.items }
+    ensures beside { IfSome result.1 (λ _. AreBeside apart (others_in requests.old.items) layout.new.members.items) }
+    ensures replies { InOrder requests.old.items replies.new.items
+        × AllByRecursion HandsBack (handled_with requests.old.items replies.new.items)
+        × AllByRecursion (IsReplyOf delay.now) replies.new.items }
+    ensures taken { (requests.new.items ≡ []) × (layout.new.numberings.items ≡ []) × (layout.new.batches.items ≡ [])
+        × (layout.new.parts.clients ≡ layout.old.parts.clients) }
+    ensures room { (vec_capacity requests.new ≡ vec_capacity requests.old)
+        × (vec_capacity layout.new.numberings ≡ vec_capacity layout.old.numberings)
+        × (vec_capacity layout.new.batches ≡ vec_capacity layout.old.batches)
+        × (vec_capacity replies.new ≡ vec_capacity replies.old)
+        × (vec_capacity layout.new.members ≡ vec_capacity layout.old.members) }
+{
+    let LogPath { mut log, last } = path;
+    // Nothing is written after a fault: nobody knows what stands there, and recovery may end at it.
+    if let Some(count) = log.fault() {
+        refuse_all(count, delay, requests, replies);
+        return (LogPath { log, last }, None);
+    }
+    let options = requests[0].1.options;
+    let end = lay_out(
+        requests,
+        leader,
+        apart,
+        last,
+        &mut layout.numberings,
+        &mut layout.batches,
+        &mut layout.parts,
+        &mut layout.members,
+    );
+    if layout.batches.is_empty() {
+        layout.drop_parts();
+        answer_layout(
+            GroupFate::Written { group_last: end },
+            delay,
+            layout,
+            replies,
+        );
+        return (LogPath { log, last: end }, None);
+    }
+    // All batches are one record, so that recovery keeps all of them or none.
+    if let Err(Fault { count }) = log_group(&mut log, last, layout.batches.as_slice(), options) {
+        layout.drop_parts();
+        answer_layout(GroupFate::Faulted { count }, delay, layout, replies);
+        return (LogPath { log, last }, None);
+    }
+    answer_layout(
+        GroupFate::Written { group_last: end },
+        delay,
+        layout,
+        replies,
+    );
+    (LogPath { log, last: end }, Some(end))
+}
+
+/// Answers what lies on the layout.
+fn answer_layout(
+    fate: GroupFate,
+    delay: &Delay,
+    layout: &mut Layout,
+    replies: &mut Vec<(u32, Answer)>,
+)
+    requires enough { AreEnough layout.old.numberings.items layout.old.batches.items }
+    requires room { length layout.old.numberings.items ≤ vec_capacity replies.old }
+    requires empty { replies.old.items ≡ [] }
+    ensures replies { replies.new.items ≡ answers fate delay.now layout.old.numberings.items layout.old.batches.items }
+    ensures taken { (layout.new.numberings.items ≡ []) × (layout.new.batches.items ≡ [])
+        × (layout.new.parts ≡ layout.old.parts) × (layout.new.members ≡ layout.old.members) }
+    ensures room { (vec_capacity layout.new.numberings ≡ vec_capacity layout.old.numberings)
+        × (vec_capacity layout.new.batches ≡ vec_capacity layout.old.batches)
+        × (vec_capacity replies.new ≡ vec_capacity replies.old) }
+{
+    answer_all(
+        fate,
+        delay,
+        &mut layout.numberings,
+        &mut layout.batches,
+        replies,
+    );
+}

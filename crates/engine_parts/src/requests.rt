@@ -1,0 +1,58 @@
+//! What a client asks of a leader, and what it is answered.
+
+ghost use Rattle.std.specs.Prelude.{◌≡◌, ◌≤◌};
+ghost use Rattle.model_base.specs.declared.limits.TheConstants.{MAX_SIZE};
+ghost use Rattle.model_base.specs.Batch as model;
+ghost use Rattle.table_rule.specs.Batches.{made};
+
+use engine_calls::{Receipt, Refused};
+use engine_controller::{Note, Pass};
+use line_rule::{GivesRun, HasGroupingItem};
+use log_batch::Batch;
+use model_base::WriteOptions;
+use std::snapshot::Snapshot;
+use table_tree::Nodes;
+
+/// A batch that is to be written, with the nodes that it makes.
+#[derive(Drop)]
+pub struct Request {
+    pub batch: Batch,
+    pub nodes: Nodes,
+    pub options: WriteOptions,
+    /// What the client has seen of the write controller, until the leader has seen it too.
+    pub note: Option<Note>,
+    ghost made_of: { nodes ≡ made batch.records },
+    ghost some: { 1 ≤ model.count_of batch.records },
+    ghost small: { model.size_of_batch batch.records ≤ MAX_SIZE },
+}
+
+impl HasGroupingItem for Request {
+    ghost use Rattle.engine_parts.specs.Items.{item_with};
+
+    ghost item_of = { λ r. item_with r.batch.records r.options };
+}
+
+/// A delay that a leader asked for its group: what its pass had seen then, with the delay itself as the last call. It
+/// is there for the proofs alone.
+#[derive(Drop)]
+pub struct Delay {
+    pub pass: Snapshot<Pass>,
+}
+
+/// The answer to a request.
+#[derive(Drop)]
+pub struct Answer {
+    pub answer: Result<Receipt, Refused>,
+    /// The delay that was asked for the group.
+    pub delay: Snapshot<Delay>,
+    /// What the leader has seen of the write controller, where the batch was refused since writes are held up.
+    pub note: Option<Note>,
+}
+
+impl GivesRun for Answer {
+    ghost use Rattle.engine_parts.specs.Items.{run_in};
+    ghost use Rattle.engine_calls.specs.declared.answers.Receipt.{Receipt};
+    ghost use Rattle.engine_calls.specs.declared.answers.Refused.{Refused};
+
+    ghost run_of = { λ p. run_in (λ (r : Receipt). (r.first, r.count)) p.answer };
+}

@@ -1,9 +1,0 @@
--- A refusal's text was made and printed, or there was no memory for it.
-use Rattle.program_call.proofs.Refusing.{refuses}
-use Rattle.program_call.proofs.telling.tell_end.Goals as goal
-
-pub returns-in-DiskFault : goal.returns-in-DiskFault
-returns-in-DiskFault g c = rw c.in-DiskFault.is (refuses _ _ _ _ _ _ _ _ c.disk_fault.ensures c.refuse_with.ensures.made c.refuse_with.ensures.none)
-
-pub returns-in-NotEmpty : goal.returns-in-NotEmpty
-returns-in-NotEmpty g c = rw c.in-NotEmpty.is (refuses _ _ _ _ _ _ _ _ c.log_not_empty.ensures c.refuse_with-in-NotEmpty.ensures.made c.refuse_with-in-NotEmpty.ensures.none)

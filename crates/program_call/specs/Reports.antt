@@ -1,0 +1,130 @@
+-- What is printed of each way to end, and the status that it has.
+use Rattle.std.specs.Prelude.{◌≡◌, ◌⊎◌, ℕ, true, false, List, take, Option, None, IsSome, is_some, if◌then◌else◌, Result, Ok, Err}
+use Rattle.std.specs.Io.KnownBytes.{Appends}
+use Rattle.model_base.specs.Counts.{Rose}
+use Rattle.model_base.specs.Calls as calls
+use Rattle.model_base.specs.History.{IsHistory}
+use Rattle.model_base.specs.Map.{Pairs}
+use Rattle.model_base.specs.Text as model
+use Rattle.model_base.specs.Generator.{summary_text}
+use Rattle.model_base.specs.declared.memory.NoMemory.{NoMemory}
+use Rattle.model_core.specs.Step as core
+use Rattle.model_core.specs.ReplayText.{replay_text}
+use Rattle.replay_schedules.specs.declared.replaying.Replayed.{Replayed}
+use Rattle.replay_schedules.specs.Replayed.{ShowsReplayed}
+use Rattle.run_outcome.specs.declared.outcome.Outcome.{Outcome}
+use Rattle.program_call.specs.declared.reading.ReadError.{ReadError}
+use Rattle.program_call.specs.declared.reading.ReadError.TheVariants as read
+use Rattle.run_execution.specs.declared.end.RunEnd.{RunEnd}
+use Rattle.run_execution.specs.declared.end.RunEnd.TheVariants as end
+use Rattle.program_call.specs.declared.report.Form.{Form}
+use Rattle.program_call.specs.declared.report.Form.TheVariants as form
+use Rattle.program_call.specs.declared.report.Status.{Status}
+use Rattle.program_call.specs.declared.report.Status.TheVariants as status
+use Rattle.log_recovery.specs.declared.recovery.Recovered.{Recovered}
+use Rattle.log_recovery.specs.declared.recovery.RecoverError.{RecoverError}
+use Rattle.log_recovery.specs.declared.recovery.RecoverError.TheVariants as none
+use Rattle.model_base.specs.Recovery as recovery
+use Rattle.log_recovery.specs.Recovering.{ShowsRecovered}
+use Rattle.run_outcome.specs.Shows.{ShowsOutcome, ran_short}
+use Rattle.program_call.specs.Texts.{SaysTo}
+use Rattle.program_text.specs.Refusals.{script_fault, source_fault, disk_fault, not_empty}
+
+-- the refusal's text was printed, or there was no memory for it and nothing was
+abbrev pub Refuses : Option (List ℕ) → Option (List ℕ) → ℕ → ℕ → List ℕ → Status → Status → Type 0
+Refuses old new failed fails text wanted given = ((given ≡ wanted) × SaysTo old new text failed fails)
+    ⊎ ((given ≡ status.Memory) × (new ≡ old))
+
+abbrev pub TellsReadError : Option (List ℕ) → Option (List ℕ) → ℕ → ℕ → ReadError → Status → Type 0
+TellsReadError old new failed fails (read.Fault count) given =
+    Refuses old new failed fails (source_fault count) status.Source given
+TellsReadError old new failed fails (read.Script line kind) given =
+    Refuses old new failed fails (script_fault (record { line = line; kind = kind })) status.Script given
+TellsReadError old new failed fails read.NoMemory given = (given ≡ status.Memory) × (new ≡ old)
+
+-- The status of an outcome's text. At 0 the sink counted no fault; at 5 it failed, and a front of it was taken; at 3
+-- the log has a fault; at 6 there was no memory for the text, or for a client
+abbrev pub EndsSo : Option (List ℕ) → Option (List ℕ) → ℕ → ℕ → Outcome Pairs → List ℕ → Status → Type 0
+EndsSo old new failed fails shown text status.Done = Appends old new text × (shown.fault ≡ None)
+    × (ran_short shown ≡ false) × (fails ≡ failed)
+EndsSo old new failed fails shown text status.Disk = Appends old new text × IsSome shown.fault
+EndsSo old new failed fails shown text status.Sink = Rose failed fails × (n : ℕ) × Appends old new (take n text)
+EndsSo old new failed fails shown text status.Memory = (new ≡ old)
+    ⊎ (Appends old new text × (shown.fault ≡ None) × (ran_short shown ≡ true))
+EndsSo old new failed fails shown text other = ⊥
+
+-- the status of an outcome that was printed whole
+abbrev pub ran_status : Outcome Pairs → Status
+ran_status shown = if is_some shown.fault then status.Disk else if ran_short shown then status.Memory else status.Done
+
+-- an outcome whole, or its summary
+abbrev pub text_of : Form → calls.Outcome → List ℕ
+text_of form.Whole o = model.outcome_text o
+text_of form.Summary o = summary_text o
+
+-- whatever outcome the values show, whose entries are a history
+abbrev pub TellsOutcome : Form → Option (List ℕ) → Option (List ℕ) → ℕ → ℕ → Outcome Pairs → Status → Type 0
+TellsOutcome form old new failed fails shown given = (o : calls.Outcome) (start : ℕ) → IsHistory start o.history
+    → ShowsOutcome shown o → EndsSo old new failed fails shown (text_of form o) given
+
+abbrev pub TellsEnd : Form → Option (List ℕ) → Option (List ℕ) → ℕ → ℕ → RunEnd → Status → Type 0
+TellsEnd form old new failed fails (end.DiskFault count) given =
+    Refuses old new failed fails (disk_fault count) status.Disk given
+TellsEnd form old new failed fails (end.NotEmpty len) given =
+    Refuses old new failed fails (not_empty len) status.NotEmpty given
+TellsEnd form old new failed fails end.NoMemory given = (given ≡ status.Memory) × (new ≡ old)
+TellsEnd form old new failed fails end.NoOutcome given = (given ≡ status.Memory) × (new ≡ old)
+TellsEnd form old new failed fails (end.Ran shown) given = TellsOutcome form old new failed fails shown given
+
+-- the text of whatever recovery the values show
+abbrev pub IsTextOf : Recovered → List ℕ → Type 0
+IsTextOf shown text = (r : recovery.Recovered) → ShowsRecovered shown r → text ≡ model.recovered_text r
+
+-- The status of a recovery's text. At 0 the sink counted no fault; at 5 it failed, and a front of it was taken; at 6
+-- there was no memory for it.
+abbrev pub ShownEndsSo : Option (List ℕ) → Option (List ℕ) → ℕ → ℕ → Recovered → Status → Type 0
+ShownEndsSo old new failed fails shown status.Done = (text : List ℕ) × IsTextOf shown text × Appends old new text
+    × (fails ≡ failed)
+ShownEndsSo old new failed fails shown status.Sink = Rose failed fails × (text : List ℕ) × IsTextOf shown text × (n : ℕ)
+    × Appends old new (take n text)
+ShownEndsSo old new failed fails shown status.Memory = new ≡ old
+ShownEndsSo old new failed fails shown other = ⊥
+
+abbrev pub TellsRecoverError : Option (List ℕ) → Option (List ℕ) → ℕ → ℕ → RecoverError → Status → Type 0
+TellsRecoverError old new failed fails (none.Fault count) given =
+    Refuses old new failed fails (disk_fault count) status.Disk given
+TellsRecoverError old new failed fails none.NoMemory given = (given ≡ status.Memory) × (new ≡ old)
+
+abbrev pub TellsRecovery : Option (List ℕ) → Option (List ℕ) → ℕ → ℕ → Result Recovered RecoverError → Status → Type 0
+TellsRecovery old new failed fails (Ok shown) given = ShownEndsSo old new failed fails shown given
+TellsRecovery old new failed fails (Err why) given = TellsRecoverError old new failed fails why given
+
+-- the text of whatever a schedule came to that the values show
+abbrev pub IsReplayText : Replayed → List ℕ → Type 0
+IsReplayText shown text = (r : core.Replayed) → ShowsReplayed shown r → text ≡ replay_text r
+
+-- The status of a schedule's text. At 0 the sink counted no fault; at 5 it failed, and a front of it was taken; at 6
+-- there was no memory for it.
+abbrev pub ReplayEndsSo : Option (List ℕ) → Option (List ℕ) → ℕ → ℕ → Replayed → Status → Type 0
+ReplayEndsSo old new failed fails shown status.Done = (text : List ℕ) × IsReplayText shown text × Appends old new text
+    × (fails ≡ failed)
+ReplayEndsSo old new failed fails shown status.Sink = Rose failed fails × (text : List ℕ) × IsReplayText shown text
+    × (n : ℕ) × Appends old new (take n text)
+ReplayEndsSo old new failed fails shown status.Memory = new ≡ old
+ReplayEndsSo old new failed fails shown other = ⊥
+
+-- there was no memory for the schedule itself, or so
+abbrev pub TellsReplay : Option (List ℕ) → Option (List ℕ) → ℕ → ℕ → Result Replayed NoMemory → Status → Type 0
+TellsReplay old new failed fails (Ok shown) given = ReplayEndsSo old new failed fails shown given
+TellsReplay old new failed fails (Err why) given = (given ≡ status.Memory) × (new ≡ old)
+
+-- its number
+abbrev pub code : Status → ℕ
+code status.Done = 0
+code status.Usage = 1
+code status.Script = 2
+code status.Disk = 3
+code status.Source = 4
+code status.Sink = 5
+code status.Memory = 6
+code status.NotEmpty = 7

@@ -1,0 +1,171 @@
+//! The call that the program makes.
+
+ghost use Rattle.std.specs.Prelude.{◌≡◌, ◌<◌, ℕ};
+ghost use Rattle.model_base.specs.declared.options.Options.{Options as RunOptions};
+ghost use Rattle.replay_core.specs.declared.state.CoreOptions.{CoreOptions as ReplayOptions};
+ghost use Rattle.program_call.specs.Answers.{AnswersNothing, AnswersRun, AnswersGenerate, AnswersRecover, AnswersReplay};
+ghost use Rattle.program_call.specs.Asking.{AskNothing, AskToRun, AskToGenerate, AskToRecover, AskToReplay};
+
+use crate::ended::{Ended, end_with};
+use crate::generating::run_generated;
+use crate::recovering::recover_log;
+use crate::replaying::replay;
+use crate::report::{Status, refuse};
+use crate::running::{run_script, shards_or_one};
+use base_devices::{Clock, Disk, Sink, Source};
+use engine_calls::{Gate, OpenGate};
+use model_base::Options;
+use program_text::usage;
+use program_words::{Invocation, WordsError, read_words};
+use replay_core::CoreOptions;
+use run_execution::{Host, Setup};
+use std::alloc::Global;
+use std::sync::Wait;
+use std::thread::Threads;
+
+/// Does what the words ask for, over the log on a disk, and prints what came of it to a sink.
+///
+/// The words are the program's name, a command, and the command's options. `run` reads a script of 1 to 16 clients
+/// from the source to its end, runs each client in a thread of its own over one write path, and prints the outcome; the
+/// log must be empty. A commit is refused for itself where its batch is empty or larger than `--batch-bytes`, where it
+/// is to be synced without the log, where its client holds a stop token, and where no sequences are left for it; and
+/// where it has `noslow` and writes are held up. Else only a fault of the log refuses it. `gen SEED CLIENTS BATCHES`
+/// runs the script that a seed makes so too, with the usual limits, and prints a summary of its outcome; it doesn't
+/// look at the source. `recover` prints what the log recovers, and changes nothing. `replay` reads a script of 1 to 16
+/// clients and a schedule of events after it, runs the schedule on the write path's core, and prints what the clients
+/// were told, the history and the published state; it doesn't look at the disk. The disk comes back on every path.
+///
+/// | Option | Commands | Range | Without it | Meaning |
+/// |---|---|---|---|---|
+/// | `--batch-bytes` | `run`, `replay` | 12 to 16777216 | 16777216 | the most bytes of a batch |
+/// | `--group-bytes` | `run`, `replay` | 1 to 16777216 | 1048576 | the most bytes of a write group |
+/// | `--last` | `run`, `replay` | 0 to 2^56 - 1 | 0 | the sequence before the first batch |
+/// | `--pipelined` | `run`, `gen`, `replay` | no value | a single stage | the log is handed on before a group is inserted |
+/// | `--shards` | `run`, `gen` | 1 to 64 | 16 | with `--table shards`, how many shards the table has |
+/// | `--table` | `run`, `gen` | `one`, `shards` | `one` | a tree under one lock, or a tree and a lock for each shard |
+///
+/// SEED is from 0 to 2147483647, CLIENTS from 1 to 16, and BATCHES from 1 to 100000, for each client. A text has at
+/// most 16777216 bytes.
+pub fn run<S: Source, D: Disk + Send, K: Sink, C: Clock + Send + Drop, R: Threads + Wait + Sync>(
+    rt: &R,
+    alloc: Global,
+    words: &[String],
+    source: &mut S,
+    disk: D,
+    sink: &mut K,
+    clock: C,
+) -> Ended<D>
+    ensures status { result.status < 8 }
+    ensures words { result.status ≡ 1 → AskNothing words.now }
+    ensures nothing { AskNothing words.now → AnswersNothing ⟦<S as Source>⟧ ⟦<D as Disk>⟧ ⟦<K as Sink>⟧
+        source.old source.new disk result.disk sink.old sink.new result.status }
+    ensures run { (options : RunOptions) → AskToRun words.now options
+        → AnswersRun ⟦<S as Source>⟧ ⟦<D as Disk>⟧ ⟦<K as Sink>⟧
+        source.old source.new disk result.disk sink.old sink.new options result.status }
+    ensures generate { (seed clients batches : ℕ) → AskToGenerate words.now seed clients batches
+        → AnswersGenerate ⟦<S as Source>⟧ ⟦<D as Disk>⟧ ⟦<K as Sink>⟧
+        source.old source.new disk result.disk sink.old sink.new seed clients batches result.status }
+    ensures recover { AskToRecover words.now → AnswersRecover ⟦<S as Source>⟧ ⟦<D as Disk>⟧ ⟦<K as Sink>⟧
+        source.old source.new disk result.disk sink.old sink.new result.status }
+    ensures replay { (options : ReplayOptions) → AskToReplay words.now options
+        → AnswersReplay ⟦<S as Source>⟧ ⟦<D as Disk>⟧ ⟦<K as Sink>⟧
+        source.old source.new disk result.disk sink.old sink.new options result.status }
+{
+    run_gated(rt, alloc, words, source, disk, sink, clock, &OpenGate)
+}
+
+/// Does all that [`run`] does, with a gate that is told of what the clients do.
+pub fn run_gated<
+    S: Source,
+    D: Disk + Send,
+    K: Sink,
+    C: Clock + Send + Drop,
+    G: Gate + Sync,
+    R: Threads + Wait + Sync,
+>(
+    rt: &R,
+    alloc: Global,
+    words: &[String],
+    source: &mut S,
+    disk: D,
+    sink: &mut K,
+    clock: C,
+    gate: &G,
+) -> Ended<D>
+    ensures status { result.status < 8 }
+    ensures words { result.status ≡ 1 → AskNothing words.now }
+    ensures nothing { AskNothing words.now → AnswersNothing ⟦<S as Source>⟧ ⟦<D as Disk>⟧ ⟦<K as Sink>⟧
+        source.old source.new disk result.disk sink.old sink.new result.status }
+    ensures run { (options : RunOptions) → AskToRun words.now options
+        → AnswersRun ⟦<S as Source>⟧ ⟦<D as Disk>⟧ ⟦<K as Sink>⟧
+        source.old source.new disk result.disk sink.old sink.new options result.status }
+    ensures generate { (seed clients batches : ℕ) → AskToGenerate words.now seed clients batches
+        → AnswersGenerate ⟦<S as Source>⟧ ⟦<D as Disk>⟧ ⟦<K as Sink>⟧
+        source.old source.new disk result.disk sink.old sink.new seed clients batches result.status }
+    ensures recover { AskToRecover words.now → AnswersRecover ⟦<S as Source>⟧ ⟦<D as Disk>⟧ ⟦<K as Sink>⟧
+        source.old source.new disk result.disk sink.old sink.new result.status }
+    ensures replay { (options : ReplayOptions) → AskToReplay words.now options
+        → AnswersReplay ⟦<S as Source>⟧ ⟦<D as Disk>⟧ ⟦<K as Sink>⟧
+        source.old source.new disk result.disk sink.old sink.new options result.status }
+{
+    let host = Host { rt, alloc, gate };
+    match read_words(alloc, words) {
+        Ok(
+            Invocation::Run {
+                pipelined,
+                shards,
+                group_bytes,
+                batch_bytes,
+                last,
+            },
+        ) => {
+            let options = Options {
+                last,
+                group_bytes,
+                batch_bytes,
+            };
+            let setup = Setup {
+                options,
+                shards: shards_or_one(shards),
+                pipelined,
+            };
+            run_script(&host, setup, source, disk, sink, clock)
+        }
+        Ok(
+            Invocation::Generate {
+                pipelined,
+                shards,
+                seed,
+                clients,
+                batches,
+            },
+        ) => {
+            let shards = shards_or_one(shards);
+            run_generated(
+                &host, seed, clients, batches, shards, pipelined, disk, sink, clock,
+            )
+        }
+        Ok(Invocation::Recover) => recover_log(alloc, disk, sink),
+        Ok(
+            Invocation::Replay {
+                pipelined,
+                group_bytes,
+                batch_bytes,
+                last,
+            },
+        ) => {
+            let options = CoreOptions {
+                pipelined,
+                group_bytes,
+                batch_bytes,
+                last,
+            };
+            replay(alloc, options, source, disk, sink)
+        }
+        Err(WordsError::Usage) => {
+            refuse(sink, usage());
+            end_with(Status::Usage, disk)
+        }
+        Err(WordsError::NoMemory) => end_with(Status::Memory, disk),
+    }
+}

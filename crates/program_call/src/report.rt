@@ -1,0 +1,209 @@
+//! What a call prints, and the status that it ends with.
+
+ghost use Rattle.std.specs.Prelude.{◌≡◌, ◌≤◌, ℕ, IfOk, OnErr};
+ghost use Rattle.model_base.specs.Calls as calls;
+ghost use Rattle.model_base.specs.History.{IsHistory};
+ghost use Rattle.run_outcome.specs.Shows.{ShowsOutcome};
+ghost use Rattle.program_call.specs.Texts.{SaysTo};
+ghost use Rattle.program_call.specs.Reports as reports;
+ghost use Rattle.program_call.specs.Reports.{TellsReadError, TellsEnd, TellsOutcome, TellsRecovery, TellsRecoverError, ShownEndsSo, TellsReplay, ReplayEndsSo, ran_status};
+
+use crate::reading::ReadError;
+use base_bytes::Bytes;
+use base_devices::{Sink, write_all};
+use base_maps::ByteMap;
+use log_recovery::{RecoverError, Recovered};
+use model_base::NoMemory;
+use program_text::{
+    disk_fault, log_not_empty, outcome_text, recovered_text, replayed_text, script_fault,
+    source_fault, summary_text,
+};
+use replay_schedules::Replayed;
+use run_execution::RunEnd;
+use run_generator::sum_of;
+use run_outcome::Outcome;
+use std::alloc::Global;
+
+/// The exit statuses, in the order in which they are numbered.
+#[derive(Clone, Copy)]
+pub enum Status {
+    Done,
+    Usage,
+    Script,
+    Disk,
+    Source,
+    Sink,
+    Memory,
+    NotEmpty,
+}
+
+/// How an outcome is printed: whole, or summed up.
+#[derive(Clone, Copy)]
+pub enum Form {
+    Whole,
+    Summary,
+}
+
+/// Prints a refusal. Its status stands though the sink fails at its text.
+pub fn refuse<K: Sink>(sink: &mut K, text: &[u8])
+    ensures says { SaysTo (K.taken sink.old) (K.taken sink.new) text.now (K.faults sink.old) (K.faults sink.new) }
+    ensures later { K.faults sink.old ≤ K.faults sink.new }
+{
+    let _ = write_all(sink, text);
+}
+
+/// Prints a refusal whose text was made, if there was memory for it.
+fn refuse_with<K: Sink>(sink: &mut K, text: Result<Bytes, NoMemory>, status: Status) -> Status
+    ensures made { IfOk text (λ t. (result ≡ status) × SaysTo (K.taken sink.old) (K.taken sink.new) t
+        (K.faults sink.old) (K.faults sink.new)) }
+    ensures none { OnErr text ((result ≡ Status.Memory) × (K.taken sink.new ≡ K.taken sink.old)) }
+{
+    match text {
+        Ok(text) => {
+            refuse(sink, text.as_slice());
+            status
+        }
+        Err(NoMemory) => Status::Memory,
+    }
+}
+
+/// Says why no script was read.
+pub fn tell_read_error<K: Sink>(alloc: Global, sink: &mut K, why: ReadError) -> Status
+    ensures { TellsReadError (K.taken sink.old) (K.taken sink.new) (K.faults sink.old) (K.faults sink.new) why result }
+{
+    match why {
+        ReadError::Fault { count } => {
+            refuse_with(sink, source_fault(alloc, count), Status::Source)
+        }
+        ReadError::Script { line, kind } => {
+            refuse_with(sink, script_fault(alloc, line, kind), Status::Script)
+        }
+        ReadError::NoMemory => Status::Memory,
+    }
+}
+
+/// Says how a run ended.
+pub fn tell_end<K: Sink>(alloc: Global, sink: &mut K, form: Form, end: &RunEnd) -> Status
+    ensures { TellsEnd form (K.taken sink.old) (K.taken sink.new) (K.faults sink.old) (K.faults sink.new) end.now
+        result }
+{
+    match end {
+        RunEnd::DiskFault { count } => refuse_with(sink, disk_fault(alloc, *count), Status::Disk),
+        RunEnd::NotEmpty { len } => refuse_with(sink, log_not_empty(alloc, *len), Status::NotEmpty),
+        RunEnd::NoMemory | RunEnd::NoOutcome => Status::Memory,
+        RunEnd::Ran(outcome) => tell_outcome(alloc, sink, form, outcome),
+    }
+}
+
+/// Prints an outcome in a form.
+fn tell_outcome<K: Sink>(
+    alloc: Global,
+    sink: &mut K,
+    form: Form,
+    outcome: &Outcome<ByteMap>,
+) -> Status
+    ensures { TellsOutcome form (K.taken sink.old) (K.taken sink.new) (K.faults sink.old)
+        (K.faults sink.new) outcome.now result }
+{
+    let Ok(text) = text_of(alloc, form, outcome) else {
+        return Status::Memory;
+    };
+    match write_all(sink, text.as_slice()) {
+        Err(_) => Status::Sink,
+        Ok(()) => status_of(outcome),
+    }
+}
+
+/// The text of an outcome in a form.
+fn text_of(alloc: Global, form: Form, outcome: &Outcome<ByteMap>) -> Result<Bytes, NoMemory>
+    ensures { (o : calls.Outcome) (start : ℕ) → IsHistory start o.history → ShowsOutcome outcome.now o
+        → IfOk result (λ t. t ≡ reports.text_of form o) }
+{
+    match form {
+        Form::Whole => outcome_text(alloc, outcome),
+        Form::Summary => {
+            // A generated script has small numbers alone for values, so there is a sum.
+            let sum = sum_of(&outcome.state).ok_or(NoMemory)?;
+            summary_text(alloc, outcome, sum)
+        }
+    }
+}
+
+/// The status of an outcome that was printed.
+fn status_of(outcome: &Outcome<ByteMap>) -> Status
+    ensures { result ≡ ran_status outcome.now }
+{
+    if outcome.fault.is_some() {
+        Status::Disk
+    } else if outcome.lacks_memory() {
+        Status::Memory
+    } else {
+        Status::Done
+    }
+}
+
+/// Prints what a log recovers, whole, or says why nothing was recovered.
+pub fn tell_recovery<K: Sink>(
+    alloc: Global,
+    sink: &mut K,
+    found: &Result<Recovered, RecoverError>,
+) -> Status
+    ensures { TellsRecovery (K.taken sink.old) (K.taken sink.new) (K.faults sink.old)
+        (K.faults sink.new) found.now result }
+{
+    match found {
+        Ok(recovered) => tell_recovered(alloc, sink, recovered),
+        Err(why) => tell_recover_error(alloc, sink, *why),
+    }
+}
+
+fn tell_recover_error<K: Sink>(alloc: Global, sink: &mut K, why: RecoverError) -> Status
+    ensures { TellsRecoverError (K.taken sink.old) (K.taken sink.new) (K.faults sink.old)
+        (K.faults sink.new) why result }
+{
+    match why {
+        RecoverError::Fault { count } => refuse_with(sink, disk_fault(alloc, count), Status::Disk),
+        RecoverError::NoMemory => Status::Memory,
+    }
+}
+
+fn tell_recovered<K: Sink>(alloc: Global, sink: &mut K, recovered: &Recovered) -> Status
+    ensures { ShownEndsSo (K.taken sink.old) (K.taken sink.new) (K.faults sink.old)
+        (K.faults sink.new) recovered.now result }
+{
+    let Ok(text) = recovered_text(alloc, recovered) else {
+        return Status::Memory;
+    };
+    match write_all(sink, text.as_slice()) {
+        Err(_) => Status::Sink,
+        Ok(()) => Status::Done,
+    }
+}
+
+/// Prints what a schedule came to, whole.
+pub fn tell_replay<K: Sink>(
+    alloc: Global,
+    sink: &mut K,
+    replayed: &Result<Replayed, NoMemory>,
+) -> Status
+    ensures { TellsReplay (K.taken sink.old) (K.taken sink.new) (K.faults sink.old)
+        (K.faults sink.new) replayed.now result }
+{
+    match replayed {
+        Ok(replayed) => tell_replayed(alloc, sink, replayed),
+        Err(NoMemory) => Status::Memory,
+    }
+}
+
+fn tell_replayed<K: Sink>(alloc: Global, sink: &mut K, replayed: &Replayed) -> Status
+    ensures { ReplayEndsSo (K.taken sink.old) (K.taken sink.new) (K.faults sink.old)
+        (K.faults sink.new) replayed.now result }
+{
+    let Ok(text) = replayed_text(alloc, replayed) else {
+        return Status::Memory;
+    };
+    let Ok(()) = write_all(sink, text.as_slice()) else {
+        return Status::Sink;
+    };
+    Status::Done
+}

@@ -1,0 +1,21 @@
+//! What a script is run with.
+
+use model_base::Options;
+use std::alloc::Global;
+
+/// Where a script is run: the runtime with its threads, the memory, and who is told of what the clients do.
+#[derive(Drop)]
+pub struct Host<'a, R, G> {
+    pub rt: &'a R,
+    pub alloc: Global,
+    pub gate: &'a G,
+}
+
+/// How the write path is set up: its limits, how many shards its table has, and whether groups go into the table in a stage
+/// of their own.
+#[derive(Drop)]
+pub struct Setup {
+    pub options: Options,
+    pub shards: u32,
+    pub pipelined: bool,
+}

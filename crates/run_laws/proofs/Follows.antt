@@ -1,0 +1,116 @@
+-- A client's batch, its tokens and its accepted batches are those that its calls and their replies make.
+use Rattle.std.proofs.Common.{◌≡◌, ℕ, List, [], ◌∷◌, ◌++◌, fold, Option, Some, None, MatchOption, sym, ap, ◌∙◌, subst}
+use Rattle.model_base.specs.declared.write.WriteOptions.{WriteOptions}
+use Rattle.model_base.specs.declared.write.Refusal.{Refusal}
+use Rattle.model_base.specs.Batch.{Record}
+use Rattle.model_base.specs.History.{Entry}
+use Rattle.model_base.specs.Controller.{Action}
+use Rattle.model_base.specs.Tokens.{holds_stop}
+use Rattle.model_base.specs.Trace.{Trace, Settings}
+use Rattle.model_base.specs.Progress.{Progress, next_entry, early_refusal, added_by}
+use Rattle.model_base.specs.Runs.{Run}
+use Rattle.model_base.specs.Replies.{Adds, Clears, Stays, IsAttempted, Gets, GetsMany, Scans, Stops, Unstops, Slows, Unslows, Replies}
+use Rattle.model_base.specs.Calls.{Command, add, clear, commit, get, many, scan, stop, unstop, slow, unslow, Reply, quiet, accepted, refused, found, found_each, rows, done, held, not_held, Call}
+use Rattle.run_laws.specs.Accepting.{asked_with}
+
+-- a client's accepted batches after a call
+abbrev pub mine_with : ℕ → Progress → Command → Reply → List Entry
+mine_with client p (commit how) (accepted first last own) = p.mine ++ next_entry client p.mine how first p.pending ∷ []
+mine_with client p other reply = p.mine
+
+-- its batch, its tokens and its accepted batches after a call
+pub record Follows (client : ℕ) (p : Progress) (command : Command) (reply : Reply) (q : Progress) : Type 0 where
+  pub batch : q.pending ≡ added_by p.pending command reply
+  pub asked : q.asked ≡ asked_with p.asked command reply
+  pub mine : q.mine ≡ mine_with client p command reply
+
+batch_is : (q : Progress) (x : Progress) → q ≡ x → q.pending ≡ x.pending
+batch_is q x e = ap (λ (y : Progress). y.pending) e
+
+asked_is : (q : Progress) (x : Progress) → q ≡ x → q.asked ≡ x.asked
+asked_is q x e = ap (λ (y : Progress). y.asked) e
+
+mine_is : (q : Progress) (x : Progress) → q ≡ x → q.mine ≡ x.mine
+mine_is q x e = ap (λ (y : Progress). y.mine) e
+
+module _ (trace : Trace) (client : ℕ) (p q : Progress) where
+  by_add : (r : Record) (reply : Reply) → Adds p r reply q → Follows client p (add r) reply q
+  by_add r quiet e = record { batch = batch_is q _ e; asked = asked_is q _ e; mine = mine_is q _ e }
+  by_add r other e = absurd e
+
+  by_clear : (reply : Reply) → Clears p reply q → Follows client p clear reply q
+  by_clear quiet e = record { batch = batch_is q _ e; asked = asked_is q _ e; mine = mine_is q _ e }
+  by_clear other e = absurd e
+
+  by_attempt : (how : WriteOptions) (reply : Reply) → IsAttempted trace client p how reply q → Follows client p (commit how) reply q
+  by_attempt how (accepted first last records) a = record { batch = batch_is q _ a.after; asked = asked_is q _ a.after; mine = mine_is q _ a.after }
+  by_attempt how (refused why) a = record { batch = batch_is q _ a.2; asked = asked_is q _ a.2; mine = mine_is q _ a.2 }
+  by_attempt how other a = absurd a
+
+  by_commit : (how : WriteOptions) (reply : Reply) (early : Option Refusal)
+      → MatchOption early (IsAttempted trace client p how reply q) (λ why. (reply ≡ refused why) × Stays p q) → Follows client p (commit how) reply q
+  by_commit how reply None a = by_attempt how reply a
+  by_commit how reply (Some why) a = subst (λ x. Follows client p (commit how) x q) (sym a.0) (record { batch = batch_is q _ a.1; asked = asked_is q _ a.1; mine = mine_is q _ a.1 })
+
+  by_get : (key : List ℕ) (reply : Reply) → Gets trace p key reply q → Follows client p (get key) reply q
+  by_get key (found at v) r = record { batch = batch_is q _ r.after; asked = asked_is q _ r.after; mine = mine_is q _ r.after }
+  by_get key other r = absurd r
+
+  by_many : (keys : List (List ℕ)) (reply : Reply) → GetsMany trace p keys reply q → Follows client p (many keys) reply q
+  by_many keys (found_each at vs) r = record { batch = batch_is q _ r.after; asked = asked_is q _ r.after; mine = mine_is q _ r.after }
+  by_many keys other r = absurd r
+
+  by_scan : (lo hi : List ℕ) (reply : Reply) → Scans trace p lo hi reply q → Follows client p (scan lo hi) reply q
+  by_scan lo hi (rows at pairs) r = record { batch = batch_is q _ r.after; asked = asked_is q _ r.after; mine = mine_is q _ r.after }
+  by_scan lo hi other r = absurd r
+
+  by_stop : (reply : Reply) → Stops trace client p reply q → Follows client p stop reply q
+  by_stop done d = record { batch = batch_is q _ d.1.after; asked = asked_is q _ d.1.after; mine = mine_is q _ d.1.after }
+  by_stop held d = record { batch = batch_is q _ d.1; asked = asked_is q _ d.1; mine = mine_is q _ d.1 }
+  by_stop other d = absurd d
+
+  by_unstop : (reply : Reply) → Unstops trace client p reply q → Follows client p unstop reply q
+  by_unstop done d = record { batch = batch_is q _ d.1.after; asked = asked_is q _ d.1.after; mine = mine_is q _ d.1.after }
+  by_unstop not_held d = record { batch = batch_is q _ d.1; asked = asked_is q _ d.1; mine = mine_is q _ d.1 }
+  by_unstop other d = absurd d
+
+  by_slow : (rate : ℕ) (reply : Reply) → Slows trace client p rate reply q → Follows client p (slow rate) reply q
+  by_slow rate done d = record { batch = batch_is q _ d.1.after; asked = asked_is q _ d.1.after; mine = mine_is q _ d.1.after }
+  by_slow rate held d = record { batch = batch_is q _ d.1; asked = asked_is q _ d.1; mine = mine_is q _ d.1 }
+  by_slow rate other d = absurd d
+
+  by_unslow : (reply : Reply) → Unslows trace client p reply q → Follows client p unslow reply q
+  by_unslow done d = record { batch = batch_is q _ d.1.after; asked = asked_is q _ d.1.after; mine = mine_is q _ d.1.after }
+  by_unslow not_held d = record { batch = batch_is q _ d.1; asked = asked_is q _ d.1; mine = mine_is q _ d.1 }
+  by_unslow other d = absurd d
+
+pub follows : (settings : Settings) (trace : Trace) (client : ℕ) (p : Progress) (command : Command) (reply : Reply) (q : Progress) → Replies settings trace client p command reply q → Follows client p command reply q
+follows settings trace client p (add r) reply q a = by_add trace client p q r reply a
+follows settings trace client p clear reply q a = by_clear trace client p q reply a
+follows settings trace client p (commit how) reply q a = by_commit trace client p q how reply (early_refusal settings.batch_bytes (holds_stop p.asked) p.pending how) a
+follows settings trace client p (get key) reply q a = by_get trace client p q key reply a
+follows settings trace client p (many keys) reply q a = by_many trace client p q keys reply a
+follows settings trace client p (scan lo hi) reply q a = by_scan trace client p q lo hi reply a
+follows settings trace client p stop reply q a = by_stop trace client p q reply a
+follows settings trace client p unstop reply q a = by_unstop trace client p q reply a
+follows settings trace client p (slow rate) reply q a = by_slow trace client p q rate reply a
+follows settings trace client p unslow reply q a = by_unslow trace client p q reply a
+
+-- the same after all its calls
+abbrev pub add_call : List Record → Call → List Record
+add_call records c = added_by records c.command c.reply
+
+abbrev pub ask_call : List Action → Call → List Action
+ask_call asked c = asked_with asked c.command c.reply
+
+pub batch_by : (settings : Settings) (trace : Trace) (client : ℕ) (p : Progress) (calls : List Call) (q : Progress) → Run settings trace client p calls q → q.pending ≡ fold add_call p.pending calls
+batch_by settings trace client p [] q run = batch_is q p run
+batch_by settings trace client p (c ∷ calls) q run =
+    batch_by settings trace client run.0 calls q run.2
+    ∙ ap (λ records. fold add_call records calls) (follows settings trace client p c.command c.reply run.0 run.1.replies).batch
+
+pub tokens_by : (settings : Settings) (trace : Trace) (client : ℕ) (p : Progress) (calls : List Call) (q : Progress) → Run settings trace client p calls q → q.asked ≡ fold ask_call p.asked calls
+tokens_by settings trace client p [] q run = asked_is q p run
+tokens_by settings trace client p (c ∷ calls) q run =
+    tokens_by settings trace client run.0 calls q run.2
+    ∙ ap (λ asked. fold ask_call asked calls) (follows settings trace client p c.command c.reply run.0 run.1.replies).asked

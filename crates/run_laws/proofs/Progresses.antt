@@ -1,0 +1,160 @@
+-- Where a client stands after a call: what its batch, its accepted batches and its attempts become.
+use Rattle.std.proofs.Common.{◌≡◌, ℕ, List, [], ◌∷◌, ◌++◌, Option, Some, None, MatchOption, refl, sym, ap, ◌∙◌, subst, append-nil, append_assoc}
+use Rattle.std.specs.List.{AllByRecursion}
+use Rattle.model_base.specs.declared.write.WriteOptions.{WriteOptions}
+use Rattle.model_base.specs.declared.write.Refusal.{Refusal}
+use Rattle.model_base.specs.Batch.{Record}
+use Rattle.model_base.specs.Map.{Pairs}
+use Rattle.model_base.specs.History.{Entry}
+use Rattle.model_base.specs.Controller.{Action}
+use Rattle.model_base.specs.Attempts.{WriteStatus, succeeded, with_attempt}
+use Rattle.model_base.specs.Trace.{Trace, Settings}
+use Rattle.model_base.specs.Progress.{Progress, fresh, next_entry, early_refusal}
+use Rattle.model_base.specs.Tokens.{holds_stop}
+use Rattle.model_base.specs.Runs.{Run, commands_of, IsTranscript, whole, cut_off}
+use Rattle.model_base.specs.Replies.{Adds, Clears, Stays, IsAttempted, ReadsAt, Gets, GetsMany, Scans, IsDone, Stops, Unstops, Slows, Unslows, Replies}
+use Rattle.model_base.specs.Calls.{Command, add, clear, commit, get, many, scan, stop, unstop, slow, unslow, Reply, quiet, accepted, refused, found, found_each, rows, done, held, not_held, no_memory, Call}
+use Rattle.run_laws.proofs.Lists.{all_front, all_both}
+
+-- what a call may change of the client's records and attempts
+pub data Moves (client : ℕ) (p : Progress) (command : Command) (q : Progress) : Type 0 where
+  stays : q.pending ≡ p.pending → q.mine ≡ p.mine → q.attempts ≡ p.attempts → Moves client p command q
+  adds : (r : Record) → command ≡ add r → q.pending ≡ p.pending ++ r ∷ [] → q.mine ≡ p.mine → q.attempts ≡ p.attempts → Moves client p command q
+  clears : q.pending ≡ [] → q.mine ≡ p.mine → q.attempts ≡ p.attempts → Moves client p command q
+  accepts : (how : WriteOptions) (first : ℕ) → q.pending ≡ [] → q.mine ≡ p.mine ++ next_entry client p.mine how first p.pending ∷ []
+      → q.attempts ≡ with_attempt p.attempts p.pending how (Some succeeded) → Moves client p command q
+  refuses : (how : WriteOptions) (status : Option WriteStatus) → q.pending ≡ p.pending → q.mine ≡ p.mine
+      → q.attempts ≡ with_attempt p.attempts p.pending how status → Moves client p command q
+
+module _ (client : ℕ) (p : Progress) (command : Command) (q : Progress) where
+  same : Stays p q → Moves client p command q
+  same e = stays (ap (λ (x : Progress). x.pending) e) (ap (λ (x : Progress). x.mine) e) (ap (λ (x : Progress). x.attempts) e)
+
+  by_add : (r : Record) (reply : Reply) → command ≡ add r → Adds p r reply q → Moves client p command q
+  by_add r quiet is e = adds r is (ap (λ (x : Progress). x.pending) e) (ap (λ (x : Progress). x.mine) e) (ap (λ (x : Progress). x.attempts) e)
+  by_add r other is e = absurd e
+
+  by_clear : (reply : Reply) → Clears p reply q → Moves client p command q
+  by_clear quiet e = clears (ap (λ (x : Progress). x.pending) e) (ap (λ (x : Progress). x.mine) e) (ap (λ (x : Progress). x.attempts) e)
+  by_clear other e = absurd e
+
+  by_attempt : (trace : Trace) (how : WriteOptions) (reply : Reply) → IsAttempted trace client p how reply q → Moves client p command q
+  by_attempt trace how (accepted first last records) a =
+      let e = a.after in accepts how first (ap (λ (x : Progress). x.pending) e) (ap (λ (x : Progress). x.mine) e) (ap (λ (x : Progress). x.attempts) e)
+  by_attempt trace how (refused why) a =
+      let e = a.2 in refuses how a.0 (ap (λ (x : Progress). x.pending) e) (ap (λ (x : Progress). x.mine) e) (ap (λ (x : Progress). x.attempts) e)
+  by_attempt trace how other a = absurd a
+
+  by_commit : (trace : Trace) (how : WriteOptions) (reply : Reply) (early : Option Refusal)
+      → MatchOption early (IsAttempted trace client p how reply q) (λ why. (reply ≡ refused why) × Stays p q) → Moves client p command q
+  by_commit trace how reply None a = by_attempt trace how reply a
+  by_commit trace how reply (Some why) a = same a.1
+
+  by_read : (trace : Trace) (at : ℕ) (answers : Pairs → Type 0) → ReadsAt trace p at answers q → Moves client p command q
+  by_read trace at answers r = let e = r.after in stays (ap (λ (x : Progress). x.pending) e) (ap (λ (x : Progress). x.mine) e) (ap (λ (x : Progress). x.attempts) e)
+
+  by_get : (trace : Trace) (key : List ℕ) (reply : Reply) → Gets trace p key reply q → Moves client p command q
+  by_get trace key (found at v) r = by_read trace at _ r
+  by_get trace key other r = absurd r
+
+  by_many : (trace : Trace) (keys : List (List ℕ)) (reply : Reply) → GetsMany trace p keys reply q → Moves client p command q
+  by_many trace keys (found_each at vs) r = by_read trace at _ r
+  by_many trace keys other r = absurd r
+
+  by_scan : (trace : Trace) (lo hi : List ℕ) (reply : Reply) → Scans trace p lo hi reply q → Moves client p command q
+  by_scan trace lo hi (rows at pairs) r = by_read trace at _ r
+  by_scan trace lo hi other r = absurd r
+
+  by_done : (trace : Trace) (action : Action) → IsDone trace client p action q → Moves client p command q
+  by_done trace action d = let e = d.after in stays (ap (λ (x : Progress). x.pending) e) (ap (λ (x : Progress). x.mine) e) (ap (λ (x : Progress). x.attempts) e)
+
+  by_stop : (trace : Trace) (reply : Reply) → Stops trace client p reply q → Moves client p command q
+  by_stop trace done d = by_done trace _ d.1
+  by_stop trace held d = same d.1
+  by_stop trace other d = absurd d
+
+  by_unstop : (trace : Trace) (reply : Reply) → Unstops trace client p reply q → Moves client p command q
+  by_unstop trace done d = by_done trace _ d.1
+  by_unstop trace not_held d = same d.1
+  by_unstop trace other d = absurd d
+
+  by_slow : (trace : Trace) (rate : ℕ) (reply : Reply) → Slows trace client p rate reply q → Moves client p command q
+  by_slow trace rate done d = by_done trace _ d.1
+  by_slow trace rate held d = same d.1
+  by_slow trace rate other d = absurd d
+
+  by_unslow : (trace : Trace) (reply : Reply) → Unslows trace client p reply q → Moves client p command q
+  by_unslow trace done d = by_done trace _ d.1
+  by_unslow trace not_held d = same d.1
+  by_unslow trace other d = absurd d
+
+pub moves : (settings : Settings) (trace : Trace) (client : ℕ) (p : Progress) (command : Command) (reply : Reply) (q : Progress) → Replies settings trace client p command reply q → Moves client p command q
+moves settings trace client p (add r) reply q a = by_add client p (add r) q r reply refl a
+moves settings trace client p clear reply q a = by_clear client p clear q reply a
+moves settings trace client p (commit how) reply q a = by_commit client p (commit how) q trace how reply (early_refusal settings.batch_bytes (holds_stop p.asked) p.pending how) a
+moves settings trace client p (get key) reply q a = by_get client p (get key) q trace key reply a
+moves settings trace client p (many keys) reply q a = by_many client p (many keys) q trace keys reply a
+moves settings trace client p (scan lo hi) reply q a = by_scan client p (scan lo hi) q trace lo hi reply a
+moves settings trace client p stop reply q a = by_stop client p stop q trace reply a
+moves settings trace client p unstop reply q a = by_unstop client p unstop q trace reply a
+moves settings trace client p (slow rate) reply q a = by_slow client p (slow rate) q trace rate reply a
+moves settings trace client p unslow reply q a = by_unslow client p unslow q trace reply a
+
+-- What holds of each record that a client adds holds of all records of its accepted batches
+
+module _ (P : ℕ → Record → Type 0) where
+  abbrev pub AddsOnly : ℕ → Command → Type 0
+  AddsOnly client (add r) = P client r
+  AddsOnly client other = Unit {0}
+
+  abbrev pub HasOnly : Entry → Type 0
+  HasOnly e = AllByRecursion (P e.client) e.records
+
+  abbrev pub Keeps : ℕ → Progress → Type 0
+  Keeps client p = AllByRecursion (P client) p.pending × AllByRecursion HasOnly p.mine
+
+  added_only : (client : ℕ) (command : Command) (r : Record) → command ≡ add r → AddsOnly client command → P client r
+  added_only client command r is a = subst (AddsOnly client) is a
+
+  kept_at : (client : ℕ) (q : Progress) (pending : List Record) (mine : List Entry) → q.pending ≡ pending → q.mine ≡ mine
+      → AllByRecursion (P client) pending → AllByRecursion HasOnly mine → Keeps client q
+  kept_at client q pending mine e f a b = (subst (AllByRecursion (P client)) (sym e) a, subst (AllByRecursion HasOnly) (sym f) b)
+
+  kept : (client : ℕ) (p : Progress) (command : Command) (q : Progress) → AddsOnly client command → Keeps client p → Moves client p command q → Keeps client q
+  kept client p command q only k (stays e f g) = kept_at client q _ _ e f k.0 k.1
+  kept client p command q only k (adds r is e f g) = kept_at client q _ _ e f (all_both (P client) p.pending (r ∷ []) k.0 (added_only client command r is only, tt)) k.1
+  kept client p command q only k (clears e f g) = kept_at client q _ _ e f tt k.1
+  kept client p command q only k (accepts how first e f g) = kept_at client q _ _ e f tt (all_both HasOnly p.mine (next_entry client p.mine how first p.pending ∷ []) k.1 (k.0, tt))
+  kept client p command q only k (refuses how status e f g) = kept_at client q _ _ e f k.0 k.1
+
+  pub kept_by_run : (settings : Settings) (trace : Trace) (client : ℕ) (p : Progress) (calls : List Call) (q : Progress) → AllByRecursion (AddsOnly client) (commands_of calls) → Keeps client p → Run settings trace client p calls q → Keeps client q
+  kept_by_run settings trace client p [] q only k run = subst (Keeps client) (sym run) k
+  kept_by_run settings trace client p (c ∷ calls) q only k run =
+      kept_by_run settings trace client run.0 calls q only.1 (kept client p c.command run.0 only.0 k (moves settings trace client p c.command c.reply run.0 run.1.replies)) run.2
+
+commands_of-append : (calls more : List Call) → commands_of (calls ++ more) ≡ commands_of calls ++ commands_of more
+commands_of-append [] more = refl
+commands_of-append (c ∷ calls) more = ap (λ cs. c.command ∷ cs) (commands_of-append calls more)
+
+-- the calls that a client's transcript has before it is cut off, as a run
+pub record HasRun (settings : Settings) (trace : Trace) (client : ℕ) (commands : List Command) (end : Progress) : Type 0 where
+  pub calls : List Call
+  pub run : Run settings trace client fresh calls end
+  pub rest : List Command
+  pub of_commands : commands ≡ commands_of calls ++ rest
+
+pub run_of : (settings : Settings) (trace : Trace) (client : ℕ) (commands : List Command) (calls : List Call) (end : Progress) → IsTranscript settings trace client commands calls end → HasRun settings trace client commands end
+run_of settings trace client commands calls end (whole is run) = record { calls = calls; run = run; rest = []; of_commands = is ∙ sym (append-nil (commands_of calls)) }
+run_of settings trace client commands calls end (cut_off front last rest cut is run lacks) = record {
+  calls = front;
+  run = run;
+  rest = last ∷ rest;
+  of_commands = is ∙ ap (λ cs. commands_of cs ++ rest) cut ∙ ap (λ cs. cs ++ rest) (commands_of-append front (record { command = last; reply = no_memory } ∷ [])) ∙ append_assoc (commands_of front) (last ∷ []) rest;
+}
+
+pub kept_by_transcript : (P : ℕ → Record → Type 0) (settings : Settings) (trace : Trace) (client : ℕ) (commands : List Command) (calls : List Call) (end : Progress) → AllByRecursion (AddsOnly P client) commands
+    → IsTranscript settings trace client commands calls end → AllByRecursion (HasOnly P) end.mine
+kept_by_transcript P settings trace client commands calls end only is =
+    let r = run_of settings trace client commands calls end is in
+    let front = all_front (AddsOnly P client) (commands_of r.calls) r.rest (subst (AllByRecursion (AddsOnly P client)) r.of_commands only) in
+    (kept_by_run P settings trace client fresh r.calls end front (tt, tt) r.run).1

@@ -1,0 +1,16 @@
+-- The history's entries that the values of the code are.
+use Rattle.std.specs.Prelude.{◌+◌, ◌-◌, List}
+use Rattle.model_base.specs.Batch.{Record}
+use Rattle.model_base.specs.History as history
+use Rattle.run_outcome.specs.declared.history_entry.HistoryEntry.{HistoryEntry}
+
+-- an entry whose batch has these records
+abbrev pub entry_of : {B : Type 0} → (HistoryEntry B → List Record) → HistoryEntry B → history.Entry
+entry_of records e = record {
+  client = e.client;
+  ordinal = e.ordinal;
+  first = e.first;
+  count = e.last + 1 - e.first;
+  flag = e.flag;
+  records = records e;
+}

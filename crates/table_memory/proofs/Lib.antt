@@ -1,0 +1,5 @@
+pub mod ShardMaps
+pub mod Splits
+pub mod Ordered
+pub mod Runs
+pub mod Crossing

@@ -1,4 +1,0 @@
-pub mod ShardMaps
-pub mod Splits
-pub mod Ordered
-pub mod Runs

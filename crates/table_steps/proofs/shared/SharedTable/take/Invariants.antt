@@ -1,5 +1,0 @@
-use Rattle.std.proofs.Common.{◌≡◌}
-use Rattle.table_steps.proofs.shared.SharedTable.take.Given as goal
-
-abbrev pub invariant-loop : goal.invariant-loop
-invariant-loop g l = (goal.iterator-loop g).can_next l.iterator' × (goal.iterator-loop g).is_finite l.iterator' × (l.who.number ≡ l.fn.who.number) × (l.who.seat.table_id ≡ l.fn.who.seat.table_id) × (l.who.seat.me ≡ l.fn.who.seat.me)
