@@ -1,6 +1,8 @@
 -- What a disk in memory shows.
-use Rattle.std.specs.Prelude.{◌≡◌, ◌⊎◌, ℕ, ◌+◌, Bool, nat_lt, List, length, take, drop, slice_set, Option, Some}
+use Rattle.std.specs.Prelude.{◌≡◌, ◌⊎◌, ℕ, ◌+◌, ◌-◌, Bool, nat_lt, Option, Some}
+use Rattle.std.specs.Prelude.{List, ◌++◌, length, take, drop, slice_set}
 use Rattle.base_devices.specs.Disk.{Disk, IsImage}
+use Rattle.base_devices.specs.Drawn.{bytes_drawn}
 use Rattle.base_devices.specs.Eras.{WasImage, told_from}
 use Rattle.base_devices.specs.Listed.{Listed}
 use Rattle.base_devices.specs.declared.mem_disk.MemDisk.{MemDisk}
@@ -27,6 +29,11 @@ has_no_room d more = nat_lt (capacity_of d) (len_of d + more)
 -- its first bytes, as a crash may leave them
 abbrev pub cut_to : ℕ → Disk → Disk
 cut_to len d = record { content = take len d.content; synced = len; reach = len }
+
+-- its safe bytes, and then drawn ones up to this length, as a crash may leave them that tears what wasn't safe
+abbrev pub torn_to : ℕ → ℕ → Disk → Disk
+torn_to len seed d =
+    record { content = take d.synced d.content ++ bytes_drawn (len - d.synced) seed; synced = len; reach = len }
 
 -- with another byte at a place
 abbrev pub with_byte : Disk → ℕ → ℕ → Disk

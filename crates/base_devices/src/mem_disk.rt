@@ -1,9 +1,11 @@
 //! A disk in memory.
 
 ghost use Rattle.std.specs.Prelude.{◌≡◌, ◌+◌, ◌^◌, ◌<◌, ◌≤◌, length, vec_len, vec_capacity, All, IfOk, OnErr, false};
+ghost use Rattle.base_devices.specs.Drawn.{bytes_drawn};
 
 use crate::calls::Calls;
 use crate::{Disk, Failed};
+use base_draws::Draws;
 use model_base::NoMemory;
 use std::alloc::Global;
 
@@ -37,8 +39,9 @@ pub struct MemDisk {
 
 impl MemDisk {
     ghost use Rattle.base_devices.specs.Listed.{fresh};
-    ghost use Rattle.base_devices.specs.Disk.{all_safe};
-    ghost use Rattle.base_devices.specs.MemDisk.{disk_of, len_of, capacity_of, with_byte, cut_to, disk_calls, StartsAnew};
+    ghost use Rattle.base_devices.specs.Disk.{all_safe, IsImage};
+    ghost use Rattle.base_devices.specs.MemDisk.{disk_of, len_of, capacity_of, disk_calls, StartsAnew};
+    ghost use Rattle.base_devices.specs.MemDisk.{with_byte, cut_to, torn_to};
 
     /// A disk with this content, all of it safe, which takes at most `capacity` bytes. Its calls with a number in
     /// `fails` fail. All its room is made here: it fails where there is no memory for it.
@@ -111,6 +114,39 @@ impl MemDisk {
         self.past.clear();
         self.forgot = false;
         self
+    }
+
+    /// The disk after a crash that tore the writes since the last sync. It has `len` bytes: those that were safe, as
+    /// they were, and then bytes that are drawn from `seed`, whatever the content had there. A draw's byte is its
+    /// number modulo 256. All of them are safe from then on, and what the disk tells of crashes begins anew. The
+    /// numbering of the calls goes on. It takes no memory: the bytes are drawn over the content.
+    pub fn torn(mut self, len: u64, seed: u64) -> MemDisk
+        requires safe { (disk_of self).synced ≤ len }
+        requires there { len ≤ len_of self }
+        ensures disk { disk_of result ≡ torn_to len seed (disk_of self) }
+        // A crash may leave just this.
+        ensures image { IsImage (disk_of self) (disk_of result).content }
+        ensures capacity { capacity_of result ≡ capacity_of self }
+        ensures calls { disk_calls result ≡ disk_calls self }
+        ensures anew { StartsAnew result }
+    {
+        let safe = self.synced as usize;
+        draw_over(&mut self.content[safe..len as usize], seed);
+        self.crashed(len)
+    }
+}
+
+/// How many values a byte has.
+const BYTES: u64 = 256;
+
+/// Puts a drawn byte at each place.
+fn draw_over(bytes: &mut [u8], seed: u64)
+    ensures { bytes.new ≡ bytes_drawn (length bytes.old) seed }
+{
+    let mut draws = Draws::of_seed(seed);
+    // The bytes so far and those that the next draws make are all that the seed's draws make.
+    for byte in bytes.iter_mut() {
+        *byte = (draws.next() % BYTES) as u8;
     }
 }
 

@@ -9,7 +9,7 @@ use Rattle.std.specs.List.{AllByRecursion}
 use Rattle.std.specs.List.Sorted.{IsStrictlySortedBy}
 use Rattle.std.specs.Map.{keys_of, lookup, remove_entry}
 use Rattle.std.specs.BTreeMap.{insert_entry, is_at}
-use Rattle.base_maps.specs.Merging.{placed, merged}
+use Rattle.base_maps.specs.Merging.{put_in_order, merge_pairs}
 
 module _ {K : Type 0} (R : K → K → Ordering) (o : IsTotalOrder R) where
   turned : (x y : K) (r : Ordering) → R x y ≡ r → R y x ≡ ordering_reverse r
@@ -27,50 +27,50 @@ module _ {K : Type 0} (R : K → K → Ordering) (o : IsTotalOrder R) where
 
     -- a pair among the others alone
     alone-by : (k : K) (v : V) (q : K × V) (l : List (K × V)) (r : Ordering) → R k q.0 ≡ r → is_eq r ≡ false
-        → placed R (k, v) (λ m. m) l ≡ insert_entry R l k v
-        → placed R (k, v) (λ m. m) (q ∷ l) ≡ insert_entry R (q ∷ l) k v
+        → put_in_order R (k, v) (λ m. m) l ≡ insert_entry R l k v
+        → put_in_order R (k, v) (λ m. m) (q ∷ l) ≡ insert_entry R (q ∷ l) k v
     alone-by k v q l Less e lacks more = rw e refl
     alone-by k v q l Equal e lacks more = absurd (true≢false lacks)
     alone-by k v q l Greater e lacks more = rw e (ap (λ (m : List (K × V)). q ∷ m) more)
 
-    alone : (k : K) (v : V) (l : List (K × V)) → Lacks l k → placed R (k, v) (λ m. m) l ≡ insert_entry R l k v
+    alone : (k : K) (v : V) (l : List (K × V)) → Lacks l k → put_in_order R (k, v) (λ m. m) l ≡ insert_entry R l k v
     alone k v [] lacks = refl
     alone k v (q ∷ l) lacks = alone-by k v q l (R k q.0) refl lacks.0 (alone k v l lacks.1)
 
     -- a pair in front of the first one
     before-below : (p : K × V) (k : K) (v : V) (rest : List (K × V) → List (K × V)) (q : K × V) (l : List (K × V)) (r : Ordering)
         → R p.0 q.0 ≡ r → R k p.0 ≡ Less → R k q.0 ≡ Less
-        → placed R (k, v) (placed R p rest) (q ∷ l) ≡ insert_entry R (placed R p rest (q ∷ l)) k v
+        → put_in_order R (k, v) (put_in_order R p rest) (q ∷ l) ≡ insert_entry R (put_in_order R p rest (q ∷ l)) k v
     before-below p k v rest q l Less f below e = rw f (rw e (rw below refl))
     before-below p k v rest q l Equal f below e = rw f (rw e (rw below refl))
     before-below p k v rest q l Greater f below e = rw f (rw e refl)
 
     before-by : (p : K × V) (k : K) (v : V) (rest : List (K × V) → List (K × V)) (q : K × V) (l : List (K × V)) (r : Ordering)
         → R k q.0 ≡ r → is_eq r ≡ false → R k p.0 ≡ Less
-        → placed R (k, v) (placed R p rest) l ≡ insert_entry R (placed R p rest l) k v
-        → placed R (k, v) (placed R p rest) (q ∷ l) ≡ insert_entry R (placed R p rest (q ∷ l)) k v
+        → put_in_order R (k, v) (put_in_order R p rest) l ≡ insert_entry R (put_in_order R p rest l) k v
+        → put_in_order R (k, v) (put_in_order R p rest) (q ∷ l) ≡ insert_entry R (put_in_order R p rest (q ∷ l)) k v
     before-by p k v rest q l Less e lacks below more = before-below p k v rest q l (R p.0 q.0) refl below e
     before-by p k v rest q l Equal e lacks below more = absurd (true≢false lacks)
     before-by p k v rest q l Greater e lacks below more =
         rw (above p.0 k q.0 (turned k p.0 Less below) e) (rw e (ap (λ (m : List (K × V)). q ∷ m) more))
 
     before : (p : K × V) (k : K) (v : V) (rest : List (K × V) → List (K × V)) (l : List (K × V)) → R k p.0 ≡ Less → Lacks l k
-        → placed R (k, v) (placed R p rest) l ≡ insert_entry R (placed R p rest l) k v
+        → put_in_order R (k, v) (put_in_order R p rest) l ≡ insert_entry R (put_in_order R p rest l) k v
     before p k v rest [] below lacks = rw below refl
     before p k v rest (q ∷ l) below lacks = before-by p k v rest q l (R k q.0) refl lacks.0 below (before p k v rest l below lacks.1)
 
     -- a value for the first one's key
     same_key-by : (p : K × V) (k : K) (v : V) (rest : List (K × V) → List (K × V)) (q : K × V) (l : List (K × V)) (r : Ordering)
         → R p.0 q.0 ≡ r → R k p.0 ≡ Equal
-        → placed R (p.0, v) rest l ≡ insert_entry R (placed R p rest l) k v
-        → placed R (p.0, v) rest (q ∷ l) ≡ insert_entry R (placed R p rest (q ∷ l)) k v
+        → put_in_order R (p.0, v) rest l ≡ insert_entry R (put_in_order R p rest l) k v
+        → put_in_order R (p.0, v) rest (q ∷ l) ≡ insert_entry R (put_in_order R p rest (q ∷ l)) k v
     same_key-by p k v rest q l Less f same more = rw f (rw same refl)
     same_key-by p k v rest q l Equal f same more = rw f (rw same refl)
     same_key-by p k v rest q l Greater f same more =
         rw f (rw (o.congr k p.0 q.0 same ∙ f) (ap (λ (m : List (K × V)). q ∷ m) more))
 
     same_key : (p : K × V) (k : K) (v : V) (rest : List (K × V) → List (K × V)) (l : List (K × V)) → R k p.0 ≡ Equal
-        → placed R (p.0, v) rest l ≡ insert_entry R (placed R p rest l) k v
+        → put_in_order R (p.0, v) rest l ≡ insert_entry R (put_in_order R p rest l) k v
     same_key p k v rest [] same = rw same refl
     same_key p k v rest (q ∷ l) same = same_key-by p k v rest q l (R p.0 q.0) refl same (same_key p k v rest l same)
 
@@ -78,8 +78,8 @@ module _ {K : Type 0} (R : K → K → Ordering) (o : IsTotalOrder R) where
     behind-by : (p : K × V) (k : K) (v : V) (rest changed : List (K × V) → List (K × V)) (q : K × V) (l : List (K × V)) (r : Ordering)
         → R p.0 q.0 ≡ r → R k p.0 ≡ Greater
         → changed (q ∷ l) ≡ insert_entry R (rest (q ∷ l)) k v
-        → placed R p changed l ≡ insert_entry R (placed R p rest l) k v
-        → placed R p changed (q ∷ l) ≡ insert_entry R (placed R p rest (q ∷ l)) k v
+        → put_in_order R p changed l ≡ insert_entry R (put_in_order R p rest l) k v
+        → put_in_order R p changed (q ∷ l) ≡ insert_entry R (put_in_order R p rest (q ∷ l)) k v
     behind-by p k v rest changed q l Less f over here more = rw f (rw over (ap (λ (m : List (K × V)). p ∷ m) here))
     behind-by p k v rest changed q l Equal f over here more = rw f (rw over (ap (λ (m : List (K × V)). p ∷ m) here))
     behind-by p k v rest changed q l Greater f over here more =
@@ -87,20 +87,20 @@ module _ {K : Type 0} (R : K → K → Ordering) (o : IsTotalOrder R) where
 
     behind : (p : K × V) (k : K) (v : V) (rest changed : List (K × V) → List (K × V)) (l : List (K × V)) → R k p.0 ≡ Greater → Lacks l k
         → ((m : List (K × V)) → Lacks m k → changed m ≡ insert_entry R (rest m) k v)
-        → placed R p changed l ≡ insert_entry R (placed R p rest l) k v
+        → put_in_order R p changed l ≡ insert_entry R (put_in_order R p rest l) k v
     behind p k v rest changed [] over lacks here = rw over (ap (λ (m : List (K × V)). p ∷ m) (here [] lacks))
     behind p k v rest changed (q ∷ l) over lacks here =
         behind-by p k v rest changed q l (R p.0 q.0) refl over (here (q ∷ l) lacks) (behind p k v rest changed l over lacks.1 here)
 
     inserted-by : (p : K × V) (s : List (K × V)) (k : K) (v : V) (l : List (K × V)) (r : Ordering) → R k p.0 ≡ r → Lacks l k
-        → ((m : List (K × V)) → Lacks m k → merged R (insert_entry R s k v) m ≡ insert_entry R (merged R s m) k v)
-        → merged R (insert_entry R (p ∷ s) k v) l ≡ insert_entry R (merged R (p ∷ s) l) k v
-    inserted-by p s k v l Less e lacks here = rw e (before p k v (merged R s) l e lacks)
-    inserted-by p s k v l Equal e lacks here = rw e (same_key p k v (merged R s) l e)
-    inserted-by p s k v l Greater e lacks here = rw e (behind p k v (merged R s) (merged R (insert_entry R s k v)) l e lacks here)
+        → ((m : List (K × V)) → Lacks m k → merge_pairs R (insert_entry R s k v) m ≡ insert_entry R (merge_pairs R s m) k v)
+        → merge_pairs R (insert_entry R (p ∷ s) k v) l ≡ insert_entry R (merge_pairs R (p ∷ s) l) k v
+    inserted-by p s k v l Less e lacks here = rw e (before p k v (merge_pairs R s) l e lacks)
+    inserted-by p s k v l Equal e lacks here = rw e (same_key p k v (merge_pairs R s) l e)
+    inserted-by p s k v l Greater e lacks here = rw e (behind p k v (merge_pairs R s) (merge_pairs R (insert_entry R s k v)) l e lacks here)
 
     pub inserted : (s : List (K × V)) (k : K) (v : V) (l : List (K × V)) → Lacks l k
-        → merged R (insert_entry R s k v) l ≡ insert_entry R (merged R s l) k v
+        → merge_pairs R (insert_entry R s k v) l ≡ insert_entry R (merge_pairs R s l) k v
     inserted [] k v l lacks = alone k v l lacks
     inserted (p ∷ s) k v l lacks = inserted-by p s k v l (R k p.0) refl lacks (λ m b. inserted s k v m b)
 
@@ -114,49 +114,49 @@ module _ {K : Type 0} (R : K → K → Ordering) (o : IsTotalOrder R) where
     passed-by : (p : K × V) (k : K) (rest changed : List (K × V) → List (K × V)) (q : K × V) (l : List (K × V)) (r : Ordering)
         → R p.0 q.0 ≡ r → is_eq (R k p.0) ≡ false → is_eq (R k q.0) ≡ false
         → changed (q ∷ l) ≡ remove_entry (is_at (R k)) (rest (q ∷ l))
-        → placed R p changed l ≡ remove_entry (is_at (R k)) (placed R p rest l)
-        → placed R p changed (q ∷ l) ≡ remove_entry (is_at (R k)) (placed R p rest (q ∷ l))
+        → put_in_order R p changed l ≡ remove_entry (is_at (R k)) (put_in_order R p rest l)
+        → put_in_order R p changed (q ∷ l) ≡ remove_entry (is_at (R k)) (put_in_order R p rest (q ∷ l))
     passed-by p k rest changed q l Less f other lacks here more = rw f (rw other (ap (λ (m : List (K × V)). p ∷ m) here))
     passed-by p k rest changed q l Equal f other lacks here more = rw f (rw other (ap (λ (m : List (K × V)). p ∷ m) here))
     passed-by p k rest changed q l Greater f other lacks here more = rw f (rw lacks (ap (λ (m : List (K × V)). q ∷ m) more))
 
     passed : (p : K × V) (k : K) (rest changed : List (K × V) → List (K × V)) (l : List (K × V)) → is_eq (R k p.0) ≡ false → Lacks l k
         → ((m : List (K × V)) → Lacks m k → changed m ≡ remove_entry (is_at (R k)) (rest m))
-        → placed R p changed l ≡ remove_entry (is_at (R k)) (placed R p rest l)
+        → put_in_order R p changed l ≡ remove_entry (is_at (R k)) (put_in_order R p rest l)
     passed p k rest changed [] other lacks here = rw other (ap (λ (m : List (K × V)). p ∷ m) (here [] lacks))
     passed p k rest changed (q ∷ l) other lacks here =
         passed-by p k rest changed q l (R p.0 q.0) refl other lacks.0 (here (q ∷ l) lacks) (passed p k rest changed l other lacks.1 here)
 
     -- one of the others is the first of all
     first_other : (p : K × V) (s : List (K × V)) (q : K × V) (l : List (K × V)) → AllByRecursion (λ key. R p.0 key ≡ Less) (keys_of s) → R p.0 q.0 ≡ Greater
-        → merged R s (q ∷ l) ≡ q ∷ merged R s l
+        → merge_pairs R s (q ∷ l) ≡ q ∷ merge_pairs R s l
     first_other p [] q l sorted f = refl
     first_other p (e ∷ s) q l sorted f = rw (above e.0 p.0 q.0 (turned p.0 e.0 Less sorted.0) f) refl
 
     -- the first pair's key is taken out
     taken-by : (p : K × V) (s : List (K × V)) (k : K) (q : K × V) (l : List (K × V)) (r : Ordering)
         → R p.0 q.0 ≡ r → R k p.0 ≡ Equal → AllByRecursion (λ key. R p.0 key ≡ Less) (keys_of s)
-        → merged R s l ≡ remove_entry (is_at (R k)) (placed R p (merged R s) l)
-        → merged R s (q ∷ l) ≡ remove_entry (is_at (R k)) (placed R p (merged R s) (q ∷ l))
+        → merge_pairs R s l ≡ remove_entry (is_at (R k)) (put_in_order R p (merge_pairs R s) l)
+        → merge_pairs R s (q ∷ l) ≡ remove_entry (is_at (R k)) (put_in_order R p (merge_pairs R s) (q ∷ l))
     taken-by p s k q l Less f same sorted more = rw f (rw same refl)
     taken-by p s k q l Equal f same sorted more = rw f (rw same refl)
     taken-by p s k q l Greater f same sorted more =
         first_other p s q l sorted f ∙ rw f (rw (o.congr k p.0 q.0 same ∙ f) (ap (λ (m : List (K × V)). q ∷ m) more))
 
     taken : (p : K × V) (s : List (K × V)) (k : K) (l : List (K × V)) → R k p.0 ≡ Equal → AllByRecursion (λ key. R p.0 key ≡ Less) (keys_of s)
-        → merged R s l ≡ remove_entry (is_at (R k)) (placed R p (merged R s) l)
+        → merge_pairs R s l ≡ remove_entry (is_at (R k)) (put_in_order R p (merge_pairs R s) l)
     taken p s k [] same sorted = rw same refl
     taken p s k (q ∷ l) same sorted = taken-by p s k q l (R p.0 q.0) refl same sorted (taken p s k l same sorted)
 
     removed-by : (p : K × V) (s : List (K × V)) (k : K) (l : List (K × V)) (r : Ordering) → R k p.0 ≡ r → Lacks l k → AllByRecursion (λ key. R p.0 key ≡ Less) (keys_of s)
-        → ((m : List (K × V)) → Lacks m k → merged R (remove_entry (is_at (R k)) s) m ≡ remove_entry (is_at (R k)) (merged R s m))
-        → merged R (remove_entry (is_at (R k)) (p ∷ s)) l ≡ remove_entry (is_at (R k)) (merged R (p ∷ s) l)
-    removed-by p s k l Less e lacks sorted here = rw e (passed p k (merged R s) (merged R (remove_entry (is_at (R k)) s)) l (ap is_eq e) lacks here)
+        → ((m : List (K × V)) → Lacks m k → merge_pairs R (remove_entry (is_at (R k)) s) m ≡ remove_entry (is_at (R k)) (merge_pairs R s m))
+        → merge_pairs R (remove_entry (is_at (R k)) (p ∷ s)) l ≡ remove_entry (is_at (R k)) (merge_pairs R (p ∷ s) l)
+    removed-by p s k l Less e lacks sorted here = rw e (passed p k (merge_pairs R s) (merge_pairs R (remove_entry (is_at (R k)) s)) l (ap is_eq e) lacks here)
     removed-by p s k l Equal e lacks sorted here = rw e (taken p s k l e sorted)
-    removed-by p s k l Greater e lacks sorted here = rw e (passed p k (merged R s) (merged R (remove_entry (is_at (R k)) s)) l (ap is_eq e) lacks here)
+    removed-by p s k l Greater e lacks sorted here = rw e (passed p k (merge_pairs R s) (merge_pairs R (remove_entry (is_at (R k)) s)) l (ap is_eq e) lacks here)
 
     pub removed : (s : List (K × V)) (k : K) (l : List (K × V)) → Lacks l k → IsStrictlySortedBy R (keys_of s)
-        → merged R (remove_entry (is_at (R k)) s) l ≡ remove_entry (is_at (R k)) (merged R s l)
+        → merge_pairs R (remove_entry (is_at (R k)) s) l ≡ remove_entry (is_at (R k)) (merge_pairs R s l)
     unfolding IsStrictlySortedBy
     removed [] k l lacks sorted = sym (kept l k lacks)
     removed (p ∷ s) k l lacks sorted = removed-by p s k l (R k p.0) refl lacks sorted.0 (λ m b. removed s k m b sorted.1)
@@ -170,21 +170,21 @@ module _ {K : Type 0} (R : K → K → Ordering) (o : IsTotalOrder R) where
     found-by : (p : K × V) (k : K) (rest : List (K × V) → List (K × V)) (q : K × V) (l : List (K × V)) (x : Option V) (r : Ordering)
         → R p.0 q.0 ≡ r → is_eq (R k q.0) ≡ false
         → lookup (is_at (R k)) (rest (q ∷ l)) ≡ x
-        → lookup (is_at (R k)) (placed R p rest l) ≡ cond (is_eq (R k p.0)) (Some p.1) x
-        → lookup (is_at (R k)) (placed R p rest (q ∷ l)) ≡ cond (is_eq (R k p.0)) (Some p.1) x
+        → lookup (is_at (R k)) (put_in_order R p rest l) ≡ cond (is_eq (R k p.0)) (Some p.1) x
+        → lookup (is_at (R k)) (put_in_order R p rest (q ∷ l)) ≡ cond (is_eq (R k p.0)) (Some p.1) x
     found-by p k rest q l x Less f lacks here more = rw f (ap (λ (y : Option V). cond (is_eq (R k p.0)) (Some p.1) y) here)
     found-by p k rest q l x Equal f lacks here more = rw f (ap (λ (y : Option V). cond (is_eq (R k p.0)) (Some p.1) y) here)
     found-by p k rest q l x Greater f lacks here more = rw f (rw lacks more)
 
     found-in : (p : K × V) (k : K) (rest : List (K × V) → List (K × V)) (l : List (K × V)) (x : Option V) → Lacks l k
         → ((m : List (K × V)) → Lacks m k → lookup (is_at (R k)) (rest m) ≡ x)
-        → lookup (is_at (R k)) (placed R p rest l) ≡ cond (is_eq (R k p.0)) (Some p.1) x
+        → lookup (is_at (R k)) (put_in_order R p rest l) ≡ cond (is_eq (R k p.0)) (Some p.1) x
     found-in p k rest [] x lacks here = ap (λ (y : Option V). cond (is_eq (R k p.0)) (Some p.1) y) (here [] lacks)
     found-in p k rest (q ∷ l) x lacks here = found-by p k rest q l x (R p.0 q.0) refl lacks.0 (here (q ∷ l) lacks) (found-in p k rest l x lacks.1 here)
 
-    pub found : (s : List (K × V)) (k : K) (l : List (K × V)) → Lacks l k → lookup (is_at (R k)) (merged R s l) ≡ lookup (is_at (R k)) s
+    pub found : (s : List (K × V)) (k : K) (l : List (K × V)) → Lacks l k → lookup (is_at (R k)) (merge_pairs R s l) ≡ lookup (is_at (R k)) s
     found [] k l lacks = absent l k lacks
-    found (p ∷ s) k l lacks = found-in p k (merged R s) l (lookup (is_at (R k)) s) lacks (λ m b. found s k m b)
+    found (p ∷ s) k l lacks = found-in p k (merge_pairs R s) l (lookup (is_at (R k)) s) lacks (λ m b. found s k m b)
 
     -- ---- both lists
 
@@ -192,7 +192,7 @@ module _ {K : Type 0} (R : K → K → Ordering) (o : IsTotalOrder R) where
     abbrev pub LacksAll : List (K × V) → List (K × V) → Type 0
     LacksAll s l = AllByRecursion (Lacks l) (keys_of s)
 
-    first_only : (s : List (K × V)) → merged R s [] ≡ s
+    first_only : (s : List (K × V)) → merge_pairs R s [] ≡ s
     first_only [] = refl
     first_only (p ∷ s) = ap (λ (m : List (K × V)). p ∷ m) (first_only s)
 
@@ -202,61 +202,61 @@ module _ {K : Type 0} (R : K → K → Ordering) (o : IsTotalOrder R) where
 
     -- a pair in front of all of the first list, or one of the second
     exchanged-by : (p : K × V) (s : List (K × V)) (q : K × V) (l : List (K × V)) (r : Ordering) → R p.0 q.0 ≡ r → is_eq r ≡ false
-        → merged R s (q ∷ l) ≡ merged R (q ∷ l) s
-        → merged R (p ∷ s) l ≡ merged R l (p ∷ s)
-        → merged R (p ∷ s) (q ∷ l) ≡ merged R (q ∷ l) (p ∷ s)
+        → merge_pairs R s (q ∷ l) ≡ merge_pairs R (q ∷ l) s
+        → merge_pairs R (p ∷ s) l ≡ merge_pairs R l (p ∷ s)
+        → merge_pairs R (p ∷ s) (q ∷ l) ≡ merge_pairs R (q ∷ l) (p ∷ s)
     exchanged-by p s q l Less f lacks here more = rw f (rw (turned p.0 q.0 Less f) (ap (λ (m : List (K × V)). p ∷ m) here))
     exchanged-by p s q l Equal f lacks here more = absurd (true≢false lacks)
     exchanged-by p s q l Greater f lacks here more = rw f (rw (turned p.0 q.0 Greater f) (ap (λ (m : List (K × V)). q ∷ m) more))
 
     exchanged-in : (p : K × V) (s l : List (K × V)) → Lacks l p.0 → LacksAll s l
-        → ((m : List (K × V)) → LacksAll s m → merged R s m ≡ merged R m s)
-        → merged R (p ∷ s) l ≡ merged R l (p ∷ s)
+        → ((m : List (K × V)) → LacksAll s m → merge_pairs R s m ≡ merge_pairs R m s)
+        → merge_pairs R (p ∷ s) l ≡ merge_pairs R l (p ∷ s)
     exchanged-in p s [] lacks all here = ap (λ (m : List (K × V)). p ∷ m) (first_only s)
     exchanged-in p s (q ∷ l) lacks all here =
         exchanged-by p s q l (R p.0 q.0) refl lacks.0 (here (q ∷ l) all) (exchanged-in p s l lacks.1 (LacksAll-behind s q l all) here)
 
     -- the lists in the other order
-    pub exchanged : (s l : List (K × V)) → LacksAll s l → merged R s l ≡ merged R l s
+    pub exchanged : (s l : List (K × V)) → LacksAll s l → merge_pairs R s l ≡ merge_pairs R l s
     exchanged [] l all = sym (first_only l)
     exchanged (p ∷ s) l all = exchanged-in p s l all.0 all.1 (λ m b. exchanged s m b)
 
     -- ---- the second list
 
     pub inserted_second : (s : List (K × V)) (k : K) (v : V) (l : List (K × V)) → Lacks s k → LacksAll s l → LacksAll s (insert_entry R l k v)
-        → merged R s (insert_entry R l k v) ≡ insert_entry R (merged R s l) k v
+        → merge_pairs R s (insert_entry R l k v) ≡ insert_entry R (merge_pairs R s l) k v
     inserted_second s k v l lacks all all_new =
         exchanged s (insert_entry R l k v) all_new ∙ inserted l k v s lacks
         ∙ ap (λ (m : List (K × V)). insert_entry R m k v) (sym (exchanged s l all))
 
     pub removed_second : (s : List (K × V)) (k : K) (l : List (K × V)) → Lacks s k → LacksAll s l → LacksAll s (remove_entry (is_at (R k)) l) → IsStrictlySortedBy R (keys_of l)
-        → merged R s (remove_entry (is_at (R k)) l) ≡ remove_entry (is_at (R k)) (merged R s l)
+        → merge_pairs R s (remove_entry (is_at (R k)) l) ≡ remove_entry (is_at (R k)) (merge_pairs R s l)
     removed_second s k l lacks all all_new sorted =
         exchanged s (remove_entry (is_at (R k)) l) all_new ∙ removed l k s lacks sorted
         ∙ ap (remove_entry (is_at (R k))) (sym (exchanged s l all))
 
     pub found_second : (s : List (K × V)) (k : K) (l : List (K × V)) → Lacks s k → LacksAll s l
-        → lookup (is_at (R k)) (merged R s l) ≡ lookup (is_at (R k)) l
+        → lookup (is_at (R k)) (merge_pairs R s l) ≡ lookup (is_at (R k)) l
     found_second s k l lacks all = ap (lookup (is_at (R k))) (exchanged s l all) ∙ found l k s lacks
 
     -- ---- how many there are
 
     counted-by : (p : K × V) (rest : List (K × V) → List (K × V)) (q : K × V) (l : List (K × V)) (n : ℕ) (r : Ordering) → R p.0 q.0 ≡ r
-        → length (rest (q ∷ l)) ≡ n + length (q ∷ l) → length (placed R p rest l) ≡ n + 1 + length l
-        → length (placed R p rest (q ∷ l)) ≡ n + 1 + length (q ∷ l)
+        → length (rest (q ∷ l)) ≡ n + length (q ∷ l) → length (put_in_order R p rest l) ≡ n + 1 + length l
+        → length (put_in_order R p rest (q ∷ l)) ≡ n + 1 + length (q ∷ l)
     counted-by p rest q l n Less f here more = rw f (omega (arith, here))
     counted-by p rest q l n Equal f here more = rw f (omega (arith, here))
     counted-by p rest q l n Greater f here more = rw f (omega (arith, more))
 
     counted-in : (p : K × V) (rest : List (K × V) → List (K × V)) (l : List (K × V)) (n : ℕ) → ((m : List (K × V)) → length (rest m) ≡ n + length m)
-        → length (placed R p rest l) ≡ n + 1 + length l
+        → length (put_in_order R p rest l) ≡ n + 1 + length l
     counted-in p rest [] n here = omega (arith, here [])
     counted-in p rest (q ∷ l) n here = counted-by p rest q l n (R p.0 q.0) refl (here (q ∷ l)) (counted-in p rest l n here)
 
-    pub counted : (s l : List (K × V)) → length (merged R s l) ≡ length s + length l
+    pub counted : (s l : List (K × V)) → length (merge_pairs R s l) ≡ length s + length l
     counted [] l = sym (zero-add (length l))
     counted (p ∷ s) l =
-        let more : length (placed R p (merged R s) l) ≡ length s + 1 + length l = counted-in p (merged R s) l (length s) (counted s) in
+        let more : length (put_in_order R p (merge_pairs R s) l) ≡ length s + 1 + length l = counted-in p (merge_pairs R s) l (length s) (counted s) in
         omega (arith, more)
 
     -- ---- what holds of all keys

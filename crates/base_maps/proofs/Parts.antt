@@ -10,7 +10,7 @@ use Rattle.std.specs.List.Sorted.{IsStrictlySortedBy}
 use Rattle.std.specs.Map.{keys_of, lookup, remove_entry}
 use Rattle.std.specs.BTreeMap.{insert_entry, is_at}
 use Rattle.model_base.specs.Map.{Pairs, byte_order, value_at}
-use Rattle.base_maps.specs.Merging.{merged}
+use Rattle.base_maps.specs.Merging.{merge_pairs}
 use Rattle.base_maps.specs.Parts.{AreParts}
 use Rattle.base_maps.proofs.MapPairs.{pairs, pairs-insert_entry, pairs-remove_entry, lookup-pairs}
 use Rattle.base_maps.proofs.Merging.{Lacks, LacksAll, inserted, inserted_second, removed, removed_second, found, found_second, counted, all_inserted, all_removed}
@@ -49,7 +49,7 @@ lacks_all (p ∷ s) l short long = (lacks_long l p.0 long short.0, lacks_all s l
 
 -- ---- a short key
 
-pub short_inserted : (s l : Pairs) (k v : List ℕ) → AreParts s l → length k ≤ 16 → merged byte_order (insert_entry byte_order s k v) l ≡ insert_entry byte_order (merged byte_order s l) k v
+pub short_inserted : (s l : Pairs) (k v : List ℕ) → AreParts s l → length k ≤ 16 → merge_pairs byte_order (insert_entry byte_order s k v) l ≡ insert_entry byte_order (merge_pairs byte_order s l) k v
 short_inserted s l k v parts short = inserted byte_order nat_list_cmp_total s k v l (lacks_long l k parts.long_keys short)
 
 pub short_inserted_parts : (s l : Pairs) (k v : List ℕ) → AreParts s l → length k ≤ 16 → IsStrictlySortedBy byte_order (keys_of (insert_entry byte_order s k v)) → AreParts (insert_entry byte_order s k v) l
@@ -60,7 +60,7 @@ short_inserted_parts s l k v parts short sorted = record {
   long_order = parts.long_order;
 }
 
-pub short_removed : (s l : Pairs) (k : List ℕ) → AreParts s l → length k ≤ 16 → merged byte_order (remove_entry (is_at (byte_order k)) s) l ≡ remove_entry (is_at (byte_order k)) (merged byte_order s l)
+pub short_removed : (s l : Pairs) (k : List ℕ) → AreParts s l → length k ≤ 16 → merge_pairs byte_order (remove_entry (is_at (byte_order k)) s) l ≡ remove_entry (is_at (byte_order k)) (merge_pairs byte_order s l)
 short_removed s l k parts short = removed byte_order nat_list_cmp_total s k l (lacks_long l k parts.long_keys short) parts.short_order
 
 pub short_removed_parts : (s l : Pairs) (k : List ℕ) → AreParts s l → IsStrictlySortedBy byte_order (keys_of (remove_entry (is_at (byte_order k)) s)) → AreParts (remove_entry (is_at (byte_order k)) s) l
@@ -71,7 +71,7 @@ short_removed_parts s l k parts sorted = record {
   long_order = parts.long_order;
 }
 
-pub short_found : (s l : Pairs) (k : List ℕ) → AreParts s l → length k ≤ 16 → value_at s k ≡ value_at (merged byte_order s l) k
+pub short_found : (s l : Pairs) (k : List ℕ) → AreParts s l → length k ≤ 16 → value_at s k ≡ value_at (merge_pairs byte_order s l) k
 short_found s l k parts short = sym (found byte_order nat_list_cmp_total s k l (lacks_long l k parts.long_keys short))
 
 -- ---- a long key
@@ -84,7 +84,7 @@ long_inserted_parts s l k v parts long sorted = record {
   long_order = sorted;
 }
 
-pub long_inserted : (s l : Pairs) (k v : List ℕ) → AreParts s l → 16 < length k → merged byte_order s (insert_entry byte_order l k v) ≡ insert_entry byte_order (merged byte_order s l) k v
+pub long_inserted : (s l : Pairs) (k v : List ℕ) → AreParts s l → 16 < length k → merge_pairs byte_order s (insert_entry byte_order l k v) ≡ insert_entry byte_order (merge_pairs byte_order s l) k v
 long_inserted s l k v parts long =
     inserted_second byte_order nat_list_cmp_total s k v l (lacks_short s k parts.short_keys long) (lacks_all s l parts.short_keys parts.long_keys)
     (lacks_all s (insert_entry byte_order l k v) parts.short_keys
@@ -98,14 +98,14 @@ long_removed_parts s l k parts sorted = record {
   long_order = sorted;
 }
 
-pub long_removed : (s l : Pairs) (k : List ℕ) → AreParts s l → 16 < length k → merged byte_order s (remove_entry (is_at (byte_order k)) l) ≡ remove_entry (is_at (byte_order k)) (merged byte_order s l)
+pub long_removed : (s l : Pairs) (k : List ℕ) → AreParts s l → 16 < length k → merge_pairs byte_order s (remove_entry (is_at (byte_order k)) l) ≡ remove_entry (is_at (byte_order k)) (merge_pairs byte_order s l)
 long_removed s l k parts long =
     removed_second byte_order nat_list_cmp_total s k l (lacks_short s k parts.short_keys long) (lacks_all s l parts.short_keys parts.long_keys)
     (lacks_all s (remove_entry (is_at (byte_order k)) l) parts.short_keys
     (all_removed byte_order nat_list_cmp_total (λ (key : List ℕ). 16 < length key) k l parts.long_keys))
     parts.long_order
 
-pub long_found : (s l : Pairs) (k : List ℕ) → AreParts s l → 16 < length k → value_at l k ≡ value_at (merged byte_order s l) k
+pub long_found : (s l : Pairs) (k : List ℕ) → AreParts s l → 16 < length k → value_at l k ≡ value_at (merge_pairs byte_order s l) k
 long_found s l k parts long =
     sym (found_second byte_order nat_list_cmp_total s k l (lacks_short s k parts.short_keys long) (lacks_all s l parts.short_keys parts.long_keys))
 
@@ -131,14 +131,14 @@ module _ {K : Type 0} (seen : K → List ℕ) where
 
 -- ---- the map after each call, whose key and value may be copies
 
-pub short_got : (s l m : Pairs) (k key : List ℕ) (found : Option (List ℕ)) → AreParts s l → merged byte_order s l ≡ m → k ≡ key → length key ≤ 16
+pub short_got : (s l m : Pairs) (k key : List ℕ) (found : Option (List ℕ)) → AreParts s l → merge_pairs byte_order s l ≡ m → k ≡ key → length key ≤ 16
     → found ≡ value_at s k → found ≡ value_at m key
 short_got s l m k key found parts is copied short e = e ∙ ap (value_at s) copied ∙ short_found s l key parts short ∙ ap (λ (n : Pairs). value_at n key) is
 
-pub short_put : (s l m changed : Pairs) (k key v value : List ℕ) → AreParts s l → merged byte_order s l ≡ m → k ≡ key → v ≡ value → length key ≤ 16
-    → changed ≡ insert_entry byte_order s k v → merged byte_order changed l ≡ insert_entry byte_order m key value
+pub short_put : (s l m changed : Pairs) (k key v value : List ℕ) → AreParts s l → merge_pairs byte_order s l ≡ m → k ≡ key → v ≡ value → length key ≤ 16
+    → changed ≡ insert_entry byte_order s k v → merge_pairs byte_order changed l ≡ insert_entry byte_order m key value
 short_put s l m changed k key v value parts is copied value_copied short e =
-    ap (λ (n : Pairs). merged byte_order n l) (e ∙ ap (λ (i : List ℕ). insert_entry byte_order s i v) copied ∙ ap (insert_entry byte_order s key) value_copied)
+    ap (λ (n : Pairs). merge_pairs byte_order n l) (e ∙ ap (λ (i : List ℕ). insert_entry byte_order s i v) copied ∙ ap (insert_entry byte_order s key) value_copied)
     ∙ short_inserted s l key value parts short ∙ ap (λ (n : Pairs). insert_entry byte_order n key value) is
 
 pub short_put_parts : (s l changed : Pairs) (k key v : List ℕ) → AreParts s l → k ≡ key → length key ≤ 16
@@ -148,10 +148,10 @@ short_put_parts s l changed k key v parts copied short e sorted =
     subst (λ (n : Pairs). AreParts n l) (sym as_put)
     (short_inserted_parts s l key v parts short (subst (λ (n : Pairs). IsStrictlySortedBy byte_order (keys_of n)) as_put sorted))
 
-pub short_cut : (s l m changed : Pairs) (k key : List ℕ) → AreParts s l → merged byte_order s l ≡ m → k ≡ key → length key ≤ 16
-    → changed ≡ remove_entry (is_at (byte_order k)) s → merged byte_order changed l ≡ remove_entry (is_at (byte_order key)) m
+pub short_cut : (s l m changed : Pairs) (k key : List ℕ) → AreParts s l → merge_pairs byte_order s l ≡ m → k ≡ key → length key ≤ 16
+    → changed ≡ remove_entry (is_at (byte_order k)) s → merge_pairs byte_order changed l ≡ remove_entry (is_at (byte_order key)) m
 short_cut s l m changed k key parts is copied short e =
-    ap (λ (n : Pairs). merged byte_order n l) (e ∙ ap (λ (i : List ℕ). remove_entry (is_at (byte_order i)) s) copied)
+    ap (λ (n : Pairs). merge_pairs byte_order n l) (e ∙ ap (λ (i : List ℕ). remove_entry (is_at (byte_order i)) s) copied)
     ∙ short_removed s l key parts short ∙ ap (remove_entry (is_at (byte_order key))) is
 
 pub short_cut_parts : (s l changed : Pairs) (k : List ℕ) → AreParts s l
@@ -166,7 +166,7 @@ module _ {K : Type 0} (seen : K → List ℕ) where
   pairs_counted (e ∷ es) = omega (arith, pairs_counted es)
 
   pub long_got : (s : Pairs) (es : List (K × List ℕ)) (m : Pairs) (key : List ℕ) (found : Option (List ℕ))
-      → AreParts s (pairs seen es) → merged byte_order s (pairs seen es) ≡ m → 16 < length key
+      → AreParts s (pairs seen es) → merge_pairs byte_order s (pairs seen es) ≡ m → 16 < length key
       → found ≡ lookup (is_at (λ k. byte_order key (seen k))) es → found ≡ value_at m key
   long_got s es m key found parts is long e =
       e ∙ lookup-pairs seen key es ∙ long_found s (pairs seen es) key parts long ∙ ap (λ (n : Pairs). value_at n key) is
@@ -179,11 +179,11 @@ module _ {K : Type 0} (seen : K → List ℕ) where
       ∙ ap (insert_entry byte_order (pairs seen es) key) value_copied
 
   pub long_put : (s : Pairs) (es changed : List (K × List ℕ)) (m : Pairs) (k : K) (v key value : List ℕ)
-      → AreParts s (pairs seen es) → merged byte_order s (pairs seen es) ≡ m → seen k ≡ key → v ≡ value → 16 < length key
+      → AreParts s (pairs seen es) → merge_pairs byte_order s (pairs seen es) ≡ m → seen k ≡ key → v ≡ value → 16 < length key
       → changed ≡ insert_entry (λ i j. byte_order (seen i) (seen j)) es k v
-      → merged byte_order s (pairs seen changed) ≡ insert_entry byte_order m key value
+      → merge_pairs byte_order s (pairs seen changed) ≡ insert_entry byte_order m key value
   long_put s es changed m k v key value parts is copied value_copied long e =
-      ap (merged byte_order s) (put_pairs es changed k v key value copied value_copied e)
+      ap (merge_pairs byte_order s) (put_pairs es changed k v key value copied value_copied e)
       ∙ long_inserted s (pairs seen es) key value parts long ∙ ap (λ (n : Pairs). insert_entry byte_order n key value) is
 
   pub long_put_parts : (s : Pairs) (es changed : List (K × List ℕ)) (k : K) (v key : List ℕ)
@@ -202,11 +202,11 @@ module _ {K : Type 0} (seen : K → List ℕ) where
   cut_pairs es changed key e = ap (pairs seen) e ∙ pairs-remove_entry seen key es
 
   pub long_cut : (s : Pairs) (es changed : List (K × List ℕ)) (m : Pairs) (key : List ℕ)
-      → AreParts s (pairs seen es) → merged byte_order s (pairs seen es) ≡ m → 16 < length key
+      → AreParts s (pairs seen es) → merge_pairs byte_order s (pairs seen es) ≡ m → 16 < length key
       → changed ≡ remove_entry (is_at (λ k. byte_order key (seen k))) es
-      → merged byte_order s (pairs seen changed) ≡ remove_entry (is_at (byte_order key)) m
+      → merge_pairs byte_order s (pairs seen changed) ≡ remove_entry (is_at (byte_order key)) m
   long_cut s es changed m key parts is long e =
-      ap (merged byte_order s) (cut_pairs es changed key e)
+      ap (merge_pairs byte_order s) (cut_pairs es changed key e)
       ∙ long_removed s (pairs seen es) key parts long ∙ ap (remove_entry (is_at (byte_order key))) is
 
   pub long_cut_parts : (s : Pairs) (es changed : List (K × List ℕ)) (key : List ℕ) → AreParts s (pairs seen es)
@@ -219,8 +219,8 @@ module _ {K : Type 0} (seen : K → List ℕ) where
       (long_removed_parts s (pairs seen es) key parts
       (subst (λ (n : Pairs). IsStrictlySortedBy byte_order (keys_of n)) as_cut (seen_order seen changed sorted)))
 
-  pub both_counted : (s : Pairs) (es : List (K × List ℕ)) (m : Pairs) → merged byte_order s (pairs seen es) ≡ m → length s + length es ≡ length m
+  pub both_counted : (s : Pairs) (es : List (K × List ℕ)) (m : Pairs) → merge_pairs byte_order s (pairs seen es) ≡ m → length s + length es ≡ length m
   both_counted s es m is =
-      let both : length (merged byte_order s (pairs seen es)) ≡ length s + length (pairs seen es) = counted byte_order nat_list_cmp_total s (pairs seen es) in
+      let both : length (merge_pairs byte_order s (pairs seen es)) ≡ length s + length (pairs seen es) = counted byte_order nat_list_cmp_total s (pairs seen es) in
       let same : length (pairs seen es) ≡ length es = pairs_counted es in
       omega (arith, both, same, ap length is)

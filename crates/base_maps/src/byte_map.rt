@@ -28,12 +28,12 @@ pub struct ByteMap {
 impl Model for ByteMap {
     ghost use Rattle.std.specs.Prelude.{map};
     ghost use Rattle.model_base.specs.Map.{Pairs, byte_order};
-    ghost use Rattle.base_maps.specs.Merging.{merged};
+    ghost use Rattle.base_maps.specs.Merging.{merge_pairs};
     ghost use Rattle.base_maps.specs.Parts.{AreParts};
 
     ghost Value = { Pairs };
 
-    ghost view = { λ m. merged byte_order m.short.entries (map (λ e. (e.0.items, e.1)) m.long.entries) };
+    ghost view = { λ m. merge_pairs byte_order m.short.entries (map (λ e. (e.0.items, e.1)) m.long.entries) };
 
     ghost invariant = { λ m. AreParts m.short.entries (map (λ e. (e.0.items, e.1)) m.long.entries) };
 }
@@ -130,12 +130,12 @@ impl<'a> Model for BytePairs<'a> {
     ghost use Rattle.std.specs.Prelude.{map};
     ghost use Rattle.std.specs.Option.{option_map};
     ghost use Rattle.model_base.specs.Map.{Pairs, byte_order};
-    ghost use Rattle.base_maps.specs.Merging.{merged};
+    ghost use Rattle.base_maps.specs.Merging.{merge_pairs};
     ghost use Rattle.base_maps.specs.Parts.{with_next};
 
     ghost Value = { Pairs };
 
-    ghost view = { λ i. merged byte_order
+    ghost view = { λ i. merge_pairs byte_order
         (with_next (option_map (λ p. (p.0.now, p.1.now)) i.next_short) i.short)
         (with_next (option_map (λ p. (p.0.now, p.1.now)) i.next_long) (map (λ e. (e.0.items, e.1)) i.long)) };
 }

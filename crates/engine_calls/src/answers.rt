@@ -1,15 +1,12 @@
 //! What the calls answer. What a read answers is of `base_bytes`.
 
-use log_batch::Batch;
+use log_batch::{Batch, Run};
 use model_base::Refusal;
 
 /// An accepted batch, which is handed back with its sequence set.
 #[derive(Drop)]
 pub struct Receipt {
-    /// The first sequence of its run.
-    pub first: u64,
-    /// How many sequences the run has.
-    pub count: u32,
+    pub run: Run,
     /// The last sequence of its group. Reads of this client see the group whole from now on.
     pub group_last: u64,
     pub batch: Batch,

@@ -1,6 +1,6 @@
 //! The calls.
 
-ghost use Rattle.std.specs.Prelude.{◌≡◌, true, false, List, map, IfOk, IfErr, OnOk, OnErr};
+ghost use Rattle.std.specs.Prelude.{◌≡◌, ◌+◌, true, false, List, map, IfOk, IfErr, OnOk, OnErr};
 ghost use Rattle.model_base.specs.Batch as model;
 ghost use Rattle.model_base.specs.Groups.{Group};
 ghost use Rattle.model_base.specs.LogContents.{GroupCall};
@@ -73,13 +73,13 @@ pub trait Engine {
     ) -> Result<Receipt, Refused>
         requires { belongs self.now client.old }
         ensures belongs { belongs self.now client.new }
-        ensures ok { IfOk result (λ r. Wrote (settings self.now) (account client.old) batch.records options r.first
+        ensures ok { IfOk result (λ r. Wrote (settings self.now) (account client.old) batch.records options r.run.first
             r.group_last (account client.new)) }
-        ensures back { IfOk result (λ r. (r.batch ≡ record batch { sequence = r.first })
-            × (r.count ≡ model.count_of batch.records)) }
+        ensures back { IfOk result (λ r. (r.batch ≡ record batch { sequence = r.run.first })
+            × (r.run.last + 1 ≡ r.run.first + model.count_of batch.records)) }
         // a batch that was to be synced was written by a call of the log writer that synced
         ensures synced { IfOk result (λ r. options.sync ≡ true → (calls : List GroupCall) × (log : Self.Log)
-            × wrote self.now calls log × IsSyncedBy r.first batch.records calls) }
+            × wrote self.now calls log × IsSyncedBy r.run.first batch.records calls) }
         ensures err { IfErr result (λ e. Refuses (settings self.now) (account client.old) batch.records options e.why
             (account client.new)) }
         ensures unchanged { IfErr result (λ e. e.batch ≡ batch) };

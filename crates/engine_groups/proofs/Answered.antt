@@ -1,5 +1,5 @@
 -- What a client concludes of its answer.
-use Rattle.std.proofs.Common.{◌≡◌, inr, ℕ, ◌-◌, ◌<◌, ◌≤◌, Bool, true, false, not, cond, ◌==◌, ◌&&◌, map, List, [], ◌∷◌, ◌++◌, Option, Some, None, MatchOption, IfSome, Result, Ok, Err, IfOk, IfErr, length, refl, ap, sym, ◌∙◌, subst, arith, append_assoc, append-nil, length-append}
+use Rattle.std.proofs.Common.{◌≡◌, inr, ℕ, ◌+◌, ◌-◌, ◌<◌, ◌≤◌, Bool, true, false, not, cond, ◌==◌, ◌&&◌, map, List, [], ◌∷◌, ◌++◌, Option, Some, None, MatchOption, IfSome, Result, Ok, Err, IfOk, IfErr, length, refl, ap, sym, ◌∙◌, subst, arith, append_assoc, append-nil, length-append}
 use Rattle.std.specs.Prelude.{if◌then◌else◌, nat_lt}
 use Rattle.std.specs.List.{AllByRecursion}
 use mathlib.Core.List.{IsPrefix}
@@ -128,9 +128,9 @@ refuses_late settings v records how why w passed late =
 
 -- what a client concludes of an answer to this batch, where its account was the first and is the second
 pub record Concludes {D : Type 0} {ghosts : Ghosts D} (opened : LogWriter D ghosts) (settings : Settings) (v : Account) (batch : Contents) (how : WriteOptions) (answer : Result Receipt Refused) (w : Account) : Type 0 where
-  pub accepted : IfOk answer (λ (r : Receipt). Wrote settings v batch.records how r.first r.group_last w)
-  pub back : IfOk answer (λ (r : Receipt). (r.batch ≡ record batch { sequence = r.first }) × (r.count ≡ count_of batch.records))
-  pub synced : IfOk answer (λ (r : Receipt). how.sync ≡ true → (calls : List GroupCall) × (log : LogWriter D ghosts) × LogWrote opened calls log × IsSyncedBy r.first batch.records calls)
+  pub accepted : IfOk answer (λ (r : Receipt). Wrote settings v batch.records how r.run.first r.group_last w)
+  pub back : IfOk answer (λ (r : Receipt). (r.batch ≡ record batch { sequence = r.run.first }) × (r.run.last + 1 ≡ r.run.first + count_of batch.records))
+  pub synced : IfOk answer (λ (r : Receipt). how.sync ≡ true → (calls : List GroupCall) × (log : LogWriter D ghosts) × LogWrote opened calls log × IsSyncedBy r.run.first batch.records calls)
   pub refused : IfErr answer (λ (e : Refused). Refuses settings v batch.records how e.why w)
   pub unchanged : IfErr answer (λ (e : Refused). e.batch ≡ batch)
 
@@ -149,9 +149,9 @@ module _ {C D : Type 0} {ghosts : Ghosts D} (controller : Controller C) (opened 
   new_is : account_of start k (own_commits k mine ++ commit k q p ∷ []) now after ≡ new
   new_is = ap (λ cs. account_of start k cs now after) (sym (own_more k mine q p))
 
-  pub answered_ok : (r : Receipt) → p.answer ≡ Ok r → r.group_last ≤ last_of start now → Wrote settings old q.batch.records q.options r.first r.group_last new
-  answered_ok r ok reached = subst (Wrote settings old q.batch.records q.options r.first r.group_last) new_is
-      (wrote start k (own_commits k mine) (commit k q p) seen now sees known after more (map commit_of handled) kept.answered is settings r.first r.group_last (ap answer_in ok) passed (subst (IsAbove (last_of start seen)) ok above) reached)
+  pub answered_ok : (r : Receipt) → p.answer ≡ Ok r → r.group_last ≤ last_of start now → Wrote settings old q.batch.records q.options r.run.first r.group_last new
+  answered_ok r ok reached = subst (Wrote settings old q.batch.records q.options r.run.first r.group_last) new_is
+      (wrote start k (own_commits k mine) (commit k q p) seen now sees known after more (map commit_of handled) kept.answered is settings r.run.first r.group_last (ap answer_in ok) passed (subst (IsAbove (last_of start seen)) ok above) reached)
 
   -- the note of a reply is seen, and so is the delay that it shows
   noted_after : (note : Option Note) → IfSome note (λ (n : Note). IsNoteOf controller n × (seen_by_note n ≡ seen_for p)) → IfSome note (λ (n : Note). IsPrefix (seen_by_note n) after) → (n : Note) → note ≡ Some n → IsPrefix (seen_for p) after
@@ -187,10 +187,10 @@ module _ {C D : Type 0} {ghosts : Ghosts D} (controller : Controller C) (opened 
   answered_err e err = refuses_late settings old q.batch.records q.options e.why new passed (inr (refused_by e.why e refl err (subst (ComesBack q.batch) err back).1))
 
   -- a batch that was to be synced was, by one of the calls that wrote the log
-  pub answered_synced : (r : Receipt) → p.answer ≡ Ok r → q.options.sync ≡ true → (calls : List GroupCall) × (log : LogWriter D ghosts) × LogWrote opened calls log × IsSyncedBy r.first q.batch.records calls
+  pub answered_synced : (r : Receipt) → p.answer ≡ Ok r → q.options.sync ≡ true → (calls : List GroupCall) × (log : LogWriter D ghosts) × LogWrote opened calls log × IsSyncedBy r.run.first q.batch.records calls
   answered_synced r ok sync =
       let w = kept.written in
-      let h = have_synced start k (map commit_of handled) (own_commits k mine) (commit k q p) w.worked r.first r.group_last kept.answered w.parts is (ap answer_in ok) sync (logged_if settings.batch_bytes (holds_stop (tokens_of k known)) q.batch.records q.options passed sync) in
+      let h = have_synced start k (map commit_of handled) (own_commits k mine) (commit k q p) w.worked r.run.first r.group_last kept.answered w.parts is (ap answer_in ok) sync (logged_if settings.batch_bytes (holds_stop (tokens_of k known)) q.batch.records q.options passed sync) in
       (w.calls, w.log, w.wrote, record { front = h.front; call = h.call; rest = h.rest ++ w.lost; there = w.both ∙ (ap (λ (l : List GroupCall). l ++ w.lost) h.there ∙ append_assoc h.front (h.call ∷ h.rest) w.lost); is = h.is })
 
   -- all that the client concludes
@@ -216,7 +216,7 @@ last_later : (start : ℕ) (xs ys : List (List MemberVersions)) → Begins xs ys
 last_later start xs ys b = let e = ap (λ l. length (versions_of l)) b.1 ∙ (ap length (versions_append xs b.0) ∙ length-append (versions_of xs) (versions_of b.0)) in omega (arith, e)
 
 above_all : (m n : ℕ) (answer : Result Receipt Refused) → m ≤ n → IsAbove n answer → IsAbove m answer
-above_all m n (Ok r) low above = let a : n < r.first = above in omega (arith, low, a)
+above_all m n (Ok r) low above = let a : n < r.run.first = above in omega (arith, low, a)
 above_all m n (Err e) low above = λ last is. let a : n ≤ last = above last is in omega (arith, low, a)
 
 -- an answer above what a client was shown is above all that it had seen before

@@ -14,7 +14,7 @@ use Rattle.table_rule.specs.Histories.{In}
 use Rattle.table_calls.specs.Account.{IsReady, IsClosing as IsTableClosing}
 use Rattle.line_rule.specs.declared.view.Handling.{Handling}
 use Rattle.line_rule.specs.Chain.{of}
-use Rattle.line_writers.specs.Seats.{bound_of, table_of, clients_of, about_of, told, AllOut, HasClient, AllThere, Merged}
+use Rattle.line_writers.specs.Seats.{bound_of, table_of, clients_of, about_of, answers_told, AllOut, HasClient, AllThere, Merged}
 use Rattle.engine_groups.specs.Meaning.{Meaning}
 use Rattle.engine_parts.specs.declared.requests.Request.{Request}
 use Rattle.engine_parts.specs.declared.requests.Answer.{Answer}
@@ -117,9 +117,9 @@ module _ {D T C G S U P : Type 0} {ghosts : Ghosts D} (meaning : Meaning T S U P
       let set = is_engine in
       subst (λ (z : T × ℕ × ℕ × ℕ). StandsFor our_turn history z.0 (opened_log e) z.1 z.2 z.3 asked log turn last handled) (λ i. (set.table i, set.start i, set.about_clients i, set.group_bytes i)) s
 
-  merged_at : (handled : List (Handling Request Answer)) (xs : List (EngineClient D T C S U P ghosts)) → Merged handled (map writer_in xs) → (i : ℕ) (c : EngineClient D T C S U P ghosts) → slice_get xs i ≡ Some c → of c.writer.client handled ≡ told c.writer
+  merged_at : (handled : List (Handling Request Answer)) (xs : List (EngineClient D T C S U P ghosts)) → Merged handled (map writer_in xs) → (i : ℕ) (c : EngineClient D T C S U P ghosts) → slice_get xs i ≡ Some c → of c.writer.client handled ≡ answers_told c.writer
   merged_at handled [] m i c at = absurd (cc)
-  merged_at handled (x ∷ xs) m zero c at = let is : x ≡ c = cc in subst (λ (z : EngineClient D T C S U P ghosts). of z.writer.client handled ≡ told z.writer) is m.0
+  merged_at handled (x ∷ xs) m zero c at = let is : x ≡ c = cc in subst (λ (z : EngineClient D T C S U P ghosts). of z.writer.client handled ≡ answers_told z.writer) is m.0
   merged_at handled (x ∷ xs) m (suc i) c at = merged_at handled xs m.1 i c at
 
   pub accounts_number : length (map (account_in meaning) cs) ≡ clients_of e.list
@@ -136,7 +136,7 @@ module _ {D T C G S U P : Type 0} {ghosts : Ghosts D} (meaning : Meaning T S U P
       part i c at =
           let f = fit i c at in
           let number : c.number ≡ i + 1 = (all.each i c at).1 in
-          let own : own_commits c.number (told c.writer) ≡ commits_of (i + 1) (map commit_of handled) =
+          let own : own_commits c.number (answers_told c.writer) ≡ commits_of (i + 1) (map commit_of handled) =
           ap (own_commits c.number) (sym (ap (λ k. of k handled) (sym f.seated.number) ∙ merged_at handled cs merged i c at)) ∙ (sym (commits_told c.number handled) ∙ ap (λ k. commits_of k (map commit_of handled)) number) in
           record {
             seen = (meaning.account c.seat).seen;

@@ -16,7 +16,7 @@ use Rattle.line_writers.specs.declared.writer.Role.{Role}
 use Rattle.line_writers.specs.declared.writer.Role.TheVariants.{LogLeader, Done}
 use Rattle.line_writers.specs.declared.writer.Writer.{Writer}
 use Rattle.line_writers.specs.declared.line_writers.WriterList.{WriterList}
-use Rattle.line_writers.specs.Seats.{about_of, told, told_in_first, Belongs, HasGroup}
+use Rattle.line_writers.specs.Seats.{about_of, answers_told, told_in_first, Belongs, HasGroup}
 use Rattle.line_writers.specs.declared.writer.Task.{Task}
 use Rattle.line_writers.specs.declared.writer.Task.TheVariants.{Awaits, Leads as Leads_, Helps, Queues, Serves}
 use Rattle.line_writers.specs.Roles.{asks, pays, IsLinked, Becomes}
@@ -191,10 +191,10 @@ fresh_same c c' own own' seen seen' mine mine' e =
 
 -- the same writer by another name
 module _ {L M : Type 0} where
-  pub has_as : (wanted : Request → ℕ → Type 0) (n max : ℕ) (own : QueuedWriter Request) (group left : List (QueuedWriter Request)) (seen : List (Handling Request Answer)) (m : List (Request × Answer)) (w w' : Writer Request Answer L M) → w' ≡ w → told w ≡ m
-      → HasGroup wanted n max own group left seen m w → HasGroup wanted n max own group left seen (told w') w'
+  pub has_as : (wanted : Request → ℕ → Type 0) (n max : ℕ) (own : QueuedWriter Request) (group left : List (QueuedWriter Request)) (seen : List (Handling Request Answer)) (m : List (Request × Answer)) (w w' : Writer Request Answer L M) → w' ≡ w → answers_told w ≡ m
+      → HasGroup wanted n max own group left seen m w → HasGroup wanted n max own group left seen (answers_told w') w'
   has_as wanted n max own group left seen m w w' same told_is has =
-      subst (λ (x : Writer Request Answer L M). HasGroup wanted n max own group left seen (told x) x) (sym same) (subst (λ (y : List (Request × Answer)). HasGroup wanted n max own group left seen y w) (sym told_is) has)
+      subst (λ (x : Writer Request Answer L M). HasGroup wanted n max own group left seen (answers_told x) x) (sym same) (subst (λ (y : List (Request × Answer)). HasGroup wanted n max own group left seen y w) (sym told_is) has)
 
   pub belongs_as : {K : Type 0} (list : WriterList Request Answer L M K) (w w' : Writer Request Answer L M) → w' ≡ w → Belongs list w → Belongs list w'
   belongs_as list w w' same h = subst (λ (x : Writer Request Answer L M). Belongs list x) (sym same) h

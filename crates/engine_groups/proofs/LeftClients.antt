@@ -6,7 +6,7 @@ use Rattle.line_rule.specs.declared.view.QueuedWriter.{QueuedWriter}
 use Rattle.line_rule.specs.declared.view.Handling.{Handling}
 use Rattle.line_rule.specs.Chain.{all_answers}
 use Rattle.line_writers.specs.Rooms.{AreReady}
-use Rattle.line_writers.specs.Seats.{client_of, clients_of, told, Belongs, IsOut}
+use Rattle.line_writers.specs.Seats.{client_of, clients_of, answers_told, Belongs, IsOut}
 use Rattle.engine_controller.specs.Passes.{seen_by, IsPassOf, client_of as pass_client}
 use Rattle.engine_rule.specs.Asked.{HasAsked}
 use Rattle.engine_groups.specs.Meaning.{Meaning}
@@ -26,7 +26,7 @@ roomy n layout l none = record { clear = (l.no_numberings, l.no_batches, none, l
 
 module _ {D T C G S U P : Type 0} {ghosts : Ghosts D} (meaning : Meaning T S U P) (e : GroupEngine D T C G S U P ghosts)
     (number start : ℕ) (mine : List (Request × Answer)) (own : QueuedWriter Request) (seen : List (Handling Request Answer)) (w : EngineClient D T C S U P ghosts) (leadership : Leadership D T C S U P ghosts) (l : IsToLeave meaning e number start mine own seen w leadership) where
-  pub left_client : (w' : EngineClient D T C S U P ghosts) → w'.number ≡ w.number → w'.start ≡ w.start → Belongs e.list w'.writer → client_of w'.writer ≡ client_of w.writer → IsOut w'.writer → told w'.writer ≡ mine ++ (own.asked, l.p) ∷ []
+  pub left_client : (w' : EngineClient D T C S U P ghosts) → w'.number ≡ w.number → w'.start ≡ w.start → Belongs e.list w'.writer → client_of w'.writer ≡ client_of w.writer → IsOut w'.writer → answers_told w'.writer ≡ mine ++ (own.asked, l.p) ∷ []
       → meaning.ours e.table w'.seat → IsReady (meaning.account w'.seat) → (meaning.account w'.seat).number ≡ (meaning.account w.seat).number → w'.pass ≡ w.pass → AreReady (clients_of e.list) w'.lists → IsRoomy (clients_of e.list) w'.layout
       → IsClientOf meaning e w'
   left_client w' same_number same_start belongs client out told_now seat ready seat_number pass lists layout =

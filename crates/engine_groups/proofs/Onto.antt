@@ -1,5 +1,5 @@
 -- A leader that puts its group into the table in a stage of its own.
-use Rattle.std.proofs.Common.{◌≡◌, ℕ, ◌≤◌, Bool, true, false, cond, ◌==◌, map, List, [], ◌∷◌, ◌++◌, Option, Some, None, Result, Ok, Err, refl, sym, ap, ◌∙◌, subst, arith}
+use Rattle.std.proofs.Common.{◌≡◌, ℕ, ◌+◌, ◌-◌, ◌≤◌, Bool, true, false, cond, ◌==◌, map, List, [], ◌∷◌, ◌++◌, Option, Some, None, Result, Ok, Err, refl, sym, ap, ◌∙◌, subst, arith}
 use Rattle.std.specs.List.{AllByRecursion}
 use Rattle.std.proofs.lemmas.Bool.{ne_eqb}
 use Rattle.base_devices.specs.declared.disk.Disk.{Ghosts}
@@ -46,10 +46,10 @@ refused_has_none c (LogFault n) more = refl
 refused_has_none c (SequenceFull l) more = refl
 
 given_by : (h : Handling Request Answer) (gs : List (Handling Request Answer)) (more : List Commit) (last : ℕ) (dead : Option ℕ) (batch : Contents) (r : Result Receipt Refused) → map commit_of gs ≡ more → ComesBack batch r → IsAnswer last dead (count_of batch.records) (answer_in r)
-    → map commit_of (cond ((run_in (λ (r : Receipt). (r.first, r.count)) r).1 == 0) gs (h ∷ gs)) ≡ if_accepted (commit_of h) (answer_in r) ++ more
+    → map commit_of (cond ((run_in r).1 == 0) gs (h ∷ gs)) ≡ if_accepted (commit_of h) (answer_in r) ++ more
 given_by h gs more last dead batch (Ok r) same back ok =
-    let count : r.count ≡ count_of batch.records = back.1 in let some : 1 ≤ count_of batch.records = ok.1 in
-    ap (λ b. map commit_of (cond b gs (h ∷ gs))) (ne_eqb r.count 0 (λ e. omega (arith, e, count, some))) ∙ ap (λ l. commit_of h ∷ l) same
+    let end : r.run.last + 1 ≡ r.run.first + count_of batch.records = back.1 in let some : 1 ≤ count_of batch.records = ok.1 in
+    ap (λ b. map commit_of (cond b gs (h ∷ gs))) (ne_eqb (r.run.last + 1 - r.run.first) 0 (λ e. omega (arith, e, end, some))) ∙ ap (λ l. commit_of h ∷ l) same
 given_by h gs more last dead batch (Err e) same back ok = same ∙ refused_has_none (commit_of h) e.why more
 
 -- those of the handled that were given runs are those that were accepted

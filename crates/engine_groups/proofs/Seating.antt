@@ -1,9 +1,13 @@
 -- How the clients of an opened engine are made of their writers and seats.
-use Rattle.std.proofs.Common.{◌≡◌, inl, inr, ℕ, zero, suc, ◌+◌, map, slice_get, List, [], ◌∷◌, ◌++◌, Some, length, vec_len, Vec, refl, ap, sym, ◌∙◌, subst, ⊎_elim, arith}
+use Rattle.std.proofs.Common.{◌≡◌, inl, inr, ℕ, zero, suc, ◌+◌, ◌-◌, map, slice_get, List, [], ◌∷◌, ◌++◌, Some, length, length-append, reverse, vec_len, Vec, refl, ap, sym, ◌∙◌, subst, ⊎_elim, arith}
+use Rattle.std.proofs.lemmas.List.{reverse-append}
 use Rattle.std.specs.List.{range_with_len}
 use Rattle.base_devices.specs.declared.disk.Disk.{Ghosts}
 use Rattle.table_rule.specs.Histories.{In}
 use Rattle.table_calls.specs.Account.{IsReady}
+use Rattle.atomic_table.specs.Seated.{TableId}
+use Rattle.line_writers.specs.declared.writer.Writer.{Writer}
+use Rattle.line_writers.specs.Roles.{IsNew, AreNew}
 use Rattle.line_writers.specs.Seats.{clients_of}
 use Rattle.engine_controller.specs.declared.controller.Controller.{Controller}
 use Rattle.engine_controller.specs.declared.pass.Pass.{Pass}
@@ -14,6 +18,33 @@ use Rattle.engine_groups.specs.declared.engine.GroupEngine.{GroupEngine}
 use Rattle.engine_groups.specs.declared.engine.EngineClient.{EngineClient}
 use Rattle.engine_groups.specs.Clients.{IsClientOf, account_in}
 use Rattle.engine_groups.specs.AtStart.{AreSeatsAtStart, ArePassesAtStart, IsPassAtStart, IsNewcomer, AreNewcomers}
+
+-- a list that is popped
+
+pub reverse_last : {A : Type 0} (xs : List A) (x : A) → reverse (xs ++ x ∷ []) ≡ x ∷ reverse xs
+reverse_last xs x = reverse-append xs (x ∷ [])
+
+pub length_last : {A : Type 0} (xs ys : List A) (x : A) → ys ≡ xs ++ x ∷ [] → length ys ≡ suc (length xs)
+length_last xs ys x is = let a = ap length is in let b = length-append xs (x ∷ []) in omega (arith, a, b)
+
+-- what holds of all holds of the last, and of the others
+pub all_last : {A : Type 0} (P : A → Type 0) (All : List A → Type 0) → All [] → ((x : A) (xs : List A) → All (x ∷ xs) → P x × All xs) → ((x : A) (xs : List A) → P x → All xs → All (x ∷ xs))
+    → (xs : List A) (x : A) → All (xs ++ x ∷ []) → All xs × P x
+all_last P All none part join [] x all = (none, (part x [] all).0)
+all_last P All none part join (y ∷ xs) x all =
+    let t = part y (xs ++ x ∷ []) all in let rest = all_last P All none part join xs x t.1 in
+    (join y xs t.0 rest.0, rest.1)
+
+-- the last of the writers, turned round, is the first of them
+pub writers_split : {Request Reply Log Right : Type 0} (table : TableId) (all front : List (Writer Request Reply Log Right)) (w : Writer Request Reply Log Right)
+    → all ≡ front ++ w ∷ [] → AreNew table (length all) (reverse all)
+    → AreNew table (length front) (reverse front) × IsNew table (suc (length front)) w
+writers_split {Request} {Reply} {Log} {Right} table all front w is new =
+    let r : ℕ = length front in
+    let turned : reverse all ≡ w ∷ reverse front = ap reverse is ∙ reverse_last front w in
+    let all_new : AreNew table (suc r) (reverse all) = subst (λ k. AreNew table k (reverse all)) (length_last front all w is) new in
+    let parts : IsNew table (suc r) w × AreNew table (suc r - 1) (reverse front) = subst (λ (l : List (Writer Request Reply Log Right)). AreNew table (suc r) l) turned all_new in
+    (subst (λ k. AreNew table k (reverse front)) (let k : suc r - 1 ≡ r = omega arith in k) parts.1, parts.0)
 
 -- the numbers of the seats
 

@@ -6,14 +6,14 @@ use Rattle.line_rule.specs.Plays.{Sat}
 use Rattle.line_writers.specs.declared.writer.Writer.{Writer}
 use Rattle.line_writers.specs.declared.line_writers.WriterList.{WriterList}
 use Rattle.line_writers.specs.Roles.{Chosen}
-use Rattle.line_writers.specs.Seats.{Belongs, IsChosen, StandsStill, clients_of, told, told_in_first}
+use Rattle.line_writers.specs.Seats.{Belongs, IsChosen, StandsStill, clients_of, answers_told, told_in_first}
 
 module _ {Q P L M K : Type 0} (new old : Writer Q P L M) (still : StandsStill new old) where
   pub belongs_still : (list : WriterList Q P L M K) → Belongs list old → Belongs list new
   belongs_still list b = (still.0.0 ∙ b.0, subst (λ (n : ℕ). 0 < n) (sym still.0.1) b.1, subst (λ (n : ℕ). n ≤ clients_of list) (sym still.0.1) b.2)
 
 module _ {Q P L M : Type 0} (new old : Writer Q P L M) (still : StandsStill new old) where
-  pub told_still : told new ≡ told old
+  pub told_still : answers_told new ≡ answers_told old
   told_still = ap (λ (m : Sat Q P L M). told_in_first m.0) still.2
 
   pub chosen_still : (own : QueuedWriter Q) (seen : List (Handling Q P)) (mine : List (Q × P)) → IsChosen own seen mine old → IsChosen own seen mine new

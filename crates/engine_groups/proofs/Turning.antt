@@ -64,7 +64,7 @@ group_made seen new published g before after =
     append_cancel_left (versions_of published) (versions_in g) (made_by versions_made ds) (sym now ∙ ap (λ l. l ++ made_by versions_made ds) was)
 
 -- who has no run is given none
-none_by : (h : Handling Request Answer) (gs : List (Handling Request Answer)) (r : Result Receipt Refused) → HasNoRun (answer_in r) → cond ((run_in (λ (r : Receipt). (r.first, r.count)) r).1 == 0) gs (h ∷ gs) ≡ gs
+none_by : (h : Handling Request Answer) (gs : List (Handling Request Answer)) (r : Result Receipt Refused) → HasNoRun (answer_in r) → cond ((run_in r).1 == 0) gs (h ∷ gs) ≡ gs
 none_by h gs (Ok r) none = absurd none
 none_by h gs (Err e) none = refl
 

@@ -15,7 +15,7 @@ use Rattle.engine_controller.specs.declared.controller.Controller.{Controller}
 use Rattle.engine_controller.specs.declared.pass.Pass.{Pass}
 use Rattle.engine_controller.specs.Passes.{seen_by, IsPassOf, IsOthersOf, clients_of as controller_clients, client_of as pass_client}
 use Rattle.line_writers.specs.Rooms.{AreReady}
-use Rattle.line_writers.specs.Seats.{bound_of, client_of, clients_of, about_of, start_of, piped_of, Belongs, IsOut, told}
+use Rattle.line_writers.specs.Seats.{bound_of, client_of, clients_of, about_of, start_of, piped_of, Belongs, IsOut, answers_told}
 use Rattle.model_accounts.specs.Accounts.{Account}
 use Rattle.engine_rule.specs.Commits.{Commit}
 use Rattle.engine_rule.specs.Asked.{HasAsked}
@@ -38,7 +38,7 @@ own_commits client (t ∷ ts) = commit_of (record { by = client; asked = t.0; re
 
 module _ {Device Versions Time Seat Turn Part : Type 0} {ghosts : Ghosts Device} where
   abbrev pub told_of : EngineClient Device Versions Time Seat Turn Part ghosts → List (Request × Answer)
-  told_of c = told c.writer
+  told_of c = answers_told c.writer
 
   -- the engine's log as it was opened
   abbrev pub opened_log : {Watch : Type 0} → GroupEngine Device Versions Time Watch Seat Turn Part ghosts

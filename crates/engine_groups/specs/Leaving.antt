@@ -10,7 +10,7 @@ use Rattle.line_rule.specs.Chain.{heads, all_answers, of}
 use Rattle.line_rule.specs.Laws.{asks_for, last_run}
 use Rattle.line_writers.specs.Roles.{AreMembers, pays}
 use Rattle.line_writers.specs.Rooms.{HasRoom, TakesRequests}
-use Rattle.line_writers.specs.Seats.{bound_of, about_of, client_of, clients_of, flat_of, start_of, told, Belongs, HasGroup}
+use Rattle.line_writers.specs.Seats.{bound_of, about_of, client_of, clients_of, flat_of, start_of, answers_told, Belongs, HasGroup}
 use Rattle.engine_controller.specs.declared.controller.Controller.{Controller}
 use Rattle.engine_controller.specs.Passes.{seen_by}
 use Rattle.engine_rule.specs.Asked.{HasAsked}
@@ -55,8 +55,8 @@ module _ {Device Versions Time Watch Seat Turn Part : Type 0} {ghosts : Ghosts D
       pub has : HasGroup (asks_for (λ (q : Request). item_with q.batch.records q.options)
           (λ (a : EngineAtOpening Device Versions Time ghosts) (q : Request). IsNoted a.controller.value q)
           (about_of e.list))
-          (clients_of e.list) (bound_of e.list) own group left seen (told w.writer) w.writer
-      pub told_is : told w.writer ≡ mine
+          (clients_of e.list) (bound_of e.list) own group left seen (answers_told w.writer) w.writer
+      pub told_is : answers_told w.writer ≡ mine
       pub heads_are : heads gs ≡ group
       pub pays_are : w.lists.replies.list.items ≡ pays own p gs
       pub stands : LeadershipStandsFor meaning (about_of e.list) leadership (seen ++ all_answers own p gs)

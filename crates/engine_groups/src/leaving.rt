@@ -46,8 +46,8 @@ impl<
         ensures same { (client.new.number ≡ client.old.number) × (client.new.start ≡ client.old.start)
             × (client.new.seat ≡ client.old.seat) × (client.new.pass ≡ client.old.pass) }
     {
-        // Each reply lies in its member's slot before the log goes on, so that who is told has it at once. The log goes on
-        // before any member is told: the next leader works while they wake.
+        // Each reply lies in its member's slot before the log goes on, so that who is told has it at once. The log goes
+        // on before any member is told: the next leader works while they wake.
         self.list.exit(
             &mut client.writer,
             leadership,

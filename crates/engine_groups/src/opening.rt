@@ -1,6 +1,6 @@
 //! How an engine is opened.
 
-ghost use Rattle.std.specs.Prelude.{true, false, ◌≡◌, ◌⊎◌, ◌≤◌, ◌<◌, ◌+◌, ℕ, [], ◌∷◌, ◌++◌, length, vec_len, vec_capacity, MatchOption, IfOk, IfErr, None, Some, slice_get};
+ghost use Rattle.std.specs.Prelude.{true, false, ◌≡◌, ◌⊎◌, ◌≤◌, ◌<◌, ◌+◌, ℕ, [], length, vec_capacity, IfOk, IfErr, None, Some, slice_get};
 ghost use Rattle.model_base.specs.History.{max_sequence};
 ghost use Rattle.log_writer.specs.Words.{disk_of};
 ghost use Rattle.log_writer.specs.Opening.{HasOpened};
@@ -22,7 +22,7 @@ use crate::leader::{EngineAtOpening, Leadership, Right, one_turn};
 use base_devices::{Clock, Disk};
 use engine_calls::{Clients, Gate};
 use engine_controller::{Controller, Note, Pass, Passes};
-use engine_parts::{Answer, Layout, LogPath, Request, take_first};
+use engine_parts::{Answer, Layout, LogPath, Request};
 use line_rule::Start;
 use line_writers::{Lists, Writer, WriterList};
 use log_writer::LogWriter;
@@ -63,27 +63,6 @@ impl<Device: Disk, Versions: Table<Nodes, Parts>, Time, Watch> OpenRefused<
             seats,
             gate,
         }
-    }
-}
-
-/// Takes the last item out.
-fn take_last<Element>(items: &mut Vec<Element>) -> Option<Element>
-    ensures last { MatchOption result ((items.old.items ≡ []) × (items.new.items ≡ []))
-        (λ x. items.old.items ≡ items.new.items ++ x ∷ []) }
-    ensures room { vec_capacity items.new ≡ vec_capacity items.old }
-{
-    items.pop()
-}
-
-/// Puts an item before the others, for which there is room.
-fn put_first<Element>(items: &mut Vec<Element>, item: Element)
-    requires { vec_len items.old < vec_capacity items.old }
-    ensures first { items.new.items ≡ item ∷ items.old.items }
-    ensures room { vec_capacity items.new ≡ vec_capacity items.old }
-{
-    match items.insert(0, item) {
-        Ok(()) => {}
-        Err(_) => unreachable!(),
     }
 }
 
@@ -319,8 +298,8 @@ impl<
         }
     }
 
-    /// Makes a client of each writer, seat and pass. The writers come by falling numbers, and seats and passes by
-    /// rising ones. What they stood in is the room for closing.
+    /// Makes a client of each writer, seat and pass. The writers come by falling numbers; seats, passes and clients
+    /// stand by rising ones. What they stood in is the room for closing.
     fn seat_all(
         &self,
         start: u64,
@@ -352,24 +331,26 @@ impl<
             clients: mut passes,
             others,
         } = passes;
-        // The clients so far are newcomers, and have the numbers above those of the writers that are left.
-        while let Some(writer) = take_first(&mut writers) {
-            let Some(seat) = take_last(&mut seats) else {
+        writers.reverse();
+        // The clients so far are newcomers, greatest number first, with the numbers above those of the writers left.
+        while let Some(writer) = writers.pop() {
+            let Some(seat) = seats.pop() else {
                 unreachable!()
             };
-            let Some(pass) = take_last(&mut passes) else {
+            let Some(pass) = passes.pop() else {
                 unreachable!()
             };
-            let Some(lists) = take_first(&mut lists) else {
+            let Some(lists) = lists.pop() else {
                 unreachable!()
             };
-            let Some(layout) = take_first(&mut layouts) else {
+            let Some(layout) = layouts.pop() else {
                 unreachable!()
             };
             let number = writers.len() as u32 + 1;
             let client = self.seat_one(number, start, writer, seat, pass, lists, layout);
-            put_first(&mut clients, client);
+            clients.push_reserved(client);
         }
+        clients.reverse();
         let room = ClosingRoom {
             writers,
             seats,

@@ -3,7 +3,7 @@
 ghost use Rattle.std.specs.Prelude.{◌≡◌};
 ghost use Rattle.table_rule.specs.Histories.{Begins};
 ghost use Rattle.table_calls.specs.Account.{IsReady};
-ghost use Rattle.line_writers.specs.Seats.{Belongs, HasRole, IsIn, client_of, told};
+ghost use Rattle.line_writers.specs.Seats.{Belongs, HasRole, IsIn, client_of, answers_told};
 ghost use Rattle.engine_parts.specs.declared.requests.Request.{Request as Asked};
 ghost use Rattle.engine_groups.specs.Law.{kept_in, law_in};
 
@@ -33,13 +33,13 @@ impl<
         seat: &mut Versions::Seat,
     ) -> Role<Leadership<Device, Versions, Time>, Answer>
         requires list { Belongs self.now.list writer.old
-            × ((q : Asked) × IsIn (law_in Versions.Table self.now.list) q (told writer.old) writer.old) }
+            × ((q : Asked) × IsIn (law_in Versions.Table self.now.list) q (answers_told writer.old) writer.old) }
         requires seat { Versions.ours self.now.table seat.old × IsReady (Versions.account seat.old) }
         ensures client { client_of writer.new ≡ client_of writer.old }
         ensures role { Belongs self.now.list writer.new × ((q : Asked)
-            → IsIn (law_in Versions.Table self.now.list) q (told writer.old) writer.old
+            → IsIn (law_in Versions.Table self.now.list) q (answers_told writer.old) writer.old
             → HasRole (law_in Versions.Table self.now.list) (kept_in self.now.list)
-            q (told writer.old) result writer.new) }
+            q (answers_told writer.old) result writer.new) }
         ensures seat { Versions.ours self.now.table seat.new × IsReady (Versions.account seat.new)
             × ((Versions.account seat.new).number ≡ (Versions.account seat.old).number)
             × Begins (Versions.account seat.old).seen (Versions.account seat.new).seen }

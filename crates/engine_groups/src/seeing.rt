@@ -43,7 +43,7 @@ fn is_above(shown: u64, answer: &Result<Receipt, Refused>) -> bool
     ensures { result ≡ true → IsAbove shown answer.now }
 {
     match answer {
-        Ok(receipt) => shown < receipt.first,
+        Ok(receipt) => shown < receipt.run.first,
         Err(refused) => match refused.why {
             Refusal::SequenceFull { last } => shown <= last,
             _ => true,

@@ -2,7 +2,7 @@
 //! comes to lead there (`lead`) serves its group: it asks the write controller, and has the group logged (`serve`,
 //! `log_phase`), has it put into the table, and gives the log on (`leave`, `hand_on`).
 
-ghost use Rattle.std.specs.Prelude.{◌≡◌, true, false, ℕ, List, [], ◌∷◌, ◌++◌, Ok, Err, IfOk, IfErr, IfSome, is_none};
+ghost use Rattle.std.specs.Prelude.{◌≡◌, ◌+◌, true, false, ℕ, List, [], ◌∷◌, ◌++◌, Ok, Err, IfOk, IfErr, IfSome, is_none};
 ghost use Rattle.table_rule.specs.Histories.{Begins};
 ghost use Rattle.line_rule.specs.declared.view.QueuedWriter.{QueuedWriter};
 ghost use Rattle.line_rule.specs.declared.view.Handling.{Handling};
@@ -64,14 +64,14 @@ impl<
         requires { IsClientOf Versions.Table self.now client.old }
         ensures belongs { IsClientOf Versions.Table self.now client.new }
         ensures ok { IfOk result (λ r. Wrote (settings_of Versions.Table self.now)
-            (account_in Versions.Table client.old) batch.records options r.first r.group_last
+            (account_in Versions.Table client.old) batch.records options r.run.first r.group_last
             (account_in Versions.Table client.new)) }
-        ensures back { IfOk result (λ r. (r.batch ≡ record batch { sequence = r.first })
-            × (r.count ≡ model.count_of batch.records)) }
+        ensures back { IfOk result (λ r. (r.batch ≡ record batch { sequence = r.run.first })
+            × (r.run.last + 1 ≡ r.run.first + model.count_of batch.records)) }
         // a batch that was to be synced was written by a call of the log writer that synced
         ensures synced { IfOk result (λ r. options.sync ≡ true → (calls : List GroupCall)
             × (log : Log Device ⟦<Device as Disk>⟧)
-            × WroteLog (opened_log self.now) calls log × IsSyncedBy r.first batch.records calls) }
+            × WroteLog (opened_log self.now) calls log × IsSyncedBy r.run.first batch.records calls) }
         ensures err { IfErr result (λ e. Refuses (settings_of Versions.Table self.now)
             (account_in Versions.Table client.old) batch.records options e.why
             (account_in Versions.Table client.new)) }

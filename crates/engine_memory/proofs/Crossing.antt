@@ -15,6 +15,7 @@ use Rattle.model_base.proofs.write.WriteOptions.TheSendSync as options
 use Rattle.log_batch.proofs.batch.Batch.TheSendSync as batch
 use Rattle.table_tree.specs.contracts.node.Nodes as nodes
 use Rattle.table_tree.specs.contracts.tree.Tree as tree
+use Rattle.table_tree.specs.contracts.gathered.GatheredNodes as gathered
 use Rattle.table_tree.specs.contracts.parts.Parts as parts
 use Rattle.table_tree.specs.contracts.parts.MemberNodes as part
 use Rattle.table_steps.specs.contracts.seat.TableSeat as seat_row
@@ -52,8 +53,11 @@ answer_fields = (search (sendable, receipt.the_send, refused.the_send), (search 
 answer_send : IsSend answer_row.the_row
 answer_send = let C = answer_row.the_type in recorded_send answer_row.the_field.row C.D C.to C.to_one (struct_send (shape C) answer_fields)
 
+gathered_send : IsSend gathered.the_row
+gathered_send = search (sendable, nodes_send) depth 9
+
 part_fields : AllSend (fields part.the_type)
-part_fields = (search sendable, (nodes_send, tt))
+part_fields = (search sendable, (gathered_send, tt))
 
 part_send : IsSend part.the_row
 part_send = let C = part.the_type in recorded_send part.the_field.row C.D C.to C.to_one (struct_send (shape C) part_fields)

@@ -23,25 +23,25 @@ use table_rule::Versioned;
 
 /// Works on the leader's own part of the group that it launched, and waits until the group is published. `end` is the
 /// group's last sequence.
-pub fn await_group<N: Versioned, P: GroupParts<N>, T: Table<N, P>, R: Wait>(
-    rt: &R,
-    table: &T,
-    seat: &mut T::Seat,
-    end: u64,
-) -> T::Turn
-    requires ours { T.ours table.now seat.old }
+pub fn await_group<
+    MemberNodes: Versioned,
+    Parts: GroupParts<MemberNodes>,
+    Versions: Table<MemberNodes, Parts>,
+    R: Wait,
+>(rt: &R, table: &Versions, seat: &mut Versions::Seat, end: u64) -> Versions::Turn
+    requires ours { Versions.ours table.now seat.old }
     requires launched { (number : ℕ) × (seen before : List (List MemberVersions)) × (group : List MemberVersions)
-        × HasLaunched (T.opening table.now).start number seen before group (T.account seat.old)
-        × (end ≡ end_of (last_of (T.opening table.now).start before) group) }
-    ensures ours { T.ours table.now seat.new × T.our_turn table.now result }
+        × HasLaunched (Versions.opening table.now).start number seen before group (Versions.account seat.old)
+        × (end ≡ end_of (last_of (Versions.opening table.now).start before) group) }
+    ensures ours { Versions.ours table.now seat.new × Versions.our_turn table.now result }
     ensures published { (number : ℕ) (seen before : List (List MemberVersions)) (group : List MemberVersions)
-        → HasLaunched (T.opening table.now).start number seen before group (T.account seat.old)
-        → (T.history result ≡ before ++ group ∷ []) × ((T.account seat.new).number ≡ number)
-        × Begins seen (T.account seat.new).seen }
-    ensures ready { IsReady (T.account seat.new) }
-    ensures reached { end ≤ last_of (T.opening table.now).start (T.account seat.new).seen }
+        → HasLaunched (Versions.opening table.now).start number seen before group (Versions.account seat.old)
+        → (Versions.history result ≡ before ++ group ∷ []) × ((Versions.account seat.new).number ≡ number)
+        × Begins seen (Versions.account seat.new).seen }
+    ensures ready { IsReady (Versions.account seat.new) }
+    ensures reached { end ≤ last_of (Versions.opening table.now).start (Versions.account seat.new).seen }
 {
-    work::<N, P, T, R>(rt, table, seat);
+    work::<MemberNodes, Parts, Versions, R>(rt, table, seat);
     table.await_published(rt, seat, end)
 }
 
@@ -54,41 +54,44 @@ pub fn lead<
     Reply: GivesRun,
     Log: LogOfGroups<Request, Reply, Right>,
     Right,
-    N: Versioned,
-    P: GroupParts<N>,
-    T: Table<N, P>,
+    MemberNodes: Versioned,
+    Parts: GroupParts<MemberNodes>,
+    Versions: Table<MemberNodes, Parts>,
     R: Wait,
 >(
     rt: &R,
     list: &WriterList<Request, Reply, Log, Right>,
     writer: &mut Writer<Request, Reply, Log, Right>,
-    table: &T,
-    seat: &mut T::Seat,
-    turn: T::Turn,
+    table: &Versions,
+    seat: &mut Versions::Seat,
+    turn: Versions::Turn,
     members: &[u32],
-    parts: &mut P,
+    parts: &mut Parts,
     end: u64,
-) -> T::Turn
+) -> Versions::Turn
     requires leads { Belongs list.now writer.old × ((d : Debt Request Reply) × (from to : List (Handling Request Reply))
         × (mine : List (Request × Reply)) × HasRight (clients_of list.now) d from to mine writer.old
         × AreMembers (clients_of list.now) members.now d.rest) }
-    requires ours { T.ours table.now seat.old × T.our_turn table.now turn × IsReady (T.account seat.old) }
-    requires next { IsNext (T.opening table.now) (T.history turn) (P.parts parts.old) }
-    requires parts { HaveParts (T.account seat.old).number members.now (P.parts parts.old) }
-    requires end { (end ≡ end_of (last_of (T.opening table.now).start (T.history turn)) (P.parts parts.old))
+    requires ours { Versions.ours table.now seat.old × Versions.our_turn table.now turn
+        × IsReady (Versions.account seat.old) }
+    requires next { IsNext (Versions.opening table.now) (Versions.history turn) (Parts.parts parts.old) }
+    requires parts { HaveParts (Versions.account seat.old).number members.now (Parts.parts parts.old) }
+    requires end { (end
+        ≡ end_of (last_of (Versions.opening table.now).start (Versions.history turn)) (Parts.parts parts.old))
         × (end < 2 ^ 64) }
     ensures client { (client_of writer.new ≡ client_of writer.old) × Belongs list.now writer.new }
     ensures leads { (d : Debt Request Reply) (from to : List (Handling Request Reply)) (mine : List (Request × Reply))
         → HasRight (clients_of list.now) d from to mine writer.old
         → HasRight (clients_of list.now) d from to mine writer.new }
-    ensures ours { T.ours table.now seat.new × T.our_turn table.now result × IsReady (T.account seat.new) }
-    ensures published { T.history result ≡ T.history turn ++ P.parts parts.old ∷ [] }
-    ensures seen { ((T.account seat.new).number ≡ (T.account seat.old).number)
-        × Begins (T.account seat.old).seen (T.account seat.new).seen }
-    ensures reached { end ≤ last_of (T.opening table.now).start (T.account seat.new).seen }
-    ensures emptied { (P.parts parts.new ≡ []) × (P.room parts.new ≡ P.room parts.old) }
+    ensures ours { Versions.ours table.now seat.new × Versions.our_turn table.now result
+        × IsReady (Versions.account seat.new) }
+    ensures published { Versions.history result ≡ Versions.history turn ++ Parts.parts parts.old ∷ [] }
+    ensures seen { ((Versions.account seat.new).number ≡ (Versions.account seat.old).number)
+        × Begins (Versions.account seat.old).seen (Versions.account seat.new).seen }
+    ensures reached { end ≤ last_of (Versions.opening table.now).start (Versions.account seat.new).seen }
+    ensures emptied { (Parts.parts parts.new ≡ []) × (Parts.room parts.new ≡ Parts.room parts.old) }
 {
     table.launch(seat, turn, parts);
     list.launch_roles(writer, members);
-    await_group::<N, P, T, R>(rt, table, seat, end)
+    await_group::<MemberNodes, Parts, Versions, R>(rt, table, seat, end)
 }

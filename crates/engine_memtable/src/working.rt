@@ -12,28 +12,33 @@ use table_rule::Versioned;
 
 /// Waits until the member's own part of a launched group is handed to it, puts it into the table, and finishes. Who
 /// finishes last publishes the group.
-pub fn work<N: Versioned, P: GroupParts<N>, T: Table<N, P>, R: Wait>(
-    rt: &R,
-    table: &T,
-    seat: &mut T::Seat,
-)
-    requires ours { T.ours table.now seat.old }
-    requires free { MayTake (T.account seat.old).stage }
-    ensures ours { T.ours table.now seat.new }
-    ensures works { Works (T.opening table.now) (T.account seat.old) (T.account seat.new) }
+pub fn work<
+    MemberNodes: Versioned,
+    Parts: GroupParts<MemberNodes>,
+    Versions: Table<MemberNodes, Parts>,
+    R: Wait,
+>(rt: &R, table: &Versions, seat: &mut Versions::Seat)
+    requires ours { Versions.ours table.now seat.old }
+    requires free { MayTake (Versions.account seat.old).stage }
+    ensures ours { Versions.ours table.now seat.new }
+    ensures works { Works (Versions.opening table.now) (Versions.account seat.old) (Versions.account seat.new) }
 {
     let part = table.take(rt, seat);
     table.insert(rt, seat, part);
-    finish::<N, P, T>(table, seat);
+    finish::<MemberNodes, Parts, Versions>(table, seat);
 }
 
 /// The member's part is finished. Who finishes last publishes the group.
-fn finish<N: Versioned, P: GroupParts<N>, T: Table<N, P>>(table: &T, seat: &mut T::Seat)
-    requires ours { T.ours table.now seat.old }
-    requires stored { (u : Launched) × ((T.account seat.old).stage ≡ Stored u) }
-    ensures ours { T.ours table.now seat.new }
-    ensures finished { (u : Launched) → (T.account seat.old).stage ≡ Stored u
-        → HasFinished (T.opening table.now).start (T.account seat.old) u (T.account seat.new) }
+fn finish<
+    MemberNodes: Versioned,
+    Parts: GroupParts<MemberNodes>,
+    Versions: Table<MemberNodes, Parts>,
+>(table: &Versions, seat: &mut Versions::Seat)
+    requires ours { Versions.ours table.now seat.old }
+    requires stored { (u : Launched) × ((Versions.account seat.old).stage ≡ Stored u) }
+    ensures ours { Versions.ours table.now seat.new }
+    ensures finished { (u : Launched) → (Versions.account seat.old).stage ≡ Stored u
+        → HasFinished (Versions.opening table.now).start (Versions.account seat.old) u (Versions.account seat.new) }
 {
     match table.finish(seat) {
         Finished::Last => table.publish(seat),

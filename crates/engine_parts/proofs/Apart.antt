@@ -1,13 +1,16 @@
 -- Parts that are apart: each member with a run has its own.
 use Rattle.std.proofs.Common.{◌≡◌, ◌≢◌, ⊎_elim, ℕ, ◌+◌, ◌≤◌, Bool, true, false, cond, not, nat_le, nat_lt, ◌==◌, List, [], ◌∷◌, ◌++◌, length, refl, ap, sym, ◌∙◌, subst, arith, append-nil, length-append}
+use Rattle.std.specs.Prelude.{Result, Ok, Err, is_ok, IfOk}
 use Rattle.std.specs.List.{AllByRecursion}
 use Rattle.std.proofs.lemmas.Bool.{ne_eqb, eq-eqb, le-leb, lt-ltb, le-ltb}
 use Rattle.std.proofs.lemmas.List.Elements.{filter-append}
+use Rattle.model_base.specs.declared.write.Refusal.{Refusal}
 use Rattle.model_base.specs.Batch.{Record, count_of}
 use Rattle.model_base.specs.History.{max_sequence}
+use Rattle.log_batch.specs.declared.run.Run.{Run}
 use Rattle.table_rule.specs.declared.content.MemberVersions.{MemberVersions}
 use Rattle.table_rule.specs.declared.content.Version.{Version}
-use Rattle.table_rule.specs.Batches.{made, numbered}
+use Rattle.table_rule.specs.Batches.{new_versions, number_from}
 use Rattle.table_rule.specs.Histories.{Apart, Members, versions_in}
 use Rattle.table_tree.specs.declared.parts.MemberNodes.{MemberNodes}
 use Rattle.table_tree.specs.Parts.{group_of, with_part}
@@ -21,6 +24,11 @@ use Rattle.engine_parts.specs.Led.{IsLedGroup, LeadsBy}
 use Rattle.engine_parts.specs.Numbering.{AreParts, HasVersions, others_than, parts_with}
 use Rattle.engine_parts.proofs.Replies.{map_append}
 
+-- a run that there is fits
+pub run_fits : (last count : ℕ) (r : Result Run Refusal) → is_ok r ≡ true → IfOk r (λ (run : Run). run.last ≡ last + count) → IfOk r (λ (run : Run). run.last ≤ max_sequence) → last + count ≤ max_sequence
+run_fits last count (Ok run) ok end fits = let e : run.last ≡ last + count = end in let f : run.last ≤ max_sequence = fits in omega (arith, e, f)
+run_fits last count (Err why) ok end fits = absurd (cc ok)
+
 -- a member that has no part yet gets one behind the others
 with_new : (parts : List MemberNodes) (m : ℕ) (vs : List Version) → Apart m (group_of parts) → group_of (with_part parts m vs) ≡ group_of parts ++ record { member = m; versions = vs } ∷ []
 with_new [] m vs out = refl
@@ -30,7 +38,7 @@ pub more_parts : (parts : List MemberNodes) (at client : ℕ) (q : Request) → 
 more_parts parts at client q out = by (nat_le (at + count_of q.batch.records) max_sequence) refl
   where
     by : (b : Bool) → nat_le (at + count_of q.batch.records) max_sequence ≡ b → group_of (parts_with client at q.batch.records parts) ≡ group_of parts ++ part_at at (commit_request_of (client, q))
-    by true e = rw e (with_new parts client (numbered (at + 1) (made q.batch.records)) out)
+    by true e = rw e (with_new parts client (number_from (at + 1) (new_versions q.batch.records)) out)
     by false e = rw e (sym (append-nil (group_of parts)))
 
 apart_append : (m : ℕ) (ps qs : List MemberVersions) → Apart m ps → Apart m qs → Apart m (ps ++ qs)
@@ -105,9 +113,9 @@ each_first clients leader p ps is members = rw (eq-eqb p.member leader is) (λ i
 
 each_at : (clients leader last : ℕ) (q : CommitRequest) (more : List MemberVersions) → q.client ≡ leader → last + count_of q.records ≤ max_sequence → Members clients (part_at last q ++ more) → HaveParts leader (others_than leader (members_of (part_at last q ++ more))) (part_at last q ++ more)
 each_at clients leader last q more is fits members =
-    let e : part_at last q ≡ record { member = q.client; versions = numbered (last + 1) (made q.records) } ∷ [] = rw (le-leb (last + count_of q.records) max_sequence fits) refl in
+    let e : part_at last q ≡ record { member = q.client; versions = number_from (last + 1) (new_versions q.records) } ∷ [] = rw (le-leb (last + count_of q.records) max_sequence fits) refl in
     subst (λ l. HaveParts leader (others_than leader (members_of (l ++ more))) (l ++ more)) (sym e)
-    (each_first clients leader (record { member = q.client; versions = numbered (last + 1) (made q.records) }) more is (subst (λ l. Members clients (l ++ more)) e members))
+    (each_first clients leader (record { member = q.client; versions = number_from (last + 1) (new_versions q.records) }) more is (subst (λ l. Members clients (l ++ more)) e members))
 
 each_from : (clients leader last : ℕ) (xs : List (ℕ × Request)) (x : ℕ × Request) (rest : List (ℕ × Request)) → xs ≡ x ∷ rest → LeadsBy leader xs → last + count_of x.1.batch.records ≤ max_sequence → Members clients (parts_from last (commit_requests_of xs))
     → HaveParts leader (others_than leader (members_of (parts_from last (commit_requests_of xs)))) (parts_from last (commit_requests_of xs))

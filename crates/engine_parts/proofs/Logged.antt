@@ -11,7 +11,7 @@ use Rattle.log_writer.specs.declared.writer.LogWriter.{LogWriter}
 use Rattle.log_writer.specs.Adding.{Adds, call_of, count_of_fault}
 use Rattle.table_rule.specs.declared.content.Version.{Version}
 use Rattle.table_tree.specs.declared.parts.MemberNodes.{MemberNodes}
-use Rattle.table_rule.specs.Batches.{made, numbered}
+use Rattle.table_rule.specs.Batches.{new_versions, number_from}
 use Rattle.engine_parts.specs.declared.requests.Request.{Request}
 use Rattle.engine_parts.specs.declared.requests.Delay.{Delay}
 use Rattle.engine_parts.specs.declared.requests.Answer.{Answer}
@@ -43,7 +43,7 @@ pays_failed delay n [] = tt
 pays_failed delay n (x ∷ xs) = (refl, pays_failed delay n xs)
 
 none_by : (last : ℕ) (a : CommitRequest) (asks : List CommitRequest) (b : Bool) → ((m : ℕ) → batches_from m asks ≡ [] → versions_from m asks ≡ []) → cond b (a.records ∷ []) [] ++ batches_from (cond b (last + count_of a.records) last) asks ≡ []
-    → cond b (numbered (last + 1) (made a.records)) [] ++ versions_from (cond b (last + count_of a.records) last) asks ≡ []
+    → cond b (number_from (last + 1) (new_versions a.records)) [] ++ versions_from (cond b (last + count_of a.records) last) asks ≡ []
 none_by last a asks true more e = absurd (cc)
 none_by last a asks false more e = more last e
 
@@ -52,10 +52,10 @@ no_versions last [] e = refl
 no_versions last (a ∷ asks) e = none_by last a asks (nat_le (last + count_of a.records) max_sequence) (λ m. no_versions m asks) e
 
 some_by : (last : ℕ) (a : CommitRequest) (asks : List CommitRequest) (b : Bool) → 1 ≤ count_of a.records → ((m : ℕ) → 0 < length (batches_from m asks) → 0 < length (versions_from m asks)) → 0 < length (cond b (a.records ∷ []) [] ++ batches_from (cond b (last + count_of a.records) last) asks)
-    → 0 < length (cond b (numbered (last + 1) (made a.records)) [] ++ versions_from (cond b (last + count_of a.records) last) asks)
+    → 0 < length (cond b (number_from (last + 1) (new_versions a.records)) [] ++ versions_from (cond b (last + count_of a.records) last) asks)
 some_by last a asks true one more h =
-    let l = length-append (numbered (last + 1) (made a.records)) (versions_from (last + count_of a.records) asks) in
-    let m = numbered_length (last + 1) (made a.records) ∙ made_length a.records in
+    let l = length-append (number_from (last + 1) (new_versions a.records)) (versions_from (last + count_of a.records) asks) in
+    let m = numbered_length (last + 1) (new_versions a.records) ∙ made_length a.records in
     omega (arith, l, m, one)
 some_by last a asks false one more h = more last h
 

@@ -59,7 +59,7 @@ paid own (e ∷ es) ys h =
 
 -- the number of the list is the sequence given last
 abbrev pub run : Answer → ℕ × ℕ
-run p = run_in (λ (r : Receipt). (r.first, r.count)) p.answer
+run p = run_in p.answer
 
 late_same : (last count : ℕ) (why : Refusal) → last ≡ last_after last count (answer_of_refusal why)
 late_same last count Empty = refl
@@ -72,10 +72,12 @@ late_same last count (LogFault n) = refl
 late_same last count (SequenceFull l) = refl
 
 number_by : (last : ℕ) (dead : Option ℕ) (batch : Contents) (r : Result Receipt Refused) → ComesBack batch r → IsAnswer last dead (count_of batch.records) (answer_in r)
-    → cond ((run_in (λ (r : Receipt). (r.first, r.count)) r).1 == 0) last ((run_in (λ (r : Receipt). (r.first, r.count)) r).0 + (run_in (λ (r : Receipt). (r.first, r.count)) r).1 - 1) ≡ last_after last (count_of batch.records) (answer_in r)
+    → cond ((run_in r).1 == 0) last ((run_in r).0 + (run_in r).1 - 1) ≡ last_after last (count_of batch.records) (answer_in r)
 number_by last dead batch (Ok r) back ok =
-    let count : r.count ≡ count_of batch.records = back.1 in let some : 1 ≤ count_of batch.records = ok.1 in let first : r.first ≡ last + 1 = ok.2 in
-    ap (λ b. cond b last (r.first + r.count - 1)) (ne_eqb r.count 0 (λ e. omega (arith, e, count, some))) ∙ omega (arith, count, some, first)
+    let first : r.run.first ≡ last + 1 = ok.2 in let some : 1 ≤ count_of batch.records = ok.1 in let end : r.run.last + 1 ≡ r.run.first + count_of batch.records = back.1 in
+    let count : ℕ = r.run.last + 1 - r.run.first in
+    let counted : count ≡ count_of batch.records = omega (arith, end) in
+    ap (λ b. cond b last (r.run.first + count - 1)) (ne_eqb count 0 (λ e. omega (arith, e, counted, some))) ∙ omega (arith, counted, some, first)
 number_by last dead batch (Err e) back ok = late_same last (count_of batch.records) e.why
 
 pub number_is : (last : ℕ) (dead : Option ℕ) (hs : List (Handling Request Answer)) → AllByRecursion HandsBack hs → AreAnswered last dead (map commit_of hs) → last_run run last hs ≡ last_after_all last (map commit_of hs)

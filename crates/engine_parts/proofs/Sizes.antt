@@ -2,6 +2,7 @@
 use Rattle.std.proofs.Common.{◌≡◌, ℕ, suc, ◌+◌, ◌*◌, ◌≤◌, Bool, true, false, cond, nat_le, List, [], ◌∷◌, ◌++◌, length, refl, arith, length-append}
 use Rattle.std.proofs.lemmas.Bool.{leb-true}
 use Rattle.std.proofs.lemmas.List.Sums.{sum_by-cons}
+use Rattle.model_base.specs.declared.limits.TheConstants.{MAX_SIZE}
 use Rattle.model_base.specs.Batch.{Record, value, deletion, single_deletion, log_data, is_counted, count_of, record_bytes, body}
 use Rattle.model_base.specs.History.{max_sequence}
 use Rattle.log_batch.specs.Contents.{Contents}
@@ -34,8 +35,8 @@ many c = count_of c.records
 abbrev long : Contents → ℕ
 long c = length (body c.records)
 
-small_by : (last : ℕ) (x : ℕ × Request) (xs : List (ℕ × Request)) (b : Bool) → ((m : ℕ) → (counts_of (batches_of m xs) ≤ 16777216 * length xs) × (body_lens_of (batches_of m xs) ≤ 16777216 * length xs))
-    → (counts_of (cond b (record x.1.batch { sequence = last + 1 } ∷ []) [] ++ batches_of (cond b (last + count_of x.1.batch.records) last) xs) ≤ 16777216 * suc (length xs)) × (body_lens_of (cond b (record x.1.batch { sequence = last + 1 } ∷ []) [] ++ batches_of (cond b (last + count_of x.1.batch.records) last) xs) ≤ 16777216 * suc (length xs))
+small_by : (last : ℕ) (x : ℕ × Request) (xs : List (ℕ × Request)) (b : Bool) → ((m : ℕ) → (counts_of (batches_of m xs) ≤ MAX_SIZE * length xs) × (body_lens_of (batches_of m xs) ≤ MAX_SIZE * length xs))
+    → (counts_of (cond b (record x.1.batch { sequence = last + 1 } ∷ []) [] ++ batches_of (cond b (last + count_of x.1.batch.records) last) xs) ≤ MAX_SIZE * suc (length xs)) × (body_lens_of (cond b (record x.1.batch { sequence = last + 1 } ∷ []) [] ++ batches_of (cond b (last + count_of x.1.batch.records) last) xs) ≤ MAX_SIZE * suc (length xs))
 small_by last x xs true more =
     let m = last + count_of x.1.batch.records in let t = more m in
     let e = sum_by-cons many (record x.1.batch { sequence = last + 1 }) (batches_of m xs) in let l = sum_by-cons long (record x.1.batch { sequence = last + 1 }) (batches_of m xs) in
@@ -43,7 +44,7 @@ small_by last x xs true more =
     (omega (arith, e, c, s, t.0), omega (arith, l, s, t.1))
 small_by last x xs false more = let t = more last in (omega (arith, t.0), omega (arith, t.1))
 
-pub are_small : (last : ℕ) (xs : List (ℕ × Request)) → (counts_of (batches_of last xs) ≤ 16777216 * length xs) × (body_lens_of (batches_of last xs) ≤ 16777216 * length xs)
+pub are_small : (last : ℕ) (xs : List (ℕ × Request)) → (counts_of (batches_of last xs) ≤ MAX_SIZE * length xs) × (body_lens_of (batches_of last xs) ≤ MAX_SIZE * length xs)
 are_small last [] = (omega arith, omega arith)
 are_small last (x ∷ xs) = small_by last x xs (nat_le (last + count_of x.1.batch.records) max_sequence) (λ m. are_small m xs)
 

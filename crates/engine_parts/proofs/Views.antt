@@ -1,14 +1,15 @@
 -- What a leader's view of the write controller comes to while it asks for its group.
-use Rattle.std.proofs.Common.{◌≡◌, ◌≢◌, inr, ℕ, zero, suc, ◌<◌, ◌≤◌, false, List, [], ◌∷◌, ◌++◌, map, take, drop, get_or, Option, Some, None, IfSome, length, refl, sym, ap, ◌∙◌, subst, arith, append_assoc, append-nil, length-append}
+use Rattle.std.proofs.Common.{◌≡◌, ◌≢◌, inr, ℕ, zero, suc, ◌<◌, ◌≤◌, false, List, [], ◌∷◌, ◌++◌, map, take, drop, reverse, get_or, Option, Some, None, IfSome, length, refl, sym, ap, ◌∙◌, subst, arith, append_assoc, append-nil, length-append}
 use Rattle.std.specs.List.{AllByRecursion, AllZip}
 use Rattle.std.proofs.Props.{props}
 use mathlib.Core.List.{IsPrefix}
+use Rattle.model_base.specs.declared.limits.TheConstants.{MAX_SIZE}
 use Rattle.model_base.specs.Controller as controller
 use Rattle.model_base.specs.Controller.{ControllerCall, Numbers, Look, numbers_after, IsHistoryFrom, IsLegal, look, delay}
 use Rattle.model_base.specs.Batch.{count_of, size_of_batch}
 use Rattle.model_base.specs.Grouping.{size_of}
 use Rattle.model_base.specs.Tokens.{tokens_of}
-use Rattle.table_rule.specs.Batches.{made}
+use Rattle.table_rule.specs.Batches.{new_versions}
 use Rattle.table_rule.specs.declared.content.Version.{Version}
 use Rattle.engine_controller.specs.Delays.{delays_of}
 use Rattle.engine_controller.specs.Passes.{GoesOn, EndsWith, seen_by}
@@ -94,18 +95,18 @@ versions_prop a b = hlevel props
 low_prop : (m n : ℕ) → IsProp (m ≤ n)
 low_prop m n = hlevel props
 
-abbrev pub noting : (q : Request) → Option Note → q.nodes ≡ made q.batch.records → 1 ≤ count_of q.batch.records → size_of_batch q.batch.records ≤ 16777216 → Request
+abbrev pub noting : (q : Request) → Option Note → q.nodes ≡ reverse (new_versions q.batch.records) → 1 ≤ count_of q.batch.records → size_of_batch q.batch.records ≤ MAX_SIZE → Request
 noting q n m s l = record { batch = q.batch; nodes = q.nodes; options = q.options; note = n; made_of = m; some = s; small = l }
 
-pub noting_none : (q : Request) (n : Option Note) (m : q.nodes ≡ made q.batch.records) (s : 1 ≤ count_of q.batch.records) (l : size_of_batch q.batch.records ≤ 16777216) → n ≡ None → noting q n m s l ≡ record q { note = None }
+pub noting_none : (q : Request) (n : Option Note) (m : q.nodes ≡ reverse (new_versions q.batch.records)) (s : 1 ≤ count_of q.batch.records) (l : size_of_batch q.batch.records ≤ MAX_SIZE) → n ≡ None → noting q n m s l ≡ record q { note = None }
 noting_none q n m s l none = λ i. record {
   batch = q.batch;
   nodes = q.nodes;
   options = q.options;
   note = none i;
-  made_of = versions_prop q.nodes (made q.batch.records) m q.made_of i;
+  made_of = versions_prop q.nodes (reverse (new_versions q.batch.records)) m q.made_of i;
   some = low_prop 1 (count_of q.batch.records) s q.some i;
-  small = low_prop (size_of_batch q.batch.records) 16777216 l q.small i;
+  small = low_prop (size_of_batch q.batch.records) MAX_SIZE l q.small i;
 }
 
 pub half_at : {X : Type 0} (f : X → X) (xs : List X) (i : ℕ) (d : X) → i < length xs → get_or (map f (take i xs) ++ drop i xs) i d ≡ get_or xs i d

@@ -3,7 +3,7 @@ use Rattle.std.specs.Prelude.{◌≡◌, ℕ, ◌+◌, ◌-◌, true, length, If
 use Rattle.std.specs.List.{AllByRecursion}
 use Rattle.model_base.specs.declared.write.Refusal.{Refusal}
 use Rattle.model_base.specs.declared.write.Refusal.TheVariants.{Empty, TooLarge, SyncWithoutLog, SelfStop, NoMemory, Incomplete, LogFault, SequenceFull}
-use Rattle.model_base.specs.Batch.{count_of}
+use Rattle.model_base.specs.Batch.{Record, count_of}
 use Rattle.model_base.specs.History.{max_sequence}
 use Rattle.model_base.specs.LogContents.{GroupCall}
 use Rattle.base_devices.specs.declared.disk.Disk.{Ghosts}
@@ -12,6 +12,7 @@ use Rattle.log_writer.specs.Written.{Wrote}
 use Rattle.engine_rule.specs.Entries.{entries_of}
 use Rattle.engine_rule.specs.LogCalls.{WroteParts}
 use Rattle.log_batch.specs.Contents.{Contents}
+use Rattle.log_batch.specs.declared.run.Run.{Run}
 use Rattle.line_rule.specs.declared.view.Handling.{Handling}
 use Rattle.model_base.specs.Controller as calls
 use Rattle.model_base.specs.Controller.{ControllerCall, Look, HoldUp}
@@ -40,7 +41,7 @@ answer_of_refusal SelfStop = no_room 0
 answer_of_refusal NoMemory = no_room 0
 
 abbrev pub answer_in : Result Receipt Refused → CommitAnswer
-answer_in (Ok receipt) = accepted receipt.first receipt.group_last
+answer_in (Ok receipt) = accepted receipt.run.first receipt.group_last
 answer_in (Err refused) = answer_of_refusal refused.why
 
 -- the controller's history up to the delay that was asked for the group
@@ -81,8 +82,8 @@ IsLate NoMemory = ⊥
 
 -- the batch comes back, with its sequence where it was accepted, and else as it was
 abbrev pub ComesBack : Contents → Result Receipt Refused → Type 0
-ComesBack batch (Ok receipt) = (receipt.batch ≡ record batch { sequence = receipt.first })
-    × (receipt.count ≡ count_of batch.records)
+ComesBack batch (Ok receipt) = (receipt.batch ≡ record batch { sequence = receipt.run.first })
+    × (receipt.run.last + 1 ≡ receipt.run.first + count_of batch.records)
 ComesBack batch (Err refused) = (refused.batch ≡ batch) × IsLate refused.why
 
 abbrev pub HandsBack : Handling Request Answer → Type 0
@@ -142,10 +143,13 @@ snapshot_of x = record { marker = record {}; value = x }
 abbrev pub reply_with : Delay → Result Receipt Refused → Answer
 reply_with delay answer = record { answer = answer; delay = snapshot_of delay; note = None }
 
+-- the run of a batch where `last` was given last
+abbrev pub run_after : ℕ → List Record → Run
+run_after last records = record { first = last + 1; last = last + count_of records }
+
 abbrev pub accepted_reply : Delay → ℕ → ℕ → Request → Answer
 accepted_reply delay last group_last q = reply_with delay (Ok (record {
-  first = last + 1;
-  count = count_of q.batch.records;
+  run = run_after last q.batch.records;
   group_last = group_last;
   batch = record q.batch { sequence = last + 1 };
 }))

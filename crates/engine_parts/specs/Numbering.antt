@@ -5,9 +5,10 @@ use Rattle.model_base.specs.declared.write.Refusal.TheVariants as why
 use Rattle.model_base.specs.Batch.{Record, count_of}
 use Rattle.model_base.specs.History.{max_sequence}
 use Rattle.log_batch.specs.Contents.{Contents}
+use Rattle.log_batch.specs.declared.run.Run.{Run}
 use Rattle.table_rule.specs.declared.content.MemberVersions.{MemberVersions}
 use Rattle.table_rule.specs.declared.content.Version.{Version}
-use Rattle.table_rule.specs.Batches.{made, numbered}
+use Rattle.table_rule.specs.Batches.{new_versions, number_from}
 use Rattle.table_rule.specs.Histories.{In, Members, versions_in}
 use Rattle.table_tree.specs.Parts.{with_part}
 use Rattle.table_tree.specs.declared.parts.MemberNodes.{MemberNodes}
@@ -20,12 +21,12 @@ use Rattle.engine_parts.specs.declared.numbering.GroupFate.{GroupFate}
 use Rattle.engine_parts.specs.declared.numbering.GroupFate.TheVariants.{Written, Faulted}
 use Rattle.engine_parts.specs.declared.requests.Answer.{Answer}
 use Rattle.engine_parts.specs.declared.requests.Delay.{Delay}
-use Rattle.engine_parts.specs.Handled.{reply_with}
+use Rattle.engine_parts.specs.Handled.{reply_with, run_after}
 
 -- the numbering of a request, where `last` was given last: its run, and the sequence that its batch has
 abbrev pub numbering_at : ℕ → ℕ × Request → Numbering
 numbering_at last x = if nat_le (last + count_of x.1.batch.records) max_sequence then
-    Given x.0 (last + 1) x.1.batch.sequence
+    Given x.0 (run_after last x.1.batch.records) x.1.batch.sequence
     else SequenceFull x.0 last x.1.batch
 
 abbrev pub numberings_of : ℕ → List (ℕ × Request) → List Numbering
@@ -49,7 +50,7 @@ HasVersions member versions parts = ((versions ≡ []) × (parts ≡ []))
 -- a request's versions behind those of a member, if it has a run
 abbrev pub parts_with : ℕ → ℕ → List Record → List MemberNodes → List MemberNodes
 parts_with member last records parts = if nat_le (last + count_of records) max_sequence then
-    with_part parts member (numbered (last + 1) (made records)) else parts
+    with_part parts member (number_from (last + 1) (new_versions records)) else parts
 
 -- the members but the leader
 abbrev pub others_than : ℕ → List ℕ → List ℕ
@@ -80,38 +81,35 @@ full_with (Written group_last) delay last b = reply_with delay (Err (record { ba
 full_with (Faulted count) delay last b = reply_with delay (Err (record { batch = b; why = why.LogFault count }))
 
 -- the batch has the first sequence of its run, and had `before` as it was handed in
-abbrev pub run_with : GroupFate → Delay → ℕ → ℕ → Contents → Answer
-run_with (Written group_last) delay first before b = reply_with delay (Ok (record {
-  first = first;
-  count = count_of b.records;
-  group_last = group_last;
-  batch = b;
-}))
-run_with (Faulted count) delay first before b =
+abbrev pub run_with : GroupFate → Delay → Run → ℕ → Contents → Answer
+run_with (Written group_last) delay run before b =
+    reply_with delay (Ok (record { run = run; group_last = group_last; batch = b }))
+run_with (Faulted count) delay run before b =
     reply_with delay (Err (record { batch = record b { sequence = before }; why = why.LogFault count }))
 
 abbrev pub answers : GroupFate → Delay → List Numbering → List Contents → List (ℕ × Answer)
 answers o delay [] bs = []
-answers o delay (Given client first before ∷ numberings) [] = []
-answers o delay (Given client first before ∷ numberings) (b ∷ bs) =
-    (client, run_with o delay first before b) ∷ answers o delay numberings bs
+answers o delay (Given client run before ∷ numberings) [] = []
+answers o delay (Given client run before ∷ numberings) (b ∷ bs) =
+    (client, run_with o delay run before b) ∷ answers o delay numberings bs
 answers o delay (SequenceFull client last b ∷ numberings) bs =
     (client, full_with o delay last b) ∷ answers o delay numberings bs
 
 -- there is a batch for each run, and no more
 abbrev pub AreEnough : List Numbering → List Contents → Type 0
 AreEnough [] bs = bs ≡ []
-AreEnough (Given client first before ∷ numberings) [] = ⊥
-AreEnough (Given client first before ∷ numberings) (b ∷ bs) = AreEnough numberings bs
+AreEnough (Given client run before ∷ numberings) [] = ⊥
+AreEnough (Given client run before ∷ numberings) (b ∷ bs) = AreEnough numberings bs
 AreEnough (SequenceFull client last b ∷ numberings) bs = AreEnough numberings bs
 
 -- one numbering's answer, and the batches that are left
 abbrev pub IsAnswer : GroupFate → Delay → Numbering → List Contents → ℕ × Answer → List Contents → Type 0
-IsAnswer o delay (Given client first before) [] y left = ⊥
-IsAnswer o delay (Given client first before) (b ∷ bs) y left = (y ≡ (client, run_with o delay first before b)) × (left ≡ bs)
+IsAnswer o delay (Given client run before) [] y left = ⊥
+IsAnswer o delay (Given client run before) (b ∷ bs) y left =
+    (y ≡ (client, run_with o delay run before b)) × (left ≡ bs)
 IsAnswer o delay (SequenceFull client last b) bs y left = (y ≡ (client, full_with o delay last b)) × (left ≡ bs)
 
 abbrev pub HasBatch : Numbering → List Contents → Type 0
-HasBatch (Given client first before) [] = ⊥
-HasBatch (Given client first before) (b ∷ bs) = ⊤
+HasBatch (Given client run before) [] = ⊥
+HasBatch (Given client run before) (b ∷ bs) = ⊤
 HasBatch (SequenceFull client last b) bs = ⊤

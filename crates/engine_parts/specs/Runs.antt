@@ -8,9 +8,9 @@ use Rattle.engine_parts.specs.Items.{run_in}
 
 -- the first sequence and the count that a reply gives
 abbrev pub run_of : Answer → ℕ × ℕ
-run_of p = run_in (λ (r : Receipt). (r.first, r.count)) p.answer
+run_of p = run_in p.answer
 
 -- a run is above this sequence, and where there was no room for one, the sequence given last isn't below it
 abbrev pub IsAbove : ℕ → Result Receipt Refused → Type 0
-IsAbove shown (Ok receipt) = shown < receipt.first
+IsAbove shown (Ok receipt) = shown < receipt.run.first
 IsAbove shown (Err refused) = (last : ℕ) → refused.why ≡ SequenceFull last → shown ≤ last

@@ -38,8 +38,8 @@ pub fn ask<Time: Clock, R: Wait>(
         × AllByRecursion (λ (x : ℕ × _). IsNoted controller.now x.1) requests.old }
     requires few { length requests.old < 255 }
     ensures pass { IsPassOf controller.now pass.new × (client_of pass.new ≡ client_of pass.old) }
-    ensures asked { HasAskedFor (client_of pass.old) (seen_by pass.old) (seen_by_note before) requests.old (look_of result)
-        (seen_by pass.new) }
+    ensures asked { HasAskedFor (client_of pass.old) (seen_by pass.old) (seen_by_note before) requests.old
+        (look_of result) (seen_by pass.new) }
     ensures requests { requests.new ≡ all_seen requests.old }
 {
     controller.learn(rt, pass, before);

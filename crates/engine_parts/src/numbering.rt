@@ -14,7 +14,7 @@ ghost use Rattle.engine_parts.specs.Numbering.{numbering_at, numberings_of, batc
 
 use crate::requests::{Answer, Delay, Request};
 use engine_calls::{Receipt, Refused};
-use log_batch::{Batch, MAX_SEQUENCE};
+use log_batch::{Batch, Run, next_run};
 use model_base::Refusal;
 use std::snapshot::Snapshot;
 use table_tree::Parts;
@@ -29,7 +29,7 @@ const WORTH_WAKING: u64 = 8;
 pub enum Numbering {
     Given {
         client: u32,
-        first: u64,
+        run: Run,
         before: u64,
     },
     SequenceFull {
@@ -212,7 +212,7 @@ pub(crate) fn lay_out(
 {
     members.clear();
     let count = u64::from(requests[0].1.batch.count());
-    if apart && last + count <= MAX_SEQUENCE && are_worth_waking(requests.as_slice()) {
+    if apart && next_run(last, count).is_ok() && are_worth_waking(requests.as_slice()) {
         return number_apart(requests, leader, last, numberings, batches, parts, members);
     }
     number_all(requests, leader, last, numberings, batches, parts)
@@ -250,25 +250,28 @@ fn number_one(
         note: _,
     } = request;
     let count = u64::from(batch.count());
-    if last + count > MAX_SEQUENCE {
-        numberings.push_reserved(Numbering::SequenceFull {
-            client,
-            last,
-            batch,
-        });
-        return last;
-    }
-    nodes.number(last + 1);
+    let run = match next_run(last, count) {
+        Ok(run) => run,
+        Err(_) => {
+            numberings.push_reserved(Numbering::SequenceFull {
+                client,
+                last,
+                batch,
+            });
+            return last;
+        }
+    };
+    nodes.number(run.first, count);
     parts.add(member, nodes);
     numberings.push_reserved(Numbering::Given {
         client,
-        first: last + 1,
+        run,
         before: batch.sequence(),
     });
     // The log writes a single batch as it stands, so its sequence is set before.
-    batch.set_sequence(last + 1);
+    batch.set_sequence(run.first);
     batches.push_reserved(batch);
-    last + count
+    run.last
 }
 
 /// Answers each member.
@@ -308,13 +311,13 @@ fn answer_one(
     match numbering {
         Numbering::Given {
             client,
-            first,
+            run,
             before,
         } => {
             let Some(batch) = take_first(batches) else {
                 unreachable!()
             };
-            (client, run_reply(fate, delay, first, before, batch))
+            (client, run_reply(fate, delay, run, before, batch))
         }
         Numbering::SequenceFull {
             client,
@@ -325,15 +328,13 @@ fn answer_one(
 }
 
 /// The answer to a batch that has a run. It goes back with the sequence that it had, where it wasn't written.
-fn run_reply(fate: GroupFate, delay: &Delay, first: u64, before: u64, mut batch: Batch) -> Answer
-    ensures { result ≡ run_with fate delay.now first before batch }
+fn run_reply(fate: GroupFate, delay: &Delay, run: Run, before: u64, mut batch: Batch) -> Answer
+    ensures { result ≡ run_with fate delay.now run before batch }
 {
     match fate {
         GroupFate::Written { group_last } => {
-            let count = batch.count();
             let receipt = Receipt {
-                first,
-                count,
+                run,
                 group_last,
                 batch,
             };

@@ -1,9 +1,9 @@
 //! What a client asks of a leader, and what it is answered.
 
-ghost use Rattle.std.specs.Prelude.{◌≡◌, ◌≤◌};
+ghost use Rattle.std.specs.Prelude.{◌≡◌, ◌≤◌, reverse};
 ghost use Rattle.model_base.specs.declared.limits.TheConstants.{MAX_SIZE};
 ghost use Rattle.model_base.specs.Batch as model;
-ghost use Rattle.table_rule.specs.Batches.{made};
+ghost use Rattle.table_rule.specs.Batches.{new_versions};
 
 use engine_calls::{Receipt, Refused};
 use engine_controller::{Note, Pass};
@@ -13,7 +13,7 @@ use model_base::WriteOptions;
 use std::snapshot::Snapshot;
 use table_tree::Nodes;
 
-/// A batch that is to be written, with the nodes that it makes.
+/// A batch that is to be written, with the nodes that it makes, the last record's first.
 #[derive(Drop)]
 pub struct Request {
     pub batch: Batch,
@@ -21,7 +21,7 @@ pub struct Request {
     pub options: WriteOptions,
     /// What the client has seen of the write controller, until the leader has seen it too.
     pub note: Option<Note>,
-    ghost made_of: { nodes ≡ made batch.records },
+    ghost made_of: { nodes ≡ reverse (new_versions batch.records) },
     ghost some: { 1 ≤ model.count_of batch.records },
     ghost small: { model.size_of_batch batch.records ≤ MAX_SIZE },
 }
@@ -51,8 +51,6 @@ pub struct Answer {
 
 impl GivesRun for Answer {
     ghost use Rattle.engine_parts.specs.Items.{run_in};
-    ghost use Rattle.engine_calls.specs.declared.answers.Receipt.{Receipt};
-    ghost use Rattle.engine_calls.specs.declared.answers.Refused.{Refused};
 
-    ghost run_of = { λ p. run_in (λ (r : Receipt). (r.first, r.count)) p.answer };
+    ghost run_of = { λ p. run_in p.answer };
 }

@@ -8,7 +8,7 @@ use Rattle.model_base.specs.Controller.{ControllerCall}
 use Rattle.model_base.specs.Outcomes.{entries_of_client}
 use Rattle.table_rule.specs.declared.content.Version.{Version}
 use Rattle.table_rule.specs.Histories.{Runs, made_by}
-use Rattle.table_rule.specs.Batches.{made, numbered}
+use Rattle.table_rule.specs.Batches.{new_versions, number_from}
 use Rattle.engine_rule.specs.Commits.{AreAnswered, AreOfClients, IsAnswer, accepted, fault_after, fault_after_all, last_after, last_after_all, no_room}
 use Rattle.engine_rule.specs.Entries.{entries_after, entry_after, entry_with, versions_made, versions_with}
 use Rattle.engine_rule.specs.Plans.{AreLawful, CommitRequest, answer_with, commit_of_request, batch_with, batches_from, last_with, last_with_all, commits_of_plan, versions_at, versions_from}
@@ -84,7 +84,7 @@ planned_versions known last end (a ∷ requests) = by (room last a.records) (pla
         → versions_with (commit_of_request known a (answer_with last end a.records)) (answer_with last end a.records) ++ made_by versions_made (commits_of_plan known (last_with last a.records) end requests) ≡ versions_at last a.records ++ versions_from (last_with last a.records) requests
     by (has fits e) h =
         let v : answer_with last end a.records ≡ accepted (last + 1) end = rw e refl in
-        let is : versions_at last a.records ≡ numbered (last + 1) (made a.records) = rw e refl in
+        let is : versions_at last a.records ≡ number_from (last + 1) (new_versions a.records) = rw e refl in
         (λ i. versions_with (commit_of_request known a (answer_with last end a.records)) (v i) ++ h i) ∙ ap (λ vs. vs ++ versions_from (last_with last a.records) requests) (sym is)
     by (lacks full e) h =
         let v : answer_with last end a.records ≡ no_room last = rw e refl in
@@ -95,14 +95,14 @@ planned_versions known last end (a ∷ requests) = by (room last a.records) (pla
 abbrev counts : Record → ℕ
 counts r = cond (is_counted r) 1 0
 
-pub made_length : (records : List Record) → length (made records) ≡ count_of records
+pub made_length : (records : List Record) → length (new_versions records) ≡ count_of records
 made_length [] = refl
 made_length (value key v ∷ records) = let e : count_of (value key v ∷ records) ≡ 1 + count_of records = sum_by-cons counts (value key v) records in let h = made_length records in omega (arith, e, h)
 made_length (deletion key ∷ records) = let e : count_of (deletion key ∷ records) ≡ 1 + count_of records = sum_by-cons counts (deletion key) records in let h = made_length records in omega (arith, e, h)
 made_length (single_deletion key ∷ records) = let e : count_of (single_deletion key ∷ records) ≡ 1 + count_of records = sum_by-cons counts (single_deletion key) records in let h = made_length records in omega (arith, e, h)
 made_length (log_data blob ∷ records) = let e : count_of (log_data blob ∷ records) ≡ 0 + count_of records = sum_by-cons counts (log_data blob) records in let h = made_length records in omega (arith, e, h)
 
-pub numbered_length : (first : ℕ) (vs : List Version) → length (numbered first vs) ≡ length vs
+pub numbered_length : (first : ℕ) (vs : List Version) → length (number_from first vs) ≡ length vs
 numbered_length first [] = refl
 numbered_length first (v ∷ vs) = ap suc (numbered_length (first + 1) vs)
 
@@ -110,9 +110,9 @@ runs_append : (last : ℕ) (vs ws : List Version) → Runs last vs → Runs (las
 runs_append last [] ws a b = subst (λ n. Runs n ws) (let e : last + 0 ≡ last = omega arith in e) b
 runs_append last (v ∷ vs) ws a b = (a.0, runs_append (suc last) vs ws a.1 (subst (λ n. Runs n ws) (let e : last + suc (length vs) ≡ suc last + length vs = omega arith in e) b))
 
-numbered_runs : (last : ℕ) (vs : List Version) → Runs last (numbered (last + 1) vs)
+numbered_runs : (last : ℕ) (vs : List Version) → Runs last (number_from (last + 1) vs)
 numbered_runs last [] = tt
-numbered_runs last (v ∷ vs) = (omega arith, subst (λ n. Runs n (numbered (last + 1 + 1) vs)) (let e : last + 1 ≡ suc last = omega arith in e) (numbered_runs (last + 1) vs))
+numbered_runs last (v ∷ vs) = (omega arith, subst (λ n. Runs n (number_from (last + 1 + 1) vs)) (let e : last + 1 ≡ suc last = omega arith in e) (numbered_runs (last + 1) vs))
 
 pub versions_runs : (last : ℕ) (requests : List CommitRequest) → Runs last (versions_from last requests) × (last + length (versions_from last requests) ≡ last_with_all last requests)
 versions_runs last [] = (tt, omega arith)
@@ -122,11 +122,11 @@ versions_runs last (a ∷ requests) = by (room last a.records) (versions_runs (l
         → Runs last (versions_at last a.records ++ versions_from (last_with last a.records) requests) × (last + length (versions_at last a.records ++ versions_from (last_with last a.records) requests) ≡ last_with_all (last_with last a.records) requests)
     by (has fits e) h =
         let rest = versions_from (last_with last a.records) requests in
-        let own_versions = numbered (last + 1) (made a.records) in
+        let own_versions = number_from (last + 1) (new_versions a.records) in
         let step : last_with last a.records ≡ last + count_of a.records = rw e refl in
-        let n : last_with last a.records ≡ last + length own_versions = step ∙ ap (λ k. last + k) (sym (numbered_length (last + 1) (made a.records) ∙ made_length a.records)) in
+        let n : last_with last a.records ≡ last + length own_versions = step ∙ ap (λ k. last + k) (sym (numbered_length (last + 1) (new_versions a.records) ∙ made_length a.records)) in
         let is : versions_at last a.records ≡ own_versions = rw e refl in (
-          subst (λ vs. Runs last (vs ++ rest)) (sym is) (runs_append last own_versions rest (numbered_runs last (made a.records)) (subst (λ k. Runs k rest) n h.0)),
+          subst (λ vs. Runs last (vs ++ rest)) (sym is) (runs_append last own_versions rest (numbered_runs last (new_versions a.records)) (subst (λ k. Runs k rest) n h.0)),
           (let l = ap (λ vs. length (vs ++ rest)) is ∙ length-append own_versions rest in let m = h.1 in omega (arith, l, m, n)),
         )
     by (lacks full e) h =

@@ -3,7 +3,7 @@ use Rattle.std.proofs.Common.{◌≡◌, ℕ, ◌+◌, ◌≤◌, List, [], ◌�
 use Rattle.model_base.specs.Batch.{count_of}
 use Rattle.model_base.specs.History.{max_sequence}
 use Rattle.table_rule.specs.Histories.{made_by}
-use Rattle.table_rule.specs.Batches.{made}
+use Rattle.table_rule.specs.Batches.{new_versions}
 use Rattle.engine_rule.specs.Commits.{Answer, AreAnswered, Commit, IsAnswer, accepted, held_up, failed, fault_after, last_after, last_after_all, no_room}
 use Rattle.engine_rule.specs.Entries.{versions_made, versions_with}
 use Rattle.engine_rule.proofs.Plans.{made_length, numbered_length}
@@ -19,7 +19,7 @@ last_bound last dead [] h low = low
 last_bound last dead (c ∷ cs) h low = last_bound (last_after last (count_of c.records) c.answer) (fault_after dead c.answer) cs h.1 (bound_by last dead (count_of c.records) c.answer h.0 low)
 
 length_by : (last : ℕ) (c : Commit) (v : Answer) → last + length (versions_with c v) ≡ last_after last (count_of c.records) v
-length_by last c (accepted first end) = ap (λ n. last + n) (numbered_length first (made c.records) ∙ made_length c.records)
+length_by last c (accepted first end) = ap (λ n. last + n) (numbered_length first (new_versions c.records) ∙ made_length c.records)
 length_by last c (held_up numbers) = omega arith
 length_by last c (failed n) = omega arith
 length_by last c (no_room l) = omega arith

@@ -6,7 +6,7 @@ use Rattle.std.proofs.lemmas.Grind.{flat_map-append}
 use Rattle.model_base.specs.declared.write.WriteOptions.{WriteOptions}
 use Rattle.model_base.specs.Batch.{count_of}
 use Rattle.model_base.specs.declared.history.Flag.TheVariants.{Log, NoLog, Sync}
-use Rattle.model_base.specs.History.{Entry, IsHistory, RunsFollow, logged, is_logged, flag_of}
+use Rattle.model_base.specs.History.{Entry, IsHistory, RunsFollow, logged_entries, is_logged, flag_of}
 use Rattle.model_base.specs.Controller.{ControllerCall, HoldUp, Look}
 use Rattle.model_base.specs.LogContents.{GroupCall}
 use Rattle.table_rule.specs.declared.content.MemberVersions.{MemberVersions}
@@ -103,11 +103,11 @@ module _ (known : List ControllerCall) where
       own_at (filter (λ (e : Entry). e.client == a.client) before) a (entries_after after (commits_of_plan known (last_with last a.records) end requests)) (answer_with last end a.records)
       (clients_of (λ n. a.client ≢ n) (last_with last a.records) end after requests own.0) (own_clients (last_with last a.records) end after requests own.1)
 
-all_logged : (es : List Entry) → AllByRecursion (λ (e : Entry). (options : WriteOptions) × (options.no_log ≡ false) × (e.flag ≡ flag_of options)) es → logged es ≡ es
+all_logged : (es : List Entry) → AllByRecursion (λ (e : Entry). (options : WriteOptions) × (options.no_log ≡ false) × (e.flag ≡ flag_of options)) es → logged_entries es ≡ es
 all_logged [] h = refl
 all_logged (e ∷ es) h = let t : is_logged e.flag ≡ true = ap is_logged h.0.2 ∙ logs_flag h.0.0 h.0.1 in rw t (ap (λ l. e ∷ l) (all_logged es h.1))
 
-none_logged : (es : List Entry) → AllByRecursion (λ (e : Entry). (options : WriteOptions) × (options.no_log ≡ true) × (e.flag ≡ flag_of options)) es → logged es ≡ []
+none_logged : (es : List Entry) → AllByRecursion (λ (e : Entry). (options : WriteOptions) × (options.no_log ≡ true) × (e.flag ≡ flag_of options)) es → logged_entries es ≡ []
 none_logged [] h = refl
 none_logged (e ∷ es) h = let t : is_logged e.flag ≡ false = ap is_logged h.0.2 ∙ skips_flag h.0.0 h.0.1 in rw t (none_logged es h.1)
 
@@ -117,10 +117,10 @@ all_synced sync (e ∷ es) h = ((λ is. h.0.1 (syncs_flag h.0.0 (sym h.0.2 ∙ i
 
 -- The log's calls
 
-no_more_calls : (old new : List Entry) (calls : List GroupCall) → logged new ≡ [] → WroteParts old calls → WroteParts (old ++ new) calls
+no_more_calls : (old new : List Entry) (calls : List GroupCall) → logged_entries new ≡ [] → WroteParts old calls → WroteParts (old ++ new) calls
 no_more_calls old new calls none k = record {
   parts = k.parts;
-  cut = k.cut ∙ (sym (append-nil (logged old)) ∙ ((λ i. logged old ++ sym none i) ∙ sym (filter-append (λ (e : Entry). is_logged e.flag) old new)));
+  cut = k.cut ∙ (sym (append-nil (logged_entries old)) ∙ ((λ i. logged_entries old ++ sym none i) ∙ sym (filter-append (λ (e : Entry). is_logged e.flag) old new)));
   runs = k.runs;
   each = k.each;
 }
@@ -133,11 +133,11 @@ runs_follow : (last : ℕ) (es : List Entry) → IsHistory last es → RunsFollo
 runs_follow last [] h = tt
 runs_follow last (e ∷ es) h = h.1
 
-one_more_call : (last : ℕ) (old new : List Entry) (calls : List GroupCall) (c : GroupCall) → IsHistory last new → logged new ≡ new → 0 < length new → c.first ≡ last + 1 → c.batches ≡ map (λ (e : Entry). e.records) new
+one_more_call : (last : ℕ) (old new : List Entry) (calls : List GroupCall) (c : GroupCall) → IsHistory last new → logged_entries new ≡ new → 0 < length new → c.first ≡ last + 1 → c.batches ≡ map (λ (e : Entry). e.records) new
     → AllByRecursion (λ (e : Entry). e.flag ≡ Sync → c.sync ≡ true) new → c.failed ≡ None → AreOfOwnClients new → WroteParts old calls → WroteParts (old ++ new) (calls ++ c ∷ [])
 one_more_call last old new calls c h all some first batches synced ok own k = record {
   parts = k.parts ++ new ∷ [];
-  cut = flat_map-append (λ part. part) k.parts (new ∷ []) ∙ ((λ i. k.cut i ++ append-nil new i) ∙ ((λ i. logged old ++ sym all i) ∙ sym (filter-append (λ (e : Entry). is_logged e.flag) old new)));
+  cut = flat_map-append (λ part. part) k.parts (new ∷ []) ∙ ((λ i. k.cut i ++ append-nil new i) ∙ ((λ i. logged_entries old ++ sym all i) ∙ sym (filter-append (λ (e : Entry). is_logged e.flag) old new)));
   runs = all_append RunsFollow k.parts (new ∷ []) k.runs (runs_follow last new h, tt);
   each = zip_append WroteEntries k.parts calls (new ∷ []) (c ∷ []) k.each (record { some = first_is last new h some ∙ ap Some (sym first); apart = own; batches = batches; synced = synced; ok = ok }, tt);
 }
@@ -174,7 +174,7 @@ module _ (start clients group_bytes : ℕ) (asked known went : List ControllerCa
       let now : WroteParts (entries_of cs ++ new_entries) calls' = ⊎_elim
       (λ (t : (calls' ≡ calls) × (AreUnlogged requests ⊎ (batches_from last requests ≡ []))). subst (WroteParts (entries_of cs ++ new_entries)) (sym t.0) (no_more_calls (entries_of cs) new_entries calls
       (⊎_elim (λ (u : AreUnlogged requests). none_logged new_entries (flags_of known (λ options. options.no_log ≡ true) last end (entries_of cs) requests u))
-      (λ (u : batches_from last requests ≡ []). ap logged (none_of (λ (e : Entry). e.records) new_entries (batches_are ∙ u))) t.1) old))
+      (λ (u : batches_from last requests ≡ []). ap logged_entries (none_of (λ (e : Entry). e.records) new_entries (batches_are ∙ u))) t.1) old))
       (λ (t : (c : GroupCall) × (calls' ≡ calls ++ c ∷ []) × WritesBatches last requests c × SyncsFor requests c.sync × (c.failed ≡ None)).
       let c = t.0 in
       let same : c.batches ≡ map (λ (e : Entry). e.records) new_entries = t.2.batches ∙ sym batches_are in

@@ -5,7 +5,7 @@ use Rattle.std.proofs.lemmas.List.Sums.{sum_by-cons}
 use Rattle.model_base.specs.declared.write.WriteOptions.{WriteOptions}
 use Rattle.model_base.specs.declared.history.Flag.TheVariants.{Sync}
 use Rattle.model_base.specs.Batch.{Record, count_of}
-use Rattle.model_base.specs.History.{Entry, IsHistory, RunsFollow, last_of, logged, is_logged, flag_of}
+use Rattle.model_base.specs.History.{Entry, IsHistory, RunsFollow, last_of, logged_entries, is_logged, flag_of}
 use Rattle.model_base.specs.LogContents.{GroupCall}
 use Rattle.table_rule.specs.Histories.{In}
 use Rattle.model_runs.specs.Written.{first_of, WroteEntries, IsSynced, IsSyncedBy}
@@ -160,8 +160,8 @@ have_synced start client commits own c calls first end right wrote is answer syn
     let mine : In c (commits_of client commits) = subst (In c) (sym is) (in_back c own (c ∷ []) (inl refl)) in
     let e = has_entry c first end [] commits answer (in_filter (λ (d : Commit). d.client == client) c commits mine) in
     let flag : e.entry.flag ≡ Sync = e.flag_is ∙ to_sync c.options sync log in
-    let in_log : In e.entry (logged (entries_of commits)) = passes (λ (x : Entry). is_logged x.flag) e.entry (entries_of commits) (ap is_logged flag) e.among in
-    let ok : AllByRecursion IsCounted (logged (entries_of commits)) = all_filter IsCounted (λ (x : Entry). is_logged x.flag) (entries_of commits) (counted start (entries_of commits) (entries_history start None [] commits right).0) in
+    let in_log : In e.entry (logged_entries (entries_of commits)) = passes (λ (x : Entry). is_logged x.flag) e.entry (entries_of commits) (ap is_logged flag) e.among in
+    let ok : AllByRecursion IsCounted (logged_entries (entries_of commits)) = all_filter IsCounted (λ (x : Entry). is_logged x.flag) (entries_of commits) (counted start (entries_of commits) (entries_history start None [] commits right).0) in
     subst (λ n. IsSyncedBy n c.records calls) e.first_is
     (subst (λ rs. IsSyncedBy e.entry.first rs calls) e.records_are
     (synced_among e.entry wrote.parts calls flag wrote.runs wrote.each (subst (AllByRecursion IsCounted) (sym wrote.cut) ok) (subst (In e.entry) (sym wrote.cut) in_log)))

@@ -12,7 +12,7 @@ use Rattle.model_base.specs.Trace.{Trace}
 use Rattle.table_rule.specs.declared.content.Version.{Version}
 use Rattle.table_rule.specs.declared.content.MemberVersions.{MemberVersions}
 use Rattle.table_rule.specs.Histories.{Begins}
-use Rattle.table_rule.specs.Batches.{made, numbered}
+use Rattle.table_rule.specs.Batches.{new_versions, number_from}
 use Rattle.model_accounts.specs.Accounts.{Account}
 use Rattle.engine_controller.specs.Passes.{GoesOn}
 use Rattle.engine_rule.specs.Commits.{Answer, accepted, held_up, failed, no_room, Commit, commits_of}
@@ -50,7 +50,7 @@ trace_of start commits history = record {
 -- its versions
 
 abbrev pub versions_with : Commit → Answer → List Version
-versions_with c (accepted first group_last) = numbered first (made c.records)
+versions_with c (accepted first group_last) = number_from first (new_versions c.records)
 versions_with c (held_up numbers) = []
 versions_with c (failed count) = []
 versions_with c (no_room at) = []

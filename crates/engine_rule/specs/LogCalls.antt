@@ -1,7 +1,7 @@
 -- The calls of the log writer that wrote the history of some commits.
 use Rattle.std.specs.Prelude.{◌≡◌, ◌⊎◌, ℕ, ◌+◌, ◌<◌, Bool, true, List, [], ◌∷◌, ◌++◌, length, flat_map, Option, Some, None, MatchOption}
 use Rattle.std.specs.List.{AllByRecursion, AllZip}
-use Rattle.model_base.specs.History.{Entry, RunsFollow, logged}
+use Rattle.model_base.specs.History.{Entry, RunsFollow, logged_entries}
 use Rattle.model_base.specs.LogContents.{GroupCall}
 use Rattle.model_base.specs.Controller.{ControllerCall}
 use Rattle.model_runs.specs.Written.{WroteEntries}
@@ -12,7 +12,7 @@ use Rattle.engine_rule.specs.Plans.{CommitRequest, all_failed, batches_from, Are
 -- the calls that worked wrote the logged entries, part by part
 pub record WroteParts (entries : List Entry) (calls : List GroupCall) : Type 0 where
   pub parts : List (List Entry)
-  pub cut : flat_map (λ part. part) parts ≡ logged entries
+  pub cut : flat_map (λ part. part) parts ≡ logged_entries entries
   pub runs : AllByRecursion RunsFollow parts
   pub each : AllZip WroteEntries parts calls
 

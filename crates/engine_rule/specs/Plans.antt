@@ -9,7 +9,7 @@ use Rattle.model_base.specs.Batch.{Record, count_of, size_of_batch}
 use Rattle.model_base.specs.Grouping.{group_len, size_of}
 use Rattle.model_base.specs.History.{max_sequence}
 use Rattle.table_rule.specs.declared.content.Version.{Version}
-use Rattle.table_rule.specs.Batches.{made, numbered}
+use Rattle.table_rule.specs.Batches.{new_versions, number_from}
 use Rattle.model_base.specs.Controller.{ControllerCall, Look, HoldUp, delay, look}
 use Rattle.model_base.specs.Replies.{IsLater}
 use Rattle.engine_rule.specs.Commits.{Answer, accepted, held_up, failed, no_room, Commit}
@@ -44,7 +44,7 @@ batch_with last records = if nat_le (last + count_of records) max_sequence then 
 
 abbrev pub versions_at : ℕ → List Record → List Version
 versions_at last records =
-    if nat_le (last + count_of records) max_sequence then numbered (last + 1) (made records) else []
+    if nat_le (last + count_of records) max_sequence then number_from (last + 1) (new_versions records) else []
 
 -- The same of a group
 abbrev pub last_with_all : ℕ → List CommitRequest → ℕ

@@ -4,7 +4,7 @@ use Rattle.std.specs.List.{AllByRecursion}
 use Rattle.model_base.specs.Batch.{count_of}
 use Rattle.model_base.specs.History.{max_sequence}
 use Rattle.table_rule.specs.declared.content.MemberVersions.{MemberVersions}
-use Rattle.table_rule.specs.Batches.{made, numbered}
+use Rattle.table_rule.specs.Batches.{new_versions, number_from}
 use Rattle.table_rule.specs.Histories.{Apart, Members, versions_in}
 use Rattle.engine_rule.specs.Plans.{AreLawful, CommitRequest, HaveOwnClients, last_with, versions_at, versions_from}
 use Rattle.engine_stage_laws.specs.Served.{part_at, parts_from}
@@ -17,7 +17,7 @@ part_versions : (last : ℕ) (q : CommitRequest) → versions_in (part_at last q
 part_versions last q = by (nat_le (last + count_of q.records) max_sequence) refl
   where
     by : (b : Bool) → nat_le (last + count_of q.records) max_sequence ≡ b → versions_in (part_at last q) ≡ versions_at last q.records
-    by true e = rw e (append-nil (numbered (last + 1) (made q.records)))
+    by true e = rw e (append-nil (number_from (last + 1) (new_versions q.records)))
     by false e = rw e refl
 
 pub parts_versions : (last : ℕ) (requests : List CommitRequest) → versions_in (parts_from last requests) ≡ versions_from last requests

@@ -3,7 +3,7 @@ use Rattle.std.specs.Prelude.{ℕ, ◌+◌, nat_le, if◌then◌else◌, List, [
 use Rattle.model_base.specs.History.{max_sequence}
 use Rattle.model_base.specs.Batch.{count_of}
 use Rattle.table_rule.specs.declared.content.MemberVersions.{MemberVersions}
-use Rattle.table_rule.specs.Batches.{made, numbered}
+use Rattle.table_rule.specs.Batches.{new_versions, number_from}
 use Rattle.table_rule.specs.Histories.{Images}
 use Rattle.engine_rule.specs.Commits.{Answer, accepted, held_up, failed, no_room, Commit}
 use Rattle.engine_rule.specs.Entries.{versions_made}
@@ -28,7 +28,7 @@ AreServed = Images versions_made
 -- those of all
 abbrev pub part_at : ℕ → CommitRequest → List MemberVersions
 part_at last q = if nat_le (last + count_of q.records) max_sequence then
-    (record { member = q.client; versions = numbered (last + 1) (made q.records) }) ∷ [] else []
+    (record { member = q.client; versions = number_from (last + 1) (new_versions q.records) }) ∷ [] else []
 
 abbrev pub parts_from : ℕ → List CommitRequest → List MemberVersions
 parts_from last [] = []

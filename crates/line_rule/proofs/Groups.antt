@@ -4,15 +4,15 @@ use native.Mathlib.Decide.{ℕ_discrete}
 use mathlib.Core.Logic.{dite}
 use Rattle.line_rule.specs.declared.view.QueuedWriter.{QueuedWriter}
 use Rattle.line_rule.specs.declared.view.Handling.{Handling}
-use Rattle.line_rule.specs.Chain.{older_at, pack, newest, Links, Absent, Distinct, Within, of, heads, handling, answers, all_answers}
+use Rattle.line_rule.specs.Chain.{older_at, pack, newest, newest_from, Links, LinksFrom, Absent, Distinct, Within, of, heads, handling, answers, all_answers}
 use Rattle.line_rule.specs.Standing.{Phase, linked, taken}
 use Rattle.line_rule.specs.Rule.{InChain, Stand, AllLinked, AllTaken, AllOwed}
 use Rattle.line_rule.proofs.Chains.{put, put_else, owed_change}
 
 module _ {Request : Type 0} where
-  pub links_at : (words : List ℕ) (a : List (QueuedWriter Request)) (x : QueuedWriter Request) (b : List (QueuedWriter Request)) → Links words (a ++ x ∷ b) → get_or words (older_at x.by) 0 ≡ pack (newest b) x.code
-  links_at words [] x b ok = ok.0
-  links_at words (e ∷ es) x b ok = links_at words es x b ok.1
+  pub links_at : (end : ℕ) (words : List ℕ) (a : List (QueuedWriter Request)) (x : QueuedWriter Request) (b : List (QueuedWriter Request)) → LinksFrom end words (a ++ x ∷ b) → get_or words (older_at x.by) 0 ≡ pack (newest_from end b) x.code
+  links_at end words [] x b ok = ok.0
+  links_at end words (e ∷ es) x b ok = links_at end words es x b ok.1
 
   pub distinct_apart : (a : List (QueuedWriter Request)) (x : QueuedWriter Request) (b : List (QueuedWriter Request)) → Distinct (a ++ x ∷ b) → Absent x.by a
   distinct_apart [] x b ok = tt

@@ -13,17 +13,18 @@ use Rattle.line_rule.specs.declared.view.Handling.{Handling}
 use Rattle.line_rule.specs.declared.view.Lead.{Lead}
 use Rattle.line_rule.specs.declared.view.LineHold.{LineHold}
 use Rattle.line_rule.specs.declared.content.LineSlot.TheVariants.{Asked}
+use Rattle.line_rule.specs.declared.view.Back.TheVariants.{Serving}
 use Rattle.line_rule.specs.declared.view.LineStage.{LineStage}
 use Rattle.line_rule.specs.declared.view.LineStage.TheVariants.{Idle, Preparing, Waiting, Helping, Fresh, Leading, Cutting, Marking, Settling, Collecting}
-use Rattle.line_rule.specs.Chain.{AllCoded, state_at, older_at, newest_from, Links, LinksFrom, Absent, Distinct, Within}
-use Rattle.line_rule.specs.Standing.{Phase, idle, preparing, linked, chosen, leads, taken, completed, collecting, Mode, waits, led, built, base_of, Holds}
+use Rattle.line_rule.specs.Chain.{AllCoded, state_at, older_at, newest_from, LinksFrom, Absent, Distinct, Within, EndsWith}
+use Rattle.line_rule.specs.Standing.{Phase, idle, preparing, linked, chosen, leads, taken, completed, collecting, Mode, waits, led, built, base_of, Holds, flat}
 use Rattle.line_rule.specs.Laws.{Laws}
-use Rattle.line_rule.specs.Rule.{InChain, Stand, Waits, AllLinked, AllTaken, Knows, hold, InPhase, InMode, Listed, InSecond, due_untold}
+use Rattle.line_rule.specs.Rule.{InChain, Stand, Waits, AllLinked, AllTaken, Knows, hold, hold_at, InPhase, InMode, Listed, InSecond, due_untold}
 use Rattle.line_rule.proofs.Fitting.{split_group}
 use Rattle.line_rule.specs.Events.{LineEvent, builds, Core, Legal}
 use Rattle.line_rule.specs.SecondList.{second_list_of}
 use Rattle.line_rule.specs.Steps.{Stays, IsBuild, now_of, IsNow, Becomes, StepIs}
-use Rattle.line_rule.specs.Plays.{Sat, lead_at_build, At, lead_with_walk, lead_with_one_more, in_hand, AllBelow, Walks, Builds, after_build, after_read_older, after_fetch}
+use Rattle.line_rule.specs.Plays.{Sat, lead_at_build, At, lead_with_walk, lead_with_one_more, in_hand, AllBelow, Walks, Builds, SeesTo, after_build, after_read_older, after_fetch}
 use Rattle.line_rule.proofs.Chains.{put, put_at, put_here, put_else, links_same, ends_same, stand_change, linked_change, taken_change}
 use Rattle.line_rule.proofs.Exits.{owing_stays}
 use Rattle.line_rule.proofs.Accounts.{builds_now, stays_now}
@@ -275,6 +276,18 @@ module _ {Request Reply Log Right : Type 0} (stands : Laws Request Reply Log Rig
   reads_as asked is max is_max slots id me c o seen mine mid =
       subst (λ z. Allows (Listed stands n) slots id me 0 (λ y. y) (after_build asked z (step slots 0 0 0 none) me)) is_max (subst (λ z. Allows (Listed stands n) slots id me 0 (λ y. y) (after_build z stands.bound (step slots 0 0 0 none) me)) is (reads slots id me c o seen mine mid))
 
+  -- the walk stands at the older end of a chain of links
+  sees_chain : (s : St stands n) (r : Listed stands n s) (id : ℕ) (me : Sat Request Reply Log Right) → get_elem? s.views id ≡ some me.0 → (end c : ℕ) (walk : List (QueuedWriter Request)) → SeesTo end c me walk → (chain : List (QueuedWriter Request)) × LinksFrom end s.words chain × EndsWith chain walk
+  sees_chain s r id me at end c walk (inl h) =
+      let fit = (r.seats id (hold c (Leading h.1.0) h.1.1 ∷ []) (at ∙ ap some h.1.2)).0 in
+      (r.line, subst (λ b. LinksFrom b s.words r.line) (ap base_of fit.4.0 ∙ sym h.0) r.links, subst (EndsWith r.line) h.1.3 fit.4.2)
+  sees_chain s r id me at end c walk (inr (inl h)) =
+      let fit = (r.seats id (hold_at c (Marking h.1.0) h.1.1 h.1.2 ∷ []) (at ∙ ap some h.1.3)).0 in
+      (r.line, subst (λ b. LinksFrom b s.words r.line) (ap base_of fit.4.0 ∙ sym h.0) r.links, subst (EndsWith r.line) h.1.4 fit.4.2)
+  sees_chain s r id me at end c walk (inr (inr h)) =
+      let fit = (r.seats id (hold_at c h.1.0 h.1.1 (Serving h.1.2 walk) ∷ []) (at ∙ ap some h.1.3)).0 in
+      (flat r.two.groups, subst (λ b. LinksFrom b s.words (flat r.two.groups)) (sym h.0) r.second.links, fit.5.3)
+
   pub traces_is : (slots id : ℕ) (me : Sat Request Reply Log Right) (k : ℕ) → StepIs stands n (λ _. Stays) slots id me k (λ y. y) (after_read_older (step slots k 0 0 none) me)
   traces_is slots id me k s r long at fits = (
     me.0,
@@ -283,11 +296,11 @@ module _ {Request Reply Log Right : Type 0} (stands : Laws Request Reply Log Rig
     unmoved stands n Stays s k id me.1 me.0 at r refl,
     (
       refl,
-      λ c lead mine pre x post mid is_walk is_word.
-          let fit = (r.seats id (hold c (Leading lead) mine ∷ []) (at ∙ ap some mid)).0 in
-          let ends = fit.4.2 in
-          let parts : r.line ≡ (ends.0 ++ pre) ++ x ∷ post = ends.1 ∙ (ap (λ l. ends.0 ++ l) is_walk ∙ sym (middle ends.0 pre x post)) in
-          ap (λ (j : ℕ). get_or s.words j 0) is_word ∙ links_at s.words (ends.0 ++ pre) x post (subst (Links s.words) parts (subst (λ b. LinksFrom b s.words r.line) (ap base_of fit.4.0) r.links)),
+      λ end c walk pre x post sees is_walk is_word.
+          let at_end = sees_chain s r id me at end c walk sees in
+          let ends = at_end.2 in
+          let parts : at_end.0 ≡ (ends.0 ++ pre) ++ x ∷ post = ends.1 ∙ (ap (λ l. ends.0 ++ l) is_walk ∙ sym (middle ends.0 pre x post)) in
+          ap (λ (j : ℕ). get_or s.words j 0) is_word ∙ links_at end s.words (ends.0 ++ pre) x post (subst (LinksFrom end s.words) parts at_end.1),
     ),
   )
 

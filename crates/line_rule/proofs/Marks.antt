@@ -30,11 +30,11 @@ use Rattle.line_rule.specs.Rule.{InChain, AllLinked, AllTaken, hold, InPhase, In
 use Rattle.line_rule.specs.Events.{exits, Core, grouped}
 use Rattle.line_rule.specs.SecondList.{second_list_of}
 use Rattle.line_rule.specs.Steps.{Lists, Stays, HappensWhere, IsBoundary, IsNext, now_of, IsNow, StepIs}
-use Rattle.line_rule.specs.Plays.{Sat, At, lead_with_walk, in_hand, debt, slots_of, Walks, AtWith, squad_at_cut, back_after_log, after_mark, after_free, WalksMarked, after_read_older_marked, after_cut_behind_mark}
+use Rattle.line_rule.specs.Plays.{Sat, At, lead_with_walk, in_hand, debt, slots_of, Walks, AtWith, squad_at_cut, back_after_log, after_mark, after_free, WalksMarked, after_cut_behind_mark}
 use Rattle.line_rule.proofs.Chains.{put, put_at, put_here, put_else, links_same, stand_change, linked_change, taken_change, owed_change}
 use Rattle.line_rule.proofs.Exits.{group_handled, owing_stays, owing_grows}
 use Rattle.line_rule.proofs.Accounts.{marks_now, frees_now, recuts_now}
-use Rattle.line_rule.proofs.Moves.{St, row_stays, knows_stays, reviewed, moved, Goes, allows, unmoved}
+use Rattle.line_rule.proofs.Moves.{St, row_stays, knows_stays, reviewed, moved, Goes, allows}
 use Rattle.line_rule.proofs.Keeps.{second_stays, second_same, put_same}
 use Rattle.line_rule.proofs.Groups.{walk_bound, distinct_apart, distinct_front, distinct_back, within_at, linked_at, linked_front, none_before_group}
 use Rattle.line_rule.proofs.Enters.{one_hold}
@@ -256,33 +256,9 @@ module _ {Request Reply Log Right : Type 0} (stands : Laws Request Reply Log Rig
       → Allows (Listed stands n) slots id me 0 (λ y. either (eqb y 255) 0 y) (after_free (step slots 0 255 0 said) me)
   frees slots id me c lead mine b gs p l tail said mid group slot stood unnumbered = allows stands n (HappensWhere 255 (IsNext b lead.own p gs)) slots id me 0 (λ y. either (eqb y 255) 0 y) (after_free (step slots 0 255 0 said) me) (frees_is slots id me c lead mine b gs p l tail said mid group slot stood unnumbered)
 
-  links_from_at : (b : ℕ) (words : List ℕ) (a : List (QueuedWriter Request)) (x : QueuedWriter Request) (t : List (QueuedWriter Request)) → LinksFrom b words (a ++ x ∷ t) → get_or words (older_at x.by) 0 ≡ pack (newest_from b t) x.code
-  links_from_at b words [] x t ok = ok.0
-  links_from_at b words (e ∷ es) x t ok = links_from_at b words es x t ok.1
-
   newest_snoc : (b d : ℕ) (q : List (QueuedWriter Request)) (x : QueuedWriter Request) → newest_from b (q ++ x ∷ []) ≡ newest_from d (q ++ x ∷ [])
   newest_snoc b d [] x = refl
   newest_snoc b d (e ∷ es) x = refl
-
-  -- a link of the walk behind the marker
-  pub traces_marked_is : (slots id : ℕ) (me : Sat Request Reply Log Right) (k : ℕ) → StepIs stands n (λ _. Stays) slots id me k (λ y. y) (after_read_older_marked (step slots k 0 0 none) me)
-  traces_marked_is slots id me k s r long at fits = (
-    me.0,
-    keeps,
-    tt,
-    unmoved stands n Stays s k id me.1 me.0 at r refl,
-    (
-      refl,
-      λ c lead mine b pre x post mid is_walk is_word.
-          let fit = (r.seats id (hold_at c (Marking lead) mine b ∷ []) (at ∙ ap some mid)).0 in
-          let ends = fit.4.2 in
-          let parts : r.line ≡ (ends.0 ++ pre) ++ x ∷ post = ends.1 ∙ (ap (λ l. ends.0 ++ l) is_walk ∙ sym (middle ends.0 pre x post)) in
-          ap (λ (j : ℕ). get_or s.words j 0) is_word ∙ links_from_at 255 s.words (ends.0 ++ pre) x post (subst (LinksFrom 255 s.words) parts (subst (λ d. LinksFrom d s.words r.line) (ap base_of fit.4.0) r.links)),
-    ),
-  )
-
-  pub traces_marked : (slots id : ℕ) (me : Sat Request Reply Log Right) (k : ℕ) → Allows (Listed stands n) slots id me k (λ y. y) (after_read_older_marked (step slots k 0 0 none) me)
-  traces_marked slots id me k = allows stands n (λ _. Stays) slots id me k (λ y. y) (after_read_older_marked (step slots k 0 0 none) me) (traces_marked_is slots id me k)
 
   -- the link of the oldest writer behind the marker is cleared
   pub cuts_marked_is : (slots id : ℕ) (me : Sat Request Reply Log Right) (c k new : ℕ) (lead : Lead Request Reply) (mine : List (Request × Reply)) (b : Back Request Reply) (pre : List (QueuedWriter Request)) (x : QueuedWriter Request) → AtWith c (Marking lead) mine b me → lead.walk ≡ pre ++ x ∷ [] → k ≡ older_at x.by → new ≡ pack 0 x.code

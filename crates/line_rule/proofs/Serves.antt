@@ -18,7 +18,7 @@ use Rattle.line_rule.specs.declared.content.LineSlot.{LineSlot}
 use Rattle.line_rule.specs.declared.content.LineSlot.TheVariants.{TheRight}
 use Rattle.line_rule.specs.declared.view.LineStage.{LineStage}
 use Rattle.line_rule.specs.declared.view.LineStage.TheVariants.{Settling}
-use Rattle.line_rule.specs.Chain.{state_at, older_at, pack, newest, Links, Absent, Distinct, Within}
+use Rattle.line_rule.specs.Chain.{state_at, older_at, pack, newest, Absent, Distinct, Within}
 use Rattle.line_rule.specs.Standing.{Phase, leads, taken, base_of, away, called, Turn, still, calls, serves, served, held_by, passes, Two, line_of, flat, In, Behind, KnowsBack}
 use Rattle.line_rule.specs.Laws.{Laws}
 use Rattle.line_rule.specs.Rule.{AllOwed, hold_at, InPhase, Level, Listed, InTurn, Second}
@@ -26,12 +26,12 @@ use Rattle.line_rule.specs.declared.view.Handling.{Handling}
 use Rattle.line_rule.proofs.Enters.{not_snoc}
 use Rattle.line_rule.specs.Steps.{Lists, Stays, HappensWhere, IsServedOut, now_of, IsNow, StepIs}
 use Rattle.line_rule.specs.SecondList.{SecondList, apart_in, served_in, last_served, second_list_of}
-use Rattle.line_rule.specs.Plays.{Sat, AtWith, debt, WalksSecond, after_leave_second, after_read_older_second, after_clear_second, after_call_next, after_make_parallel}
+use Rattle.line_rule.specs.Plays.{Sat, AtWith, debt, WalksSecond, after_leave_second, after_clear_second, after_call_next, after_make_parallel}
 use Rattle.line_rule.proofs.Chains.{put, put_here, put_else, links_stay, links_same}
-use Rattle.line_rule.proofs.Groups.{links_at, walk_bound}
+use Rattle.line_rule.proofs.Groups.{walk_bound}
 use Rattle.line_rule.proofs.Leads.{all_below, middle, same_last, snoc}
 use Rattle.std.proofs.lemmas.List.{append_cancel_right, append-nil}
-use Rattle.line_rule.proofs.Moves.{St, row_stays, Goes, allows, unmoved}
+use Rattle.line_rule.proofs.Moves.{St, row_stays, Goes, allows}
 use Rattle.line_rule.proofs.Seconds.{second_stops, second_clears, second_ends, second_calls, one_group}
 use Rattle.line_rule.proofs.Squads.{one_serves, flat_snoc, in_one, behind_in}
 use Rattle.line_rule.proofs.Keeps.{in_not_away, second_stays}
@@ -77,26 +77,6 @@ module _ {Request Reply : Type 0} where
   owed_at phase due c (g ∷ gs) y post ok = owed_at phase due c gs y post ok.2
 
 module _ {Request Reply Log Right : Type 0} (stands : Laws Request Reply Log Right) (n : ℕ) where
-  -- a link of the walk of the second list
-  pub traces_second_is : (slots id : ℕ) (me : Sat Request Reply Log Right) (k : ℕ) → StepIs stands n (λ _. Stays) slots id me k (λ y. y) (after_read_older_second (step slots k 0 0 none) me)
-  traces_second_is slots id me k s r long at fits = (
-    me.0,
-    keeps,
-    tt,
-    unmoved stands n Stays s k id me.1 me.0 at r refl,
-    (
-      refl,
-      λ c st mine g walk pre x post mid is_walk is_word.
-          let fit = (r.seats id (hold_at c st mine (Serving g walk) ∷ []) (at ∙ ap some mid)).0 in
-          let ends = fit.5.3 in
-          let parts : flat r.two.groups ≡ (ends.0 ++ pre) ++ x ∷ post = ends.1 ∙ (ap (λ l. ends.0 ++ l) is_walk ∙ sym (middle ends.0 pre x post)) in
-          ap (λ (j : ℕ). get_or s.words j 0) is_word ∙ links_at s.words (ends.0 ++ pre) x post (subst (Links s.words) parts r.second.links),
-    ),
-  )
-
-  pub traces_second : (slots id : ℕ) (me : Sat Request Reply Log Right) (k : ℕ) → Allows (Listed stands n) slots id me k (λ y. y) (after_read_older_second (step slots k 0 0 none) me)
-  traces_second slots id me k = allows stands n (λ _. Stays) slots id me k (λ y. y) (after_read_older_second (step slots k 0 0 none) me) (traces_second_is slots id me k)
-
   -- the last slot
   last_slot : (slots k : ℕ) (s : St stands n) → Listed stands n s → length s.homes ≡ slots → k + 1 ≡ slots → k ≡ n + 1
   last_slot slots k s r long is = let many : length s.homes ≡ n + 2 = r.many in omega (arith, long, is)

@@ -1,5 +1,5 @@
 -- What each step tells.
-use Rattle.std.specs.Prelude.{Bool, true, ◌≡◌, ◌≢◌, ℕ, ◌<◌, ◌+◌, List, [], ◌∷◌, ◌++◌, length}
+use Rattle.std.specs.Prelude.{Bool, true, ◌≡◌, ◌≢◌, ℕ, ◌<◌, ◌+◌, ◌⊎◌, List, [], ◌∷◌, ◌++◌, length}
 use Rattle.atomic_table.specs.Table.{Me, Step, rest}
 use Rattle.line_rule.specs.declared.words.TheConstants.{MARK, STATE_DONE, STATE_LEADS_LOG, STATE_LEADS_TABLE, STATE_PARALLEL}
 use Rattle.line_rule.specs.declared.view.QueuedWriter.{QueuedWriter}
@@ -225,14 +225,34 @@ module _ {Request Reply Log Right : Type 0} where
       (mine : List (Request × Reply))
       → At c (Fresh own seen) mine m → Builds asks st.slots max c own seen mine r m m'
 
+  -- the leader has read these writers of the queue
+  abbrev pub SeesQueue : ℕ → Sat Request Reply Log Right → List (QueuedWriter Request) → Type 0
+  SeesQueue c m walk = (lead : Lead Request Reply) × (mine : List (Request × Reply))
+      × At c (Leading lead) mine m × (lead.walk ≡ walk)
+
+  -- the leader has read these writers behind its mark
+  abbrev pub SeesMarked : ℕ → Sat Request Reply Log Right → List (QueuedWriter Request) → Type 0
+  SeesMarked c m walk = (lead : Lead Request Reply) × (mine : List (Request × Reply)) × (b : Back Request Reply)
+      × AtWith c (Marking lead) mine b m × (lead.walk ≡ walk)
+
+  -- the leader has the right, and has read these writers of the second list
+  abbrev pub SeesSecond : ℕ → Sat Request Reply Log Right → List (QueuedWriter Request) → Type 0
+  SeesSecond c m walk = (stage : LineStage Request Reply) × (mine : List (Request × Reply)) × (g : Squad Request Reply)
+      × AtWith c stage mine (Serving g walk) m
+
+  -- the leader has read these writers, of whom the oldest one's link names this end
+  abbrev pub SeesTo : ℕ → ℕ → Sat Request Reply Log Right → List (QueuedWriter Request) → Type 0
+  SeesTo end c m walk = ((end ≡ 0) × SeesQueue c m walk) ⊎ ((end ≡ MARK) × SeesMarked c m walk)
+      ⊎ ((end ≡ 0) × SeesSecond c m walk)
+
   -- a link of the walk
   abbrev pub after_read_older : Step (LineSlot Request Reply Log Right) → Sat Request Reply Log Right → ℕ
       → Sat Request Reply Log Right → Type 0
   after_read_older st m r m' = (m' ≡ m)
-      × ((c : ℕ) (lead : Lead Request Reply) (mine : List (Request × Reply)) (pre : List (QueuedWriter Request))
-      (x : QueuedWriter Request) (post : List (QueuedWriter Request))
-      → At c (Leading lead) mine m → lead.walk ≡ pre ++ x ∷ post → st.word ≡ older_at x.by
-      → r ≡ pack (newest post) x.code)
+      × ((end c : ℕ) (walk pre : List (QueuedWriter Request)) (x : QueuedWriter Request)
+      (post : List (QueuedWriter Request))
+      → SeesTo end c m walk → walk ≡ pre ++ x ∷ post → st.word ≡ older_at x.by
+      → r ≡ pack (newest_from end post) x.code)
 
   -- the request of the oldest writer that is not in hand
   abbrev pub after_fetch : Step (LineSlot Request Reply Log Right) → Sat Request Reply Log Right → ℕ
@@ -315,16 +335,6 @@ module _ {Request Reply Log Right : Type 0} where
       → (r ≡ st.first → AtWith c (Settling (debt gs lead.own p)) mine (back_after_log b) m'
       × (m'.1 ≡ slots_of gs ((c, Told p) ∷ t))) × (r ≢ st.first → WalksMarked st.slots c lead mine b r m m')
 
-  -- a link of the walk behind the marker
-  abbrev pub after_read_older_marked : Step (LineSlot Request Reply Log Right) → Sat Request Reply Log Right → ℕ
-      → Sat Request Reply Log Right → Type 0
-  after_read_older_marked st m r m' = (m' ≡ m)
-      × ((c : ℕ) (lead : Lead Request Reply) (mine : List (Request × Reply)) (b : Back Request Reply)
-      (pre : List (QueuedWriter Request)) (x : QueuedWriter Request)
-      (post : List (QueuedWriter Request)) → AtWith c (Marking lead) mine b m → lead.walk ≡ pre ++ x ∷ post
-      → st.word ≡ older_at x.by
-      → r ≡ pack (newest_from MARK post) x.code)
-
   -- the link of the oldest writer behind the marker is cleared
   abbrev pub after_cut_behind_mark : Step (LineSlot Request Reply Log Right) → Sat Request Reply Log Right → ℕ
       → Sat Request Reply Log Right → Type 0
@@ -382,15 +392,6 @@ module _ {Request Reply Log Right : Type 0} where
       → AtWith c (Settling d) mine (Serving g walk) m
       → (r ≡ st.first → At c (Settling d) mine m' × (m'.1 ≡ rest m.1))
       × (r ≢ st.first → WalksSecond st.slots c d mine g r m m')
-
-  -- a link of the walk of the second list
-  abbrev pub after_read_older_second : Step (LineSlot Request Reply Log Right) → Sat Request Reply Log Right → ℕ
-      → Sat Request Reply Log Right → Type 0
-  after_read_older_second st m r m' = (m' ≡ m)
-      × ((c : ℕ) (stage : LineStage Request Reply) (mine : List (Request × Reply)) (g : Squad Request Reply)
-      (walk pre : List (QueuedWriter Request)) (x : QueuedWriter Request)
-      (post : List (QueuedWriter Request)) → AtWith c stage mine (Serving g walk) m → walk ≡ pre ++ x ∷ post
-      → st.word ≡ older_at x.by → r ≡ pack (newest post) x.code)
 
   -- the link of the next group's leader is cleared
   abbrev pub after_clear_second : Step (LineSlot Request Reply Log Right) → Sat Request Reply Log Right → ℕ

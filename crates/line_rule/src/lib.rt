@@ -42,7 +42,7 @@
 //! | load of STATE `i` ([`ReadReply`]) | client `i`, beside its leader | at `STATE_DONE` it takes its slot with the reply | |
 //! | load of STATE `i` ([`ReturnSlot`]) | client `i` | gives its empty slot back | |
 //! | load of NEWEST ([`Build`]) | the leader | its group is the grouping rule's of the walk from there | build |
-//! | load of OLDER `k` ([`ReadOlder`]) | the leader | sees a link of its walk | |
+//! | load of OLDER `k` ([`ReadOlder`]) | the leader, who put the mark, or who has the right | sees a link of its walk: of the queue, of those behind its mark, or of the second list | |
 //! | load of OLDER `k` ([`Fetch`]) | the leader | takes the slot of the next member | |
 //! | compare-exchange of NEWEST from its newest member to 0 ([`Leave`]) | the leader | gives the log back, which stands for the group's handlings too | exit of the single stage; else it only reads anew |
 //! | store of OLDER `k` ([`CutOff`], and [`CutAway`] where the list is pipelined) | the leader | clears the link of the oldest writer after its group | boundary, where the list is pipelined |
@@ -53,12 +53,10 @@
 //! | store of OLDER `i` ([`AimSecond`]) | who cut its group off | names the newest writer of the second list | |
 //! | compare-exchange of the second NEWEST ([`JoinSecond`]) | who cut its group off | its group comes into the second list; where it replaced 0 it takes the right | second |
 //! | compare-exchange of NEWEST from `MARK` to 0 ([`Free`]) | who put the mark | gives the log back | next |
-//! | load of OLDER `k` ([`ReadOlderMarked`]) | who put the mark | sees a link of its walk | |
 //! | store of OLDER `k` ([`CutBehindMark`]) | who put the mark | clears the link of the oldest writer after the mark | |
 //! | load of STATE `i` ([`Summon`]) | a leader in the second list | takes the right, at `STATE_LEADS_TABLE` | |
 //! | store of `STATE_PARALLEL` to STATE `k` ([`MakeParallel`]) | who has the right | a member of its group may work beside it | |
 //! | compare-exchange of the second NEWEST to 0 ([`LeaveSecond`]) | who has the right | gives the right back | exit of the pipelined stage |
-//! | load of OLDER `k` ([`ReadOlderSecond`]) | who has the right | sees a link of the second list | |
 //! | store of OLDER `k` ([`ClearSecond`]) | who has the right | clears the link of the next group's oldest writer | |
 //! | store of `STATE_LEADS_TABLE` to STATE `k` ([`CallNext`]) | who had it | gives the right on to that writer | exit of the pipelined stage |
 //!
@@ -88,8 +86,7 @@ pub use second_law::{handing_on, second_steps_and_events};
 pub use steps::{
     AimSecond, Begin, Build, CallNext, ClearSecond, Complete, CutAway, CutBehindMark, CutOff,
     Fetch, Free, JoinSecond, Leave, LeaveSecond, Link, MakeParallel, Mark, NameOlder, ReadNewest,
-    ReadOlder, ReadOlderMarked, ReadOlderSecond, ReadReply, ReadState, Retire, ReturnSlot, Summon,
-    Wake,
+    ReadOlder, ReadReply, ReadState, Retire, ReturnSlot, Summon, Wake,
 };
 pub use view::{
     Back, Debt, Handling, Lead, LineEvent, LineHold, LineStage, LineView, QueuedWriter, Squad,

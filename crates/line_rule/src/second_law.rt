@@ -18,7 +18,7 @@ ghost use Rattle.line_rule.specs.declared.view.LineStage.TheVariants.{Leading, C
 ghost use Rattle.line_rule.specs.Chain.{AllCoded, state_at, older_at, pack, newest, heads, all_answers};
 ghost use Rattle.line_rule.specs.Standing.{line_of};
 ghost use Rattle.line_rule.specs.Laws.{laws_for, asks_for, logs_picked, given_runs};
-ghost use Rattle.line_rule.specs.Plays.{Sat, At, AtWith, HandsOn, IsCut, squad_at_cut, in_hand, debt, slots_of, after_read_newest, after_cut_as, after_mark, after_wake, after_free, after_read_older_marked, after_cut_behind_mark, after_aim_second, after_join_second, after_summon, after_make_parallel, after_leave_second, after_read_older_second, after_clear_second, after_call_next};
+ghost use Rattle.line_rule.specs.Plays.{Sat, At, AtWith, HandsOn, IsCut, squad_at_cut, in_hand, debt, slots_of, after_read_newest, after_cut_as, after_mark, after_wake, after_free, after_cut_behind_mark, after_aim_second, after_join_second, after_summon, after_make_parallel, after_leave_second, after_clear_second, after_call_next};
 ghost use Rattle.line_rule.specs.Steps.{now_of, Stays, HappensWhere, IsBoundary, IsSecond, IsNext, IsServedOut, StepIs};
 ghost use Rattle.line_rule.specs.Handing.{Sees, IsWalked, IsOwn, IsInNone, IsJoined, IsServed, IsNewestGroup, IsOldestGroup};
 ghost use Rattle.line_rule.specs.Events.{grouped};
@@ -83,9 +83,6 @@ pub fn second_steps_and_events<
         → StepIs (laws_for Request.item_of Reply.run_of Log.LogOfGroups z) z.clients
         (HappensWhere MARK (IsNext back lead.own p gs)) slots id me 0 (λ x. either (x == MARK) 0 x)
         (after_free (step slots 0 MARK 0 none) me) }
-    ensures read_older_marked { (z : Start Log.About) (slots id word : ℕ) (me : Sat Request Reply Log Right)
-        → StepIs (laws_for Request.item_of Reply.run_of Log.LogOfGroups z) z.clients (λ _. Stays)
-        slots id me word (λ x. x) (after_read_older_marked (step slots word 0 0 none) me) }
     ensures cut_behind_mark { (z : Start Log.About) (slots id word c new : ℕ) (me : Sat Request Reply Log Right)
         (lead : Lead Request Reply)
         (mine : List (Request × Reply)) (back : Back Request Reply) (newer : List (QueuedWriter Request))
@@ -136,9 +133,6 @@ pub fn second_steps_and_events<
         → StepIs (laws_for Request.item_of Reply.run_of Log.LogOfGroups z) z.clients
         (HappensWhere member (IsServedOut c g))
         slots id me 1 (λ x. either (x == member) 0 x) (after_leave_second (step slots 1 member 0 none) me) }
-    ensures read_older_second { (z : Start Log.About) (slots id word : ℕ) (me : Sat Request Reply Log Right)
-        → StepIs (laws_for Request.item_of Reply.run_of Log.LogOfGroups z) z.clients (λ _. Stays)
-        slots id me word (λ x. x) (after_read_older_second (step slots word 0 0 none) me) }
     ensures clear_second { (z : Start Log.About) (slots id word c new : ℕ) (me : Sat Request Reply Log Right)
         (d : Debt Request Reply)
         (mine : List (Request × Reply)) (g : Squad Request Reply) (walk newer : List (QueuedWriter Request))

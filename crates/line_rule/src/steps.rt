@@ -1,7 +1,7 @@
 //! The steps of the list: which words and slots each may move, and what its seat knows then.
 ghost use Rattle.std.specs.Prelude.{◌≡◌};
 ghost use Rattle.line_rule.specs.Laws.{logs_picked, serves_picked, kept_picked, asks_picked};
-ghost use Rattle.line_rule.specs.Plays.{after_begin, after_read_newest, after_name_older, after_link, after_read_state, after_read_reply, after_return_slot, after_build, after_read_older, after_fetch, after_leave, after_complete, after_retire, after_cut_as, after_cut_off, after_wake, after_mark, after_free, after_aim_second, after_join_second, after_summon, after_leave_second, after_read_older_second, after_clear_second, after_call_next, after_make_parallel, after_read_older_marked, after_cut_behind_mark};
+ghost use Rattle.line_rule.specs.Plays.{after_begin, after_read_newest, after_name_older, after_link, after_read_state, after_read_reply, after_return_slot, after_build, after_read_older, after_fetch, after_leave, after_complete, after_retire, after_cut_as, after_cut_off, after_wake, after_mark, after_free, after_aim_second, after_join_second, after_summon, after_leave_second, after_clear_second, after_call_next, after_make_parallel, after_cut_behind_mark};
 ghost use mathlib.Core.Option.{some};
 
 use crate::content::LineSlot;
@@ -105,7 +105,8 @@ impl<
     ghost then = { after_build (asks_picked Request.item_of Log.lawful B.about) B.number };
 }
 
-/// A leader reads the older link of a writer that it walked past.
+/// A leader reads the older link of a writer of its walk: of the queue, of those that came after its mark, or, with
+/// the right, of the second list.
 pub struct ReadOlder;
 
 impl<Request, Reply, Log, Right> Play<
@@ -245,16 +246,6 @@ impl<Request, Reply, Log, Right> Play<
     ghost then = { after_leave_second };
 }
 
-/// A leader with the right reads the older link of a writer of the second list.
-pub struct ReadOlderSecond;
-
-impl<Request, Reply, Log, Right> Play<
-    LineSlot<Request, Reply, Log, Right>,
-    LineView<Request, Reply>,
-> for ReadOlderSecond {
-    ghost then = { after_read_older_second };
-}
-
 /// A leader with the right clears the older link of the next group's oldest writer.
 pub struct ClearSecond;
 
@@ -293,16 +284,6 @@ impl<Request, Reply, Log, Right> Play<
     LineView<Request, Reply>,
 > for Free {
     ghost then = { after_free };
-}
-
-/// A leader reads the older link of a writer that came after its mark.
-pub struct ReadOlderMarked;
-
-impl<Request, Reply, Log, Right> Play<
-    LineSlot<Request, Reply, Log, Right>,
-    LineView<Request, Reply>,
-> for ReadOlderMarked {
-    ghost then = { after_read_older_marked };
 }
 
 /// A leader clears the older link of the oldest writer that came after its mark.

@@ -7,7 +7,7 @@ use Rattle.line_rule.specs.declared.view.Handling.{Handling}
 use Rattle.line_rule.specs.declared.view.LineStage.TheVariants.{Idle}
 use Rattle.line_rule.specs.Rule.{hold, Has, AllIdle, Merges}
 use Rattle.line_writers.specs.declared.writer.Writer.{Writer}
-use Rattle.line_writers.specs.Seats.{told, IsOut, AllOut, HasClient, AllThere, Merged, holds_of}
+use Rattle.line_writers.specs.Seats.{answers_told, IsOut, AllOut, HasClient, AllThere, Merged, holds_of}
 
 module _ {Request Reply : Type 0} where
   has_back : (h : LineHold Request Reply) (a b : List (LineHold Request Reply)) → Has h b → Has h (a ++ b)
@@ -25,10 +25,10 @@ module _ {Request Reply : Type 0} where
 module _ {Request Reply Log Right : Type 0} where
   pub holds-append : (a b : List (Writer Request Reply Log Right)) → holds_of (a ++ b) ≡ holds_of a ++ holds_of b
   holds-append [] b = refl
-  holds-append (w ∷ ws) b = ap (λ l. hold w.client Idle (told w) ∷ l) (holds-append ws b)
+  holds-append (w ∷ ws) b = ap (λ l. hold w.client Idle (answers_told w) ∷ l) (holds-append ws b)
 
-  pub holds_back : (a : List (Writer Request Reply Log Right)) (w : Writer Request Reply Log Right) → reverse (holds_of (a ++ w ∷ [])) ≡ hold w.client Idle (told w) ∷ reverse (holds_of a)
-  holds_back a w = ap reverse (holds-append a (w ∷ [])) ∙ reverse-append (holds_of a) (hold w.client Idle (told w) ∷ [])
+  pub holds_back : (a : List (Writer Request Reply Log Right)) (w : Writer Request Reply Log Right) → reverse (holds_of (a ++ w ∷ [])) ≡ hold w.client Idle (answers_told w) ∷ reverse (holds_of a)
+  holds_back a w = ap reverse (holds-append a (w ∷ [])) ∙ reverse-append (holds_of a) (hold w.client Idle (answers_told w) ∷ [])
 
   pub out_last : (table : TableId) (a : List (Writer Request Reply Log Right)) (w : Writer Request Reply Log Right) → AllOut table (a ++ w ∷ []) → (w.seat.table_id ≡ table) × IsOut w × AllOut table a
   out_last table [] w ok = (ok.0, ok.1, tt)
@@ -36,11 +36,11 @@ module _ {Request Reply Log Right : Type 0} where
 
   has_hold : (ws : List (Writer Request Reply Log Right)) (i : ℕ) → HasClient i ws → (m : List (Request × Reply)) × Has (hold i Idle m) (holds_of ws)
   has_hold [] i x = absurd x
-  has_hold (w ∷ ws) i x = ⊎_elim (λ (e : w.client ≡ i). (told w, inl (ap (λ (j : ℕ). hold j Idle (told w)) e))) (λ (t : HasClient i ws). let r = has_hold ws i t in (r.0, inr r.1)) x
+  has_hold (w ∷ ws) i x = ⊎_elim (λ (e : w.client ≡ i). (answers_told w, inl (ap (λ (j : ℕ). hold j Idle (answers_told w)) e))) (λ (t : HasClient i ws). let r = has_hold ws i t in (r.0, inr r.1)) x
 
   pub all_idle : (n : ℕ) (ws : List (Writer Request Reply Log Right)) (v : List (LineHold Request Reply)) → v ≡ reverse (holds_of ws) → AllThere n ws → AllIdle n v
   all_idle n ws v is all i lo hi = let r = has_hold ws i (all i lo hi) in (r.0, subst (Has (hold i Idle r.0)) (sym is) (has_reverse (hold i Idle r.0) (holds_of ws) r.1))
 
   pub merged : (handled : List (Handling Request Reply)) (all ws : List (Writer Request Reply Log Right)) → ((h : LineHold Request Reply) → Has h (holds_of ws) → Has h (holds_of all)) → Merges handled (reverse (holds_of all)) → Merged handled ws
   merged handled all [] to ok = tt
-  merged handled all (w ∷ ws) to ok = (ok (hold w.client Idle (told w)) (has_reverse (hold w.client Idle (told w)) (holds_of all) (to (hold w.client Idle (told w)) (inl refl))), merged handled all ws (λ h x. to h (inr x)) ok)
+  merged handled all (w ∷ ws) to ok = (ok (hold w.client Idle (answers_told w)) (has_reverse (hold w.client Idle (answers_told w)) (holds_of all) (to (hold w.client Idle (answers_told w)) (inl refl))), merged handled all ws (λ h x. to h (inr x)) ok)

@@ -1,5 +1,5 @@
 -- How a leader finds the writer behind its marker.
-use Rattle.std.proofs.Common.{◌≡◌, ◌≢◌, ℕ, ◌+◌, ◌<◌, List, [], ◌∷◌, ◌++◌, length, refl, ap, ◌∙◌, subst, arith, append_assoc, length-append}
+use Rattle.std.proofs.Common.{◌≡◌, ◌≢◌, ℕ, ◌+◌, ◌<◌, List, [], ◌∷◌, ◌++◌, length, refl, ap, ◌∙◌, subst, inl, inr, arith, append_assoc, length-append}
 use Rattle.line_rule.specs.declared.view.QueuedWriter.{QueuedWriter}
 use Rattle.line_rule.specs.declared.view.Lead.{Lead}
 use Rattle.line_rule.specs.declared.view.Back.{Back}
@@ -10,7 +10,7 @@ use Rattle.line_rule.specs.declared.view.Back.TheVariants.{Serving}
 use Rattle.line_rule.specs.Standing.{line_of}
 use Rattle.line_rule.specs.Chain.{newest, newest_from}
 use Rattle.line_rule.specs.Plays.{Sat, AtWith, AllBelow, WalksMarked, WalksSecond, lead_with_walk}
-use Rattle.line_writers.specs.Roles.{SeesMarked, SeesSecond, HasTrace}
+use Rattle.line_writers.specs.Roles.{HasRead}
 use Rattle.line_writers.proofs.Surveys.{below_at, oldest_newer, some_newest}
 
 pub record BehindMarked {Request Reply Log Right : Type 0} (c slots : ℕ) (lead : Lead Request Reply) (mine : List (Request × Reply)) (b : Back Request Reply) (found : ℕ) (was now : Sat Request Reply Log Right) : Type 0 where
@@ -20,7 +20,7 @@ pub record BehindMarked {Request Reply Log Right : Type 0} (c slots : ℕ) (lead
   pub at : AtWith c (Marking (lead_with_walk lead walk)) mine b now
   pub slots_same : now.1 ≡ was.1
   pub parts : walk ≡ pre ++ x ∷ []
-  pub read : HasTrace (SeesMarked c) slots found now
+  pub read : HasRead 255 slots c found now
   pub range : (0 < x.by) × (x.by + 1 < slots)
   pub long : length walk ≡ length pre + 1
 
@@ -44,7 +44,7 @@ behind_marked c slots lead mine b found was now w ne =
       at = w.1;
       slots_same = w.2;
       parts = parts;
-      read = (w.0, f.0, f.1, (lead_with_walk lead w.0, mine, b, w.1, refl), f.2, w.3 ∙ ap (newest_from 255) f.2, w.4, w.5);
+      read = (w.0, f.0, f.1, inr (inl (refl, (lead_with_walk lead w.0, mine, b, w.1, refl))), f.2, w.3 ∙ ap (newest_from 255) f.2, w.4, w.5);
       range = (r.0, r.1);
       long = ap length parts ∙ (length-append n.0 (n.1 ∷ []));
     }
@@ -56,7 +56,7 @@ pub record BehindSecond {Request Reply Log Right : Type 0} (c slots : ℕ) (d : 
   pub at : AtWith c (Settling d) mine (Serving g walk) now
   pub slots_same : now.1 ≡ was.1
   pub parts : walk ≡ pre ++ x ∷ line_of g
-  pub read : HasTrace (SeesSecond c) slots found now
+  pub read : HasRead 0 slots c found now
   pub range : (0 < x.by) × (x.by + 1 < slots)
   pub long : length walk ≡ length pre + 1 + length (line_of g)
 
@@ -73,7 +73,7 @@ behind_second c slots d mine g found old was now w is_old ne =
       at = w.1;
       slots_same = w.2;
       parts = parts;
-      read = (w.0 ++ line_of g, f.0, f.1, (d, mine, g, w.1), f.2, w.3 ∙ ap newest f.2, w.4, w.5);
+      read = (w.0 ++ line_of g, f.0, f.1, inr (inr (refl, (Settling d, mine, g, w.1))), f.2, w.3 ∙ ap newest f.2, w.4, w.5);
       range = (r.0, r.1);
       long = ap length parts ∙ (length-append n.0 (n.1 ∷ line_of g) ∙ omega arith);
     }

@@ -1,5 +1,5 @@
 -- How a leader finds the writer behind its group.
-use Rattle.std.proofs.Common.{◌≡◌, ◌≢◌, ℕ, ◌+◌, ◌<◌, List, [], ◌∷◌, ◌++◌, length, ap, ◌∙◌, subst, arith, append_assoc, length-append}
+use Rattle.std.proofs.Common.{◌≡◌, ◌≢◌, ℕ, ◌+◌, ◌<◌, List, [], ◌∷◌, ◌++◌, length, refl, ap, ◌∙◌, subst, inl, arith, append_assoc, length-append}
 use Rattle.line_rule.specs.declared.view.QueuedWriter.{QueuedWriter}
 use Rattle.line_rule.specs.declared.view.Lead.{Lead}
 use Rattle.line_rule.specs.declared.view.LineStage.TheVariants.{Leading}
@@ -15,7 +15,7 @@ pub record Behind {Request Reply Log Right : Type 0} (c slots : ℕ) (lead : Lea
   pub at : At c (Leading (lead_with_walk lead (queue ++ in_hand lead))) mine now
   pub slots_same : now.1 ≡ was.1
   pub parts : queue ++ in_hand lead ≡ pre ++ x ∷ in_hand lead
-  pub read : HasRead slots c found now
+  pub read : HasRead 0 slots c found now
   pub range : (0 < x.by) × (x.by + 1 < slots)
   pub long : length (queue ++ in_hand lead) ≡ length pre + 1 + length (in_hand lead)
 
@@ -32,7 +32,7 @@ behind c slots lead mine found old was now w is_old ne =
       at = w.1;
       slots_same = w.2;
       parts = parts;
-      read = (lead_with_walk lead (w.0 ++ in_hand lead), mine, f.0, f.1, w.1, f.2, w.3 ∙ ap newest f.2, w.4, w.5);
+      read = (w.0 ++ in_hand lead, f.0, f.1, inl (refl, (lead_with_walk lead (w.0 ++ in_hand lead), mine, w.1, refl)), f.2, w.3 ∙ ap newest f.2, w.4, w.5);
       range = (b.0, b.1);
       long = ap length parts ∙ (length-append n.0 (n.1 ∷ in_hand lead) ∙ omega arith);
     }

@@ -11,7 +11,6 @@ pub mod News
 pub mod Contents
 pub mod Closes
 pub mod Ways
-pub mod Traces
 pub mod Frees
 pub mod Sends
 pub mod Turns

@@ -1,26 +1,29 @@
 -- How a leader reads the list.
-use Rattle.std.proofs.Common.{◌≡◌, ◌≢◌, ℕ, suc, ◌+◌, ◌^◌, ◌/◌, ◌%◌, ◌<◌, ◌≤◌, List, [], ◌∷◌, ◌++◌, length, get_or, refl, sym, ap, ◌∙◌, subst, arith, append_assoc, length-append}
+use Rattle.std.proofs.Common.{◌≡◌, ◌≢◌, ℕ, suc, ◌+◌, ◌^◌, ◌<◌, ◌≤◌, List, [], ◌∷◌, ◌++◌, length, get_or, refl, sym, ap, ◌∙◌, subst, inl, inr, arith, append_assoc, length-append}
 use Rattle.line_rule.specs.declared.view.QueuedWriter.{QueuedWriter}
 use Rattle.line_rule.specs.declared.view.Lead.{Lead}
-use Rattle.line_rule.specs.declared.view.LineStage.TheVariants.{Leading}
-use Rattle.line_rule.specs.Chain.{pack, newest, pairs}
+use Rattle.line_rule.specs.declared.view.LineStage.TheVariants.{Leading, Marking}
+use Rattle.line_rule.specs.declared.view.Back.TheVariants.{Away, Serving}
+use Rattle.line_rule.specs.Chain.{pack, newest, newest_from, pairs}
+use Rattle.line_rule.specs.Plays.{Sat, AllBelow, SeesTo}
+use Rattle.line_rule.proofs.Leads.{lead_in, one_lead}
+use Rattle.line_rule.proofs.Onward.{one_hold_at}
+use Rattle.line_rule.proofs.Serves.{walk_of}
 use Rattle.line_writers.specs.Roles.{HasRead, CodesFit}
-use Rattle.line_rule.specs.Plays.{Sat, At, AllBelow}
 
 -- the writers before x are read, and x comes next
-pub record Surveyed {Request Reply Log Right : Type 0} (c slots : ℕ) (now : Sat Request Reply Log Right) (at : ℕ) (items : List (ℕ × ℕ)) (count : ℕ) : Type 0 where
-  pub lead : Lead Request Reply
-  pub mine : List (Request × Reply)
+pub record Surveyed {Request Reply Log Right : Type 0} (end c slots : ℕ) (now : Sat Request Reply Log Right) (at : ℕ) (items : List (ℕ × ℕ)) (count : ℕ) : Type 0 where
+  pub walk : List (QueuedWriter Request)
   pub pre : List (QueuedWriter Request)
   pub x : QueuedWriter Request
   pub post : List (QueuedWriter Request)
-  pub reads : At c (Leading lead) mine now
-  pub parts : lead.walk ≡ pre ++ x ∷ post
+  pub reads : SeesTo end c now walk
+  pub parts : walk ≡ pre ++ x ∷ post
   pub at_is : at ≡ x.by
   pub items_are : items ≡ pairs pre
   pub counted : length pre ≡ count
-  pub short : length lead.walk + 1 < slots
-  pub below : AllBelow slots lead.walk
+  pub short : length walk + 1 < slots
+  pub below : AllBelow slots walk
 
 pub codes_fit : (l : List (ℕ × ℕ)) (b k : ℕ) → CodesFit l → k < 2 ^ 56 → CodesFit (l ++ (b, k) ∷ [])
 codes_fit [] b k ok small = (small, tt)
@@ -62,56 +65,78 @@ some_newest [] [] o = (o, [], refl)
 some_newest [] (e ∷ es) o = (e, es ++ o ∷ [], refl)
 some_newest (e ∷ es) t o = (e, es ++ (t ++ o ∷ []), refl)
 
-none_left : {Request : Type 0} (slots : ℕ) (post : List (QueuedWriter Request)) → AllBelow slots post → newest post ≡ 0 → post ≡ []
-none_left slots [] ok is = refl
-none_left slots (e ∷ es) ok is = let a = ok.0 in absurd (omega arith)
+none_left : {Request : Type 0} (end slots : ℕ) (post : List (QueuedWriter Request)) → ((k : ℕ) → 0 < k → k + 1 < slots → k ≢ end) → AllBelow slots post → newest_from end post ≡ end → post ≡ []
+none_left end slots [] apart ok is = refl
+none_left end slots (e ∷ es) apart ok is = absurd (apart e.by ok.0 ok.1 is)
 
-one_left : {Request : Type 0} (post : List (QueuedWriter Request)) → newest post ≢ 0 → (y : QueuedWriter Request) × (more : List (QueuedWriter Request)) × (post ≡ y ∷ more)
-one_left [] ne = absurd (ne refl)
-one_left (e ∷ es) ne = (e, es, refl)
+one_left : {Request : Type 0} (end : ℕ) (post : List (QueuedWriter Request)) → newest_from end post ≢ end → (y : QueuedWriter Request) × (more : List (QueuedWriter Request)) × (post ≡ y ∷ more)
+one_left end [] ne = absurd (ne refl)
+one_left end (e ∷ es) ne = (e, es, refl)
 
-newest_below : {Request : Type 0} (slots : ℕ) (post : List (QueuedWriter Request)) → 1 < slots → AllBelow slots post → newest post + 1 < slots
-newest_below slots [] pos ok = pos
-newest_below slots (e ∷ es) pos ok = ok.1
+newest_byte : {Request : Type 0} (end slots : ℕ) (post : List (QueuedWriter Request)) → end < 256 → slots ≤ 256 → AllBelow slots post → newest_from end post < 256
+newest_byte end slots [] small few ok = small
+newest_byte end slots (e ∷ es) small few ok = let a = ok.1 in omega arith
 
-module _ {Request Reply Log Right : Type 0} (c slots : ℕ) (now : Sat Request Reply Log Right) where
-  pub surveys : (at : ℕ) → HasRead slots c at now → Surveyed c slots now at [] 0
-  surveys at h = record { lead = h.0; mine = h.1; pre = []; x = h.2; post = h.3; reads = h.4; parts = h.5; at_is = h.6; items_are = refl; counted = refl; short = h.7; below = h.8 }
+-- the end is no client, and a byte
+at_end : {Request Reply Log Right : Type 0} (end c slots : ℕ) (m : Sat Request Reply Log Right) (walk : List (QueuedWriter Request)) → slots ≤ 256 → SeesTo end c m walk → (end < 256) × ((k : ℕ) → 0 < k → k + 1 < slots → k ≢ end)
+at_end end c slots m walk few (inl h) = let z = h.0 in (omega arith, λ k lo hi e. omega arith)
+at_end end c slots m walk few (inr (inl h)) = let z = h.0 in (omega arith, λ k lo hi e. omega arith)
+at_end end c slots m walk few (inr (inr h)) = let z = h.0 in (omega arith, λ k lo hi e. omega arith)
 
-  module _ (at count : ℕ) (items : List (ℕ × ℕ)) (v : Surveyed c slots now at items count) where
+-- what the leader has read is one walk
+pub one_walk : {Request Reply Log Right : Type 0} (end c : ℕ) (m : Sat Request Reply Log Right) (a b : List (QueuedWriter Request)) → SeesTo end c m a → SeesTo end c m b → a ≡ b
+one_walk end c m a b (inl u) (inl v) = let x = u.1 in let y = v.1 in
+    let e = one_hold_at c c (Leading x.0) (Leading y.0) x.1 y.1 Away Away m.0 x.2 y.2 in sym x.3 ∙ (ap (λ (l : Lead _ _). l.walk) (one_lead x.0 y.0 e.1) ∙ y.3)
+one_walk end c m a b (inl u) (inr (inl v)) = let z = u.0 in let w = v.0 in absurd (omega arith)
+one_walk end c m a b (inl u) (inr (inr v)) = let x = u.1 in let y = v.1 in
+    let e = one_hold_at c c (Leading x.0) y.0 x.1 y.1 Away (Serving y.2 b) m.0 x.2 y.3 in let bad = e.3 in absurd (cc)
+one_walk end c m a b (inr (inl u)) (inl v) = let z = u.0 in let w = v.0 in absurd (omega arith)
+one_walk end c m a b (inr (inl u)) (inr (inl v)) = let x = u.1 in let y = v.1 in
+    let e = one_hold_at c c (Marking x.0) (Marking y.0) x.1 y.1 x.2 y.2 m.0 x.3 y.3 in sym x.4 ∙ (ap (λ (l : Lead _ _). l.walk) (ap (lead_in x.0) e.1) ∙ y.4)
+one_walk end c m a b (inr (inl u)) (inr (inr v)) = let z = u.0 in let w = v.0 in absurd (omega arith)
+one_walk end c m a b (inr (inr u)) (inl v) = let x = u.1 in let y = v.1 in
+    let e = one_hold_at c c x.0 (Leading y.0) x.1 y.1 (Serving x.2 a) Away m.0 x.3 y.2 in let bad = e.3 in absurd (cc)
+one_walk end c m a b (inr (inr u)) (inr (inl v)) = let z = u.0 in let w = v.0 in absurd (omega arith)
+one_walk end c m a b (inr (inr u)) (inr (inr v)) = let x = u.1 in let y = v.1 in
+    let e = one_hold_at c c x.0 y.0 x.1 y.1 (Serving x.2 a) (Serving y.2 b) m.0 x.3 y.3 in ap (walk_of a) e.3
+
+module _ {Request Reply Log Right : Type 0} (end c slots : ℕ) (now : Sat Request Reply Log Right) where
+  pub surveys : (at : ℕ) → HasRead end slots c at now → Surveyed end c slots now at [] 0
+  surveys at h = record { walk = h.0; pre = []; x = h.1; post = h.2; reads = h.3; parts = h.4; at_is = h.5; items_are = refl; counted = refl; short = h.6; below = h.7 }
+
+  module _ (at count : ℕ) (items : List (ℕ × ℕ)) (v : Surveyed end c slots now at items count) where
     pub next_below : (at + 1 < slots) × (count + 2 < slots)
     next_below =
         let b = below_at slots v.pre v.x v.post (subst (AllBelow slots) v.parts v.below) in let b1 = b.1 in let is = v.at_is in let k = v.counted in let sh = v.short in
         (omega arith, omega (arith, ap length v.parts, length-append v.pre (v.x ∷ v.post)))
 
-    module _ (client code : ℕ) (few : slots ≤ 256) (byte : client < 256) (is_word : pack client code ≡ pack (newest v.post) v.x.code) where
-      halves : (client ≡ newest v.post) × (code ≡ v.x.code)
+    module _ (client code : ℕ) (few : slots ≤ 256) (byte : client < 256) (is_word : pack client code ≡ pack (newest_from end v.post) v.x.code) where
+      halves : (client ≡ newest_from end v.post) × (code ≡ v.x.code)
       halves =
-          let b = below_at slots v.pre v.x v.post (subst (AllBelow slots) v.parts v.below) in let b0 = b.0 in let b1 = b.1 in
-          let small : newest v.post + 1 < slots = newest_below slots v.post (omega arith) b.2 in (omega arith, omega arith)
+          let b = below_at slots v.pre v.x v.post (subst (AllBelow slots) v.parts v.below) in
+          let least : newest_from end v.post < 256 = newest_byte end slots v.post (at_end end c slots now v.walk few v.reads).0 few b.2 in (omega arith, omega arith)
 
       read : items ++ (at, code) ∷ [] ≡ pairs (v.pre ++ v.x ∷ [])
       read = (λ i. v.items_are i ++ (v.at_is i, halves.1 i) ∷ []) ∙ sym (pairs-append v.pre (v.x ∷ []))
 
-      pub goes_on : (now' : Sat Request Reply Log Right) → now' ≡ now → client ≢ 0 → Surveyed c slots now' client (items ++ (at, code) ∷ []) (count + 1)
+      pub goes_on : (now' : Sat Request Reply Log Right) → now' ≡ now → client ≢ end → Surveyed end c slots now' client (items ++ (at, code) ∷ []) (count + 1)
       goes_on now' same ne =
-          let f = one_left v.post (λ e. ne (halves.0 ∙ e)) in
+          let f = one_left end v.post (λ e. ne (halves.0 ∙ e)) in
           record {
-            lead = v.lead;
-            mine = v.mine;
+            walk = v.walk;
             pre = v.pre ++ v.x ∷ [];
             x = f.0;
             post = f.1;
-            reads = ap (λ m. m.0) same ∙ v.reads;
+            reads = subst (λ m. SeesTo end c m v.walk) (sym same) v.reads;
             parts = v.parts ∙ (ap (λ l. v.pre ++ v.x ∷ l) f.2 ∙ sym (append_assoc v.pre (v.x ∷ []) (f.0 ∷ f.1)));
-            at_is = halves.0 ∙ ap newest f.2;
+            at_is = halves.0 ∙ ap (newest_from end) f.2;
             items_are = read;
             counted = (let k = v.counted in omega (arith, length-append v.pre (v.x ∷ [])));
             short = v.short;
             below = v.below;
           }
 
-      pub all_read : client ≡ 0 → items ++ (at, code) ∷ [] ≡ pairs v.lead.walk
+      pub all_read : client ≡ end → items ++ (at, code) ∷ [] ≡ pairs v.walk
       all_read z =
           let b = below_at slots v.pre v.x v.post (subst (AllBelow slots) v.parts v.below) in
-          read ∙ ap pairs (ap (λ l. v.pre ++ v.x ∷ l) (sym (none_left slots v.post b.2 (sym halves.0 ∙ z))) ∙ sym v.parts)
+          read ∙ ap pairs (ap (λ l. v.pre ++ v.x ∷ l) (sym (none_left end slots v.post (at_end end c slots now v.walk few v.reads).1 b.2 (sym halves.0 ∙ z))) ∙ sym v.parts)

@@ -18,7 +18,7 @@ use Rattle.line_rule.specs.Events.{HasCome, HasBuilt}
 use Rattle.line_rule.specs.Chain.{newest, pairs, Within, heads, of, all_answers}
 use Rattle.line_rule.specs.Grouping.{IsWhole}
 use Rattle.line_rule.specs.Rule.{hold}
-use Rattle.line_rule.specs.Plays.{Sat, At, AtWith, squad_with_end, AllBelow, Elected, lead_at_build, in_hand, slots_of, debt, Walks, blanks}
+use Rattle.line_rule.specs.Plays.{Sat, At, AtWith, SeesTo, squad_with_end, AllBelow, Elected, lead_at_build, in_hand, slots_of, debt, Walks, blanks}
 use Rattle.line_writers.specs.declared.writer.Writer.{Writer}
 use Rattle.line_writers.specs.declared.writer.Role.{Role}
 use Rattle.line_writers.specs.declared.second.PipelinedRole.{PipelinedRole}
@@ -121,12 +121,11 @@ module _ {Request Reply Log Right : Type 0} where
   Turns stood kept c task q mine Parallel m = IsLinked stood c task q mine m
   Turns stood kept c task q mine (Done p) m = HasReply kept c q mine p m
 
-  -- the leader has read the list, from this number on
-  abbrev pub HasRead : ℕ → ℕ → ℕ → Sat Request Reply Log Right → Type 0
-  HasRead slots c at m = (lead : Lead Request Reply) × (mine : List (Request × Reply)) × (x : QueuedWriter Request)
-      × (post : List (QueuedWriter Request))
-      × At c (Leading lead) mine m × (lead.walk ≡ x ∷ post) × (at ≡ x.by) × (length lead.walk + 1 < slots)
-      × AllBelow slots lead.walk
+  -- the leader has read the writers from this number on, down to this end
+  abbrev pub HasRead : ℕ → ℕ → ℕ → ℕ → Sat Request Reply Log Right → Type 0
+  HasRead end slots c at m = (walk : List (QueuedWriter Request)) × (x : QueuedWriter Request)
+      × (post : List (QueuedWriter Request)) × SeesTo end c m walk × (walk ≡ x ∷ post) × (at ≡ x.by)
+      × (length walk + 1 < slots) × AllBelow slots walk
 
   -- x is the oldest writer whose request the leader does not have
   abbrev pub NextIs : ℕ → Lead Request Reply → List (Request × Reply) → List (QueuedWriter Request)
@@ -174,24 +173,6 @@ module _ {Request Reply Log Right : Type 0} where
       × (found ≢ old → Walks slots c lead mine found m m')
 
 module _ {Request Reply Log Right : Type 0} where
-  -- the leader has read these writers behind its marker
-  abbrev pub SeesMarked : ℕ → Sat Request Reply Log Right → List (QueuedWriter Request) → Type 0
-  SeesMarked c m walk = (lead : Lead Request Reply) × (mine : List (Request × Reply)) × (back : Back Request Reply)
-      × AtWith c (Marking lead) mine back m
-      × (lead.walk ≡ walk)
-
-  -- the leader has the right, and has read these writers of the second list
-  abbrev pub SeesSecond : ℕ → Sat Request Reply Log Right → List (QueuedWriter Request) → Type 0
-  SeesSecond c m walk = (d : Debt Request Reply) × (mine : List (Request × Reply)) × (g : Squad Request Reply)
-      × AtWith c (Settling d) mine (Serving g walk) m
-
-  -- from this number on
-  abbrev pub HasTrace : (Sat Request Reply Log Right → List (QueuedWriter Request) → Type 0) → ℕ → ℕ
-      → Sat Request Reply Log Right → Type 0
-  HasTrace sees slots at m = (walk : List (QueuedWriter Request)) × (x : QueuedWriter Request)
-      × (post : List (QueuedWriter Request)) × sees m walk
-      × (walk ≡ x ∷ post) × (at ≡ x.by) × (length walk + 1 < slots) × AllBelow slots walk
-
   -- the leader has cut its group off, behind its marker, or before the writer next
   abbrev pub HasStage : ℕ → Lead Request Reply → List (Request × Reply) → Back Request Reply → ℕ
       → Sat Request Reply Log Right → Type 0

@@ -27,8 +27,8 @@ module _ {Request Reply Log Right : Type 0} where
   client_of w = w.client
 
   -- what the client put, and what came back, in order
-  abbrev pub told : Writer Request Reply Log Right → List (Request × Reply)
-  told w = told_in_first w.seat.me.0
+  abbrev pub answers_told : Writer Request Reply Log Right → List (Request × Reply)
+  answers_told w = told_in_first w.seat.me.0
 
   -- the writer is the same client's, at the same list
   abbrev pub Stays : Writer Request Reply Log Right → Writer Request Reply Log Right → Type 0
@@ -98,7 +98,7 @@ module _ {Request Reply Log Right K : Type 0} where
 module _ {Request Reply Log Right : Type 0} where
   -- it is in no list
   abbrev pub IsOut : Writer Request Reply Log Right → Type 0
-  IsOut w = At w.client Idle (told w) w.seat.me × (w.seat.me.1 ≡ [])
+  IsOut w = At w.client Idle (answers_told w) w.seat.me × (w.seat.me.1 ≡ [])
 
   -- it is in the list with q
   abbrev pub IsIn : (Log → List (Handling Request Reply) → Type 0) → Request → List (Request × Reply)
@@ -146,8 +146,8 @@ module _ {Request Reply Log Right : Type 0} where
   -- of what was handled, each writer's own is what it was told, in its order
   abbrev pub Merged : List (Handling Request Reply) → List (Writer Request Reply Log Right) → Type 0
   Merged handled [] = Unit {0}
-  Merged handled (w ∷ ws) = (of w.client handled ≡ told w) × Merged handled ws
+  Merged handled (w ∷ ws) = (of w.client handled ≡ answers_told w) × Merged handled ws
 
   abbrev pub holds_of : List (Writer Request Reply Log Right) → List (LineHold Request Reply)
   holds_of [] = []
-  holds_of (w ∷ ws) = hold w.client Idle (told w) ∷ holds_of ws
+  holds_of (w ∷ ws) = hold w.client Idle (answers_told w) ∷ holds_of ws

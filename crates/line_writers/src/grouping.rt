@@ -12,10 +12,10 @@ ghost use Rattle.line_rule.specs.declared.view.LineEvent.{LineEvent};
 ghost use Rattle.line_rule.specs.Events.{HasBuilt};
 ghost use Rattle.line_rule.specs.Grouping.{item_of, IsWhole};
 ghost use Rattle.line_rule.specs.Rule.{asks_for, asks_picked};
-ghost use Rattle.line_rule.specs.Plays.{At, lead_at_build, Builds, lead_with_one_more};
+ghost use Rattle.line_rule.specs.Plays.{At, SeesTo, lead_at_build, Builds, lead_with_one_more};
 ghost use Rattle.line_writers.specs.Roles.{Chosen, HasRead, CodesFit, NextIs, Grouped, Gathering, asks};
 ghost use Rattle.line_writers.specs.Rooms.{HasRoom, TakesRequests};
-ghost use Rattle.line_writers.specs.Seats.{about_of, asks_of, bound_of, client_of, clients_of, Belongs, IsChosen, HasGroup, Stays, told};
+ghost use Rattle.line_writers.specs.Seats.{about_of, asks_of, bound_of, client_of, clients_of, Belongs, IsChosen, HasGroup, Stays, answers_told};
 
 use crate::line_writers::WriterList;
 use crate::room::{Requests, Room};
@@ -45,17 +45,17 @@ impl<
     )
         requires leads { Belongs self.now writer.old
             × ((own : QueuedWriter Request) × (seen : List (Handling Request Reply))
-            × IsChosen own seen (told writer.old) writer.old) }
+            × IsChosen own seen (answers_told writer.old) writer.old) }
         requires room { HasRoom (clients_of self.now) room.old × TakesRequests (clients_of self.now) requests.old }
         ensures room { HasRoom (clients_of self.now) room.new
             × (vec_capacity requests.new.list ≡ vec_capacity requests.old.list) }
         ensures client { client_of writer.new ≡ client_of writer.old }
         ensures group { Belongs self.now writer.new
             × ((own : QueuedWriter Request) (seen : List (Handling Request Reply))
-            → IsChosen own seen (told writer.old) writer.old
+            → IsChosen own seen (answers_told writer.old) writer.old
             → (group left : List (QueuedWriter Request))
             × HasGroup (asks_of Request.item_of Log.lawful self.now) (clients_of self.now) (bound_of self.now) own group
-            left seen (told writer.old) writer.new
+            left seen (answers_told writer.old) writer.new
             × (requests.new.list.items ≡ asks own group)) }
         ensures lawful { AllByRecursion (λ (x : ℕ
             × Request). Log.lawful (about_of self.now) x.1) requests.new.list.items }
@@ -93,7 +93,7 @@ impl<
             × (requests.new.items ≡ asks own group) }
     {
         let first = self.build::<B>(writer);
-        self.survey(writer, first, &mut room.walk);
+        self.survey(writer, first, 0, &mut room.walk);
         let Some((by, code)) = room.walk.pop() else {
             unreachable!()
         };
@@ -124,21 +124,23 @@ impl<
         self.table.shared.load::<Build<B>>(&mut writer.seat, 0)
     }
 
-    // Walks the list that was read, from this newest writer to the leader: each writer's client and code.
+    // Walks the writers that were read, from this newest one down to the end that the oldest one's link names: each
+    // writer's client and code.
     pub(crate) fn survey(
         &self,
         writer: &mut Writer<Request, Reply, Log, Right>,
         first: u64,
+        end: u64,
         walk: &mut Vec<(u64, u64)>,
     )
         requires seat { (writer.old.seat.table_id ≡ self.now.table.shared.table_id) × (vec_len walk.old ≡ 0)
             × (walk.old.items ≡ []) × (self.now.clients ≤ vec_capacity walk.old) }
-        requires read { HasRead self.now.table.shared.table_id.slots writer.old.client first writer.old.seat.me }
+        requires read { HasRead end self.now.table.shared.table_id.slots writer.old.client first writer.old.seat.me }
         ensures seat { (writer.new.seat.table_id ≡ writer.old.seat.table_id)
             × (writer.new.client ≡ writer.old.client) × (writer.new.seat.me ≡ writer.old.seat.me)
             × (vec_capacity walk.new ≡ vec_capacity walk.old) }
-        ensures walk { (lead : Lead Request Reply) (mine : List (Request × Reply))
-            → At writer.old.client (Leading lead) mine writer.old.seat.me → walk.new.items ≡ pairs lead.walk }
+        ensures walk { (line : List (QueuedWriter Request)) → SeesTo end writer.old.client writer.old.seat.me line
+            → walk.new.items ≡ pairs line }
         ensures codes { CodesFit walk.new.items }
     {
         let shared = &self.table.shared;
@@ -149,7 +151,7 @@ impl<
             let older = Older::of(word);
             walk.push_reserved((at, older.code));
             at = older.client;
-            if at == 0 {
+            if at == end {
                 return;
             }
         }

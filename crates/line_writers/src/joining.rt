@@ -15,7 +15,7 @@ ghost use Rattle.line_rule.specs.Laws.{given_runs};
 ghost use Rattle.line_rule.specs.Plays.{At, AtWith, in_hand, debt, slots_of, squad_at_cut, squad_with_end, IsCut};
 ghost use Rattle.line_writers.specs.Roles.{HasJoined, HasSent, lead_with_group, past_in, pays, bys};
 ghost use Rattle.line_writers.specs.Rooms.{HasRoom};
-ghost use Rattle.line_writers.specs.Seats.{about_of, asks_of, client_of, clients_of, law_of, piped_of, Belongs, HasGroup, Stays, told};
+ghost use Rattle.line_writers.specs.Seats.{about_of, asks_of, client_of, clients_of, law_of, piped_of, Belongs, HasGroup, Stays, answers_told};
 ghost use Rattle.line_writers.specs.Second.{IsSent, ListsMembers};
 
 use crate::line_writers::WriterList;
@@ -50,8 +50,8 @@ impl<
         requires group { Belongs self.now writer.old × ((max : ℕ) × (own : QueuedWriter Request)
             × (group left : List (QueuedWriter Request)) × (seen : List (Handling Request Reply))
             × (gs : List (QueuedWriter Request × Reply)) × (p : Reply)
-            × HasGroup (asks_of Request.item_of Log.lawful self.now) (clients_of self.now) max own group left seen (told
-            writer.old) writer.old × (heads gs ≡ group) × (replies.old.list.items ≡ pays own p gs)
+            × HasGroup (asks_of Request.item_of Log.lawful self.now) (clients_of self.now) max own group left seen
+            (answers_told writer.old) writer.old × (heads gs ≡ group) × (replies.old.list.items ≡ pays own p gs)
             × law_of Reply.run_of Log.LogOfGroups self.now log (seen ++ all_answers own p gs)) }
         requires room { HasRoom (clients_of self.now) room.old × (vec_len replies.old.list ≤ clients_of self.now) }
         ensures replies { (replies.new.list.items ≡ [])
@@ -60,10 +60,10 @@ impl<
         ensures sent { (max : ℕ) (own : QueuedWriter Request) (group left : List (QueuedWriter Request))
             (seen : List (Handling Request Reply)) (gs : List
             (QueuedWriter Request × Reply)) (p : Reply)
-            → HasGroup (asks_of Request.item_of Log.lawful self.now) (clients_of self.now) max own group left seen (told
-            writer.old) writer.old → heads gs ≡ group → replies.old.list.items ≡ pays own p gs
+            → HasGroup (asks_of Request.item_of Log.lawful self.now) (clients_of self.now) max own group left seen
+            (answers_told writer.old) writer.old → heads gs ≡ group → replies.old.list.items ≡ pays own p gs
             → IsSent (Log.serves (about_of self.now)) (clients_of self.now) (debt gs own p) (given_runs Reply.run_of
-            seen) (given_runs Reply.run_of (seen ++ all_answers own p gs)) (told writer.old) writer.new
+            seen) (given_runs Reply.run_of (seen ++ all_answers own p gs)) (answers_told writer.old) writer.new
             × ListsMembers (clients_of self.now) (debt gs own p) room.new }
     {
         let alone = self.exit_from::<Brand, Brand, R>(rt, writer, log, &mut replies.list, room);
@@ -94,8 +94,8 @@ impl<
         requires group { Belongs self.now writer.old × ((max : ℕ) × (own : QueuedWriter Request)
             × (group left : List (QueuedWriter Request)) × (seen : List (Handling Request Reply))
             × (gs : List (QueuedWriter Request × Reply)) × (p : Reply)
-            × HasGroup (asks_of Request.item_of Log.lawful self.now) (clients_of self.now) max own group left seen (told
-            writer.old) writer.old × (heads gs ≡ group) × (replies.old.items ≡ pays own p gs)
+            × HasGroup (asks_of Request.item_of Log.lawful self.now) (clients_of self.now) max own group left seen
+            (answers_told writer.old) writer.old × (heads gs ≡ group) × (replies.old.items ≡ pays own p gs)
             × law_of Reply.run_of Log.LogOfGroups self.now log (seen ++ all_answers own p gs)
             × (B.given ≡ given_runs Reply.run_of seen)
             × (D.given ≡ given_runs Reply.run_of (seen ++ all_answers own p gs))) }
@@ -108,10 +108,10 @@ impl<
         ensures sent { (max : ℕ) (own : QueuedWriter Request) (group left : List (QueuedWriter Request))
             (seen : List (Handling Request Reply)) (gs :
             List (QueuedWriter Request × Reply)) (p : Reply)
-            → HasGroup (asks_of Request.item_of Log.lawful self.now) (clients_of self.now) max own group left seen (told
-            writer.old) writer.old → heads gs ≡ group → replies.old.items ≡ pays own p gs
+            → HasGroup (asks_of Request.item_of Log.lawful self.now) (clients_of self.now) max own group left seen
+            (answers_told writer.old) writer.old → heads gs ≡ group → replies.old.items ≡ pays own p gs
             → HasSent (Log.serves (about_of self.now)) self.now.clients writer.old.client result (debt gs own p)
-            (told writer.old)
+            (answers_told writer.old)
             (squad_with_end (squad_at_cut (lead_with_group own seen (past_in writer.old.seat.me.0) left group) B.given)
             D.given)
             writer.new.seat.me

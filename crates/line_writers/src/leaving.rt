@@ -10,7 +10,7 @@ ghost use Rattle.line_rule.specs.Chain.{heads, Within, all_answers};
 ghost use Rattle.line_rule.specs.Plays.{At, debt, slots_of, blanks};
 ghost use Rattle.line_writers.specs.Roles.{Leaves, MayLeave, MayWake, MayHandOn, bys, pays, firsts, fills};
 ghost use Rattle.line_writers.specs.Rooms.{HasRoom};
-ghost use Rattle.line_writers.specs.Seats.{asks_of, client_of, clients_of, law_of, flat_of, Belongs, IsOut, HasGroup, Stays, told};
+ghost use Rattle.line_writers.specs.Seats.{asks_of, client_of, clients_of, law_of, flat_of, Belongs, IsOut, HasGroup, Stays, answers_told};
 
 use crate::line_writers::WriterList;
 use crate::room::{Replies, Room};
@@ -39,7 +39,7 @@ impl<
             × ((max : ℕ) × (own : QueuedWriter Request) × (group left : List (QueuedWriter Request))
             × (seen : List (Handling Request Reply)) × (gs : List (QueuedWriter Request × Reply)) × (p : Reply)
             × HasGroup (asks_of Request.item_of Log.lawful self.now) (clients_of self.now) max own group left seen
-            (told writer.old) writer.old
+            (answers_told writer.old) writer.old
             × (heads gs ≡ group) × (replies.old.list.items ≡ pays own p gs)
             × law_of Reply.run_of Log.LogOfGroups self.now log (seen ++ all_answers own p gs)
             × flat_of Reply.run_of self.now seen (seen ++ all_answers own p gs)) }
@@ -51,9 +51,9 @@ impl<
             (group left : List (QueuedWriter Request)) (seen : List (Handling Request Reply))
             (gs : List (QueuedWriter Request × Reply)) (p : Reply)
             → HasGroup (asks_of Request.item_of Log.lawful self.now) (clients_of self.now) max own group left seen
-            (told writer.old) writer.old
+            (answers_told writer.old) writer.old
             → heads gs ≡ group → replies.old.list.items ≡ pays own p gs
-            → (told writer.new ≡ told writer.old ++ (own.asked, p) ∷ []) × (result ≡ p)) }
+            → (answers_told writer.new ≡ answers_told writer.old ++ (own.asked, p) ∷ []) × (result ≡ p)) }
     {
         self.fill(writer, &mut replies.list, &mut room.members);
         self.put_log(writer, log);
@@ -148,7 +148,7 @@ impl<
         if found == newest_member {
             return;
         }
-        self.survey(writer, found, walk);
+        self.survey(writer, found, 0, walk);
         let (next, code) = walk[walk.len() - count - 1];
         walk.clear();
         self.wake(writer, next, code);

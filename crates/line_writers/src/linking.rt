@@ -8,7 +8,7 @@ ghost use Rattle.line_rule.specs.Grouping.{code_by};
 ghost use Rattle.line_rule.specs.Rule.{logs_picked, kept_picked};
 ghost use Rattle.line_rule.specs.Plays.{At, Elected};
 ghost use Rattle.line_writers.specs.Roles.{IsLinked, Becomes, Turns, HasReply};
-ghost use Rattle.line_writers.specs.Seats.{client_of, about_of, law_of, kept_of, Belongs, IsOut, IsIn, HasRole, Stays, told};
+ghost use Rattle.line_writers.specs.Seats.{client_of, about_of, law_of, kept_of, Belongs, IsOut, IsIn, HasRole, Stays, answers_told};
 ghost use Rattle.line_writers.specs.declared.second.PipelinedRole.TheVariants.{Parallel};
 ghost use Rattle.line_writers.specs.declared.writer.Task.TheVariants.{Awaits, Leads, Helps};
 
@@ -45,7 +45,7 @@ impl<
         requires lawful { Log.lawful (about_of self.now) request }
         ensures client { client_of writer.new ≡ client_of writer.old }
         ensures linked { Belongs self.now writer.new
-            × IsIn (law_of Reply.run_of Log.LogOfGroups self.now) request (told writer.old) writer.new }
+            × IsIn (law_of Reply.run_of Log.LogOfGroups self.now) request (answers_told writer.old) writer.new }
     {
         self.link_from::<Brand, R>(rt, writer, code_of(item), request);
     }
@@ -57,12 +57,13 @@ impl<
         writer: &mut Writer<Request, Reply, Log, Right>,
     ) -> Role<Log, Reply>
         requires { Belongs self.now writer.old
-            × ((q : Request) × IsIn (law_of Reply.run_of Log.LogOfGroups self.now) q (told writer.old) writer.old) }
+            × ((q : Request)
+            × IsIn (law_of Reply.run_of Log.LogOfGroups self.now) q (answers_told writer.old) writer.old) }
         ensures client { client_of writer.new ≡ client_of writer.old }
         ensures role { Belongs self.now writer.new × ((q : Request)
-            → IsIn (law_of Reply.run_of Log.LogOfGroups self.now) q (told writer.old) writer.old
+            → IsIn (law_of Reply.run_of Log.LogOfGroups self.now) q (answers_told writer.old) writer.old
             → HasRole (law_of Reply.run_of Log.LogOfGroups self.now) (kept_of Log.kept self.now)
-            q (told writer.old) result writer.new) }
+            q (answers_told writer.old) result writer.new) }
     {
         match writer.task {
             Task::Awaits => self.await_alone::<Brand, R>(rt, writer),

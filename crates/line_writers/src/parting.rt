@@ -7,17 +7,17 @@ ghost use Rattle.line_rule.specs.declared.view.Back.TheVariants.{Parting};
 ghost use Rattle.line_rule.specs.declared.view.QueuedWriter.{QueuedWriter};
 ghost use Rattle.line_rule.specs.declared.view.Lead.{Lead};
 ghost use Rattle.line_rule.specs.declared.view.LineStage.TheVariants.{Leading, Cutting, Marking, Settling};
-ghost use Rattle.line_rule.specs.Chain.{newest, heads, pairs, all_answers};
+ghost use Rattle.line_rule.specs.Chain.{newest, heads, all_answers};
 ghost use Rattle.line_rule.specs.Laws.{given_runs};
 ghost use Rattle.line_rule.specs.Plays.{At, AtWith, lead_with_walk, in_hand, debt, slots_of, squad_at_cut, back_after_log, HandsOn, Walks, WalksMarked};
-ghost use Rattle.line_writers.specs.Roles.{NextIs, CodesFit, SeesMarked, HasTrace, HasStage};
+ghost use Rattle.line_writers.specs.Roles.{NextIs, HasStage};
 ghost use Rattle.line_writers.specs.Seats.{law_of, piped_of, Stays};
 
 use crate::line_writers::WriterList;
 use crate::writer::Writer;
 use line_rule::{
     CutAway, CutBehindMark, Free, GivesRun, HasGroupingItem, LogOfGroups, MARK, Mark, Older,
-    PickedGiven, ReadOlderMarked, STATE_LEADS_LOG, Wake, older_word, state_word,
+    PickedGiven, STATE_LEADS_LOG, Wake, older_word, state_word,
 };
 
 impl<
@@ -103,7 +103,7 @@ impl<
         if found == newest_member {
             return 0;
         }
-        self.survey(writer, found, walk);
+        self.survey(writer, found, 0, walk);
         let (next, code) = walk[walk.len() - count - 1];
         walk.clear();
         self.cut_away::<B>(writer, next, code);
@@ -158,39 +158,6 @@ impl<
             .store::<CutBehindMark>(&mut writer.seat, older_word(next), cleared.pack());
     }
 
-    // Walks the writers behind the marker, from this newest writer on: each writer's client and code.
-    fn survey_marked(
-        &self,
-        writer: &mut Writer<Request, Reply, Log, Right>,
-        first: u64,
-        walk: &mut Vec<(u64, u64)>,
-    )
-        requires seat { (writer.old.seat.table_id ≡ self.now.table.shared.table_id) × (vec_len walk.old ≡ 0)
-            × (walk.old.items ≡ []) × (self.now.clients ≤ vec_capacity walk.old) }
-        requires read { HasTrace (SeesMarked writer.old.client) self.now.table.shared.table_id.slots first
-            writer.old.seat.me }
-        ensures seat { (writer.new.seat.table_id ≡ writer.old.seat.table_id)
-            × (writer.new.client ≡ writer.old.client) × (writer.new.seat.me ≡ writer.old.seat.me)
-            × (vec_capacity walk.new ≡ vec_capacity walk.old) }
-        ensures walk { (line : List (QueuedWriter Request)) → SeesMarked writer.old.client writer.old.seat.me line
-            → walk.new.items ≡ pairs line }
-        ensures codes { CodesFit walk.new.items }
-    {
-        let shared = &self.table.shared;
-        let mut at = first;
-        // The walk has the writers behind the marker from the newest one on, and `at` is the next older one.
-        for step in 0..self.clients {
-            let word = shared.load::<ReadOlderMarked>(&mut writer.seat, older_word(at));
-            let older = Older::of(word);
-            walk.push_reserved((at, older.code));
-            at = older.client;
-            if at == MARK {
-                return;
-            }
-        }
-        unreachable!()
-    }
-
     // Takes the marker away, and gives the log back, or to the oldest writer behind the marker.
     fn free_on(&self, writer: &mut Writer<Request, Reply, Log, Right>, walk: &mut Vec<(u64, u64)>)
         requires seat { (writer.old.seat.table_id ≡ self.now.table.shared.table_id) × (vec_len walk.old ≡ 0)
@@ -218,7 +185,7 @@ impl<
         if found == MARK {
             return;
         }
-        self.survey_marked(writer, found, walk);
+        self.survey(writer, found, MARK, walk);
         let (next, code) = walk[walk.len() - 1];
         walk.clear();
         self.cut_behind(writer, next, code);

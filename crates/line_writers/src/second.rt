@@ -2,7 +2,7 @@
 ghost use Rattle.std.specs.Prelude.{◌≡◌, ◌⊎◌, ℕ, true, List};
 ghost use Rattle.line_rule.specs.declared.view.Debt.{Debt};
 ghost use Rattle.line_rule.specs.declared.view.Handling.{Handling};
-ghost use Rattle.line_writers.specs.Seats.{client_of, clients_of, about_of, piped_of, law_of, kept_of, AwaitsRole, Belongs, IsHelping, IsIn, StandsStill, told};
+ghost use Rattle.line_writers.specs.Seats.{client_of, clients_of, about_of, piped_of, law_of, kept_of, AwaitsRole, Belongs, IsHelping, IsIn, StandsStill, answers_told};
 ghost use Rattle.line_writers.specs.declared.second.PipelinedRole.TheVariants.{Parallel, Done};
 ghost use Rattle.line_writers.specs.Second.{IsSent, GetsRight, HasPipelinedRole};
 
@@ -39,15 +39,16 @@ impl<
         writer: &mut Writer<Request, Reply, Log, Right>,
     ) -> PipelinedRole<Log, Right, Reply>
         requires { Belongs self.now writer.old
-            × (((q : Request) × IsIn (law_of Reply.run_of Log.LogOfGroups self.now) q (told writer.old) writer.old)
+            × (((q : Request)
+            × IsIn (law_of Reply.run_of Log.LogOfGroups self.now) q (answers_told writer.old) writer.old)
             ⊎ ((piped_of self.now ≡ true) × ((d : Debt Request Reply) × (from to : List (Handling Request Reply)) ×
             (mine : List (Request × Reply))
             × IsSent (Log.serves (about_of self.now)) (clients_of self.now) d from to mine writer.old))) }
         ensures client { (client_of writer.new ≡ client_of writer.old) × Belongs self.now writer.new }
         ensures role { (q : Request)
-            → IsIn (law_of Reply.run_of Log.LogOfGroups self.now) q (told writer.old) writer.old
+            → IsIn (law_of Reply.run_of Log.LogOfGroups self.now) q (answers_told writer.old) writer.old
             → HasPipelinedRole (law_of Reply.run_of Log.LogOfGroups self.now) (kept_of Log.kept self.now)
-            q (told writer.old) result writer.new }
+            q (answers_told writer.old) result writer.new }
         ensures parallel { result ≡ Parallel → AwaitsRole writer.old × IsHelping writer.new }
         ensures helping { IsHelping writer.old → (p : Reply) × (result ≡ Done p) }
         ensures right { (d : Debt Request Reply) (from to : List (Handling Request Reply))

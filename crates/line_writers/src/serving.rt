@@ -10,12 +10,12 @@ ghost use Rattle.line_rule.specs.declared.view.Handling.{Handling};
 ghost use Rattle.line_rule.specs.declared.view.Squad.{Squad};
 ghost use Rattle.line_rule.specs.declared.view.LineStage.{LineStage};
 ghost use Rattle.line_rule.specs.declared.view.LineStage.TheVariants.{Settling};
-ghost use Rattle.line_rule.specs.Chain.{newest, pairs};
+ghost use Rattle.line_rule.specs.Chain.{newest};
 ghost use Rattle.line_rule.specs.Standing.{line_of};
 ghost use Rattle.line_rule.specs.Plays.{At, AtWith, debt, WalksSecond};
-ghost use Rattle.line_writers.specs.Roles.{CodesFit, SeesSecond, HasTrace, AreMembers};
+ghost use Rattle.line_writers.specs.Roles.{AreMembers};
 ghost use Rattle.line_writers.specs.Rooms.{HasRoom};
-ghost use Rattle.line_writers.specs.Seats.{about_of, client_of, clients_of, piped_of, Belongs, IsOut, Stays, told};
+ghost use Rattle.line_writers.specs.Seats.{about_of, client_of, clients_of, piped_of, Belongs, IsOut, Stays, answers_told};
 ghost use Rattle.line_writers.specs.Second.{HasRight, ListsMembers};
 
 use crate::line_writers::WriterList;
@@ -24,8 +24,8 @@ use crate::writer::Writer;
 use crossbeam_utils::Backoff;
 use line_rule::{
     CallNext, ClearSecond, GivesRun, HasGroupingItem, LeaveSecond, LineSlot, LogOfGroups,
-    MakeParallel, Older, PickedAbout, ReadOlderSecond, STATE_LEADS_TABLE, STATE_PARALLEL, Summon,
-    older_word, state_word,
+    MakeParallel, Older, PickedAbout, STATE_LEADS_TABLE, STATE_PARALLEL, Summon, older_word,
+    state_word,
 };
 use std::sync::Wait;
 
@@ -72,7 +72,7 @@ impl<
         ensures out { IsOut writer.new
             × ((d : Debt Request Reply) (from to : List (Handling Request Reply)) (mine : List (Request × Reply))
             → HasRight (clients_of self.now) d from to mine writer.old
-            → (told writer.new ≡ mine ++ (d.own.asked, d.reply) ∷ []) × (result ≡ d.reply)) }
+            → (answers_told writer.new ≡ mine ++ (d.own.asked, d.reply) ∷ []) × (result ≡ d.reply)) }
     {
         self.put_right(writer, right);
         self.pass_on(
@@ -240,7 +240,7 @@ impl<
         if found == newest_member {
             return;
         }
-        self.survey_second(writer, found, walk);
+        self.survey(writer, found, 0, walk);
         let (next, code) = walk[walk.len() - count - 1];
         walk.clear();
         self.clear_second(writer, next, code);
@@ -276,39 +276,6 @@ impl<
         self.table
             .shared
             .compare_exchange::<LeaveSecond>(&mut writer.seat, 1, newest_member, 0)
-    }
-
-    // Walks the second list, from this newest writer on: each writer's client and code.
-    fn survey_second(
-        &self,
-        writer: &mut Writer<Request, Reply, Log, Right>,
-        first: u64,
-        walk: &mut Vec<(u64, u64)>,
-    )
-        requires seat { (writer.old.seat.table_id ≡ self.now.table.shared.table_id) × (vec_len walk.old ≡ 0)
-            × (walk.old.items ≡ []) × (self.now.clients ≤ vec_capacity walk.old) }
-        requires read { HasTrace (SeesSecond writer.old.client) self.now.table.shared.table_id.slots first
-            writer.old.seat.me }
-        ensures seat { (writer.new.seat.table_id ≡ writer.old.seat.table_id)
-            × (writer.new.client ≡ writer.old.client) × (writer.new.seat.me ≡ writer.old.seat.me)
-            × (vec_capacity walk.new ≡ vec_capacity walk.old) }
-        ensures walk { (line : List (QueuedWriter Request)) → SeesSecond writer.old.client writer.old.seat.me line
-            → walk.new.items ≡ pairs line }
-        ensures codes { CodesFit walk.new.items }
-    {
-        let shared = &self.table.shared;
-        let mut at = first;
-        // The walk has the writers of the second list from the newest one on, and `at` is the next older one.
-        for step in 0..self.clients {
-            let word = shared.load::<ReadOlderSecond>(&mut writer.seat, older_word(at));
-            let older = Older::of(word);
-            walk.push_reserved((at, older.code));
-            at = older.client;
-            if at == 0 {
-                return;
-            }
-        }
-        unreachable!()
     }
 
     // Clears the link of the next group's leader in the second list.

@@ -3,6 +3,7 @@ use Rattle.std.proofs.Common.{◌≡◌, ℕ, ◌+◌, ◌≤◌, List, [], ◌�
 use Rattle.std.proofs.lemmas.Grind.{flat_map-append, common_steps}
 use Rattle.std.proofs.lemmas.List.Sums.{count_by-le-length}
 use Rattle.std.specs.Int.{w32, w64, to_le_bytes}
+use Rattle.model_base.specs.declared.limits.TheConstants.{MAX_SIZE}
 use Rattle.model_base.specs.Batch.{Record, value, deletion, single_deletion, log_data, is_counted, count_of, header, record_bytes, body, size_of_batch}
 use Rattle.log_batch.specs.Contents.{IsBatch}
 use Rattle.log_batch.specs.OneBatch.{same_records}
@@ -45,7 +46,7 @@ pub cut : (bytes : List ℕ) (s n : ℕ) (tail : List ℕ) → bytes ≡ header 
 cut bytes s n tail e = rw e refl
 
 -- A batch's count is small.
-pub small_count : (bytes : List ℕ) (s n : ℕ) (h : IsBatch bytes s n) → n ≤ 16777216
+pub small_count : (bytes : List ℕ) (s n : ℕ) (h : IsBatch bytes s n) → n ≤ MAX_SIZE
 small_count bytes s n h =
     omega (arith, h.count_is, count_by-le-length is_counted h.records, few_records h.records, h.fits, ap length h.bytes_are, length-append (header s n) (body h.records))
 

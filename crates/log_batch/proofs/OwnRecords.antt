@@ -1,5 +1,5 @@
 -- A batch's bytes behind the header are its records, and these are read.
-use Rattle.std.proofs.Common.{◌≡◌, ℕ, ◌^◌, ◌<◌, List, [], ◌∷◌, ◌++◌, length, drop, refl, sym, ap, ◌∙◌, arith, length-append, flat_map, IsTrue}
+use Rattle.std.proofs.Common.{◌≡◌, ℕ, ◌^◌, ◌<◌, List, [], ◌∷◌, length, drop, refl, sym, ap, ◌∙◌, arith, length-append, flat_map, IsTrue}
 use Rattle.std.specs.List.{AllByRecursion}
 use Rattle.base_bytes.proofs.Records.{AreShort, one_read}
 use Rattle.model_base.specs.Varint.{varint}

@@ -14,12 +14,13 @@
 //! | 7 | single deletion | key | yes |
 //!
 //! - `batch`, `record_bytes`: a batch that is being made. `view`, `records`, `split`: the bytes of one that is read.
-//! - `run`: the sequences of a batch. `checks`: the refusals of a commit that need nothing but its batch.
+//! - `effects`: what records do to a map. `run`: the sequences of a batch. `checks`: the refusals of a commit that need nothing but its batch.
 #![tactic(auto)]
 
 mod add_error;
 mod batch;
 mod checks;
+mod effects;
 mod record_bytes;
 mod record_view;
 mod records;
@@ -30,6 +31,7 @@ mod view;
 pub use add_error::AddError;
 pub use batch::{Batch, HEADER_LEN, MAX_SEQUENCE};
 pub use checks::{Measure, flag_of, refusal_at_once};
+pub use effects::{write_record, write_records};
 pub use record_view::RecordView;
 pub use records::Records;
 pub use run::{Run, next_run};

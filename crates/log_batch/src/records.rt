@@ -94,6 +94,7 @@ fn count_records(bytes: &[u8]) -> Result<u64, BatchError>
 {
     let mut rest = bytes;
     let mut found = 0;
+    // The records before `rest` are readable, and `found` is the number of those that count.
     while !rest.is_empty() {
         let (record, behind) = split_record(rest)?;
         found += u64::from(sequences_of(record));

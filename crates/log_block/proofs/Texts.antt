@@ -1,6 +1,6 @@
 -- What is written of pieces is what is written of their fragments.
 use Rattle.std.proofs.Common.{◌≡◌, ℕ, ◌+◌, List, [], ◌∷◌, ◌++◌, length, slice_range, replicate, None, refl, ◌∙◌, ap}
-use Rattle.model_base.specs.Log.{Fragment, kind_code, header, fragment_bytes, trailer, next_place, placed, plain_log}
+use Rattle.model_base.specs.Log.{Fragment, kind_code, header, fragment_bytes, trailer, next_place, fragments_text, plain_log}
 use Rattle.log_block.specs.declared.pieces.Piece.{Piece}
 use Rattle.log_block.specs.Pieces.{IsPiece, ArePieces, piece_text, pieces_text}
 
@@ -12,7 +12,7 @@ one_text bytes offset start p f is =
     with_zeros : ℕ → ℕ → List ℕ → List ℕ
     with_zeros zeros code part = replicate zeros 0 ++ (header plain_log code part ++ part)
 
-pub text_is : (bytes : List ℕ) (offset start : ℕ) (ps : List Piece) (fs : List Fragment) → ArePieces bytes offset start ps fs → pieces_text bytes ps ≡ placed plain_log offset fs
+pub text_is : (bytes : List ℕ) (offset start : ℕ) (ps : List Piece) (fs : List Fragment) → ArePieces bytes offset start ps fs → pieces_text bytes ps ≡ fragments_text plain_log offset fs
 text_is bytes offset start [] [] are = refl
 text_is bytes offset start [] (f ∷ fs) are = absurd are
 text_is bytes offset start (p ∷ ps) [] are = absurd are

@@ -3,7 +3,7 @@ use Rattle.std.proofs.Common.{Option, ◌≡◌, ◌⊎◌, inl, inr, ⊎_elim, 
 use Rattle.std.proofs.Math.Seq.{take-append_seam, drop-append_seam}
 use Rattle.std.proofs.lemmas.List.{take-append-drop, append_cancel_left, map-append}
 use Rattle.std.specs.List.{AllByRecursion}
-use Rattle.model_base.specs.Log.{Kind, full, first, middle, last, Fragment, fragment_bytes, trailer, next_place, placed, FitFrom, GoesToLast, AreOneRecord, kinds_of, all_fragments, record_of, SpellsWhole}
+use Rattle.model_base.specs.Log.{Kind, full, first, middle, last, Fragment, fragment_bytes, trailer, next_place, fragments_text, FitFrom, GoesToLast, AreOneRecord, kinds_of, all_fragments, record_of, SpellsWhole}
 use Rattle.model_base.specs.Reading.{fragment, next_seen, end_of, AreBegun}
 use Rattle.model_base.specs.Recovery.{ReaderMeets, NoChanceForReader}
 use Rattle.log_laws.proofs.Next.{next_laid}
@@ -11,20 +11,20 @@ use Rattle.log_laws.proofs.Placed.{length_map, behind, placed_append, fit_front,
 use Rattle.log_laws.proofs.Agree.{Whole, are_front, Split, split_groups}
 
 end_append : (number : Option ℕ) → (offset : ℕ) (xs ys : List Fragment) → end_of number offset (xs ++ ys) ≡ end_of number (end_of number offset xs) ys
-end_append number offset xs ys = omega (arith, ap length (placed_append number offset xs ys), length-append (placed number offset xs) (placed number (end_of number offset xs) ys))
+end_append number offset xs ys = omega (arith, ap length (placed_append number offset xs ys), length-append (fragments_text number offset xs) (fragments_text number (end_of number offset xs) ys))
 
 -- each fragment of the records that were read was met
 module _ (number : Option ℕ) (image : List ℕ) (kept : ℕ) (records : List (List ℕ)) (within : kept ≤ length image) (read : SpellsWhole number (take kept image) records) (pre post : List Fragment) (f : Fragment) (split : all_fragments read.groups ≡ pre ++ f ∷ post) where
   tail : List ℕ
   tail = drop kept image
 
-  all : image ≡ placed number 0 (pre ++ f ∷ post) ++ tail
+  all : image ≡ fragments_text number 0 (pre ++ f ∷ post) ++ tail
   unfolding tail
-  all = sym (take-append-drop kept image) ∙ ap (λ (l : List ℕ). l ++ drop kept image) (read.spelled ∙ ap (placed number 0) split)
+  all = sym (take-append-drop kept image) ∙ ap (λ (l : List ℕ). l ++ drop kept image) (read.spelled ∙ ap (fragments_text number 0) split)
 
   -- the image in two parts, wherever the fragments are split
-  parts : (xs ys : List Fragment) → pre ++ f ∷ post ≡ xs ++ ys → image ≡ placed number 0 xs ++ (placed number (end_of number 0 xs) ys ++ tail)
-  parts xs ys e = all ∙ ap (λ (fs : List Fragment). placed number 0 fs ++ tail) e ∙ ap (λ (l : List ℕ). l ++ tail) (placed_append number 0 xs ys) ∙ append_assoc (placed number 0 xs) (placed number (end_of number 0 xs) ys) tail
+  parts : (xs ys : List Fragment) → pre ++ f ∷ post ≡ xs ++ ys → image ≡ fragments_text number 0 xs ++ (fragments_text number (end_of number 0 xs) ys ++ tail)
+  parts xs ys e = all ∙ ap (λ (fs : List Fragment). fragments_text number 0 fs ++ tail) e ∙ ap (λ (l : List ℕ). l ++ tail) (placed_append number 0 xs ys) ∙ append_assoc (fragments_text number 0 xs) (fragments_text number (end_of number 0 xs) ys) tail
 
   fit_all : FitFrom number 0 (pre ++ f ∷ post)
   fit_all = subst (FitFrom number 0) split read.fit
@@ -33,36 +33,36 @@ module _ (number : Option ℕ) (image : List ℕ) (kept : ℕ) (records : List (
   seen_next =
       let offset = end_of number 0 pre in
       let zeros_and_f = replicate (trailer number offset) 0 ++ fragment_bytes number f in
-      let later = placed number (behind number offset f) post in
-      ap (λ (file : List ℕ). next_seen number file offset) (parts pre (f ∷ post) refl ∙ ap (λ (l : List ℕ). placed number 0 pre ++ l) (append_assoc zeros_and_f later tail))
-      ∙ next_laid number (placed number 0 pre) (later ++ tail) f offset (sym (zero-add (length (placed number 0 pre)))) (fit_back number 0 pre (f ∷ post) fit_all).0
+      let later = fragments_text number (behind number offset f) post in
+      ap (λ (file : List ℕ). next_seen number file offset) (parts pre (f ∷ post) refl ∙ ap (λ (l : List ℕ). fragments_text number 0 pre ++ l) (append_assoc zeros_and_f later tail))
+      ∙ next_laid number (fragments_text number 0 pre) (later ++ tail) f offset (sym (zero-add (length (fragments_text number 0 pre)))) (fit_back number 0 pre (f ∷ post) fit_all).0
 
   met_with : Split read.groups pre → ReaderMeets number image (next_place number (end_of number 0 pre)) f
   met_with s =
       let done = all_fragments s.done in
-      let to_end : end_of number 0 done ≡ length (placed number 0 done) = zero-add (length (placed number 0 done)) in
+      let to_end : end_of number 0 done ≡ length (fragments_text number 0 done) = zero-add (length (fragments_text number 0 done)) in
       let cut : pre ++ f ∷ post ≡ done ++ (s.begun ++ f ∷ post) = ap (λ (l : List Fragment). l ++ f ∷ post) s.pre_is ∙ append_assoc done s.begun (f ∷ post) in
-      let image_is : image ≡ placed number 0 done ++ (placed number (end_of number 0 done) (s.begun ++ f ∷ post) ++ tail) = parts done (s.begun ++ f ∷ post) cut in
+      let image_is : image ≡ fragments_text number 0 done ++ (fragments_text number (end_of number 0 done) (s.begun ++ f ∷ post) ++ tail) = parts done (s.begun ++ f ∷ post) cut in
       let fit_cut : FitFrom number 0 (done ++ (s.begun ++ f ∷ post)) = subst (FitFrom number 0) cut fit_all in
       let same_end : end_of number 0 pre ≡ end_of number (end_of number 0 done) s.begun = ap (end_of number 0) s.pre_is ∙ end_append number 0 done s.begun in
       record {
         kept = end_of number 0 done;
         records = map record_of s.done;
-        within = omega (arith, to_end, ap length image_is, length-append (placed number 0 done) (placed number (end_of number 0 done) (s.begun ++ f ∷ post) ++ tail));
+        within = omega (arith, to_end, ap length image_is, length-append (fragments_text number 0 done) (fragments_text number (end_of number 0 done) (s.begun ++ f ∷ post) ++ tail));
         spelled = record {
           groups = s.done;
           whole = s.whole;
           same = refl;
           fit = fit_front number 0 done (s.begun ++ f ∷ post) fit_cut;
-          spelled = ap (λ (n : ℕ). take n image) to_end ∙ ap (take (length (placed number 0 done))) image_is ∙ take-append_seam (placed number 0 done) (placed number (end_of number 0 done) (s.begun ++ f ∷ post) ++ tail);
+          spelled = ap (λ (n : ℕ). take n image) to_end ∙ ap (take (length (fragments_text number 0 done))) image_is ∙ take-append_seam (fragments_text number 0 done) (fragments_text number (end_of number 0 done) (s.begun ++ f ∷ post) ++ tail);
         };
         fs = s.begun;
         comes = record {
           begun = s.begins;
           stand = record {
-            rest = placed number (end_of number (end_of number 0 done) s.begun) (f ∷ post) ++ tail;
-            there = ap (λ (n : ℕ). drop n image) to_end ∙ ap (drop (length (placed number 0 done))) image_is ∙ drop-append_seam (placed number 0 done) (placed number (end_of number 0 done) (s.begun ++ f ∷ post) ++ tail)
-                ∙ ap (λ (l : List ℕ). l ++ tail) (placed_append number (end_of number 0 done) s.begun (f ∷ post)) ∙ append_assoc (placed number (end_of number 0 done) s.begun) (placed number (end_of number (end_of number 0 done) s.begun) (f ∷ post)) tail;
+            rest = fragments_text number (end_of number (end_of number 0 done) s.begun) (f ∷ post) ++ tail;
+            there = ap (λ (n : ℕ). drop n image) to_end ∙ ap (drop (length (fragments_text number 0 done))) image_is ∙ drop-append_seam (fragments_text number 0 done) (fragments_text number (end_of number 0 done) (s.begun ++ f ∷ post) ++ tail)
+                ∙ ap (λ (l : List ℕ). l ++ tail) (placed_append number (end_of number 0 done) s.begun (f ∷ post)) ∙ append_assoc (fragments_text number (end_of number 0 done) s.begun) (fragments_text number (end_of number (end_of number 0 done) s.begun) (f ∷ post)) tail;
             fit = fit_front number (end_of number 0 done) s.begun (f ∷ post) (fit_back number 0 done (s.begun ++ f ∷ post) fit_cut);
           };
           is_next = sym seen_next ∙ ap (next_seen number image) same_end;

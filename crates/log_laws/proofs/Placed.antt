@@ -2,7 +2,7 @@
 use Rattle.std.proofs.Common.{Option, ◌≡◌, ◌⊎◌, inl, inr, ⊎_elim, ℕ, suc, ◌+◌, List, [], ◌∷◌, ◌++◌, length, map, replicate, refl, sym, ◌∙◌, ap, subst, arith, length-append, append_assoc, add-zero}
 use Rattle.std.proofs.Math.ListN.{length-replicate}
 use Rattle.std.specs.List.{AllByRecursion}
-use Rattle.model_base.specs.Log.{header_len, Kind, full, first, middle, last, Fragment, fragment_bytes, trailer, next_place, placed, FitFrom, GoesToLast, AreOneRecord, kinds_of}
+use Rattle.model_base.specs.Log.{header_len, Kind, full, first, middle, last, Fragment, fragment_bytes, trailer, next_place, fragments_text, FitFrom, GoesToLast, AreOneRecord, kinds_of}
 use Rattle.model_base.specs.Reading.{end_of, AreBegun}
 use Rattle.log_laws.proofs.Next.{fragment_len}
 
@@ -19,13 +19,13 @@ end_none number offset = add-zero offset
 
 pub end_more : (number : Option ℕ) → (offset : ℕ) (f : Fragment) (fs : List Fragment) → end_of number offset (f ∷ fs) ≡ end_of number (behind number offset f) fs
 end_more number offset f fs =
-    omega (arith, length-append (replicate (trailer number offset) 0 ++ fragment_bytes number f) (placed number (behind number offset f) fs), length-append (replicate (trailer number offset) 0) (fragment_bytes number f), length-replicate {A = ℕ} (trailer number offset) 0, fragment_len number f)
+    omega (arith, length-append (replicate (trailer number offset) 0 ++ fragment_bytes number f) (fragments_text number (behind number offset f) fs), length-append (replicate (trailer number offset) 0) (fragment_bytes number f), length-replicate {A = ℕ} (trailer number offset) 0, fragment_len number f)
 
-pub placed_append : (number : Option ℕ) → (offset : ℕ) (xs ys : List Fragment) → placed number offset (xs ++ ys) ≡ placed number offset xs ++ placed number (end_of number offset xs) ys
-placed_append number offset [] ys = ap (λ (n : ℕ). placed number n ys) (sym (end_none number offset))
+pub placed_append : (number : Option ℕ) → (offset : ℕ) (xs ys : List Fragment) → fragments_text number offset (xs ++ ys) ≡ fragments_text number offset xs ++ fragments_text number (end_of number offset xs) ys
+placed_append number offset [] ys = ap (λ (n : ℕ). fragments_text number n ys) (sym (end_none number offset))
 placed_append number offset (x ∷ xs) ys =
-    ap (λ (l : List ℕ). (replicate (trailer number offset) 0 ++ fragment_bytes number x) ++ l) (placed_append number (behind number offset x) xs ys ∙ ap (λ (n : ℕ). placed number (behind number offset x) xs ++ placed number n ys) (sym (end_more number offset x xs)))
-    ∙ sym (append_assoc (replicate (trailer number offset) 0 ++ fragment_bytes number x) (placed number (behind number offset x) xs) (placed number (end_of number offset (x ∷ xs)) ys))
+    ap (λ (l : List ℕ). (replicate (trailer number offset) 0 ++ fragment_bytes number x) ++ l) (placed_append number (behind number offset x) xs ys ∙ ap (λ (n : ℕ). fragments_text number (behind number offset x) xs ++ fragments_text number n ys) (sym (end_more number offset x xs)))
+    ∙ sym (append_assoc (replicate (trailer number offset) 0 ++ fragment_bytes number x) (fragments_text number (behind number offset x) xs) (fragments_text number (end_of number offset (x ∷ xs)) ys))
 
 pub fit_front : (number : Option ℕ) → (offset : ℕ) (xs ys : List Fragment) → FitFrom number offset (xs ++ ys) → FitFrom number offset xs
 fit_front number offset [] ys fit = tt

@@ -7,7 +7,7 @@ use Rattle.std.proofs.lemmas.Grind.{flat_map-append}
 use Rattle.std.proofs.lemmas.List.{drop-drop, take-append-drop, append-nil}
 use Rattle.std.specs.List.{AllByRecursion}
 use Rattle.model_base.specs.declared.log.EndReason.{EndReason}
-use Rattle.model_base.specs.Log.{header_len, Kind, full, first, middle, last, Fragment, fragment_bytes, trailer, next_place, placed, FitFrom, AreOneRecord, kinds_of, all_fragments, record_of, SpellsWhole, text}
+use Rattle.model_base.specs.Log.{header_len, Kind, full, first, middle, last, Fragment, fragment_bytes, trailer, next_place, fragments_text, FitFrom, AreOneRecord, kinds_of, all_fragments, record_of, SpellsWhole, text}
 use Rattle.model_base.specs.Reading.{Seen, Next, fragment, nothing, damage, seen_at, next_seen, end_of, AreBegun, Stand, Comes, ReadingEnds, clean, broken, bad_order, unfinished}
 use Rattle.model_base.specs.Recovery.{IsRead}
 use Rattle.log_laws.proofs.Next.{cases_bool, fragment_len, seen_laid, next_laid}
@@ -20,11 +20,11 @@ use Rattle.log_laws.proofs.Written.{text_spells}
 -- the first of some fragments that stand at a place
 module _ (number : Option ℕ) (file : List ℕ) (offset : ℕ) (f : Fragment) (fs : List Fragment) (stand : Stand number file offset (f ∷ fs)) where
   more : List ℕ
-  more = placed number (behind number offset f) fs ++ stand.rest
+  more = fragments_text number (behind number offset f) fs ++ stand.rest
 
   there : drop offset file ≡ (replicate (trailer number offset) 0 ++ fragment_bytes number f) ++ more
   unfolding more
-  there = stand.there ∙ append_assoc (replicate (trailer number offset) 0 ++ fragment_bytes number f) (placed number (behind number offset f) fs) stand.rest
+  there = stand.there ∙ append_assoc (replicate (trailer number offset) 0 ++ fragment_bytes number f) (fragments_text number (behind number offset f) fs) stand.rest
 
   here_len : length (replicate (trailer number offset) 0 ++ fragment_bytes number f) + offset ≡ behind number offset f
   here_len = omega (arith, length-append (replicate (trailer number offset) 0) (fragment_bytes number f), length-replicate {A = ℕ} (trailer number offset) 0, fragment_len number f)
@@ -146,11 +146,11 @@ module _ (number : Option ℕ) (file : List ℕ) (offset : ℕ) (g later : List 
       let wrong : nothing ≡ fragment on.next = on.is_seen in cc
 
 -- where the records that were read end before the synced bytes do, the next record's fragments stand there
-stands_next : (number : Option ℕ) (image : List ℕ) (s kept : ℕ) (done later : List Fragment) → kept < s → s ≤ length image → take s image ≡ placed number 0 (done ++ later) → take kept image ≡ placed number 0 done
+stands_next : (number : Option ℕ) (image : List ℕ) (s kept : ℕ) (done later : List Fragment) → kept < s → s ≤ length image → take s image ≡ fragments_text number 0 (done ++ later) → take kept image ≡ fragments_text number 0 done
     → FitFrom number 0 (done ++ later) → Stand number image kept later
 stands_next number image s kept done later less within whole part fit =
     let whole_stand : Stand number image 0 (done ++ later) = record { rest = drop s image; there = sym (take-append-drop s image) ∙ ap (λ (l : List ℕ). l ++ drop s image) whole; fit = fit } in
-    let end : end_of number 0 done ≡ kept = zero-add (length (placed number 0 done)) ∙ (ap length (sym part) ∙ omega (arith, length-take kept image)) in
+    let end : end_of number 0 done ≡ kept = zero-add (length (fragments_text number 0 done)) ∙ (ap length (sym part) ∙ omega (arith, length-take kept image)) in
     subst (λ n. Stand number image n later) end (stand_behind number image 0 done later whole_stand)
 
 pub whole_last : (done : List (List Fragment)) (g : List Fragment) (gs : List (List Fragment)) → Whole (done ++ g ∷ gs) → AreOneRecord (kinds_of g)
@@ -181,5 +181,5 @@ reads_synced number image synced found is within front =
         let flat : all_fragments spelled.groups ≡ done ++ (g ++ all_fragments gs) = ap all_fragments e ∙ flat_map-append (λ (fs : List Fragment). fs) (is.spelled).groups (g ∷ gs) in
         let one : AreOneRecord (kinds_of g) = whole_last (is.spelled).groups g gs (subst Whole e spelled.whole) in
         absurd (reading_goes_on number image is.kept g (all_fragments gs) one
-        (stands_next number image (length (text number synced)) is.kept done (g ++ all_fragments gs) above within (spelled.spelled ∙ ap (placed number 0) flat) (is.spelled).spelled (subst (FitFrom number 0) flat spelled.fit))
+        (stands_next number image (length (text number synced)) is.kept done (g ++ all_fragments gs) above within (spelled.spelled ∙ ap (fragments_text number 0) flat) (is.spelled).spelled (subst (FitFrom number 0) flat spelled.fit))
         is.at is.why is.ends)

@@ -4,7 +4,7 @@ use Rattle.std.proofs.Math.Seq.{take-take}
 use Rattle.std.proofs.lemmas.List.{map-append, take-append-drop, append-nil}
 use Rattle.std.specs.List.{AllByRecursion}
 use Rattle.model_base.specs.Batch.{IsBatch}
-use Rattle.model_base.specs.Log.{Fragment, fragment_bytes, trailer, next_place, placed, FitFrom, all_fragments, record_of, SpellsWhole, text}
+use Rattle.model_base.specs.Log.{Fragment, fragment_bytes, trailer, next_place, fragments_text, FitFrom, all_fragments, record_of, SpellsWhole, text}
 use Rattle.model_base.specs.Reading.{end_of, seen_at}
 use Rattle.model_base.specs.Recovery.{Logged, logged_bytes, AreInOrder, Recovered, IsRecovered, HasFragment}
 use Rattle.log_laws.proofs.Next.{seen_laid}
@@ -20,11 +20,11 @@ groups_spelled number bytes front more all some e whole part =
     let has : (pre : List Fragment) (f : Fragment) (post : List Fragment) → all_fragments part.groups ≡ pre ++ f ∷ post → HasFragment number bytes (next_place number (end_of number 0 pre)) f =
     λ pre f post split.
     let zeros_and_f = replicate (trailer number (end_of number 0 pre)) 0 ++ fragment_bytes number f in
-    let later = placed number (behind number (end_of number 0 pre) f) post in
-    let laid : bytes ≡ placed number 0 pre ++ (zeros_and_f ++ (later ++ more)) =
-    e ∙ ap (λ (l : List ℕ). l ++ more) (part.spelled ∙ ap (placed number 0) split ∙ placed_append number 0 pre (f ∷ post)) ∙ append_assoc (placed number 0 pre) (zeros_and_f ++ later) more ∙ ap (λ (l : List ℕ). placed number 0 pre ++ l) (append_assoc zeros_and_f later more) in
+    let later = fragments_text number (behind number (end_of number 0 pre) f) post in
+    let laid : bytes ≡ fragments_text number 0 pre ++ (zeros_and_f ++ (later ++ more)) =
+    e ∙ ap (λ (l : List ℕ). l ++ more) (part.spelled ∙ ap (fragments_text number 0) split ∙ placed_append number 0 pre (f ∷ post)) ∙ append_assoc (fragments_text number 0 pre) (zeros_and_f ++ later) more ∙ ap (λ (l : List ℕ). fragments_text number 0 pre ++ l) (append_assoc zeros_and_f later more) in
     ap (λ (file : List ℕ). seen_at number file (next_place number (end_of number 0 pre))) laid
-    ∙ seen_laid number (placed number 0 pre) (later ++ more) f (end_of number 0 pre) (sym (zero-add (length (placed number 0 pre)))) (fit_back number 0 pre (f ∷ post) (subst (FitFrom number 0) split part.fit)).0 in
+    ∙ seen_laid number (fragments_text number 0 pre) (later ++ more) f (end_of number 0 pre) (sym (zero-add (length (fragments_text number 0 pre)))) (fit_back number 0 pre (f ∷ post) (subst (FitFrom number 0) split part.fit)).0 in
     let flat = are_front number bytes [] 0 (all_fragments whole.groups) (all_fragments part.groups) whole.spelled refl whole.fit has in
     groups_front part.groups whole.groups flat.0 part.whole whole.whole flat.1
 

@@ -7,7 +7,7 @@ use Rattle.std.proofs.Math.Dec.{lit<}
 use Rattle.std.specs.Simd.{first_chunks}
 use Rattle.std.specs.Int.{div_ceil}
 use Rattle.std.specs.List.{flat_map}
-use Rattle.model_base.specs.Log.{header_len, part_len, first, middle, Fragment, room, next_place, placed, FitFrom, GoesToLast, AreOneRecord, kinds_of, all_fragments, record_of, SpellsWhole, pieces_of, parts_of, later_fragments, as_fragments, record_text, text_from, text, plain_log}
+use Rattle.model_base.specs.Log.{header_len, part_len, first, middle, Fragment, room, next_place, fragments_text, FitFrom, GoesToLast, AreOneRecord, kinds_of, all_fragments, record_of, SpellsWhole, pieces_of, parts_of, later_fragments, as_fragments, record_text, text_from, text, plain_log}
 use Rattle.model_base.specs.Reading.{end_of}
 use Rattle.log_laws.proofs.Seen.{header_small, with_header}
 use Rattle.log_laws.proofs.Placed.{behind, end_none, end_more, placed_append}
@@ -136,12 +136,12 @@ groups_from : (number : Option ℕ) → ℕ → List (List ℕ) → List (List F
 groups_from number offset [] = []
 groups_from number offset (r ∷ rs) = as_fragments (parts_of number offset r) ∷ groups_from number (offset + length (record_text number offset r)) rs
 
-text_is_placed : (number : Option ℕ) → (offset : ℕ) (rs : List (List ℕ)) → text_from number offset rs ≡ placed number offset (all_fragments (groups_from number offset rs))
+text_is_placed : (number : Option ℕ) → (offset : ℕ) (rs : List (List ℕ)) → text_from number offset rs ≡ fragments_text number offset (all_fragments (groups_from number offset rs))
 unfolding groups_from
 text_is_placed number offset [] = refl
 text_is_placed number offset (r ∷ rs) =
     let fs : List Fragment = as_fragments (parts_of number offset r) in
-    ap (λ (l : List ℕ). placed number offset fs ++ l) (text_is_placed number (end_of number offset fs) rs) ∙ sym (placed_append number offset fs (all_fragments (groups_from number (end_of number offset fs) rs)))
+    ap (λ (l : List ℕ). fragments_text number offset fs ++ l) (text_is_placed number (end_of number offset fs) rs) ∙ sym (placed_append number offset fs (all_fragments (groups_from number (end_of number offset fs) rs)))
 
 pub fit_joined : (number : Option ℕ) → (offset : ℕ) (xs ys : List Fragment) → FitFrom number offset xs → FitFrom number (end_of number offset xs) ys → FitFrom number offset (xs ++ ys)
 fit_joined number offset [] ys fit_x fit_y = subst (λ n. FitFrom number n ys) (end_none number offset) fit_y

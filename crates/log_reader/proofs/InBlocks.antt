@@ -1,5 +1,5 @@
 -- What the reader of a block sees, as what is seen next in the file.
-use Rattle.std.proofs.Common.{◌≡◌, ℕ, ◌+◌, ◌-◌, ◌%◌, ◌<◌, ◌≤◌, List, [], ◌++◌, length, take, drop, get_or, slice_range, None, refl, sym, ◌∙◌, ap, subst, arith, nat_lt, length-take, length-drop}
+use Rattle.std.proofs.Common.{◌≡◌, ℕ, ◌+◌, ◌-◌, ◌%◌, ◌<◌, ◌≤◌, List, [], ◌++◌, length, take, drop, get_or, slice_range, refl, sym, ◌∙◌, ap, subst, arith, nat_lt, length-take, length-drop}
 use Rattle.std.proofs.Math.ListN.{drop_of_length-le}
 use Rattle.std.proofs.lemmas.List.{drop-take, drop-drop, append-nil}
 use Rattle.std.proofs.lemmas.Bool.{ltb-true, ltb-false}

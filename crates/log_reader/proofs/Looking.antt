@@ -1,5 +1,5 @@
 -- What a reader sees in its window.
-use Rattle.std.proofs.Common.{◌≡◌, ℕ, ◌+◌, List, length, take, None, true, refl, sym, ◌∙◌, ap, subst, arith, length-take}
+use Rattle.std.proofs.Common.{◌≡◌, ℕ, ◌+◌, List, length, take, true, refl, sym, ◌∙◌, ap, subst, arith, length-take}
 use Rattle.model_base.specs.Log.{plain_log}
 use Rattle.base_devices.specs.Disk.{Disk}
 use Rattle.model_base.specs.Reading.{next_seen}

@@ -5,7 +5,7 @@ use Rattle.std.proofs.lemmas.List.{drop-drop, append-nil}
 use Rattle.std.specs.List.{AllByRecursion}
 use Rattle.model_base.specs.declared.log.Damage.{Damage}
 use Rattle.model_base.specs.declared.log.EndReason.TheVariants as ends
-use Rattle.model_base.specs.Log.{Kind, full, first, middle, last, Fragment, placed, next_place, GoesToLast, AreOneRecord, kinds_of, record_of, plain_log}
+use Rattle.model_base.specs.Log.{Kind, full, first, middle, last, Fragment, fragments_text, next_place, GoesToLast, AreOneRecord, kinds_of, record_of, plain_log}
 use Rattle.model_base.specs.Reading.{Seen, Next, fragment, nothing, damage, next_seen, Stand, end_of, AreBegun, Comes, ReadingEnds, clean, broken, bad_order, unfinished}
 use Rattle.log_reader.specs.declared.reader.Continuation.TheVariants as continuation
 use Rattle.log_reader.specs.Blocks.{IsNext}
@@ -136,14 +136,14 @@ misplaced (g ∷ fs) f (Some s) place at are begins e =
 -- what stands behind fragments
 behind_stand : (file : List ℕ) (place : ℕ) (fs : List Fragment) (s : Stand plain_log file place fs) → s.rest ≡ drop (end_of plain_log place fs) file
 behind_stand file place fs s =
-    sym (drop-append_seam (placed plain_log place fs) s.rest) ∙ (ap (drop (length (placed plain_log place fs))) (sym s.there) ∙ drop-drop (length (placed plain_log place fs)) place file)
+    sym (drop-append_seam (fragments_text plain_log place fs) s.rest) ∙ (ap (drop (length (fragments_text plain_log place fs))) (sym s.there) ∙ drop-drop (length (fragments_text plain_log place fs)) place file)
 
 stand_more : (file : List ℕ) (place : ℕ) (fs gs : List Fragment) → Stand plain_log file place fs → Stand plain_log file (end_of plain_log place fs) gs → Stand plain_log file place (fs ++ gs)
 stand_more file place fs gs s t = record {
   rest = t.rest;
   there = s.there
-      ∙ (ap (λ (l : List ℕ). placed plain_log place fs ++ l) (behind_stand file place fs s ∙ t.there)
-      ∙ (sym (append_assoc (placed plain_log place fs) (placed plain_log (end_of plain_log place fs) gs) t.rest) ∙ ap (λ (l : List ℕ). l ++ t.rest) (sym (placed_append place fs gs))));
+      ∙ (ap (λ (l : List ℕ). fragments_text plain_log place fs ++ l) (behind_stand file place fs s ∙ t.there)
+      ∙ (sym (append_assoc (fragments_text plain_log place fs) (fragments_text plain_log (end_of plain_log place fs) gs) t.rest) ∙ ap (λ (l : List ℕ). l ++ t.rest) (sym (placed_append place fs gs))));
   fit = fit_joined place fs gs s.fit t.fit;
 }
 

@@ -1,5 +1,5 @@
 -- A reader of a log in one of its blocks.
-use Rattle.std.specs.Prelude.{◌≡◌, ℕ, ◌+◌, ◌%◌, ◌<◌, ◌≤◌, List, [], ◌∷◌, length, take, drop, slice_range, None}
+use Rattle.std.specs.Prelude.{◌≡◌, ℕ, ◌+◌, ◌%◌, ◌<◌, ◌≤◌, List, [], ◌∷◌, length, take, drop, slice_range}
 use Rattle.model_base.specs.Log.{Kind, kind_code, next_place, plain_log}
 use Rattle.model_base.specs.Reading as reading
 use Rattle.model_base.specs.Reading.{next_seen, end_of, Stand}

@@ -1,7 +1,7 @@
 -- One fragment more of a record.
 use Rattle.std.specs.Prelude.{◌≡◌, ℕ, ◌<◌, List, [], ◌∷◌, Option, Some, None}
 use Rattle.model_base.specs.declared.log.EndReason.TheVariants as ends
-use Rattle.model_base.specs.Log.{Kind, full, first, middle, last, Fragment, kinds_of, record_of, next_place}
+use Rattle.model_base.specs.Log.{Kind, full, first, middle, last, Fragment, kinds_of, record_of, next_place, plain_log}
 use Rattle.model_base.specs.Reading.{Stand, end_of, AreBegun}
 use Rattle.log_reader.specs.declared.reader.Next.{Next}
 use Rattle.log_reader.specs.declared.reader.Next.TheVariants as next
@@ -16,16 +16,16 @@ abbrev pub BeginsAt : Option ℕ → ℕ → List Fragment → Type 0
 BeginsAt None place [] = Unit {0}
 BeginsAt None place (f ∷ fs) = ⊥
 BeginsAt (Some start) place [] = ⊥
-BeginsAt (Some start) place (f ∷ fs) = start ≡ next_place None place
+BeginsAt (Some start) place (f ∷ fs) = start ≡ next_place plain_log place
 
 -- the first fragments of a record were read from a place on, and the reader stands after them
 pub record Stood (file : List ℕ) (place : ℕ) (begun : Option ℕ) (in_hand : List ℕ) (offset : ℕ) : Type 0 where
   pub fragments : List Fragment
   pub are_begun : AreBegun (kinds_of fragments)
-  pub stand : Stand None file place fragments
+  pub stand : Stand plain_log file place fragments
   pub begins : BeginsAt begun place fragments
   pub bytes_are : in_hand ≡ record_of fragments
-  pub there : offset ≡ end_of None place fragments
+  pub there : offset ≡ end_of plain_log place fragments
 
 -- what one fragment more comes to
 abbrev pub StepIs : List ℕ → ℕ → List ℕ → ℕ → Step → Type 0

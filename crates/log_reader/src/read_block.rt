@@ -21,6 +21,7 @@ pub fn read_block<D: Disk>(disk: &mut D, start: u64, block: &mut [u8]) -> Result
     ensures disk { OnlyReads ⟦<D as Disk>⟧ disk.old disk.new }
 {
     let mut len = 0;
+    // The first `len` bytes of `block` are the disk's from `start` on, and no read has failed.
     while len < block.len() {
         let Ok(more) = disk.read(start + len as u64, &mut block[len..]) else {
             return Err(disk.faults());

@@ -136,6 +136,7 @@ fn read_record<D: Disk>(window: &mut Window, in_hand: &mut Vec<u8>, disk: &mut D
 {
     in_hand.clear();
     let mut begun = None;
+    // The fragments read so far are the beginning of one record, and `in_hand` has their parts joined.
     loop {
         match read_part(window, in_hand, begun, disk) {
             Step::More(start) => begun = Some(start),

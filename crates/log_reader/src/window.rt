@@ -56,6 +56,7 @@ impl Window {
         ensures fault { IfErr result (λ count. Rose (D.faults disk.old) count × (count ≤ D.faults disk.new)) }
         ensures disk { OnlyReads ⟦<D as Disk>⟧ disk.old disk.new }
     {
+        // The blocks before this one have nothing more behind the place where the window stood.
         loop {
             self.fill(disk)?;
             match see(&self.room[..self.len], self.at) {

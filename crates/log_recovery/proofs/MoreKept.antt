@@ -1,5 +1,5 @@
 -- What is kept of a file: one record more, and no more than may be kept.
-use Rattle.std.proofs.Common.{Option, None, ◌≡◌, ⊎_elim, ℕ, ◌+◌, ◌-◌, ◌<◌, ◌≤◌, List, [], ◌∷◌, ◌++◌, length, take, drop, map, refl, sym, ◌∙◌, ap, subst, arith, cond, ◌==◌, length-append, length-take, length-drop, append_assoc, zero-add}
+use Rattle.std.proofs.Common.{Option, ◌≡◌, ⊎_elim, ℕ, ◌+◌, ◌-◌, ◌<◌, ◌≤◌, List, [], ◌∷◌, ◌++◌, length, take, drop, map, refl, sym, ◌∙◌, ap, subst, arith, cond, ◌==◌, length-append, length-take, length-drop, append_assoc, zero-add}
 use Rattle.std.proofs.Math.Seq.{take-append_seam, take-add}
 use Rattle.std.proofs.lemmas.Grind.{flat_map-append}
 use Rattle.std.proofs.lemmas.List.{take-append-drop, append-nil, map-append, append_cancel_left}
@@ -7,7 +7,7 @@ use Rattle.std.proofs.lemmas.Nat.{from_le_bytes-to_le_bytes_4, from_le_bytes-to_
 use Rattle.std.specs.Int.{w32, w64, from_le_bytes}
 use Rattle.std.specs.List.{AllByRecursion}
 use Rattle.model_base.specs.Batch.{Record, count_of, IsBatch}
-use Rattle.model_base.specs.Log.{Fragment, placed, FitFrom, AreOneRecord, kinds_of, record_of, all_fragments, plain_log}
+use Rattle.model_base.specs.Log.{Fragment, fragments_text, FitFrom, AreOneRecord, kinds_of, record_of, all_fragments, plain_log}
 use Rattle.model_base.specs.Reading.{end_of, Stand}
 use Rattle.model_base.specs.Recovery.{Logged, logged_bytes, last_after, MayFollow, AreInOrder, last_sequence, Keeps}
 use Rattle.log_recovery.specs.Keeping.{MayBeKept}
@@ -44,7 +44,7 @@ module _ (number : Option ℕ) (file : List ℕ) (kept : ℕ) (bs : List Logged)
 
   pub end_is : end_of number 0 fragments ≡ kept
   unfolding fragments
-  end_is = zero-add (length (placed number 0 fragments)) ∙ sym (ap length keeps.spelled.spelled) ∙ omega (arith, length-take kept file, keeps.within)
+  end_is = zero-add (length (fragments_text number 0 fragments)) ∙ sym (ap length keeps.spelled.spelled) ∙ omega (arith, length-take kept file, keeps.within)
 
   pub all_stand : Stand number file 0 fragments
   unfolding fragments
@@ -61,12 +61,12 @@ unfolding fragments
 keeps_more number file kept bs b fs keeps one stands bytes is may =
     let groups = keeps.spelled.groups in
     let flat : List Fragment = all_fragments groups in
-    let piece : List ℕ = placed number kept fs in
+    let piece : List ℕ = fragments_text number kept fs in
     let end : end_of number 0 flat ≡ kept = end_is number file kept bs keeps in
     let joined : all_fragments (groups ++ fs ∷ []) ≡ flat ++ fs = flat_map-append (λ (l : List Fragment). l) groups (fs ∷ []) ∙ ap (λ (l : List Fragment). flat ++ l) (append-nil fs) in
     let taken : take (kept + length piece) file ≡ take kept file ++ piece =
     take-add kept (length piece) file ∙ ap (λ (l : List ℕ). take kept file ++ take (length piece) l) stands.there ∙ ap (λ (l : List ℕ). take kept file ++ l) (take-append_seam piece stands.rest) in
-    let laid : placed number 0 (flat ++ fs) ≡ placed number 0 flat ++ piece = placed_append number 0 flat fs ∙ ap (λ (n : ℕ). placed number 0 flat ++ placed number n fs) end in
+    let laid : fragments_text number 0 (flat ++ fs) ≡ fragments_text number 0 flat ++ piece = placed_append number 0 flat fs ∙ ap (λ (n : ℕ). fragments_text number 0 flat ++ fragments_text number n fs) end in
     record {
       within = omega (arith, keeps.within, length-drop kept file, ap length stands.there, length-append piece stands.rest);
       spelled = record {
@@ -74,7 +74,7 @@ keeps_more number file kept bs b fs keeps one stands bytes is may =
         whole = all_more (λ l. AreOneRecord (kinds_of l)) groups fs keeps.spelled.whole one;
         same = map-append logged_bytes bs (b ∷ []) ∙ ap (λ (l : List (List ℕ)). l ++ logged_bytes b ∷ []) keeps.spelled.same ∙ ap (λ (l : List ℕ). map record_of groups ++ l ∷ []) (sym bytes) ∙ sym (map-append record_of groups (fs ∷ []));
         fit = subst (FitFrom number 0) (sym joined) (fit_joined number 0 flat fs keeps.spelled.fit (subst (λ n. FitFrom number n fs) (sym end) stands.fit));
-        spelled = taken ∙ ap (λ (l : List ℕ). l ++ piece) keeps.spelled.spelled ∙ sym laid ∙ ap (placed number 0) (sym joined);
+        spelled = taken ∙ ap (λ (l : List ℕ). l ++ piece) keeps.spelled.spelled ∙ sym laid ∙ ap (fragments_text number 0) (sym joined);
       };
       are_batches = all_more (λ c. IsBatch (logged_bytes c) c.first c.records) bs b keeps.are_batches is;
       in_order = in_order_more 0 bs b keeps.in_order may;
@@ -144,7 +144,7 @@ pub record KeptNext (number : Option ℕ) (file : List ℕ) (kept last : ℕ) : 
 
 no_shorter : (number : Option ℕ) (xs ys rest : List Fragment) → xs ≡ ys ++ rest → end_of number 0 ys ≤ end_of number 0 xs
 no_shorter number xs ys rest e =
-    omega (arith, ap length (ap (placed number 0) e ∙ placed_append number 0 ys rest), length-append (placed number 0 ys) (placed number (end_of number 0 ys) rest))
+    omega (arith, ap length (ap (fragments_text number 0) e ∙ placed_append number 0 ys rest), length-append (fragments_text number 0 ys) (fragments_text number (end_of number 0 ys) rest))
 
 -- Where more is kept, such a record stands there.
 pub more_kept : (number : Option ℕ) (file : List ℕ) (kept kept' : ℕ) (bs cs : List Logged) → Keeps number file kept bs → Keeps number file kept' cs → kept < kept' → KeptNext number file kept (last_sequence 0 bs)

@@ -5,7 +5,7 @@ use Rattle.std.proofs.Math.ListN.{length-replicate}
 use Rattle.std.proofs.Math.Seq.{drop-append_seam}
 use Rattle.std.proofs.lemmas.List.{take-append-drop, append-nil, drop-drop}
 use Rattle.std.specs.List.{AllByRecursion}
-use Rattle.model_base.specs.Log.{Kind, full, first, middle, last, header_len, Fragment, fragment_bytes, trailer, next_place, placed, GoesToLast, AreOneRecord, kinds_of}
+use Rattle.model_base.specs.Log.{Kind, full, first, middle, last, header_len, Fragment, fragment_bytes, trailer, next_place, fragments_text, GoesToLast, AreOneRecord, kinds_of}
 use Rattle.model_base.specs.Reading.{Next, fragment, next_seen, end_of, AreBegun, Stand, Comes}
 use Rattle.log_laws.proofs.Next.{fragment_len, next_laid}
 use Rattle.log_laws.proofs.Placed.{behind, end_none, end_more, placed_append, fit_front, begins}
@@ -24,13 +24,13 @@ length-laid number offset f =
 
 -- the first one stands in front of the others
 stands_there : (number : Option ℕ) (file : List ℕ) (offset : ℕ) (f : Fragment) (fs : List Fragment) (s : Stand number file offset (f ∷ fs))
-    → drop offset file ≡ laid number offset f ++ (placed number (behind number offset f) fs ++ s.rest)
-stands_there number file offset f fs s = s.there ∙ append_assoc (laid number offset f) (placed number (behind number offset f) fs) s.rest
+    → drop offset file ≡ laid number offset f ++ (fragments_text number (behind number offset f) fs ++ s.rest)
+stands_there number file offset f fs s = s.there ∙ append_assoc (laid number offset f) (fragments_text number (behind number offset f) fs) s.rest
 
 -- The first one is what the reader sees next.
 pub stands_seen : (number : Option ℕ) (file : List ℕ) (offset : ℕ) (f : Fragment) (fs : List Fragment) → Stand number file offset (f ∷ fs) → next_seen number file offset ≡ record { at = next_place number offset; seen = fragment f }
 stands_seen number file offset f fs s =
-    let more : List ℕ = placed number (behind number offset f) fs ++ s.rest in
+    let more : List ℕ = fragments_text number (behind number offset f) fs ++ s.rest in
     let there = stands_there number file offset f fs s in
     let within : offset ≤ length file =
     omega (arith, length-drop offset file, ap length there, length-append (laid number offset f) more, length-laid number offset f, header_some number) in
@@ -40,7 +40,7 @@ stands_seen number file offset f fs s =
 -- The others stand behind it.
 pub stand_behind : (number : Option ℕ) (file : List ℕ) (offset : ℕ) (f : Fragment) (fs : List Fragment) → Stand number file offset (f ∷ fs) → Stand number file (behind number offset f) fs
 stand_behind number file offset f fs s =
-    let more : List ℕ = placed number (behind number offset f) fs ++ s.rest in
+    let more : List ℕ = fragments_text number (behind number offset f) fs ++ s.rest in
     let piece : List ℕ = laid number offset f in
     record {
       rest = s.rest;
@@ -57,8 +57,8 @@ stand_back number file offset (x ∷ xs) ys s =
 -- The first stands where both do.
 pub stand_front : (number : Option ℕ) (file : List ℕ) (offset : ℕ) (xs ys : List Fragment) → Stand number file offset (xs ++ ys) → Stand number file offset xs
 stand_front number file offset xs ys s = record {
-  rest = placed number (end_of number offset xs) ys ++ s.rest;
-  there = s.there ∙ ap (λ (l : List ℕ). l ++ s.rest) (placed_append number offset xs ys) ∙ append_assoc (placed number offset xs) (placed number (end_of number offset xs) ys) s.rest;
+  rest = fragments_text number (end_of number offset xs) ys ++ s.rest;
+  there = s.there ∙ ap (λ (l : List ℕ). l ++ s.rest) (placed_append number offset xs ys) ∙ append_assoc (fragments_text number offset xs) (fragments_text number (end_of number offset xs) ys) s.rest;
   fit = fit_front number offset xs ys s.fit;
 }
 

@@ -1,5 +1,5 @@
 -- What recovering a log comes to.
-use Rattle.std.specs.Prelude.{◌≡◌, ℕ, ◌≤◌, List, map, None}
+use Rattle.std.specs.Prelude.{◌≡◌, ℕ, ◌≤◌, List, map}
 use Rattle.model_base.specs.Log.{plain_log}
 use Rattle.base_devices.specs.Faults.{Rose}
 use Rattle.model_base.specs.Recovery as recovery

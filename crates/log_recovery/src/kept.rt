@@ -7,7 +7,7 @@ ghost use Rattle.model_base.specs.Map.{after_records};
 ghost use Rattle.log_recovery.specs.Keeping.{Adds, Refuses, MayRun, IsRunEnd};
 
 use base_maps::ByteMap;
-use log_batch::{MAX_SEQUENCE, RecordView, Records, read_batch};
+use log_batch::{MAX_SEQUENCE, read_batch, write_records};
 use model_base::{BatchError, EndReason, NoMemory};
 use std::alloc::Global;
 
@@ -67,7 +67,7 @@ impl Kept {
             count,
             size: bytes.len() as u64,
         })?;
-        insert_all(&mut self.map, batch.records())?;
+        write_records(&mut self.map, batch.records())?;
         self.last = last_after(self.last, first, count);
         self.end = end;
         Ok(None)
@@ -111,18 +111,4 @@ fn last_after(last: u64, first: u64, count: u32) -> u64
     } else {
         first + u64::from(count - 1)
     }
-}
-
-/// Changes the map as the records say, in order.
-fn insert_all(map: &mut ByteMap, records: Records<'_>) -> Result<(), NoMemory>
-    ensures { OnOk result (map.new ≡ after_records map.old records.entry) }
-{
-    for record in records {
-        match record {
-            RecordView::Value { key, value } => map.insert(key, value)?,
-            RecordView::Deletion { key } | RecordView::SingleDeletion { key } => map.remove(key),
-            RecordView::LogData { .. } => {}
-        }
-    }
-    Ok(())
 }

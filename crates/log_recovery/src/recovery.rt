@@ -62,6 +62,7 @@ pub fn recover<D: Disk>(alloc: Global, disk: &mut D) -> Result<Recovered, Recove
 {
     let mut log = LogReader::open(alloc)?;
     let mut kept = Kept::new(alloc);
+    // All records before the reader's place are kept, and their runs rise.
     loop {
         match log.next(disk) {
             Next::Record { start, end } => {

@@ -3,7 +3,7 @@ use Rattle.std.proofs.Common.{◌≡◌, ⊎_elim, ℕ, zero, suc, ◌+◌, ◌<
 use Rattle.std.proofs.Math.Seq.{drop-append_seam}
 use Rattle.std.proofs.lemmas.List.{drop-drop}
 use Rattle.model_base.specs.declared.log.EndReason.TheVariants as ends
-use Rattle.model_base.specs.Log.{header_len, Fragment, placed, AreOneRecord, kinds_of, record_of, next_place}
+use Rattle.model_base.specs.Log.{header_len, Fragment, fragments_text, AreOneRecord, kinds_of, record_of, next_place}
 use Rattle.model_base.specs.Reading.{Seen, Next, fragment, nothing, damage, next_seen, end_of, AreBegun, Stand, Comes, clean, broken, bad_order, unfinished}
 use Rattle.log_laws.proofs.Placed.{behind, end_none, end_more, placed_append}
 use Rattle.log_laws.proofs.Written.{fit_joined}
@@ -14,14 +14,14 @@ use Rattle.log_recovery_laws.proofs.Deciding.{are_begun, are_one}
 -- what stands after fragments
 behind_stand : (number : Option ℕ) (file : List ℕ) (offset : ℕ) (fs : List Fragment) (s : Stand number file offset fs) → s.rest ≡ drop (end_of number offset fs) file
 behind_stand number file offset fs s =
-    sym (drop-append_seam (placed number offset fs) s.rest) ∙ (ap (drop (length (placed number offset fs))) (sym s.there) ∙ drop-drop (length (placed number offset fs)) offset file)
+    sym (drop-append_seam (fragments_text number offset fs) s.rest) ∙ (ap (drop (length (fragments_text number offset fs))) (sym s.there) ∙ drop-drop (length (fragments_text number offset fs)) offset file)
 
 stand_more : (number : Option ℕ) (file : List ℕ) (offset : ℕ) (fs gs : List Fragment) → Stand number file offset fs → Stand number file (end_of number offset fs) gs → Stand number file offset (fs ++ gs)
 stand_more number file offset fs gs s t = record {
   rest = t.rest;
   there = s.there
-      ∙ (ap (λ (l : List ℕ). placed number offset fs ++ l) (behind_stand number file offset fs s ∙ t.there)
-      ∙ (sym (append_assoc (placed number offset fs) (placed number (end_of number offset fs) gs) t.rest) ∙ ap (λ (l : List ℕ). l ++ t.rest) (sym (placed_append number offset fs gs))));
+      ∙ (ap (λ (l : List ℕ). fragments_text number offset fs ++ l) (behind_stand number file offset fs s ∙ t.there)
+      ∙ (sym (append_assoc (fragments_text number offset fs) (fragments_text number (end_of number offset fs) gs) t.rest) ∙ ap (λ (l : List ℕ). l ++ t.rest) (sym (placed_append number offset fs gs))));
   fit = fit_joined number offset fs gs s.fit t.fit;
 }
 

@@ -7,7 +7,7 @@ use Rattle.model_base.specs.declared.log.EndReason.{EndReason}
 use Rattle.model_base.specs.declared.log.EndReason.TheVariants as ends
 use Rattle.model_base.specs.Batch.{Record, count_of, IsBatch, IsBatchError}
 use Rattle.model_base.specs.History.{max_sequence}
-use Rattle.model_base.specs.Log.{header, Fragment, fragment_bytes, kind_code, trailer, placed, AreOneRecord, kinds_of, record_of, next_place}
+use Rattle.model_base.specs.Log.{header, Fragment, fragment_bytes, kind_code, trailer, fragments_text, AreOneRecord, kinds_of, record_of, next_place}
 use Rattle.model_base.specs.Reading.{end_of, Stand, ReadingEnds}
 use Rattle.model_base.specs.Recovery.{Logged, MayFollow, last_sequence, Keeps, RecordEnds, short, bad_varint, tag, count, order, high, reading, record_read, Recovered, IsRecovered}
 use Rattle.log_batch.proofs.OneAnswer.{one_batch, no_batch_error}
@@ -21,16 +21,16 @@ use Rattle.log_recovery_laws.proofs.Batches.{batch_or_error}
 use Rattle.log_recovery_laws.proofs.Kept.{MayBeKept, no_more_kept, keeps_none, keeps_more}
 
 -- the parts of fragments that stand in bytes are bytes
-placed_bytes : (number : Option ℕ) (offset : ℕ) (fs : List Fragment) → AreBytes (placed number offset fs) → AreBytes (record_of fs)
+placed_bytes : (number : Option ℕ) (offset : ℕ) (fs : List Fragment) → AreBytes (fragments_text number offset fs) → AreBytes (record_of fs)
 placed_bytes number offset [] are = tt
 placed_bytes number offset (f ∷ fs) are =
-    let first : AreBytes (replicate (trailer number offset) 0 ++ fragment_bytes number f) = bytes_front (replicate (trailer number offset) 0 ++ fragment_bytes number f) (placed number (behind number offset f) fs) are in
+    let first : AreBytes (replicate (trailer number offset) 0 ++ fragment_bytes number f) = bytes_front (replicate (trailer number offset) 0 ++ fragment_bytes number f) (fragments_text number (behind number offset f) fs) are in
     let part : AreBytes f.part = bytes_back (header number (kind_code number f.kind) f.part) f.part (bytes_back (replicate (trailer number offset) 0) (fragment_bytes number f) first) in
-    let later : AreBytes (placed number (behind number offset f) fs) = bytes_back (replicate (trailer number offset) 0 ++ fragment_bytes number f) (placed number (behind number offset f) fs) are in
+    let later : AreBytes (fragments_text number (behind number offset f) fs) = bytes_back (replicate (trailer number offset) 0 ++ fragment_bytes number f) (fragments_text number (behind number offset f) fs) are in
     bytes_joined f.part (record_of fs) part (placed_bytes number (behind number offset f) fs later)
 
 record_bytes_are : (number : Option ℕ) (file : List ℕ) (offset : ℕ) (fs : List Fragment) → AreBytes file → Stand number file offset fs → AreBytes (record_of fs)
-record_bytes_are number file offset fs are s = placed_bytes number offset fs (bytes_front (placed number offset fs) s.rest (subst AreBytes s.there (bytes_drop offset file are)))
+record_bytes_are number file offset fs are s = placed_bytes number offset fs (bytes_front (fragments_text number offset fs) s.rest (subst AreBytes s.there (bytes_drop offset file are)))
 
 abbrev pub Result-of : Option ℕ → List ℕ → Type 0
 Result-of number file = (r : Recovered) × IsRecovered number file r

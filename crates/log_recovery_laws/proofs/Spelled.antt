@@ -4,7 +4,7 @@ use Rattle.std.proofs.Math.Seq.{take-append_seam, take-add}
 use Rattle.std.proofs.lemmas.Grind.{flat_map-append}
 use Rattle.std.proofs.lemmas.List.{take-append-drop, append-nil, map-append}
 use Rattle.std.specs.List.{AllByRecursion}
-use Rattle.model_base.specs.Log.{Fragment, placed, FitFrom, AreOneRecord, kinds_of, record_of, all_fragments, SpellsWhole}
+use Rattle.model_base.specs.Log.{Fragment, fragments_text, FitFrom, AreOneRecord, kinds_of, record_of, all_fragments, SpellsWhole}
 use Rattle.model_base.specs.Reading.{end_of, Stand}
 use Rattle.log_laws.proofs.Placed.{placed_append, fit_front}
 use Rattle.log_laws.proofs.Agree.{Whole}
@@ -27,7 +27,7 @@ module _ (number : Option ℕ) (file : List ℕ) (kept : ℕ) (records : List (L
 
   end_is : end_of number 0 fragments ≡ kept
   unfolding fragments
-  end_is = zero-add (length (placed number 0 fragments)) ∙ sym (ap length b.spelled.spelled) ∙ omega (arith, length-take kept file, b.within)
+  end_is = zero-add (length (fragments_text number 0 fragments)) ∙ sym (ap length b.spelled.spelled) ∙ omega (arith, length-take kept file, b.within)
 
   all_stand : Stand number file 0 fragments
   unfolding fragments
@@ -45,12 +45,12 @@ unfolding fragments
 begins_more number file kept records fs b one stands =
     let groups = b.spelled.groups in
     let flat : List Fragment = all_fragments groups in
-    let piece : List ℕ = placed number kept fs in
+    let piece : List ℕ = fragments_text number kept fs in
     let end : end_of number 0 flat ≡ kept = end_is number file kept records b in
     let joined : all_fragments (groups ++ fs ∷ []) ≡ flat ++ fs = flat_map-append (λ (l : List Fragment). l) groups (fs ∷ []) ∙ ap (λ (l : List Fragment). flat ++ l) (append-nil fs) in
     let taken : take (kept + length piece) file ≡ take kept file ++ piece =
     take-add kept (length piece) file ∙ ap (λ (l : List ℕ). take kept file ++ take (length piece) l) stands.there ∙ ap (λ (l : List ℕ). take kept file ++ l) (take-append_seam piece stands.rest) in
-    let laid : placed number 0 (flat ++ fs) ≡ placed number 0 flat ++ piece = placed_append number 0 flat fs ∙ ap (λ (n : ℕ). placed number 0 flat ++ placed number n fs) end in
+    let laid : fragments_text number 0 (flat ++ fs) ≡ fragments_text number 0 flat ++ piece = placed_append number 0 flat fs ∙ ap (λ (n : ℕ). fragments_text number 0 flat ++ fragments_text number n fs) end in
     record {
       within = omega (arith, b.within, length-drop kept file, ap length stands.there, length-append piece stands.rest);
       spelled = record {
@@ -58,7 +58,7 @@ begins_more number file kept records fs b one stands =
         whole = all_more (λ l. AreOneRecord (kinds_of l)) groups fs b.spelled.whole one;
         same = ap (λ (l : List (List ℕ)). l ++ record_of fs ∷ []) b.spelled.same ∙ sym (map-append record_of groups (fs ∷ []));
         fit = subst (FitFrom number 0) (sym joined) (fit_joined number 0 flat fs b.spelled.fit (subst (λ n. FitFrom number n fs) (sym end) stands.fit));
-        spelled = taken ∙ ap (λ (l : List ℕ). l ++ piece) b.spelled.spelled ∙ sym laid ∙ ap (placed number 0) (sym joined);
+        spelled = taken ∙ ap (λ (l : List ℕ). l ++ piece) b.spelled.spelled ∙ sym laid ∙ ap (fragments_text number 0) (sym joined);
       };
     }
 
@@ -72,14 +72,14 @@ pub record NextRecord (number : Option ℕ) (file : List ℕ) (kept : ℕ) (reco
 
 stand_front : (number : Option ℕ) (file : List ℕ) (offset : ℕ) (xs ys : List Fragment) → Stand number file offset (xs ++ ys) → Stand number file offset xs
 stand_front number file offset xs ys s = record {
-  rest = placed number (end_of number offset xs) ys ++ s.rest;
-  there = s.there ∙ ap (λ (l : List ℕ). l ++ s.rest) (placed_append number offset xs ys) ∙ append_assoc (placed number offset xs) (placed number (end_of number offset xs) ys) s.rest;
+  rest = fragments_text number (end_of number offset xs) ys ++ s.rest;
+  there = s.there ∙ ap (λ (l : List ℕ). l ++ s.rest) (placed_append number offset xs ys) ∙ append_assoc (fragments_text number offset xs) (fragments_text number (end_of number offset xs) ys) s.rest;
   fit = fit_front number offset xs ys s.fit;
 }
 
 no_shorter : (number : Option ℕ) (xs ys rest : List Fragment) → xs ≡ ys ++ rest → end_of number 0 ys ≤ end_of number 0 xs
 no_shorter number xs ys rest e =
-    omega (arith, ap length (ap (placed number 0) e ∙ placed_append number 0 ys rest), length-append (placed number 0 ys) (placed number (end_of number 0 ys) rest))
+    omega (arith, ap length (ap (fragments_text number 0) e ∙ placed_append number 0 ys rest), length-append (fragments_text number 0 ys) (fragments_text number (end_of number 0 ys) rest))
 
 -- Where others reach further, such a record stands there.
 pub next_record : (number : Option ℕ) (file : List ℕ) (kept further : ℕ) (records others : List (List ℕ)) → Begins number file kept records → Begins number file further others → kept < further → NextRecord number file kept records others

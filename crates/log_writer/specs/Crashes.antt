@@ -1,5 +1,5 @@
 -- What a crash leaves of a log's disk, in bytes and in records.
-use Rattle.std.specs.Prelude.{◌≡◌, ℕ, ◌+◌, ◌≤◌, max, List, [], ◌∷◌, ◌++◌, length, take, map, Option, None, IfSome}
+use Rattle.std.specs.Prelude.{◌≡◌, ℕ, ◌+◌, ◌≤◌, max, List, [], ◌∷◌, ◌++◌, length, take, map, Option, IfSome}
 use Rattle.std.specs.List.{AllByRecursion}
 use Rattle.base_devices.specs.Disk.{Disk, IsImage, LeavesOnly}
 use Rattle.base_devices.specs.declared.disk.Disk.{Ghosts}

@@ -42,6 +42,7 @@ impl<'a> GroupBytes<'a> {
         ensures rest { self.new ≡ drop (length part.old) self.old }
     {
         let mut at = 0;
+        // The first `at` bytes of `part` are the group's next ones, and `self` has those after them.
         while part.len() - at > self.front.len() {
             set_at(part, at, self.front);
             at += self.front.len();

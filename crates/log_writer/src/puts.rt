@@ -100,6 +100,7 @@ fn put_record<D: Disk>(
     ensures end { IfOk result (λ end. end ≡ offset + length (log.record_text plain_log offset rest.old)) }
 {
     let mut end = offset;
+    // The pieces so far are written, and `end` is where the log ends after them.
     for piece in Fragmenter::new((offset % BLOCK_LEN as u64) as usize, len) {
         put_piece(disk, block, rest, piece)?;
         end += piece_len(piece);

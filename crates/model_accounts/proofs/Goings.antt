@@ -18,22 +18,22 @@ use Rattle.model_base.specs.Calls.{Command, add, clear, commit, get, many, scan,
 use Rattle.model_base.proofs.Prefixes.{prefix_length}
 use Rattle.model_base.proofs.Runs.{later_in, refuse_in}
 use Rattle.model_accounts.specs.Sights.{last_seen, Sees, InEachTrace}
-use Rattle.model_accounts.specs.Accounts.{Account, standing, Keeps, Wrote, IsRefused, Refuses, Reads, Asks}
+use Rattle.model_accounts.specs.Accounts.{Account, progress_at, Keeps, Wrote, IsRefused, Refuses, Reads, Asks}
 use Rattle.model_accounts.specs.ClientRuns.{Goes, Lacks}
 use Rattle.model_accounts.proofs.Seeing.{sees_self, last_rises, seen_ends, seen_map}
 
 -- a progress by its parts
 stands_by : (w : Account) (pending : List Record) (seen_up_to : ℕ) (mine : List Entry) (asked : List Action) (attempts : List Attempt) → w.mine ≡ mine → w.asked ≡ asked → w.attempts ≡ attempts
-    → standing w pending seen_up_to ≡ record { pending = pending; mine = mine; asked = asked; attempts = attempts; seen_up_to = seen_up_to; known = length w.seen.controller_calls }
+    → progress_at w pending seen_up_to ≡ record { pending = pending; mine = mine; asked = asked; attempts = attempts; seen_up_to = seen_up_to; known = length w.seen.controller_calls }
 stands_by w pending seen_up_to mine asked attempts m a h = rw (m, a, h) refl
 
-stays : (v w : Account) → Keeps v w → (pending : List Record) (seen_up_to : ℕ) → Stays (standing v pending seen_up_to) (standing w pending seen_up_to)
+stays : (v w : Account) → Keeps v w → (pending : List Record) (seen_up_to : ℕ) → Stays (progress_at v pending seen_up_to) (progress_at w pending seen_up_to)
 stays v w k pending seen_up_to = stands_by w pending seen_up_to v.mine v.asked v.attempts k.mine k.asked k.attempts
 
 -- a step, by the replies that may come
 goes_by : (settings : Settings) (v : Account) (before : List Record) (command : Command) (reply : Reply) (w : Account) (after : List Record) → w.number ≡ v.number → Sees v.seen w.seen
     → ((shown : ℕ) → shown ≤ last_seen v.seen → (seen_up_to : ℕ) × (seen_up_to ≤ last_seen w.seen)
-    × InEachTrace w.seen (λ trace. Replies settings trace v.number (standing v before shown) command reply (standing w after seen_up_to)))
+    × InEachTrace w.seen (λ trace. Replies settings trace v.number (progress_at v before shown) command reply (progress_at w after seen_up_to)))
     → Goes settings v before command reply w after
 goes_by settings v before command reply w after number seen right = record {
   number = number;
@@ -68,7 +68,7 @@ module _ (settings : Settings) (v : Account) (pending : List Record) where
       goes_by settings v pending (commit how) (accepted first last pending) w [] wrote.number wrote.seen (λ shown low. (
         max shown last,
         (let b = wrote.within in let c = wrote.reached in omega (arith, rises, low, b, c, run)),
-        λ trace is_history saw. subst (Committed trace how (accepted first last pending) (standing v pending shown) (standing w [] (max shown last))) (sym wrote.passed) (record {
+        λ trace is_history saw. subst (Committed trace how (accepted first last pending) (progress_at v pending shown) (progress_at w [] (max shown last))) (sym wrote.passed) (record {
           batch = refl;
           run = run;
           above = (let a = wrote.above in omega (arith, low, a));
@@ -89,9 +89,9 @@ module _ (settings : Settings) (v : Account) (pending : List Record) where
           goes_by settings v pending (commit how) (refused why) w pending r.number r.seen (λ shown low. (
             shown,
             omega (arith, rises, low),
-            λ trace is_history saw. subst (Committed trace how (refused why) (standing v pending shown) (standing w pending shown)) (sym e) (
+            λ trace is_history saw. subst (Committed trace how (refused why) (progress_at v pending shown) (progress_at w pending shown)) (sym e) (
               r.status,
-              refuse_in w.seen.controller_calls trace.controller_calls saw.controller_calls (standing v pending (last_seen v.seen)) shown (length w.seen.controller_calls) low how why r.status r.may,
+              refuse_in w.seen.controller_calls trace.controller_calls saw.controller_calls (progress_at v pending (last_seen v.seen)) shown (length w.seen.controller_calls) low how why r.status r.may,
               stands_by w pending shown _ _ _ r.mine r.asked r.attempts,
             ),
           ))
@@ -100,12 +100,12 @@ module _ (settings : Settings) (v : Account) (pending : List Record) where
           goes_by settings v pending (commit how) (refused why) w pending s.1.number s.1.seen (λ shown low. (
             shown,
             omega (arith, rises, low),
-            λ trace is_history saw. subst (Committed trace how (refused why) (standing v pending shown) (standing w pending shown)) (sym e) (ap refused s.0, stays v w s.1 pending shown),
+            λ trace is_history saw. subst (Committed trace how (refused why) (progress_at v pending shown) (progress_at w pending shown)) (sym e) (ap refused s.0, stays v w s.1 pending shown),
           ))
 
   -- a read's answer is of what the client has now seen published
   reads_end : (w : Account) (at : ℕ) (answers : Pairs → Type 0) → Keeps v w → Reads at answers w → (shown : ℕ) → shown ≤ last_seen v.seen
-      → InEachTrace w.seen (λ trace. ReadsAt trace (standing v pending shown) at answers (standing w pending at))
+      → InEachTrace w.seen (λ trace. ReadsAt trace (progress_at v pending shown) at answers (progress_at w pending at))
   reads_end w at answers k r shown low trace is_history saw = record {
     front = saw.entries;
     is_front = record { rest = saw.begins.0; split = sym saw.begins.1; ends = r.at_is ∙ seen_ends w.seen trace is_history saw };
@@ -116,7 +116,7 @@ module _ (settings : Settings) (v : Account) (pending : List Record) where
 
   -- a read, by the reply that it makes of its answer
   read_on : (c : Command) (reply : Reply) (w : Account) (at : ℕ) (answers : Pairs → Type 0) → Keeps v w → Reads at answers w
-      → ((trace : Trace) (shown : ℕ) → ReadsAt trace (standing v pending shown) at answers (standing w pending at) → Replies settings trace v.number (standing v pending shown) c reply (standing w pending at))
+      → ((trace : Trace) (shown : ℕ) → ReadsAt trace (progress_at v pending shown) at answers (progress_at w pending at) → Replies settings trace v.number (progress_at v pending shown) c reply (progress_at w pending at))
       → Goes settings v pending c reply w pending
   read_on c reply w at answers k r right = goes_by settings v pending c reply w pending k.number k.seen (λ shown low. (
     at,
@@ -134,7 +134,7 @@ module _ (settings : Settings) (v : Account) (pending : List Record) where
   goes_scan lo hi at pairs w k r = read_on (scan lo hi) (rows at pairs) w at (λ m. pairs ≡ rows_within lo hi m) k r (λ trace shown h. h)
 
   -- a call of the controller that was done
-  asks_done : (a : Action) (w : Account) → Asks v a w → (shown : ℕ) → InEachTrace w.seen (λ trace. IsDone trace v.number (standing v pending shown) a (standing w pending shown))
+  asks_done : (a : Action) (w : Account) → Asks v a w → (shown : ℕ) → InEachTrace w.seen (λ trace. IsDone trace v.number (progress_at v pending shown) a (progress_at w pending shown))
   asks_done a w k shown trace is_history saw = record {
     place = k.place;
     is_later = later_in w.seen.controller_calls trace.controller_calls saw.controller_calls (length v.seen.controller_calls) k.place _ k.is_later;
@@ -147,7 +147,7 @@ module _ (settings : Settings) (v : Account) (pending : List Record) where
 
   -- it asked, or kept all, and was shown no more
   asked_on : (c : Command) (r : Reply) (w : Account) → w.number ≡ v.number → Sees v.seen w.seen
-      → ((shown : ℕ) → InEachTrace w.seen (λ trace. Replies settings trace v.number (standing v pending shown) c r (standing w pending shown))) → Goes settings v pending c r w pending
+      → ((shown : ℕ) → InEachTrace w.seen (λ trace. Replies settings trace v.number (progress_at v pending shown) c r (progress_at w pending shown))) → Goes settings v pending c r w pending
   asked_on c r w number seen right = goes_by settings v pending c r w pending number seen (λ shown low. (shown, (let rises = last_rises v.seen w.seen seen in omega (arith, rises, low)), right shown))
 
   pub goes_stop : (w : Account) → holds_stop v.asked ≡ false → Asks v controller.stop w → Goes settings v pending stop done w pending

@@ -4,7 +4,7 @@ use Rattle.std.specs.List.{AllByRecursion, AllZip, list_any}
 use Rattle.model_base.specs.declared.history.Flag.{Flag}
 use Rattle.model_base.specs.declared.history.Flag.TheVariants.{Log, NoLog, Sync}
 use Rattle.model_base.specs.Batch.{group_record}
-use Rattle.model_base.specs.History.{Entry, RunsFollow, logged}
+use Rattle.model_base.specs.History.{Entry, RunsFollow, logged_entries}
 use Rattle.model_base.specs.Attempts.{Attempt}
 use Rattle.model_base.specs.LogContents.{GroupCall, AreGroupsOf, records_of, record_of_entries, record_of_call}
 use Rattle.model_runs.specs.Lost.{IsLostGroup}
@@ -42,7 +42,7 @@ has_synced part c h some = by_entries part h.synced some
     by_entries (e ∷ es) all some = by_flag e es e.flag refl all.0 (by_entries es all.1) some
 
 -- the calls' parts are the groups of the history
-pub parts_are_groups : (entries : List Entry) (parts : List (List Entry)) (calls : List GroupCall) → flat_map (λ part. part) parts ≡ logged entries → AllByRecursion RunsFollow parts
+pub parts_are_groups : (entries : List Entry) (parts : List (List Entry)) (calls : List GroupCall) → flat_map (λ part. part) parts ≡ logged_entries entries → AllByRecursion RunsFollow parts
     → AllZip WroteEntries parts calls → AreGroupsOf entries parts
 parts_are_groups entries parts calls cut runs each = record { cut = sym cut; none_empty = none_empty parts calls each; runs = runs }
 

@@ -6,7 +6,7 @@ use Rattle.model_base.specs.Progress.{fresh}
 use Rattle.model_base.specs.Runs.{Run, whole, cut_off, commands_of}
 use Rattle.model_base.specs.Calls.{Command, Reply, Call, no_memory}
 use Rattle.model_base.proofs.Runs.{run_more}
-use Rattle.model_accounts.specs.Accounts.{Account, newcomer, standing, GivesBack}
+use Rattle.model_accounts.specs.Accounts.{Account, newcomer, progress_at, GivesBack}
 use Rattle.model_accounts.specs.ClientRuns.{Goes, Lacks, Went, HasRun}
 use Rattle.model_accounts.proofs.Seeing.{saw_earlier, sees_on}
 
@@ -21,8 +21,8 @@ went_more settings calls v before c r w after so_far goes =
     record {
       seen_up_to = next.0;
       shown = next.1;
-      run = λ trace is_history saw. subst (λ (n : ℕ). Run settings trace n fresh (calls ++ last ∷ []) (standing w after next.0)) (sym goes.number) (
-          run_more settings trace v.number fresh calls (standing v before so_far.seen_up_to) last (standing w after next.0)
+      run = λ trace is_history saw. subst (λ (n : ℕ). Run settings trace n fresh (calls ++ last ∷ []) (progress_at w after next.0)) (sym goes.number) (
+          run_more settings trace v.number fresh calls (progress_at v before so_far.seen_up_to) last (progress_at w after next.0)
           (so_far.run trace is_history (saw_earlier v.seen w.seen goes.seen trace saw)) (next.2 trace is_history saw));
     }
 
@@ -30,7 +30,7 @@ went_more settings calls v before c r w after so_far goes =
 pub has_run : (settings : Settings) (calls : List Call) (v : Account) (pending : List Record) (w : Account)
     → Went settings calls v pending → GivesBack v w → HasRun settings v.number (commands_of calls) calls w
 has_run settings calls v pending w went back = record {
-  end = standing v pending went.seen_up_to;
+  end = progress_at v pending went.seen_up_to;
   is_transcript = λ trace is_history saw. whole refl (went.run trace is_history (saw_earlier v.seen w.seen back.seen trace saw));
   number = back.number;
   mine = back.mine;
@@ -43,7 +43,7 @@ pub has_run_short : (settings : Settings) (calls : List Call) (v : Account) (pen
     → Lacks settings v pending last u → GivesBack u w
     → HasRun settings v.number (commands_of (calls ++ record { command = last; reply = no_memory } ∷ []) ++ rest) (calls ++ record { command = last; reply = no_memory } ∷ []) w
 has_run_short settings calls v pending last rest u w went lacks back = record {
-  end = standing v pending went.seen_up_to;
+  end = progress_at v pending went.seen_up_to;
   is_transcript = λ trace is_history saw. cut_off calls last rest refl refl
       (went.run trace is_history (saw_earlier v.seen w.seen (sees_on v.seen u.seen w.seen lacks.keeps.seen back.seen) trace saw)) (lacks.may went.seen_up_to);
   number = back.number ∙ lacks.keeps.number;

@@ -6,7 +6,7 @@ use Rattle.model_base.specs.Map.{Pairs, after_record, after_records}
 use Rattle.model_base.specs.History.{Entry, IsHistory, last_of, last_sequence, map_over, map_of}
 use Rattle.table_rule.specs.declared.content.Version.{Version}
 use Rattle.table_rule.specs.Histories.{record_of, map_of as map_of_versions}
-use Rattle.table_rule.specs.Batches.{made, numbered}
+use Rattle.table_rule.specs.Batches.{new_versions, number_from}
 use Rattle.model_accounts.specs.Versions.{versions_of_entry, versions_of_entries}
 
 -- Their number
@@ -14,7 +14,7 @@ use Rattle.model_accounts.specs.Versions.{versions_of_entry, versions_of_entries
 abbrev counts : Record → ℕ
 counts r = if is_counted r then 1 else 0
 
-made_length : (records : List Record) → length (made records) ≡ count_of records
+made_length : (records : List Record) → length (new_versions records) ≡ count_of records
 made_length [] = refl
 made_length (value key v ∷ records) = let e : count_of (value key v ∷ records) ≡ 1 + count_of records = sum_by-cons counts (value key v) records in let h = made_length records in omega (arith, e, h)
 made_length (deletion key ∷ records) = let e : count_of (deletion key ∷ records) ≡ 1 + count_of records = sum_by-cons counts (deletion key) records in let h = made_length records in omega (arith, e, h)
@@ -22,7 +22,7 @@ made_length (single_deletion key ∷ records) =
     let e : count_of (single_deletion key ∷ records) ≡ 1 + count_of records = sum_by-cons counts (single_deletion key) records in let h = made_length records in omega (arith, e, h)
 made_length (log_data blob ∷ records) = let e : count_of (log_data blob ∷ records) ≡ 0 + count_of records = sum_by-cons counts (log_data blob) records in let h = made_length records in omega (arith, e, h)
 
-numbered_length : (first : ℕ) (versions : List Version) → length (numbered first versions) ≡ length versions
+numbered_length : (first : ℕ) (versions : List Version) → length (number_from first versions) ≡ length versions
 numbered_length first [] = refl
 numbered_length first (v ∷ versions) = let h = numbered_length (first + 1) versions in omega (arith, h)
 
@@ -31,7 +31,7 @@ pub versions_reach : (start : ℕ) (entries : List Entry) → IsHistory start en
 versions_reach start [] is = omega arith
 versions_reach start (e ∷ entries) is =
     let rest = versions_reach (last_of e) entries is.1 in
-    let many : length (versions_of_entry e) ≡ e.count = numbered_length e.first (made e.records) ∙ made_length e.records ∙ sym (is.0).counted in
+    let many : length (versions_of_entry e) ≡ e.count = numbered_length e.first (new_versions e.records) ∙ made_length e.records ∙ sym (is.0).counted in
     let both = length-append (versions_of_entry e) (versions_of_entries entries) in
     let first = is.0.first in
     let some = is.0.some in
@@ -43,7 +43,7 @@ after_append : (m : Pairs) (some more : List Version) → after_records m (map r
 after_append m [] more = refl
 after_append m (v ∷ some) more = after_append (after_record m (record_of v)) some more
 
-after_made : (m : Pairs) (first : ℕ) (records : List Record) → after_records m (map record_of (numbered first (made records))) ≡ after_records m records
+after_made : (m : Pairs) (first : ℕ) (records : List Record) → after_records m (map record_of (number_from first (new_versions records))) ≡ after_records m records
 after_made m first [] = refl
 after_made m first (value key v ∷ records) = after_made (after_record m (value key v)) (first + 1) records
 after_made m first (deletion key ∷ records) = after_made (after_record m (deletion key)) (first + 1) records

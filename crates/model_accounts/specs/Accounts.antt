@@ -37,8 +37,8 @@ newcomer start number = record {
 
 -- where a client stands that has this account, this batch in the making, and was shown what is published up to
 -- `seen_up_to`
-abbrev pub standing : Account → List Record → ℕ → Progress
-standing a pending seen_up_to = record {
+abbrev pub progress_at : Account → List Record → ℕ → Progress
+progress_at a pending seen_up_to = record {
   pending = pending;
   mine = a.mine;
   asked = a.asked;
@@ -78,7 +78,8 @@ pub record Wrote (settings : Settings) (v : Account) (records : List Record) (ho
 pub record IsRefused (v : Account) (records : List Record) (how : WriteOptions) (why : Refusal)
     (w : Account) : Type 0 where
   pub status : Option WriteStatus
-  pub may : MayRefuse w.seen.controller_calls (standing v records (last_seen v.seen)) (length w.seen.controller_calls)
+  pub may : MayRefuse w.seen.controller_calls (progress_at v records (last_seen v.seen))
+      (length w.seen.controller_calls)
       how why status
   pub number : w.number ≡ v.number
   pub mine : w.mine ≡ v.mine

@@ -8,7 +8,7 @@ use Rattle.model_base.specs.Replies.{MayLackMemory}
 use Rattle.model_base.specs.Runs.{Step, Run, IsTranscript}
 use Rattle.model_base.specs.Calls.{Command, Reply, Call}
 use Rattle.model_accounts.specs.Sights.{last_seen, Sees, InEachTrace}
-use Rattle.model_accounts.specs.Accounts.{Account, Keeps, standing}
+use Rattle.model_accounts.specs.Accounts.{Account, Keeps, progress_at}
 
 -- Whatever it was shown before, it goes on by this command and reply, in each trace of which it may have seen what it
 -- now has seen.
@@ -17,14 +17,14 @@ pub record Goes (settings : Settings) (v : Account) (before : List Record) (comm
   pub number : w.number ≡ v.number
   pub seen : Sees v.seen w.seen
   pub step : (shown : ℕ) → shown ≤ last_seen v.seen → (seen_up_to : ℕ) × (seen_up_to ≤ last_seen w.seen)
-      × InEachTrace w.seen (λ trace. Step settings trace v.number (standing v before shown) command reply
-      (standing w after seen_up_to))
+      × InEachTrace w.seen (λ trace. Step settings trace v.number (progress_at v before shown) command reply
+      (progress_at w after seen_up_to))
 
 -- its call found no memory, where that may be, and changed nothing
 pub record Lacks (settings : Settings) (v : Account) (before : List Record) (command : Command)
     (w : Account) : Type 0 where
   pub keeps : Keeps v w
-  pub may : (shown : ℕ) → MayLackMemory settings (standing v before shown) command
+  pub may : (shown : ℕ) → MayLackMemory settings (progress_at v before shown) command
 
 -- a call more, with its reply
 abbrev pub with_call : List Call → Command → Reply → List Call
@@ -34,7 +34,7 @@ with_call calls command reply = calls ++ record { command = command; reply = rep
 pub record Went (settings : Settings) (calls : List Call) (a : Account) (pending : List Record) : Type 0 where
   pub seen_up_to : ℕ
   pub shown : seen_up_to ≤ last_seen a.seen
-  pub run : InEachTrace a.seen (λ trace. Run settings trace a.number fresh calls (standing a pending seen_up_to))
+  pub run : InEachTrace a.seen (λ trace. Run settings trace a.number fresh calls (progress_at a pending seen_up_to))
 
 -- All its calls, as far as it alone can tell: a transcript in each trace of which it may have seen what it has seen,
 -- that leaves what it has done

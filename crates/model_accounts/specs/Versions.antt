@@ -3,11 +3,11 @@ use Rattle.std.specs.Prelude.{List}
 use Rattle.model_base.specs.History.{Entry}
 use Rattle.table_rule.specs.declared.content.Version.{Version}
 use Rattle.table_rule.specs.Histories.{made_by}
-use Rattle.table_rule.specs.Batches.{made, numbered}
+use Rattle.table_rule.specs.Batches.{new_versions, number_from}
 
 -- one for each record that counts, with the sequences of the entry's run
 abbrev pub versions_of_entry : Entry → List Version
-versions_of_entry e = numbered e.first (made e.records)
+versions_of_entry e = number_from e.first (new_versions e.records)
 
 -- those of all entries, in their order
 abbrev pub versions_of_entries : List Entry → List Version

@@ -4,7 +4,7 @@ ghost use Rattle.std.specs.Prelude.{◌≡◌, ◌+◌, ◌<◌, ℕ, true, List
 ghost use Rattle.std.specs.List.{AllByRecursion, AllZip};
 ghost use Rattle.model_base.specs.declared.group.Item.{Item};
 ghost use Rattle.model_base.specs.Batch.{Record, group_record};
-ghost use Rattle.model_base.specs.History.{Entry, RunsFollow, logged};
+ghost use Rattle.model_base.specs.History.{Entry, RunsFollow, logged_entries};
 ghost use Rattle.model_base.specs.Grouping.{group_len};
 ghost use Rattle.model_base.specs.Controller.{ControllerCall};
 ghost use Rattle.model_base.specs.Trace.{Trace, Settings};
@@ -68,7 +68,7 @@ pub fn attempts_are_shown()
 /// The calls that wrote the closed log wrote the groups of the history, one record each.
 pub fn logs_hold_the_history()
     ensures groups { (entries : List Entry) (parts : List (List Entry)) (calls : List GroupCall)
-        → flat_map (λ part. part) parts ≡ logged entries → AllByRecursion RunsFollow parts
+        → flat_map (λ part. part) parts ≡ logged_entries entries → AllByRecursion RunsFollow parts
         → AllZip WroteEntries parts calls → AreGroupsOf entries parts }
     ensures records { (parts : List (List Entry)) (calls : List GroupCall) → AllZip WroteEntries parts calls
         → map record_of_call calls ≡ records_of parts }

@@ -72,5 +72,5 @@ is_logged Log = true
 is_logged Sync = true
 is_logged NoLog = false
 
-abbrev pub logged : List Entry → List Entry
-logged entries = filter (λ e. is_logged e.flag) entries
+abbrev pub logged_entries : List Entry → List Entry
+logged_entries entries = filter (λ e. is_logged e.flag) entries

@@ -64,10 +64,10 @@ abbrev pub next_place : Option ℕ → ℕ → ℕ
 next_place number offset = offset + trailer number offset
 
 -- the fragments one after another, from this offset of the log on, each behind its zeros
-abbrev pub placed : Option ℕ → ℕ → List Fragment → List ℕ
-placed number offset [] = []
-placed number offset (f ∷ fs) = (replicate (trailer number offset) 0 ++ fragment_bytes number f)
-    ++ placed number (next_place number offset + header_len number + length f.part) fs
+abbrev pub fragments_text : Option ℕ → ℕ → List Fragment → List ℕ
+fragments_text number offset [] = []
+fragments_text number offset (f ∷ fs) = (replicate (trailer number offset) 0 ++ fragment_bytes number f)
+    ++ fragments_text number (next_place number offset + header_len number + length f.part) fs
 
 -- none of them crosses a block
 abbrev pub FitFrom : Option ℕ → ℕ → List Fragment → Type 0
@@ -108,7 +108,7 @@ pub record SpellsWhole (number : Option ℕ) (bytes : List ℕ) (records : List 
   pub whole : AllByRecursion (λ fs. AreOneRecord (kinds_of fs)) groups
   pub same : records ≡ map record_of groups
   pub fit : FitFrom number 0 (all_fragments groups)
-  pub spelled : bytes ≡ placed number 0 (all_fragments groups)
+  pub spelled : bytes ≡ fragments_text number 0 (all_fragments groups)
 
 -- and some of the zeros that end a block may follow
 pub record Spells (number : Option ℕ) (bytes : List ℕ) (records : List (List ℕ)) : Type 0 where
@@ -143,7 +143,7 @@ as_fragments (p ∷ q ∷ ps) = record { kind = first; part = p } ∷ later_frag
 
 -- what is written for one record at this offset, and for several
 abbrev pub record_text : Option ℕ → ℕ → List ℕ → List ℕ
-record_text number offset bytes = placed number offset (as_fragments (parts_of number offset bytes))
+record_text number offset bytes = fragments_text number offset (as_fragments (parts_of number offset bytes))
 
 abbrev pub text_from : Option ℕ → ℕ → List (List ℕ) → List ℕ
 text_from number offset [] = []

@@ -3,7 +3,7 @@ use Rattle.std.specs.Prelude.{◌≡◌, ℕ, ◌<◌, Bool, Option, List, [], �
 use Rattle.std.specs.List.{AllByRecursion}
 use Rattle.model_base.specs.Batch.{Record, group_record}
 use Rattle.model_base.specs.Log.{text, plain_log}
-use Rattle.model_base.specs.History.{Entry, RunsFollow, logged}
+use Rattle.model_base.specs.History.{Entry, RunsFollow, logged_entries}
 use Rattle.model_base.specs.Calls.{Outcome}
 
 -- the one record of a group of logged entries
@@ -13,7 +13,7 @@ record_of_entries (e ∷ es) = group_record e.first (map (λ (x : Entry). x.reco
 
 -- the logged entries of a history, cut into consecutive groups
 pub record AreGroupsOf (entries : List Entry) (groups : List (List Entry)) : Type 0 where
-  pub cut : logged entries ≡ flat_map (λ g. g) groups
+  pub cut : logged_entries entries ≡ flat_map (λ g. g) groups
   pub none_empty : AllByRecursion (λ g. 0 < length g) groups
   pub runs : AllByRecursion RunsFollow groups
 

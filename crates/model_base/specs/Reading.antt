@@ -7,7 +7,7 @@ use Rattle.model_base.specs.declared.log.Damage.TheVariants.{ShortHeader, Zeros,
 use Rattle.model_base.specs.declared.log.EndReason.{EndReason}
 use Rattle.model_base.specs.declared.log.EndReason.TheVariants as ends
 use Rattle.model_base.specs.Checksum.{crc32c, masked}
-use Rattle.model_base.specs.Log.{Kind, full, first, middle, last, Fragment, AreOneRecord, kinds_of, header_len, room, next_place, placed, FitFrom, plain_log}
+use Rattle.model_base.specs.Log.{Kind, full, first, middle, last, Fragment, AreOneRecord, kinds_of, header_len, room, next_place, fragments_text, FitFrom, plain_log}
 
 -- a fragment, the end of what there is, or damage
 pub data Seen : Type 0 where
@@ -96,11 +96,11 @@ next_seen number file offset = behind_zeros number file offset (seen_at number f
 -- these fragments stand in the file from an offset on
 pub record Stand (number : Option ℕ) (file : List ℕ) (offset : ℕ) (fs : List Fragment) : Type 0 where
   pub rest : List ℕ
-  pub there : drop offset file ≡ placed number offset fs ++ rest
+  pub there : drop offset file ≡ fragments_text number offset fs ++ rest
   pub fit : FitFrom number offset fs
 
 abbrev pub end_of : Option ℕ → ℕ → List Fragment → ℕ
-end_of number offset fs = offset + length (placed number offset fs)
+end_of number offset fs = offset + length (fragments_text number offset fs)
 
 -- the kinds of a record's first fragments, none or more, with its last one still to come
 abbrev pub AreBegun : List Kind → Type 0

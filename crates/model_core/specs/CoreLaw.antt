@@ -4,7 +4,7 @@ use Rattle.std.specs.List.{AllByRecursion, AllZip}
 use Rattle.model_core.specs.declared.event.Event.{Event}
 use Rattle.model_core.specs.declared.event.Event.TheVariants as e
 use Rattle.model_base.specs.Batch.{count_of}
-use Rattle.model_base.specs.History.{Entry, IsHistory, RunsFollow, IsUpTo, last_sequence, last_of, logged, flag_of}
+use Rattle.model_base.specs.History.{Entry, IsHistory, RunsFollow, IsUpTo, last_sequence, last_of, logged_entries, flag_of}
 use Rattle.model_base.specs.Calls.{accepted}
 use Rattle.model_core.specs.Core.{Options, Writer, Client, LogPhase, free, led, built, in_log, marked, handed, TablePhase, still, launched, published, State, client_at, leads, has_run, table_group, among, runners}
 
@@ -124,7 +124,7 @@ pub record IsCore (o : Options) (s : State) : Type 0 where
   pub has_inserted : AllByRecursion (HasInserted s.inserted s.table) (filter has_run (table_group o s))
   -- the logged groups are the logged entries, cut into parts
   pub parts : List (List Entry)
-  pub cut : logged s.entries ≡ flat_map (λ p. p) parts
+  pub cut : logged_entries s.entries ≡ flat_map (λ p. p) parts
   pub groups : s.groups ≡ map length parts
   pub none_empty : AllByRecursion (λ p. 0 < length p) parts
   pub runs : AllByRecursion RunsFollow parts

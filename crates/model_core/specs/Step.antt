@@ -156,7 +156,9 @@ added_after (accepted a b records) added = []
 added_after other added = added
 
 abbrev pub after_completion : Client → Writer → Reply → Client
-after_completion client w reply = record (after_reply client (commit w.options) reply) { added = added_after reply client.added }
+after_completion client w reply = record (after_reply client (commit w.options) reply) {
+  added = added_after reply client.added;
+}
 
 abbrev pub complete_with : State → ℕ → Option Client → Writer → Option Reply → Option State
 complete_with s m (Some client) w (Some reply) = Some (record (with_client s m (after_completion client w reply)) {

@@ -4,7 +4,7 @@ use Rattle.std.specs.List.{AllByRecursion, filter, list_any, flat_map, Contains}
 use Rattle.std.proofs.lemmas.List.{map-append, append-nil}
 use Rattle.std.proofs.lemmas.List.Concat.{flat_map-append}
 use Rattle.std.proofs.lemmas.List.Elements.{filter-append, Contains-append_left}
-use Rattle.model_base.specs.History.{Entry, IsHistory, RunsFollow, last_sequence, logged, is_logged}
+use Rattle.model_base.specs.History.{Entry, IsHistory, RunsFollow, last_sequence, logged_entries, is_logged}
 use Rattle.model_core.specs.Core.{Options, Writer, LogPhase, free, led, built, in_log, marked, handed, TablePhase, still, launched, published, State, leads, has_run, table_group, with_runs, entries_of}
 use Rattle.model_core.specs.Step.{log_group, logged_group, with_group, is_unlogged}
 use Rattle.model_core.specs.CoreLaw.{IsCore, IsTable, IsEntryOf, IsInsertedAhead, in_order, waiting_clients, writers_in, unpublished_writers, HasInserted, SameLogFlag}
@@ -51,8 +51,8 @@ inserted_more o s us vs xs log false one (launched ins fin) is have = absurd (le
 abbrev parts_with : Bool → List (List Entry) → List Entry → List (List Entry)
 parts_with unlogged parts xs = if unlogged then parts else parts ++ xs ∷ []
 
-parts_cut : (b : Bool) (entries xs : List Entry) (parts : List (List Entry)) → logged entries ≡ flat_map (λ p. p) parts → logged xs ≡ (if b then [] else xs)
-    → logged (entries ++ xs) ≡ flat_map (λ p. p) (parts_with b parts xs)
+parts_cut : (b : Bool) (entries xs : List Entry) (parts : List (List Entry)) → logged_entries entries ≡ flat_map (λ p. p) parts → logged_entries xs ≡ (if b then [] else xs)
+    → logged_entries (entries ++ xs) ≡ flat_map (λ p. p) (parts_with b parts xs)
 parts_cut true entries xs parts cut new = filter-append (λ (e : Entry). is_logged e.flag) entries xs ∙ rw (cut, new) (append-nil (flat_map (λ p. p) parts))
 parts_cut false entries xs parts cut new = filter-append (λ (e : Entry). is_logged e.flag) entries xs ∙ rw (cut, new) (sym (flat_map-append (λ (p : List Entry). p) parts (xs ∷ []) ∙ ap (λ ys. flat_map (λ p. p) parts ++ ys) (append-nil xs)))
 

@@ -7,7 +7,7 @@ use Rattle.model_base.specs.Batch.{count_of}
 use Rattle.model_base.specs.declared.history.Flag.{Flag}
 use Rattle.model_base.specs.declared.write.WriteOptions.{WriteOptions}
 use Rattle.model_base.specs.declared.write.Refusal.TheVariants as no
-use Rattle.model_base.specs.History.{max_sequence, IsHistory, logged, flag_of, is_logged}
+use Rattle.model_base.specs.History.{max_sequence, IsHistory, logged_entries, flag_of, is_logged}
 use Rattle.model_base.specs.Calls.{accepted, refused}
 use Rattle.model_core.specs.Core.{Writer, State, with_runs, has_run, run_of, entry_of, entries_of}
 use Rattle.model_core.specs.Step.{is_unlogged}
@@ -90,19 +90,19 @@ flag_is how false e = rw e (by_sync how.sync)
     by_sync true = refl
     by_sync false = refl
 
-pub logged_of : (s : State) (b : Bool) (ws : List Writer) → AllLogAs b ws → logged (entries_of s ws) ≡ (if b then [] else entries_of s ws)
+pub logged_of : (s : State) (b : Bool) (ws : List Writer) → AllLogAs b ws → logged_entries (entries_of s ws) ≡ (if b then [] else entries_of s ws)
 logged_of s b [] a = by_flag b
   where
-    by_flag : (b : Bool) → logged (entries_of s []) ≡ (if b then [] else entries_of s [])
+    by_flag : (b : Bool) → logged_entries (entries_of s []) ≡ (if b then [] else entries_of s [])
     by_flag true = refl
     by_flag false = refl
 logged_of s true (w ∷ ws) a = by_answer (run_of w.answer) (logged_of s true ws a.1)
   where
-    by_answer : (run : Option ℕ) → logged (entries_of s ws) ≡ [] → logged (cons_option (option_map (entry_of s w) run) (entries_of s ws)) ≡ []
+    by_answer : (run : Option ℕ) → logged_entries (entries_of s ws) ≡ [] → logged_entries (cons_option (option_map (entry_of s w) run) (entries_of s ws)) ≡ []
     by_answer None e = e
     by_answer (Some first) e = rw (flag_is w.options true a.0) e
 logged_of s false (w ∷ ws) a = by_answer (run_of w.answer) (logged_of s false ws a.1)
   where
-    by_answer : (run : Option ℕ) → logged (entries_of s ws) ≡ entries_of s ws → logged (cons_option (option_map (entry_of s w) run) (entries_of s ws)) ≡ cons_option (option_map (entry_of s w) run) (entries_of s ws)
+    by_answer : (run : Option ℕ) → logged_entries (entries_of s ws) ≡ entries_of s ws → logged_entries (cons_option (option_map (entry_of s w) run) (entries_of s ws)) ≡ cons_option (option_map (entry_of s w) run) (entries_of s ws)
     by_answer None e = e
     by_answer (Some first) e = rw (flag_is w.options false a.0) (ap (λ xs. entry_of s w first ∷ xs) e)

@@ -4,7 +4,7 @@ use Rattle.std.specs.List.{AllByRecursion, Contains}
 use Rattle.std.proofs.lemmas.Bool.{eq-eqb, or_left}
 use Rattle.std.proofs.lemmas.List.Folds.{list_any-append}
 use Rattle.model_base.specs.declared.history.Flag.TheVariants.{Log, NoLog}
-use Rattle.model_base.specs.History.{Entry, RunsFollow, last_sequence, logged}
+use Rattle.model_base.specs.History.{Entry, RunsFollow, last_sequence, logged_entries}
 use Rattle.model_core.specs.Core.{Options, Writer, still, State, among}
 use Rattle.model_core.specs.declared.event.Event.{Event}
 use Rattle.model_core.specs.declared.event.Event.TheVariants as e
@@ -68,7 +68,7 @@ twice o s v w queue same core =
     two c d e p q = rw (eq-eqb d c p, eq-eqb e c q) refl
 
 pub with_a_gap : (s : State) → s.entries ≡ entry_at 1 1 Log ∷ entry_at 2 2 NoLog ∷ entry_at 3 3 Log ∷ [] → s.groups ≡ 2 ∷ [] → IsCore single_stage s → ⊥
-with_a_gap s entries groups core = by core.parts (sym groups ∙ core.groups) (ap logged (sym entries) ∙ core.cut) core.runs
+with_a_gap s entries groups core = by core.parts (sym groups ∙ core.groups) (ap logged_entries (sym entries) ∙ core.cut) core.runs
   where
     by : (parts : List (List Entry)) → 2 ∷ [] ≡ map length parts → entry_at 1 1 Log ∷ entry_at 3 3 Log ∷ [] ≡ flat_map (λ p. p) parts → AllByRecursion RunsFollow parts → ⊥
     by [] e cut runs = cc

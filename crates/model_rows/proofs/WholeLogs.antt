@@ -1,5 +1,5 @@
 -- Logs that are recovered whole: nothing greater can be kept.
-use Rattle.std.proofs.Common.{[], ◌∷◌, None, refl}
+use Rattle.std.proofs.Common.{[], ◌∷◌, refl}
 use Rattle.std.proofs.Math.Dec.{lit≤, lit<}
 use Rattle.model_base.specs.Varint.{varint_within}
 use Rattle.model_base.specs.Batch.{IsReadable, batch}

@@ -1,5 +1,5 @@
 -- A log of two batches, and what it recovers.
-use Rattle.std.specs.Prelude.{ℕ, List, [], ◌∷◌, map, None}
+use Rattle.std.specs.Prelude.{ℕ, List, [], ◌∷◌, map}
 use Rattle.model_base.specs.declared.log.EndReason.TheVariants.{Clean}
 use Rattle.model_base.specs.Log.{text, plain_log}
 use Rattle.model_base.specs.Recovery.{Logged, logged_bytes, Recovered}

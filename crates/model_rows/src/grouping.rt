@@ -21,5 +21,6 @@ pub fn groups_by_options()
     ensures sync_behind { group_len 1048576 (sized 100 ∷ sized_with 100 (record plain { sync = true }) ∷ []) ≡ 1 }
     ensures sync_ahead { group_len 1048576 (sized_with 100 (record plain { sync = true }) ∷ sized 100 ∷ []) ≡ 2 }
     ensures no_log_behind { group_len 1048576 (sized 100 ∷ sized_with 100 (record plain { no_log = true }) ∷ []) ≡ 1 }
-    ensures no_slowdown_behind { group_len 1048576 (sized 100 ∷ sized_with 100 (record plain { no_slowdown = true }) ∷ []) ≡ 1 }
+    ensures no_slowdown_behind { group_len 1048576
+        (sized 100 ∷ sized_with 100 (record plain { no_slowdown = true }) ∷ []) ≡ 1 }
 {}

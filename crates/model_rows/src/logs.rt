@@ -37,8 +37,8 @@ pub fn end_of_block()
 pub fn long_records()
     ensures first_record { map length (parts_of plain_log 0 (replicate 1000 0)) ≡ 1000 ∷ [] }
     ensures parts_of_second { map length (parts_of plain_log 1007 (replicate 97270 0)) ≡ 31754 ∷ 32761 ∷ 32755 ∷ [] }
-    ensures kinds_of_second { kinds_of (as_fragments (parts_of plain_log 1007 (replicate 97270 0))) ≡ first ∷ middle ∷ last
-        ∷ [] }
+    ensures kinds_of_second { kinds_of (as_fragments (parts_of plain_log 1007 (replicate 97270 0)))
+        ≡ first ∷ middle ∷ last ∷ [] }
     ensures zeros_behind_second { trailer plain_log 98298 ≡ 6 }
     ensures third_record { map length (parts_of plain_log 98298 (replicate 8000 0)) ≡ 8000 ∷ [] }
 {}

@@ -1,7 +1,7 @@
 -- Calls that may have written a log.
 use Rattle.std.proofs.Common.{◌≡◌, ℕ, List, [], ◌∷◌, ◌++◌, flat_map, Option, Some, None, refl, ap, sym, ◌∙◌}
 use Rattle.std.specs.List.{AllZip}
-use Rattle.model_base.specs.History.{Entry, logged, last_sequence}
+use Rattle.model_base.specs.History.{Entry, logged_entries, last_sequence}
 use Rattle.model_base.specs.Trace.{Trace}
 use Rattle.model_base.specs.Attempts.{Attempt}
 use Rattle.model_base.specs.LogContents.{GroupCall}
@@ -48,14 +48,14 @@ both_in_one group_bytes attempts fault last (part ∷ parts) (c ∷ calls) lost 
 pub one_record_at_the_end : (group_bytes : ℕ) (trace : Trace) (attempts : List (List Attempt)) (fault : Option ℕ) → trace.entries ≡ two_entries
     → WritesLog group_bytes (λ calls. calls ≡ in_one_record) trace attempts fault → ⊥
 one_record_at_the_end group_bytes trace attempts fault entries writes =
-    both_in_one group_bytes attempts fault (last_sequence trace.start trace.entries) writes.parts writes.calls writes.lost writes.each writes.none_else writes.by (writes.cut ∙ ap logged entries)
+    both_in_one group_bytes attempts fault (last_sequence trace.start trace.entries) writes.parts writes.calls writes.lost writes.each writes.none_else writes.by (writes.cut ∙ ap logged_entries entries)
 
 pub a_record_for_each : (group_bytes : ℕ) (trace : Trace) (attempts : List (List Attempt)) → trace.entries ≡ two_entries → WritesLog group_bytes (λ calls. calls ≡ in_two_records) trace attempts None
 a_record_for_each group_bytes trace attempts entries = record {
   parts = two_groups;
   calls = in_two_records;
   lost = [];
-  cut = sym (ap logged entries);
+  cut = sym (ap logged_entries entries);
   runs = (tt, (tt, tt));
   each = (
     record { some = refl; apart = (tt, tt); batches = refl; synced = ((λ to_sync. refl), tt); ok = refl },

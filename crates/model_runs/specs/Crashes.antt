@@ -29,7 +29,8 @@ with_failed_record records (Some x) = records ++ x ∷ []
 -- After the text of these records the content has what the failed write left of one more: a prefix of it, or nothing.
 pub record IsRest (records : List (List ℕ)) (content x : List ℕ) : Type 0 where
   pub some : ℕ
-  pub content_is : content ≡ text plain_log records ++ take some (text_from plain_log (length (text plain_log records)) (x ∷ []))
+  pub content_is : content ≡ text plain_log records
+      ++ take some (text_from plain_log (length (text plain_log records)) (x ∷ []))
 
 abbrev pub is_sync : Flag → Bool
 is_sync Sync = true

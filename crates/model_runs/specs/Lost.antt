@@ -14,7 +14,8 @@ use Rattle.model_base.specs.Calls.{commit, refused, Call, Outcome}
 abbrev pub batches_that_fit : ℕ → List (List Record) → List (List Record)
 batches_that_fit last [] = []
 batches_that_fit last (r ∷ rs) =
-    if nat_le (last + count_of r) max_sequence then r ∷ batches_that_fit (last + count_of r) rs else batches_that_fit last rs
+    if nat_le (last + count_of r) max_sequence
+    then r ∷ batches_that_fit (last + count_of r) rs else batches_that_fit last rs
 
 -- a commit that a leader took in hand had these records, was to be logged, and was answered the log's fault
 pub record IsLost (attempts : List (List Attempt)) (count : ℕ) (m : Member) (records : List Record) : Type 0 where

@@ -3,7 +3,7 @@ use Rattle.std.specs.Prelude.{◌≡◌, ◌≢◌, ⊤, ℕ, ◌+◌, true, Lis
 use Rattle.std.specs.List.{AllByRecursion, AllZip}
 use Rattle.model_base.specs.declared.history.Flag.TheVariants.{Sync}
 use Rattle.model_base.specs.Batch.{Record, count_of}
-use Rattle.model_base.specs.History.{Entry, RunsFollow, last_sequence, logged}
+use Rattle.model_base.specs.History.{Entry, RunsFollow, last_sequence, logged_entries}
 use Rattle.model_base.specs.Trace.{Trace}
 use Rattle.model_base.specs.Attempts.{Attempt}
 use Rattle.model_base.specs.LogContents.{GroupCall}
@@ -48,7 +48,7 @@ pub record WritesLog (group_bytes : ℕ) (wrote : List GroupCall → Type 0) (tr
   pub parts : List (List Entry)
   pub calls : List GroupCall
   pub lost : List GroupCall
-  pub cut : flat_map (λ part. part) parts ≡ logged trace.entries
+  pub cut : flat_map (λ part. part) parts ≡ logged_entries trace.entries
   pub runs : AllByRecursion RunsFollow parts
   pub each : AllZip WroteEntries parts calls
   pub none_else : AreLost group_bytes attempts fault (last_sequence trace.start trace.entries) lost

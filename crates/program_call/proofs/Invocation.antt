@@ -5,21 +5,21 @@ use Rattle.program_words.specs.declared.invocation.Invocation.TheVariants.{Run, 
 use Rattle.model_base.specs.declared.options.Options.{Options}
 use Rattle.replay_core.specs.declared.state.CoreOptions.{CoreOptions}
 
-pub of_run : (asked : Option Invocation) (pipelined : Bool) (shards : Option ℕ) (group_bytes batch_bytes last : ℕ) (wanted_pipelined : Bool) (wanted_shards : Option ℕ) (options : Options)
-    → asked ≡ Some (Run pipelined shards group_bytes batch_bytes last)
-    → asked ≡ Some (Run wanted_pipelined wanted_shards options.group_bytes options.batch_bytes options.last) → options ≡ record { last = last; group_bytes = group_bytes; batch_bytes = batch_bytes }
+pub of_run : (asked : Invocation) (pipelined : Bool) (shards : Option ℕ) (group_bytes batch_bytes last : ℕ) (wanted_pipelined : Bool) (wanted_shards : Option ℕ) (options : Options)
+    → asked ≡ Run pipelined shards group_bytes batch_bytes last
+    → asked ≡ Run wanted_pipelined wanted_shards options.group_bytes options.batch_bytes options.last → options ≡ record { last = last; group_bytes = group_bytes; batch_bytes = batch_bytes }
 of_run asked pipelined shards group_bytes batch_bytes last wanted_pipelined wanted_shards options given wanted =
     let groups : options.group_bytes ≡ group_bytes = cc (given, wanted) in
     let batches : options.batch_bytes ≡ batch_bytes = cc (given, wanted) in
     let start : options.last ≡ last = cc (given, wanted) in
     rw (← groups, ← batches, ← start) refl
 
-pub of_generate : (asked : Option Invocation) (pipelined : Bool) (shards : Option ℕ) (seed clients batches : ℕ) (p : Bool) (t : Option ℕ) (s k b : ℕ)
-    → asked ≡ Some (Generate pipelined shards seed clients batches) → asked ≡ Some (Generate p t s k b) → (s ≡ seed) × (k ≡ clients) × (b ≡ batches)
+pub of_generate : (asked : Invocation) (pipelined : Bool) (shards : Option ℕ) (seed clients batches : ℕ) (p : Bool) (t : Option ℕ) (s k b : ℕ)
+    → asked ≡ Generate pipelined shards seed clients batches → asked ≡ Generate p t s k b → (s ≡ seed) × (k ≡ clients) × (b ≡ batches)
 of_generate asked pipelined shards seed clients batches p t s k b given wanted = (cc (given, wanted), cc (given, wanted), cc (given, wanted))
 
-pub of_replay : (asked : Option Invocation) (pipelined : Bool) (group_bytes batch_bytes last : ℕ) (options : CoreOptions) → asked ≡ Some (Replay pipelined group_bytes batch_bytes last)
-    → asked ≡ Some (Replay options.pipelined options.group_bytes options.batch_bytes options.last)
+pub of_replay : (asked : Invocation) (pipelined : Bool) (group_bytes batch_bytes last : ℕ) (options : CoreOptions) → asked ≡ Replay pipelined group_bytes batch_bytes last
+    → asked ≡ Replay options.pipelined options.group_bytes options.batch_bytes options.last
     → options ≡ record { pipelined = pipelined; group_bytes = group_bytes; batch_bytes = batch_bytes; last = last }
 of_replay asked pipelined group_bytes batch_bytes last options given wanted =
     let stages : options.pipelined ≡ pipelined = cc (given, wanted) in
@@ -53,8 +53,12 @@ is_replay (Generate a b c d e) = false
 is_replay Recover = false
 is_replay (Replay a b c d) = true
 
-pub not_another : (test : Invocation → Bool) (asked : Option Invocation) (x y : Invocation) → asked ≡ Some x → asked ≡ Some y → test x ≡ true → test y ≡ false → ⊥
+pub not_another : (test : Invocation → Bool) (asked x y : Invocation) → asked ≡ x → asked ≡ y → test x ≡ true → test y ≡ false → ⊥
 not_another test asked x y given wanted is not = cc (given, wanted, is, not)
 
 pub not_nothing : (asked : Option Invocation) (x : Invocation) → asked ≡ Some x → asked ≡ None → ⊥
 not_nothing asked x given wanted = cc (given, wanted)
+
+-- the words ask for one thing
+pub is_asked : (words : Option Invocation) (asked x : Invocation) → words ≡ Some asked → words ≡ Some x → asked ≡ x
+is_asked words asked x given wanted = cc (given, wanted)

@@ -19,7 +19,7 @@ neither true b e = absurd (cc e)
 neither false b e = (refl, e)
 
 other_reply : (r : Reply) (c : calls.Call) → ShowsReply r c → lacks_memory r ≡ false → c.reply ≡ calls.no_memory → ⊥
-other_reply (reply.Accepted first last) c shows lacks e = cc (shows.1, e)
+other_reply (reply.Accepted run) c shows lacks e = cc (shows.1, e)
 other_reply (reply.Refused why) c shows lacks e = cc (shows, e)
 other_reply (reply.Found at v) c shows lacks e = cc (shows, e)
 other_reply (reply.FoundEach at vs) c shows lacks e = cc (shows, e)
@@ -59,7 +59,7 @@ all_whole (v ∷ vs) (c ∷ cs) shows lacks =
 -- A reply that lacks memory is a call that found none
 
 this_reply : (r : Reply) (c : calls.Call) → ShowsReply r c → lacks_memory r ≡ true → c.reply ≡ calls.no_memory
-this_reply (reply.Accepted first last) c shows lacks = absurd (cc lacks)
+this_reply (reply.Accepted run) c shows lacks = absurd (cc lacks)
 this_reply (reply.Refused why) c shows lacks = absurd (cc lacks)
 this_reply (reply.Found at v) c shows lacks = absurd (cc lacks)
 this_reply (reply.FoundEach at vs) c shows lacks = absurd (cc lacks)

@@ -82,7 +82,8 @@ module _ {S D K : Type 0} (source : source.Ghosts S) (disk : disk.Ghosts D) (sin
         → IfSome (source.left has) (λ left. left ≡ [])
     -- a refusal of the text never comes to the disk
     pub disk_untouched : (status ≡ 2) ⊎ (status ≡ 4) → ended ≡ opened
-    pub runs : RunsScript disk sink (observation_of disk sink (SaysScript (source.left had)) form.Whole options opened ended
+    pub runs : RunsScript disk sink
+        (observation_of disk sink (SaysScript (source.left had)) form.Whole options opened ended
         before after) opened ended before after status
     -- where no device fails, a script over an empty log ends well, lack of memory aside
     pub completes : Stood (source.faults had) (source.faults has) → Stood (sink.faults before) (sink.faults after)
@@ -94,7 +95,8 @@ module _ {S D K : Type 0} (source : source.Ghosts S) (disk : disk.Ghosts D) (sin
   pub record AnswersGenerate (seed clients batches : ℕ) (status : ℕ) : Type 0 where
     pub one : (status ≡ 0) ⊎ (status ≡ 3) ⊎ (status ≡ 5) ⊎ (status ≡ 6) ⊎ (status ≡ 7)
     pub source_untouched : has ≡ had
-    pub runs : RunsScript disk sink (observation_of disk sink (IsGenerated seed clients batches) form.Summary usual_options
+    pub runs : RunsScript disk sink
+        (observation_of disk sink (IsGenerated seed clients batches) form.Summary usual_options
         opened ended before after) opened ended before after status
     -- where no device fails a run over an empty log ends well, lack of memory aside
     pub completes : Stood (sink.faults before) (sink.faults after) → Stood (disk.faults opened) (disk.faults ended)

@@ -2,6 +2,7 @@
 use Rattle.std.specs.Prelude.{◌≡◌, ℕ, Bool, List, Option, Some, None, String}
 use Rattle.std.specs.declared.alloc.Global.{Global}
 use Rattle.model_base.specs.declared.limits.TheConstants.{MAX_SIZE}
+use Rattle.program_words.specs.declared.invocation.Invocation.{Invocation}
 use Rattle.program_words.specs.declared.invocation.Invocation.TheVariants.{Run, Generate, Recover, Replay}
 use Rattle.program_words.specs.Meaning.{invocation_of}
 use Rattle.model_base.specs.declared.options.Options.{Options}
@@ -33,3 +34,17 @@ AskToRecover words = invocation_of words ≡ Some Recover
 abbrev pub AskToReplay : List (String Global) → CoreOptions → Type 0
 AskToReplay words options =
     invocation_of words ≡ Some (Replay options.pipelined options.group_bytes options.batch_bytes options.last)
+
+-- what is asked for is to run a script, in one stage or two, over such a table
+abbrev pub IsToRun : Invocation → Options → Type 0
+IsToRun asked options = (pipelined : Bool) × (shards : Option ℕ)
+    × (asked ≡ Run pipelined shards options.group_bytes options.batch_bytes options.last)
+
+-- to run the script that a seed makes
+abbrev pub IsToGenerate : Invocation → ℕ → ℕ → ℕ → Type 0
+IsToGenerate asked seed clients batches =
+    (pipelined : Bool) × (shards : Option ℕ) × (asked ≡ Generate pipelined shards seed clients batches)
+
+-- to run a schedule on the core
+abbrev pub IsToReplay : Invocation → CoreOptions → Type 0
+IsToReplay asked options = asked ≡ Replay options.pipelined options.group_bytes options.batch_bytes options.last

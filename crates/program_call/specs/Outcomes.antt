@@ -45,7 +45,8 @@ pub record Observation : Type 1 where
   pub ended : Option Disk
   pub execution : Script → Execution
 
-abbrev pub observation_of : {D K : Type 0} → disk.Ghosts D → sink.Ghosts K → (Script → Type 0) → Form → Options → D → D → K
+abbrev pub observation_of : {D K : Type 0} → disk.Ghosts D → sink.Ghosts K → (Script → Type 0) → Form → Options → D
+    → D → K
     → K → Observation
 observation_of disk sink says form options opened ended before after = record {
   says = says;

@@ -1,10 +1,11 @@
 //! The call that the program makes.
 
-ghost use Rattle.std.specs.Prelude.{◌≡◌, ◌<◌, ℕ};
+ghost use Rattle.std.specs.Prelude.{◌≡◌, ◌≢◌, ◌<◌, ◌≤◌, ℕ, IfSome, MatchOption};
 ghost use Rattle.model_base.specs.declared.options.Options.{Options as RunOptions};
 ghost use Rattle.replay_core.specs.declared.state.CoreOptions.{CoreOptions as ReplayOptions};
+ghost use Rattle.program_words.specs.Limits.{KeepsLimits};
 ghost use Rattle.program_call.specs.Answers.{AnswersNothing, AnswersRun, AnswersGenerate, AnswersRecover, AnswersReplay};
-ghost use Rattle.program_call.specs.Asking.{AskNothing, AskToRun, AskToGenerate, AskToRecover, AskToReplay};
+ghost use Rattle.program_call.specs.Asking.{AskNothing, AskToRun, AskToGenerate, AskToRecover, AskToReplay, IsToRun, IsToGenerate, IsToReplay};
 
 use crate::ended::{Ended, end_with};
 use crate::generating::run_generated;
@@ -110,62 +111,109 @@ pub fn run_gated<
 {
     let host = Host { rt, alloc, gate };
     match read_words(alloc, words) {
-        Ok(
-            Invocation::Run {
-                pipelined,
-                shards,
-                group_bytes,
-                batch_bytes,
-                last,
-            },
-        ) => {
-            let options = Options {
-                last,
-                group_bytes,
-                batch_bytes,
-            };
-            let setup = Setup {
-                options,
-                shards: shards_or_one(shards),
-                pipelined,
-            };
-            run_script(&host, setup, source, disk, sink, clock)
+        Ok(asked) => carry_out(&host, asked, source, disk, sink, clock),
+        Err(WordsError::Usage) => {
+            refuse(sink, usage());
+            end_with(Status::Usage, disk)
         }
-        Ok(
-            Invocation::Generate {
-                pipelined,
-                shards,
-                seed,
-                clients,
-                batches,
-            },
-        ) => {
+        Err(WordsError::NoMemory) => end_with(Status::Memory, disk),
+    }
+}
+
+/// Does what lawful words ask for.
+fn carry_out<
+    S: Source,
+    D: Disk + Send,
+    K: Sink,
+    C: Clock + Send + Drop,
+    G: Gate + Sync,
+    R: Threads + Wait + Sync,
+>(
+    host: &Host<'_, R, G>,
+    asked: Invocation,
+    source: &mut S,
+    disk: D,
+    sink: &mut K,
+    clock: C,
+) -> Ended<D>
+    requires { KeepsLimits asked }
+    ensures other { (result.status < 8) × (result.status ≢ 1) }
+    ensures run { (options : RunOptions) → IsToRun asked options
+        → AnswersRun ⟦<S as Source>⟧ ⟦<D as Disk>⟧ ⟦<K as Sink>⟧
+        source.old source.new disk result.disk sink.old sink.new options result.status }
+    ensures generate { (seed clients batches : ℕ) → IsToGenerate asked seed clients batches
+        → AnswersGenerate ⟦<S as Source>⟧ ⟦<D as Disk>⟧ ⟦<K as Sink>⟧
+        source.old source.new disk result.disk sink.old sink.new seed clients batches result.status }
+    ensures recover { asked ≡ Invocation.Recover
+        → AnswersRecover ⟦<S as Source>⟧ ⟦<D as Disk>⟧ ⟦<K as Sink>⟧
+        source.old source.new disk result.disk sink.old sink.new result.status }
+    ensures replay { (options : ReplayOptions) → IsToReplay asked options
+        → AnswersReplay ⟦<S as Source>⟧ ⟦<D as Disk>⟧ ⟦<K as Sink>⟧
+        source.old source.new disk result.disk sink.old sink.new options result.status }
+{
+    match asked {
+        Invocation::Run {
+            pipelined,
+            shards,
+            group_bytes,
+            batch_bytes,
+            last,
+        } => {
+            let setup = setup_of(pipelined, shards, group_bytes, batch_bytes, last);
+            run_script(host, setup, source, disk, sink, clock)
+        }
+        Invocation::Generate {
+            pipelined,
+            shards,
+            seed,
+            clients,
+            batches,
+        } => {
             let shards = shards_or_one(shards);
             run_generated(
-                &host, seed, clients, batches, shards, pipelined, disk, sink, clock,
+                host, seed, clients, batches, shards, pipelined, disk, sink, clock,
             )
         }
-        Ok(Invocation::Recover) => recover_log(alloc, disk, sink),
-        Ok(
-            Invocation::Replay {
-                pipelined,
-                group_bytes,
-                batch_bytes,
-                last,
-            },
-        ) => {
+        Invocation::Recover => recover_log(host.alloc, disk, sink),
+        Invocation::Replay {
+            pipelined,
+            group_bytes,
+            batch_bytes,
+            last,
+        } => {
             let options = CoreOptions {
                 pipelined,
                 group_bytes,
                 batch_bytes,
                 last,
             };
-            replay(alloc, options, source, disk, sink)
+            replay(host.alloc, options, source, disk, sink)
         }
-        Err(WordsError::Usage) => {
-            refuse(sink, usage());
-            end_with(Status::Usage, disk)
-        }
-        Err(WordsError::NoMemory) => end_with(Status::Memory, disk),
+    }
+}
+
+/// How the write path is set up for `run`, by what the words say of it.
+fn setup_of(
+    pipelined: bool,
+    shards: Option<u64>,
+    group_bytes: u64,
+    batch_bytes: u64,
+    last: u64,
+) -> Setup
+    requires { IfSome shards (λ n. (1 ≤ n) × (n ≤ 64)) }
+    ensures stages { result.pipelined ≡ pipelined }
+    ensures shards { MatchOption shards (result.shards ≡ 1) (λ n. result.shards ≡ n) }
+    ensures some { 0 < result.shards }
+    ensures options { result.options ≡ record { last = last; group_bytes = group_bytes; batch_bytes = batch_bytes } }
+{
+    let options = Options {
+        last,
+        group_bytes,
+        batch_bytes,
+    };
+    Setup {
+        options,
+        shards: shards_or_one(shards),
+        pipelined,
     }
 }

@@ -16,7 +16,7 @@ use Rattle.run_outcome.specs.Shows.{ShowsReply, ShowsReplies, with_replies, Show
 use Rattle.program_text.specs.ShownText.{reply_line, client_lines, entry_line, history_lines, shown_text}
 
 reply_shown : (r : Reply) (c : calls.Call) → ShowsReply r c → reply_line r ≡ reply_text c.reply
-reply_shown (Accepted first last) c e = sym (ap reply_text e.1)
+reply_shown (Accepted run) c e = sym (ap reply_text e.1)
 reply_shown (Refused why) c e = sym (ap reply_text e)
 reply_shown (Found at value) c e = sym (ap reply_text e)
 reply_shown (FoundEach at values) c e = sym (ap reply_text e)

@@ -30,7 +30,7 @@ pair_words p = p.0 ∷ p.1 ∷ []
 
 -- a reply as shown; its text doesn't tell the records
 abbrev pub shown_reply : Reply → calls.Reply
-shown_reply (Accepted first last) = calls.accepted first last []
+shown_reply (Accepted run) = calls.accepted run.first run.last []
 shown_reply (Refused why) = calls.refused why
 shown_reply (Found at value) = calls.found at value
 shown_reply (FoundEach at values) = calls.found_each at values
@@ -53,7 +53,8 @@ clients_lines transcripts = flat_map client_lines (enumerate_from 1 transcripts)
 -- the line of a batch with these bytes
 abbrev pub line_of : {B : Type 0} → HistoryEntry B → List ℕ → List ℕ
 line_of e bytes =
-    line (decimal e.first ∷ decimal e.last ∷ decimal e.client ∷ decimal e.ordinal ∷ flag_word e.flag ∷ hex bytes ∷ [])
+    line (decimal e.run.first ∷ decimal e.run.last ∷ decimal e.client ∷ decimal e.ordinal ∷ flag_word e.flag
+    ∷ hex bytes ∷ [])
 
 abbrev pub entry_line : HistoryEntry Contents → List ℕ
 entry_line e = line_of e (batch e.batch.sequence e.batch.records)

@@ -44,7 +44,7 @@ fn put_reply(text: &mut Bytes, reply: &Reply) -> Result<(), NoMemory>
     ensures { OnOk result (text.new ≡ text.old ++ reply_line reply.now) }
 {
     match reply {
-        Reply::Accepted { first, last } => put_line(text, b"ok", &[*first, *last]),
+        Reply::Accepted(run) => put_line(text, b"ok", &[run.first, run.last]),
         Reply::Refused(why) => put_refusal(text, *why),
         Reply::Found {
             at,
@@ -96,8 +96,11 @@ fn flag_word(flag: Flag) -> &'static [u8]
 fn put_entry<B>(text: &mut Bytes, entry: &HistoryEntry<B>, bytes: &[u8]) -> Result<(), NoMemory>
     ensures { OnOk result (text.new ≡ text.old ++ line_of entry.now bytes.now) }
 {
-    put_number(text, entry.first)?;
-    put_numbers(text, &[entry.last, u64::from(entry.client), entry.ordinal])?;
+    put_number(text, entry.run.first)?;
+    put_numbers(
+        text,
+        &[entry.run.last, u64::from(entry.client), entry.ordinal],
+    )?;
     text.append(b" ")?;
     text.append(flag_word(entry.flag))?;
     text.append(b" ")?;

@@ -2,6 +2,7 @@
 use Rattle.std.proofs.Common.{◌≡◌, ◌∙◌, ℕ, Bool, true, false, List, [], ◌∷◌, append-nil, Option, Some, None, cond, fold, refl, sym, ap, subst, codes}
 use Rattle.std.proofs.lemmas.Slice.Eq.{bytes_eq-Decides}
 use Rattle.std.specs.Prelude.{bytes_eq, is_some, option_map}
+use Rattle.model_base.specs.declared.limits.TheConstants.{MAX_SIZE}
 use Rattle.clap.specs.Words.{Row, Shape, Text}
 use Rattle.clap.specs.Faults.{check_fault, walk_fault}
 use Rattle.clap.specs.Walk.{Walk, finished, nothing_held, walk, walk_from, with_default}
@@ -55,11 +56,11 @@ run_says given fits =
     let end = fold with_default rows c in
     let make = λ (p : Bool) (k : Option ℕ) (g : ℕ) (b : ℕ) (l : ℕ). Run p k g b l in
     five make (flag_in (codes "pipelined") end) (shards_in end) (number_in (codes "group-bytes") end) (number_in (codes "batch-bytes") end) (number_in (codes "last") end)
-    (is_some (value_of (codes "pipelined") given)) (shards_given given) (number_or 1048576 lawful.group_bytes given) (number_or 16777216 lawful.batch_bytes given) (number_or 0 lawful.last given)
+    (is_some (value_of (codes "pipelined") given)) (shards_given given) (number_or 1048576 lawful.group_bytes given) (number_or MAX_SIZE lawful.batch_bytes given) (number_or 0 lawful.last given)
     (flag_found run_options c refl refl given fits rows (given_shown (codes "pipelined") given))
     (shards_found run_options c refl refl refl refl given fits rows (given_shown (codes "table") given) (given_shown (codes "shards") given))
-    (number_found run_options c (codes "group-bytes") 1 16777216 1048576 (codes "1048576") refl refl refl given fits rows (given_shown (codes "group-bytes") given))
-    (number_found run_options c (codes "batch-bytes") 12 16777216 16777216 (codes "16777216") refl refl refl given fits rows (given_shown (codes "batch-bytes") given))
+    (number_found run_options c (codes "group-bytes") 1 MAX_SIZE 1048576 (codes "1048576") refl refl refl given fits rows (given_shown (codes "group-bytes") given))
+    (number_found run_options c (codes "batch-bytes") 12 MAX_SIZE MAX_SIZE (codes "16777216") refl refl refl given fits rows (given_shown (codes "batch-bytes") given))
     (number_found run_options c (codes "last") 0 72057594037927935 0 (codes "0") refl refl refl given fits rows (given_shown (codes "last") given))
 
 run_asks : (name : Text) (words : List Text) (given : Given) → options_of run_options words ≡ Some given → invocation_in (name ∷ codes "run" ∷ words) ≡ Some (run_with given)
@@ -85,10 +86,10 @@ replay_says given fits =
     let end = fold with_default rows c in
     let make = λ (p : Bool) (g : ℕ) (b : ℕ) (l : ℕ). Replay p g b l in
     four make (flag_in (codes "pipelined") end) (number_in (codes "group-bytes") end) (number_in (codes "batch-bytes") end) (number_in (codes "last") end)
-    (is_some (value_of (codes "pipelined") given)) (number_or 1048576 lawful.group_bytes given) (number_or 16777216 lawful.batch_bytes given) (number_or 0 lawful.last given)
+    (is_some (value_of (codes "pipelined") given)) (number_or 1048576 lawful.group_bytes given) (number_or MAX_SIZE lawful.batch_bytes given) (number_or 0 lawful.last given)
     (flag_found replay_options c refl refl given fits rows (given_shown (codes "pipelined") given))
-    (number_found replay_options c (codes "group-bytes") 1 16777216 1048576 (codes "1048576") refl refl refl given fits rows (given_shown (codes "group-bytes") given))
-    (number_found replay_options c (codes "batch-bytes") 12 16777216 16777216 (codes "16777216") refl refl refl given fits rows (given_shown (codes "batch-bytes") given))
+    (number_found replay_options c (codes "group-bytes") 1 MAX_SIZE 1048576 (codes "1048576") refl refl refl given fits rows (given_shown (codes "group-bytes") given))
+    (number_found replay_options c (codes "batch-bytes") 12 MAX_SIZE MAX_SIZE (codes "16777216") refl refl refl given fits rows (given_shown (codes "batch-bytes") given))
     (number_found replay_options c (codes "last") 0 72057594037927935 0 (codes "0") refl refl refl given fits rows (given_shown (codes "last") given))
 
 replay_asks : (name : Text) (words : List Text) (given : Given) → options_of replay_options words ≡ Some given → invocation_in (name ∷ codes "replay" ∷ words) ≡ Some (replay_with given)

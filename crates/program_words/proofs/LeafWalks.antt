@@ -2,6 +2,7 @@
 use Rattle.std.proofs.Common.{◌≡◌, ◌∙◌, ◌⊎◌, inl, inr, ℕ, true, false, List, [], ◌∷◌, ◌++◌, Option, Some, None, refl, ap, codes}
 use Rattle.std.specs.Prelude.{bytes_eq}
 use Rattle.std.specs.Option.{option_map_or}
+use Rattle.model_base.specs.declared.limits.TheConstants.{MAX_SIZE}
 use Rattle.clap.specs.Lexer.{long_of}
 use Rattle.clap.specs.Words.{Kinds, Row, Rule, Shape, Text}
 use Rattle.clap.specs.Kinds.{or_else}
@@ -72,10 +73,10 @@ shards_valued : IsValued lawful.shards (filled shards)
 shards_valued = number_valued (codes "shards") 1 64 (codes "16")
 
 group_valued : IsValued lawful.group_bytes (filled group_bytes)
-group_valued = number_valued (codes "group-bytes") 1 16777216 (codes "1048576")
+group_valued = number_valued (codes "group-bytes") 1 MAX_SIZE (codes "1048576")
 
 batch_valued : IsValued lawful.batch_bytes (filled batch_bytes)
-batch_valued = number_valued (codes "batch-bytes") 12 16777216 (codes "16777216")
+batch_valued = number_valued (codes "batch-bytes") 12 MAX_SIZE (codes "16777216")
 
 last_valued : IsValued lawful.last (filled last)
 last_valued = number_valued (codes "last") 0 72057594037927935 (codes "0")

@@ -6,6 +6,7 @@ use Rattle.std.specs.Prelude.{bytes_eq, find, is_some, nat_lt, not, option_and_t
 use Rattle.std.specs.List.{list_all}
 use Rattle.std.specs.Option.{option_map_or}
 use Rattle.std.specs.Str.Parse.{digits_value, without_leading_plus}
+use Rattle.model_base.specs.declared.limits.TheConstants.{MAX_CLIENTS, MAX_SIZE}
 use Rattle.clap.specs.Words.{Kinds, Row, Rule, Shape, Text, built, fault_of, read_as, subcommand_of}
 use Rattle.clap.specs.Kinds.{or_else}
 use Rattle.clap.specs.Faults.{check_fault, defaults_fault, entered_fault, level_fault, settle_fault, walk_fault}
@@ -177,8 +178,8 @@ run_keeps words asked none is =
     let first = five_of make (flag_in (codes "pipelined") rows) (shards_in rows) (number_in (codes "group-bytes") rows) (number_in (codes "batch-bytes") rows) (number_in (codes "last") rows) asked is in
     let has = four_of (make first.0) (shards_in rows) (number_in (codes "group-bytes") rows) (number_in (codes "batch-bytes") rows) (number_in (codes "last") rows) asked first.2 in
     let in_k = shards_in_range c (record { rule = filled shards; found = refl; reads = refl; tests = λ text. refl }) rows pass has.0 has.4 in
-    let in_g = number_in_range c (codes "group-bytes") 1 16777216 (record { rule = filled group_bytes; found = refl; reads = refl; tests = λ text. refl }) rows pass has.1 has.5 in
-    let in_b = number_in_range c (codes "batch-bytes") 12 16777216 (record { rule = filled batch_bytes; found = refl; reads = refl; tests = λ text. refl }) rows pass has.2 has.6 in
+    let in_g = number_in_range c (codes "group-bytes") 1 MAX_SIZE (record { rule = filled group_bytes; found = refl; reads = refl; tests = λ text. refl }) rows pass has.1 has.5 in
+    let in_b = number_in_range c (codes "batch-bytes") 12 MAX_SIZE (record { rule = filled batch_bytes; found = refl; reads = refl; tests = λ text. refl }) rows pass has.2 has.6 in
     let in_l = number_in_range c (codes "last") 0 72057594037927935 (record { rule = filled last; found = refl; reads = refl; tests = λ text. refl }) rows pass has.3 has.7 in
     let below : has.3 < 2 ^ 56 = omega (arith, in_l.1) in
     subst KeepsLimits {x = Run first.0 has.0 has.1 has.2 has.3} has.8 (in_k, in_g.0, in_g.1, in_b.0, in_b.1, below)
@@ -196,8 +197,8 @@ replay_keeps words asked none is =
     let pass = level_rows (leaf replay.top) replay_sound words none in
     let make = λ (p : Bool) (g : ℕ) (b : ℕ) (l : ℕ). Replay p g b l in
     let has = four_of make (flag_in (codes "pipelined") rows) (number_in (codes "group-bytes") rows) (number_in (codes "batch-bytes") rows) (number_in (codes "last") rows) asked is in
-    let in_g = number_in_range c (codes "group-bytes") 1 16777216 (record { rule = filled group_bytes; found = refl; reads = refl; tests = λ text. refl }) rows pass has.1 has.5 in
-    let in_b = number_in_range c (codes "batch-bytes") 12 16777216 (record { rule = filled batch_bytes; found = refl; reads = refl; tests = λ text. refl }) rows pass has.2 has.6 in
+    let in_g = number_in_range c (codes "group-bytes") 1 MAX_SIZE (record { rule = filled group_bytes; found = refl; reads = refl; tests = λ text. refl }) rows pass has.1 has.5 in
+    let in_b = number_in_range c (codes "batch-bytes") 12 MAX_SIZE (record { rule = filled batch_bytes; found = refl; reads = refl; tests = λ text. refl }) rows pass has.2 has.6 in
     let in_l = number_in_range c (codes "last") 0 72057594037927935 (record { rule = filled last; found = refl; reads = refl; tests = λ text. refl }) rows pass has.3 has.7 in
     let below : has.3 < 2 ^ 56 = omega (arith, in_l.1) in
     subst KeepsLimits {x = Replay has.0 has.1 has.2 has.3} has.8 (in_g.0, in_g.1, in_b.0, in_b.1, below)
@@ -212,7 +213,7 @@ generate_keeps words asked none is =
     let has = four_of (make first.0) (shards_in rows) (number_in (codes "SEED") rows) (number_in (codes "CLIENTS") rows) (number_in (codes "BATCHES") rows) asked first.2 in
     let in_k = shards_in_range c (record { rule = filled shards; found = refl; reads = refl; tests = λ text. refl }) rows pass has.0 has.4 in
     let in_s = number_in_range c (codes "SEED") 0 2147483647 (record { rule = placed 1 seed; found = refl; reads = refl; tests = λ text. refl }) rows pass has.1 has.5 in
-    let in_m = number_in_range c (codes "CLIENTS") 1 16 (record { rule = placed 2 clients; found = refl; reads = refl; tests = λ text. refl }) rows pass has.2 has.6 in
+    let in_m = number_in_range c (codes "CLIENTS") 1 MAX_CLIENTS (record { rule = placed 2 clients; found = refl; reads = refl; tests = λ text. refl }) rows pass has.2 has.6 in
     let in_b = number_in_range c (codes "BATCHES") 1 100000 (record { rule = placed 3 batches; found = refl; reads = refl; tests = λ text. refl }) rows pass has.3 has.7 in
     let below : has.1 < 2 ^ 31 = omega (arith, in_s.1) in
     subst KeepsLimits {x = Generate first.0 has.0 has.1 has.2 has.3} has.8 (in_k, below, in_m.0, in_m.1, in_b.0, in_b.1)

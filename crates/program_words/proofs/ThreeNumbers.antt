@@ -4,6 +4,7 @@ use Rattle.std.proofs.lemmas.List.{take-append-drop}
 use Rattle.std.proofs.lemmas.List.Sums.{fold-append}
 use Rattle.std.specs.Prelude.{bytes_eq, drop, find, is_some, length, option_and_then, option_map, take}
 use Rattle.std.specs.Option.{option_map_or}
+use Rattle.model_base.specs.declared.limits.TheConstants.{MAX_CLIENTS}
 use Rattle.clap.specs.Words.{Kinds, Row, Rule, Shape, Text}
 use Rattle.clap.specs.Facts.{explicit_source}
 use Rattle.clap.specs.Kinds.{check_kinds, or_else}
@@ -53,13 +54,13 @@ seed_place = record {
   passes = λ word. refl;
 }
 
-clients_place : HasPlace 2 3 (codes "CLIENTS") (placed 2 clients) 1 16
+clients_place : HasPlace 2 3 (codes "CLIENTS") (placed 2 clients) 1 MAX_CLIENTS
 unfolding clap_on_literals
 clients_place = record {
   moves = λ word h. refl;
   fails = λ h. refl;
   by_id = refl;
-  has_value = word_valued 2 (codes "CLIENTS") 1 16;
+  has_value = word_valued 2 (codes "CLIENTS") 1 MAX_CLIENTS;
   passes = λ word. refl;
 }
 
@@ -112,7 +113,7 @@ takes_number place next id a least most has word n number rows pending settles n
 -- the words are three numbers in their ranges
 record AreNumbers (s c b : Text) (i j k : ℕ) : Type 0 where
   is_seed : IsNumberText s 0 2147483647 i
-  is_clients : IsNumberText c 1 16 j
+  is_clients : IsNumberText c 1 MAX_CLIENTS j
   is_batches : IsNumberText b 1 100000 k
 
 generate_defaults : Each DefaultPasses shape.rules
@@ -208,7 +209,7 @@ numbers_ask name options given e s c b i j k are =
     let fits = ends.stands.fits in
     let seed_taken = takes_number 1 2 (codes "SEED") (placed 1 seed) 0 2147483647 seed_place s i are.is_seed ends.last_rows ends.last_pending ends.stands.settles
     (rows_given given) ends.stands.rows_are (no_seed given fits s c b) in
-    let clients_taken = takes_number 2 3 (codes "CLIENTS") (placed 2 clients) 1 16 clients_place c j are.is_clients (rows_given given) (Some (codes "SEED", s ∷ [])) seed_taken.settles
+    let clients_taken = takes_number 2 3 (codes "CLIENTS") (placed 2 clients) 1 MAX_CLIENTS clients_place c j are.is_clients (rows_given given) (Some (codes "SEED", s ∷ [])) seed_taken.settles
     (with_seed given fits s c b) seed_taken.rows_are (no_clients given fits s c b) in
     let batches_taken = takes_number 3 4 (codes "BATCHES") (placed 3 batches) 1 100000 batches_place b k are.is_batches (with_seed given fits s c b) (Some (codes "CLIENTS", c ∷ [])) clients_taken.settles
     (with_clients given fits s c b) clients_taken.rows_are (no_batches given fits s c b) in
@@ -247,12 +248,12 @@ numbers_then name options given e (s ∷ []) asked is = cc
 numbers_then name options given e (s ∷ c ∷ []) asked is = cc
 numbers_then name options given e (s ∷ c ∷ b ∷ []) asked is =
     let p = in_stages given in let n = shards_given given in
-    let of_seed = some_of (λ (x : ℕ). option_and_then (λ (y : ℕ). option_map (λ (z : ℕ). Generate p n x y z) (within 1 100000 b)) (within 1 16 c)) (within 0 (2 ^ 31 - 1) s) asked is in
-    let of_clients = some_of (λ (y : ℕ). option_map (λ (z : ℕ). Generate p n of_seed.0 y z) (within 1 100000 b)) (within 1 16 c) asked of_seed.2 in
+    let of_seed = some_of (λ (x : ℕ). option_and_then (λ (y : ℕ). option_map (λ (z : ℕ). Generate p n x y z) (within 1 100000 b)) (within 1 MAX_CLIENTS c)) (within 0 (2 ^ 31 - 1) s) asked is in
+    let of_clients = some_of (λ (y : ℕ). option_map (λ (z : ℕ). Generate p n of_seed.0 y z) (within 1 100000 b)) (within 1 MAX_CLIENTS c) asked of_seed.2 in
     let of_batches = mapped_of (λ (z : ℕ). Generate p n of_seed.0 of_clients.0 z) (within 1 100000 b) asked of_clients.2 in
     let are : AreNumbers s c b of_seed.0 of_clients.0 of_batches.0 = record {
       is_seed = number_text s 0 (2 ^ 31 - 1) of_seed.0 of_seed.1;
-      is_clients = number_text c 1 16 of_clients.0 of_clients.1;
+      is_clients = number_text c 1 MAX_CLIENTS of_clients.0 of_clients.1;
       is_batches = number_text b 1 100000 of_batches.0 of_batches.1;
     } in
     numbers_ask name options given e s c b of_seed.0 of_clients.0 of_batches.0 are ∙ ap Some of_batches.2

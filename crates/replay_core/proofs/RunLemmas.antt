@@ -10,6 +10,7 @@ use Rattle.model_base.specs.declared.write.Refusal.TheVariants as no
 use Rattle.model_base.specs.Batch.{Record, count_of}
 use Rattle.model_base.specs.Calls.{accepted, refused}
 use Rattle.model_base.specs.History.{Entry, max_sequence, last_of, flag_of}
+use Rattle.log_batch.specs.declared.run.Run.{Run}
 use Rattle.model_core.specs.Core as core
 use Rattle.replay_plans.specs.declared.plan.ClientPlan.{ClientPlan}
 use Rattle.replay_core.specs.declared.writer.Writer.{Writer}
@@ -107,14 +108,17 @@ ordinal_is plans s c n xs e h =
     ap (λ es. length (filter (λ (x : Entry). x.client == c) es)) e ∙ length-filter (λ (x : Entry). x.client == c) (map (shown_entry plans) xs) ∙ accepted_is plans c xs in
     omega (arith, all, h)
 
+abbrev pub run_behind : ℕ → Writer → Run
+run_behind last w = record { first = last + 1; last = last + w.count }
+
 abbrev pub with_run : ℕ → Writer → Writer
-with_run last w = record { client = w.client; options = w.options; batch = w.batch; count = w.count; answer = Some (Accepted (last + 1) (last + w.count)) }
+with_run last w = record { client = w.client; options = w.options; batch = w.batch; count = w.count; answer = Some (Accepted (run_behind last w)) }
 
 abbrev pub without_run : ℕ → Writer → Writer
 without_run last w = record { client = w.client; options = w.options; batch = w.batch; count = w.count; answer = Some (Refused (no.SequenceFull last)) }
 
 abbrev pub new_entry : ℕ → ℕ → Writer → CoreEntry
-new_entry ordinal last w = record { client = w.client; ordinal = ordinal; first = last + 1; last = last + w.count; flag = flag_of w.options; batch = w.batch }
+new_entry ordinal last w = record { client = w.client; ordinal = ordinal; run = run_behind last w; flag = flag_of w.options; batch = w.batch }
 
 pub got_run : (plans : List ClientPlan) (s : core.State) (last ordinal : ℕ) (w : Writer) (entries : List CoreEntry) → IsCounted plans w → last + w.count ≤ 2 ^ 56 - 1 → ordinal ≡ core.ordinal_at s w.client
     → GotRuns plans s (map (shown_entry plans) entries) last (w ∷ []) (with_run last w ∷ []) (entries ++ new_entry ordinal last w ∷ []) (last + w.count)

@@ -1,5 +1,6 @@
 -- Clients whose plans are small, on their way.
 use Rattle.std.proofs.Common.{◌≡◌, ◌+◌, ◌≤◌, List, [], ◌∷◌, ◌++◌, Some, arith}
+use Rattle.model_base.specs.declared.limits.TheConstants.{MAX_SIZE}
 use Rattle.model_base.specs.declared.write.WriteOptions.{WriteOptions}
 use Rattle.model_base.specs.Batch.{Record, size_of_batch}
 use Rattle.model_base.specs.Calls.{Command, add, clear, commit, get, many, scan, stop, unstop, slow, unslow, quiet, Call}
@@ -41,7 +42,7 @@ small_ahead calls added (unslow ∷ left) client small = small
 
 -- A commit that is next finds a small batch.
 pub commit_small : (calls : List Call) (added : List Record) (left : List Command) (client : core.Client) (how : WriteOptions) → AreSmall added left
-    → (core.ahead calls added left client).call ≡ Some (commit how) → size_of_batch ((core.ahead calls added left client).client.added) ≤ 16777216
+    → (core.ahead calls added left client).call ≡ Some (commit how) → size_of_batch ((core.ahead calls added left client).client.added) ≤ MAX_SIZE
 commit_small calls added [] client how small e = cc
 commit_small calls added (add r ∷ left) client how small e = commit_small (calls ++ record { command = add r; reply = quiet } ∷ []) (added ++ r ∷ []) left client how small e
 commit_small calls added (clear ∷ left) client how small e = commit_small (calls ++ record { command = clear; reply = quiet } ∷ []) [] left client how small e

@@ -66,7 +66,7 @@ leads_is o r s c m = ap (core.leads c) (group_is o r s m)
 
 run_shown : (records : List Record) (a : Option Answer) → is_some (core.run_of (shown_answer records a)) ≡ has_run a
 run_shown records None = refl
-run_shown records (Some (Accepted first last)) = refl
+run_shown records (Some (Accepted run)) = refl
 run_shown records (Some (Refused why)) = refl
 
 runners_more : (c d : ℕ) (b : Bool) (ws : List core.Writer) (w : core.Writer) → core.has_run w ≡ b → w.client ≡ d → core.among c (core.runners (w ∷ ws)) ≡ ((d == c && b) || core.among c (core.runners ws))
@@ -135,7 +135,7 @@ all_finished_is plans marks fin known (w ∷ ws) =
 
 last_shown : (n : ℕ) (records : List Record) (a : Option Answer) → event.last_of_answer n (shown_answer records a) ≡ last_after n a
 last_shown n records None = refl
-last_shown n records (Some (Accepted first last)) = refl
+last_shown n records (Some (Accepted run)) = refl
 last_shown n records (Some (Refused why)) = refl
 
 pub group_last_is : (plans : List ClientPlan) (n : ℕ) (ws : List Writer) → event.group_last n (map (shown_writer plans) ws) ≡ fold (λ n (w : Writer). last_after n w.answer) n ws

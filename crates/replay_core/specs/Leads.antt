@@ -18,13 +18,13 @@ leads_front c place len ws = nat_lt 0 len && leads_at c place ws
 -- whether a writer has a run, by its answer
 abbrev pub has_run : Option Answer → Bool
 has_run None = false
-has_run (Some (Accepted first last)) = true
+has_run (Some (Accepted run)) = true
 has_run (Some (Refused why)) = false
 
 -- the last sequence of its run, where it has one
 abbrev pub last_after : ℕ → Option Answer → ℕ
 last_after n None = n
-last_after n (Some (Accepted first last)) = last
+last_after n (Some (Accepted run)) = run.last
 last_after n (Some (Refused why)) = n
 
 abbrev pub finished_last : ℕ → Option ℕ → Bool

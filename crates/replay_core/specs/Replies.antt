@@ -6,12 +6,12 @@ use Rattle.replay_core.specs.declared.writer.CoreReply.TheVariants.{Accepted, Re
 
 -- what a client was told in short and in full
 abbrev pub IsReply : CoreReply → Reply → Type 0
-IsReply (Accepted a b) (accepted first last records) = (a ≡ first) × (b ≡ last)
+IsReply (Accepted run) (accepted first last records) = (run.first ≡ first) × (run.last ≡ last)
 IsReply (Refused why) (refused r) = why ≡ r
 IsReply (ReadAt n) (found at v) = n ≡ at
 IsReply (ReadAt n) (found_each at vs) = n ≡ at
 IsReply (ReadAt n) (rows at pairs) = n ≡ at
-IsReply (Accepted a b) other = ⊥
+IsReply (Accepted run) other = ⊥
 IsReply (Refused why) other = ⊥
 IsReply (ReadAt n) other = ⊥
 

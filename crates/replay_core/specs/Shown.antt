@@ -30,12 +30,12 @@ abbrev pub plans_in : State → List ClientPlan
 plans_in r = r.plans.items
 
 abbrev pub shown_reply : List Record → Answer → Reply
-shown_reply records (Accepted first last) = accepted first last records
+shown_reply records (Accepted run) = accepted run.first run.last records
 shown_reply records (Refused why) = refused why
 
 abbrev pub shown_answer : List Record → Option Answer → Option Reply
 shown_answer records None = None
-shown_answer records (Some (Accepted first last)) = Some (accepted first last records)
+shown_answer records (Some (Accepted run)) = Some (accepted run.first run.last records)
 shown_answer records (Some (Refused why)) = Some (refused why)
 
 abbrev pub shown_writer : List ClientPlan → Writer → core.Writer

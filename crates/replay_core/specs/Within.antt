@@ -9,5 +9,5 @@ pub record IsWithinPlans (plans : List ClientPlan) (e : CoreEntry) : Type 0 wher
   pub from_one : 1 ≤ e.client
   pub few : e.client ≤ length plans
   pub some_lines : e.batch.from < e.batch.to
-  pub some : e.first ≤ e.last
-  pub fits : e.last ≤ max_sequence
+  pub some : e.run.first ≤ e.run.last
+  pub fits : e.run.last ≤ max_sequence

@@ -80,15 +80,11 @@ fn give_run(
     let entry = HistoryEntry {
         client: writer.client,
         ordinal: accepted_before(counts, entries, before, writer.client) + 1,
-        first: run.first,
-        last: run.last,
+        run,
         flag: flag_of(writer.options),
         batch: writer.batch,
     };
     push_within(entries, entry);
-    writer.answer = Some(Answer::Accepted {
-        first: run.first,
-        last: run.last,
-    });
+    writer.answer = Some(Answer::Accepted(run));
     run.last
 }

@@ -42,9 +42,9 @@ pub(crate) fn settle(seat: &mut Seat, answer: Answer)
         → IsClient plan seat.new (event.after_completion client w (shown_reply records answer)) }
 {
     match answer {
-        Answer::Accepted { first, last } => {
+        Answer::Accepted(run) => {
             empty_batch(seat);
-            told(seat, CoreReply::Accepted { first, last });
+            told(seat, CoreReply::Accepted(run));
         }
         Answer::Refused { why } => told(seat, CoreReply::Refused { why }),
     }

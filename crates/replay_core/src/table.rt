@@ -224,7 +224,7 @@ fn last_after(last: u64, answer: Option<Answer>) -> u64
     ensures { result ≡ last_after last answer }
 {
     match answer {
-        Some(Answer::Accepted { last: end, .. }) => end,
+        Some(Answer::Accepted(run)) => run.last,
         _ => last,
     }
 }

@@ -1,13 +1,14 @@
 //! Batches on their way, and what becomes of them.
 
+use log_batch::Run;
 use model_base::{Refusal, WriteOptions};
 use replay_plans::Lines;
 
 /// What a client was told of a commit or a read.
 #[derive(Clone, Copy, Debug, PartialEq, Eq)]
 pub enum CoreReply {
-    /// The first and the last sequence of the batch.
-    Accepted { first: u64, last: u64 },
+    /// The sequences of the batch.
+    Accepted(Run),
     Refused { why: Refusal },
     /// The published sequence at which a read was answered.
     ReadAt { at: u64 },
@@ -16,7 +17,7 @@ pub enum CoreReply {
 /// The answer that a writer leaves with.
 #[derive(Clone, Copy)]
 pub(crate) enum Answer {
-    Accepted { first: u64, last: u64 },
+    Accepted(Run),
     Refused { why: Refusal },
 }
 
@@ -39,6 +40,6 @@ impl Writer {
     pub(crate) fn has_run(&self) -> bool
         ensures { result ≡ has_run self.now.answer }
     {
-        matches!(self.answer, Some(Answer::Accepted { .. }))
+        matches!(self.answer, Some(Answer::Accepted(_)))
     }
 }

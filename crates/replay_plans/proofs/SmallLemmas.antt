@@ -3,6 +3,7 @@ use Rattle.std.proofs.Common.{◌≡◌, ℕ, ◌-◌, ◌^◌, ◌↔◌, ◌+�
 use Rattle.std.specs.Prelude.{⊤, slice_get}
 use Rattle.std.proofs.lemmas.Bool.{leb-true, le-leb}
 use Rattle.std.proofs.lemmas.List.{drop_all}
+use Rattle.model_base.specs.declared.limits.TheConstants.{MAX_SIZE}
 use Rattle.model_base.specs.Batch.{Record, size_of_batch}
 use Rattle.model_base.specs.Calls.{Command, add, clear, commit}
 use Rattle.replay_plans.specs.Small.{AreSmall, fits, size_with, size_after}
@@ -30,14 +31,14 @@ small_to : (size : ℕ) (added : List Record) (left : List Command) → Sized si
 small_to size added [] h s = tt
 small_to size added (add r ∷ left) h s = small_to _ (added ++ r ∷ []) left (sized_more size added r h) s.1
 small_to size added (clear ∷ left) h s = small_to 12 [] left sized_empty s.1
-small_to size added (commit how ∷ left) h s = (omega (arith, h, leb-true size 16777216 s.0), small_to _ added left (sized_same size added h) s.1)
+small_to size added (commit how ∷ left) h s = (omega (arith, h, leb-true size MAX_SIZE s.0), small_to _ added left (sized_same size added h) s.1)
 small_to size added (other ∷ left) h s = small_to _ added left (sized_same size added h) s.1
 
 small_of : (size : ℕ) (added : List Record) (left : List Command) → Sized size added → AreSmall added left → SmallFrom size left
 small_of size added [] h s = tt
 small_of size added (add r ∷ left) h s = (refl, small_of _ (added ++ r ∷ []) left (sized_more size added r h) s)
 small_of size added (clear ∷ left) h s = (refl, small_of 12 [] left sized_empty s)
-small_of size added (commit how ∷ left) h s = (le-leb size 16777216 (omega (arith, h, s.0)), small_of _ added left (sized_same size added h) s.1)
+small_of size added (commit how ∷ left) h s = (le-leb size MAX_SIZE (omega (arith, h, s.0)), small_of _ added left (sized_same size added h) s.1)
 small_of size added (other ∷ left) h s = (refl, small_of _ added left (sized_same size added h) s)
 
 pub small_lines : (plan : List Command) → SmallFrom 12 plan ↔ AreSmall [] plan

@@ -51,11 +51,11 @@ run_end : (first last : ℕ) → first ≤ last → first + (last + 1 - first) -
 run_end first last h = omega (arith, h)
 
 prefix_shown : (plans : List ClientPlan) (at : ℕ) (es : List CoreEntry) → AllByRecursion (IsWithinPlans plans) es
-    → prefix_len (λ (x : Entry). nat_le (last_of x) at) (map (shown_entry plans) es) ≡ prefix_len (λ (e : CoreEntry). nat_le e.last at) es
+    → prefix_len (λ (x : Entry). nat_le (last_of x) at) (map (shown_entry plans) es) ≡ prefix_len (λ (e : CoreEntry). nat_le e.run.last at) es
 prefix_shown plans at [] within = refl
 prefix_shown plans at (e ∷ es) within =
-    ap (λ n. cond (nat_le n at) (1 + prefix_len (λ (x : Entry). nat_le (last_of x) at) (map (shown_entry plans) es)) 0) (run_end e.first e.last within.0.some)
-    ∙ ap (λ n. cond (nat_le e.last at) (1 + n) 0) (prefix_shown plans at es within.1)
+    ap (λ n. cond (nat_le n at) (1 + prefix_len (λ (x : Entry). nat_le (last_of x) at) (map (shown_entry plans) es)) 0) (run_end e.run.first e.run.last within.0.some)
+    ∙ ap (λ n. cond (nat_le e.run.last at) (1 + n) 0) (prefix_shown plans at es within.1)
 
 -- More entries
 
@@ -70,18 +70,18 @@ prefix_past p (x ∷ xs) (suc n) h = by_case (p x) refl (prefix_past p xs n)
     by_case false e others = let len : prefix_len p (x ∷ xs) ≡ 0 = rw e refl in absurd (omega (arith, h, len))
 
 -- at a later sequence it isn't shorter
-prefix_later : (a b : ℕ) (es : List CoreEntry) → a ≤ b → prefix_len (λ (e : CoreEntry). nat_le e.last a) es ≤ prefix_len (λ (e : CoreEntry). nat_le e.last b) es
+prefix_later : (a b : ℕ) (es : List CoreEntry) → a ≤ b → prefix_len (λ (e : CoreEntry). nat_le e.run.last a) es ≤ prefix_len (λ (e : CoreEntry). nat_le e.run.last b) es
 prefix_later a b [] h = omega arith
-prefix_later a b (e ∷ es) h = by_case (nat_le e.last a) refl (prefix_later a b es h)
+prefix_later a b (e ∷ es) h = by_case (nat_le e.run.last a) refl (prefix_later a b es h)
   where
-    by_case : (t : Bool) → nat_le e.last a ≡ t → prefix_len (λ (x : CoreEntry). nat_le x.last a) es ≤ prefix_len (λ (x : CoreEntry). nat_le x.last b) es → prefix_len (λ (x : CoreEntry). nat_le x.last a) (e ∷ es) ≤ prefix_len (λ (x : CoreEntry). nat_le x.last b) (e ∷ es)
+    by_case : (t : Bool) → nat_le e.run.last a ≡ t → prefix_len (λ (x : CoreEntry). nat_le x.run.last a) es ≤ prefix_len (λ (x : CoreEntry). nat_le x.run.last b) es → prefix_len (λ (x : CoreEntry). nat_le x.run.last a) (e ∷ es) ≤ prefix_len (λ (x : CoreEntry). nat_le x.run.last b) (e ∷ es)
     by_case true is others =
-        let up_to = leb-true e.last a is in
-        let len : prefix_len (λ (x : CoreEntry). nat_le x.last a) (e ∷ es) ≡ 1 + prefix_len (λ (x : CoreEntry). nat_le x.last a) es = rw is refl in
-        let later : nat_le e.last b ≡ true = le-leb e.last b (omega (arith, up_to, h)) in
-        let len_later : prefix_len (λ (x : CoreEntry). nat_le x.last b) (e ∷ es) ≡ 1 + prefix_len (λ (x : CoreEntry). nat_le x.last b) es = rw later refl in
+        let up_to = leb-true e.run.last a is in
+        let len : prefix_len (λ (x : CoreEntry). nat_le x.run.last a) (e ∷ es) ≡ 1 + prefix_len (λ (x : CoreEntry). nat_le x.run.last a) es = rw is refl in
+        let later : nat_le e.run.last b ≡ true = le-leb e.run.last b (omega (arith, up_to, h)) in
+        let len_later : prefix_len (λ (x : CoreEntry). nat_le x.run.last b) (e ∷ es) ≡ 1 + prefix_len (λ (x : CoreEntry). nat_le x.run.last b) es = rw later refl in
         omega (arith, len, len_later, others)
-    by_case false is others = let len : prefix_len (λ (x : CoreEntry). nat_le x.last a) (e ∷ es) ≡ 0 = rw is refl in omega (arith, len)
+    by_case false is others = let len : prefix_len (λ (x : CoreEntry). nat_le x.run.last a) (e ∷ es) ≡ 0 = rw is refl in omega (arith, len)
 
 -- the first entries, so many of them
 first_written : (plans : List ClientPlan) (es : List CoreEntry) (n : ℕ) → after_entries plans [] (take n es) ≡ map_of (take n (map (shown_entry plans) es))
@@ -90,18 +90,18 @@ first_written plans es n =
 
 -- The map has some entries that are up to a sequence, and those are written that it lacks up to a later one.
 pub moved_on : (plans : List ClientPlan) (es : List CoreEntry) (entries : List Entry) (old new : MapUpTo) (at count : ℕ) (more : List CoreEntry) → AllByRecursion (IsWithinPlans plans) es → map (shown_entry plans) es ≡ entries
-    → IsMapOf entries old → old.at ≤ at → count ≡ min old.count (length es) → more ≡ take_while (λ (e : CoreEntry). nat_le e.last at) (drop count es)
+    → IsMapOf entries old → old.at ≤ at → count ≡ min old.count (length es) → more ≡ take_while (λ (e : CoreEntry). nat_le e.run.last at) (drop count es)
     → new.map ≡ after_entries plans old.map more → new.at ≡ at → new.count ≡ count + length more
     → (new.map ≡ map_up_to at entries) × IsMapOf entries new
 moved_on plans es entries old new at count more within are is later count_was more_is written at_is count_is =
-    let k : ℕ = prefix_len (λ (e : CoreEntry). nat_le e.last at) (drop count es) in
-    let counted : length more ≡ k = ap length more_is ∙ length-prefix_len (λ (e : CoreEntry). nat_le e.last at) (drop count es) in
-    let up_to : ℕ → ℕ = λ n. prefix_len (λ (e : CoreEntry). nat_le e.last n) es in
+    let k : ℕ = prefix_len (λ (e : CoreEntry). nat_le e.run.last at) (drop count es) in
+    let counted : length more ≡ k = ap length more_is ∙ length-prefix_len (λ (e : CoreEntry). nat_le e.run.last at) (drop count es) in
+    let up_to : ℕ → ℕ = λ n. prefix_len (λ (e : CoreEntry). nat_le e.run.last n) es in
     let shown : (n : ℕ) → prefix_len (λ (x : Entry). nat_le (last_of x) n) entries ≡ up_to n = λ n. sym (ap (prefix_len (λ (x : Entry). nat_le (last_of x) n)) are) ∙ prefix_shown plans n es within in
     let some : old.count ≤ up_to at = let a = is.some in let b = shown old.at in let c = prefix_later old.at at es later in omega (arith, a, b, c) in
-    let same : count ≡ old.count = let few = prefix_len-le-length (λ (e : CoreEntry). nat_le e.last at) es in omega (arith, count_was, some, few) in
+    let same : count ≡ old.count = let few = prefix_len-le-length (λ (e : CoreEntry). nat_le e.run.last at) es in omega (arith, count_was, some, few) in
     let within_count : count ≤ up_to at = omega (arith, some, same) in
-    let whole : new.count ≡ up_to at = let past = prefix_past (λ (e : CoreEntry). nat_le e.last at) es count within_count in omega (arith, count_is, counted, past) in
+    let whole : new.count ≡ up_to at = let past = prefix_past (λ (e : CoreEntry). nat_le e.run.last at) es count within_count in omega (arith, count_is, counted, past) in
     let before : old.map ≡ after_entries plans [] (take count es) =
     is.map ∙ ap (λ xs. map_of (take old.count xs)) (sym are) ∙ sym (first_written plans es old.count) ∙ ap (λ n. after_entries plans [] (take n es)) (sym same) in
     let all : new.map ≡ after_entries plans [] (take new.count es) =

@@ -103,7 +103,7 @@ one_shown : (entries : List Entry) (x : Command) (xs : List Command) (command : 
     → ShowsReplies (replies_by entries (x ∷ xs) told) (record { command = command; reply = r } ∷ cs)
 one_shown entries (add a) xs command calls.quiet cs told is are rest = rest told are
 one_shown entries clear xs command calls.quiet cs told is are rest = rest told are
-one_shown entries (commit how) xs command (calls.accepted a b records) cs (Accepted first last ∷ ts) is are rest = let e : (first ≡ a) × (last ≡ b) = are.0 in ((records, cc (e.0, e.1)), rest ts are.1)
+one_shown entries (commit how) xs command (calls.accepted a b records) cs (Accepted run ∷ ts) is are rest = let e : (run.first ≡ a) × (run.last ≡ b) = are.0 in ((records, cc (e.0, e.1)), rest ts are.1)
 one_shown entries (commit how) xs command (calls.accepted a b records) cs (t ∷ ts) is are rest = absurd are.0
 one_shown entries (commit how) xs command (calls.accepted a b records) cs [] is are rest = absurd are
 one_shown entries (commit how) xs command (calls.refused why) cs (Refused w ∷ ts) is are rest = let e : w ≡ why = are.0 in (ap calls.refused (sym e), rest ts are.1)

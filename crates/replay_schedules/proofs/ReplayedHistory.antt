@@ -25,7 +25,7 @@ run_end first last some = omega (arith, some)
 
 entries_shown : (plans : List ClientPlan) (es : List CoreEntry) → AllByRecursion (IsWithinPlans plans) es → AllZip ShowsEntry (map (entry_by plans) es) (map (shown_entry plans) es)
 entries_shown plans [] within = tt
-entries_shown plans (e ∷ es) within = (record { client = refl; ordinal = refl; first = refl; last = run_end e.first e.last within.0.some; flag = refl; batch = refl }, entries_shown plans es within.1)
+entries_shown plans (e ∷ es) within = (record { client = refl; ordinal = refl; first = refl; last = run_end e.run.first e.run.last within.0.some; flag = refl; batch = refl }, entries_shown plans es within.1)
 
 pub history_shown : (plans : List ClientPlan) (es : List CoreEntry) (entries : List history.Entry) → AllByRecursion (IsWithinPlans plans) es → map (shown_entry plans) es ≡ entries
     → AllZip ShowsEntry (map (entry_by plans) es) entries

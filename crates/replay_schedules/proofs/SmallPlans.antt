@@ -2,6 +2,7 @@
 use Rattle.std.proofs.Common.{◌≡◌, ◌+◌, ◌≤◌, List, [], ◌∷◌, ◌++◌, length, ap, sym, ◌∙◌, subst, arith, append-nil, length-append}
 use Rattle.std.specs.List.{AllByRecursion}
 use Rattle.std.proofs.lemmas.Grind.{flat_map-append}
+use Rattle.model_base.specs.declared.limits.TheConstants.{MAX_SIZE}
 use Rattle.model_base.specs.Batch.{Record, count_of, header, body, record_bytes, size_of_batch}
 use Rattle.model_base.specs.Calls.{Command, add, clear, commit, get, many, scan, stop, unstop, slow, unslow}
 use Rattle.run_scripts.specs.declared.script.Script.{Script}
@@ -18,7 +19,7 @@ body_more records r =
     ap length (flat_map-append record_bytes records (r ∷ []) ∙ ap (λ bytes. body records ++ bytes) (append-nil (record_bytes r))) ∙ length-append (body records) (record_bytes r)
 
 -- a batch, and the additions that are left
-small_commands : (cs : List Command) (added : List Record) → size_of_batch added + length (body (additions_of cs)) ≤ 16777216 → AreSmall added cs
+small_commands : (cs : List Command) (added : List Record) → size_of_batch added + length (body (additions_of cs)) ≤ MAX_SIZE → AreSmall added cs
 small_commands [] added fits = tt
 small_commands (add r ∷ cs) added fits =
     let both = length-append (record_bytes r) (body (additions_of cs)) in
@@ -35,7 +36,7 @@ small_commands (unslow ∷ cs) added fits = small_commands cs added fits
 
 -- all that these commands add fits one batch
 abbrev Fit : List Command → Type 0
-Fit cs = size_of_batch (additions_of cs) ≤ 16777216
+Fit cs = size_of_batch (additions_of cs) ≤ MAX_SIZE
 
 one_small : (cs : List Command) → Fit cs → AreSmall [] cs
 one_small cs fits = small_commands cs [] (omega (arith, fits, size_is (additions_of cs), size_is []))

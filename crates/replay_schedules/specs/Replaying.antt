@@ -37,7 +37,7 @@ read_by entries at (scan lo hi) = Some (reply.Rows at (rows_within lo hi (map_up
 read_by entries at other = None
 
 abbrev pub reply_by : List history.Entry → Command → CoreReply → Option Reply
-reply_by entries command (Accepted first last) = Some (reply.Accepted first last)
+reply_by entries command (Accepted run) = Some (reply.Accepted run)
 reply_by entries command (Refused why) = Some (reply.Refused why)
 reply_by entries command (ReadAt at) = read_by entries at command
 
@@ -81,8 +81,7 @@ abbrev pub entry_by : List ClientPlan → CoreEntry → HistoryEntry Contents
 entry_by plans e = record {
   client = e.client;
   ordinal = e.ordinal;
-  first = e.first;
-  last = e.last;
+  run = e.run;
   flag = e.flag;
-  batch = record { sequence = e.first; records = records_of plans e.client e.batch };
+  batch = record { sequence = e.run.first; records = records_of plans e.client e.batch };
 }

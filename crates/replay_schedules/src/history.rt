@@ -46,12 +46,11 @@ fn entry_of(
         Some(lines) => batch_of(alloc, lines)?,
         None => Batch::new(alloc)?,
     };
-    batch.set_sequence(entry.first);
+    batch.set_sequence(entry.run.first);
     Ok(HistoryEntry {
         client: entry.client,
         ordinal: entry.ordinal,
-        first: entry.first,
-        last: entry.last,
+        run: entry.run,
         flag: entry.flag,
         batch,
     })

@@ -2,10 +2,9 @@
 
 ghost use Rattle.std.specs.Prelude.{◌≡◌, [], IfOk, OnOk};
 ghost use Rattle.std.specs.Option.{option_map_or};
-ghost use Rattle.model_base.specs.Map.{after_record, after_records};
+ghost use Rattle.model_base.specs.Map.{after_records};
 ghost use Rattle.model_core.specs.Core as core;
 ghost use Rattle.model_core.specs.CoreLaw.{IsCore};
-ghost use Rattle.log_batch.specs.View.{record_of};
 ghost use Rattle.run_command_list.specs.Views.{command_of};
 ghost use Rattle.replay_plans.specs.Plans.{between, records_of};
 ghost use Rattle.replay_core.specs.Shown.{plans_in};
@@ -14,7 +13,7 @@ ghost use Rattle.replay_schedules.specs.Maps.{records_added, after_entries, afte
 
 use crate::reading::MapUpTo;
 use base_maps::ByteMap;
-use log_batch::RecordView;
+use log_batch::write_record;
 use model_base::NoMemory;
 use replay_core::State;
 use replay_plans::Lines;
@@ -114,19 +113,5 @@ fn write_line(map: &mut ByteMap, line: &CommandView<'_>) -> Result<(), NoMemory>
     match line.record() {
         Some(view) => write_record(map, view),
         None => Ok(()),
-    }
-}
-
-/// Does to a map what a record says.
-fn write_record(map: &mut ByteMap, view: RecordView<'_>) -> Result<(), NoMemory>
-    ensures { OnOk result (map.new ≡ after_record map.old (record_of view.entry)) }
-{
-    match view {
-        RecordView::Value { key, value } => map.insert(key, value),
-        RecordView::Deletion { key } | RecordView::SingleDeletion { key } => {
-            map.remove(key);
-            Ok(())
-        }
-        RecordView::LogData { .. } => Ok(()),
     }
 }

@@ -157,7 +157,7 @@ impl MapUpTo {
 /// The entries from a place on whose runs end at a sequence or before.
 fn up_to(entries: &[HistoryEntry<Lines>], from: usize, at: u64) -> &[HistoryEntry<Lines>]
     requires { from ≤ length entries.now }
-    ensures items { result.now ≡ take_while (λ (e : CoreEntry). nat_le e.last at) (drop from entries.now) }
+    ensures items { result.now ≡ take_while (λ (e : CoreEntry). nat_le e.run.last at) (drop from entries.now) }
     ensures few { from + length result.now ≤ length entries.now }
 {
     let left = &entries[from..];
@@ -166,7 +166,10 @@ fn up_to(entries: &[HistoryEntry<Lines>], from: usize, at: u64) -> &[HistoryEntr
 
 /// How many entries from the first on have runs that end at a sequence or before.
 fn count_up_to(entries: &[HistoryEntry<Lines>], at: u64) -> usize
-    ensures { result ≡ prefix_len (λ (e : CoreEntry). nat_le e.last at) entries.now }
+    ensures { result ≡ prefix_len (λ (e : CoreEntry). nat_le e.run.last at) entries.now }
 {
-    entries.iter().take_while(|entry| entry.last <= at).count()
+    entries
+        .iter()
+        .take_while(|entry| entry.run.last <= at)
+        .count()
 }

@@ -117,7 +117,7 @@ fn reply_of(
         → IfOk result (λ reply. reply ≡ reply_by s.entries (command_of command.now) told)) }
 {
     match told {
-        CoreReply::Accepted { first, last } => Ok(Some(Reply::Accepted { first, last })),
+        CoreReply::Accepted(run) => Ok(Some(Reply::Accepted(run))),
         CoreReply::Refused { why } => Ok(Some(Reply::Refused(why))),
         CoreReply::ReadAt { at } => read_of(reads, command, at, core),
     }

@@ -5,6 +5,7 @@ use Rattle.std.proofs.lemmas.Nat.{from_le_bytes-to_le_bytes_4}
 use Rattle.std.specs.Int.{w32, from_le_bytes}
 use Rattle.std.specs.List.{AllByRecursion}
 use Rattle.std.specs.Prelude.{Result, Ok, Err, is_err, OnOk, true, false}
+use Rattle.model_base.specs.declared.limits.TheConstants.{MAX_SIZE}
 use Rattle.model_base.specs.Batch.{count_of, size_of_batch}
 use Rattle.log_batch.specs.Contents.{Contents}
 use Rattle.log_batch.proofs.OwnRecords.{own_readable}
@@ -17,7 +18,7 @@ pub count_read : (bytes : List ℕ) (b : Contents) → IsBatchOf bytes b → fro
 count_read bytes b is = ap (λ (l : List ℕ). from_le_bytes w32 (take 4 (drop 8 l))) is.spelled ∙ from_le_bytes-to_le_bytes_4 (count_of b.records) is.count_fits
 
 -- A small batch is told by its bytes.
-pub small_batch : (bytes : List ℕ) (b : Contents) → bytes ≡ batch_bytes b → b.sequence < 2 ^ 64 → count_of b.records < 2 ^ 32 → size_of_batch b.records ≤ 16777216 → IsBatchOf bytes b
+pub small_batch : (bytes : List ℕ) (b : Contents) → bytes ≡ batch_bytes b → b.sequence < 2 ^ 64 → count_of b.records < 2 ^ 32 → size_of_batch b.records ≤ MAX_SIZE → IsBatchOf bytes b
 small_batch bytes b spelled sequence count size = record {
   spelled = spelled;
   readable = own_readable bytes b.sequence (count_of b.records)

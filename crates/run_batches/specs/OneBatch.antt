@@ -25,7 +25,8 @@ pub record IsOneBatch (bytes : List ℕ) : Type 0 where
 pub sequence_read : (bytes : List ℕ) (b : Contents) → IsBatchOf bytes b
     → from_le_bytes w64 (take 8 bytes) ≡ b.sequence
 sequence_read bytes b is =
-    ap (λ (l : List ℕ). from_le_bytes w64 (take 8 l)) is.spelled ∙ from_le_bytes-to_le_bytes_8 b.sequence is.sequence_fits
+    ap (λ (l : List ℕ). from_le_bytes w64 (take 8 l)) is.spelled
+    ∙ from_le_bytes-to_le_bytes_8 b.sequence is.sequence_fits
 
 records_behind : (bytes : List ℕ) (b : Contents) → IsBatchOf bytes b → drop 12 bytes ≡ body b.records
 records_behind bytes b is = ap (drop 12) is.spelled

@@ -3,6 +3,7 @@ use Rattle.std.proofs.Common.{◌≡◌, ℕ, zero, suc, ◌+◌, ◌-◌, ◌�
 use Rattle.std.specs.List.{AllByRecursion}
 use Rattle.std.proofs.lemmas.Bool.{eq-eqb}
 use Rattle.std.proofs.lemmas.Option.{slice_get_cases, slice_get_within}
+use Rattle.model_base.specs.declared.limits.TheConstants.{MAX_SIZE}
 use Rattle.model_base.specs.Batch.{size_of_batch}
 use Rattle.model_base.specs.History.{Entry}
 use Rattle.model_base.specs.Trace.{Trace, Settings}
@@ -75,10 +76,10 @@ client_small settings ended script trace attempts o legal c is =
 
 -- no accepted batch is larger than the settings let it be
 pub small_entries : (settings : Settings) (ended : ℕ) (script : List (List Command)) (trace : Trace) (attempts : List (List Attempt)) (o : Outcome)
-    → IsLegalIn settings ended script trace attempts o → settings.batch_bytes ≤ 16777216
-    → AllByRecursion (λ (e : Entry). size_of_batch e.records ≤ 16777216) trace.entries
+    → IsLegalIn settings ended script trace attempts o → settings.batch_bytes ≤ MAX_SIZE
+    → AllByRecursion (λ (e : Entry). size_of_batch e.records ≤ MAX_SIZE) trace.entries
 small_entries settings ended script trace attempts o legal limit =
-    all_weaker (λ (e : Entry). size_of_batch e.records ≤ settings.batch_bytes) (λ (e : Entry). size_of_batch e.records ≤ 16777216) (λ e small. omega (arith, small, limit)) trace.entries
+    all_weaker (λ (e : Entry). size_of_batch e.records ≤ settings.batch_bytes) (λ (e : Entry). size_of_batch e.records ≤ MAX_SIZE) (λ e small. omega (arith, small, limit)) trace.entries
     (all_of_clients (λ (e : Entry). size_of_batch e.records ≤ settings.batch_bytes) (IsClient settings) trace.entries legal.is_trace.clients (client_small settings ended script trace attempts o legal))
 
 -- where the log has no fault, commits were refused for themselves alone

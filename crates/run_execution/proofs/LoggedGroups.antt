@@ -6,9 +6,10 @@ use Rattle.std.proofs.lemmas.List.{length-map, take-map}
 use Rattle.std.proofs.lemmas.List.Sums.{count_by-le-length, sum_by-append}
 use Rattle.std.proofs.lemmas.Map.Steps.{length-le_from_distinct_below}
 use Rattle.std.specs.List.{AllByRecursion, AllZip, IsDistinct, list_any}
+use Rattle.model_base.specs.declared.limits.TheConstants.{MAX_CLIENTS, MAX_SIZE}
 use Rattle.model_base.specs.Varint.{varint}
 use Rattle.model_base.specs.Batch.{Record, value, deletion, single_deletion, log_data, tag_of, is_tag, strings_of, is_counted, count_of, varstring, record_bytes, header, body, size_of_batch, IsReadable, IsBatch}
-use Rattle.model_base.specs.History.{Entry, max_sequence, last_of, IsHistory, RunsFollow, last_sequence, is_logged, logged}
+use Rattle.model_base.specs.History.{Entry, max_sequence, last_of, IsHistory, RunsFollow, last_sequence, is_logged, logged_entries}
 use Rattle.model_base.specs.LogContents.{GroupCall, record_of_entries, records_of}
 use Rattle.model_base.specs.Recovery.{Logged, logged_bytes, last_after, AreInOrder}
 use Rattle.log_writer.specs.Crashes.{AreRisingBatches}
@@ -58,15 +59,15 @@ same_records ((e ∷ entries) ∷ groups) some = ap (λ l. record_of_entries (e 
 
 -- a batch of 16 MiB at most, of one of 16 clients
 abbrev pub Suits : Entry → Type 0
-Suits e = (size_of_batch e.records ≤ 16777216) × (e.client ≤ 16)
+Suits e = (size_of_batch e.records ≤ MAX_SIZE) × (e.client ≤ MAX_CLIENTS)
 
-body_joined : (entries : List Entry) → AllByRecursion Suits entries → length (body (joined entries)) ≤ 16777216 * length entries
+body_joined : (entries : List Entry) → AllByRecursion Suits entries → length (body (joined entries)) ≤ MAX_SIZE * length entries
 body_joined [] suit = omega arith
 body_joined (e ∷ entries) suit =
-    let small : size_of_batch e.records ≤ 16777216 = suit.0.0 in
+    let small : size_of_batch e.records ≤ MAX_SIZE = suit.0.0 in
     omega (arith, small, length-append (header 0 (count_of e.records)) (body e.records), ap length (flat_map-append record_bytes e.records (joined entries)), length-append (body e.records) (body (joined entries)), body_joined entries suit.1)
 
--- No client has two entries of a group. So a group has no more entries than there are numbers below 17, and its batches
+-- No client has two entries of a group. So a group has few entries (no more than there are numbers up to the greatest client), and its batches
 -- have less than 2 ^ 32 bytes together.
 
 distinct : (entries : List Entry) → AreOfOwnClients entries → IsDistinct eqb (map (λ (e : Entry). e.client) entries)
@@ -78,15 +79,15 @@ distinct (e ∷ entries) apart = (each entries apart.0, distinct entries apart.1
     each [] all = tt
     each (x ∷ others) all = (ne_eqb e.client x.client all.0, each others all.1)
 
-below : (entries : List Entry) → AllByRecursion Suits entries → (q : ℕ) → list_any (eqb q) (map (λ (e : Entry). e.client) entries) ≡ true → q < 17
+below : (entries : List Entry) → AllByRecursion Suits entries → (q : ℕ) → list_any (eqb q) (map (λ (e : Entry). e.client) entries) ≡ true → q < MAX_CLIENTS + 1
 below [] suit q among = absurd (cc among)
 below (e ∷ entries) suit q among = elim (or_cases (eqb q e.client) (list_any (eqb q) (map (λ (x : Entry). x.client) entries)) among) [
   | inl here ↦ (let client = suit.0.1 in omega (arith, eqb-true q e.client here, client))
   | inr later ↦ below entries suit.1 q later
 ]
 
-few_entries : (entries : List Entry) → AreOfOwnClients entries → AllByRecursion Suits entries → length entries ≤ 17
-few_entries entries apart suit = omega (arith, length-map entries (λ (e : Entry). e.client), length-le_from_distinct_below (map (λ (e : Entry). e.client) entries) 17 (distinct entries apart) (below entries suit))
+few_entries : (entries : List Entry) → AreOfOwnClients entries → AllByRecursion Suits entries → length entries ≤ MAX_CLIENTS + 1
+few_entries entries apart suit = omega (arith, length-map entries (λ (e : Entry). e.client), length-le_from_distinct_below (map (λ (e : Entry). e.client) entries) (MAX_CLIENTS + 1) (distinct entries apart) (below entries suit))
 
 -- The runs of the logged entries rise, whatever stands between them
 
@@ -100,7 +101,7 @@ Rise : ℕ → List Entry → Type 0
 Rise low [] = Unit {0}
 Rise low (e ∷ entries) = Above low e × Rise (last_of e) entries
 
-logged_rise : (low start : ℕ) (entries : List Entry) → low ≤ start → IsHistory start entries → Rise low (logged entries)
+logged_rise : (low start : ℕ) (entries : List Entry) → low ≤ start → IsHistory start entries → Rise low (logged_entries entries)
 unfolding Rise
 logged_rise low start [] le is = tt
 logged_rise low start (e ∷ entries) le is =
@@ -108,7 +109,7 @@ logged_rise low start (e ∷ entries) le is =
     by_flag (is_logged e.flag) (record { first = let first = follows.first in omega (arith, first, le); some = follows.some; counted = follows.counted; fits = follows.fits })
     (λ before within. logged_rise before (last_of e) entries within is.1)
   where
-    by_flag : (b : Bool) → Above low e → ((before : ℕ) → before ≤ last_of e → Rise before (logged entries)) → Rise low (cond b (e ∷ logged entries) (logged entries))
+    by_flag : (b : Bool) → Above low e → ((before : ℕ) → before ≤ last_of e → Rise before (logged_entries entries)) → Rise low (cond b (e ∷ logged_entries entries) (logged_entries entries))
     by_flag true above later = (above, later (last_of e) (omega arith))
     by_flag false above later = let follows = is.0 in later low (let first = follows.first in let some = follows.some in omega (arith, first, some, le))
 
@@ -194,11 +195,11 @@ in_order low start ((e ∷ entries) ∷ groups) le small rise =
 
 -- What holds of all entries holds of those of the groups
 
-all_logged : (P : Entry → Type 0) (entries : List Entry) → AllByRecursion P entries → AllByRecursion P (logged entries)
+all_logged : (P : Entry → Type 0) (entries : List Entry) → AllByRecursion P entries → AllByRecursion P (logged_entries entries)
 all_logged P [] all = tt
 all_logged P (e ∷ entries) all = by_flag (is_logged e.flag) (all_logged P entries all.1)
   where
-    by_flag : (b : Bool) → AllByRecursion P (logged entries) → AllByRecursion P (cond b (e ∷ logged entries) (logged entries))
+    by_flag : (b : Bool) → AllByRecursion P (logged_entries entries) → AllByRecursion P (cond b (e ∷ logged_entries entries) (logged_entries entries))
     by_flag true later = (all.0, later)
     by_flag false later = later
 
@@ -234,7 +235,7 @@ order_take last (suc n) (b ∷ batches) ordered = (ordered.0, order_take (last_a
 
 -- the first of the log's records, so many
 pub rising_groups : (start : ℕ) (entries : List Entry) (groups : List (List Entry)) (calls : List GroupCall) (n : ℕ) → IsHistory start entries → AllByRecursion Suits entries
-    → all_of groups ≡ logged entries → AllByRecursion RunsFollow groups → AllZip WroteEntries groups calls → AreRisingBatches (take n (records_of groups))
+    → all_of groups ≡ logged_entries entries → AllByRecursion RunsFollow groups → AllZip WroteEntries groups calls → AreRisingBatches (take n (records_of groups))
 rising_groups start entries groups calls n is suit cut runs each =
     let small = are_small groups calls each runs (subst (AllByRecursion Suits) (sym cut) (all_logged Suits entries suit)) in
     let rise = subst (Rise 0) (sym cut) (logged_rise 0 start entries (omega arith) is) in

@@ -1,5 +1,6 @@
 -- How a run ends, by what it came to over its opened log.
 use Rattle.std.proofs.Common.{◌≡◌, ℕ, ◌≤◌, List, [], ◌∷◌, ◌++◌, length, IfSome, Option, Vec, Global, refl, ap, ◌∙◌, subst, arith, length-append}
+use Rattle.model_base.specs.declared.limits.TheConstants.{MAX_CLIENTS, MAX_SIZE}
 use Rattle.base_devices.specs.declared.disk.Disk.{Ghosts}
 use Rattle.model_base.specs.LogContents.{GroupCall}
 use Rattle.model_base.specs.Trace.{Settings}
@@ -41,7 +42,7 @@ module _ {D : Type 0} {ghosts : Ghosts D} where
   not_written old calls new (one_more {calls = before} c wrote adds) none = absurd (omega (arith, ap length none, length-append before (c ∷ [])))
 
   module _ (disk : D) (opened log : LogWriter D ghosts) (options : Options) (script : List (List Command)) (last : ℕ) (has_opened : HasOpened disk opened)
-      (few : length script ≤ 16) (bounded : options.batch_bytes ≤ 16777216)
+      (few : length script ≤ MAX_CLIENTS) (bounded : options.batch_bytes ≤ MAX_SIZE)
       (stands : (calls : List GroupCall) → IsWritten disk calls log → Stands calls log) (cause : (calls : List GroupCall) → IsWritten disk calls log → HasCauseSince disk log)
       (held : (calls : List GroupCall) → IsWritten disk calls log → IfSome (ghosts.told disk) (λ d. LeavesOnly ghosts.moment ghosts.from ghosts.since disk (disk_of log) (HoldsSynced d.reach calls))) where
     abbrev images : List ℕ → Type 0
@@ -111,7 +112,7 @@ module _ {D : Type 0} {ghosts : Ghosts D} where
 
   -- how the run ends, by what it came to
   pub is_end : (disk : D) (opened : LogWriter D ghosts) (ran : ClientsEnd (LogWriter D ghosts)) (options : Options) (script : List (List Command)) → HasOpened disk opened
-      → length script ≤ 16 → options.batch_bytes ≤ 16777216
+      → length script ≤ MAX_CLIENTS → options.batch_bytes ≤ MAX_SIZE
       → ((log : LogWriter D ghosts) (calls : List GroupCall) → IsWritten disk calls log → Stands calls log)
       → ((log : LogWriter D ghosts) (calls : List GroupCall) → IsWritten disk calls log → HasCauseSince disk log)
       → ((log : LogWriter D ghosts) (calls : List GroupCall) → IsWritten disk calls log

@@ -3,11 +3,12 @@ use Rattle.std.proofs.Common.{◌≡◌, ℕ, ◌≤◌, List, [], ◌∷◌, �
 use Rattle.std.proofs.lemmas.List.{take-append-le, append-nil}
 use Rattle.std.specs.Prelude.{⊤}
 use Rattle.std.specs.List.{AllByRecursion, AllZip}
+use Rattle.model_base.specs.declared.limits.TheConstants.{MAX_CLIENTS, MAX_SIZE}
 use Rattle.base_devices.specs.Disk.{Disk, Told, IsImage, LeavesOnly}
 use Rattle.base_devices.specs.declared.disk.Disk.{Ghosts}
 use Rattle.model_base.specs.Batch.{size_of_batch}
 use Rattle.model_base.specs.Log.{text, plain_log}
-use Rattle.model_base.specs.History.{Entry, RunsFollow, IsHistory, last_sequence, logged}
+use Rattle.model_base.specs.History.{Entry, RunsFollow, IsHistory, last_sequence, logged_entries}
 use Rattle.model_base.specs.Attempts.{Attempt}
 use Rattle.model_base.specs.Trace.{Settings, Trace}
 use Rattle.model_base.specs.Outcomes.{IsClient, IsLegalIn}
@@ -45,7 +46,7 @@ begins_with records (Some x) = (x ∷ [], refl)
 
 -- The calls that wrote the groups of a trace, and perhaps one that failed
 module _ (trace : Trace) (attempts : List (List Attempt)) (group_bytes : ℕ) (o : Outcome) (history : o.history ≡ trace.entries) (end : o.last ≡ last_sequence trace.start trace.entries) (is_history : IsHistory trace.start trace.entries) (suit : AllByRecursion Suits trace.entries)
-    (groups : List (List Entry)) (calls lost : List GroupCall) (cut : flat_map (λ group. group) groups ≡ logged trace.entries) (runs : AllByRecursion RunsFollow groups)
+    (groups : List (List Entry)) (calls lost : List GroupCall) (cut : flat_map (λ group. group) groups ≡ logged_entries trace.entries) (runs : AllByRecursion RunsFollow groups)
     (each : AllZip WroteEntries groups calls) (are : AreLost group_bytes attempts o.fault (last_sequence trace.start trace.entries) lost) where
   abbrev records : List (List ℕ)
   records = records_of groups
@@ -91,7 +92,7 @@ module _ (trace : Trace) (attempts : List (List Attempt)) (group_bytes : ℕ) (o
     log_left len =
         let same : text plain_log (written_by all) ≡ text plain_log records = ap (text plain_log) written in
         record {
-          of_history = record { cut = ap logged history ∙ sym cut; none_empty = each_has_entries groups calls each; runs = runs };
+          of_history = record { cut = ap logged_entries history ∙ sym cut; none_empty = each_has_entries groups calls each; runs = runs };
           content_is = ap (λ (n : ℕ). take n d.content) (len ∙ ap length (sym same)) ∙ written_front d all safe holds ∙ same;
           length_is = len;
         }
@@ -116,8 +117,8 @@ tells_on (Some x) (Some y) None first second = second
 tells_on (Some x) (Some y) (Some z) first second = tt
 
 -- batches of 16 MiB at most, of no more than 16 clients
-all_suit : (settings : Settings) → settings.clients ≤ 16 → (entries : List Entry) → AllByRecursion (λ (e : Entry). IsClient settings e.client) entries
-    → AllByRecursion (λ (e : Entry). size_of_batch e.records ≤ 16777216) entries → AllByRecursion Suits entries
+all_suit : (settings : Settings) → settings.clients ≤ MAX_CLIENTS → (entries : List Entry) → AllByRecursion (λ (e : Entry). IsClient settings e.client) entries
+    → AllByRecursion (λ (e : Entry). size_of_batch e.records ≤ MAX_SIZE) entries → AllByRecursion Suits entries
 all_suit settings few [] clients small = tt
 all_suit settings few (e ∷ entries) clients small = ((small.0, let within = clients.0.1 in omega (arith, within, few)), all_suit settings few entries clients.1 small.1)
 
@@ -182,8 +183,8 @@ module _ {D : Type 0} {ghosts : Ghosts D} where
       stands.len ∙ ap (λ (l : List (List ℕ)). length (text plain_log l)) (written_is group_bytes attempts (last_sequence trace.start trace.entries) writes.parts writes.calls writes.lost writes.each (fault_of log) writes.none_else)
 
   -- what it holds, and what a crash leaves of it
-  pub safe_log : (disk : D) (opened log : LogWriter D ghosts) (execution : Execution) (o : Outcome) (run : IsRunOf execution o) → length execution.script ≤ 16
-      → AllByRecursion (λ (e : Entry). size_of_batch e.records ≤ 16777216) run.trace.entries → HasOpened disk opened
+  pub safe_log : (disk : D) (opened log : LogWriter D ghosts) (execution : Execution) (o : Outcome) (run : IsRunOf execution o) → length execution.script ≤ MAX_CLIENTS
+      → AllByRecursion (λ (e : Entry). size_of_batch e.records ≤ MAX_SIZE) run.trace.entries → HasOpened disk opened
       → Wrote opened (run.writes.calls ++ run.writes.lost) log → Stands (run.writes.calls ++ run.writes.lost) log
       → IfSome (ghosts.told disk) (λ d. (image : List ℕ) → execution.images image → HoldsCallsSynced d.reach (run.writes.calls ++ run.writes.lost) image)
       → Told (ghosts.told disk) (ghosts.told (disk_of log)) (LeavesSafeLog execution o run)

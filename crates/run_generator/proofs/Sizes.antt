@@ -5,6 +5,7 @@ use Rattle.std.proofs.lemmas.Bool.{cond-true, lt-ltb}
 use Rattle.std.proofs.lemmas.Fmt.{length-decimal-le, decimal_nonempty}
 use Rattle.std.proofs.lemmas.List.{append-nil}
 use Rattle.std.proofs.lemmas.Nat.{mod_below}
+use Rattle.model_base.specs.declared.limits.TheConstants.{MAX_CLIENTS, MAX_SIZE}
 use Rattle.model_base.specs.Varint.{varint, varint_within}
 use Rattle.model_base.specs.Batch.{Record, value, deletion, count_of, varstring, record_bytes, header, body, size_of_batch}
 use Rattle.model_base.specs.Calls.{Command, add, commit}
@@ -20,7 +21,7 @@ varstring_len : (w : List ℕ) → length w < 128 → length (varstring w) ≡ l
 varstring_len w small = omega (arith, one_byte 4 (length w) small, length-append (varint (length w)) w)
 
 -- a key has 4 to 6 bytes, and a value one to three
-pub key_len : (client n : ℕ) → client ≤ 16 → n < 100 → (1 ≤ length (key_of client n)) × (length (key_of client n) ≤ 6)
+pub key_len : (client n : ℕ) → client ≤ MAX_CLIENTS → n < 100 → (1 ≤ length (key_of client n)) × (length (key_of client n) ≤ 6)
 key_len client n few small =
     let c = codes "c" ++ decimal client in
     let whole = length-append (c ++ codes "k") (decimal n) in
@@ -56,7 +57,7 @@ of_drawn P client state deleted put =
     let few : v < 1000 = mod_below (number_at at_value) 1000 (omega arith) in
     by_kind P (number_at at_kind % 4 == 0) (record { made = deletion (key_of client n); state = at_kind }) (record { made = value (key_of client n) (decimal v); state = at_value }) (deleted n small) (put n v small few)
 
-record_len : (client state : ℕ) → client ≤ 16 → length (record_bytes (record_drawn client state).made) ≤ 12
+record_len : (client state : ℕ) → client ≤ MAX_CLIENTS → length (record_bytes (record_drawn client state).made) ≤ 12
 record_len client state few =
     of_drawn (λ r. length (record_bytes r) ≤ 12) client state
     (λ n small. deletion_len (key_of client n) (key_len client n few small).1)
@@ -72,26 +73,26 @@ added_len-append (add r ∷ cs) ds =
     omega (arith, length-append (record_bytes r) (body (additions_of (cs ++ ds))), length-append (record_bytes r) (body (additions_of cs)), added_len-append cs ds)
 added_len-append (other ∷ cs) ds = added_len-append cs ds
 
-records_len : (n client state : ℕ) → client ≤ 16 → added_len (records_drawn n client state).made ≤ 12 * n
+records_len : (n client state : ℕ) → client ≤ MAX_CLIENTS → added_len (records_drawn n client state).made ≤ 12 * n
 records_len zero client state few = omega arith
 records_len (suc n) client state few =
     let r = record_drawn client state in
     omega (arith, record_len client state few, records_len n client r.state few, length-append (record_bytes r.made) (body (additions_of (records_drawn n client r.state).made)))
 
-batch_len : (client state : ℕ) → client ≤ 16 → added_len (batch_drawn client state).made ≤ 48
+batch_len : (client state : ℕ) → client ≤ MAX_CLIENTS → added_len (batch_drawn client state).made ≤ 48
 batch_len client state few =
     let begun = next_state state in
     let n = number_at begun % 4 in
     let below : n < 4 = mod_below _ 4 (omega arith) in
     omega (arith, below, records_len (1 + n) client begun few, added_len-append (records_drawn (1 + n) client begun).made (commit plain ∷ []))
 
-batches_len : (n client state : ℕ) → client ≤ 16 → added_len (batches_drawn n client state) ≤ 48 * n
+batches_len : (n client state : ℕ) → client ≤ MAX_CLIENTS → added_len (batches_drawn n client state) ≤ 48 * n
 batches_len zero client state few = omega arith
 batches_len (suc n) client state few =
     let b = batch_drawn client state in
     omega (arith, batch_len client state few, batches_len n client b.state few, added_len-append b.made (batches_drawn n client b.state))
 
-client_fits : (seed client batches : ℕ) → client ≤ 16 → batches ≤ 100000 → size_of_batch (additions_of (batches_drawn batches client (first_state seed client))) ≤ 16777216
+client_fits : (seed client batches : ℕ) → client ≤ MAX_CLIENTS → batches ≤ 100000 → size_of_batch (additions_of (batches_drawn batches client (first_state seed client))) ≤ MAX_SIZE
 client_fits seed client batches few bounded =
     let records = additions_of (batches_drawn batches client (first_state seed client)) in
     omega (arith, bounded, batches_len batches client (first_state seed client) few, length-append (header 0 (count_of records)) (body records))
@@ -101,6 +102,6 @@ pub of_each : (P : List Command → Type 0) (f : ℕ → List Command) (first n 
 of_each P f first zero each = tt
 of_each P f first (suc n) each = (each first (omega arith), of_each P f (first + 1) n (λ client within. each client (omega arith)))
 
-pub generated_fits : (seed clients batches : ℕ) → clients ≤ 16 → batches ≤ 100000 → AllByRecursion (λ cs. size_of_batch (additions_of cs) ≤ 16777216) (script_of_seed seed clients batches)
+pub generated_fits : (seed clients batches : ℕ) → clients ≤ MAX_CLIENTS → batches ≤ 100000 → AllByRecursion (λ cs. size_of_batch (additions_of cs) ≤ MAX_SIZE) (script_of_seed seed clients batches)
 generated_fits seed clients batches few bounded =
-    of_each (λ cs. size_of_batch (additions_of cs) ≤ 16777216) (λ client. batches_drawn batches client (first_state seed client)) 1 clients (λ client within. client_fits seed client batches (omega arith) bounded)
+    of_each (λ cs. size_of_batch (additions_of cs) ≤ MAX_SIZE) (λ client. batches_drawn batches client (first_state seed client)) 1 clients (λ client within. client_fits seed client batches (omega arith) bounded)

@@ -3,8 +3,8 @@
 ghost use Rattle.std.specs.Prelude.{◌≡◌, ◌≤◌, ◌++◌, IfOk, OnOk};
 ghost use Rattle.model_base.specs.Generator.{first_state, records_drawn, batch_drawn, batches_drawn};
 
-use crate::draws::Draws;
 use crate::records::add_record;
+use base_draws::Draws;
 use model_base::{MAX_CLIENTS, NoMemory, WriteOptions};
 use run_command_list::{CommandList, CommandView};
 use std::alloc::Global;

@@ -1,11 +1,10 @@
 //! The script that a seed makes: for each client its batches of random puts and deletions, each written by a plain
-//! commit. `draws` has the numbers, `records` and `batches` what they make, and `clients` the script. `summary` sums up
-//! what its values came to.
+//! commit. `base_draws` has the numbers, `records` and `batches` what they make, and `clients` the script. `summary`
+//! sums up what its values came to.
 #![tactic(auto)]
 
 mod batches;
 mod clients;
-mod draws;
 mod records;
 mod summary;
 

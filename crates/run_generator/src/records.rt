@@ -4,8 +4,8 @@ ghost use Rattle.std.specs.Prelude.{◌≡◌, ◌≤◌, ◌++◌, ◌∷◌, [
 ghost use Rattle.model_base.specs.Calls.{add};
 ghost use Rattle.model_base.specs.Generator.{key_of, record_drawn};
 
-use crate::draws::Draws;
 use base_bytes::Bytes;
+use base_draws::Draws;
 use itoa::Buffer;
 use model_base::{MAX_CLIENTS, NoMemory};
 use run_command_list::{CommandList, CommandView};

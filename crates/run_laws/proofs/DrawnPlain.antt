@@ -3,6 +3,7 @@ use Rattle.std.proofs.Common.{◌≡◌, ℕ, zero, suc, ◌+◌, ◌*◌, ◌/�
 use Rattle.std.proofs.lemmas.Bool.{cond-true, lt-ltb}
 use Rattle.std.proofs.lemmas.Fmt.{length-decimal-le}
 use Rattle.std.proofs.lemmas.Nat.{mod_below}
+use Rattle.model_base.specs.declared.limits.TheConstants.{MAX_CLIENTS}
 use Rattle.model_base.specs.Varint.{varint, varint_within}
 use Rattle.model_base.specs.Batch.{Record, value, deletion, varstring, record_bytes}
 use Rattle.model_base.specs.Calls.{Command, commit}
@@ -25,7 +26,7 @@ one_byte k n small = ap length (cond-true (nat_lt n 128) (n ∷ []) ((128 + n % 
 varstring_len : (w : List ℕ) → length w < 128 → length (varstring w) ≡ length w + 1
 varstring_len w small = omega (arith, one_byte 4 (length w) small, length-append (varint (length w)) w)
 
-key_len : (client n : ℕ) → client ≤ 16 → n < 100 → length (key_of client n) ≤ 6
+key_len : (client n : ℕ) → client ≤ MAX_CLIENTS → n < 100 → length (key_of client n) ≤ 6
 key_len client n few small =
     let c = codes "c" ++ decimal client in
     let whole = length-append (c ++ codes "k") (decimal n) in let before = length-append c (codes "k") in let first = length-append (codes "c") (decimal client) in
@@ -43,20 +44,20 @@ put_len key v short few =
 abbrev IsShortOf : ℕ → Record → Type 0
 IsShortOf client r = IsShort r
 
-short_drawn : (client : ℕ) → client ≤ 16 → HoldsOfDrawn IsShortOf client
+short_drawn : (client : ℕ) → client ≤ MAX_CLIENTS → HoldsOfDrawn IsShortOf client
 short_drawn client few = record {
   deletions = λ n small. (refl, deletion_len (key_of client n) (key_len client n few small));
   values = λ n v small below. (refl, put_len (key_of client n) (decimal v) (key_len client n few small) (length-decimal-le 3 v (omega arith) (omega arith) (omega arith)));
 }
 
 -- after so many records of its batch come the rest of it and its next commands
-plain_records : (n client state before : ℕ) (commands : List Command) → client ≤ 16 → IsPlain (before + n) commands → IsPlain before ((records_drawn n client state).made ++ commands)
+plain_records : (n client state before : ℕ) (commands : List Command) → client ≤ MAX_CLIENTS → IsPlain (before + n) commands → IsPlain before ((records_drawn n client state).made ++ commands)
 plain_records zero client state before commands few is = let same : before + 0 ≡ before = omega arith in subst (λ k. IsPlain k commands) same is
 plain_records (suc n) client state before commands few is =
     let same : before + suc n ≡ before + 1 + n = omega arith in let r = record_drawn client state in
     (of_drawn IsShortOf client (short_drawn client few) state, plain_records n client r.state (before + 1) commands few (subst (λ k. IsPlain k commands) same is))
 
-pub plain_batches : (n client state : ℕ) → client ≤ 16 → IsPlain 0 (batches_drawn n client state)
+pub plain_batches : (n client state : ℕ) → client ≤ MAX_CLIENTS → IsPlain 0 (batches_drawn n client state)
 plain_batches zero client state few = tt
 plain_batches (suc n) client state few =
     let begun = next_state state in let more = number_at begun % 4 in let below : more < 4 = mod_below (number_at begun) 4 (omega arith) in

@@ -2,6 +2,7 @@
 use Rattle.std.proofs.Common.{◌≡◌, ℕ, ◌+◌, ◌-◌, ◌<◌, ◌≤◌, List, [], ◌∷◌, ◌++◌, length, map, sum_by, codes, None, refl, sym, ap, ◌∙◌, subst, arith}
 use Rattle.std.specs.List.{AllByRecursion}
 use Rattle.std.proofs.lemmas.List.Sums.{sum_by-cons}
+use Rattle.model_base.specs.declared.limits.TheConstants.{MAX_CLIENTS, MAX_SIZE}
 use Rattle.model_base.specs.Batch.{Record, count_of}
 use Rattle.model_base.specs.Map.{Pairs}
 use Rattle.model_base.specs.History.{Entry}
@@ -45,7 +46,7 @@ text_of clients batches records last state =
     ++ number_line (codes "keys") (length state)
     ++ number_line (codes "sum") (sum_by (λ p. value_of_digits p.1) state)
 
-module _ (seed clients batches ended : ℕ) (settings : Settings) (o : Outcome) (few : clients ≤ 16) (bounded : batches ≤ 100000) (start : settings.start ≡ 0) (bytes : settings.batch_bytes ≡ 16777216)
+module _ (seed clients batches ended : ℕ) (settings : Settings) (o : Outcome) (few : clients ≤ MAX_CLIENTS) (bounded : batches ≤ 100000) (start : settings.start ≡ 0) (bytes : settings.batch_bytes ≡ MAX_SIZE)
     (legal : IsLegal settings ended (script_of_seed seed clients batches) o) (no_fault : o.fault ≡ None) (found : AllByRecursion NoneWithoutMemory o.transcripts) where
   abbrev trace : Trace
   trace = legal.trace

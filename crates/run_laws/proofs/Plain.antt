@@ -5,6 +5,7 @@ use Rattle.std.specs.List.{AllByRecursion}
 use Rattle.std.proofs.lemmas.Bool.Decides.{nat_tests}
 use Rattle.std.proofs.lemmas.List.{map_push}
 use Rattle.std.proofs.lemmas.List.Sums.{sum_by-cons}
+use Rattle.model_base.specs.declared.limits.TheConstants.{MAX_SIZE}
 use Rattle.model_base.specs.declared.write.WriteOptions.{WriteOptions}
 use Rattle.model_base.specs.declared.write.Refusal.{Refusal}
 use Rattle.model_base.specs.declared.write.Refusal.TheVariants as no
@@ -46,12 +47,12 @@ short_body : (records : List Record) → AllByRecursion IsShort records → leng
 short_body [] a = omega arith
 short_body (r ∷ records) a = omega (arith, a.0.1, short_body records a.1, length-append (record_bytes r) (body records))
 
-passes : (records : List Record) → AllByRecursion IsShort records → 1 ≤ length records → length records ≤ 4 → early_refusal 16777216 false records plain ≡ None
+passes : (records : List Record) → AllByRecursion IsShort records → 1 ≤ length records → length records ≤ 4 → early_refusal MAX_SIZE false records plain ≡ None
 passes records a some few =
     let count = short_count records a in let bytes = short_body records a in
     let counted : (count_of records == 0) ≡ false = grind (arith, nat_tests) in
     let size : size_of_batch records ≤ 60 = omega (arith, few, bytes, length-append (header 0 (count_of records)) (body records)) in
-    let fits : nat_lt 16777216 (size_of_batch records) ≡ false = grind (arith, nat_tests) in
+    let fits : nat_lt MAX_SIZE (size_of_batch records) ≡ false = grind (arith, nat_tests) in
     rw (counted, fits) refl
 
 -- Its attempts
@@ -104,7 +105,7 @@ pub record GoesOn (p : Progress) (command : Command) (commands : List Command) (
   pub left : IsPlain n commands
   pub same : made_with q commands ≡ made_with p (command ∷ commands)
 
-module _ (most : ℕ) (small : most + 4 ≤ max_sequence) (settings : Settings) (bytes : settings.batch_bytes ≡ 16777216) (trace : Trace) (client : ℕ) where
+module _ (most : ℕ) (small : most + 4 ≤ max_sequence) (settings : Settings) (bytes : settings.batch_bytes ≡ MAX_SIZE) (trace : Trace) (client : ℕ) where
   after_add : (n : ℕ) (p : Progress) (r : Record) (commands : List Command) (reply : Reply) (q : Progress) → IsPlain n (add r ∷ commands) → Stands n p → Adds p r reply q → GoesOn p (add r) commands q
   after_add n p r commands quiet q is s e = record {
     n = n + 1;

@@ -28,19 +28,19 @@ both f false x xs ys h = h
 module _ (lists : List (List (AcceptedBatch Contents))) where
   -- those of one first sequence
   filtered : (k : ℕ) (places : List BatchPlace) → ArePlaces lists places
-      → filter (λ (e : HistoryEntry Contents). e.first == k) (entries_at lists places) ≡ entries_at lists (filter (λ (p : BatchPlace). p.first == k) places)
+      → filter (λ (e : HistoryEntry Contents). e.run.first == k) (entries_at lists places) ≡ entries_at lists (filter (λ (p : BatchPlace). p.first == k) places)
   filtered k [] are = refl
   filtered k (p ∷ places) are =
       let rest = filtered k places (All-tail (IsPlace lists) p places are) in
-      let is : (entry_at lists p).first ≡ p.first = sym (All-head (IsPlace lists) p places are).first in
-      let others = filter (λ (e : HistoryEntry Contents). e.first == k) (entries_at lists places) in
+      let is : (entry_at lists p).run.first ≡ p.first = sym (All-head (IsPlace lists) p places are).first in
+      let others = filter (λ (e : HistoryEntry Contents). e.run.first == k) (entries_at lists places) in
       ap (λ (n : ℕ). cond (n == k) (entry_at lists p ∷ others) others) is
       ∙ both (entry_at lists) (p.first == k) p others (filter (λ (q : BatchPlace). q.first == k) places) rest
 
-  first_at : (order : List BatchPlace) → ArePlaces lists order → (i : ℕ) (d : HistoryEntry Contents) → i < length order → (get_or (entries_at lists order) i d).first ≡ (get_or order i (none 0)).first
-  first_at order are i d h = ap (λ (e : HistoryEntry Contents). e.first) (get_or-map (entry_at lists) order i (none 0) d h) ∙ sym (are i (none 0) h).first
+  first_at : (order : List BatchPlace) → ArePlaces lists order → (i : ℕ) (d : HistoryEntry Contents) → i < length order → (get_or (entries_at lists order) i d).run.first ≡ (get_or order i (none 0)).first
+  first_at order are i d h = ap (λ (e : HistoryEntry Contents). e.run.first) (get_or-map (entry_at lists) order i (none 0) d h) ∙ sym (are i (none 0) h).first
 
-  rises : (order : List BatchPlace) → ArePlaces lists order → IsNonDecreasingBy (λ (p : BatchPlace). p.first) order → IsNonDecreasingBy (λ (e : HistoryEntry Contents). e.first) (entries_at lists order)
+  rises : (order : List BatchPlace) → ArePlaces lists order → IsNonDecreasingBy (λ (p : BatchPlace). p.first) order → IsNonDecreasingBy (λ (e : HistoryEntry Contents). e.run.first) (entries_at lists order)
   rises order are up i j d le less =
       let inside : j < length order = subst (λ (n : ℕ). j < n) (length-map order (entry_at lists)) less in
       let at_i = first_at order are i d (omega arith) in
@@ -56,16 +56,16 @@ module _ (lists : List (List (AcceptedBatch Contents))) where
     pub are_places : ArePlaces lists order
     are_places = All-permutation (IsPlace lists) places order moved before
 
-    pub merged_rise : IsNonDecreasingBy (λ (p : BatchPlace). p.first) order → IsNonDecreasingBy (λ (e : HistoryEntry Contents). e.first) (entries_at lists order)
+    pub merged_rise : IsNonDecreasingBy (λ (p : BatchPlace). p.first) order → IsNonDecreasingBy (λ (e : HistoryEntry Contents). e.run.first) (entries_at lists order)
     merged_rise up = rises order are_places up
 
     pub merged_keep : (k : ℕ) → filter (λ (p : BatchPlace). p.first == k) order ≡ filter (λ (p : BatchPlace). p.first == k) places
-        → filter (λ (e : HistoryEntry Contents). e.first == k) (entries_at lists order) ≡ filter (λ (e : HistoryEntry Contents). e.first == k) (entries_of_all lists)
+        → filter (λ (e : HistoryEntry Contents). e.run.first == k) (entries_at lists order) ≡ filter (λ (e : HistoryEntry Contents). e.run.first == k) (entries_of_all lists)
     merged_keep k stable =
         filtered k order are_places
         ∙ (ap (entries_at lists) stable
         ∙ (sym (filtered k places before)
-        ∙ ap (filter (λ (e : HistoryEntry Contents). e.first == k)) (ap (entries_at lists) all ∙ all_entries lists)))
+        ∙ ap (filter (λ (e : HistoryEntry Contents). e.run.first == k)) (ap (entries_at lists) all ∙ all_entries lists)))
 
   -- the entry at a place of the order
   pub merged_at : (order : List BatchPlace) → ArePlaces lists order → (at : ℕ) (place : BatchPlace) (list : List (AcceptedBatch Contents)) (e : HistoryEntry Contents) → at < length (entries_at lists order)

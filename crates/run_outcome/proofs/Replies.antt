@@ -10,7 +10,7 @@ use Rattle.run_outcome.specs.Shows.{ShowsReply, ShowsReplies, is_quiet, with_rep
 
 -- what a value shows is a reply
 pub has_reply : (r : Reply) (c : calls.Call) → ShowsReply r c → is_quiet c.reply ≡ false
-has_reply (Accepted first last) c shows = ap is_quiet shows.1
+has_reply (Accepted run) c shows = ap is_quiet shows.1
 has_reply (Refused why) c shows = ap is_quiet shows
 has_reply (Found at value) c shows = ap is_quiet shows
 has_reply (FoundEach at values) c shows = ap is_quiet shows

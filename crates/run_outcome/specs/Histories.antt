@@ -14,8 +14,7 @@ abbrev pub entry_of : ℕ → ℕ → AcceptedBatch Contents → HistoryEntry Co
 entry_of client ordinal kept = record {
   client = client;
   ordinal = ordinal;
-  first = kept.batch.sequence;
-  last = last_in kept.batch;
+  run = record { first = kept.batch.sequence; last = last_in kept.batch };
   flag = kept.flag;
   batch = kept.batch;
 }

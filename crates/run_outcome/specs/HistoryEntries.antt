@@ -9,8 +9,8 @@ abbrev pub entry_of : {B : Type 0} → (HistoryEntry B → List Record) → Hist
 entry_of records e = record {
   client = e.client;
   ordinal = e.ordinal;
-  first = e.first;
-  count = e.last + 1 - e.first;
+  first = e.run.first;
+  count = e.run.last + 1 - e.run.first;
   flag = e.flag;
   records = records e;
 }

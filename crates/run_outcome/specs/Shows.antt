@@ -14,7 +14,7 @@ use Rattle.run_outcome.specs.declared.outcome.Outcome.{Outcome}
 
 abbrev pub lacks_memory : Reply → Bool
 lacks_memory NoMemory = true
-lacks_memory (Accepted first last) = false
+lacks_memory (Accepted run) = false
 lacks_memory (Refused why) = false
 lacks_memory (Found at value) = false
 lacks_memory (FoundEach at values) = false
@@ -25,7 +25,7 @@ lacks_memory NotHeld = false
 
 -- a reply, whatever command it is to; what adds to a batch or empties it has none
 abbrev pub ShowsReply : Reply → calls.Call → Type 0
-ShowsReply (Accepted first last) c = (records : List Record) × (c.reply ≡ calls.accepted first last records)
+ShowsReply (Accepted run) c = (records : List Record) × (c.reply ≡ calls.accepted run.first run.last records)
 ShowsReply (Refused why) c = c.reply ≡ calls.refused why
 ShowsReply (Found at value) c = c.reply ≡ calls.found at value
 ShowsReply (FoundEach at values) c = c.reply ≡ calls.found_each at values
@@ -49,8 +49,8 @@ ShowsReplies replies cs = AllZip ShowsReply replies (with_replies cs)
 pub record ShowsEntry (shown : HistoryEntry Contents) (e : history.Entry) : Type 0 where
   pub client : e.client ≡ shown.client
   pub ordinal : e.ordinal ≡ shown.ordinal
-  pub first : e.first ≡ shown.first
-  pub last : history.last_of e ≡ shown.last
+  pub first : e.first ≡ shown.run.first
+  pub last : history.last_of e ≡ shown.run.last
   pub flag : e.flag ≡ shown.flag
   pub batch : shown.batch ≡ record { sequence = e.first; records = e.records }
 

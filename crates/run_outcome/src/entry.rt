@@ -4,6 +4,7 @@ ghost use Rattle.std.specs.Prelude.{◌≡◌, ◌<◌, length, Some, slice_get}
 ghost use Rattle.run_outcome.specs.Histories.{entries_of};
 
 use crate::history_entry::HistoryEntry;
+use log_batch::Run;
 use run_batches::{AcceptedBatch, AcceptedBatchRef, BatchList};
 
 /// The entry of the batch at a place of a client's list, from 0 on.
@@ -15,11 +16,14 @@ pub fn entry_of(client: u32, at: usize, list: &BatchList) -> HistoryEntry<Accept
     prove!(at < list.len());
     let AcceptedBatch { flag, batch } = list.get(at);
     let first = batch.sequence();
+    let run = Run {
+        first,
+        last: first.saturating_add(u64::from(batch.count()).saturating_sub(1)),
+    };
     HistoryEntry {
         client,
         ordinal: at as u64 + 1,
-        first,
-        last: first.saturating_add(u64::from(batch.count()).saturating_sub(1)),
+        run,
         flag,
         batch,
     }

@@ -52,10 +52,10 @@ impl History {
     /// That of all clients, the first of which has the number 1: their batches in order of their first sequences.
     pub fn of_all(alloc: Global, lists: Vec<BatchList>) -> Result<History, NoMemory>
         requires few { length lists.items < 2 ^ 32 }
-        ensures rising { IfOk result (λ history. IsNonDecreasingBy (λ e. e.first) history) }
+        ensures rising { IfOk result (λ history. IsNonDecreasingBy (λ e. e.run.first) history) }
         // those of one first sequence stay as they were
-        ensures kept { IfOk result (λ history. (first : ℕ) → filter (λ e. e.first == first) history
-            ≡ filter (λ e. e.first == first) (entries_of_all lists.items)) }
+        ensures kept { IfOk result (λ history. (first : ℕ) → filter (λ e. e.run.first == first) history
+            ≡ filter (λ e. e.run.first == first) (entries_of_all lists.items)) }
     {
         let merged = Merged::of_lists(alloc, lists)?;
         Ok(History {

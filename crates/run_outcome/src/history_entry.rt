@@ -1,5 +1,6 @@
 //! The history's entries.
 
+use log_batch::Run;
 use model_base::Flag;
 
 /// An accepted batch with its run of sequences. `B` is what stands for the batch: the batch itself with its sequence
@@ -10,9 +11,7 @@ pub struct HistoryEntry<B> {
     pub client: u32,
     /// The how many-th accepted batch of that client, from 1.
     pub ordinal: u64,
-    /// The first and the last sequence of the run.
-    pub first: u64,
-    pub last: u64,
+    pub run: Run,
     pub flag: Flag,
     pub batch: B,
 }

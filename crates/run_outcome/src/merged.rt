@@ -39,10 +39,10 @@ impl Merged {
     /// Of all clients' lists, the first of which is that of the client with the number 1.
     pub fn of_lists(alloc: Global, lists: Vec<BatchList>) -> Result<Merged, NoMemory>
         requires { length lists.items < 2 ^ 32 }
-        ensures rising { IfOk result (λ merged. IsNonDecreasingBy (λ e. e.first) merged) }
+        ensures rising { IfOk result (λ merged. IsNonDecreasingBy (λ e. e.run.first) merged) }
         // those of one first sequence stay as they were
-        ensures kept { IfOk result (λ merged. (first : ℕ) → filter (λ e. e.first == first) merged
-            ≡ filter (λ e. e.first == first) (entries_of_all lists.items)) }
+        ensures kept { IfOk result (λ merged. (first : ℕ) → filter (λ e. e.run.first == first) merged
+            ≡ filter (λ e. e.run.first == first) (entries_of_all lists.items)) }
     {
         let mut order = places_of(alloc, &lists)?;
         order.sort_by_key(|place| place.first)?;

@@ -1,13 +1,14 @@
 //! What a client is told.
 
 use base_bytes::{Bytes, FoundList, PairList};
+use log_batch::Run;
 use model_base::Refusal;
 
 /// The reply to a command. What adds to a batch or empties it has none.
 #[derive(Drop)]
 pub enum Reply {
     /// The batch was written under these sequences.
-    Accepted { first: u64, last: u64 },
+    Accepted(Run),
     /// The batch was not written.
     Refused(Refusal),
     /// What was read at which sequence.

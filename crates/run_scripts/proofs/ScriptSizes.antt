@@ -4,6 +4,7 @@ use Rattle.std.specs.List.{AllByRecursion}
 use Rattle.std.proofs.lemmas.Bool.{cond-true, lt-ltb}
 use Rattle.std.proofs.lemmas.List.{append-nil}
 use Rattle.std.proofs.lemmas.List.Sums.{sum_by-cons}
+use Rattle.model_base.specs.declared.limits.TheConstants.{MAX_SIZE}
 use Rattle.model_base.specs.Varint.{varint, varint_within}
 use Rattle.model_base.specs.Batch.{Record, value, deletion, single_deletion, log_data, count_of, varstring, record_bytes, header, body, size_of_batch}
 use Rattle.model_base.specs.Calls.{Command, add, clear, commit, get, many, scan, stop, unstop, slow, unslow}
@@ -77,14 +78,14 @@ within language (slow rate ∷ cs) short = without_record (slow rate) cs _ (with
 within language (unslow ∷ cs) short = without_record unslow cs _ (within language cs short.1)
 
 -- Many records are shorter than their lines by as much as a header has; few are short.
-client_fits : (language : Language) (cs : List Command) → AllByRecursion (IsCommandOf language) cs → lines_len cs ≤ 16777217 → size_of_batch (additions_of cs) ≤ 16777216
+client_fits : (language : Language) (cs : List Command) → AllByRecursion (IsCommandOf language) cs → lines_len cs ≤ 16777217 → size_of_batch (additions_of cs) ≤ MAX_SIZE
 client_fits language cs short lines =
     let rs = additions_of cs in
     let small = within language cs short in
     omega (arith, small.lines, small.words, lines, length-append (header 0 (count_of rs)) (body rs))
 
 clients_fit : (language : Language) (clients : List (List Command)) → AllByRecursion (AllByRecursion (IsCommandOf language)) clients → sum_by lines_len clients ≤ 16777217
-    → AllByRecursion (λ cs. size_of_batch (additions_of cs) ≤ 16777216) clients
+    → AllByRecursion (λ cs. size_of_batch (additions_of cs) ≤ MAX_SIZE) clients
 clients_fit language [] short lines = tt
 clients_fit language (cs ∷ rest) short lines =
     let sum = sum_by-cons lines_len cs rest in

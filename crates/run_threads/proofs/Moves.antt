@@ -8,6 +8,7 @@ use Rattle.std.specs.Option.{option_map}
 use Rattle.std.specs.List.{AllZip, AllByRecursion}
 use Rattle.std.specs.declared.alloc.Global.{Global}
 use Rattle.std.proofs.lemmas.Bool.{cases_lt}
+use Rattle.model_base.specs.declared.limits.TheConstants.{MAX_SIZE}
 use Rattle.model_base.specs.Batch.{size_of_batch}
 use Rattle.model_base.specs.Trace.{Settings}
 use Rattle.model_base.specs.Calls.{Command, Call}
@@ -79,7 +80,7 @@ module _ {C : Type 0} (belongs : C → Type 0) (account : C → Account) (settin
           none = no_replies.0;
           empty = no_replies.1;
           no_batches = subst AreNone (get_or-map batches_of jobs i d) (all_at AreNone (map batches_of jobs) i d.batches no_batches (omega (arith, as_many, h)));
-          fits = λ v. all_at (λ (cs : List Command). size_of_batch (additions_of cs) ≤ 16777216) script i v fit inside;
+          fits = λ v. all_at (λ (cs : List Command). size_of_batch (additions_of cs) ≤ MAX_SIZE) script i v fit inside;
           room = λ v. rw told at (for_replies.fits i d.replies v inside);
         };
   }

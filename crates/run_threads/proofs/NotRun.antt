@@ -4,7 +4,7 @@ use Rattle.std.specs.List.{AllByRecursion, AllZip}
 use Rattle.std.specs.Option.{option_map}
 use Rattle.std.proofs.lemmas.Option.{slice_get-map, slice_get_cases}
 use Rattle.model_base.specs.Batch.{Record}
-use Rattle.model_base.specs.History.{Entry, logged}
+use Rattle.model_base.specs.History.{Entry, logged_entries}
 use Rattle.model_base.specs.Trace.{Trace, Settings}
 use Rattle.model_base.specs.Attempts.{Attempt}
 use Rattle.model_base.specs.Groups.{Group, Member, IsCommit}
@@ -95,7 +95,7 @@ module _ (settings : Settings) (ended : ℕ) (trace : Trace) (groups : List Grou
 
   pub log_by_no_call : (wrote : List GroupCall → Type 0) → WritesLog settings.group_bytes wrote trace (all_attempts accounts) fault → wrote []
   log_by_no_call wrote writes =
-      let cut : flat_map (λ part. part) writes.parts ≡ [] = writes.cut ∙ ap logged none_written in
+      let cut : flat_map (λ part. part) writes.parts ≡ [] = writes.cut ∙ ap logged_entries none_written in
       let calls : writes.calls ≡ [] = no_calls writes.parts writes.calls cut writes.each in
       let lost : writes.lost ≡ [] = no_lost settings.group_bytes (all_attempts accounts) fault _ writes.lost (all_idle start accounts new) writes.none_else in
       let both : writes.calls ++ writes.lost ≡ [] = ap (λ (cs : List GroupCall). cs ++ writes.lost) calls ∙ lost in

@@ -1,6 +1,7 @@
 -- There is room for what a client adds: all of it fits one batch.
 use Rattle.std.proofs.Common.{◌≡◌, ℕ, ◌+◌, ◌≤◌, inl, inr, List, [], ◌∷◌, ◌++◌, length, ap, sym, ◌∙◌, subst, refl, arith, length-append, append_assoc}
 use Rattle.std.proofs.lemmas.Grind.{flat_map-append}
+use Rattle.model_base.specs.declared.limits.TheConstants.{MAX_SIZE}
 use Rattle.model_base.specs.Batch.{Record, count_of, record_bytes, header, body, batch, size_of_batch}
 use Rattle.model_base.specs.Calls as calls
 use Rattle.run_scripts.specs.Scripts.{additions_of}
@@ -33,14 +34,14 @@ additions_split (calls.slow rate) rest = refl
 additions_split calls.unslow rest = refl
 
 module _ (records : List Record) (c : calls.Command) (rest : List calls.Command) (fits : HasRoom records (c ∷ rest)) where
-  both_fit : size_of_batch ((records ++ additions_of (c ∷ [])) ++ additions_of rest) ≤ 16777216
-  both_fit = subst (λ (l : List Record). size_of_batch l ≤ 16777216) (ap (λ (l : List Record). records ++ l) (additions_split c rest) ∙ sym (append_assoc records (additions_of (c ∷ [])) (additions_of rest))) fits
+  both_fit : size_of_batch ((records ++ additions_of (c ∷ [])) ++ additions_of rest) ≤ MAX_SIZE
+  both_fit = subst (λ (l : List Record). size_of_batch l ≤ MAX_SIZE) (ap (λ (l : List Record). records ++ l) (additions_split c rest) ∙ sym (append_assoc records (additions_of (c ∷ [])) (additions_of rest))) fits
 
   -- for the next command
   pub has_room : HasRoom records (c ∷ [])
-  has_room = front_small (records ++ additions_of (c ∷ [])) (additions_of rest) 16777216 both_fit
+  has_room = front_small (records ++ additions_of (c ∷ [])) (additions_of rest) MAX_SIZE both_fit
 
   -- and then for the others
   pub fits_still : (after : List Record) → IsLeft records c after → HasRoom after rest
-  fits_still after (inl none) = subst (λ (l : List Record). HasRoom l rest) (sym none) (rest_small (records ++ additions_of (c ∷ [])) (additions_of rest) 16777216 both_fit)
+  fits_still after (inl none) = subst (λ (l : List Record). HasRoom l rest) (sym none) (rest_small (records ++ additions_of (c ∷ [])) (additions_of rest) MAX_SIZE both_fit)
   fits_still after (inr more) = subst (λ (l : List Record). HasRoom l rest) (sym more) both_fit

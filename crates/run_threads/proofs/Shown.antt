@@ -24,14 +24,13 @@ abbrev pub shown_of : history.Entry → HistoryEntry Contents
 shown_of e = record {
   client = e.client;
   ordinal = e.ordinal;
-  first = e.first;
-  last = history.last_of e;
+  run = record { first = e.first; last = history.last_of e };
   flag = e.flag;
   batch = record { sequence = e.first; records = e.records };
 }
 
 abbrev first_of : HistoryEntry Contents → ℕ
-first_of e = e.first
+first_of e = e.run.first
 
 abbrev client_of : HistoryEntry Contents → ℕ
 client_of e = e.client

@@ -9,7 +9,8 @@ use Rattle.run_threads.specs.Answers.{ShowsAccepted}
 
 -- The clients' accepted batches, those of the client numbered 1 first, make up the history above the number `start`:
 -- each client's are just its entries there, and there are no others.
-pub record MakeUp (start : ℕ) (accepted : List (List (AcceptedBatch Contents))) (entries : List history.Entry) : Type 0 where
+pub record MakeUp (start : ℕ) (accepted : List (List (AcceptedBatch Contents)))
+    (entries : List history.Entry) : Type 0 where
   pub is_history : history.IsHistory start entries
   pub clients : AllByRecursion (λ (e : history.Entry). (1 ≤ e.client) × (e.client ≤ length accepted)) entries
   pub each : (i : ℕ) (batches : List (AcceptedBatch Contents)) → slice_get accepted i ≡ Some batches

@@ -17,7 +17,8 @@ use Rattle.run_threads.specs.declared.run.ClientsEnd.{ClientsEnd}
 use Rattle.run_threads.specs.declared.run.ClientsEnd.TheVariants.{NotRun, Untold, Told}
 
 -- the outcome that these values tell, with the log's length and its fault
-abbrev pub outcome_with : Vec (Vec Reply Global) Global → List (HistoryEntry Contents) → ℕ → Pairs → ℕ → Option ℕ → Outcome Pairs
+abbrev pub outcome_with : Vec (Vec Reply Global) Global → List (HistoryEntry Contents) → ℕ → Pairs → ℕ → Option ℕ
+    → Outcome Pairs
 outcome_with transcripts history last state log_len fault = record {
   transcripts = transcripts;
   history = history;

@@ -27,14 +27,16 @@ pub fn answer<E: Engine, R: Wait>(
     command: CommandView<'_>,
 ) -> Result<Option<Reply>, NoMemory>
     requires belongs { E.belongs engine.now client.old }
-    requires entries { ShowsAccepted (E.account client.old).number (accepted_in batches.old) (E.account client.old).mine }
+    requires entries { ShowsAccepted (E.account client.old).number (accepted_in batches.old)
+        (E.account client.old).mine }
     requires fits { HasRoom (records_in batches.old.current) (command_of command ∷ []) }
     ensures belongs { E.belongs engine.now client.new }
     ensures answers { Answers (E.settings engine.now) (E.account client.old) (records_in batches.old.current)
         (command_of command.entry) result (E.account client.new) (records_in batches.new.current) }
     ensures left { OnOk result (IsLeft (records_in batches.old.current) (command_of command.entry)
         (records_in batches.new.current)) }
-    ensures entries { ShowsAccepted (E.account client.old).number (accepted_in batches.new) (E.account client.new).mine }
+    ensures entries { ShowsAccepted (E.account client.old).number (accepted_in batches.new)
+        (E.account client.new).mine }
 {
     match command {
         CommandView::Put { key, value } => add(alloc, batches, RecordView::Value { key, value }),

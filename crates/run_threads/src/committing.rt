@@ -25,12 +25,14 @@ pub fn commit<E: Engine, R: Wait>(
     options: WriteOptions,
 ) -> Result<Option<Reply>, NoMemory>
     requires belongs { E.belongs engine.now client.old }
-    requires entries { ShowsAccepted (E.account client.old).number (accepted_in batches.old) (E.account client.old).mine }
+    requires entries { ShowsAccepted (E.account client.old).number (accepted_in batches.old)
+        (E.account client.old).mine }
     ensures belongs { E.belongs engine.now client.new }
     ensures answers { Answers (E.settings engine.now) (E.account client.old) (records_in batches.old.current)
         (calls.commit options) result (E.account client.new) (records_in batches.new.current) }
     ensures left { IsLeft (records_in batches.old.current) (calls.commit options) (records_in batches.new.current) }
-    ensures entries { ShowsAccepted (E.account client.old).number (accepted_in batches.new) (E.account client.new).mine }
+    ensures entries { ShowsAccepted (E.account client.old).number (accepted_in batches.new)
+        (E.account client.new).mine }
 {
     commits_are_steps();
     earlier_sights();
@@ -43,15 +45,12 @@ pub fn commit<E: Engine, R: Wait>(
     };
     match engine.write(rt, client, batch, options) {
         Ok(receipt) => {
-            let last = receipt.first + (u64::from(receipt.count) - 1);
+            has_64_bits(receipt.run.last);
             batches.current = CurrentBatch::Accepted(AcceptedBatch {
                 flag: flag_of(options),
                 batch: receipt.batch,
             });
-            Ok(Some(Reply::Accepted {
-                first: receipt.first,
-                last,
-            }))
+            Ok(Some(Reply::Accepted(receipt.run)))
         }
         Err(refused) => {
             batches.current = CurrentBatch::Pending(refused.batch);
@@ -62,3 +61,8 @@ pub fn commit<E: Engine, R: Wait>(
         }
     }
 }
+
+/// A sequence is a number of 64 bits.
+fn has_64_bits(sequence: u64)
+    ensures { sequence < 2 ^ 64 }
+{}

@@ -19,12 +19,12 @@ use std::alloc::Global;
 use std::sync::Wait;
 use table_rule::Versioned;
 
-/// A table of versions, which groups are published to. `P` is a list of a group's members with their nodes.
+/// A table of versions, which groups are published to. `Parts` is a list of a group's members with their nodes.
 ///
 /// Each client has one seat. A group is launched by the client that has the turn. Each member takes its part, inserts
 /// it and finishes. Who finishes last publishes the group. The client that launched it waits for that, and has the turn
 /// again.
-pub trait Table<N: Versioned, P: GroupParts<N>> {
+pub trait Table<MemberNodes: Versioned, Parts: GroupParts<MemberNodes>> {
     /// A client's seat.
     type Seat;
 
@@ -115,16 +115,16 @@ pub trait Table<N: Versioned, P: GroupParts<N>> {
 
     /// Launches a group, and hands each member its nodes: each takes its own part next, by its own seat. The client
     /// that launches needn't have a part. Its seat keeps the turn until `await_published`.
-    fn launch(&self, seat: &mut Self::Seat, turn: Self::Turn, parts: &mut P)
+    fn launch(&self, seat: &mut Self::Seat, turn: Self::Turn, parts: &mut Parts)
         requires ours { ours self.now seat.old × our_turn self.now turn }
         requires ready { IsReady (account seat.old) }
-        requires next { IsNext (opening self.now) (history turn) (P.parts parts.old) }
-        requires fits { end_of (last_of (opening self.now).start (history turn)) (P.parts parts.old) < 2 ^ 64 }
+        requires next { IsNext (opening self.now) (history turn) (Parts.parts parts.old) }
+        requires fits { end_of (last_of (opening self.now).start (history turn)) (Parts.parts parts.old) < 2 ^ 64 }
         ensures ours { ours self.now seat.new }
-        ensures launched { Launches (opening self.now).start (account seat.old) (history turn) (P.parts parts.old)
+        ensures launched { Launches (opening self.now).start (account seat.old) (history turn) (Parts.parts parts.old)
             (account seat.new) }
-        ensures emptied { P.parts parts.new ≡ [] }
-        ensures room { P.room parts.new ≡ P.room parts.old };
+        ensures emptied { Parts.parts parts.new ≡ [] }
+        ensures room { Parts.room parts.new ≡ Parts.room parts.old };
 
     /// Waits until the client's part is handed out, and takes it.
     fn take<R: Wait>(&self, rt: &R, seat: &mut Self::Seat) -> Self::Part

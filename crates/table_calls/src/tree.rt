@@ -18,8 +18,8 @@ pub trait VersionNode {
     ghost version: { Self → Version };
 }
 
-impl<V: VersionNode> VersionNode for Box<V> {
-    ghost version = { λ n. V.version n.value };
+impl<Node: VersionNode> VersionNode for Box<Node> {
+    ghost version = { λ n. Node.version n.value };
 }
 
 /// A member's nodes, in the order of their sequences.
@@ -34,15 +34,15 @@ pub trait VersionNodes: Versioned {
 }
 
 /// An ordered tree of versions.
-pub trait VersionTree<B: VersionNode>: Versioned {
+pub trait VersionTree<Node: VersionNode>: Versioned {
     /// A tree of no versions. This takes no memory.
     fn new() -> Self
         ensures { Self.versions result ≡ [] };
 
     /// Puts a node in whose sequence no other of the tree has. This takes no memory.
-    fn insert(&mut self, node: B)
-        requires { (v : Version) → In v (Self.versions self.old) → v.sequence ≢ (B.version node).sequence }
-        ensures { Adds (Self.versions self.old) (B.version node) (Self.versions self.new) };
+    fn insert(&mut self, node: Node)
+        requires { (v : Version) → In v (Self.versions self.old) → v.sequence ≢ (Node.version node).sequence }
+        ensures { Adds (Self.versions self.old) (Node.version node) (Self.versions self.new) };
 
     /// The key's value as of a sequence: what the map has that the versions make up to it.
     fn lookup(&self, key: &[u8], at: u64) -> Option<&[u8]>

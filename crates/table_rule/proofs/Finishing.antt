@@ -22,7 +22,7 @@ use Rattle.table_rule.proofs.Histories.{in_left, in_right, in_split, begins_same
 use Rattle.table_rule.proofs.Parts.{IsOpen}
 use Rattle.table_rule.proofs.Moves.{TableState, Homes, shard_stays, place_stays, moved, allows, progress_moves}
 use Rattle.table_rule.specs.Events.{table_now, progress_of, is_running, count_running, to_finish, is_finished, OnlyMember, IsFinish, IsPublish, now_of, IsNow, Comes, StepIs}
-use Rattle.table_rule.specs.Steps.{counted, ending, publishes}
+use Rattle.table_rule.specs.Steps.{after_count, stage_after_finish, after_publish}
 use Rattle.table_rule.proofs.Locks.{own, launched_in, IsWithMember, Rule, knows_member}
 use Rattle.table_rule.proofs.Parts.{all_done, one_less, none_open, in_group, parts_put, fit_put, finished_at, finished_parts, stored_group}
 use Rattle.table_rule.proofs.Histories.{some_snoc, runs_append, member_or}
@@ -46,7 +46,7 @@ gone_open p gone is = ⊎_elim (λ (t : p ≡ out). absurd (subst IsOpen t is)) 
 gone_coming : (p : Place) → IsGone p → IsComing p → ⊥
 gone_coming p gone is = ⊎_elim (λ (t : p ≡ out). absurd (subst IsComing t is)) (λ (t : (l : ℕ) × (vs : List Version) × (p ≡ finished l vs)). absurd (subst IsComing t.2 is)) gone
 
-module _ {T N : Type 0} (held_by : T → List Version) (nodes_of : N → List Version) (z : Opening) where
+module _ {ShardTree MemberNodes : Type 0} (held_by : ShardTree → List Version) (nodes_of : MemberNodes → List Version) (z : Opening) where
   -- the last part is finished: what others know
   knows_ended : (published : List (List MemberVersions)) (mode : Mode) (place : ℕ → Place) (lock : ℕ → ShardState) (g : List MemberVersions) (c k : ℕ) → mode ≡ running g → ((i : ℕ) → IsGone (place i)) → (seen : List (List MemberVersions)) (st : Stage)
       → Knows z.shards z.start published mode place lock k seen st → Knows z.shards z.start published (ended c g) place lock k seen st
@@ -115,7 +115,7 @@ module _ {T N : Type 0} (held_by : T → List Version) (nodes_of : N → List Ve
           others = λ j ne seen st ok. others j (λ e. ne (e ∙ sym c_is)) seen st (knows_member held_by nodes_of z r.published r.mode r.place r.lock r.lock c (finished l vs) j (λ e. ne (e ∙ sym c_is)) (λ l' us' bad. absurd (subst IsWithMember (sym now ∙ bad) tt)) (λ l' us' bad. absurd (subst IsWithMember (sym now ∙ bad) tt)) seen st ok);
         }
 
-  pub others_end : (u : Launched) (x : ℕ) → x ≢ 1 → ending u x ≡ Idle
+  pub others_end : (u : Launched) (x : ℕ) → x ≢ 1 → stage_after_finish u x ≡ Idle
   others_end u zero ne = refl
   others_end u (suc zero) ne = absurd (ne refl)
   others_end u (suc (suc x)) ne = refl
@@ -148,7 +148,7 @@ module _ {T N : Type 0} (held_by : T → List Version) (nodes_of : N → List Ve
       as_open (finished l vs) = refl
 
   -- the fetch-sub of RUNNING
-  pub counts_is : (slots id : ℕ) (me : SeatNow T N) (c k : ℕ) (seen : List (List MemberVersions)) (u : Launched) → k ≡ z.shards + 1 → IsAt c z seen Free (Stored u) me → StepIs held_by nodes_of (IsFinish c) z slots id me k (λ n. (n + (2 ^ 64 - 1)) % 2 ^ 64) (counted (step slots k 1 0 none) me)
+  pub counts_is : (slots id : ℕ) (me : SeatNow ShardTree MemberNodes) (c k : ℕ) (seen : List (List MemberVersions)) (u : Launched) → k ≡ z.shards + 1 → IsAt c z seen Free (Stored u) me → StepIs held_by nodes_of (IsFinish c) z slots id me k (λ n. (n + (2 ^ 64 - 1)) % 2 ^ 64) (after_count (step slots k 1 0 none) me)
   counts_is slots id me c k seen u is mid s r long at fits =
       let h : SeatState = seat_state c z seen Free (Stored u) in
       let at' : get_elem? s.views id ≡ some (h ∷ []) = at ∙ ap some mid in
@@ -172,7 +172,7 @@ module _ {T N : Type 0} (held_by : T → List Version) (nodes_of : N → List Ve
       let y_is : y ≡ unfinished place g = omega arith in
       let parts : AllParts place (end_of last g) g = parts_put r.place c (finished l vs) (end_of last g) g (λ us o. subst (InPart (end_of last g) us) now o) ok.2 in
       let fit' : IsLaunched z.clients y place last g = fit_put r.place c (finished l vs) z.clients (get_or s.words (z.shards + 1) 0) y last g (λ e. subst IsOpen (sym now ∙ e) tt) ok.3 in
-      let h' : SeatState = seat_state c z seen Free (ending u x) in
+      let h' : SeatState = seat_state c z seen Free (stage_after_finish u x) in
       let was : OnlyMember c to_finish is_finished (now_of held_by nodes_of z s r) (table_now r.published r.mode place) = progress_moves r.published r.mode r.mode r.place c (inserted l vs) (finished l vs) now in
       let rule : Comes held_by nodes_of (IsFinish c x) z (now_of held_by nodes_of z s r) (record { words = set s.words (z.shards + 1) y; homes = s.homes; views = set s.views id (h' ∷ []) }) = dite (ℕ_discrete x 1)
       (λ (e : x ≡ 1).
@@ -181,7 +181,7 @@ module _ {T N : Type 0} (held_by : T → List Version) (nodes_of : N → List Ve
         table_now r.published (ended c g) place,
         (g, running_now, p, x_open ∙ open_running r.place g, (was.0, was.1, was.2, was.3), (λ _. (refl, λ q h. ap progress_of (finished_at place (end_of last g) g q all h))), (λ ne. absurd (ne e))),
         counts_to s r c l vs now g running_now x y id h h' (ended c g) at' refl refl refl refl refl (y_is ∙ none_left, all, fit')
-            (subst (λ (i : ℕ). Knows z.shards z.start r.published (ended c g) place r.lock c seen (ending u i)) (sym e) (subst NotTaken (sym (put_here r.place c (finished l vs))) tt, refl, fit.5.1.1))
+            (subst (λ (i : ℕ). Knows z.shards z.start r.published (ended c g) place r.lock c seen (stage_after_finish u i)) (sym e) (subst NotTaken (sym (put_here r.place c (finished l vs))) tt, refl, fit.5.1.1))
             (λ j ne. knows_ended r.published r.mode place r.lock g c j running_now (all_gone z.clients y place last g all fit')),
       ))
       (λ (ne : x ≢ 1). (
@@ -196,7 +196,7 @@ module _ {T N : Type 0} (held_by : T → List Version) (nodes_of : N → List Ve
         tt,
         subst (λ (i : ℕ). Comes held_by nodes_of (IsFinish c x) z (now_of held_by nodes_of z s r) (record { words = set s.words i y; homes = s.homes; views = set s.views id (h' ∷ []) })) (sym is) rule,
         λ c' z' seen' u' mid'. let e = sym mid ∙ mid' in let u_is : u ≡ u' = ap (λ w. launched_in u (own w).stage) e in (
-          (λ i. seat_state (own (e i)).client (own (e i)).opening (own (e i)).seen (own (e i)).lock (ending (u_is i) x) ∷ []),
+          (λ i. seat_state (own (e i)).client (own (e i)).opening (own (e i)).seen (own (e i)).lock (stage_after_finish (u_is i) x) ∷ []),
           refl,
           low,
           let few = few_open r.place g in subst (λ (v : Launched). x ≤ length v.group) u_is (omega arith),
@@ -209,8 +209,8 @@ module _ {T N : Type 0} (held_by : T → List Version) (nodes_of : N → List Ve
       all_gone : (n word : ℕ) (place : ℕ → Place) (last : ℕ) (g : List MemberVersions) → AllFinished place (end_of last g) g → IsLaunched n word place last g → (i : ℕ) → IsGone (place i)
       all_gone n word place last g all fit i = all_done n word place last g all fit i
 
-  pub counts : (slots id : ℕ) (me : SeatNow T N) (c k : ℕ) (seen : List (List MemberVersions)) (u : Launched) → k ≡ z.shards + 1 → IsAt c z seen Free (Stored u) me → Allows (Rule held_by nodes_of z) slots id me k (λ n. (n + (2 ^ 64 - 1)) % 2 ^ 64) (counted (step slots k 1 0 none) me)
-  counts slots id me c k seen u is mid = allows held_by nodes_of (IsFinish c) z slots id me k (λ n. (n + (2 ^ 64 - 1)) % 2 ^ 64) (counted (step slots k 1 0 none) me) (counts_is slots id me c k seen u is mid)
+  pub counts : (slots id : ℕ) (me : SeatNow ShardTree MemberNodes) (c k : ℕ) (seen : List (List MemberVersions)) (u : Launched) → k ≡ z.shards + 1 → IsAt c z seen Free (Stored u) me → Allows (Rule held_by nodes_of z) slots id me k (λ n. (n + (2 ^ 64 - 1)) % 2 ^ 64) (after_count (step slots k 1 0 none) me)
+  counts slots id me c k seen u is mid = allows held_by nodes_of (IsFinish c) z slots id me k (λ n. (n + (2 ^ 64 - 1)) % 2 ^ 64) (after_count (step slots k 1 0 none) me) (counts_is slots id me c k seen u is mid)
 
   -- all that a published group leaves: each place is out
   row_out : (words : List ℕ) (homes : Homes held_by nodes_of) (i : ℕ) (p : Place) → IsGone p → InPlace held_by nodes_of z.shards words homes i p → InPlace held_by nodes_of z.shards words homes i out
@@ -240,7 +240,7 @@ module _ {T N : Type 0} (held_by : T → List Version) (nodes_of : N → List Ve
   knows_published published mode place lock g c k ne is gone seen (Filling h p ps) ok = absurd (gone_open (place p.member) (gone p.member) (subst IsOpen (sym ok.3) tt))
 
   -- the store of LAST
-  pub publishes_is : (slots id : ℕ) (me : SeatNow T N) (c k : ℕ) (seen : List (List MemberVersions)) (u : Launched) (l : ℕ) → l ≡ u.last → k ≡ z.shards → IsAt c z seen Free (Publishing u) me → StepIs held_by nodes_of (λ _. IsPublish c) z slots id me k (λ _. l) (λ _. publishes (step slots k l 0 none) me l)
+  pub publishes_is : (slots id : ℕ) (me : SeatNow ShardTree MemberNodes) (c k : ℕ) (seen : List (List MemberVersions)) (u : Launched) (l : ℕ) → l ≡ u.last → k ≡ z.shards → IsAt c z seen Free (Publishing u) me → StepIs held_by nodes_of (λ _. IsPublish c) z slots id me k (λ _. l) (λ _. after_publish (step slots k l 0 none) me l)
   publishes_is slots id me c k seen u l l_is is mid s r long at fits =
       let h : SeatState = seat_state c z seen Free (Publishing u) in
       let at' : get_elem? s.views id ≡ some (h ∷ []) = at ∙ ap some mid in
@@ -308,5 +308,5 @@ module _ {T N : Type 0} (held_by : T → List Version) (nodes_of : N → List Ve
             ),
       )
 
-  pub publishes_all : (slots id : ℕ) (me : SeatNow T N) (c k : ℕ) (seen : List (List MemberVersions)) (u : Launched) (l : ℕ) → l ≡ u.last → k ≡ z.shards → IsAt c z seen Free (Publishing u) me → Allows (Rule held_by nodes_of z) slots id me k (λ _. l) (λ _. publishes (step slots k l 0 none) me l)
-  publishes_all slots id me c k seen u l l_is is mid = allows held_by nodes_of (λ _. IsPublish c) z slots id me k (λ _. l) (λ _. publishes (step slots k l 0 none) me l) (publishes_is slots id me c k seen u l l_is is mid)
+  pub publishes_all : (slots id : ℕ) (me : SeatNow ShardTree MemberNodes) (c k : ℕ) (seen : List (List MemberVersions)) (u : Launched) (l : ℕ) → l ≡ u.last → k ≡ z.shards → IsAt c z seen Free (Publishing u) me → Allows (Rule held_by nodes_of z) slots id me k (λ _. l) (λ _. after_publish (step slots k l 0 none) me l)
+  publishes_all slots id me c k seen u l l_is is mid = allows held_by nodes_of (λ _. IsPublish c) z slots id me k (λ _. l) (λ _. after_publish (step slots k l 0 none) me l) (publishes_is slots id me c k seen u l l_is is mid)

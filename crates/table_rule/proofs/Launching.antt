@@ -18,7 +18,7 @@ use Rattle.table_rule.proofs.Histories.{begins_same, last_snoc}
 use Rattle.table_rule.proofs.Parts.{IsOpen}
 use Rattle.table_rule.proofs.Moves.{TableState, Homes, shard_stays, place_stays, moved, all_moved, Goes, unmoved, same_now, allows}
 use Rattle.table_rule.specs.Events.{table_now, progress_of, to_insert, IsMember, Stays, IsLaunch, now_of, IsNow, StepIs}
-use Rattle.table_rule.specs.Steps.{launched, awaited, has_part, after_launch}
+use Rattle.table_rule.specs.Steps.{after_launch, after_await, has_part, stage_after_launch}
 use Rattle.std.proofs.lemmas.Bool.{eq-eqb, ne_eqb}
 use Rattle.table_rule.proofs.Locks.{one, own, loaded, Rule}
 use Rattle.table_rule.proofs.Parts.{placed, placed_out, placed_is, placed_coming, coming_at, coming_parts, coming_open}
@@ -41,18 +41,18 @@ has_none : (c : ℕ) (g : List MemberVersions) → Apart c g → has_part c g �
 has_none c [] a = refl
 has_none c (q ∷ qs) a = ap (λ b. b || has_part c qs) (ne_eqb q.member c a.0) ∙ has_none c qs a.1
 
-pub launched_own : (c : ℕ) (u : Launched) → IsMember c u.group → after_launch c u ≡ Waiting u
+pub launched_own : (c : ℕ) (u : Launched) → IsMember c u.group → stage_after_launch c u ≡ Waiting u
 launched_own c u is = ap (λ b. if b then Waiting u else Idle) (has_member c u.group is)
 
-pub launched_other : (c : ℕ) (u : Launched) → Apart c u.group → after_launch c u ≡ Idle
+pub launched_other : (c : ℕ) (u : Launched) → Apart c u.group → stage_after_launch c u ≡ Idle
 launched_other c u a = ap (λ b. if b then Waiting u else Idle) (has_none c u.group a)
 
-module _ {T N : Type 0} (held_by : T → List Version) (nodes_of : N → List Version) (z : Opening) where
+module _ {ShardTree MemberNodes : Type 0} (held_by : ShardTree → List Version) (nodes_of : MemberNodes → List Version) (z : Opening) where
   -- the view of a client and of the turn, when the group g is launched
   begun : List MemberVersions → List SeatState → List SeatState
   begun g [] = []
   begun g (h ∷ []) = []
-  begun g (h ∷ t ∷ ts) = seat_state h.client h.opening h.seen h.lock (after_launch h.client (launched_behind t.opening.start t.seen g)) ∷ seat_state t.client t.opening t.seen t.lock (Handing g g) ∷ []
+  begun g (h ∷ t ∷ ts) = seat_state h.client h.opening h.seen h.lock (stage_after_launch h.client (launched_behind t.opening.start t.seen g)) ∷ seat_state t.client t.opening t.seen t.lock (Handing g g) ∷ []
 
   -- nothing is launched: what the clients know while the turn launches
   knows_launched : (published : List (List MemberVersions)) (place place' : ℕ → Place) (lock : ℕ → ShardState) (g : List MemberVersions) (mode : Mode) (k : ℕ) → k ≢ 0 → mode ≡ still → ((i : ℕ) → place i ≡ out) → ((i : ℕ) → NotTaken (place' i)) → (seen : List (List MemberVersions)) (st : Stage)
@@ -69,15 +69,15 @@ module _ {T N : Type 0} (held_by : T → List Version) (nodes_of : N → List Ve
 
   -- what the client knows that launches, of its own part or of none
   knows_own : (published : List (List MemberVersions)) (place : ℕ → Place) (lock : ℕ → ShardState) (g : List MemberVersions) (seen : List (List MemberVersions)) (c : ℕ) (u : Launched) → ((p : MemberVersions) → In p g → p.member ≡ c → IsComing (place c)) → NotTaken (place c)
-      → u.group ≡ g → IsRunning z.shards z.start published (running g) place lock c u → Knows z.shards z.start published (running g) place lock c seen (after_launch c u)
+      → u.group ≡ g → IsRunning z.shards z.start published (running g) place lock c u → Knows z.shards z.start published (running g) place lock c seen (stage_after_launch c u)
   knows_own published place lock g seen c u mine free same runs = ⊎_elim
       (λ (t : IsMember c u.group). subst (Knows z.shards z.start published (running g) place lock c seen) (sym (launched_own c u t)) (mine t.0 (subst (In t.0) same t.1) t.2, runs))
       (λ (t : Apart c u.group). subst (Knows z.shards z.start published (running g) place lock c seen) (sym (launched_other c u t)) free)
       (member_or c u.group)
 
   -- the store of RUNNING, by a client that has the turn
-  pub launches_is : (slots id : ℕ) (me : SeatNow T N) (c k x : ℕ) (own_seen seen : List (List MemberVersions)) (g : List MemberVersions) → k ≡ z.shards + 1 → x ≡ length g → 0 < c → IsWithTurn c z own_seen Idle seen Resting me
-      → Runs (last_of z.start seen) (versions_in g) → 0 < length (versions_in g) → Members z.clients g → StepIs held_by nodes_of (λ _. IsLaunch g) z slots id me k (λ _. x) (λ _. launched g (step slots k x 0 none) me x)
+  pub launches_is : (slots id : ℕ) (me : SeatNow ShardTree MemberNodes) (c k x : ℕ) (own_seen seen : List (List MemberVersions)) (g : List MemberVersions) → k ≡ z.shards + 1 → x ≡ length g → 0 < c → IsWithTurn c z own_seen Idle seen Resting me
+      → Runs (last_of z.start seen) (versions_in g) → 0 < length (versions_in g) → Members z.clients g → StepIs held_by nodes_of (λ _. IsLaunch g) z slots id me k (λ _. x) (λ _. after_launch g (step slots k x 0 none) me x)
   unfolding begun
   launches_is slots id me c k x own_seen seen g is count low mid run nonempty members s r long at fits =
       let h : SeatState = seat_state c z own_seen Free Idle in
@@ -92,14 +92,14 @@ module _ {T N : Type 0} (held_by : T → List Version) (nodes_of : N → List Ve
       let place : ℕ → Place = placed end g in
       let come : AllComing place end g = placed_coming z.clients end g members in
       let u : Launched = launched_behind z.start seen g in
-      let h' : SeatState = seat_state c z own_seen Free (after_launch c u) in
+      let h' : SeatState = seat_state c z own_seen Free (stage_after_launch c u) in
       let t' : SeatState = seat_state 0 z seen Free (Handing g g) in
       let ws : List ℕ = set s.words (z.shards + 1) x in
       let w : (i : ℕ) → i ≢ z.shards + 1 → get_or ws i 0 ≡ get_or s.words i 0 = λ i ne. get_or-set_other s.words (z.shards + 1) i x 0 (λ e. ne (omega arith)) in
       let wide : length s.words ≡ z.shards + 2 + z.clients = r.wide in
       let run' : Runs last (versions_in g) = subst (λ (l : List (List MemberVersions)). Runs (last_of z.start l) (versions_in g)) (sym fit.5.2) run in
       let nothing : (i : ℕ) (v : Version) → In v (stored_in (r.place i)) → ⊥ = λ i v h. subst (λ (p : Place). In v (stored_in p)) (ok.1 i) h in
-      let waits : Knows z.shards z.start r.published (running g) place r.lock c own_seen (after_launch c u) = knows_own r.published place r.lock g own_seen c u
+      let waits : Knows z.shards z.start r.published (running g) place r.lock c own_seen (stage_after_launch c u) = knows_own r.published place r.lock g own_seen c u
       (λ p there is. subst (λ (i : ℕ). IsComing (place i)) is (subst IsComing (sym (coming_at place end g p come there)) tt))
       (free_in end (place c) (placed_is end g c)) refl (refl, (fit.5.2, ap (λ (b : List (List MemberVersions)). end_of (last_of z.start b) g) (sym fit.5.2))) in
       let rule : IsNow held_by nodes_of z (table_now r.published (running g) place) (record { words = ws; homes = s.homes; views = set s.views id (h' ∷ t' ∷ []) }) = all_moved held_by nodes_of z s r id ws s.homes (h ∷ t ∷ []) (h' ∷ t' ∷ []) r.published (running g) place r.lock record {
@@ -159,12 +159,12 @@ module _ {T N : Type 0} (held_by : T → List Version) (nodes_of : N → List Ve
           (λ (t : (vs : List Version) × (p ≡ coming end vs)). subst NotTaken (sym t.1) tt)
           way
 
-  pub launches : (slots id : ℕ) (me : SeatNow T N) (c k x : ℕ) (own_seen seen : List (List MemberVersions)) (g : List MemberVersions) → k ≡ z.shards + 1 → x ≡ length g → 0 < c → IsWithTurn c z own_seen Idle seen Resting me
-      → Runs (last_of z.start seen) (versions_in g) → 0 < length (versions_in g) → Members z.clients g → Allows (Rule held_by nodes_of z) slots id me k (λ _. x) (λ _. launched g (step slots k x 0 none) me x)
-  launches slots id me c k x own_seen seen g is count low mid run nonempty members = allows held_by nodes_of (λ _. IsLaunch g) z slots id me k (λ _. x) (λ _. launched g (step slots k x 0 none) me x) (launches_is slots id me c k x own_seen seen g is count low mid run nonempty members)
+  pub launches : (slots id : ℕ) (me : SeatNow ShardTree MemberNodes) (c k x : ℕ) (own_seen seen : List (List MemberVersions)) (g : List MemberVersions) → k ≡ z.shards + 1 → x ≡ length g → 0 < c → IsWithTurn c z own_seen Idle seen Resting me
+      → Runs (last_of z.start seen) (versions_in g) → 0 < length (versions_in g) → Members z.clients g → Allows (Rule held_by nodes_of z) slots id me k (λ _. x) (λ _. after_launch g (step slots k x 0 none) me x)
+  launches slots id me c k x own_seen seen g is count low mid run nonempty members = allows held_by nodes_of (λ _. IsLaunch g) z slots id me k (λ _. x) (λ _. after_launch g (step slots k x 0 none) me x) (launches_is slots id me c k x own_seen seen g is count low mid run nonempty members)
 
   -- the turn's load of LAST
-  module _ (slots id : ℕ) (me : SeatNow T N) (k : ℕ) (seen : List (List MemberVersions)) (g : List MemberVersions) (is : k ≡ z.shards) (mid : IsAt 0 z seen Free (Handing g []) me)
+  module _ (slots id : ℕ) (me : SeatNow ShardTree MemberNodes) (k : ℕ) (seen : List (List MemberVersions)) (g : List MemberVersions) (is : k ≡ z.shards) (mid : IsAt 0 z seen Free (Handing g []) me)
       (s : TableState held_by nodes_of) (r : Rule held_by nodes_of z s) (at : get_elem? s.views id ≡ some me.0) where
     abbrev found : ℕ
     found = get_or s.words k 0
@@ -187,7 +187,7 @@ module _ {T N : Type 0} (held_by : T → List Version) (nodes_of : N → List Ve
         group_in (Handing g ps) = g
         group_in (Filling g p ps) = g
 
-    waits : r.published ≡ seen → 0 < length (versions_in g) → Goes held_by nodes_of (λ _. Stays) z s (now_of held_by nodes_of z s r) k id me (awaited (step slots k 0 0 none) me) found
+    waits : r.published ≡ seen → 0 < length (versions_in g) → Goes held_by nodes_of (λ _. Stays) z s (now_of held_by nodes_of z s r) k id me (after_await (step slots k 0 0 none) me) found
     waits same nonempty =
         let low : found ≡ last_of z.start seen = found_is ∙ ap (last_of z.start) same in
         let ne : found ≢ end_of (last_of z.start seen) g = λ e. omega arith in (
@@ -211,7 +211,7 @@ module _ {T N : Type 0} (held_by : T → List Version) (nodes_of : N → List Ve
         group (Handing g ps) = g
         group (Filling g p ps) = g
 
-    rests : r.mode ≡ still → r.published ≡ seen ++ g ∷ [] → Goes held_by nodes_of (λ _. Stays) z s (now_of held_by nodes_of z s r) k id me (awaited (step slots k 0 0 none) me) found
+    rests : r.mode ≡ still → r.published ≡ seen ++ g ∷ [] → Goes held_by nodes_of (λ _. Stays) z s (now_of held_by nodes_of z s r) k id me (after_await (step slots k 0 0 none) me) found
     unfolding rests_on
     rests mode_was same =
         let h : SeatState = seat_state 0 z seen Free (Handing g []) in
@@ -250,7 +250,7 @@ module _ {T N : Type 0} (held_by : T → List Version) (nodes_of : N → List Ve
           λ z' seen' g' mid'. ((λ _. (ap (one rests_on) (sym mid ∙ mid'), refl)), λ ne. absurd (ne (done ∙ same_goal z' seen' g' mid'))),
         )
 
-    awaits_all : Goes held_by nodes_of (λ _. Stays) z s (now_of held_by nodes_of z s r) k id me (awaited (step slots k 0 0 none) me) found
+    awaits_all : Goes held_by nodes_of (λ _. Stays) z s (now_of held_by nodes_of z s r) k id me (after_await (step slots k 0 0 none) me) found
     awaits_all =
         let fit = (r.seats id (seat_state 0 z seen Free (Handing g []) ∷ []) (at ∙ ap some mid)).0 in
         ⊎_elim
@@ -260,8 +260,8 @@ module _ {T N : Type 0} (held_by : T → List Version) (nodes_of : N → List Ve
         (λ (u : (r.mode ≡ still) × (r.published ≡ seen ++ g ∷ [])). rests u.0 u.1) t)
         fit.5.1
 
-  pub awaits_is : (slots id : ℕ) (me : SeatNow T N) (k : ℕ) (seen : List (List MemberVersions)) (g : List MemberVersions) → k ≡ z.shards → IsAt 0 z seen Free (Handing g []) me → StepIs held_by nodes_of (λ _. Stays) z slots id me k (λ y. y) (awaited (step slots k 0 0 none) me)
+  pub awaits_is : (slots id : ℕ) (me : SeatNow ShardTree MemberNodes) (k : ℕ) (seen : List (List MemberVersions)) (g : List MemberVersions) → k ≡ z.shards → IsAt 0 z seen Free (Handing g []) me → StepIs held_by nodes_of (λ _. Stays) z slots id me k (λ y. y) (after_await (step slots k 0 0 none) me)
   awaits_is slots id me k seen g is mid s r long at fits = awaits_all slots id me k seen g is mid s r at
 
-  pub awaits : (slots id : ℕ) (me : SeatNow T N) (k : ℕ) (seen : List (List MemberVersions)) (g : List MemberVersions) → k ≡ z.shards → IsAt 0 z seen Free (Handing g []) me → Allows (Rule held_by nodes_of z) slots id me k (λ y. y) (awaited (step slots k 0 0 none) me)
-  awaits slots id me k seen g is mid = allows held_by nodes_of (λ _. Stays) z slots id me k (λ y. y) (awaited (step slots k 0 0 none) me) (awaits_is slots id me k seen g is mid)
+  pub awaits : (slots id : ℕ) (me : SeatNow ShardTree MemberNodes) (k : ℕ) (seen : List (List MemberVersions)) (g : List MemberVersions) → k ≡ z.shards → IsAt 0 z seen Free (Handing g []) me → Allows (Rule held_by nodes_of z) slots id me k (λ y. y) (after_await (step slots k 0 0 none) me)
+  awaits slots id me k seen g is mid = allows held_by nodes_of (λ _. Stays) z slots id me k (λ y. y) (after_await (step slots k 0 0 none) me) (awaits_is slots id me k seen g is mid)

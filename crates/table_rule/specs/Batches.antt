@@ -4,14 +4,14 @@ use Rattle.model_base.specs.Batch.{Record, value, deletion, single_deletion, log
 use Rattle.table_rule.specs.declared.content.Version.{Version}
 
 -- one for each record that counts, with the sequence 0; a single deletion makes one like a deletion
-abbrev pub made : List Record → List Version
-made [] = []
-made (value key v ∷ records) = record { key = key; value = Some v; sequence = 0 } ∷ made records
-made (deletion key ∷ records) = record { key = key; value = None; sequence = 0 } ∷ made records
-made (single_deletion key ∷ records) = record { key = key; value = None; sequence = 0 } ∷ made records
-made (log_data blob ∷ records) = made records
+abbrev pub new_versions : List Record → List Version
+new_versions [] = []
+new_versions (value key v ∷ records) = record { key = key; value = Some v; sequence = 0 } ∷ new_versions records
+new_versions (deletion key ∷ records) = record { key = key; value = None; sequence = 0 } ∷ new_versions records
+new_versions (single_deletion key ∷ records) = record { key = key; value = None; sequence = 0 } ∷ new_versions records
+new_versions (log_data blob ∷ records) = new_versions records
 
 -- the same versions, with sequences from one on
-abbrev pub numbered : ℕ → List Version → List Version
-numbered first [] = []
-numbered first (v ∷ versions) = record v { sequence = first } ∷ numbered (first + 1) versions
+abbrev pub number_from : ℕ → List Version → List Version
+number_from first [] = []
+number_from first (v ∷ versions) = record v { sequence = first } ∷ number_from (first + 1) versions

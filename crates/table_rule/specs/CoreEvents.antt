@@ -8,7 +8,7 @@ use Rattle.model_core.specs.Core.{Options, Writer, Client, still as at_rest, lau
 use Rattle.model_core.specs.Step.{step, is_last, group_last}
 use Rattle.table_rule.specs.declared.content.MemberVersions.{MemberVersions}
 use Rattle.table_rule.specs.declared.content.Version.{Version}
-use Rattle.table_rule.specs.Batches.{made, numbered}
+use Rattle.table_rule.specs.Batches.{new_versions, number_from}
 use Rattle.table_rule.specs.Histories.{In, last_of}
 use Rattle.table_rule.specs.Rule.{Mode, still, running, ended}
 use Rattle.table_rule.specs.Events.{Progress, to_insert, to_finish, is_finished, TableNow}
@@ -18,7 +18,7 @@ use Rattle.table_rule.specs.Events.{Progress, to_insert, to_finish, is_finished,
 -- the versions that a batch makes, from the first sequence of its run on
 abbrev pub versions_from : Option ℕ → List Record → List Version
 versions_from None records = []
-versions_from (Some first) records = numbered first (made records)
+versions_from (Some first) records = number_from first (new_versions records)
 
 -- the versions of writers, one after another
 abbrev pub versions_by : List Writer → List Version

@@ -86,26 +86,29 @@ abbrev pub IsPublish : ℕ → TableNow → TableNow → Type 0
 IsPublish m a b = (g : List MemberVersions) × (a.mode ≡ ended m g) × (b.mode ≡ still)
     × (b.published ≡ a.published ++ g ∷ []) × ((i : ℕ) → b.progress i ≡ to_insert)
 
-module _ {T N : Type 0} (held_by : T → List Version) (nodes_of : N → List Version) where
-  abbrev pub now_of : (z : Opening) (s : State (Content T N) (List SeatState)) → IsConsistent held_by nodes_of z s
+module _ {ShardTree MemberNodes : Type 0} (held_by : ShardTree → List Version)
+    (nodes_of : MemberNodes → List Version) where
+  abbrev pub now_of : (z : Opening) (s : State (Content ShardTree MemberNodes) (List SeatState))
+      → IsConsistent held_by nodes_of z s
       → TableNow
   now_of z s r = table_now r.published r.mode r.place
 
   -- the table keeps the rule, and is this now
-  abbrev pub IsNow : Opening → TableNow → State (Content T N) (List SeatState) → Type 0
+  abbrev pub IsNow : Opening → TableNow → State (Content ShardTree MemberNodes) (List SeatState) → Type 0
   IsNow z now s = (r : IsConsistent held_by nodes_of z s) × (now_of z s r ≡ now)
 
   -- the table keeps the rule, and the event was
-  abbrev pub Comes : (TableNow → TableNow → Type 0) → Opening → TableNow → State (Content T N) (List SeatState) → Type 0
+  abbrev pub Comes : (TableNow → TableNow → Type 0) → Opening → TableNow
+      → State (Content ShardTree MemberNodes) (List SeatState) → Type 0
   Comes event z before s = (now : TableNow) × event before now × IsNow z now s
 
   -- Whatever the table is as the seat makes its step on the word i, which becomes f of what it was: the rule is kept,
   -- the step is the event, and `then` holds of the number found and of the seat after.
-  abbrev pub StepIs : (ℕ → TableNow → TableNow → Type 0) → Opening → ℕ → ℕ → SeatNow T N → ℕ → (ℕ → ℕ)
-      → (ℕ → SeatNow T N → Type 0) → Type 0
+  abbrev pub StepIs : (ℕ → TableNow → TableNow → Type 0) → Opening → ℕ → ℕ → SeatNow ShardTree MemberNodes → ℕ → (ℕ → ℕ)
+      → (ℕ → SeatNow ShardTree MemberNodes → Type 0) → Type 0
   StepIs event z slots id me i f then =
-      (s : State (Content T N) (List SeatState)) (r : IsConsistent held_by nodes_of z s)
+      (s : State (Content ShardTree MemberNodes) (List SeatState)) (r : IsConsistent held_by nodes_of z s)
       → length s.homes ≡ slots → get_elem? s.views id ≡ some me.0 → slice_index s.words i < 18446744073709551616
-      → (w : List SeatState) × (a : Act (Content T N)) × Valid s.homes me.1 a
+      → (w : List SeatState) × (a : Act (Content ShardTree MemberNodes)) × Valid s.homes me.1 a
       × Comes (event (slice_index s.words i)) z (now_of z s r) (stepped s i (f (slice_index s.words i)) id me.1 w a)
       × then (slice_index s.words i) (w, carried_after me.1 a)

@@ -66,12 +66,12 @@ abbrev pub of_shard : ℕ → ℕ → List Version → List Version
 of_shard shards j vs = filter (λ v. shard_of shards v == j) vs
 
 -- what a version does to the map
-abbrev pub written : List ℕ → Option (List ℕ) → Record
-written key (Some v) = model.value key v
-written key None = model.deletion key
+abbrev pub record_writing : List ℕ → Option (List ℕ) → Record
+record_writing key (Some v) = model.value key v
+record_writing key None = model.deletion key
 
 abbrev pub record_of : Version → Record
-record_of v = written v.key v.value
+record_of v = record_writing v.key v.value
 
 abbrev pub map_of : List Version → Pairs
 map_of vs = after_records [] (map record_of vs)

@@ -18,7 +18,7 @@ use Rattle.table_rule.specs.Histories.{In, versions_in, versions_of, Runs, last_
 use Rattle.table_rule.specs.Rule.{seat_state, end_of}
 
 abbrev pub SeatNow : Type 0 → Type 0 → Type 0
-SeatNow T N = Me (Content T N) (List SeatState)
+SeatNow ShardTree MemberNodes = Me (Content ShardTree MemberNodes) (List SeatState)
 
 abbrev pub work : Launched → List Version → List Version → Work
 work u done more = record { launched = u; done = done; rest = more }
@@ -32,8 +32,8 @@ abbrev pub has_part : ℕ → List MemberVersions → Bool
 has_part c g = list_any (λ (p : MemberVersions). p.member == c) g
 
 -- where the client stands that has launched the group: it is to take its own part of it, if it has one
-abbrev pub after_launch : ℕ → Launched → Stage
-after_launch c u = if has_part c u.group then Waiting u else Idle
+abbrev pub stage_after_launch : ℕ → Launched → Stage
+stage_after_launch c u = if has_part c u.group then Waiting u else Idle
 
 -- a member's versions, as a part of a group
 abbrev pub part_of : ℕ → List Version → MemberVersions
@@ -59,10 +59,10 @@ abbrev pub AreOfShard : ℕ → ℕ → List Version → Type 0
 AreOfShard k j vs = (v : Version) → In v vs → shard_of k v ≡ j
 
 -- the fetch-sub of RUNNING: the one that found 1 may publish
-abbrev pub ending : Launched → ℕ → Stage
-ending u zero = Idle
-ending u (suc zero) = Publishing u
-ending u (suc (suc r)) = Idle
+abbrev pub stage_after_finish : Launched → ℕ → Stage
+stage_after_finish u zero = Idle
+stage_after_finish u (suc zero) = Publishing u
+stage_after_finish u (suc (suc r)) = Idle
 
 -- what is still to be inserted is not in the tree, and its sequences are a run
 abbrev pub IsFresh : Stage → List Version → Type 0
@@ -122,91 +122,107 @@ pub record IsPartOf (z : Opening) (c : ℕ) (seen : List (List MemberVersions)) 
   pub seen_before : Begins seen u.before
   pub is_history : IsHistory z.start u.before
 
-module _ {T N : Type 0} where
+module _ {ShardTree MemberNodes : Type 0} where
   -- the seat has the view of one client or of the turn, here c
-  abbrev pub IsAt : ℕ → Opening → List (List MemberVersions) → Lock → Stage → SeatNow T N → Type 0
+  abbrev pub IsAt : ℕ → Opening → List (List MemberVersions) → Lock → Stage → SeatNow ShardTree MemberNodes → Type 0
   IsAt c z seen lock stage m = m.0 ≡ seat_state c z seen lock stage ∷ []
 
   -- a client's load of LAST: it has seen the history up to the number found
-  abbrev pub learned : Step (Content T N) → SeatNow T N → ℕ → SeatNow T N → Type 0
-  learned st m r m' = (c : ℕ) (z : Opening) (seen : List (List MemberVersions)) (stage : Stage)
+  abbrev pub after_learn : Step (Content ShardTree MemberNodes) → SeatNow ShardTree MemberNodes → ℕ
+      → SeatNow ShardTree MemberNodes → Type 0
+  after_learn st m r m' = (c : ℕ) (z : Opening) (seen : List (List MemberVersions)) (stage : Stage)
       → IsAt c z seen Free stage m → (now : List (List MemberVersions)) × IsAt c z now Free stage m' × Begins seen now
       × IsHistory z.start now × (r ≡ last_of z.start now) × (m'.1 ≡ m.1)
 
   -- the compare-exchange of a lock from 0 to 1
-  module _ (held_by : T → List Version) where
-    abbrev pub locked : Step (Content T N) → SeatNow T N → ℕ → SeatNow T N → Type 0
-    locked st m r m' = (c : ℕ) (z : Opening) (seen : List (List MemberVersions)) (stage : Stage)
+  module _ (held_by : ShardTree → List Version) where
+    abbrev pub after_lock : Step (Content ShardTree MemberNodes) → SeatNow ShardTree MemberNodes → ℕ
+        → SeatNow ShardTree MemberNodes → Type 0
+    after_lock st m r m' = (c : ℕ) (z : Opening) (seen : List (List MemberVersions)) (stage : Stage)
         → IsAt c z seen Free stage m
-        → (r ≡ 0 → (t : T) × IsAt c z seen (Held st.word (held_by t)) stage m' × (m'.1 ≡ (st.word, Tree t) ∷ m.1)
+        → (r ≡ 0 → (t : ShardTree) × IsAt c z seen (Held st.word (held_by t)) stage m'
+        × (m'.1 ≡ (st.word, Tree t) ∷ m.1)
         × Shows z.shards st.word z.start seen (held_by t) × IsFresh stage (held_by t))
         × (r ≢ 0 → m' ≡ m)
 
   -- the unlocking store: the tree is as it was, or it has more, `new` of the member's part
-  abbrev pub unlocked : Step (Content T N) → SeatNow T N → ℕ → SeatNow T N → Type 0
-  unlocked st m r m' = (c : ℕ) (z : Opening) (seen : List (List MemberVersions)) (stage : Stage) (vs : List Version)
+  abbrev pub after_unlock : Step (Content ShardTree MemberNodes) → SeatNow ShardTree MemberNodes → ℕ
+      → SeatNow ShardTree MemberNodes → Type 0
+  after_unlock st m r m' = (c : ℕ) (z : Opening) (seen : List (List MemberVersions)) (stage : Stage) (vs : List Version)
       → IsAt c z seen (Held st.word vs) stage m → IsAt c z seen Free stage m' × (m'.1 ≡ rest m.1)
 
-  abbrev pub added : List Version → Step (Content T N) → SeatNow T N → ℕ → SeatNow T N → Type 0
-  added new st m r m' = (c : ℕ) (z : Opening) (seen : List (List MemberVersions)) (u : Launched)
+  abbrev pub after_add : List Version → Step (Content ShardTree MemberNodes) → SeatNow ShardTree MemberNodes → ℕ
+      → SeatNow ShardTree MemberNodes → Type 0
+  after_add new st m r m' = (c : ℕ) (z : Opening) (seen : List (List MemberVersions)) (u : Launched)
       (done more vs : List Version)
       → IsAt c z seen (Held st.word vs) (Holding (work u done (new ++ more))) m
       → IsAt c z seen Free (Holding (work u (done ++ new) more)) m' × (m'.1 ≡ rest m.1)
 
   -- the seat has the views of client c, who has seen `own`, and of the turn
   abbrev pub IsWithTurn : ℕ → Opening → List (List MemberVersions) → Stage → List (List MemberVersions) → Stage
-      → SeatNow T N → Type 0
+      → SeatNow ShardTree MemberNodes → Type 0
   IsWithTurn c z own stage seen turn m = m.0 ≡ seat_state c z own Free stage ∷ seat_state 0 z seen Free turn ∷ []
 
   -- the store of RUNNING, by a client that has the turn
-  abbrev pub launched : List MemberVersions → Step (Content T N) → SeatNow T N → ℕ → SeatNow T N → Type 0
-  launched g st m r m' = (c : ℕ) (z : Opening) (own seen : List (List MemberVersions))
+  abbrev pub after_launch : List MemberVersions → Step (Content ShardTree MemberNodes)
+      → SeatNow ShardTree MemberNodes → ℕ → SeatNow ShardTree MemberNodes → Type 0
+  after_launch g st m r m' = (c : ℕ) (z : Opening) (own seen : List (List MemberVersions))
       → IsWithTurn c z own Idle seen Resting m
-      → IsWithTurn c z own (after_launch c (launched_behind z.start seen g)) seen (Handing g g) m' × (m'.1 ≡ m.1)
+      → IsWithTurn c z own (stage_after_launch c (launched_behind z.start seen g)) seen (Handing g g) m' × (m'.1 ≡ m.1)
 
   -- the turn's load of RUN_i
-  abbrev pub emptied : Step (Content T N) → SeatNow T N → ℕ → SeatNow T N → Type 0
-  emptied st m r m' = (z : Opening) (seen : List (List MemberVersions)) (g : List MemberVersions) (p : MemberVersions)
+  abbrev pub after_empty : Step (Content ShardTree MemberNodes) → SeatNow ShardTree MemberNodes → ℕ
+      → SeatNow ShardTree MemberNodes → Type 0
+  after_empty st m r m' = (z : Opening) (seen : List (List MemberVersions)) (g : List MemberVersions)
+      (p : MemberVersions)
       (ps : List MemberVersions) → IsAt 0 z seen Free (Handing g (p ∷ ps)) m → st.word ≡ z.shards + 1 + p.member
       → IsAt 0 z seen Free (Filling g p ps) m' × (r ≡ 0) × (m'.1 ≡ (z.shards + p.member, Blank) ∷ m.1)
 
   -- the turn's store of RUN_i
-  abbrev pub given : Step (Content T N) → SeatNow T N → ℕ → SeatNow T N → Type 0
-  given st m r m' = (z : Opening) (seen : List (List MemberVersions)) (g : List MemberVersions) (p : MemberVersions)
+  abbrev pub after_give : Step (Content ShardTree MemberNodes) → SeatNow ShardTree MemberNodes → ℕ
+      → SeatNow ShardTree MemberNodes → Type 0
+  after_give st m r m' = (z : Opening) (seen : List (List MemberVersions)) (g : List MemberVersions)
+      (p : MemberVersions)
       (ps : List MemberVersions) → IsAt 0 z seen Free (Filling g p ps) m
       → IsAt 0 z seen Free (Handing g ps) m' × (m'.1 ≡ rest m.1)
 
   -- a client's load of its RUN
-  module _ (nodes_of : N → List Version) where
-    abbrev pub took : Step (Content T N) → SeatNow T N → ℕ → SeatNow T N → Type 0
-    took st m r m' = (c : ℕ) (z : Opening) (seen : List (List MemberVersions)) (stage : Stage)
+  module _ (nodes_of : MemberNodes → List Version) where
+    abbrev pub after_take : Step (Content ShardTree MemberNodes) → SeatNow ShardTree MemberNodes → ℕ
+        → SeatNow ShardTree MemberNodes → Type 0
+    after_take st m r m' = (c : ℕ) (z : Opening) (seen : List (List MemberVersions)) (stage : Stage)
         → IsAt c z seen Free stage m → MayTake stage
-        → (r ≡ 1 → (x : N) × (u : Launched) × IsAt c z seen Free (Holding (work u [] (nodes_of x))) m'
+        → (r ≡ 1 → (x : MemberNodes) × (u : Launched) × IsAt c z seen Free (Holding (work u [] (nodes_of x))) m'
         × (m'.1 ≡ (z.shards + c, Nodes x u.last) ∷ m.1)
         × IsPartOf z c seen u (nodes_of x) × IsAwaited stage u)
         × (r ≢ 1 → m' ≡ m)
 
   -- a client's store of its RUN
-  abbrev pub settled : Step (Content T N) → SeatNow T N → ℕ → SeatNow T N → Type 0
-  settled st m r m' = (c : ℕ) (z : Opening) (seen : List (List MemberVersions)) (u : Launched) (done : List Version)
+  abbrev pub after_settle : Step (Content ShardTree MemberNodes) → SeatNow ShardTree MemberNodes → ℕ
+      → SeatNow ShardTree MemberNodes → Type 0
+  after_settle st m r m' = (c : ℕ) (z : Opening) (seen : List (List MemberVersions)) (u : Launched)
+      (done : List Version)
       → IsAt c z seen Free (Holding (work u done [])) m → IsAt c z seen Free (Stored u) m' × (m'.1 ≡ rest m.1)
 
   -- the fetch-sub of RUNNING: as many parts aren't finished as are found, the member's own among them
-  abbrev pub counted : Step (Content T N) → SeatNow T N → ℕ → SeatNow T N → Type 0
-  counted st m r m' = (c : ℕ) (z : Opening) (seen : List (List MemberVersions)) (u : Launched)
-      → IsAt c z seen Free (Stored u) m → IsAt c z seen Free (ending u r) m' × (m'.1 ≡ m.1)
+  abbrev pub after_count : Step (Content ShardTree MemberNodes) → SeatNow ShardTree MemberNodes → ℕ
+      → SeatNow ShardTree MemberNodes → Type 0
+  after_count st m r m' = (c : ℕ) (z : Opening) (seen : List (List MemberVersions)) (u : Launched)
+      → IsAt c z seen Free (Stored u) m → IsAt c z seen Free (stage_after_finish u r) m' × (m'.1 ≡ m.1)
       × (0 < r) × (r ≤ length u.group)
 
   -- the store of LAST: it has seen the history with the group
-  abbrev pub publishes : Step (Content T N) → SeatNow T N → ℕ → SeatNow T N → Type 0
-  publishes st m r m' = (c : ℕ) (z : Opening) (seen : List (List MemberVersions)) (u : Launched)
+  abbrev pub after_publish : Step (Content ShardTree MemberNodes) → SeatNow ShardTree MemberNodes → ℕ
+      → SeatNow ShardTree MemberNodes → Type 0
+  after_publish st m r m' = (c : ℕ) (z : Opening) (seen : List (List MemberVersions)) (u : Launched)
       → IsAt c z seen Free (Publishing u) m
       → IsAt c z (u.before ++ u.group ∷ []) Free Idle m' × Begins seen u.before
       × IsHistory z.start (u.before ++ u.group ∷ []) × (m'.1 ≡ m.1)
 
   -- the turn's load of LAST, with no part left to hand over
-  abbrev pub awaited : Step (Content T N) → SeatNow T N → ℕ → SeatNow T N → Type 0
-  awaited st m r m' = (z : Opening) (seen : List (List MemberVersions)) (g : List MemberVersions)
+  abbrev pub after_await : Step (Content ShardTree MemberNodes) → SeatNow ShardTree MemberNodes → ℕ
+      → SeatNow ShardTree MemberNodes → Type 0
+  after_await st m r m' = (z : Opening) (seen : List (List MemberVersions)) (g : List MemberVersions)
       → IsAt 0 z seen Free (Handing g []) m
       → (r ≡ end_of (last_of z.start seen) g → IsAt 0 z (seen ++ g ∷ []) Free Resting m' × (m'.1 ≡ m.1))
       × (r ≢ end_of (last_of z.start seen) g → m' ≡ m)

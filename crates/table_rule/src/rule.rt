@@ -18,8 +18,12 @@ pub trait Versioned {
 /// What holds between any two steps.
 pub struct TableLaw;
 
-impl<T: Versioned, N: Versioned> TableRule<Content<T, N>, View, Opening> for TableLaw {
-    ghost holds = { λ z. IsConsistent T.versions N.versions z };
+impl<ShardTree: Versioned, MemberNodes: Versioned> TableRule<
+    Content<ShardTree, MemberNodes>,
+    View,
+    Opening,
+> for TableLaw {
+    ghost holds = { λ z. IsConsistent ShardTree.versions MemberNodes.versions z };
 
     ghost first = { λ z. newcomers z 1 z.clients };
 }

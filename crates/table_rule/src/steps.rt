@@ -1,7 +1,7 @@
 //! The steps by name, and what each tells its caller. The table of them stands at the head of the crate.
 ghost use Rattle.std.specs.Prelude.{[]};
-ghost use Rattle.table_rule.specs.Seats.{closing};
-ghost use Rattle.table_rule.specs.Steps.{learned, locked, unlocked, added, launched, emptied, given, took, settled, counted, publishes, awaited};
+ghost use Rattle.table_rule.specs.Seats.{after_close};
+ghost use Rattle.table_rule.specs.Steps.{after_learn, after_lock, after_unlock, after_add, after_launch, after_empty, after_give, after_take, after_settle, after_count, after_publish, after_await};
 
 use crate::content::Content;
 use crate::rule::Versioned;
@@ -12,22 +12,22 @@ use std::marker::{Brand, PhantomData};
 /// A client's load of LAST.
 pub struct Learn;
 
-impl<T, N> Play<Content<T, N>, View> for Learn {
-    ghost then = { learned };
+impl<ShardTree, MemberNodes> Play<Content<ShardTree, MemberNodes>, View> for Learn {
+    ghost then = { after_learn };
 }
 
 /// The compare-exchange of a lock.
 pub struct LockShard;
 
-impl<T: Versioned, N> Play<Content<T, N>, View> for LockShard {
-    ghost then = { locked T.versions };
+impl<ShardTree: Versioned, MemberNodes> Play<Content<ShardTree, MemberNodes>, View> for LockShard {
+    ghost then = { after_lock ShardTree.versions };
 }
 
 /// The store that unlocks a shard whose tree is as it was.
 pub struct UnlockShard;
 
-impl<T, N> Play<Content<T, N>, View> for UnlockShard {
-    ghost then = { unlocked };
+impl<ShardTree, MemberNodes> Play<Content<ShardTree, MemberNodes>, View> for UnlockShard {
+    ghost then = { after_unlock };
 }
 
 /// The versions that a member adds to a tree.
@@ -43,12 +43,13 @@ impl VersionPlan for Brand {
 }
 
 /// The store that unlocks a shard whose tree has versions of a member's part more.
-pub struct AddVersions<V> {
-    marker: PhantomData<V>,
+pub struct AddVersions<Plan> {
+    marker: PhantomData<Plan>,
 }
 
-impl<T, N, V: VersionPlan> Play<Content<T, N>, View> for AddVersions<V> {
-    ghost then = { added V.versions };
+impl<ShardTree, MemberNodes, Plan: VersionPlan> Play<Content<ShardTree, MemberNodes>, View>
+    for AddVersions<Plan> {
+    ghost then = { after_add Plan.versions };
 }
 
 /// The group that a launch is for.
@@ -64,66 +65,67 @@ impl GroupPlan for Brand {
 }
 
 /// The store of RUNNING, by a client that has the turn.
-pub struct Launch<G> {
-    marker: PhantomData<G>,
+pub struct Launch<Group> {
+    marker: PhantomData<Group>,
 }
 
-impl<T, N, G: GroupPlan> Play<Content<T, N>, View> for Launch<G> {
-    ghost then = { launched G.group };
+impl<ShardTree, MemberNodes, Group: GroupPlan> Play<Content<ShardTree, MemberNodes>, View>
+    for Launch<Group> {
+    ghost then = { after_launch Group.group };
 }
 
 /// The turn's load of a member's RUN.
 pub struct Empty;
 
-impl<T, N> Play<Content<T, N>, View> for Empty {
-    ghost then = { emptied };
+impl<ShardTree, MemberNodes> Play<Content<ShardTree, MemberNodes>, View> for Empty {
+    ghost then = { after_empty };
 }
 
 /// The turn's store of a member's RUN.
 pub struct Give;
 
-impl<T, N> Play<Content<T, N>, View> for Give {
-    ghost then = { given };
+impl<ShardTree, MemberNodes> Play<Content<ShardTree, MemberNodes>, View> for Give {
+    ghost then = { after_give };
 }
 
 /// A member's load of its RUN.
 pub struct Take;
 
-impl<T, N: Versioned> Play<Content<T, N>, View> for Take {
-    ghost then = { took N.versions };
+impl<ShardTree, MemberNodes: Versioned> Play<Content<ShardTree, MemberNodes>, View> for Take {
+    ghost then = { after_take MemberNodes.versions };
 }
 
 /// A member's store of its RUN.
 pub struct Settle;
 
-impl<T, N> Play<Content<T, N>, View> for Settle {
-    ghost then = { settled };
+impl<ShardTree, MemberNodes> Play<Content<ShardTree, MemberNodes>, View> for Settle {
+    ghost then = { after_settle };
 }
 
 /// The fetch-sub of RUNNING.
 pub struct Count;
 
-impl<T, N> Play<Content<T, N>, View> for Count {
-    ghost then = { counted };
+impl<ShardTree, MemberNodes> Play<Content<ShardTree, MemberNodes>, View> for Count {
+    ghost then = { after_count };
 }
 
 /// The store of LAST.
 pub struct Publish;
 
-impl<T, N> Play<Content<T, N>, View> for Publish {
-    ghost then = { publishes };
+impl<ShardTree, MemberNodes> Play<Content<ShardTree, MemberNodes>, View> for Publish {
+    ghost then = { after_publish };
 }
 
 /// The turn's load of LAST.
 pub struct Await;
 
-impl<T, N> Play<Content<T, N>, View> for Await {
-    ghost then = { awaited };
+impl<ShardTree, MemberNodes> Play<Content<ShardTree, MemberNodes>, View> for Await {
+    ghost then = { after_await };
 }
 
 /// The last load of LAST, when all seats are joined.
 pub struct Close;
 
-impl<T, N> Play<Content<T, N>, View> for Close {
-    ghost then = { closing };
+impl<ShardTree, MemberNodes> Play<Content<ShardTree, MemberNodes>, View> for Close {
+    ghost then = { after_close };
 }

@@ -30,23 +30,23 @@ slot_or d (x ∷ xs) = x.1
 pub same_slot : {A : Type 0} (x y : A) (i j : ℕ) (l m m' : List (ℕ × A)) → l ≡ (i, x) ∷ m → l ≡ (j, y) ∷ m' → x ≡ y
 same_slot x y i j l m m' a b = ap (slot_or x) (sym a ∙ b)
 
-abbrev tree_or : {T N : Type 0} → T → Content T N → T
+abbrev tree_or : {ShardTree MemberNodes : Type 0} → ShardTree → Content ShardTree MemberNodes → ShardTree
 tree_or d Blank = d
 tree_or d (Tree t) = t
 tree_or d (Nodes x l) = d
 
-abbrev top_or : {T N : Type 0} → T → List (ℕ × Content T N) → T
+abbrev top_or : {ShardTree MemberNodes : Type 0} → ShardTree → List (ℕ × Content ShardTree MemberNodes) → ShardTree
 top_or d [] = d
 top_or d (x ∷ xs) = tree_or d x.1
 
 -- what was taken out of a slot that holds a tree is that tree
-pub same_tree : {T N : Type 0} (t u : T) (i j : ℕ) (l m m' : List (ℕ × Content T N)) → l ≡ (i, Tree t) ∷ m → l ≡ (j, Tree u) ∷ m' → t ≡ u
+pub same_tree : {ShardTree MemberNodes : Type 0} (t u : ShardTree) (i j : ℕ) (l m m' : List (ℕ × Content ShardTree MemberNodes)) → l ≡ (i, Tree t) ∷ m → l ≡ (j, Tree u) ∷ m' → t ≡ u
 same_tree t u i j l m m' a b = ap (top_or t) (sym a ∙ b)
 
 pub shards_of : (y z : Opening) → y ≡ z → z.shards ≡ y.shards
 shards_of y z e = ap (λ (x : Opening). x.shards) (sym e)
 
-pub renamed : {T N : Type 0} (c d : ℕ) (z : Opening) (seen : List (List MemberVersions)) (lock : Lock) (stage : Stage) (m : SeatNow T N) → d ≡ c → IsAt c z seen lock stage m → IsAt d z seen lock stage m
+pub renamed : {ShardTree MemberNodes : Type 0} (c d : ℕ) (z : Opening) (seen : List (List MemberVersions)) (lock : Lock) (stage : Stage) (m : SeatNow ShardTree MemberNodes) → d ≡ c → IsAt c z seen lock stage m → IsAt d z seen lock stage m
 renamed c d z seen lock stage m e ok = ok ∙ (λ i. seat_state (sym e i) z seen lock stage ∷ [])
 
 abbrev group_in : Stage → List MemberVersions
@@ -59,23 +59,23 @@ group_in Resting = []
 group_in (Handing g ps) = g
 group_in (Filling g p ps) = g
 
-pub same_goal : {T N : Type 0} (z : Opening) (seen seen' : List (List MemberVersions)) (g g' : List MemberVersions) (m : SeatNow T N) → IsAt 0 z seen Free (Handing g []) m → IsAt 0 z seen' Free (Handing g' []) m → end_of (last_of z.start seen) g ≡ end_of (last_of z.start seen') g'
+pub same_goal : {ShardTree MemberNodes : Type 0} (z : Opening) (seen seen' : List (List MemberVersions)) (g g' : List MemberVersions) (m : SeatNow ShardTree MemberNodes) → IsAt 0 z seen Free (Handing g []) m → IsAt 0 z seen' Free (Handing g' []) m → end_of (last_of z.start seen) g ≡ end_of (last_of z.start seen') g'
 same_goal z seen seen' g g' m a b = let e = sym a ∙ b in (λ i. end_of (last_of z.start (own (e i)).seen) (group_in (own (e i)).stage))
 
-abbrev nodes_or : {T N : Type 0} → N × ℕ → Content T N → N × ℕ
+abbrev nodes_or : {ShardTree MemberNodes : Type 0} → MemberNodes × ℕ → Content ShardTree MemberNodes → MemberNodes × ℕ
 nodes_or d Blank = d
 nodes_or d (Tree t) = d
 nodes_or d (Nodes x l) = (x, l)
 
-abbrev first_or : {T N : Type 0} → N × ℕ → List (ℕ × Content T N) → N × ℕ
+abbrev first_or : {ShardTree MemberNodes : Type 0} → MemberNodes × ℕ → List (ℕ × Content ShardTree MemberNodes) → MemberNodes × ℕ
 first_or d [] = d
 first_or d (x ∷ xs) = nodes_or d x.1
 
-pub same_nodes : {T N : Type 0} (x y : N) (k l i j : ℕ) (c m m' : List (ℕ × Content T N)) → c ≡ (i, Nodes x k) ∷ m → c ≡ (j, Nodes y l) ∷ m' → (x ≡ y) × (k ≡ l)
+pub same_nodes : {ShardTree MemberNodes : Type 0} (x y : MemberNodes) (k l i j : ℕ) (c m m' : List (ℕ × Content ShardTree MemberNodes)) → c ≡ (i, Nodes x k) ∷ m → c ≡ (j, Nodes y l) ∷ m' → (x ≡ y) × (k ≡ l)
 same_nodes x y k l i j c m m' a b = let e = ap (first_or (x, k)) (sym a ∙ b) in (ap (λ p. p.0) e, ap (λ p. p.1) e)
 
-pub joined_more : {T N : Type 0} (z : Opening) (w : TableSeat T N) (ws : List (TableSeat T N)) (v : List SeatState) → AreJoined z ws v → AreJoined z (w ∷ ws) (v ++ w.client.seat.me.0)
-joined_more {T = T} {N = N} z w ws v ok x seen has at = ⊎_elim
-    (λ (e : w ≡ x). in_right (seat_state x.client.number z seen Free Idle) v w.client.seat.me.0 (subst (λ (l : List SeatState). In (seat_state x.client.number z seen Free Idle) l) (sym (ap (λ (y : TableSeat T N). y.client.seat.me.0) e ∙ at)) (inl refl)))
+pub joined_more : {ShardTree MemberNodes : Type 0} (z : Opening) (w : TableSeat ShardTree MemberNodes) (ws : List (TableSeat ShardTree MemberNodes)) (v : List SeatState) → AreJoined z ws v → AreJoined z (w ∷ ws) (v ++ w.client.seat.me.0)
+joined_more {ShardTree = ShardTree} {MemberNodes = MemberNodes} z w ws v ok x seen has at = ⊎_elim
+    (λ (e : w ≡ x). in_right (seat_state x.client.number z seen Free Idle) v w.client.seat.me.0 (subst (λ (l : List SeatState). In (seat_state x.client.number z seen Free Idle) l) (sym (ap (λ (y : TableSeat ShardTree MemberNodes). y.client.seat.me.0) e ∙ at)) (inl refl)))
     (λ (t : In x ws). in_left (seat_state x.client.number z seen Free Idle) v w.client.seat.me.0 (ok x seen t at))
     has

@@ -17,7 +17,10 @@ use std::marker::Brand;
 use std::sync::Wait;
 use table_calls::{GroupParts, VersionNodes, VersionTree};
 
-impl<T: VersionTree<N::Node> + Drop, N: VersionNodes + Drop> TableSeat<T, N> {
+impl<ShardTree: VersionTree<MemberNodes::Node> + Drop, MemberNodes: VersionNodes + Drop> TableSeat<
+    ShardTree,
+    MemberNodes,
+> {
     /// The client's number.
     pub fn number(&self) -> u64
         ensures { result ≡ (account self.now).number }
@@ -26,21 +29,22 @@ impl<T: VersionTree<N::Node> + Drop, N: VersionNodes + Drop> TableSeat<T, N> {
     }
 
     /// Launches a group, and hands each member its nodes. The seat keeps the turn until `await_published`.
-    pub fn launch<P: GroupParts<N>>(
+    pub fn launch<Parts: GroupParts<MemberNodes>>(
         &mut self,
-        table: &SharedTable<T, N>,
-        turn: Turn<T, N>,
-        parts: &mut P,
+        table: &SharedTable<ShardTree, MemberNodes>,
+        turn: Turn<ShardTree, MemberNodes>,
+        parts: &mut Parts,
     )
         requires ours { IsOurs table.now self.old × MayLaunch table.now turn }
         requires ready { IsReady (account self.old) }
-        requires next { IsNext (opening_of table.now) (history_of turn) (P.parts parts.old) }
-        requires fits { end_of (last_of (opening_of table.now).start (history_of turn)) (P.parts parts.old) < 2 ^ 64 }
+        requires next { IsNext (opening_of table.now) (history_of turn) (Parts.parts parts.old) }
+        requires fits { end_of (last_of (opening_of table.now).start (history_of turn)) (Parts.parts parts.old)
+            < 2 ^ 64 }
         ensures ours { IsOurs table.now self.new }
         ensures launched { Launches (opening_of table.now).start (account self.old) (history_of turn)
-            (P.parts parts.old) (account self.new) }
-        ensures emptied { P.parts parts.new ≡ [] }
-        ensures room { P.room parts.new ≡ P.room parts.old }
+            (Parts.parts parts.old) (account self.new) }
+        ensures emptied { Parts.parts parts.new ≡ [] }
+        ensures room { Parts.room parts.new ≡ Parts.room parts.old }
     {
         let last = turn.last + parts.version_count();
         let turn = table.launch(&mut self.client, turn, parts, last);
@@ -49,16 +53,22 @@ impl<T: VersionTree<N::Node> + Drop, N: VersionNodes + Drop> TableSeat<T, N> {
 
     /// Puts nodes, the next of the client's part, into the tree of their shard, under one hold of its lock. A part of
     /// several shards goes in run by run, where each run is of one shard.
-    pub fn add<R: Wait>(&mut self, table: &SharedTable<T, N>, rt: &R, shard: u64, nodes: N)
+    pub fn add<R: Wait>(
+        &mut self,
+        table: &SharedTable<ShardTree, MemberNodes>,
+        rt: &R,
+        shard: u64,
+        nodes: MemberNodes,
+    )
         requires ours { IsOurs table.now self.old }
         requires shard { (shard < (opening_of table.now).shards)
-            × AreOfShard (opening_of table.now).shards shard (N.versions nodes) }
+            × AreOfShard (opening_of table.now).shards shard (MemberNodes.versions nodes) }
         requires next { (u : Launched) × (done : List Version) × (more : List Version)
-            × ((account self.old).stage ≡ Holding (work u done (N.versions nodes ++ more))) }
+            × ((account self.old).stage ≡ Holding (work u done (MemberNodes.versions nodes ++ more))) }
         ensures ours { IsOurs table.now self.new }
         ensures added { (u : Launched) (done more : List Version)
-            → (account self.old).stage ≡ Holding (work u done (N.versions nodes ++ more))
-            → Steps (account self.old) (Holding (work u (done ++ N.versions nodes) more)) (account self.new) }
+            → (account self.old).stage ≡ Holding (work u done (MemberNodes.versions nodes ++ more))
+            → Steps (account self.old) (Holding (work u (done ++ MemberNodes.versions nodes) more)) (account self.new) }
     {
         table.add::<Brand, R>(rt, &mut self.client, shard, nodes);
     }
@@ -67,10 +77,10 @@ impl<T: VersionTree<N::Node> + Drop, N: VersionNodes + Drop> TableSeat<T, N> {
     /// last sequence.
     pub fn await_published<R: Wait>(
         &mut self,
-        table: &SharedTable<T, N>,
+        table: &SharedTable<ShardTree, MemberNodes>,
         rt: &R,
         last: u64,
-    ) -> Turn<T, N>
+    ) -> Turn<ShardTree, MemberNodes>
         requires ours { IsOurs table.now self.old }
         requires idle { (account self.old).stage ≡ Idle }
         requires launched { (u : Launched) × ((account self.old).launched ≡ Some u) × (last ≡ u.last) }

@@ -13,9 +13,16 @@ use crate::shared::SharedTable;
 use table_calls::{Seats, VersionNodes, VersionTree};
 use table_rule::{Both, Close};
 
-impl<T: VersionTree<N::Node> + Drop, N: VersionNodes + Drop> SharedTable<T, N> {
+impl<
+    ShardTree: VersionTree<MemberNodes::Node> + Drop,
+    MemberNodes: VersionNodes + Drop,
+> SharedTable<ShardTree, MemberNodes> {
     // Joins all seats. What the turn knows is then what is published, and each client has seen a beginning of it.
-    fn gather(&self, mut turn: Turn<T, N>, mut clients: Vec<TableSeat<T, N>>)
+    fn gather(
+        &self,
+        mut turn: Turn<ShardTree, MemberNodes>,
+        mut clients: Vec<TableSeat<ShardTree, MemberNodes>>,
+    )
         requires turn { (history : List (List MemberVersions))
             × IsTurnOf self.now.table.shared.table_id self.now.table.shared.key history turn }
         requires idle { AreIdle self.now.table.shared.table_id self.now.table.shared.key clients.items }
@@ -24,6 +31,7 @@ impl<T: VersionTree<N::Node> + Drop, N: VersionNodes + Drop> SharedTable<T, N> {
             → IsHistory self.now.table.shared.key.start history
             × HaveSeen self.now.table.shared.key history clients.items }
     {
+        // The turn's seat holds what it had, and what each seat joined so far had.
         while let Some(seat) = clients.pop() {
             self.table
                 .shared
@@ -37,12 +45,15 @@ impl<T: VersionTree<N::Node> + Drop, N: VersionNodes + Drop> SharedTable<T, N> {
 
     /// Gives the table up, with all seats. What was published is one history, and each client has seen a beginning of
     /// it.
-    pub fn close(self, seats: Seats<TableSeat<T, N>, Turn<T, N>>)
+    pub fn close(
+        self,
+        seats: Seats<TableSeat<ShardTree, MemberNodes>, Turn<ShardTree, MemberNodes>>,
+    )
         requires turn { MayLaunch self seats.turn }
-        requires clients { (seat : TableSeat T N) → In seat seats.clients.items
+        requires clients { (seat : TableSeat ShardTree MemberNodes) → In seat seats.clients.items
             → IsOurs self seat × IsReady (account seat) }
         ensures { IsClosing (opening_of self).start (history_of seats.turn)
-            (map (λ (seat : TableSeat T N). account seat) seats.clients.items) }
+            (map (λ (seat : TableSeat ShardTree MemberNodes). account seat) seats.clients.items) }
     {
         self.gather(seats.turn, seats.clients);
     }

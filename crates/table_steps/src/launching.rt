@@ -5,7 +5,7 @@ ghost use Rattle.table_rule.specs.declared.view.Lock.TheVariants.{Free};
 ghost use Rattle.table_rule.specs.declared.view.Stage.TheVariants.{Idle, Resting, Handing};
 ghost use Rattle.table_rule.specs.Histories.{In, last_of};
 ghost use Rattle.table_rule.specs.Rule.{end_of};
-ghost use Rattle.table_rule.specs.Steps.{IsAt, IsNext, after_launch, launched_behind};
+ghost use Rattle.table_rule.specs.Steps.{IsAt, IsNext, stage_after_launch, launched_behind};
 
 use crate::shared::{Client, SharedTable};
 use atomic_table::Seat;
@@ -17,28 +17,31 @@ use table_rule::{AllButFirst, Await, Both, Content, Empty, Give, GroupPlan, Laun
 
 /// The right to launch. A table has one.
 #[derive(Drop)]
-pub struct Turn<T, N> {
-    pub(crate) seat: Seat<Content<T, N>, View>,
+pub struct Turn<ShardTree, MemberNodes> {
+    pub(crate) seat: Seat<Content<ShardTree, MemberNodes>, View>,
     /// The published sequence, where no group is launched.
     pub(crate) last: u64,
 }
 
-impl<T: VersionTree<N::Node>, N: VersionNodes> SharedTable<T, N> {
+impl<ShardTree: VersionTree<MemberNodes::Node>, MemberNodes: VersionNodes> SharedTable<
+    ShardTree,
+    MemberNodes,
+> {
     // Sets the running count to the number of members. The client's seat and the turn's are one meanwhile, so that the
     // client knows of the group.
-    fn set_running<G: GroupPlan, P: GroupParts<N>>(
+    fn set_running<Group: GroupPlan, Parts: GroupParts<MemberNodes>>(
         &self,
-        who: &mut Client<T, N>,
-        turn: Turn<T, N>,
-        parts: &P,
-    ) -> Turn<T, N>
+        who: &mut Client<ShardTree, MemberNodes>,
+        turn: Turn<ShardTree, MemberNodes>,
+        parts: &Parts,
+    ) -> Turn<ShardTree, MemberNodes>
         requires seat { (who.old.seat.table_id ≡ self.now.table.shared.table_id)
             × (turn.seat.table_id ≡ self.now.table.shared.table_id) × (turn.seat.me.1 ≡ []) × (0 < who.old.number) }
         requires next { (own : List (List MemberVersions)) × (seen : List (List MemberVersions))
             × IsAt who.old.number self.now.table.shared.key own Free Idle who.old.seat.me
             × IsAt 0 self.now.table.shared.key seen Free Resting turn.seat.me
-            × IsNext self.now.table.shared.key seen G.group }
-        requires group { P.parts parts.now ≡ G.group }
+            × IsNext self.now.table.shared.key seen Group.group }
+        requires group { Parts.parts parts.now ≡ Group.group }
         ensures client { (who.new.seat.table_id ≡ who.old.seat.table_id) × (who.new.number ≡ who.old.number)
             × (who.new.seat.me.1 ≡ who.old.seat.me.1) }
         ensures turn { (result.seat.table_id ≡ turn.seat.table_id) × (result.seat.me.1 ≡ [])
@@ -46,16 +49,16 @@ impl<T: VersionTree<N::Node>, N: VersionNodes> SharedTable<T, N> {
         ensures launched { (own seen : List (List MemberVersions))
             → IsAt who.old.number self.now.table.shared.key own Free Idle who.old.seat.me
             → IsAt 0 self.now.table.shared.key seen Free Resting turn.seat.me
-            → IsAt who.old.number self.now.table.shared.key own Free (after_launch who.old.number
-            (launched_behind self.now.table.shared.key.start seen G.group)) who.new.seat.me }
+            → IsAt who.old.number self.now.table.shared.key own Free (stage_after_launch who.old.number
+            (launched_behind self.now.table.shared.key.start seen Group.group)) who.new.seat.me }
         ensures handing { (own seen : List (List MemberVersions))
             → IsAt who.old.number self.now.table.shared.key own Free Idle who.old.seat.me
             → IsAt 0 self.now.table.shared.key seen Free Resting turn.seat.me
-            → IsAt 0 self.now.table.shared.key seen Free (Handing G.group G.group) result.seat.me }
+            → IsAt 0 self.now.table.shared.key seen Free (Handing Group.group Group.group) result.seat.me }
     {
         let shared = &self.table.shared;
         shared.join_seat::<Both>(&mut who.seat, turn.seat);
-        shared.store::<Launch<G>>(
+        shared.store::<Launch<Group>>(
             &mut who.seat,
             self.opening.shards as usize + 1,
             parts.len() as u64,
@@ -68,12 +71,18 @@ impl<T: VersionTree<N::Node>, N: VersionNodes> SharedTable<T, N> {
     }
 
     // Hands one member its nodes.
-    fn offer(&self, turn: &mut Turn<T, N>, member: u64, nodes: N, last: u64)
+    fn offer(
+        &self,
+        turn: &mut Turn<ShardTree, MemberNodes>,
+        member: u64,
+        nodes: MemberNodes,
+        last: u64,
+    )
         requires seat { (turn.old.seat.table_id ≡ self.now.table.shared.table_id) × (0 < member)
             × (member ≤ self.now.table.shared.key.clients) }
         requires next { (seen : List (List MemberVersions)) × (g : List MemberVersions) × (p : MemberVersions)
             × (ps : List MemberVersions) × IsAt 0 self.now.table.shared.key seen Free
-            (Handing g (p ∷ ps)) turn.old.seat.me × (p.member ≡ member) × (N.versions nodes ≡ p.versions)
+            (Handing g (p ∷ ps)) turn.old.seat.me × (p.member ≡ member) × (MemberNodes.versions nodes ≡ p.versions)
             × (last ≡ end_of (last_of self.now.table.shared.key.start seen) g) }
         ensures seat { (turn.new.seat.table_id ≡ turn.old.seat.table_id) × (turn.new.seat.me.1 ≡ turn.old.seat.me.1)
             × (turn.new.last ≡ turn.old.last) }
@@ -95,20 +104,20 @@ impl<T: VersionTree<N::Node>, N: VersionNodes> SharedTable<T, N> {
     }
 
     /// Launches a group whose last sequence is `last`, and hands each member its nodes.
-    pub(crate) fn launch<P: GroupParts<N>>(
+    pub(crate) fn launch<Parts: GroupParts<MemberNodes>>(
         &self,
-        who: &mut Client<T, N>,
-        turn: Turn<T, N>,
-        parts: &mut P,
+        who: &mut Client<ShardTree, MemberNodes>,
+        turn: Turn<ShardTree, MemberNodes>,
+        parts: &mut Parts,
         last: u64,
-    ) -> Turn<T, N>
+    ) -> Turn<ShardTree, MemberNodes>
         requires seat { (who.old.seat.table_id ≡ self.now.table.shared.table_id)
             × (turn.seat.table_id ≡ self.now.table.shared.table_id) × (turn.seat.me.1 ≡ []) × (0 < who.old.number) }
         requires next { (own : List (List MemberVersions)) × (seen : List (List MemberVersions))
             × IsAt who.old.number self.now.table.shared.key own Free Idle who.old.seat.me
             × IsAt 0 self.now.table.shared.key seen Free Resting turn.seat.me
-            × IsNext self.now.table.shared.key seen (P.parts parts.old)
-            × (last ≡ end_of (last_of self.now.table.shared.key.start seen) (P.parts parts.old)) }
+            × IsNext self.now.table.shared.key seen (Parts.parts parts.old)
+            × (last ≡ end_of (last_of self.now.table.shared.key.start seen) (Parts.parts parts.old)) }
         ensures client { (who.new.seat.table_id ≡ who.old.seat.table_id) × (who.new.number ≡ who.old.number)
             × (who.new.seat.me.1 ≡ who.old.seat.me.1) }
         ensures turn { (result.seat.table_id ≡ turn.seat.table_id) × (result.seat.me.1 ≡ [])
@@ -116,16 +125,17 @@ impl<T: VersionTree<N::Node>, N: VersionNodes> SharedTable<T, N> {
         ensures launched { (own seen : List (List MemberVersions))
             → IsAt who.old.number self.now.table.shared.key own Free Idle who.old.seat.me
             → IsAt 0 self.now.table.shared.key seen Free Resting turn.seat.me
-            → IsAt who.old.number self.now.table.shared.key own Free (after_launch who.old.number
-            (launched_behind self.now.table.shared.key.start seen (P.parts parts.old))) who.new.seat.me }
+            → IsAt who.old.number self.now.table.shared.key own Free (stage_after_launch who.old.number
+            (launched_behind self.now.table.shared.key.start seen (Parts.parts parts.old))) who.new.seat.me }
         ensures handed { (own seen : List (List MemberVersions))
             → IsAt who.old.number self.now.table.shared.key own Free Idle who.old.seat.me
             → IsAt 0 self.now.table.shared.key seen Free Resting turn.seat.me
-            → IsAt 0 self.now.table.shared.key seen Free (Handing (P.parts parts.old) []) result.seat.me }
-        ensures emptied { P.parts parts.new ≡ [] }
-        ensures room { P.room parts.new ≡ P.room parts.old }
+            → IsAt 0 self.now.table.shared.key seen Free (Handing (Parts.parts parts.old) []) result.seat.me }
+        ensures emptied { Parts.parts parts.new ≡ [] }
+        ensures room { Parts.room parts.new ≡ Parts.room parts.old }
     {
-        let mut turn = self.set_running::<Brand, P>(who, turn, parts);
+        let mut turn = self.set_running::<Brand, Parts>(who, turn, parts);
+        // The members of the parts that are gone were handed their nodes, in order.
         while let Some((member, nodes)) = parts.pop() {
             self.offer(&mut turn, member, nodes, last);
         }
@@ -133,7 +143,12 @@ impl<T: VersionTree<N::Node>, N: VersionNodes> SharedTable<T, N> {
     }
 
     /// Waits until the launched group, whose last sequence is `last`, is published. The turn is free again.
-    pub(crate) fn await_published<R: Wait>(&self, rt: &R, turn: &mut Turn<T, N>, last: u64)
+    pub(crate) fn await_published<R: Wait>(
+        &self,
+        rt: &R,
+        turn: &mut Turn<ShardTree, MemberNodes>,
+        last: u64,
+    )
         requires seat { turn.old.seat.table_id ≡ self.now.table.shared.table_id }
         requires launched { (seen : List (List MemberVersions)) × (g : List MemberVersions)
             × IsAt 0 self.now.table.shared.key seen Free (Handing g []) turn.old.seat.me
@@ -145,6 +160,7 @@ impl<T: VersionTree<N::Node>, N: VersionNodes> SharedTable<T, N> {
             → IsAt 0 self.now.table.shared.key (seen ++ g ∷ []) Free Resting turn.new.seat.me }
     {
         let backoff = Backoff::new();
+        // No load so far has found the group published.
         for _ in rt.forever() {
             let found = self
                 .table

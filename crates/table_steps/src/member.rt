@@ -20,71 +20,88 @@ use std::sync::Wait;
 use table_calls::{Finished, VersionNodes, VersionTree};
 use table_rule::{AddVersions, Content, Count, Publish, Settle, Take, VersionPlan};
 
-impl<T: VersionTree<N::Node> + Drop, N: VersionNodes + Drop> SharedTable<T, N> {
+impl<
+    ShardTree: VersionTree<MemberNodes::Node> + Drop,
+    MemberNodes: VersionNodes + Drop,
+> SharedTable<ShardTree, MemberNodes> {
     /// Puts nodes, the next of the member's part, into the tree of their shard, under one hold of its lock.
-    pub(crate) fn add<V: VersionPlan, R: Wait>(
+    pub(crate) fn add<Plan: VersionPlan, R: Wait>(
         &self,
         rt: &R,
-        who: &mut Client<T, N>,
+        who: &mut Client<ShardTree, MemberNodes>,
         shard: u64,
-        mut nodes: N,
+        mut nodes: MemberNodes,
     )
         requires seat { (who.old.seat.table_id ≡ self.now.table.shared.table_id)
             × (shard < self.now.table.shared.key.shards) }
         requires next { (seen : List (List MemberVersions)) × (u : Launched) × (done : List Version)
             × (more : List Version) × IsAt who.old.number self.now.table.shared.key seen Free
-            (Holding (work u done (V.versions ++ more))) who.old.seat.me }
-        requires nodes { N.versions nodes ≡ V.versions }
-        requires shard { AreOfShard self.now.table.shared.key.shards shard V.versions }
+            (Holding (work u done (Plan.versions ++ more))) who.old.seat.me }
+        requires nodes { MemberNodes.versions nodes ≡ Plan.versions }
+        requires shard { AreOfShard self.now.table.shared.key.shards shard Plan.versions }
         ensures seat { (who.new.seat.table_id ≡ who.old.seat.table_id) × (who.new.number ≡ who.old.number)
             × (who.new.seat.me.1 ≡ who.old.seat.me.1) }
         ensures added { (seen : List (List MemberVersions)) (u : Launched) (done more : List Version)
             → IsAt who.old.number self.now.table.shared.key seen Free
-            (Holding (work u done (V.versions ++ more))) who.old.seat.me
+            (Holding (work u done (Plan.versions ++ more))) who.old.seat.me
             → IsAt who.old.number self.now.table.shared.key seen Free
-            (Holding (work u (done ++ V.versions) more)) who.new.seat.me }
+            (Holding (work u (done ++ Plan.versions) more)) who.new.seat.me }
     {
         let mut tree = self.lock(rt, who, shard);
+        // The tree has what it had, and the nodes popped so far.
         while let Some(node) = nodes.pop() {
             tree.insert(node);
         }
-        self.give_back::<V>(who, shard, tree);
+        self.give_back::<Plan>(who, shard, tree);
     }
 
     // Gives a shard's tree back with versions of the member's part more.
-    fn give_back<V: VersionPlan>(&self, who: &mut Client<T, N>, shard: u64, tree: T)
+    fn give_back<Plan: VersionPlan>(
+        &self,
+        who: &mut Client<ShardTree, MemberNodes>,
+        shard: u64,
+        tree: ShardTree,
+    )
         requires seat { (who.old.seat.table_id ≡ self.now.table.shared.table_id)
             × (shard < self.now.table.shared.key.shards) }
         requires held { (seen : List (List MemberVersions)) × (u : Launched) × (done : List Version)
-            × (more : List Version) × (vs : List Version) × (slots : List (ℕ × Content T N))
+            × (more : List Version) × (vs : List Version) × (slots : List (ℕ × Content ShardTree MemberNodes))
             × IsAt who.old.number self.now.table.shared.key seen (Held shard vs)
-            (Holding (work u done (V.versions ++ more))) who.old.seat.me
-            × (who.old.seat.me.1 ≡ (shard, Blank) ∷ slots) × AddsAll vs V.versions (T.versions tree) }
-        requires shard { AreOfShard self.now.table.shared.key.shards shard V.versions }
+            (Holding (work u done (Plan.versions ++ more))) who.old.seat.me
+            × (who.old.seat.me.1 ≡ (shard, Blank) ∷ slots) × AddsAll vs Plan.versions (ShardTree.versions tree) }
+        requires shard { AreOfShard self.now.table.shared.key.shards shard Plan.versions }
         ensures seat { (who.new.seat.table_id ≡ who.old.seat.table_id) × (who.new.number ≡ who.old.number)
             × (who.new.seat.me.1 ≡ rest who.old.seat.me.1) }
         ensures added { (seen : List (List MemberVersions)) (u : Launched) (done more vs : List Version)
             → IsAt who.old.number self.now.table.shared.key seen (Held shard vs)
-            (Holding (work u done (V.versions ++ more))) who.old.seat.me
+            (Holding (work u done (Plan.versions ++ more))) who.old.seat.me
             → IsAt who.old.number self.now.table.shared.key seen Free
-            (Holding (work u (done ++ V.versions) more)) who.new.seat.me }
+            (Holding (work u (done ++ Plan.versions) more)) who.new.seat.me }
     {
         let shared = &self.table.shared;
         match shared.exchange(&mut who.seat, shard as usize, Content::Tree(tree)) {
             Content::Blank => {}
             _ => unreachable!(),
         }
-        shared.store::<AddVersions<V>>(&mut who.seat, shard as usize, 0);
+        shared.store::<AddVersions<Plan>>(&mut who.seat, shard as usize, 0);
     }
 }
 
-impl<T: VersionTree<N::Node> + Drop, N: VersionNodes + Drop> TableSeat<T, N> {
+impl<ShardTree: VersionTree<MemberNodes::Node> + Drop, MemberNodes: VersionNodes + Drop> TableSeat<
+    ShardTree,
+    MemberNodes,
+> {
     /// Waits until the client's part is handed out, and takes it.
-    pub fn take<R: Wait>(&mut self, table: &SharedTable<T, N>, rt: &R) -> N
+    pub fn take<R: Wait>(
+        &mut self,
+        table: &SharedTable<ShardTree, MemberNodes>,
+        rt: &R,
+    ) -> MemberNodes
         requires ours { IsOurs table.now self.old }
         requires free { MayTake (account self.old).stage }
         ensures ours { IsOurs table.now self.new }
-        ensures taken { Takes (opening_of table.now) (account self.old) (N.versions result) (account self.new) }
+        ensures taken { Takes (opening_of table.now) (account self.old) (MemberNodes.versions result)
+            (account self.new) }
     {
         let shared = &table.table.shared;
         let word = table.opening.shards as usize + 1 + self.client.number as usize;
@@ -108,7 +125,7 @@ impl<T: VersionTree<N::Node> + Drop, N: VersionNodes + Drop> TableSeat<T, N> {
     }
 
     /// All nodes of the client's part are in their trees.
-    pub fn settle(&mut self, table: &SharedTable<T, N>)
+    pub fn settle(&mut self, table: &SharedTable<ShardTree, MemberNodes>)
         requires ours { IsOurs table.now self.old }
         requires added { (u : Launched) × (done : List Version)
             × ((account self.old).stage ≡ Holding (work u done [])) }
@@ -123,7 +140,7 @@ impl<T: VersionTree<N::Node> + Drop, N: VersionNodes + Drop> TableSeat<T, N> {
             .store::<Settle>(&mut self.client.seat, word, 0);
     }
     /// The client's part is finished. Just who finds no other member running is the last of the group.
-    pub fn finish(&mut self, table: &SharedTable<T, N>) -> Finished
+    pub fn finish(&mut self, table: &SharedTable<ShardTree, MemberNodes>) -> Finished
         requires ours { IsOurs table.now self.old }
         requires stored { (u : Launched) × ((account self.old).stage ≡ Stored u) }
         ensures ours { IsOurs table.now self.new }
@@ -142,7 +159,7 @@ impl<T: VersionTree<N::Node> + Drop, N: VersionNodes + Drop> TableSeat<T, N> {
         }
     }
     /// Publishes the group, of which this client finished last. The client has then seen it.
-    pub fn publish(&mut self, table: &SharedTable<T, N>)
+    pub fn publish(&mut self, table: &SharedTable<ShardTree, MemberNodes>)
         requires ours { IsOurs table.now self.old }
         requires last_one { (u : Launched) × ((account self.old).stage ≡ Publishing u) }
         ensures ours { IsOurs table.now self.new }

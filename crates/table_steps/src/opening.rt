@@ -32,37 +32,46 @@ fn first_words(alloc: Global, opening: &Opening) -> Result<Vec<u64>, NoMemory>
 }
 
 /// Empty trees.
-fn empty_trees<B: VersionNode, T: VersionTree<B> + Drop, N: Drop>(
+fn empty_trees<Node: VersionNode, ShardTree: VersionTree<Node> + Drop, MemberNodes: Drop>(
     alloc: Global,
     count: u64,
-) -> Result<Vec<Content<T, N>>, NoMemory>
+) -> Result<Vec<Content<ShardTree, MemberNodes>>, NoMemory>
     ensures length { IfOk result (λ slots. length slots.items ≡ count) }
-    ensures empty { IfOk result (λ slots. (slot : Content T N) → In slot slots.items → IsEmptyTree T.versions slot) }
+    ensures empty { IfOk result (λ slots. (slot : Content ShardTree MemberNodes) → In slot slots.items
+        → IsEmptyTree ShardTree.versions slot) }
 {
     let mut slots = Vec::new(alloc);
+    // All slots so far hold an empty tree.
     for made in 0..count {
-        slots.push(Content::Tree(T::new()))?;
+        slots.push(Content::Tree(ShardTree::new()))?;
     }
     Ok(slots)
 }
 
 /// Puts empty slots behind others.
-fn add_blanks<T: Drop, N: Drop>(slots: &mut Vec<Content<T, N>>, count: u64) -> Result<(), NoMemory>
+fn add_blanks<ShardTree: Drop, MemberNodes: Drop>(
+    slots: &mut Vec<Content<ShardTree, MemberNodes>>,
+    count: u64,
+) -> Result<(), NoMemory>
     ensures { OnOk result (slots.new.items ≡ slots.old.items ++ replicate count Blank) }
 {
+    // The slots are the old ones, and `added` blank ones after them.
     for added in 0..count {
         slots.push(Content::Blank)?;
     }
     Ok(())
 }
 
-impl<T: VersionTree<N::Node> + Drop, N: VersionNodes + Drop> SharedTable<T, N> {
+impl<
+    ShardTree: VersionTree<MemberNodes::Node> + Drop,
+    MemberNodes: VersionNodes + Drop,
+> SharedTable<ShardTree, MemberNodes> {
     // Cuts the first seat into the clients' and the turn's.
     fn seat_all(
         &self,
         alloc: Global,
-        mut seat: Seat<Content<T, N>, View>,
-    ) -> Result<Seats<TableSeat<T, N>, Turn<T, N>>, NoMemory>
+        mut seat: Seat<Content<ShardTree, MemberNodes>, View>,
+    ) -> Result<Seats<TableSeat<ShardTree, MemberNodes>, Turn<ShardTree, MemberNodes>>, NoMemory>
         requires { (seat.table_id ≡ self.now.table.shared.table_id)
             × (seat.me ≡ (newcomers self.now.table.shared.key 1 self.now.table.shared.key.clients, [])) }
         ensures turn { IfOk result (λ seats. IsTurnOf self.now.table.shared.table_id self.now.table.shared.key []
@@ -71,6 +80,7 @@ impl<T: VersionTree<N::Node> + Drop, N: VersionNodes + Drop> SharedTable<T, N> {
             self.now.table.shared.key.clients seats.clients.items) }
     {
         let mut clients = Vec::new(alloc);
+        // The clients 1 to `seated` have their seats, and `seat` is all others' and the turn's.
         for seated in 0..self.opening.clients {
             let own = self.table.shared.split_seat::<First>(&mut seat);
             clients.push(TableSeat {
@@ -102,7 +112,13 @@ impl<T: VersionTree<N::Node> + Drop, N: VersionNodes + Drop> SharedTable<T, N> {
         clients: u32,
         shards: u32,
         last: u64,
-    ) -> Result<(SharedTable<T, N>, Seats<TableSeat<T, N>, Turn<T, N>>), NoMemory>
+    ) -> Result<
+        (
+            SharedTable<ShardTree, MemberNodes>,
+            Seats<TableSeat<ShardTree, MemberNodes>, Turn<ShardTree, MemberNodes>>,
+        ),
+        NoMemory,
+    >
         requires { 0 < shards }
         ensures table { IfOk result (λ opened. opening_of opened.0
             ≡ record { clients = clients; shards = shards; start = last }) }
@@ -116,7 +132,10 @@ impl<T: VersionTree<N::Node> + Drop, N: VersionNodes + Drop> SharedTable<T, N> {
         };
         let handed = Bells::for_clients(alloc, clients)?;
         let words = first_words(alloc, &opening)?;
-        let mut slots = empty_trees::<N::Node, T, N>(alloc, opening.shards)?;
+        let mut slots = empty_trees::<MemberNodes::Node, ShardTree, MemberNodes>(
+            alloc,
+            opening.shards,
+        )?;
         add_blanks(&mut slots, opening.clients + 1)?;
         let Ok((table, seat)) = Table::new(alloc, &words, slots, &opening) else {
             return Err(NoMemory);

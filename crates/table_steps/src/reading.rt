@@ -18,13 +18,13 @@ use table_calls::{VersionNode, VersionNodes, VersionTree};
 use table_rule::Learn;
 
 /// What a tree has of a key as of a sequence.
-fn copied<B: VersionNode, T: VersionTree<B>>(
+fn copied<Node: VersionNode, ShardTree: VersionTree<Node>>(
     alloc: Global,
-    tree: &T,
+    tree: &ShardTree,
     key: &[u8],
     at: u64,
 ) -> Result<Found, NoMemory>
-    ensures { IfOk result (λ found. (order : List Version) → IsOrderUpTo at (T.versions tree.now) order
+    ensures { IfOk result (λ found. (order : List Version) → IsOrderUpTo at (ShardTree.versions tree.now) order
         → found_value found ≡ value_at (map_of order) key.now) }
 {
     match tree.lookup(key, at) {
@@ -33,9 +33,12 @@ fn copied<B: VersionNode, T: VersionTree<B>>(
     }
 }
 
-impl<T: VersionTree<N::Node> + Drop, N: VersionNodes + Drop> TableSeat<T, N> {
+impl<ShardTree: VersionTree<MemberNodes::Node> + Drop, MemberNodes: VersionNodes + Drop> TableSeat<
+    ShardTree,
+    MemberNodes,
+> {
     /// The published sequence.
-    pub fn last(&mut self, table: &SharedTable<T, N>) -> u64
+    pub fn last(&mut self, table: &SharedTable<ShardTree, MemberNodes>) -> u64
         requires { IsOurs table.now self.old }
         ensures ours { IsOurs table.now self.new }
         ensures seen { Learns (opening_of table.now).start (account self.old) (account self.new) }
@@ -47,7 +50,12 @@ impl<T: VersionTree<N::Node> + Drop, N: VersionNodes + Drop> TableSeat<T, N> {
             .load::<Learn>(&mut self.client.seat, table.opening.shards as usize)
     }
     /// Waits until the client has seen what is published up to a sequence. It sleeps until a group is published.
-    pub fn await_seen<R: Wait>(&mut self, table: &SharedTable<T, N>, rt: &R, at_least: u64)
+    pub fn await_seen<R: Wait>(
+        &mut self,
+        table: &SharedTable<ShardTree, MemberNodes>,
+        rt: &R,
+        at_least: u64,
+    )
         requires { IsOurs table.now self.old }
         ensures ours { IsOurs table.now self.new }
         ensures seen { Learns (opening_of table.now).start (account self.old) (account self.new) }
@@ -68,7 +76,7 @@ impl<T: VersionTree<N::Node> + Drop, N: VersionNodes + Drop> TableSeat<T, N> {
     /// The key's value in a shard, as of `at`, the end of what the seat has seen.
     pub fn find<R: Wait>(
         &mut self,
-        table: &SharedTable<T, N>,
+        table: &SharedTable<ShardTree, MemberNodes>,
         alloc: Global,
         rt: &R,
         shard: u64,
@@ -86,7 +94,7 @@ impl<T: VersionTree<N::Node> + Drop, N: VersionNodes + Drop> TableSeat<T, N> {
             key.now) }
     {
         let tree = table.lock(rt, &mut self.client, shard);
-        let found = copied::<N::Node, T>(alloc, &tree, key, at);
+        let found = copied::<MemberNodes::Node, ShardTree>(alloc, &tree, key, at);
         table.unlock(&mut self.client, shard, tree);
         found
     }
@@ -94,7 +102,7 @@ impl<T: VersionTree<N::Node> + Drop, N: VersionNodes + Drop> TableSeat<T, N> {
     /// seen.
     pub fn find_rows<R: Wait>(
         &mut self,
-        table: &SharedTable<T, N>,
+        table: &SharedTable<ShardTree, MemberNodes>,
         alloc: Global,
         rt: &R,
         shard: u64,

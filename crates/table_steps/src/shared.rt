@@ -17,10 +17,10 @@ use std::sync::Wait;
 use table_calls::{VersionNodes, VersionTree};
 use table_rule::{Content, LockShard, Opening, TableLaw, UnlockShard, Versioned, View};
 
-/// The words and slots of a table. `T` are its trees, and `N` a member's nodes.
+/// The words and slots of a table. `ShardTree` are its trees, and `MemberNodes` a member's nodes.
 #[derive(Drop)]
-pub struct SharedTable<T: Versioned, N: Versioned> {
-    pub(crate) table: Table<Content<T, N>, View, Opening, TableLaw, Global>,
+pub struct SharedTable<ShardTree: Versioned, MemberNodes: Versioned> {
+    pub(crate) table: Table<Content<ShardTree, MemberNodes>, View, Opening, TableLaw, Global>,
     pub(crate) opening: Opening,
     /// On which a member sleeps until its nodes are handed out.
     pub(crate) handed: Bells,
@@ -33,14 +33,22 @@ pub struct SharedTable<T: Versioned, N: Versioned> {
 
 /// A client's seat.
 #[derive(Drop)]
-pub(crate) struct Client<T, N> {
+pub(crate) struct Client<ShardTree, MemberNodes> {
     pub(crate) number: u64,
-    pub(crate) seat: Seat<Content<T, N>, View>,
+    pub(crate) seat: Seat<Content<ShardTree, MemberNodes>, View>,
 }
 
-impl<T: VersionTree<N::Node>, N: VersionNodes> SharedTable<T, N> {
+impl<ShardTree: VersionTree<MemberNodes::Node>, MemberNodes: VersionNodes> SharedTable<
+    ShardTree,
+    MemberNodes,
+> {
     /// Waits for a shard's lock, and takes its tree. It spins a few turns, and then yields.
-    pub(crate) fn lock<R: Wait>(&self, rt: &R, who: &mut Client<T, N>, shard: u64) -> T
+    pub(crate) fn lock<R: Wait>(
+        &self,
+        rt: &R,
+        who: &mut Client<ShardTree, MemberNodes>,
+        shard: u64,
+    ) -> ShardTree
         requires seat { (who.old.seat.table_id ≡ self.now.table.shared.table_id)
             × (shard < self.now.table.shared.key.shards) }
         requires free { (seen : List (List MemberVersions)) × (stage : Stage)
@@ -49,10 +57,11 @@ impl<T: VersionTree<N::Node>, N: VersionNodes> SharedTable<T, N> {
         ensures locked { (seen : List (List MemberVersions)) (stage : Stage)
             → IsAt who.old.number self.now.table.shared.key seen Free stage who.old.seat.me
             → Locked who.old.number self.now.table.shared.key shard seen stage
-            (T.versions result) who.old.seat.me who.new.seat.me }
+            (ShardTree.versions result) who.old.seat.me who.new.seat.me }
     {
         let shared = &self.table.shared;
         let backoff = Backoff::new();
+        // The lock was held by somebody at each try so far.
         for _ in rt.forever() {
             let found = shared.compare_exchange::<LockShard>(&mut who.seat, shard as usize, 0, 1);
             if found == 0 {
@@ -67,16 +76,24 @@ impl<T: VersionTree<N::Node>, N: VersionNodes> SharedTable<T, N> {
     }
 
     /// Gives a shard's tree back as it was.
-    pub(crate) fn unlock(&self, who: &mut Client<T, N>, shard: u64, tree: T)
+    pub(crate) fn unlock(
+        &self,
+        who: &mut Client<ShardTree, MemberNodes>,
+        shard: u64,
+        tree: ShardTree,
+    )
         requires seat { (who.old.seat.table_id ≡ self.now.table.shared.table_id)
             × (shard < self.now.table.shared.key.shards) }
-        requires held { (seen : List (List MemberVersions)) × (stage : Stage) × (more : List (ℕ × Content T N))
-            × IsAt who.old.number self.now.table.shared.key seen (Held shard (T.versions tree)) stage who.old.seat.me
+        requires held { (seen : List (List MemberVersions)) × (stage : Stage)
+            × (more : List (ℕ × Content ShardTree MemberNodes))
+            × IsAt who.old.number self.now.table.shared.key seen (Held shard (ShardTree.versions tree)) stage
+            who.old.seat.me
             × (who.old.seat.me.1 ≡ (shard, Blank) ∷ more) }
         ensures seat { (who.new.seat.table_id ≡ who.old.seat.table_id) × (who.new.number ≡ who.old.number)
             × (who.new.seat.me.1 ≡ rest who.old.seat.me.1) }
         ensures free { (seen : List (List MemberVersions)) (stage : Stage)
-            → IsAt who.old.number self.now.table.shared.key seen (Held shard (T.versions tree)) stage who.old.seat.me
+            → IsAt who.old.number self.now.table.shared.key seen (Held shard (ShardTree.versions tree)) stage
+            who.old.seat.me
             → IsAt who.old.number self.now.table.shared.key seen Free stage who.new.seat.me }
     {
         let shared = &self.table.shared;

@@ -13,3 +13,4 @@ pub mod RangeRows
 pub mod Members
 pub mod Orders
 pub mod Adding
+pub mod Numbering

@@ -13,7 +13,7 @@ use Rattle.std.specs.declared.cmp.Ordering.{Ordering}
 use Rattle.std.specs.declared.cmp.Ordering.TheVariants.{Less, Equal, Greater}
 use Rattle.model_base.specs.Map.{Pairs, byte_order, after_record, value_at}
 use Rattle.table_rule.specs.declared.content.Version.{Version}
-use Rattle.table_rule.specs.Histories.{record_of, written}
+use Rattle.table_rule.specs.Histories.{record_of, record_writing}
 use Rattle.table_tree.proofs.Order.{sorted_inserted, flip_greater}
 use Rattle.table_tree.proofs.VersionOrder.{byte_total}
 
@@ -47,7 +47,7 @@ ascending_left test (e ∷ m) s =
 pub ascending_after : (m : Pairs) (v : Version) → AreAscending m → AreAscending (after_record m (record_of v))
 ascending_after m v s = go v.value
   where
-    go : (o : Option (List ℕ)) → AreAscending (after_record m (written v.key o))
+    go : (o : Option (List ℕ)) → AreAscending (after_record m (record_writing v.key o))
     go None = ascending_left (is_at (byte_order v.key)) m s
     go (Some x) = subst (IsStrictlySortedBy byte_order) (sym (keys-insert_entry m v.key x)) (sorted_inserted byte_order byte_total v.key (keys_of m) s)
 
@@ -95,6 +95,6 @@ lookup_removed m k q s =
 pub value_after : (m : Pairs) (v : Version) (q : List ℕ) → AreAscending m → value_at (after_record m (record_of v)) q ≡ cond (same_key q v.key) v.value (value_at m q)
 value_after m v q s = go v.value
   where
-    go : (o : Option (List ℕ)) → value_at (after_record m (written v.key o)) q ≡ cond (same_key q v.key) o (value_at m q)
+    go : (o : Option (List ℕ)) → value_at (after_record m (record_writing v.key o)) q ≡ cond (same_key q v.key) o (value_at m q)
     go None = lookup_removed m v.key q s
     go (Some x) = lookup_inserted m v.key x q

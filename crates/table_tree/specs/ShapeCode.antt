@@ -26,35 +26,35 @@ chain_code =
     (λ p. record { newest = p.0; older = p.1 }) (λ _. refl)
 
 -- none for a leaf
-abbrev pub told : Shape → List (Option Chain)
-told leaf = None ∷ []
-told (fork left c right) = told left ++ (told right ++ Some c ∷ [])
+abbrev pub code_of_shape : Shape → List (Option Chain)
+code_of_shape leaf = None ∷ []
+code_of_shape (fork left c right) = code_of_shape left ++ (code_of_shape right ++ Some c ∷ [])
 
 -- the shapes that are open, the last first, after what is told
-abbrev pub taken : List (Option Chain) → List Shape → List Shape
-taken [] open_shapes = open_shapes
-taken (None ∷ rest) open_shapes = taken rest (leaf ∷ open_shapes)
-taken (Some c ∷ rest) [] = []
-taken (Some c ∷ rest) (right ∷ []) = []
-taken (Some c ∷ rest) (right ∷ left ∷ open_shapes) = taken rest (fork left c right ∷ open_shapes)
+abbrev pub shapes_after : List (Option Chain) → List Shape → List Shape
+shapes_after [] open_shapes = open_shapes
+shapes_after (None ∷ rest) open_shapes = shapes_after rest (leaf ∷ open_shapes)
+shapes_after (Some c ∷ rest) [] = []
+shapes_after (Some c ∷ rest) (right ∷ []) = []
+shapes_after (Some c ∷ rest) (right ∷ left ∷ open_shapes) = shapes_after rest (fork left c right ∷ open_shapes)
 
 abbrev pub first_shape : List Shape → Shape
 first_shape [] = leaf
 first_shape (s ∷ rest) = s
 
-pub taken-told : (s : Shape) (rest : List (Option Chain)) (open_shapes : List Shape)
-    → taken (told s ++ rest) open_shapes ≡ taken rest (s ∷ open_shapes)
-taken-told leaf rest open_shapes = refl
-taken-told (fork left c right) rest open_shapes =
-    ap (λ l. taken l open_shapes) (append_assoc (told left) (told right ++ Some c ∷ []) rest)
-    ∙ taken-told left ((told right ++ Some c ∷ []) ++ rest) open_shapes
-    ∙ ap (λ l. taken l (left ∷ open_shapes)) (append_assoc (told right) (Some c ∷ []) rest)
-    ∙ taken-told right (Some c ∷ rest) (left ∷ open_shapes)
+pub shapes_after_code : (s : Shape) (rest : List (Option Chain)) (open_shapes : List Shape)
+    → shapes_after (code_of_shape s ++ rest) open_shapes ≡ shapes_after rest (s ∷ open_shapes)
+shapes_after_code leaf rest open_shapes = refl
+shapes_after_code (fork left c right) rest open_shapes =
+    ap (λ l. shapes_after l open_shapes) (append_assoc (code_of_shape left) (code_of_shape right ++ Some c ∷ []) rest)
+    ∙ shapes_after_code left ((code_of_shape right ++ Some c ∷ []) ++ rest) open_shapes
+    ∙ ap (λ l. shapes_after l (left ∷ open_shapes)) (append_assoc (code_of_shape right) (Some c ∷ []) rest)
+    ∙ shapes_after_code right (Some c ∷ rest) (left ∷ open_shapes)
 
-pub shape_again : (s : Shape) → first_shape (taken (told s) []) ≡ s
-shape_again s = ap (λ (l : List (Option Chain)). first_shape (taken l []))
-    (sym (append-nil (told s))) ∙ ap first_shape (taken-told s [] [])
+pub shape_again : (s : Shape) → first_shape (shapes_after (code_of_shape s) []) ≡ s
+shape_again s = ap (λ (l : List (Option Chain)). first_shape (shapes_after l []))
+    (sym (append-nil (code_of_shape s))) ∙ ap first_shape (shapes_after_code s [] [])
 
 abbrev pub shape_code : Coded Shape
-shape_code = code_by (List (Option Chain)) (coded_list (coded_option chain_code)) told
-    (λ l. first_shape (taken l [])) shape_again
+shape_code = code_by (List (Option Chain)) (coded_list (coded_option chain_code)) code_of_shape
+    (λ l. first_shape (shapes_after l [])) shape_again

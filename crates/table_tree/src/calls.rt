@@ -73,6 +73,6 @@ impl GroupParts<Nodes> for Parts {
 
     fn pop(&mut self) -> Option<(u64, Nodes)> {
         let part = self.pop()?;
-        Some((u64::from(part.member), part.nodes))
+        Some((u64::from(part.member), part.nodes.into_nodes()))
     }
 }

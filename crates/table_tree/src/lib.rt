@@ -3,6 +3,7 @@
 #![tactic(auto)]
 
 mod calls;
+mod gathered;
 mod insertion;
 mod lookup;
 mod node;
@@ -13,6 +14,7 @@ mod rotations;
 mod tree;
 mod value;
 
+pub use gathered::GatheredNodes;
 pub use node::{Node, Nodes};
 pub use parts::{MemberNodes, Parts};
 pub use tree::{Tree, orders_of_versions};

@@ -28,6 +28,7 @@ impl Subtree {
     {
         let front = Front::of(key);
         let mut below = self;
+        // If the key has a node, it stands in `below`.
         while let Some(node) = &below.root {
             match node.key.order_of(key, front) {
                 Ordering::Less => below = &node.left,
@@ -57,6 +58,7 @@ impl Nodes {
         ensures { option_copied result ≡ first_up_to at self.now }
     {
         let mut rest = self;
+        // All nodes before `rest` are above the sequence.
         while let Some(node) = &rest.first {
             if node.sequence <= at {
                 return Some(&node.value);

@@ -102,6 +102,7 @@ impl Drop for Nodes {
     // One after another, since a list may be long.
     #[cycle(drop)]
     fn drop(mut self) {
+        // What is left of the list is `self`.
         loop {
             match self {
                 Nodes { first: None } => return,

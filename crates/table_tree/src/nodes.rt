@@ -4,7 +4,7 @@ ghost use Rattle.std.specs.Prelude.{◌≡◌, List, ◌∷◌, ◌++◌, ◌+�
 ghost use Rattle.std.specs.Option.{option_copied, option_map, option_to_list};
 ghost use Rattle.log_batch.specs.View.{record_of};
 ghost use Rattle.table_tree.specs.Nodes.{version_of};
-ghost use Rattle.table_tree.specs.Batches.{made, numbered};
+ghost use Rattle.table_tree.specs.Batches.{new_versions, number_from};
 ghost use Rattle.table_rule.specs.declared.content.Version.{Version};
 ghost use Rattle.table_tree.specs.Chains.{insert_older};
 
@@ -17,9 +17,10 @@ use std::alloc::Global;
 use std::mem;
 
 impl Nodes {
-    /// A node for each record of the batch that counts, in order. Their sequences aren't given yet.
+    /// A node for each record of the batch that counts, the last record's first, as `number` takes them. Their sequences
+    /// aren't given yet.
     pub fn make(alloc: Global, batch: &Batch) -> Result<Nodes, NoMemory>
-        ensures { IfOk result (λ nodes. nodes ≡ made batch.now.records) }
+        ensures { IfOk result (λ nodes. nodes ≡ reverse (new_versions batch.now.records)) }
     {
         let mut nodes = Nodes::new();
         for view in batch.records() {
@@ -27,22 +28,24 @@ impl Nodes {
                 nodes.push_front(node);
             }
         }
-        Ok(nodes.reversed())
+        Ok(nodes)
     }
 
-    /// Gives them sequences: the first one this, and each the one behind that before it.
-    pub fn number(&mut self, first: u64)
-        requires { first + length self.old ≤ 2 ^ 56 }
-        ensures { self.new ≡ numbered first self.old }
+    /// Turns them round, and gives them sequences: the first one then this, and each the one behind that before it.
+    /// `count` is how many there are.
+    pub fn number(&mut self, first: u64, count: u64)
+        requires count { count ≡ length self.old }
+        requires fits { first + count ≤ 2 ^ 56 }
+        ensures { self.new ≡ number_from first (reverse self.old) }
     {
         let mut numbered = Nodes::new();
-        let mut sequence = first;
+        let mut sequence = first + count;
         while let Some(mut node) = self.pop() {
+            sequence -= 1;
             node.sequence = sequence;
-            sequence += 1;
             numbered.push_front(node);
         }
-        *self = numbered.reversed();
+        *self = numbered;
     }
 
     /// Takes the first one out.
@@ -80,16 +83,13 @@ impl Nodes {
         count
     }
 
-    /// Puts others behind them. This takes no memory.
-    pub fn append(&mut self, other: Nodes)
-        ensures { self.new ≡ self.old ++ other }
+    /// Puts nodes before them, whose last one comes first: they are turned round. This takes no memory.
+    pub(crate) fn push_all_front(&mut self, mut turned: Nodes)
+        ensures { self.new ≡ reverse turned ++ self.old }
     {
-        let mut front = mem::replace(self, Nodes::new()).reversed();
-        let mut all = other;
-        while let Some(node) = front.pop() {
-            all.push_front(node);
+        while let Some(node) = turned.pop() {
+            self.push_front(node);
         }
-        *self = all;
     }
 
     /// No nodes. This takes no memory.
@@ -103,11 +103,9 @@ impl Nodes {
     pub(crate) fn insert_older(&mut self, node: Box<Node>)
         ensures { self.new ≡ insert_older self.old (version_of node.value) }
     {
-        let mut newer = self.take_newer(node.sequence);
+        let newer = self.take_newer(node.sequence);
         self.push_front(node);
-        while let Some(node) = newer.pop() {
-            self.push_front(node);
-        }
+        self.push_all_front(newer);
     }
 
     /// Takes out those in front that are newer than a sequence, and answers them with the last first.
@@ -137,13 +135,11 @@ impl Nodes {
     }
 
     /// The last one first.
-    pub fn reversed(mut self) -> Nodes
+    pub fn reversed(self) -> Nodes
         ensures { result ≡ reverse self }
     {
         let mut turned = Nodes::new();
-        while let Some(node) = self.pop() {
-            turned.push_front(node);
-        }
+        turned.push_all_front(self);
         turned
     }
 }
@@ -179,7 +175,7 @@ impl Node {
     /// The node of a record, if it counts. A single deletion is one like a deletion.
     fn of_record(alloc: Global, view: RecordView<'_>) -> Result<Option<Box<Node>>, NoMemory>
         ensures { IfOk result (λ node. option_to_list (option_map (λ n. version_of n.value) node)
-            ≡ made (record_of view.entry ∷ [])) }
+            ≡ new_versions (record_of view.entry ∷ [])) }
     {
         match view {
             RecordView::Value { key, value } => Ok(Some(Node::new(alloc, key, Some(value))?)),

@@ -5,7 +5,7 @@ ghost use Rattle.std.specs.List.{position_from};
 ghost use Rattle.table_rule.specs.Histories.{versions_in};
 ghost use Rattle.table_tree.specs.Parts.{with_part, group_of};
 
-use crate::Nodes;
+use crate::{GatheredNodes, Nodes};
 use model_base::NoMemory;
 use std::alloc::Global;
 use std::marker::Model;
@@ -14,7 +14,7 @@ use std::marker::Model;
 #[derive(Drop)]
 pub struct MemberNodes {
     pub member: u32,
-    pub nodes: Nodes,
+    pub nodes: GatheredNodes,
 }
 
 /// The members of a group with their nodes, each member once, in the order in which they came. Contracts
@@ -54,7 +54,10 @@ impl Parts {
     {
         match self.place_of(member) {
             Some(at) => self.parts[at].nodes.append(nodes),
-            None => self.parts.push(MemberNodes { member, nodes }).unwrap(),
+            None => {
+                let nodes = GatheredNodes::of(nodes);
+                self.parts.push(MemberNodes { member, nodes }).unwrap()
+            }
         }
     }
 

@@ -65,7 +65,7 @@ fn history_is_in_order_of_sequences(rt: HostRuntime) -> Result<(), Fail> {
         let entry = history.entry(at);
         let shown = (
             (entry.client, entry.ordinal),
-            (entry.first, entry.last),
+            (entry.run.first, entry.run.last),
             entry.batch.sequence(),
         );
         assert_eq!(rt; shown, (owner, run, run.0));

@@ -233,7 +233,8 @@ fn keeps_pairs_in_order(rt: HostRuntime) -> Result<(), Fail> {
     Ok(())
 }
 
-const INSERTED: [(&[u8], &[u8]); 9] = [
+// Keys that are shorter than the front by which keys are compared first, as long as it, and longer with the same one.
+const INSERTED: [(&[u8], &[u8]); 16] = [
     (b"b", b"1"),
     (b"", b"2"),
     (b"a key of 20 bytes..2", b"6"),
@@ -243,18 +244,29 @@ const INSERTED: [(&[u8], &[u8]); 9] = [
     (b"a", b"5"),
     (b"c key of 20 bytes...", b"8"),
     (b"a key of 20 bytes..2", b"9"),
+    (b"sixteen bytes of", b"1"),
+    (b"sixteen bytes of it", b"2"),
+    (b"", b"3"),
+    (b"sixteen bytes of all", b"4"),
+    (b"s\0", b"5"),
+    (b"s", b"6"),
+    (b"sixteen bytes of", b"7"),
 ];
 
-const LEFT: [(&[u8], &[u8]); 5] = [
-    (b"", b"2"),
+const LEFT: [(&[u8], &[u8]); 9] = [
+    (b"", b"3"),
     (b"a", b"5"),
     (b"a key of 20 bytes..2", b"9"),
     (b"b", b"4"),
     (b"c key of 20 bytes...", b"8"),
+    (b"s", b"6"),
+    (b"s\0", b"5"),
+    (b"sixteen bytes of", b"7"),
+    (b"sixteen bytes of all", b"4"),
 ];
 
-// The map of all pairs, without four keys, of which two aren't there.
-fn map_of_five(alloc: Global) -> Result<ByteMap, NoMemory> {
+// The map of all pairs, without six keys, of which three aren't there.
+fn map_of_nine(alloc: Global) -> Result<ByteMap, NoMemory> {
     let mut map = ByteMap::new(alloc);
     for (key, value) in &INSERTED {
         map.insert(key, value)?;
@@ -263,6 +275,8 @@ fn map_of_five(alloc: Global) -> Result<ByteMap, NoMemory> {
     map.remove(b"abc");
     map.remove(b"a key of 20 bytes..1");
     map.remove(b"a key of 20 bytes..3");
+    map.remove(b"sixteen bytes of it");
+    map.remove(b"sixteen bytes of i");
     Ok(map)
 }
 
@@ -280,6 +294,6 @@ fn check_map(rt: &impl Abort, map: &ByteMap) {
 
 #[test]
 fn has_the_last_value_of_each_key(rt: HostRuntime) -> Result<(), Fail> {
-    check_map(&rt, &map_of_five(rt.alloc())?);
+    check_map(&rt, &map_of_nine(rt.alloc())?);
     Ok(())
 }

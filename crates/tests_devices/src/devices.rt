@@ -97,6 +97,41 @@ fn crash_leaves_what_it_may(rt: HostRuntime) -> Result<(), Fail> {
     Ok(())
 }
 
+// A disk with 48 safe bytes and 24 others.
+fn partly_safe(rt: &impl Abort, alloc: Global) -> Result<MemDisk, NoMemory> {
+    let mut disk = MemDisk::new(alloc, 72, &[b's'; 48], &[])?;
+    check(rt, 0, &disk.append(&[b'n'; 24]), &Ok(()));
+    Ok(disk)
+}
+
+// How many bytes are left, and the seed, of which 2^31 more draw the same.
+const TORN: [(u64, u64); 4] = [(72, 2), (54, 2), (48, 2), (72, 2_147_483_650)];
+
+// What seed 2 draws. The bytes were computed by another program.
+const DRAWN: [u8; 24] = [
+    0x8c, 0x21, 0xff, 0x72, 0xed, 0xd7, 0x18, 0xd9, 0x4e, 0x13, 0x95, 0x13, 0xdc, 0x1b, 0x63, 0xfc,
+    0x93, 0x06, 0xf6, 0xbf, 0x9c, 0xe5, 0x06, 0xe0,
+];
+
+// All that is left is safe. It begins with what was safe before, and goes on with what was drawn.
+fn check_torn(rt: &impl Abort, row: usize, left: &MemDisk, len: u64) {
+    check(rt, row, &left.synced(), &len);
+    let content = left.content();
+    check(rt, row, &content.get(..48), &Some(&[b's'; 48]));
+    let drawn = DRAWN.get(..len.saturating_sub(48) as usize);
+    check(rt, row, &content.get(48..), &drawn);
+}
+
+#[test]
+fn torn_writes_leave_drawn_bytes(rt: HostRuntime) -> Result<(), Fail> {
+    for (row, (len, seed)) in TORN.iter().enumerate() {
+        let disk = partly_safe(&rt, rt.alloc())?;
+        assert!(rt; disk.synced() <= *len && *len <= disk.content().len() as u64);
+        check_torn(&rt, row, &disk.torn(*len, *seed), *len);
+    }
+    Ok(())
+}
+
 const PAUSES: [(u64, u64); 4] = [(0, 1000), (500, 1500), (u64::MAX, u64::MAX), (1, u64::MAX)];
 
 #[test]

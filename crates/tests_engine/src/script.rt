@@ -1,5 +1,6 @@
-// What a client of a test does, and what it is told.
+//! What a client of a test does, and what it is told.
 
+use log_batch::Run;
 use model_base::{Refusal, WriteOptions};
 
 /// A call of a client.
@@ -28,11 +29,10 @@ pub enum Step {
 /// What a call answered.
 #[derive(Clone, Copy, Debug, PartialEq, Eq)]
 pub enum StepAnswer {
-    /// The batch was written under so many sequences from the first on, in a group that ends at `group_last`. It came
-    /// back with this sequence set.
+    /// The batch was written under these sequences, in a group that ends at `group_last`. It came back with this
+    /// sequence set.
     Wrote {
-        first: u64,
-        count: u32,
+        run: Run,
         group_last: u64,
         sequence: u64,
     },

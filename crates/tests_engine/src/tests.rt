@@ -17,7 +17,7 @@ mod stops;
 use crate::script::{Step, StepAnswer};
 use base_devices::MemDisk;
 use model_base::{MAX_SIZE, Options, WriteOptions};
-use playing::{closed, opened, play_at_once};
+use playing::{Notes, closed, opened, play_at_once};
 use std::alloc::Global;
 use std::process::Abort;
 use std::sync::{Mutex, Wait};
@@ -65,6 +65,26 @@ struct Outcome {
     last: u64,
 }
 
+// What so many clients note, each on its own, with nothing noted yet.
+fn empty_notes(rt: &impl Abort, alloc: Global, count: usize) -> Vec<Notes> {
+    let mut shared = Vec::with_capacity(alloc, count).expect(rt, "memory");
+    for _ in 0..count {
+        shared
+            .push(Mutex::new(Vec::new(alloc)))
+            .expect(rt, "memory");
+    }
+    shared
+}
+
+// What each client has noted.
+fn noted(rt: &impl Abort, alloc: Global, shared: Vec<Notes>) -> Vec<Vec<StepAnswer>> {
+    let mut notes = Vec::with_capacity(alloc, shared.len()).expect(rt, "memory");
+    for told in shared {
+        notes.push(told.into_inner()).expect(rt, "memory");
+    }
+    notes
+}
+
 // Opens an engine over a table of so many shards, in one stage or two, with a client for each script, lets all play at
 // once, and closes it. The disk has much room, and its calls with a number in the list fail. The first batch is written
 // after this sequence.
@@ -87,12 +107,7 @@ fn ended<R: Threads + Wait + Abort + Sync>(
     };
     let count = scripts.len();
     assert!(rt; 0 < count && count <= 16);
-    let mut shared = Vec::with_capacity(alloc, count).expect(rt, "memory");
-    for _ in 0..count {
-        shared
-            .push(Mutex::new(Vec::new(alloc)))
-            .expect(rt, "memory");
-    }
+    let shared = empty_notes(rt, alloc, count);
     let (engine, mut all) = opened(
         rt,
         alloc,
@@ -114,12 +129,8 @@ fn ended<R: Threads + Wait + Abort + Sync>(
     let (log, last) = closed(rt, engine, all);
     let len = log.len();
     let fault = log.fault();
-    let mut notes = Vec::with_capacity(alloc, count).expect(rt, "memory");
-    for told in shared {
-        notes.push(told.into_inner()).expect(rt, "memory");
-    }
     Outcome {
-        notes,
+        notes: noted(rt, alloc, shared),
         disk: log.into_disk(),
         len,
         fault,

@@ -1,5 +1,5 @@
 -- From the writers of an opened list to those who take part, and back.
-use Rattle.std.proofs.Common.{◌≡◌, ◌≢◌, Bool, true, false, ℕ, ◌+◌, ◌-◌, ◌<◌, ◌≤◌, ◌⊎◌, inl, inr, suc, List, [], ◌∷◌, ◌++◌, length, get_or, set, refl, sym, ap, ◌∙◌, subst, arith, length-append}
+use Rattle.std.proofs.Common.{◌≡◌, ◌≢◌, ℕ, ◌+◌, ◌-◌, ◌<◌, ◌≤◌, ◌⊎◌, inl, inr, suc, List, [], ◌∷◌, ◌++◌, length, get_or, set, refl, sym, ap, ◌∙◌, subst, arith, length-append}
 use Rattle.std.proofs.lemmas.List.{get_or_push, get_or_append_left, get_or-set_other, get_or-set_same, length-set}
 use Rattle.std.proofs.lemmas.Bool.{cases_lt}
 use Rattle.line_rule.specs.declared.view.LineStage.TheVariants.{Idle}
@@ -12,7 +12,7 @@ use Rattle.line_rule.specs.declared.view.Handling.{Handling}
 use Rattle.line_rule.specs.declared.view.QueuedWriter.{QueuedWriter}
 use Rattle.line_writers.specs.Roles.{IsNew, AreNew, IsLinked}
 use Rattle.line_writers.specs.Rooms.{AreReady, AllReady}
-use Rattle.line_writers.specs.Seats.{table_of, clients_of, Belongs, IsIn, IsChosen, IsOut, AllOut, AllThere, told, told_in_first}
+use Rattle.line_writers.specs.Seats.{table_of, clients_of, Belongs, IsIn, IsChosen, IsOut, AllOut, AllThere, answers_told, told_in_first}
 use Rattle.tests_line.specs.declared.counter.CountRequest.{CountRequest}
 use Rattle.tests_line.specs.declared.counter.CountReply.{CountReply}
 use Rattle.tests_line.specs.declared.counter.CountLog.{CountLog}
@@ -24,7 +24,7 @@ pub ready_last : {Q P : Type 0} (n : ℕ) (xs : List (Lists Q P)) (x : Lists Q P
 ready_last n [] x all = (tt, all.0)
 ready_last n (y ∷ ys) x all = let t = ready_last n ys x all.1 in ((all.0, t.0), t.1)
 
-below_or_at : (i n : ℕ) → i < n + 1 → (i < n) ⊎ (i ≡ n)
+pub below_or_at : (i n : ℕ) → i < n + 1 → (i < n) ⊎ (i ≡ n)
 below_or_at i n h = elim (cases_lt i n) [ inl lt ↦ inl lt | inr ge ↦ inr (omega arith) ]
 
 -- what holds at each place below i and then at i too, and what holds from there on
@@ -60,16 +60,16 @@ module _ (list : Counted) where
   new_last m (x ∷ xs) w new = let t = new_last (m - 1) xs w new.1 in ((new.0, t.0), subst (λ k. IsNew (table_of list) k w) (let h : m - 1 - length xs ≡ m - suc (length xs) = omega arith in h) t.1)
 
   pub new_is_out : (k : ℕ) (w : Writer CountRequest CountReply CountLog Nothing) → IsNew (table_of list) k w → IsOut w
-  new_is_out k w new = let view = ap (λ m. m.0) new.3 in let mine : told w ≡ [] = ap told_in_first view in (view ∙ (λ i. hold (sym new.0 i) Idle (sym mine i) ∷ []), ap (λ m. m.1) new.3)
+  new_is_out k w new = let view = ap (λ m. m.0) new.3 in let mine : answers_told w ≡ [] = ap told_in_first view in (view ∙ (λ i. hold (sym new.0 i) Idle (sym mine i) ∷ []), ap (λ m. m.1) new.3)
 
   pub new_sat : (k : ℕ) (w : Writer CountRequest CountReply CountLog Nothing) → IsNew (table_of list) k w → 0 < k → k ≤ clients_of list → IsSat list k w
   new_sat k w new positive within = ((new.2, subst (λ c. 0 < c) (sym new.0) positive, subst (λ c. c ≤ clients_of list) (sym new.0) within), new_is_out k w new, new.0)
 
   -- a writer that was linked is linked with what it was told
   pub linked : (q : CountRequest) (mine : List (CountRequest × CountReply)) (w : Writer CountRequest CountReply CountLog Nothing) → IsIn (law list) q mine w → IsAsking list w
-  linked q mine w is = (q, subst (λ told. IsIn (law list) q told w) (sym (known w.task is)) is)
+  linked q mine w is = (q, subst (λ answers_told. IsIn (law list) q answers_told w) (sym (known w.task is)) is)
     where
-      known : (task : Task) → IsLinked (law list) w.client task q mine w.seat.me → told w ≡ mine
+      known : (task : Task) → IsLinked (law list) w.client task q mine w.seat.me → answers_told w ≡ mine
       known Awaits l = ap told_in_first l.1
       known Leads_ l = ap told_in_first l.3
       known Helps l = ap told_in_first l.0
@@ -78,7 +78,7 @@ module _ (list : Counted) where
 
   -- a writer that was chosen leads, and one that is done is out
   pub leads : (own : QueuedWriter CountRequest) (seen : List (Handling CountRequest CountReply)) (mine : List (CountRequest × CountReply)) (w : Writer CountRequest CountReply CountLog Nothing) → Belongs list w → IsChosen own seen mine w → Leads list w
-  leads own seen mine w ours is = (ours, (own, seen, subst (λ told. IsChosen own seen told w) (sym (ap told_in_first is.0)) is))
+  leads own seen mine w ours is = (ours, (own, seen, subst (λ answers_told. IsChosen own seen answers_told w) (sym (ap told_in_first is.0)) is))
 
   pub done : (mine : List (CountRequest × CountReply)) (w : Writer CountRequest CountReply CountLog Nothing) → w.seat.me.0 ≡ hold w.client Idle mine ∷ [] → w.seat.me.1 ≡ [] → IsOut w
   done mine w at none = (at ∙ (λ i. hold w.client Idle (sym (ap told_in_first at) i) ∷ []), none)

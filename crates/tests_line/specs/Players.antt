@@ -9,7 +9,7 @@ use Rattle.line_writers.specs.declared.room.Lists.{Lists}
 use Rattle.line_writers.specs.Roles.{asks}
 use Rattle.line_writers.specs.Rooms.{TakesReplies, HasRoom, AreReady}
 use Rattle.line_writers.specs.Seats.{clients_of, start_of, piped_of, about_of, asks_of, Belongs, IsOut, IsIn, IsChosen, HasGroup}
-use Rattle.line_writers.specs.Seats.{told}
+use Rattle.line_writers.specs.Seats.{answers_told}
 use Rattle.tests_line.specs.declared.counter.CountRequest.{CountRequest}
 use Rattle.tests_line.specs.declared.counter.CountReply.{CountReply}
 use Rattle.tests_line.specs.declared.counter.CountLog.{CountLog}
@@ -39,12 +39,12 @@ asked list = asks_of (λ a. a.item) (λ _ _. ⊤) list
 
 -- it is in the list, with a request
 abbrev pub IsAsking : Counted → Writer CountRequest CountReply CountLog Nothing → Type 0
-IsAsking list w = (q : CountRequest) × IsIn (law list) q (told w) w
+IsAsking list w = (q : CountRequest) × IsIn (law list) q (answers_told w) w
 
 -- it leads, and has the log
 abbrev pub Leads : Counted → Writer CountRequest CountReply CountLog Nothing → Type 0
 Leads list w = Belongs list w × ((own : QueuedWriter CountRequest) × (seen : List (Handling CountRequest CountReply))
-    × IsChosen own seen (told w) w)
+    × IsChosen own seen (answers_told w) w)
 
 -- this client may write
 abbrev pub MayWrite : Counted → ℕ → Player → Type 0
@@ -73,7 +73,7 @@ abbrev pub HasRequests : Counted → Writer CountRequest CountReply CountLog Not
 HasRequests list w lists = Belongs list w
     × ((max : ℕ) × (own : QueuedWriter CountRequest) × (group left : List (QueuedWriter CountRequest))
     × (seen : List (Handling CountRequest CountReply))
-    × HasGroup (asked list) (clients_of list) max own group left seen (told w) w
+    × HasGroup (asked list) (clients_of list) max own group left seen (answers_told w) w
     × (lists.requests.list.items ≡ asks own group))
     × (length lists.requests.list.items ≤ clients_of list) × (clients_of list ≤ vec_capacity lists.requests.list)
     × TakesReplies (clients_of list) lists.replies × HasRoom (clients_of list) lists.room

@@ -1,9 +1,11 @@
-//! A plain counter as the log, and who takes part.
-ghost use Rattle.std.specs.Prelude.{◌≡◌, ⊤};
+//! A plain counter as the log, what it answers, and who takes part.
+ghost use Rattle.std.specs.Prelude.{◌≡◌, ◌≤◌, [], vec_len, vec_capacity, ⊤};
+ghost use Rattle.line_writers.specs.Roles.{firsts};
 
 use line_rule::{GivesRun, HasGroupingItem, LogOfGroups};
-use line_writers::{Lists, Writer};
+use line_writers::{Lists, Replies, Requests, Writer};
 use model_base::Item;
+use std::mem;
 
 /// A request to be counted.
 #[derive(Drop)]
@@ -65,4 +67,61 @@ pub struct Player {
     pub lists: Lists<CountRequest, CountReply>,
     pub told: Vec<CountReply>,
     pub led: usize,
+}
+
+/// Answers each request with the counter's next number and its own size.
+pub fn answer_all(
+    counter: &mut CountLog,
+    requests: &mut Requests<CountRequest>,
+    replies: &mut Replies<CountReply>,
+)
+    requires room { (replies.old.list.items ≡ []) × (vec_len replies.old.list ≡ 0)
+        × (vec_len requests.old.list ≤ vec_capacity replies.old.list) }
+    ensures replies { firsts replies.new.list.items ≡ firsts requests.old.list.items }
+    ensures len { vec_len replies.new.list ≡ vec_len requests.old.list }
+    ensures cleared { (requests.new.list.items ≡ []) × (vec_len requests.new.list ≡ 0) }
+    ensures room { (vec_capacity requests.new.list ≡ vec_capacity requests.old.list)
+        × (vec_capacity replies.new.list ≡ vec_capacity replies.old.list) }
+{
+    // The first `i` requests are answered, in their order.
+    for i in 0..requests.list.len() {
+        let client = requests.list[i].0;
+        let size = requests.list[i].1.item.size;
+        replies.list.push_reserved((
+            client,
+            CountReply {
+                number: counter.count,
+                size,
+            },
+        ));
+        counter.count = counter.count.wrapping_add(1);
+        counter.sum = counter.sum.wrapping_add(size);
+    }
+    requests.list.clear();
+}
+
+/// Notes what a client was told, where there is room for it.
+pub fn note(told: &mut Vec<CountReply>, answer: CountReply) {
+    if told.len() < told.capacity() {
+        told.push_reserved(answer);
+    }
+}
+
+/// Notes each number that a client was told, whose requests have this size. An `Err` has the first answer that is wrong:
+/// its size is another, or its number is one that was noted before, has no place, or isn't above the one before it.
+pub fn note_numbers(told: &[CountReply], size: u64, noted: &mut [bool]) -> Result<(), CountReply> {
+    let mut next = 0;
+    // The numbers so far are noted, and all of them are below `next`.
+    for answer in told {
+        let number = answer.number;
+        let is_new = match noted.get_mut(number as usize) {
+            Some(place) => !mem::replace(place, true),
+            None => false,
+        };
+        if answer.size != size || number < next || !is_new {
+            return Err(*answer);
+        }
+        next = number.wrapping_add(1);
+    }
+    Ok(())
 }

@@ -5,68 +5,23 @@ ghost use Rattle.tests_line.specs.Players.{IsPlain, MayWrite, HasAsked, AllMayWr
 
 mod playing;
 
-use crate::counter::{CountLog, CountReply, Nothing, Player};
+use crate::counter::{CountLog, Nothing, Player, note, note_numbers};
+use crate::items::{
+    EIGHTH, HASTY, MAX, PAST_EIGHTH, PAST_REST, PLAIN, REST, SYNCED, UNLOGGED, sized,
+};
 use line_rule::Start;
 use line_writers::Role;
-use model_base::{Item, WriteOptions};
+use model_base::Item;
 use playing::{
-    Counted, MAX, PLAIN, UNFLAGGED, ask, ask_all, closed, finish, finish_all, grouped, left, note,
-    opened, sized, taken, write_at_once,
+    Counted, ask, ask_all, closed, finish, finish_all, grouped, left, opened, taken, write_at_once,
 };
 use std::alloc::Global;
-use std::mem;
 use std::process::Abort;
 use std::rt::HostRuntime;
 use std::sync::{Barrier, Wait};
 use std::test::Fail;
 
-const SYNCED: Item = Item {
-    options: WriteOptions {
-        sync: true,
-        ..UNFLAGGED
-    },
-    ..PLAIN
-};
-
-const UNLOGGED: Item = Item {
-    options: WriteOptions {
-        no_log: true,
-        ..UNFLAGGED
-    },
-    ..PLAIN
-};
-
-const HASTY: Item = Item {
-    options: WriteOptions {
-        no_slowdown: true,
-        ..UNFLAGGED
-    },
-    ..PLAIN
-};
-
 const ONE: Item = Item { size: 1, ..PLAIN };
-
-/// An eighth of the bound. A leader past it is a larger one.
-const EIGHTH: Item = Item {
-    size: 131072,
-    ..PLAIN
-};
-
-const PAST_EIGHTH: Item = Item {
-    size: 131073,
-    ..PLAIN
-};
-
-/// What the bound leaves beside that.
-const REST: Item = Item {
-    size: 917503,
-    ..PLAIN
-};
-
-const PAST_REST: Item = Item {
-    size: 917504,
-    ..PLAIN
-};
 
 /// What three writers ask in turn, and the sizes of the groups that they lead then; none where another
 /// leads.
@@ -224,24 +179,6 @@ fn a_newcomer_leads_the_next_group(rt: HostRuntime) {
     check_row(&rt, &[first, second, third], &NEWCOMER, 0);
 }
 
-// Notes each number that a client was told, of which none was told to anyone yet; each is above the one before it.
-fn note_numbers(rt: &impl Abort, told: &[CountReply], size: u64, noted: &mut [bool]) {
-    let mut next = 0;
-    for answer in told {
-        let number = answer.number;
-        let is_new = match noted.get_mut(number as usize) {
-            Some(place) => !mem::replace(place, true),
-            None => false,
-        };
-        assert_eq!(rt;
-            (answer.size, next <= number, is_new),
-            (size, true, true),
-            "{number} of {size}"
-        );
-        next = number.wrapping_add(1);
-    }
-}
-
 // Each of the clients was told so many numbers with its own size, and each number was told once.
 fn check_told(rt: &impl Abort, alloc: Global, players: &[Player], times: usize) {
     let all = players.len().wrapping_mul(times);
@@ -250,7 +187,9 @@ fn check_told(rt: &impl Abort, alloc: Global, players: &[Player], times: usize) 
     for player in players {
         size = size.wrapping_add(1);
         assert_eq!(rt; player.told.len(), times);
-        note_numbers(rt, player.told.as_slice(), size, noted.as_mut_slice());
+        if let Err(wrong) = note_numbers(player.told.as_slice(), size, noted.as_mut_slice()) {
+            panic!(rt; "{} and {} of {size}", wrong.number, wrong.size)
+        }
     }
 }
 

@@ -1,41 +1,23 @@
 -- From the writers of an opened list to its clients, and back.
-use Rattle.std.proofs.Common.{◌≡◌, ℕ, ◌+◌, ◌-◌, ◌<◌, ◌≤◌, ◌⊎◌, inl, inr, suc, List, [], ◌∷◌, ◌++◌, length, get_or, set, refl, sym, ap, ◌∙◌, subst, arith, length-append}
+use Rattle.std.proofs.Common.{◌≡◌, ℕ, ◌+◌, ◌-◌, ◌<◌, ◌≤◌, inl, inr, suc, List, [], ◌∷◌, ◌++◌, length, get_or, set, refl, sym, ap, ◌∙◌, subst, arith, length-append}
 use Rattle.std.proofs.lemmas.List.{get_or_push, get_or_append_left, get_or-set_other, get_or-set_same, length-set}
 use Rattle.std.proofs.lemmas.Bool.{cases_lt, cases_eq}
 use Rattle.line_rule.specs.declared.view.LineStage.TheVariants.{Idle}
 use Rattle.line_rule.specs.Rule.{hold}
 use Rattle.line_writers.specs.declared.writer.Writer.{Writer}
-use Rattle.line_writers.specs.declared.room.Lists.{Lists}
 use Rattle.line_writers.specs.declared.writer.Task.{Task}
 use Rattle.line_writers.specs.declared.writer.Task.TheVariants.{Awaits, Leads, Helps, Queues, Serves}
 use Rattle.line_rule.specs.declared.view.Handling.{Handling}
 use Rattle.line_rule.specs.declared.view.QueuedWriter.{QueuedWriter}
 use Rattle.line_writers.specs.Roles.{IsNew, AreNew, IsLinked, Chosen}
-use Rattle.line_writers.specs.Rooms.{AreReady, AllReady}
-use Rattle.line_writers.specs.Seats.{table_of, clients_of, Belongs, IsIn, IsChosen, IsOut, AllOut, AllThere, StandsStill, told, told_in_first}
+use Rattle.line_writers.specs.Seats.{table_of, clients_of, Belongs, IsIn, IsChosen, IsOut, AllOut, AllThere, StandsStill, answers_told, told_in_first}
+use Rattle.tests_line.proofs.Seating.{below_or_at}
 use Rattle.tests_line.specs.declared.counter.CountRequest.{CountRequest}
 use Rattle.tests_line.specs.declared.counter.CountReply.{CountReply}
 use Rattle.tests_line.specs.declared.counter.CountLog.{CountLog}
 use Rattle.tests_line_stages.specs.declared.counter.CountingRight.{CountingRight}
 use Rattle.tests_line_stages.specs.declared.client.StagePlayer.{StagePlayer}
 use Rattle.tests_line_stages.specs.Clients.{Counted, law, IsAsking, IsLeader, IsIdle, MayWrite, AllMayWrite, AreIdle, Stands, AllStand}
-
-pub ready_last : {Q P : Type 0} (n : ℕ) (xs : List (Lists Q P)) (x : Lists Q P) → AllReady n (xs ++ x ∷ []) → AllReady n xs × AreReady n x
-ready_last n [] x all = (tt, all.0)
-ready_last n (y ∷ ys) x all = let t = ready_last n ys x all.1 in ((all.0, t.0), t.1)
-
-below_or_at : (i n : ℕ) → i < n + 1 → (i < n) ⊎ (i ≡ n)
-below_or_at i n h = elim (cases_lt i n) [ inl lt ↦ inl lt | inr ge ↦ inr (omega arith) ]
-
--- one more of n clients gets its seat: `made` have theirs, and `rest` are left
-pub record IsNext (n made rest : ℕ) : Type 0 where
-  pub number : n - rest ≡ made + 1
-  pub left : rest + (made + 1) ≡ n
-  pub positive : 0 < made + 1
-  pub within : made + 1 ≤ n
-
-pub is_next : (n made rest was : ℕ) → was + made ≡ n → rest + 1 ≡ was → IsNext n made rest
-is_next n made rest was all one = record { number = omega arith; left = omega arith; positive = omega arith; within = omega arith }
 
 -- what holds of each client by its number holds where one more comes, and where one is another
 each_more : (P : ℕ → StagePlayer → Type 0) (ps : List StagePlayer) (p : StagePlayer) → ((i : ℕ) (d : StagePlayer) → i < length ps → P (i + 1) (get_or ps i d)) → P (length ps + 1) p → (i : ℕ) (d : StagePlayer) → i < length (ps ++ p ∷ []) → P (i + 1) (get_or (ps ++ p ∷ []) i d)
@@ -60,16 +42,16 @@ module _ (list : Counted) where
   new_last m (x ∷ xs) w new = let t = new_last (m - 1) xs w new.1 in ((new.0, t.0), subst (λ k. IsNew (table_of list) k w) (let h : m - 1 - length xs ≡ m - suc (length xs) = omega arith in h) t.1)
 
   pub new_is_out : (k : ℕ) (w : Writer CountRequest CountReply CountLog CountingRight) → IsNew (table_of list) k w → IsOut w
-  new_is_out k w new = let view = ap (λ m. m.0) new.3 in let mine : told w ≡ [] = ap told_in_first view in (view ∙ (λ i. hold (sym new.0 i) Idle (sym mine i) ∷ []), ap (λ m. m.1) new.3)
+  new_is_out k w new = let view = ap (λ m. m.0) new.3 in let mine : answers_told w ≡ [] = ap told_in_first view in (view ∙ (λ i. hold (sym new.0 i) Idle (sym mine i) ∷ []), ap (λ m. m.1) new.3)
 
   pub new_idle : (k : ℕ) (w : Writer CountRequest CountReply CountLog CountingRight) → IsNew (table_of list) k w → 0 < k → k ≤ clients_of list → IsIdle list k w
   new_idle k w new positive within = ((new.2, subst (λ c. 0 < c) (sym new.0) positive, subst (λ c. c ≤ clients_of list) (sym new.0) within), new_is_out k w new, new.0)
 
   -- a writer that was linked is linked with what it was told
   pub linked : (q : CountRequest) (mine : List (CountRequest × CountReply)) (w : Writer CountRequest CountReply CountLog CountingRight) → IsIn (law list) q mine w → IsAsking list w
-  linked q mine w is = (q, subst (λ told. IsIn (law list) q told w) (sym (known w.task is)) is)
+  linked q mine w is = (q, subst (λ answers_told. IsIn (law list) q answers_told w) (sym (known w.task is)) is)
     where
-      known : (task : Task) → IsLinked (law list) w.client task q mine w.seat.me → told w ≡ mine
+      known : (task : Task) → IsLinked (law list) w.client task q mine w.seat.me → answers_told w ≡ mine
       known Awaits l = ap told_in_first l.1
       known Leads l = ap told_in_first l.3
       known Helps l = ap told_in_first l.0
@@ -78,7 +60,7 @@ module _ (list : Counted) where
 
   -- a writer that was chosen leads, and one that is done is out
   pub leads : (own : QueuedWriter CountRequest) (seen : List (Handling CountRequest CountReply)) (mine : List (CountRequest × CountReply)) (w : Writer CountRequest CountReply CountLog CountingRight) → Belongs list w → IsChosen own seen mine w → IsLeader list w
-  leads own seen mine w ours is = (ours, (own, seen, subst (λ told. IsChosen own seen told w) (sym (ap told_in_first is.0)) is))
+  leads own seen mine w ours is = (ours, (own, seen, subst (λ answers_told. IsChosen own seen answers_told w) (sym (ap told_in_first is.0)) is))
 
   -- and leads still where it stands still
   pub leads_still : (new old : Writer CountRequest CountReply CountLog CountingRight) → StandsStill new old → IsLeader list old → IsLeader list new

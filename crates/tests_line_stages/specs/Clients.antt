@@ -10,7 +10,7 @@ use Rattle.line_writers.specs.declared.room.Lists.{Lists}
 use Rattle.line_writers.specs.Roles.{asks, AreMembers}
 use Rattle.line_writers.specs.Rooms.{TakesRequests, TakesReplies, HasRoom, AreReady}
 use Rattle.line_writers.specs.Second.{IsSent, HasRight, ListsMembers}
-use Rattle.line_writers.specs.Seats.{clients_of, start_of, piped_of, about_of, asks_of, Belongs, IsOut, IsIn, IsChosen, HasGroup, told}
+use Rattle.line_writers.specs.Seats.{clients_of, start_of, piped_of, about_of, asks_of, Belongs, IsOut, IsIn, IsChosen, HasGroup, answers_told}
 use Rattle.tests_line_stages.specs.declared.client.StagePlayer.{StagePlayer}
 use Rattle.tests_line_stages.specs.declared.client.PlayerStage.{PlayerStage}
 use Rattle.tests_line_stages.specs.declared.client.PlayerStage.TheVariants.{Out, Linked, Leads, Grouped, Waits, Serves}
@@ -47,13 +47,13 @@ AreIdle list n (w ∷ ws) = IsIdle list n w × AreIdle list (n - 1) ws
 
 -- it is in the list, with a request
 abbrev pub IsAsking : Counted → Writer CountRequest CountReply CountLog CountingRight → Type 0
-IsAsking list w = (q : CountRequest) × IsIn (law list) q (told w) w
+IsAsking list w = (q : CountRequest) × IsIn (law list) q (answers_told w) w
 
 -- it leads, and has the log
 abbrev pub IsLeader : Counted → Writer CountRequest CountReply CountLog CountingRight → Type 0
 IsLeader list w = Belongs list w
     × ((own : QueuedWriter CountRequest) × (seen : List (Handling CountRequest CountReply))
-    × IsChosen own seen (told w) w)
+    × IsChosen own seen (answers_told w) w)
 
 -- it leads, and has the requests of its group in its lists
 abbrev pub HasRequests : Counted → Writer CountRequest CountReply CountLog CountingRight → Lists CountRequest CountReply
@@ -61,7 +61,7 @@ abbrev pub HasRequests : Counted → Writer CountRequest CountReply CountLog Cou
 HasRequests list w lists = Belongs list w
     × ((max : ℕ) × (own : QueuedWriter CountRequest) × (group left : List (QueuedWriter CountRequest))
     × (seen : List (Handling CountRequest CountReply))
-    × HasGroup (asked list) (clients_of list) max own group left seen (told w) w
+    × HasGroup (asked list) (clients_of list) max own group left seen (answers_told w) w
     × (lists.requests.list.items ≡ asks own group))
     × (length lists.requests.list.items ≤ clients_of list) × (clients_of list ≤ vec_capacity lists.requests.list)
     × TakesReplies (clients_of list) lists.replies × HasRoom (clients_of list) lists.room

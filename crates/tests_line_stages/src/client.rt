@@ -1,4 +1,4 @@
-// Who takes part.
+//! Who takes part.
 
 use crate::counter::CountingRight;
 use line_writers::{Lists, Writer};

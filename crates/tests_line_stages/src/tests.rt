@@ -8,16 +8,14 @@ mod threads;
 use crate::client::StagePlayer;
 use crate::counter::CountingRight;
 use clients::{Counted, closed, opened};
-use leading::MAX;
 use line_rule::Start;
 use schedule::{Call, Seen, Turn, play};
 use std::alloc::Global;
-use std::mem;
 use std::process::Abort;
 use std::rt::HostRuntime;
 use std::sync::atomic::AtomicU64;
 use std::test::Fail;
-use tests_line::{CountLog, CountReply};
+use tests_line::{CountLog, MAX, note_numbers};
 use threads::write_at_once;
 
 /// Three log one after the other, and their groups are served in that order, each with the number that comes next. Who
@@ -94,25 +92,6 @@ fn schedules_on_one_thread(rt: HostRuntime) {
     }
 }
 
-// Notes each number that a client was told, of which none was told to anyone yet; each is above the one before it.
-fn note_numbers(rt: &impl Abort, told: &[CountReply], size: u64, noted: &mut [bool]) {
-    let mut next = 0;
-    // The numbers so far are noted, and all of them are below `next`.
-    for answer in told {
-        let number = answer.number;
-        let is_new = match noted.get_mut(number as usize) {
-            Some(place) => !mem::replace(place, true),
-            None => false,
-        };
-        assert_eq!(rt;
-            (answer.size, next <= number, is_new),
-            (size, true, true),
-            "{number} of {size}"
-        );
-        next = number.wrapping_add(1);
-    }
-}
-
 // Each of the clients was told so many numbers with its own size, and each number was told once.
 fn check_told(rt: &impl Abort, alloc: Global, clients: &[StagePlayer], times: usize) {
     let all = clients.len().wrapping_mul(times);
@@ -122,7 +101,9 @@ fn check_told(rt: &impl Abort, alloc: Global, clients: &[StagePlayer], times: us
     for client in clients {
         size = size.wrapping_add(1);
         assert_eq!(rt; client.told.len(), times);
-        note_numbers(rt, client.told.as_slice(), size, noted.as_mut_slice());
+        if let Err(wrong) = note_numbers(client.told.as_slice(), size, noted.as_mut_slice()) {
+            panic!(rt; "{} and {} of {size}", wrong.number, wrong.size)
+        }
     }
 }
 

@@ -1,7 +1,7 @@
 //! Batches: the bytes of their additions, the limit on their size, and batches read from bytes.
 
 use crate::checks::check;
-use crate::logs::{PUT, add_all, batch_bytes};
+use crate::logs::{NOTE, PUT, WITH_LONG_VARINT, WITH_TAG_2, WITHOUT_VALUE, add_all, batch_bytes};
 use log_batch::RecordView::{Deletion, LogData, SingleDeletion, Value};
 use log_batch::{AddError, Batch, BatchView, RecordView, read_batch};
 use model_base::{BatchError, MAX_SIZE};
@@ -10,14 +10,25 @@ use std::process::Abort;
 use std::test::Fail;
 
 const TWO_PUTS_AND_A_DELETION: [u8; 25] = [
-    1, 0, 0, 0, 0, 0, 0, 0, 3, 0, 0, 0, 1, 1, 0x61, 1, 0x31, 1, 1, 0x61, 1, 0x32, 0, 1, 0x61,
+    1, 0, 0, 0, 0, 0, 0, 0, // sequence 1
+    3, 0, 0, 0, // count 3
+    1, 1, b'a', 1, b'1', // put a 1
+    1, 1, b'a', 1, b'2', // put a 2
+    0, 1, b'a', // delete a
 ];
 
 const LOG_DATA_AND_A_PUT: [u8; 20] = [
-    1, 0, 0, 0, 0, 0, 0, 0, 1, 0, 0, 0, 3, 1, 0x78, 1, 1, 0x61, 1, 0x31,
+    1, 0, 0, 0, 0, 0, 0, 0, // sequence 1
+    1, 0, 0, 0, // count 1
+    3, 1, b'x', // log data x
+    1, 1, b'a', 1, b'1', // put a 1
 ];
 
-const A_SINGLE_DELETION: [u8; 15] = [3, 0, 0, 0, 0, 0, 0, 0, 1, 0, 0, 0, 7, 1, 0x61];
+const A_SINGLE_DELETION: [u8; 15] = [
+    3, 0, 0, 0, 0, 0, 0, 0, // sequence 3
+    1, 0, 0, 0, // count 1
+    7, 1, b'a', // single-delete a
+];
 
 const PUTS: [RecordView<'static>; 3] = [
     Value {
@@ -112,7 +123,12 @@ fn check_read(rt: &impl Abort, view: &BatchView<'_>) {
 
 #[test]
 fn reads_a_batch(rt: HostRuntime) -> Result<(), Fail> {
-    let records = [1, 1, 0x61, 1, 0x31, 3, 1, 0x78, 0, 1, 0x62, 7, 1, 0x63];
+    let records = [
+        1, 1, b'a', 1, b'1', // put a 1
+        3, 1, b'x', // log data x
+        0, 1, b'b', // delete b
+        7, 1, b'c', // single-delete c
+    ];
     let bytes = batch_bytes(rt.alloc(), 1, 3, &records)?;
     check_read(&rt, &read_batch(&bytes)?);
     Ok(())
@@ -123,16 +139,22 @@ fn counted(bytes: &[u8]) -> Result<u32, BatchError> {
     Ok(read_batch(bytes)?.count())
 }
 
+// A put whose key's length, a varint, has 33 bits.
+const WITH_VARINT_OF_33_BITS: [u8; 6] = [1, 0xff, 0xff, 0xff, 0xff, 0x1f];
+
+// A tag that no record has, before half a varint.
+const WITH_TAG_255: [u8; 2] = [0xff, 0x80];
+
 // What the header says that counts, the records, and why they are no batch.
 const NO_BATCHES: [(u32, &[u8], BatchError); 8] = [
-    (1, &[2, 1, 0x61, 1, 0x31], BatchError::Tag(2)),
+    (1, &WITH_TAG_2, BatchError::Tag(2)),
     (2, &PUT, BatchError::Count { said: 2, found: 1 }),
     (0, &PUT, BatchError::Count { said: 0, found: 1 }),
-    (1, &[3, 1, 0x78], BatchError::Count { said: 1, found: 0 }),
-    (1, &[1, 1, 0x61, 5], BatchError::Short),
-    (1, &[1, 0x80, 0], BatchError::BadVarint),
-    (1, &[1, 0xff, 0xff, 0xff, 0xff, 0x1f], BatchError::BadVarint),
-    (9, &[0xff, 0x80], BatchError::Tag(255)),
+    (1, &NOTE, BatchError::Count { said: 1, found: 0 }),
+    (1, &WITHOUT_VALUE, BatchError::Short),
+    (1, &WITH_LONG_VARINT, BatchError::BadVarint),
+    (1, &WITH_VARINT_OF_33_BITS, BatchError::BadVarint),
+    (9, &WITH_TAG_255, BatchError::Tag(255)),
 ];
 
 #[test]

@@ -2,6 +2,7 @@
 
 ghost use Rattle.std.specs.Prelude.{◌≡◌, ◌≤◌, length, IfOk, vec_len};
 
+use crate::changes::{cut_at, set_byte};
 use crate::checks::check;
 use crate::logs::EMPTY;
 use log_block::{BLOCK_LEN, FIRST, FULL, Fragmenter, LAST, MIDDLE, Seen, header, read_fragment};
@@ -18,23 +19,15 @@ const MIDDLE_ABC: [u8; 10] = [0xac, 0xe3, 0xe9, 0x5e, 0x03, 0x00, 0x03, b'a', b'
 
 const LAST_ABC: [u8; 10] = [0xad, 0xb5, 0x75, 0x70, 0x03, 0x00, 0x04, b'a', b'b', b'c'];
 
-// The checksum of another part.
-const FALSE_ABC: [u8; 10] = [0xf2, 0x70, 0xe8, 0x9d, 0x03, 0x00, 0x01, b'a', b'b', b'd'];
-
-// No fragments have these types, whatever the checksum.
-const TYPE_0_ABC: [u8; 10] = [0x37, 0x2d, 0x9a, 0x8b, 0x03, 0x00, 0x00, b'a', b'b', b'c'];
-
-const TYPE_5_ABC: [u8; 10] = [0x37, 0x2d, 0x9a, 0x8b, 0x03, 0x00, 0x05, b'a', b'b', b'c'];
-
 #[test]
 fn makes_headers(rt: HostRuntime) {
     check(&rt, 0, &header(FULL, &[]), &EMPTY);
     check(&rt, 1, &header(FULL, b"abc").as_slice(), &&ABC[..7]);
 }
 
-// What is seen at the start of a block, of which the file has so many of these bytes.
-fn seen_first(bytes: &[u8], len: usize) -> Seen {
-    read_fragment(&bytes[..len.min(bytes.len()).min(BLOCK_LEN)], 0)
+// What is seen at the start of a block, of which the file has these bytes.
+fn seen_first(bytes: &[u8]) -> Seen {
+    read_fragment(&bytes[..bytes.len().min(BLOCK_LEN)], 0)
 }
 
 // A fragment, its type, and how many bytes it has.
@@ -54,28 +47,49 @@ fn reads_fragments(rt: HostRuntime) {
             start: 7,
             end: *end,
         };
-        check(&rt, row, &seen_first(bytes, *end), &wanted);
+        check(&rt, row, &seen_first(bytes), &wanted);
     }
 }
 
-// Bytes, of which the file has so many, and what is seen.
-const NO_FRAGMENTS: [(&[u8], usize, Seen); 9] = [
+// Bytes, where they are cut, and what is seen.
+const CUT: [(&[u8], usize, Seen); 6] = [
     (&[], 0, Seen::End),
     (&ABC, 1, Seen::Damage(Damage::ShortHeader)),
     (&ABC, 6, Seen::Damage(Damage::ShortHeader)),
     (&ABC, 7, Seen::Damage(Damage::BadLength)),
     (&ABC, 9, Seen::Damage(Damage::BadLength)),
     (&[0; 10], 10, Seen::Damage(Damage::Zeros)),
-    (&TYPE_0_ABC, 10, Seen::Damage(Damage::BadType(0))),
-    (&TYPE_5_ABC, 10, Seen::Damage(Damage::BadType(5))),
-    (&FALSE_ABC, 10, Seen::Damage(Damage::BadChecksum)),
 ];
 
 #[test]
-fn reads_what_is_no_fragment(rt: HostRuntime) {
-    for (row, (bytes, len, wanted)) in NO_FRAGMENTS.iter().enumerate() {
-        check(&rt, row, &seen_first(bytes, *len), wanted);
+fn reads_what_is_cut(rt: HostRuntime) -> Result<(), Fail> {
+    for (row, (bytes, len, wanted)) in CUT.iter().enumerate() {
+        check(&rt, row, &seen_first(cut_at(bytes, *len)?), wanted);
     }
+    Ok(())
+}
+
+// Where the type stands in a fragment, and the last byte of its part.
+const TYPE_AT: usize = 6;
+
+const C_AT: usize = 9;
+
+// A fragment, the place that gets another byte, that byte, and what is wrong then. No fragments have the types 0 and 5,
+// whatever the checksum.
+const CHANGED: [([u8; 10], usize, u8, Damage); 3] = [
+    (FIRST_ABC, TYPE_AT, 0, Damage::BadType(0)),
+    (FIRST_ABC, TYPE_AT, 5, Damage::BadType(5)),
+    (ABC, C_AT, b'd', Damage::BadChecksum),
+];
+
+#[test]
+fn reads_what_is_changed(rt: HostRuntime) -> Result<(), Fail> {
+    for (row, (fragment, at, byte, damage)) in CHANGED.iter().enumerate() {
+        let mut changed = *fragment;
+        set_byte(&mut changed, *at, *byte)?;
+        check(&rt, row, &seen_first(&changed), &Seen::Damage(*damage));
+    }
+    Ok(())
 }
 
 // A block of zeros.

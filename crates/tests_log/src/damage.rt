@@ -1,9 +1,10 @@
 //! What logs recover that were cut or changed: the log of two records at each of its bytes, an empty record, and a log
 //! with a trailer.
 
+use crate::changes::{cut_at, fill_block, fix_checksum, flip_byte, put_zeros, set_byte};
 use crate::checks::check;
-use crate::logs::{EMPTY, LOG, Summary, check_cuts, recovered};
-use log_block::BLOCK_LEN;
+use crate::logs::{EMPTY, LOG, SECOND_AT, Summary, check_cuts, recovered};
+use log_block::HEADER_LEN;
 use model_base::{Damage, EndReason};
 use std::alloc::{AllocError, Global};
 use std::test::Fail;
@@ -29,15 +30,16 @@ fn whole_up_to(at: usize, why: EndReason) -> Summary {
 }
 
 #[test]
-fn stops_where_the_log_is_cut(rt: HostRuntime) {
+fn stops_where_the_log_is_cut(rt: HostRuntime) -> Result<(), Fail> {
     for len in 0..49 {
-        let left = recovered(rt.alloc(), &LOG[..len]);
+        let left = recovered(rt.alloc(), cut_at(&LOG, len)?);
         check(&rt, len, &left, &Ok(whole_up_to(len, why_cut(len))));
     }
+    Ok(())
 }
 
-// What is wrong with a fragment whose byte there is inverted. A header is a checksum, a length of two bytes and a kind.
-fn inverted(at: usize) -> Damage {
+// What is wrong with a fragment whose byte there is flipped. A header is a checksum, a length of two bytes and a kind.
+fn flipped(at: usize) -> Damage {
     match at {
         4 | 5 => Damage::BadLength,
         6 => Damage::BadType(254),
@@ -46,42 +48,50 @@ fn inverted(at: usize) -> Damage {
 }
 
 #[test]
-fn stops_at_an_inverted_byte(rt: HostRuntime) {
+fn stops_at_a_flipped_byte(rt: HostRuntime) -> Result<(), Fail> {
     for at in 0..48 {
         let mut log = LOG;
-        log[at] ^= 0xff;
+        flip_byte(&mut log, at)?;
         let left = recovered(rt.alloc(), &log);
-        let why = EndReason::Broken(inverted(at % 24));
+        let why = EndReason::Broken(flipped(at % 24));
         check(&rt, at, &left, &Ok(whole_up_to(at, why)));
     }
+    Ok(())
+}
+
+// The first record, and zeros where a header would stand.
+fn zeros_behind(alloc: Global) -> Result<Vec<u8>, Fail> {
+    let mut log = Vec::from_slice(alloc, cut_at(&LOG, SECOND_AT)?)?;
+    put_zeros(&mut log, HEADER_LEN)?;
+    Ok(log)
 }
 
 #[test]
-fn stops_where_no_record_follows(rt: HostRuntime) {
+fn stops_where_no_record_follows(rt: HostRuntime) -> Result<(), Fail> {
     let empty = recovered(rt.alloc(), &EMPTY);
     check(&rt, 0, &empty, &Ok((0, 0, 0, 0, EndReason::Short)));
-    let mut zeros = [0; 31];
-    zeros[..24].copy_from_slice(&LOG[..24]);
+    let zeros = recovered(rt.alloc(), &zeros_behind(rt.alloc())?);
     let why = EndReason::Broken(Damage::Zeros);
-    check(
-        &rt,
-        1,
-        &recovered(rt.alloc(), &zeros),
-        &Ok((1, 1, 24, 24, why)),
-    );
+    check(&rt, 1, &zeros, &Ok((1, 1, 24, 24, why)));
+    Ok(())
 }
 
-// The log with another last byte.
+// The second record puts another value, with the checksum of the first value, and with its own.
 #[test]
-fn stops_at_another_byte(rt: HostRuntime) {
-    let mut changed = LOG;
-    changed[47] = b'3';
-    let left = recovered(rt.alloc(), &changed);
+fn stops_at_another_byte(rt: HostRuntime) -> Result<(), Fail> {
+    let mut log = LOG;
+    set_byte(&mut log, 47, b'3')?;
+    let left = recovered(rt.alloc(), &log);
     let why = EndReason::Broken(Damage::BadChecksum);
     check(&rt, 0, &left, &Ok((1, 1, 24, 24, why)));
+    fix_checksum(&mut log, SECOND_AT)?;
+    let whole = recovered(rt.alloc(), &log);
+    check(&rt, 1, &whole, &Ok((2, 2, 48, 48, EndReason::Clean)));
+    Ok(())
 }
 
-// The beginning of a record that puts 32740 zeros at `a`. With its fragment's header it has 32765 bytes.
+// The beginning of a record that puts 32740 zeros at `a`, before the zeros. With its fragment's header it has 32765
+// bytes.
 const LONG: [u8; 25] = [
     0x58, 0x87, 0x9c, 0xa3, 0xf6, 0x7f, 0x01, // the header
     0x01, 0x00, 0x00, 0x00, 0x00, 0x00, 0x00, 0x00, // sequence 1
@@ -89,11 +99,12 @@ const LONG: [u8; 25] = [
     0x01, 0x01, b'a', 0xe4, 0xff, 0x01, // put a, 32740 bytes
 ];
 
-// A log of this beginning, zeros up to the end of the block, and the second record.
+// A log of this record, the trailer of its block, and the second record of `LOG`.
 fn log_of_two_blocks(alloc: Global) -> Result<Vec<u8>, AllocError> {
     let mut log = Vec::from_slice(alloc, &LONG)?;
-    log.resize(BLOCK_LEN, 0)?;
-    log.extend_from_slice(&LOG[24..])?;
+    put_zeros(&mut log, 32_740)?;
+    fill_block(&mut log)?;
+    log.extend_from_slice(&LOG[SECOND_AT..])?;
     Ok(log)
 }
 

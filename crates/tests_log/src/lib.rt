@@ -3,6 +3,7 @@
 //! tests again.
 //!
 //! - `checks`: a comparison, for the others
+//! - `changes`: what is done to logs, for the others
 //! - `logs`: logs and batches that several tests make, and what a log recovers, for the others
 //! - `blocks`: fragments, and how a record is cut into them
 //! - `reading`: a log's records one after another
@@ -16,6 +17,8 @@
 mod batches;
 #[cfg(test)]
 mod blocks;
+#[cfg(test)]
+mod changes;
 #[cfg(test)]
 mod checks;
 #[cfg(test)]

@@ -1,5 +1,6 @@
 //! Logs and batches that several tests make, and what a log recovers.
 
+use crate::changes::{cut_at, put_zeros};
 use crate::checks::check;
 use base_devices::MemDisk;
 use base_maps::ByteMap;
@@ -14,6 +15,18 @@ use std::test::Fail;
 
 /// The record `put a 1`.
 pub(crate) const PUT: [u8; 5] = [1, 1, b'a', 1, b'1'];
+
+/// The log data `x`, which isn't counted.
+pub(crate) const NOTE: [u8; 3] = [3, 1, b'x'];
+
+/// `put a 1` with a tag that no record has.
+pub(crate) const WITH_TAG_2: [u8; 5] = [2, 1, b'a', 1, b'1'];
+
+/// `put a` with a value of five bytes, of which none is there.
+pub(crate) const WITHOUT_VALUE: [u8; 4] = [1, 1, b'a', 5];
+
+/// A put whose key's length, 0, is a varint of two bytes.
+pub(crate) const WITH_LONG_VARINT: [u8; 3] = [1, 0x80, 0];
 
 /// The fragment of an empty record. The checksum was computed by another program.
 pub(crate) const EMPTY: [u8; 7] = [0x05, 0x2b, 0x28, 0x43, 0x00, 0x00, 0x01];
@@ -30,6 +43,9 @@ pub(crate) const LOG: [u8; 48] = [
     0x01, 0x01, b'b', 0x01, b'2', // put b 2
 ];
 
+/// Where the second record of `LOG` stands. The first has the bytes before it.
+pub(crate) const SECOND_AT: usize = 24;
+
 /// Puts a fragment of this type behind a log. It leaves the log as it is where the part is too long for one.
 pub(crate) fn put_fragment(log: &mut Vec<u8>, kind: u8, part: &[u8]) -> Result<(), AllocError> {
     if part.len() <= MAX_PART_LEN {
@@ -42,7 +58,7 @@ pub(crate) fn put_fragment(log: &mut Vec<u8>, kind: u8, part: &[u8]) -> Result<(
 /// Puts a record behind a log, in its fragments, with the checksums that they should have.
 pub(crate) fn put_record(log: &mut Vec<u8>, bytes: &[u8]) -> Result<(), AllocError> {
     for piece in Fragmenter::new(log.len() % BLOCK_LEN, bytes.len()) {
-        log.resize(log.len().saturating_add(piece.zeros), 0)?;
+        put_zeros(log, piece.zeros)?;
         if let Some(part) = bytes.get(piece.start..piece.end) {
             put_fragment(log, piece.kind, part)?;
         }
@@ -101,8 +117,8 @@ pub(crate) fn check_cuts(
     rows: &[(usize, Summary)],
 ) -> Result<(), Fail> {
     for (row, (len, wanted)) in rows.iter().enumerate() {
-        let front = log.get(..*len).ok_or("too short")?;
-        check(rt, row, &recovered(alloc, front), &Ok(*wanted));
+        let found = recovered(alloc, cut_at(log, *len)?);
+        check(rt, row, &found, &Ok(*wanted));
     }
     Ok(())
 }

@@ -1,5 +1,6 @@
 //! A log's records one after another, and what ends the reading.
 
+use crate::changes::cut_at;
 use crate::checks::check;
 use crate::logs::{put_fragment, put_record};
 use base_devices::MemDisk;
@@ -100,7 +101,7 @@ fn reads_the_records_of_several_blocks(rt: HostRuntime) -> Result<(), Fail> {
     Ok(())
 }
 
-// A log is cut after so many bytes, or is whole: how many records are read, where reading ends, and why.
+// Where a log is cut: how many records are read, where reading ends, and why.
 const CUT: [(usize, usize, u64, EndReason); 4] = [
     (0, 0, 0, EndReason::Clean),
     (32768, 1, 1007, EndReason::Unfinished),
@@ -111,8 +112,7 @@ const CUT: [(usize, usize, u64, EndReason); 4] = [
 fn check_cut(rt: &impl Abort, alloc: Global, log: &[u8]) -> Result<(), Fail> {
     for (row, (len, records, at, why)) in CUT.iter().enumerate() {
         let end = Next::End { at: *at, why: *why };
-        let front = &log[..log.len().min(*len)];
-        let found = answers(alloc, front, 0)?;
+        let found = answers(alloc, cut_at(log, *len)?, 0)?;
         check(rt, row, &found, &answers_after(*records, end));
     }
     Ok(())

@@ -1,9 +1,11 @@
 //! What logs recover: whole ones, with records in one part and in several, those with one more record that may follow
 //! or may not, and those whose disk fails. That a log which isn't there is a fault shows in `tests/real_file`.
 
+use crate::changes::cut_at;
 use crate::checks::check;
 use crate::logs::{
-    LOG, PUT, Summary, add_all, batch_bytes, check_cuts, check_map, put_record, recovered,
+    LOG, NOTE, PUT, SECOND_AT, Summary, WITH_LONG_VARINT, WITH_TAG_2, WITHOUT_VALUE, add_all,
+    batch_bytes, check_cuts, check_map, put_record, recovered,
 };
 use base_devices::MemDisk;
 use base_maps::ByteMap;
@@ -11,7 +13,7 @@ use log_batch::RecordView::{Deletion, LogData, SingleDeletion, Value};
 use log_batch::{Batch, RecordView};
 use log_recovery::{GroupNote, RecoverError, recover};
 use model_base::{Damage, EndReason, NoMemory};
-use std::alloc::{AllocError, Global};
+use std::alloc::Global;
 use std::test::Fail;
 
 fn batch_of(alloc: Global, sequence: u64, records: &[RecordView<'_>]) -> Result<Batch, Fail> {
@@ -127,18 +129,21 @@ fn ends_inside_a_record(rt: HostRuntime) -> Result<(), Fail> {
 
 const MAX_SEQUENCE: u64 = 72_057_594_037_927_935;
 
+// Two deletions of an empty key.
+const TWO_DELETIONS: [u8; 4] = [0, 0, 0, 0];
+
 // A record that may not follow: its first sequence, what its header says that counts, its records, and why it isn't
 // kept.
 const STOPPED: [(u64, u32, &[u8], EndReason); 6] = [
-    (2, 1, &[2, 1, 0x61, 1, 0x31], EndReason::Tag(2)),
+    (2, 1, &WITH_TAG_2, EndReason::Tag(2)),
     (2, 2, &PUT, EndReason::Count { said: 2, found: 1 }),
-    (2, 1, &[1, 1, 0x61, 5], EndReason::Short),
-    (2, 1, &[1, 0x80, 0], EndReason::BadVarint),
+    (2, 1, &WITHOUT_VALUE, EndReason::Short),
+    (2, 1, &WITH_LONG_VARINT, EndReason::BadVarint),
     (1, 1, &PUT, EndReason::Order { first: 1, last: 1 }),
     (
         MAX_SEQUENCE,
         2,
-        &[0, 0, 0, 0],
+        &TWO_DELETIONS,
         EndReason::High {
             first: MAX_SEQUENCE,
             count: 2,
@@ -154,17 +159,12 @@ const KEPT: [(u64, u32, &[u8], Summary); 2] = [
         &PUT,
         (2, MAX_SEQUENCE, 48, 48, EndReason::Clean),
     ),
-    (1, 0, &[3, 1, 0x78], (2, 1, 46, 46, EndReason::Clean)),
+    (1, 0, &NOTE, (2, 1, 46, 46, EndReason::Clean)),
 ];
 
 // The log of the first record, and this one behind it.
-fn log_behind(
-    alloc: Global,
-    first: u64,
-    count: u32,
-    records: &[u8],
-) -> Result<Vec<u8>, AllocError> {
-    let mut log = Vec::from_slice(alloc, &LOG[..24])?;
+fn log_behind(alloc: Global, first: u64, count: u32, records: &[u8]) -> Result<Vec<u8>, Fail> {
+    let mut log = Vec::from_slice(alloc, cut_at(&LOG, SECOND_AT)?)?;
     let bytes = batch_bytes(alloc, first, count, records)?;
     put_record(&mut log, &bytes)?;
     Ok(log)
@@ -189,9 +189,10 @@ fn keeps_what_may_follow(rt: HostRuntime) -> Result<(), Fail> {
     Ok(())
 }
 
-// The error where that call of the disk fails.
-fn fault_at(alloc: Global, call: u64) -> Result<Option<RecoverError>, NoMemory> {
-    let mut disk = MemDisk::new(alloc, 24, &LOG[..24], &[call])?;
+// The error where that call of the disk fails, which has the first record.
+fn fault_at(alloc: Global, call: u64) -> Result<Option<RecoverError>, Fail> {
+    let log = cut_at(&LOG, SECOND_AT)?;
+    let mut disk = MemDisk::new(alloc, log.len(), log, &[call])?;
     Ok(recover(alloc, &mut disk).err())
 }
 
@@ -201,40 +202,5 @@ fn a_fault_is_answered(rt: HostRuntime) -> Result<(), Fail> {
         let error = fault_at(rt.alloc(), call)?;
         check(&rt, 0, &error, &Some(RecoverError::Fault { count: 1 }));
     }
-    Ok(())
-}
-
-const INSERTED: [(&[u8], &[u8]); 7] = [
-    (b"sixteen bytes of", b"1"),
-    (b"sixteen bytes of it", b"2"),
-    (b"", b"3"),
-    (b"sixteen bytes of all", b"4"),
-    (b"s\0", b"5"),
-    (b"s", b"6"),
-    (b"sixteen bytes of", b"7"),
-];
-
-const LEFT: [(&[u8], &[u8]); 5] = [
-    (b"", b"3"),
-    (b"s", b"6"),
-    (b"s\0", b"5"),
-    (b"sixteen bytes of", b"7"),
-    (b"sixteen bytes of all", b"4"),
-];
-
-// The map of all pairs, without two keys, of which one isn't there.
-fn map_of_five(alloc: Global) -> Result<ByteMap, NoMemory> {
-    let mut map = ByteMap::new(alloc);
-    for (key, value) in &INSERTED {
-        map.insert(key, value)?;
-    }
-    map.remove(b"sixteen bytes of it");
-    map.remove(b"sixteen bytes of i");
-    Ok(map)
-}
-
-#[test]
-fn orders_keys_that_begin_alike(rt: HostRuntime) -> Result<(), Fail> {
-    check_map(&rt, &map_of_five(rt.alloc())?, &LEFT);
     Ok(())
 }

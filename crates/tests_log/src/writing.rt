@@ -4,10 +4,11 @@
 ghost use Rattle.std.specs.Prelude.{◌<◌, ◌^◌};
 
 use crate::checks::check;
-use crate::logs::recovered;
+use crate::logs::{Summary, recovered};
 use base_devices::MemDisk;
 use log_batch::Batch;
 use log_writer::{Fault, LogWriter, OpenError};
+use model_base::{Damage, EndReason};
 use std::alloc::Global;
 use std::process::Abort;
 use std::test::Fail;
@@ -62,13 +63,13 @@ fn add(log: &mut LogWriter<MemDisk>, first: u64, batch: Batch, sync: bool) -> Re
 // What the calls of three groups answered, and the log's length after them.
 type Answers = ([Result<(), Fault>; 3], u64);
 
-// Writes each of the batches as a group of its own. The first is synced, and the others where that is asked.
-fn add_three(log: &mut LogWriter<MemDisk>, batches: [Batch; 3], sync: bool) -> Answers {
+// Writes each of the batches as a group of its own, and syncs where that is asked.
+fn add_three(log: &mut LogWriter<MemDisk>, batches: [Batch; 3], syncs: [bool; 3]) -> Answers {
     let [one, two, three] = batches;
     let answers = [
-        add(log, 1, one, true),
-        add(log, 2, two, sync),
-        add(log, 3, three, sync),
+        add(log, 1, one, syncs[0]),
+        add(log, 2, two, syncs[1]),
+        add(log, 3, three, syncs[2]),
     ];
     (answers, log.len())
 }
@@ -143,7 +144,7 @@ fn answers_at(call: u64) -> Answers {
 fn large_groups(alloc: Global, call: u64) -> Result<(MemDisk, Answers), Fail> {
     let batches = three_batches(alloc, [983, 97252, 7983])?;
     let mut log = opened(alloc, 106_311, &[call])?;
-    let answers = add_three(&mut log, batches, true);
+    let answers = add_three(&mut log, batches, [true; 3]);
     Ok((log.into_disk(), answers))
 }
 
@@ -162,7 +163,7 @@ fn ends_at_the_first_fault(rt: HostRuntime) -> Result<(), Fail> {
 fn small_groups(rt: &impl Abort, alloc: Global) -> Result<MemDisk, Fail> {
     let batches = three_batches(alloc, [1, 1, 1])?;
     let mut log = opened(alloc, 72, &[])?;
-    let answers = add_three(&mut log, batches, false);
+    let answers = add_three(&mut log, batches, [true, false, false]);
     check(rt, 0, &answers, &([Ok(()); 3], 72));
     Ok(log.into_disk())
 }
@@ -176,6 +177,38 @@ fn a_crash_leaves_a_prefix(rt: HostRuntime) -> Result<(), Fail> {
         let left = disk.crashed(len);
         let (groups, ..) = recovered(rt.alloc(), left.content())?;
         check(&rt, 1, &groups, &((len / 24) as usize));
+    }
+    Ok(())
+}
+
+// The disk of `put a 1`, `put b 2` and `put c 3`, each in a record of 24 bytes. The second was synced.
+fn two_safe_groups(rt: &impl Abort, alloc: Global) -> Result<MemDisk, Fail> {
+    let batches = [
+        put(alloc, b"a", b"1")?,
+        put(alloc, b"b", b"2")?,
+        put(alloc, b"c", b"3")?,
+    ];
+    let mut log = opened(alloc, 72, &[])?;
+    let answers = add_three(&mut log, batches, [false, true, false]);
+    check(rt, 0, &answers, &([Ok(()); 3], 72));
+    Ok(log.into_disk())
+}
+
+// How many bytes torn writes leave, where the seed of those that weren't safe is 2, and what is recovered.
+const TORN: [(u64, Summary); 3] = [
+    (48, (2, 2, 48, 48, EndReason::Clean)),
+    (54, (2, 2, 48, 48, EndReason::Broken(Damage::ShortHeader))),
+    (72, (2, 2, 48, 48, EndReason::Broken(Damage::BadLength))),
+];
+
+#[test]
+fn torn_writes_leave_what_was_safe(rt: HostRuntime) -> Result<(), Fail> {
+    for (row, (len, wanted)) in TORN.iter().enumerate() {
+        let disk = two_safe_groups(&rt, rt.alloc())?;
+        assert!(rt; disk.synced() == 48 && disk.content().len() == 72 && (48..73).contains(len));
+        let left = disk.torn(*len, 2);
+        let found = recovered(rt.alloc(), left.content())?;
+        check(&rt, row, &found, wanted);
     }
     Ok(())
 }

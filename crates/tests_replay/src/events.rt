@@ -1,6 +1,7 @@
 //! Schedules of two clients, which write one batch each.
 
 use crate::opening::{clients_of, opened};
+use log_batch::Run;
 use model_base::Refusal;
 use model_core::Event;
 use model_core::Event::*;
@@ -61,9 +62,9 @@ const ROWS: [Row; 3] = [
             taken: 21,
             skipped: 1,
         },
-        first: &[CoreReply::Accepted { first: 1, last: 1 }],
+        first: &[CoreReply::Accepted(Run { first: 1, last: 1 })],
         second: &[
-            CoreReply::Accepted { first: 2, last: 2 },
+            CoreReply::Accepted(Run { first: 2, last: 2 }),
             CoreReply::ReadAt { at: 2 },
         ],
         logged: &[1, 1],
@@ -95,9 +96,9 @@ const ROWS: [Row; 3] = [
             taken: 15,
             skipped: 0,
         },
-        first: &[CoreReply::Accepted { first: 1, last: 1 }],
+        first: &[CoreReply::Accepted(Run { first: 1, last: 1 })],
         second: &[
-            CoreReply::Accepted { first: 2, last: 2 },
+            CoreReply::Accepted(Run { first: 2, last: 2 }),
             CoreReply::ReadAt { at: 2 },
         ],
         logged: &[2],
@@ -132,10 +133,10 @@ const ROWS: [Row; 3] = [
                 last: 72057594037927933,
             },
         }],
-        second: &[CoreReply::Accepted {
+        second: &[CoreReply::Accepted(Run {
             first: 72057594037927934,
             last: 72057594037927934,
-        }],
+        })],
         logged: &[1],
         entries: 1,
         published: 72057594037927934,

@@ -1,14 +1,11 @@
-//! Tests of the write path's core: the groups that its leaders take, the plans of its clients, its machine of events,
-//! and the batches and maps that it stands for; and of printed texts that no call of the program comes to. All other
-//! words, scripts and texts are tried by `tests/texts` on the built program. They stand in a crate of their own, so
-//! that `line_grouping`, `replay_plans`, `replay_core`, `replay_schedules` and `program_text` are proved once and not with their
-//! tests again.
+//! Tests of the write path's core: the plans of its clients, its machine of events, and the batches and maps that it
+//! stands for; and of printed texts that no call of the program comes to. All other words, scripts and texts are tried
+//! by `tests/texts` on the built program. They stand in a crate of their own, so that `replay_plans`, `replay_core`,
+//! `replay_schedules` and `program_text` are proved once and not with their tests again.
 #![tactic(auto)]
 
 #[cfg(test)]
 mod events;
-#[cfg(test)]
-mod groups;
 #[cfg(test)]
 mod opening;
 #[cfg(test)]

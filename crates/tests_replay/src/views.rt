@@ -2,6 +2,7 @@
 
 use crate::opening::{clients_of, opened};
 use base_bytes::Found;
+use log_batch::Run;
 use model_base::Flag;
 use model_core::Event;
 use model_core::Event::*;
@@ -17,8 +18,7 @@ use std::test::Fail;
 const ENTRY: HistoryEntry<Lines> = HistoryEntry {
     client: 1,
     ordinal: 1,
-    first: 1,
-    last: 1,
+    run: Run { first: 1, last: 1 },
     flag: Flag::Log,
     batch: Lines { from: 0, to: 1 },
 };

@@ -2,7 +2,7 @@
 use Rattle.std.specs.Prelude.{ℕ, List, [], ◌∷◌, Some, None, codes}
 use Rattle.model_base.specs.Batch.{Record, value, deletion, single_deletion, log_data}
 use Rattle.table_rule.specs.declared.content.Version.{Version}
-use Rattle.table_rule.specs.Batches.{made, numbered}
+use Rattle.table_rule.specs.Batches.{new_versions, number_from}
 
 abbrev pub one_of_each : List Record
 one_of_each =
@@ -11,7 +11,7 @@ one_of_each =
 
 -- its versions, with sequences from one on
 abbrev pub versions_from : ℕ → List Version
-versions_from first = numbered first (made one_of_each)
+versions_from first = number_from first (new_versions one_of_each)
 
 abbrev pub put_a : ℕ → Version
 put_a sequence = record { key = codes "a"; value = Some (codes "1"); sequence = sequence }

@@ -1,8 +1,8 @@
-// One client on its own, which writes one record. The clock stands at 1000.
+//! One client on its own, which writes one record. The clock stands at 1000.
 
 use super::{HASTY_PUT, PLAIN, PUT_A, PUT_B, READ_A, READ_B, ended, script};
 use crate::script::{Step, StepAnswer};
-use log_batch::MAX_SEQUENCE;
+use log_batch::{MAX_SEQUENCE, Run};
 use log_recovery::recover;
 use model_base::Refusal;
 use std::alloc::Global;
@@ -20,8 +20,7 @@ const PUT_BOTH: Step = Step::Write {
 
 /// The first sequence of all.
 const FIRST: StepAnswer = StepAnswer::Wrote {
-    first: 1,
-    count: 1,
+    run: Run { first: 1, last: 1 },
     group_last: 1,
     sequence: 1,
 };
@@ -73,8 +72,10 @@ const ROWS: [Row; 4] = [
                 last: 72057594037927934,
             }),
             StepAnswer::Wrote {
-                first: 72057594037927935,
-                count: 1,
+                run: Run {
+                    first: 72057594037927935,
+                    last: 72057594037927935,
+                },
                 group_last: 72057594037927935,
                 sequence: 72057594037927935,
             },

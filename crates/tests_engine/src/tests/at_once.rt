@@ -1,9 +1,10 @@
-// Clients that write at once: the runs that they are given, and what their reads see.
+//! Clients that write at once: the runs that they are given, and what their reads see.
 
 ghost use Rattle.std.specs.Prelude.{◌<◌};
 
 use super::{PLAIN, PUT_A, READ_A, READ_B, ended, script};
 use crate::script::{Step, StepAnswer};
+use log_batch::Run;
 use std::alloc::Global;
 use std::process::Abort;
 use std::rt::HostRuntime;
@@ -17,7 +18,7 @@ struct Round {
     calls: usize,
     writes: usize,
     /// How many sequences each batch takes.
-    count: u32,
+    count: u64,
     /// The last sequence that is given.
     last: u64,
 }
@@ -31,23 +32,21 @@ fn owners(rt: &impl Abort, notes: &[Vec<StepAnswer>], round: Round) -> [usize; 2
         assert_eq!(rt; told.len(), round.calls);
         for note in told {
             if let StepAnswer::Wrote {
-                first,
-                count,
+                run: Run { first, last },
                 group_last,
                 sequence,
             } = *note
             {
                 write = write.wrapping_add(1);
-                let end = first.wrapping_add(u64::from(count)).wrapping_sub(1);
-                let place = owner.get_mut(end as usize).expect(rt, "one of 200");
+                let place = owner.get_mut(last as usize).expect(rt, "one of 200");
                 assert!(rt;
                     *place == 0
-                        && count == round.count
+                        && last.wrapping_add(1) == first.wrapping_add(round.count)
                         && 1 <= first
                         && sequence == first
-                        && end <= group_last
+                        && last <= group_last
                         && group_last <= round.last,
-                    "write {write} ends at {end}"
+                    "write {write} ends at {last}"
                 );
                 *place = write;
             }

@@ -1,4 +1,4 @@
-// Clients that write at once, while a call of the disk fails.
+//! Clients that write at once, while a call of the disk fails.
 
 use super::{PLAIN, ended, script};
 use crate::script::{Step, StepAnswer};
@@ -31,7 +31,9 @@ fn check_told(rt: &impl Abort, told: &[StepAnswer], fault: Option<u64>, recovere
     assert_eq!(rt; told.len(), 2);
     for (i, note) in told.iter().enumerate() {
         let is_lawful = match *note {
-            StepAnswer::Wrote { first, count, .. } => count == 2 && (i == 1 || first < recovered),
+            StepAnswer::Wrote { run, .. } => {
+                run.last == run.first.wrapping_add(1) && (i == 1 || run.first < recovered)
+            }
             StepAnswer::Refused(Refusal::LogFault { count }) => fault == Some(count),
             _ => false,
         };

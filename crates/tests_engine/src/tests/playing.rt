@@ -1,4 +1,4 @@
-// Clients that call an engine over a disk in memory, each allowed where it calls.
+//! Clients that call an engine over a disk in memory, each allowed where it calls.
 
 ghost use Rattle.std.specs.Prelude.{◌≡◌, ◌+◌, ◌<◌, ◌≤◌, length};
 ghost use Rattle.model_base.specs.History.{max_sequence};
@@ -78,8 +78,7 @@ fn batch_of(rt: &impl Abort, alloc: Global, rows: &[(&[u8], &[u8])]) -> Batch {
 // The note of a batch that was written.
 fn wrote(receipt: &Receipt) -> StepAnswer {
     StepAnswer::Wrote {
-        first: receipt.first,
-        count: receipt.count,
+        run: receipt.run,
         group_last: receipt.group_last,
         sequence: receipt.batch.sequence(),
     }

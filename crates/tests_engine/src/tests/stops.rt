@@ -1,4 +1,4 @@
-// A client that stops writes, beside one that writes.
+//! A client that stops writes, beside one that writes.
 
 use super::{HASTY_PUT, PUT_B, ended, script};
 use crate::script::{Step, StepAnswer};
@@ -16,13 +16,12 @@ fn last_written(rt: &impl Abort, told: &[StepAnswer]) -> u64 {
     for (i, note) in told.iter().enumerate() {
         let is_lawful = match *note {
             StepAnswer::Wrote {
-                first,
-                count,
+                run,
                 group_last,
                 sequence,
             } => {
                 last = last.wrapping_add(1);
-                (first, count, group_last, sequence) == (last, 1, last, last)
+                (run.first, run.last, group_last, sequence) == (last, last, last, last)
             }
             StepAnswer::Refused(
                 Refusal::Incomplete {

@@ -1,68 +1,24 @@
-// Steps of those who take part, each allowed where it is made.
+//! Steps of those who take part, each allowed where it is made.
 
 ghost use Rattle.std.specs.Prelude.{◌≡◌, ℕ, ◌+◌, ◌<◌, ◌≤◌, [], vec_len, vec_capacity, length};
-ghost use Rattle.line_writers.specs.Roles.{firsts};
 ghost use Rattle.line_writers.specs.Rooms.{AreReady, AllReady};
 ghost use Rattle.line_writers.specs.Seats.{clients_of, AllNew, Belongs, IsOut};
 ghost use Rattle.tests_line.specs.Players.{IsPlain, IsSat, IsAsking, Leads, HasRequests, MayWrite, HasAsked, AllMayWrite, AllHaveAsked, AreSat};
 
-use crate::counter::{CountLog, CountReply, CountRequest, Nothing, Player};
+use crate::counter::{CountLog, CountReply, CountRequest, Nothing, Player, answer_all, note};
+use crate::items::sized;
 use line_rule::Start;
-use line_writers::{Lists, Replies, Requests, Role, Writer, WriterList, replies_in_order};
-use model_base::{Item, MAX_SIZE, WriteOptions};
+use line_writers::{Lists, Role, Writer, WriterList, replies_in_order};
+use model_base::{Item, MAX_SIZE};
 use std::alloc::Global;
 use std::process::Abort;
 use std::sync::{Barrier, Wait};
 use std::thread;
 use std::thread::Threads;
 
-/// The bound that the grouping rule's worked examples take.
-pub(super) const MAX: u64 = 1048576;
-
-pub(super) const UNFLAGGED: WriteOptions = WriteOptions {
-    sync: false,
-    no_log: false,
-    no_slowdown: false,
-};
-
-pub(super) const PLAIN: Item = Item {
-    size: 100,
-    options: UNFLAGGED,
-};
-
 pub(super) type Counted = WriterList<CountRequest, CountReply, CountLog, Nothing>;
 
 type Seat = Writer<CountRequest, CountReply, CountLog, Nothing>;
-
-// Answers each request with the counter's next number and its own size.
-pub(super) fn answer_all(
-    counter: &mut CountLog,
-    requests: &mut Requests<CountRequest>,
-    replies: &mut Replies<CountReply>,
-)
-    requires room { (replies.old.list.items ≡ []) × (vec_len replies.old.list ≡ 0)
-        × (vec_len requests.old.list ≤ vec_capacity replies.old.list) }
-    ensures replies { firsts replies.new.list.items ≡ firsts requests.old.list.items }
-    ensures len { vec_len replies.new.list ≡ vec_len requests.old.list }
-    ensures cleared { (requests.new.list.items ≡ []) × (vec_len requests.new.list ≡ 0) }
-    ensures room { (vec_capacity requests.new.list ≡ vec_capacity requests.old.list)
-        × (vec_capacity replies.new.list ≡ vec_capacity replies.old.list) }
-{
-    for i in 0..requests.list.len() {
-        let client = requests.list[i].0;
-        let size = requests.list[i].1.item.size;
-        replies.list.push_reserved((
-            client,
-            CountReply {
-                number: counter.count,
-                size,
-            },
-        ));
-        counter.count = counter.count.wrapping_add(1);
-        counter.sum = counter.sum.wrapping_add(size);
-    }
-    requests.list.clear();
-}
 
 // Takes the requests of the group.
 pub(super) fn grouped(
@@ -152,12 +108,6 @@ pub(super) fn finish<R: Wait>(rt: &R, list: &Counted, player: &mut Player)
     note(&mut player.told, answer);
 }
 
-pub(super) fn note(told: &mut Vec<CountReply>, answer: CountReply) {
-    if told.len() < told.capacity() {
-        told.push_reserved(answer);
-    }
-}
-
 // Each links itself, one after the other, with its item.
 pub(super) fn ask_all<R: Wait + Abort>(
     rt: &R,
@@ -234,12 +184,6 @@ pub(super) fn write_at_once<R: Threads + Wait + Sync>(
         ensures { MayWrite list.entry.now (i + 1) player.exit.now }
     { write_often(rt, list, player, sized(i as u64 + 1), times, linked) };
     thread::for_each_mut(rt, players, threads, &each);
-}
-
-pub(super) fn sized(size: u64) -> Item
-    ensures { result.size ≡ size }
-{
-    Item { size, ..PLAIN }
 }
 
 // A list over a counter at 0, whose groups are built under this bound, and its clients in their order, each with room

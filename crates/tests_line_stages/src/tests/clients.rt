@@ -1,31 +1,19 @@
-// How clients come to a list, ask and leave it, each step allowed where it is made.
+//! How clients come to a list, ask and leave it, each step allowed where it is made.
 
 ghost use Rattle.std.specs.Prelude.{◌≡◌, ◌<◌, ◌≤◌, [], vec_len, vec_capacity};
 ghost use Rattle.line_writers.specs.Rooms.{AllReady};
 ghost use Rattle.line_writers.specs.Seats.{clients_of, AllNew, Belongs, IsOut};
 ghost use Rattle.tests_line_stages.specs.Clients.{IsPipelined, IsAsking, AllMayWrite, AllStand, AreIdle};
 
-use super::leading::MAX;
 use crate::client::{PlayerStage, StagePlayer};
 use crate::counter::CountingRight;
 use line_rule::Start;
 use line_writers::{Lists, Writer, WriterList};
-use model_base::{Item, MAX_SIZE, WriteOptions};
+use model_base::{Item, MAX_SIZE};
 use std::alloc::Global;
 use std::process::Abort;
 use std::sync::Wait;
-use tests_line::{CountLog, CountReply, CountRequest};
-
-const UNFLAGGED: WriteOptions = WriteOptions {
-    sync: false,
-    no_log: false,
-    no_slowdown: false,
-};
-
-const PLAIN: Item = Item {
-    size: 100,
-    options: UNFLAGGED,
-};
+use tests_line::{CountLog, CountReply, CountRequest, MAX};
 
 pub(super) type Counted = WriterList<CountRequest, CountReply, CountLog, CountingRight>;
 
@@ -144,10 +132,4 @@ pub(super) fn ask<R: Wait>(rt: &R, list: &Counted, writer: &mut Seat, item: Item
         × (writer.new.client ≡ writer.old.client) }
 {
     list.link(rt, writer, item, CountRequest { item });
-}
-
-pub(super) fn sized(size: u64) -> Item
-    ensures { result.size ≡ size }
-{
-    Item { size, ..PLAIN }
 }

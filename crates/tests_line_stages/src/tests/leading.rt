@@ -1,9 +1,9 @@
-// How a leader makes its group, answers it, and serves it, each step allowed where it is made.
+//! How a leader makes its group, answers it, and serves it, each step allowed where it is made.
 
-ghost use Rattle.std.specs.Prelude.{◌≡◌, ℕ, ◌≤◌, List, [], vec_len, vec_capacity};
+ghost use Rattle.std.specs.Prelude.{◌≡◌, ℕ, ◌≤◌, List, vec_len, vec_capacity};
 ghost use Rattle.line_rule.specs.declared.view.QueuedWriter.{QueuedWriter};
 ghost use Rattle.line_rule.specs.Chain.{heads, Within};
-ghost use Rattle.line_writers.specs.Roles.{firsts, pays, AreMembers};
+ghost use Rattle.line_writers.specs.Roles.{pays, AreMembers};
 ghost use Rattle.line_writers.specs.Rooms.{AreReady};
 ghost use Rattle.line_writers.specs.Seats.{clients_of};
 ghost use Rattle.tests_line_stages.specs.Clients.{IsPipelined, IsIdle, IsLeader, HasRequests, IsSentOn, MayServe, MayWrite};
@@ -11,43 +11,9 @@ ghost use Rattle.tests_line_stages.specs.Clients.{IsPipelined, IsIdle, IsLeader,
 use super::clients::{Counted, Seat};
 use crate::client::StagePlayer;
 use crate::counter::CountingRight;
-use line_writers::{Lists, PipelinedRole, Replies, Requests, members_in_order, replies_in_order};
+use line_writers::{Lists, PipelinedRole, Replies, members_in_order, replies_in_order};
 use std::sync::Wait;
-use tests_line::{CountLog, CountReply, CountRequest};
-
-/// The bound that the grouping rule's worked examples take.
-pub(super) const MAX: u64 = 1048576;
-
-// Answers each request with the counter's next number and its own size.
-fn answer_all(
-    counter: &mut CountLog,
-    requests: &mut Requests<CountRequest>,
-    replies: &mut Replies<CountReply>,
-)
-    requires room { (replies.old.list.items ≡ []) × (vec_len replies.old.list ≡ 0)
-        × (vec_len requests.old.list ≤ vec_capacity replies.old.list) }
-    ensures replies { firsts replies.new.list.items ≡ firsts requests.old.list.items }
-    ensures len { vec_len replies.new.list ≡ vec_len requests.old.list }
-    ensures cleared { (requests.new.list.items ≡ []) × (vec_len requests.new.list ≡ 0) }
-    ensures room { (vec_capacity requests.new.list ≡ vec_capacity requests.old.list)
-        × (vec_capacity replies.new.list ≡ vec_capacity replies.old.list) }
-{
-    // The first `i` requests are answered, in their order.
-    for i in 0..requests.list.len() {
-        let client = requests.list[i].0;
-        let size = requests.list[i].1.item.size;
-        replies.list.push_reserved((
-            client,
-            CountReply {
-                number: counter.count,
-                size,
-            },
-        ));
-        counter.count = counter.count.wrapping_add(1);
-        counter.sum = counter.sum.wrapping_add(size);
-    }
-    requests.list.clear();
-}
+use tests_line::{CountLog, CountReply, CountRequest, answer_all};
 
 // Takes the requests of the group.
 pub(super) fn grouped(

@@ -1,15 +1,16 @@
-// Schedules: calls of the list by its clients, in a fixed order on one thread, and what each call answers.
+//! Schedules: calls of the list by its clients, in a fixed order on one thread, and what each call answers.
 
 ghost use Rattle.std.specs.Prelude.{◌≡◌, ◌<◌, length};
 ghost use Rattle.tests_line_stages.specs.Clients.{IsPipelined, IsSentOn, HasAsked, AllStand, Stands};
 
-use super::clients::{Counted, ask, sized};
+use super::clients::{Counted, ask};
 use super::leading::{grouped, launched, note_group, refused, right_for, sent, served};
 use crate::client::{PlayerStage, StagePlayer};
 use line_writers::PipelinedRole;
 use std::mem;
 use std::process::Abort;
 use std::sync::Wait;
+use tests_line::sized;
 
 /// A call of a client.
 #[derive(Clone, Copy, Debug)]

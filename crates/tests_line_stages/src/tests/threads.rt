@@ -1,11 +1,11 @@
-// Clients that write at once, each on a thread of its own, and whose members all work beside their leaders.
+//! Clients that write at once, each on a thread of its own, and whose members all work beside their leaders.
 
 ghost use Rattle.std.specs.Prelude.{◌≡◌, ◌+◌, ◌<◌, ◌≤◌, vec_capacity, length};
 ghost use Rattle.line_writers.specs.Rooms.{AreReady};
 ghost use Rattle.line_writers.specs.Seats.{clients_of};
 ghost use Rattle.tests_line_stages.specs.Clients.{IsPipelined, IsLeader, IsSentOn, MayWrite, HasAsked, AllMayWrite};
 
-use super::clients::{Counted, ask, sized};
+use super::clients::{Counted, ask};
 use super::leading::{grouped, launched, note_group, right_for, sent, served};
 use crate::client::StagePlayer;
 use crossbeam_utils::Backoff;
@@ -16,7 +16,7 @@ use std::sync::atomic::AtomicU64;
 use std::sync::atomic::Ordering::SeqCst;
 use std::thread;
 use std::thread::Threads;
-use tests_line::{CountLog, CountReply};
+use tests_line::{CountLog, CountReply, note, sized};
 
 // Waits until all members have worked.
 fn await_members<R: Wait>(rt: &R, pending: &AtomicU64) {
@@ -68,12 +68,6 @@ fn lead<R: Wait>(
     grouped(list, &mut client.writer, &mut client.lists);
     let numbers = sent(rt, list, client, counter);
     serve(rt, list, client, numbers, pending)
-}
-
-fn note(told: &mut Vec<CountReply>, answer: CountReply) {
-    if told.len() < told.capacity() {
-        told.push_reserved(answer);
-    }
 }
 
 // Waits for the role, and works beside its leader or leads where it is to, until it is done.

@@ -1,4 +1,4 @@
-// The members of one group put their parts into a table at once, while another client reads.
+//! The members of one group put their parts into a table at once, while another client reads.
 
 ghost use Rattle.std.specs.Prelude.{◌≡◌, ◌<◌, All, length};
 ghost use Rattle.table_rule.specs.declared.content.MemberVersions.{MemberVersions};

@@ -1,4 +1,4 @@
-// How keys compare.
+//! How keys compare.
 
 use base_maps::{ByteKey, Front};
 use std::alloc::Global;

@@ -1,4 +1,4 @@
-// Nodes of versions, as batches make them.
+//! Nodes of versions, as batches make them.
 
 ghost use Rattle.std.specs.Prelude.{◌≡◌, ◌+◌, ◌<◌, ◌^◌, [], ◌∷◌, length};
 ghost use Rattle.std.specs.Option.{option_copied};
@@ -26,7 +26,7 @@ pub(super) fn node_of(
         None => batch.delete(key).expect(rt, "room"),
     }
     let mut nodes = Nodes::make(alloc, &batch).expect(rt, "memory");
-    nodes.number(sequence);
+    nodes.number(sequence, 1);
     nodes
 }
 
@@ -59,6 +59,6 @@ pub(super) fn nodes_behind(
     let Ok(mut nodes) = Nodes::make(alloc, &batch) else {
         panic!(rt; "no memory")
     };
-    nodes.number(last + 1);
+    nodes.number(last + 1, records as u64);
     (nodes, records as u64)
 }

@@ -1,4 +1,4 @@
-// Rows, of a key and its value, and what is found against them.
+//! Rows, of a key and its value, and what is found against them.
 
 use base_bytes::{Bytes, Found, PairList};
 use std::alloc::Global;

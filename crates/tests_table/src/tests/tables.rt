@@ -1,4 +1,4 @@
-// A client launches groups through a table over the memtable's tree, and another publishes them, and reads after each.
+//! A client launches groups through a table over the memtable's tree, and another publishes them, and reads after each.
 
 ghost use Rattle.std.specs.Prelude.{◌≡◌, ◌+◌, ◌<◌, ◌^◌, length, IfOk};
 ghost use Rattle.table_rule.specs.declared.view.Stage.TheVariants.{Idle};

@@ -1,7 +1,7 @@
-// The tree by hand and against a plain list, and a batch's nodes as parts of a group.
-//
-// That the tree stays low has no test: an insertion is proved to leave at each key two sides whose heights differ by at
-// most one.
+//! The tree by hand and against a plain list, and a batch's nodes as parts of a group.
+//!
+//! That the tree stays low has no test: an insertion is proved to leave at each key two sides whose heights differ by at
+//! most one.
 
 ghost use Rattle.std.specs.Prelude.{◌+◌, ◌<◌, ◌≤◌, ◌^◌, length};
 ghost use Rattle.table_tree.specs.Versions.{AreBelow};
@@ -182,7 +182,7 @@ fn nodes_of_each_kind(rt: &impl Abort, alloc: Global, first: u64) -> Nodes
     batch.delete(b"b").expect(rt, "room");
     batch.single_delete(b"c").expect(rt, "room");
     let mut nodes = Nodes::make(alloc, &batch).expect(rt, "memory");
-    nodes.number(first);
+    nodes.number(first, 3);
     nodes
 }
 
@@ -200,15 +200,15 @@ fn is_next(nodes: &mut Nodes, key: &[u8], value: Option<&[u8]>, sequence: u64) -
 
 // A part is of this member, and has the nodes of such batches, whose first sequences these are, and no more.
 fn check_part(rt: &impl Abort, part: Option<MemberNodes>, member: u32, firsts: &[u64]) {
-    let mut part = part.expect(rt, "a part");
-    let nodes = &mut part.nodes;
+    let part = part.expect(rt, "a part");
+    let mut nodes = part.nodes.into_nodes();
     for first in firsts {
-        let put = is_next(nodes, b"a", Some(b"1"), *first);
-        let deleted = is_next(nodes, b"b", None, first.wrapping_add(1));
-        let single = is_next(nodes, b"c", None, first.wrapping_add(2));
+        let put = is_next(&mut nodes, b"a", Some(b"1"), *first);
+        let deleted = is_next(&mut nodes, b"b", None, first.wrapping_add(1));
+        let single = is_next(&mut nodes, b"c", None, first.wrapping_add(2));
         assert_eq!(rt; (put, deleted, single), (true, true, true), "from {first}");
     }
-    assert_eq!(rt; (part.member, part.nodes.first_key()), (member, None));
+    assert_eq!(rt; (part.member, nodes.first_key()), (member, None));
 }
 
 #[test]

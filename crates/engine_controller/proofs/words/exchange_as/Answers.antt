@@ -1,4 +1,4 @@
-use Rattle.std.proofs.Common.{◌≡◌, ◌≢◌, Bool, true, false, true≢false, Result, Ok, Err, sym, ◌∙◌, subst, rules}
+use Rattle.std.proofs.Common.{◌≡◌, ◌≢◌, true, false, true≢false, Result, Ok, Err, sym, ◌∙◌, subst, rules}
 use Rattle.std.specs.Prelude.{IfOk, IfErr, MatchResult}
 use Rattle.crossbeam_utils.specs.Seq.{cell_view}
 use Rattle.engine_controller.specs.declared.numbers.Numbers.{Numbers}

@@ -6,12 +6,12 @@ pub returns-clause-works : goal.returns-clause-works
 returns-clause-works g c =
     let t = c.take-part.ensures.taken in let u = t.launched in
     let i = c.insert.ensures.stored u t.steps.stage_is in let f = c.finish.ensures.finished u i.stage_is in
-    let before = (g.T.Table.account c.args.seat.now).seen in let after = (g.T.Table.account c.finish.new.seat).seen in
-    let same : (g.T.Table.account c.insert.new.seat).seen ≡ before = i.seen ∙ t.steps.seen in
+    let before = (g.Versions.Table.account c.args.seat.now).seen in let after = (g.Versions.Table.account c.finish.new.seat).seen in
+    let same : (g.Versions.Table.account c.insert.new.seat).seen ≡ before = i.seen ∙ t.steps.seen in
     let was = t.own_part.seen_before in
     record {
       launched = u;
-      versions = g.T.Table.versions c.take-part.result;
+      versions = g.Versions.Table.versions c.take-part.result;
       own_part = t.own_part;
       awaited = t.awaited;
       number = f.number ∙ (i.number ∙ t.steps.number);

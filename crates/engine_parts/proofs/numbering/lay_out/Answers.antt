@@ -8,7 +8,7 @@ use Rattle.engine_rule.specs.Plans.{versions_from}
 use Rattle.engine_parts.specs.declared.requests.Request.{Request}
 use Rattle.engine_parts.specs.Handled.{commit_requests_of}
 use Rattle.engine_parts.specs.Numbering.{others_in, others_than}
-use Rattle.engine_parts.proofs.Apart.{apart_parts, leader_within, one_part}
+use Rattle.engine_parts.proofs.Apart.{apart_parts, leader_within, one_part, run_fits}
 use Rattle.engine_parts.proofs.Logged.{head_is}
 use Rattle.engine_parts.proofs.Beside.{AreIn, beside_in}
 use Rattle.engine_parts.proofs.numbering.lay_out.Goals as goal
@@ -17,7 +17,8 @@ pub returns-then-are_worth_waking-clause-parts : goal.returns-then-are_worth_wak
 returns-then-are_worth_waking-clause-parts c =
     let xs : List (ℕ × Request) = c.args.requests.now.items in let led = c.requires.group.1 in
     let first = c.index.ensures ∙ head_is xs led.rest led.first c.index.result.now led.leads in
-    let tested = c.if-last-count-le-MAX_SEQUENCE.true in let from = c.from-count.ensures in let count = c.count.ensures in
+    let from = c.from-count.ensures in let count = c.count.ensures in
+    let tested = run_fits c.args.last c.from-count.result c.next_run.result (sym c.is_ok.ensures.value ∙ c.if-is_ok.true) c.next_run.ensures.last c.next_run.ensures.fits in
     let fits : c.args.last + count_of c.index.result.now.1.batch.records ≤ max_sequence = search (rules, tested, from, count) in
     let n = c.number_apart.ensures in (
       apart_parts c.requires.group.0 c.args.parts.now.clients c.args.leader c.args.last xs led (group_of c.number_apart.new.parts.parts) c.number_apart.new.members.items c.requires.leads

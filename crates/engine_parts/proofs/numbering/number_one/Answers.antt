@@ -1,20 +1,12 @@
-use Rattle.std.proofs.Common.{rules, ◌≡◌, length, ap, ◌∙◌}
-use Rattle.engine_rule.specs.Plans.{last_with}
+use Rattle.std.proofs.Common.{length, ap, ◌∙◌, arith}
+use Rattle.std.proofs.lemmas.List.{length-reverse}
+use Rattle.table_rule.specs.Batches.{new_versions}
 use Rattle.engine_parts.proofs.numbering.number_one.Goals as goal
 use Rattle.engine_rule.proofs.Plans.{made_length}
 
-pub returns-then-last-count-gt-MAX_SEQUENCE-clause-reached : goal.returns-then-last-count-gt-MAX_SEQUENCE-clause-reached
-returns-then-last-count-gt-MAX_SEQUENCE-clause-reached c =
-    let over = c.if-last-count-gt-MAX_SEQUENCE.true in let count = c.count.ensures in
-    let stays : c.args.last ≡ last_with c.args.last c.args.request.batch.records = search (rules, over, count) in
-    stays
-
-pub returns-then-last-count-gt-MAX_SEQUENCE-clause-below : goal.returns-then-last-count-gt-MAX_SEQUENCE-clause-below
-returns-then-last-count-gt-MAX_SEQUENCE-clause-below c = c.requires.last
-
 pub number-requires : goal.number-requires
 number-requires c =
-    let l = ap length c.args.request.made_of ∙ made_length c.args.request.batch.records in
-    let fits = c.if-last-count-gt-MAX_SEQUENCE.false in
-    let count = c.count.ensures in
-    search (rules, l, fits, count)
+    let l = ap length c.args.request.made_of ∙ length-reverse (new_versions c.args.request.batch.records) ∙ made_length c.args.request.batch.records in
+    let first = c.in-Ok.ensures.first in let last = c.in-Ok.ensures.last in let fits = c.in-Ok.ensures.fits in
+    let from = c.from-count.ensures in let count = c.count.ensures in
+    omega (arith, l, first, last, fits, from, count)

@@ -1,8 +1,8 @@
 use mathlib.Core.Option.{none, some}
 use Rattle.line_rule.proofs.Settles.{cuts_as_is, wakes_on_is}
-use Rattle.line_rule.proofs.Marks.{marks_is, frees_is, traces_marked_is, cuts_marked_is}
+use Rattle.line_rule.proofs.Marks.{marks_is, frees_is, cuts_marked_is}
 use Rattle.line_rule.proofs.Passes.{peeks_second_is, aims_second_is, joins_second_is, summons_is}
-use Rattle.line_rule.proofs.Serves.{traces_second_is, leaves_second_is, clears_second_is, calls_next_is, parallels_is}
+use Rattle.line_rule.proofs.Serves.{leaves_second_is, clears_second_is, calls_next_is, parallels_is}
 use Rattle.line_rule.proofs.second_law.second_steps_and_events.Goals as goal
 
 pub returns-clause-read_newest : goal.returns-clause-read_newest
@@ -19,9 +19,6 @@ returns-clause-wake g a z slots id word c me lead x mine back gs p l more at gro
 
 pub returns-clause-free : goal.returns-clause-free
 returns-clause-free g a z slots id c me lead mine back gs p l more at group slot stood hands = frees_is _ z.clients slots id me c lead mine back gs p l more none at group slot stood hands
-
-pub returns-clause-read_older_marked : goal.returns-clause-read_older_marked
-returns-clause-read_older_marked g a z slots id word me = traces_marked_is _ z.clients slots id me word
 
 pub returns-clause-cut_behind_mark : goal.returns-clause-cut_behind_mark
 returns-clause-cut_behind_mark g a z slots id word c new me lead mine back newer x at walk is cleared = cuts_marked_is _ z.clients slots id me c word new lead mine back newer x at walk is cleared
@@ -40,9 +37,6 @@ returns-clause-make_parallel g a z slots id word c me member newer older own p m
 
 pub returns-clause-leave_second : goal.returns-clause-leave_second
 returns-clause-leave_second g a z slots id c member k me d mine squad walk right more piped at slot is_last is stood = leaves_second_is _ z.clients slots id me c member k d mine squad walk right more none piped at slot is_last is stood
-
-pub returns-clause-read_older_second : goal.returns-clause-read_older_second
-returns-clause-read_older_second g a z slots id word me = traces_second_is _ z.clients slots id me word
 
 pub returns-clause-clear_second : goal.returns-clause-clear_second
 returns-clause-clear_second g a z slots id word c new me d mine squad walk newer x piped at is_walk is is_new = clears_second_is _ z.clients slots id me c word new d mine squad walk newer x piped at is_walk is is_new

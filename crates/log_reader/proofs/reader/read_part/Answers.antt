@@ -1,4 +1,4 @@
-use Rattle.std.proofs.Common.{◌+◌, ℕ, length, None, IfSome, sym, ◌∙◌, ap, subst}
+use Rattle.std.proofs.Common.{◌+◌, ℕ, length, IfSome, sym, ◌∙◌, ap, subst}
 use Rattle.model_base.specs.Log.{plain_log}
 use Rattle.base_devices.specs.Disk.{Disk}
 use Rattle.model_base.specs.declared.log.EndReason.TheVariants as ends

@@ -1,4 +1,4 @@
-use Rattle.std.proofs.Common.{◌≡◌, ℕ, ◌+◌, ◌-◌, ◌++◌, List, length, take, drop, None, ◌∙◌, ap, arith, length-take, length-drop}
+use Rattle.std.proofs.Common.{◌≡◌, ℕ, ◌+◌, ◌-◌, ◌++◌, List, length, take, drop, ◌∙◌, ap, arith, length-take, length-drop}
 use Rattle.model_base.specs.Log.{plain_log}
 use Rattle.model_base.specs.Log as log
 use Rattle.log_writer.proofs.Filling.{part_there, filled}

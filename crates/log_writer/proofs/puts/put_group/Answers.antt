@@ -1,4 +1,4 @@
-use Rattle.std.proofs.Common.{List, ℕ, None}
+use Rattle.std.proofs.Common.{List, ℕ}
 use Rattle.model_base.specs.Log.{plain_log}
 use Rattle.model_base.specs.Log as log
 use Rattle.log_writer.specs.Groups.{record_of_group}

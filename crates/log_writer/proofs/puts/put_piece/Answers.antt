@@ -1,4 +1,4 @@
-use Rattle.std.proofs.Common.{◌-◌, ℕ, ◌++◌, List, take, replicate, None, false, subst}
+use Rattle.std.proofs.Common.{◌-◌, ℕ, ◌++◌, List, take, replicate, false, subst}
 use Rattle.model_base.specs.Log.{plain_log}
 use Rattle.model_base.specs.Log as log
 use Rattle.log_writer.specs.Puts.{Puts}

@@ -12,7 +12,7 @@ returns-in-Accepted c = λ plan client w records is busy.
     let empty : core.Client = record client { added = [] } in
     let is_empty : IsClient plan c.empty_batch.new.seat empty = c.empty_batch.ensures plan client is in
     let P : Answer → Type 0 = λ a. IsClient plan c.told.new.seat (event.after_completion client w (shown_reply records a)) in
-    subst P (sym c.in-Accepted.is) (c.told.ensures plan empty (commit w.options) (accepted c.in-Accepted.first c.in-Accepted.last records) is_empty busy (refl, refl) refl)
+    subst P (sym c.in-Accepted.is) (c.told.ensures plan empty (commit w.options) (accepted c.in-Accepted.run'.first c.in-Accepted.run'.last records) is_empty busy (refl, refl) refl)
 
 pub returns-in-Refused : goal.returns-in-Refused
 returns-in-Refused c = λ plan client w records is busy.

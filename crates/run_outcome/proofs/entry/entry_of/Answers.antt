@@ -8,8 +8,8 @@ use Rattle.run_outcome.proofs.Entries.{entries_of-at}
 use Rattle.run_outcome.proofs.entry.entry_of.Goals as goal
 
 made : (client ordinal first last : ℕ) (kept : AcceptedBatch Contents) → first ≡ kept.batch.sequence → last ≡ last_in kept.batch
-    → entry_of client ordinal kept ≡ record { client = client; ordinal = ordinal; first = first; last = last; flag = kept.flag; batch = kept.batch }
-made client ordinal first last kept begins ends = λ i. record { client = client; ordinal = ordinal; first = sym begins i; last = sym ends i; flag = kept.flag; batch = kept.batch }
+    → entry_of client ordinal kept ≡ record { client = client; ordinal = ordinal; run = record { first = first; last = last }; flag = kept.flag; batch = kept.batch }
+made client ordinal first last kept begins ends = λ i. record { client = client; ordinal = ordinal; run = record { first = sym begins i; last = sym ends i }; flag = kept.flag; batch = kept.batch }
 
 pub returns : goal.returns
 returns c =

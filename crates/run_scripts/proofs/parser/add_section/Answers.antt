@@ -1,11 +1,12 @@
 use Rattle.std.proofs.Common.{◌≡◌, ℕ, ◌+◌, length, Err, refl, sym, arith}
+use Rattle.model_base.specs.declared.limits.TheConstants.{MAX_CLIENTS}
 use Rattle.model_base.specs.declared.script.ScriptFault.TheVariants.{Clients}
 use Rattle.model_base.specs.Script.{Script, with_section}
 use Rattle.run_scripts.specs.Scripts.{commands_of}
 use Rattle.run_scripts.proofs.parser.add_section.Goals as goal
 
 -- the section of a client too many
-one_too_many : (script : Script) (n : ℕ) → n ≡ length script + 1 → n ≡ 17 → with_section 16 script n ≡ Err Clients
+one_too_many : (script : Script) (n : ℕ) → n ≡ length script + 1 → n ≡ MAX_CLIENTS + 1 → with_section MAX_CLIENTS script n ≡ Err Clients
 one_too_many script n next past = rw (sym next, past) refl
 
 pub returns-then-number-from-clause-script : goal.returns-then-number-from-clause-script

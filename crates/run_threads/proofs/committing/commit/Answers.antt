@@ -35,12 +35,10 @@ returns-in-Ok-clause-answers g c =
     let receipt = c.in-Ok.receipt in
     let was : c.args.batches.now.current ≡ Pending batch = cc (c.replace.ensures.value, c.in-Pending.is) in
     let wrote = c.in-Ok.ensures.ok in
-    let some = wrote.some in
-    let counted = c.in-Ok.ensures.back.1 in
-    rw (was, c.from.ensures) (record {
-      reply = calls.accepted receipt.first (receipt.first + (receipt.count - 1)) batch.records;
+    rw was (record {
+      reply = calls.accepted receipt.run.first receipt.run.last batch.records;
       shows = (batch.records, refl);
-      goes = c.commits_are_steps.ensures.accepted settings v batch.records c.args.options receipt.first (receipt.first + (receipt.count - 1)) receipt.group_last w (omega (arith, some, counted)) wrote;
+      goes = c.commits_are_steps.ensures.accepted settings v batch.records c.args.options receipt.run.first receipt.run.last receipt.group_last w c.in-Ok.ensures.back.1 wrote;
     })
 
 pub returns-in-Ok-clause-entries : goal.returns-in-Ok-clause-entries
@@ -51,9 +49,9 @@ returns-in-Ok-clause-entries g c =
     let list = c.args.batches.now.list in
     let was : c.args.batches.now.current ≡ Pending batch = cc (c.replace.ensures.value, c.in-Pending.is) in
     let wrote = c.in-Ok.ensures.ok in
-    let within = wrote.within in
+    let counted = c.in-Ok.ensures.back.1 in
     let before = subst (λ (l : List (AcceptedBatch Contents)). ShowsAccepted v.number l v.mine) (kept_with_pending list c.args.batches.now.current batch was) c.requires.entries in
-    rw wrote.mine (kept_more v.number receipt.first v.mine c.args.options batch.records list (record { flag = c.flag_of.result; batch = receipt.batch }) before c.flag_of.ensures c.in-Ok.ensures.back.0 wrote.some (omega (arith, within)))
+    rw wrote.mine (kept_more v.number receipt.run.first v.mine c.args.options batch.records list (record { flag = c.flag_of.result; batch = receipt.batch }) before c.flag_of.ensures c.in-Ok.ensures.back.0 wrote.some (let small = c.has_64_bits.ensures in omega (arith, counted, small)))
 
 pub returns-in-NoMemory-clause-answers : goal.returns-in-NoMemory-clause-answers
 returns-in-NoMemory-clause-answers g c =

@@ -2,7 +2,7 @@
 use Rattle.std.proofs.Common.{◌≡◌}
 use Rattle.table_rule.specs.Histories.{Begins}
 use Rattle.table_calls.specs.Account.{IsReady}
-use Rattle.line_writers.specs.Seats.{Belongs, IsIn, client_of, told}
+use Rattle.line_writers.specs.Seats.{Belongs, IsIn, client_of, answers_told}
 use Rattle.engine_groups.proofs.engine.GroupEngine.await_own_role.Given as goal
 use Rattle.engine_parts.specs.declared.requests.Request.{Request}
 use Rattle.engine_groups.specs.Law.{law_in}
@@ -14,8 +14,8 @@ invariant-loop g l = record {
   client : client_of l.writer ≡ client_of l.fn.writer;
   belongs : Belongs l.self.list l.writer;
   asked : Request;
-  was_in : IsIn (law_in g.Versions.Table l.self.list) asked (told l.fn.writer) l.fn.writer;
-  is_in : (q : Request) → IsIn (law_in g.Versions.Table l.self.list) q (told l.fn.writer) l.fn.writer → IsIn (law_in g.Versions.Table l.self.list) q (told l.fn.writer) l.writer;
+  was_in : IsIn (law_in g.Versions.Table l.self.list) asked (answers_told l.fn.writer) l.fn.writer;
+  is_in : (q : Request) → IsIn (law_in g.Versions.Table l.self.list) q (answers_told l.fn.writer) l.fn.writer → IsIn (law_in g.Versions.Table l.self.list) q (answers_told l.fn.writer) l.writer;
   ours : g.Versions.Table.ours l.self.table l.seat;
   ready : IsReady (g.Versions.Table.account l.seat);
   number : (g.Versions.Table.account l.seat).number ≡ (g.Versions.Table.account l.fn.seat).number;

@@ -7,7 +7,7 @@ use Rattle.line_rule.specs.Chain.{all_answers}
 use Rattle.line_rule.specs.Laws.{given_runs}
 use Rattle.line_rule.specs.Plays.{debt}
 use Rattle.line_writers.specs.Roles.{AreMembers}
-use Rattle.line_writers.specs.Seats.{bound_of, about_of, clients_of, told}
+use Rattle.line_writers.specs.Seats.{bound_of, about_of, clients_of, answers_told}
 use Rattle.engine_rule.specs.Commits.{AreAnswered, last_after_all}
 use Rattle.engine_stage_laws.specs.Served.{AreServed}
 use Rattle.engine_parts.specs.Handled.{commit_of}
@@ -23,7 +23,7 @@ await_pipelined_role-requires g c =
     let own = r.3 in let seen = r.4 in let h = r.5 in let l = h.leaves in
     let all = all_answers own l.p l.gs in let d = debt l.gs own l.p in let from = given_runs run_of seen in let to = given_runs run_of (seen ++ all) in
     let sent = c.exit_pipelined.ensures.sent (bound_of e.list) own l.group l.left seen l.gs l.p l.has l.heads_are l.pays_are in
-    (c.exit_pipelined.ensures.client.1, inr (c.requires.piped, (d, from, to, told w.writer, sent.0)))
+    (c.exit_pipelined.ensures.client.1, inr (c.requires.piped, (d, from, to, answers_told w.writer, sent.0)))
 
 pub turn_in-turn-requires : goal.turn_in-turn-requires
 turn_in-turn-requires g c =
@@ -32,8 +32,8 @@ turn_in-turn-requires g c =
     let all = all_answers own l.p l.gs in let d = debt l.gs own l.p in let from = given_runs run_of seen in let to = given_runs run_of (seen ++ all) in
     let sent = c.exit_pipelined.ensures.sent (bound_of e.list) own l.group l.left seen l.gs l.p l.has l.heads_are l.pays_are in
     let piped = l.seats.is_engine.pipelined ∙ c.requires.piped in
-    let R = c.await_pipelined_role.ensures.right d from to (told w.writer) sent.0 in
-    let H = has_turn g.Versions.Table about n d from to (told w.writer) c.await_pipelined_role.new.writer piped c.await_pipelined_role.result R in
+    let R = c.await_pipelined_role.ensures.right d from to (answers_told w.writer) sent.0 in
+    let H = has_turn g.Versions.Table about n d from to (answers_told w.writer) c.await_pipelined_role.new.writer piped c.await_pipelined_role.result R in
     (H.turn, H.turn_is)
 
 pub lead-turn-requires-clause-leads : goal.lead-turn-requires-clause-leads
@@ -43,10 +43,10 @@ lead-turn-requires-clause-leads g c =
     let all = all_answers own l.p l.gs in let d = debt l.gs own l.p in let from = given_runs run_of seen in let to = given_runs run_of (seen ++ all) in
     let sent = c.exit_pipelined.ensures.sent (bound_of e.list) own l.group l.left seen l.gs l.p l.has l.heads_are l.pays_are in
     let piped = l.seats.is_engine.pipelined ∙ c.requires.piped in
-    let R = c.await_pipelined_role.ensures.right d from to (told w.writer) sent.0 in
-    let H = has_turn g.Versions.Table about n d from to (told w.writer) c.await_pipelined_role.new.writer piped c.await_pipelined_role.result R in
+    let R = c.await_pipelined_role.ensures.right d from to (answers_told w.writer) sent.0 in
+    let H = has_turn g.Versions.Table about n d from to (answers_told w.writer) c.await_pipelined_role.new.writer piped c.await_pipelined_role.result R in
     let members = subst (λ ks. AreMembers n ks l.gs) (sym c.as_slice.ensures.value) h.beside in
-    (c.await_pipelined_role.ensures.client.1, (d, from, to, told w.writer, H.has_right, members))
+    (c.await_pipelined_role.ensures.client.1, (d, from, to, answers_told w.writer, H.has_right, members))
 
 pub lead-turn-requires-clause-ours : goal.lead-turn-requires-clause-ours
 lead-turn-requires-clause-ours g c =
@@ -55,9 +55,9 @@ lead-turn-requires-clause-ours g c =
     let all = all_answers own l.p l.gs in let d = debt l.gs own l.p in let from = given_runs run_of seen in let to = given_runs run_of (seen ++ all) in
     let sent = c.exit_pipelined.ensures.sent (bound_of e.list) own l.group l.left seen l.gs l.p l.has l.heads_are l.pays_are in
     let piped = l.seats.is_engine.pipelined ∙ c.requires.piped in
-    let R = c.await_pipelined_role.ensures.right d from to (told w.writer) sent.0 in
-    let H = has_turn g.Versions.Table about n d from to (told w.writer) c.await_pipelined_role.new.writer piped c.await_pipelined_role.result R in
-    let t = turn_out g.Versions.Table about n d from to (told w.writer) c.await_pipelined_role.new.writer c.await_pipelined_role.result c.turn_in-turn.result c.turn_in-turn.ensures H in
+    let R = c.await_pipelined_role.ensures.right d from to (answers_told w.writer) sent.0 in
+    let H = has_turn g.Versions.Table about n d from to (answers_told w.writer) c.await_pipelined_role.new.writer piped c.await_pipelined_role.result R in
+    let t = turn_out g.Versions.Table about n d from to (answers_told w.writer) c.await_pipelined_role.new.writer c.await_pipelined_role.result c.turn_in-turn.result c.turn_in-turn.ensures H in
     let home = g.Versions.Table.opening e.table in
     let start_is = l.seats.is_engine.start in
     let answered = subst (λ (k : ℕ). AreAnswered k None (map commit_of seen)) start_is l.before.answered in
@@ -71,9 +71,9 @@ lead-turn-requires-clause-next g c =
     let all = all_answers own l.p l.gs in let d = debt l.gs own l.p in let from = given_runs run_of seen in let to = given_runs run_of (seen ++ all) in
     let sent = c.exit_pipelined.ensures.sent (bound_of e.list) own l.group l.left seen l.gs l.p l.has l.heads_are l.pays_are in
     let piped = l.seats.is_engine.pipelined ∙ c.requires.piped in
-    let R = c.await_pipelined_role.ensures.right d from to (told w.writer) sent.0 in
-    let H = has_turn g.Versions.Table about n d from to (told w.writer) c.await_pipelined_role.new.writer piped c.await_pipelined_role.result R in
-    let t = turn_out g.Versions.Table about n d from to (told w.writer) c.await_pipelined_role.new.writer c.await_pipelined_role.result c.turn_in-turn.result c.turn_in-turn.ensures H in
+    let R = c.await_pipelined_role.ensures.right d from to (answers_told w.writer) sent.0 in
+    let H = has_turn g.Versions.Table about n d from to (answers_told w.writer) c.await_pipelined_role.new.writer piped c.await_pipelined_role.result R in
+    let t = turn_out g.Versions.Table about n d from to (answers_told w.writer) c.await_pipelined_role.new.writer c.await_pipelined_role.result c.turn_in-turn.result c.turn_in-turn.ensures H in
     let home = g.Versions.Table.opening e.table in
     let start_is = l.seats.is_engine.start in
     let answered = subst (λ (k : ℕ). AreAnswered k None (map commit_of seen)) start_is l.before.answered in
@@ -92,9 +92,9 @@ lead-turn-requires-clause-end g c =
     let all = all_answers own l.p l.gs in let d = debt l.gs own l.p in let from = given_runs run_of seen in let to = given_runs run_of (seen ++ all) in
     let sent = c.exit_pipelined.ensures.sent (bound_of e.list) own l.group l.left seen l.gs l.p l.has l.heads_are l.pays_are in
     let piped = l.seats.is_engine.pipelined ∙ c.requires.piped in
-    let R = c.await_pipelined_role.ensures.right d from to (told w.writer) sent.0 in
-    let H = has_turn g.Versions.Table about n d from to (told w.writer) c.await_pipelined_role.new.writer piped c.await_pipelined_role.result R in
-    let t = turn_out g.Versions.Table about n d from to (told w.writer) c.await_pipelined_role.new.writer c.await_pipelined_role.result c.turn_in-turn.result c.turn_in-turn.ensures H in
+    let R = c.await_pipelined_role.ensures.right d from to (answers_told w.writer) sent.0 in
+    let H = has_turn g.Versions.Table about n d from to (answers_told w.writer) c.await_pipelined_role.new.writer piped c.await_pipelined_role.result R in
+    let t = turn_out g.Versions.Table about n d from to (answers_told w.writer) c.await_pipelined_role.new.writer c.await_pipelined_role.result c.turn_in-turn.result c.turn_in-turn.ensures H in
     let home = g.Versions.Table.opening e.table in
     let start_is = l.seats.is_engine.start in
     let answered = subst (λ (k : ℕ). AreAnswered k None (map commit_of seen)) start_is l.before.answered in
@@ -108,9 +108,9 @@ exit_memtable-requires-clause-serves g c =
     let all = all_answers own l.p l.gs in let d = debt l.gs own l.p in let from = given_runs run_of seen in let to = given_runs run_of (seen ++ all) in
     let sent = c.exit_pipelined.ensures.sent (bound_of e.list) own l.group l.left seen l.gs l.p l.has l.heads_are l.pays_are in
     let piped = l.seats.is_engine.pipelined ∙ c.requires.piped in
-    let R = c.await_pipelined_role.ensures.right d from to (told w.writer) sent.0 in
-    let H = has_turn g.Versions.Table about n d from to (told w.writer) c.await_pipelined_role.new.writer piped c.await_pipelined_role.result R in
-    let t = turn_out g.Versions.Table about n d from to (told w.writer) c.await_pipelined_role.new.writer c.await_pipelined_role.result c.turn_in-turn.result c.turn_in-turn.ensures H in
+    let R = c.await_pipelined_role.ensures.right d from to (answers_told w.writer) sent.0 in
+    let H = has_turn g.Versions.Table about n d from to (answers_told w.writer) c.await_pipelined_role.new.writer piped c.await_pipelined_role.result R in
+    let t = turn_out g.Versions.Table about n d from to (answers_told w.writer) c.await_pipelined_role.new.writer c.await_pipelined_role.result c.turn_in-turn.result c.turn_in-turn.ensures H in
     let home = g.Versions.Table.opening e.table in
     let start_is = l.seats.is_engine.start in
     let answered = subst (λ (k : ℕ). AreAnswered k None (map commit_of seen)) start_is l.before.answered in
@@ -123,8 +123,8 @@ exit_memtable-requires-clause-serves g c =
         d,
         from,
         to,
-        told w.writer,
-        c.lead-turn.ensures.leads d from to (told w.writer) H.has_right,
+        answers_told w.writer,
+        c.lead-turn.ensures.leads d from to (answers_told w.writer) H.has_right,
         serves_again g.Versions.Table about.table.value about.pipelined to c.lead-turn.result piped (subst (λ k. g.Versions.Table.our_turn k c.lead-turn.result) (sym l.seats.is_engine.table) c.lead-turn.ensures.ours.1) published,
         sent.1,
       ),
@@ -137,10 +137,10 @@ returns-clause-fits g c =
     let all = all_answers own l.p l.gs in let d = debt l.gs own l.p in let from = given_runs run_of seen in let to = given_runs run_of (seen ++ all) in
     let sent = c.exit_pipelined.ensures.sent (bound_of e.list) own l.group l.left seen l.gs l.p l.has l.heads_are l.pays_are in
     let piped = l.seats.is_engine.pipelined ∙ c.requires.piped in
-    let R = c.await_pipelined_role.ensures.right d from to (told w.writer) sent.0 in
-    let H = has_turn g.Versions.Table about n d from to (told w.writer) c.await_pipelined_role.new.writer piped c.await_pipelined_role.result R in
+    let R = c.await_pipelined_role.ensures.right d from to (answers_told w.writer) sent.0 in
+    let H = has_turn g.Versions.Table about n d from to (answers_told w.writer) c.await_pipelined_role.new.writer piped c.await_pipelined_role.result R in
     let x = c.exit_memtable.ensures in let lead = c.lead-turn.ensures in
-    let gone = x.out.1 d from to (told w.writer) (lead.leads d from to (told w.writer) H.has_right) in
+    let gone = x.out.1 d from to (answers_told w.writer) (lead.leads d from to (answers_told w.writer) H.has_right) in
     let emptied : c.lead-turn.new.parts.parts ≡ [] = none_of (λ (part : MemberNodes). record { member = part.member; versions = part.nodes }) c.lead-turn.new.parts.parts lead.emptied.0 in
     left_client g.Versions.Table e r.0 r.1 r.2 own seen w c.args.leadership l _
     refl refl x.client.1 (x.client.0 ∙ (lead.client.0 ∙ (c.await_pipelined_role.ensures.client.0 ∙ c.exit_pipelined.ensures.client.0))) x.out.0 (gone.0 ∙ (λ i. l.told_is i ++ (own.asked, l.p) ∷ [])) lead.ours.0 lead.ours.2 lead.seen.0 refl (
@@ -157,7 +157,7 @@ returns-clause-answered g c number start mine own seen h =
     let all = all_answers own l.p l.gs in let d = debt l.gs own l.p in let from = given_runs run_of seen in let to = given_runs run_of (seen ++ all) in
     let sent = c.exit_pipelined.ensures.sent (bound_of e.list) own l.group l.left seen l.gs l.p l.has l.heads_are l.pays_are in
     let piped = l.seats.is_engine.pipelined ∙ c.requires.piped in
-    let R = c.await_pipelined_role.ensures.right d from to (told w.writer) sent.0 in
-    let H = has_turn g.Versions.Table about n d from to (told w.writer) c.await_pipelined_role.new.writer piped c.await_pipelined_role.result R in
-    let gone = c.exit_memtable.ensures.out.1 d from to (told w.writer) (c.lead-turn.ensures.leads d from to (told w.writer) H.has_right) in
+    let R = c.await_pipelined_role.ensures.right d from to (answers_told w.writer) sent.0 in
+    let H = has_turn g.Versions.Table about n d from to (answers_told w.writer) c.await_pipelined_role.new.writer piped c.await_pipelined_role.result R in
+    let gone = c.exit_memtable.ensures.out.1 d from to (answers_told w.writer) (c.lead-turn.ensures.leads d from to (answers_told w.writer) H.has_right) in
     has_answered g.Versions.Table e number start mine own seen w c.args.leadership l c.exit_memtable.result _ (gone.0 ∙ (λ i. l.told_is i ++ (own.asked, l.p) ∷ [])) gone.1

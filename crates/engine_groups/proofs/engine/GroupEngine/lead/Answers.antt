@@ -4,7 +4,7 @@ use Rattle.std.proofs.lemmas.Bool.{false≢true}
 use Rattle.line_rule.specs.declared.view.QueuedWriter.{QueuedWriter}
 use Rattle.line_rule.specs.Chain.{Within, all_answers}
 use Rattle.line_rule.specs.Rule.{last_run}
-use Rattle.line_writers.specs.Seats.{bound_of, about_of, client_of, clients_of, told, told_in_first}
+use Rattle.line_writers.specs.Seats.{bound_of, about_of, client_of, clients_of, answers_told, told_in_first}
 use Rattle.line_writers.specs.Rooms.{HasRoom}
 use Rattle.engine_controller.specs.Passes.{seen_by}
 use Rattle.engine_parts.specs.declared.requests.Request.{Request}
@@ -81,9 +81,9 @@ leave-requires-clause-leaves g c =
     let led = has_led about leadership pub_now own G.0 L.1 c.group.new.requests.list.items w.lists.replies.list.items G.3 served.in_order
     hs.path (of_list g.Versions.Table e E.controller E.start L.1 L.4) served.handed_back (shown_as e.controller about.controller.value (handled_with c.group.new.requests.list.items w.lists.replies.list.items) (sym E.controller) served.shown) in
     let t = led.is_paid in let all = all_answers own t.own_reply t.gs in
-    let mine : told c.group.new.writer ≡ told v.writer = ap told_in_first G.2.0 in
-    let has = has_as (wanted_in e.list) n (bound_of e.list) own G.0 G.1 L.1 (told v.writer) c.group.new.writer w.writer served.writer mine G.2 in
-    let told1 : told w.writer ≡ told v.writer = ap told served.writer ∙ mine in
+    let mine : answers_told c.group.new.writer ≡ answers_told v.writer = ap told_in_first G.2.0 in
+    let has = has_as (wanted_in e.list) n (bound_of e.list) own G.0 G.1 L.1 (answers_told v.writer) c.group.new.writer w.writer served.writer mine G.2 in
+    let told1 : answers_told w.writer ≡ answers_told v.writer = ap answers_told served.writer ∙ mine in
     let start_is = E.start ∙ sym E.start_number in
     let few = c.group.ensures.few in
     let l = pays_length c.group.new.requests.list.items w.lists.replies.list.items served.in_order in
@@ -91,7 +91,7 @@ leave-requires-clause-leaves g c =
     let own_at : seen_for t.own_reply ≡ served.known = own_reply_at served.known own t.own_reply t.gs (subst (AllByRecursion (IsReplyAt served.known)) t.pays_are served.of_delay) in
     let no_end : c.serve-leadership.result.1 ≡ None = none_is c.serve-leadership.result.1 c.in_default.not-Some in
     let staged = subst (λ (o : Option ℕ). IsStaged v.number n c.args.leadership.path.last leadership.path.last o w.layout.members.items parts w.lists.replies.list.items) no_end c.serve-leadership.ensures.staged in
-    let leaves : IsToLeave g.Versions.Table e v.number v.start (told v.writer) own L.1 w leadership = record {
+    let leaves : IsToLeave g.Versions.Table e v.number v.start (answers_told v.writer) own L.1 w leadership = record {
       seats = served.seats;
       layout = served.layout;
       number_is = served.number;
@@ -111,14 +111,14 @@ leave-requires-clause-leaves g c =
       before = of_list g.Versions.Table e E.controller E.start L.1 L.4;
       kept = led.kept;
       last = led.number ∙ ap (λ (k : ℕ). last_run run_of k (L.1 ++ all)) start_is;
-      own_now = own_now v.number own G.0 w.lists.replies.list.items t L.1 (told v.writer) (L.2.1 ∙ S.number) G.2.4.1 L.3;
+      own_now = own_now v.number own G.0 w.lists.replies.list.items t L.1 (answers_told v.writer) (L.2.1 ∙ S.number) G.2.4.1 L.3;
       requests = ((let k = w.lists.requests.list.ok.0 in let none = ap length served.taken in omega (arith, k, none)), served.taken, subst (λ (k : ℕ). n ≤ k) (sym requests_room) S.can_lead.lists.0.2);
       replies_few = (let len = w.lists.replies.list.ok.0 in omega (arith, few, l, len));
       replies_room = subst (λ (k : ℕ). n ≤ k) (sym served.replies_room) S.can_lead.lists.1.2;
       room = subst (HasRoom n) (sym served.room_same) c.group.ensures.room.0;
-      has_asked = asked_own v.number (told v.writer) (told v.writer ++ (own.asked, t.own_reply) ∷ []) own.asked t.own_reply (seen_by v.pass) (seen_by w.pass) served.known refl c.requires.has_asked served.delays own_at;
+      has_asked = asked_own v.number (answers_told v.writer) (answers_told v.writer ++ (own.asked, t.own_reply) ∷ []) own.asked t.own_reply (seen_by v.pass) (seen_by w.pass) served.known refl c.requires.has_asked served.delays own_at;
     } in
-    (v.number, v.start, told v.writer, own, L.1, leaves, (λ _. given_same L.1 all (asks own G.0) w.lists.replies.list.items t.answers_are staged.2))
+    (v.number, v.start, answers_told v.writer, own, L.1, leaves, (λ _. given_same L.1 all (asks own G.0) w.lists.replies.list.items t.answers_are staged.2))
 
 pub returns-in_default-clause-answered : goal.returns-in_default-clause-answered
 returns-in_default-clause-answered g c own' seen' chosen =
@@ -132,9 +132,9 @@ returns-in_default-clause-answered g c own' seen' chosen =
     let led = has_led about leadership pub_now own G.0 L.1 c.group.new.requests.list.items w.lists.replies.list.items G.3 served.in_order
     hs.path (of_list g.Versions.Table e E.controller E.start L.1 L.4) served.handed_back (shown_as e.controller about.controller.value (handled_with c.group.new.requests.list.items w.lists.replies.list.items) (sym E.controller) served.shown) in
     let t = led.is_paid in let all = all_answers own t.own_reply t.gs in
-    let mine : told c.group.new.writer ≡ told v.writer = ap told_in_first G.2.0 in
-    let has = has_as (wanted_in e.list) n (bound_of e.list) own G.0 G.1 L.1 (told v.writer) c.group.new.writer w.writer served.writer mine G.2 in
-    let told1 : told w.writer ≡ told v.writer = ap told served.writer ∙ mine in
+    let mine : answers_told c.group.new.writer ≡ answers_told v.writer = ap told_in_first G.2.0 in
+    let has = has_as (wanted_in e.list) n (bound_of e.list) own G.0 G.1 L.1 (answers_told v.writer) c.group.new.writer w.writer served.writer mine G.2 in
+    let told1 : answers_told w.writer ≡ answers_told v.writer = ap answers_told served.writer ∙ mine in
     let start_is = E.start ∙ sym E.start_number in
     let few = c.group.ensures.few in
     let l = pays_length c.group.new.requests.list.items w.lists.replies.list.items served.in_order in
@@ -142,7 +142,7 @@ returns-in_default-clause-answered g c own' seen' chosen =
     let own_at : seen_for t.own_reply ≡ served.known = own_reply_at served.known own t.own_reply t.gs (subst (AllByRecursion (IsReplyAt served.known)) t.pays_are served.of_delay) in
     let no_end : c.serve-leadership.result.1 ≡ None = none_is c.serve-leadership.result.1 c.in_default.not-Some in
     let staged = subst (λ (o : Option ℕ). IsStaged v.number n c.args.leadership.path.last leadership.path.last o w.layout.members.items parts w.lists.replies.list.items) no_end c.serve-leadership.ensures.staged in
-    let leaves : IsToLeave g.Versions.Table e v.number v.start (told v.writer) own L.1 w leadership = record {
+    let leaves : IsToLeave g.Versions.Table e v.number v.start (answers_told v.writer) own L.1 w leadership = record {
       seats = served.seats;
       layout = served.layout;
       number_is = served.number;
@@ -162,21 +162,21 @@ returns-in_default-clause-answered g c own' seen' chosen =
       before = of_list g.Versions.Table e E.controller E.start L.1 L.4;
       kept = led.kept;
       last = led.number ∙ ap (λ (k : ℕ). last_run run_of k (L.1 ++ all)) start_is;
-      own_now = own_now v.number own G.0 w.lists.replies.list.items t L.1 (told v.writer) (L.2.1 ∙ S.number) G.2.4.1 L.3;
+      own_now = own_now v.number own G.0 w.lists.replies.list.items t L.1 (answers_told v.writer) (L.2.1 ∙ S.number) G.2.4.1 L.3;
       requests = ((let k = w.lists.requests.list.ok.0 in let none = ap length served.taken in omega (arith, k, none)), served.taken, subst (λ (k : ℕ). n ≤ k) (sym requests_room) S.can_lead.lists.0.2);
       replies_few = (let len = w.lists.replies.list.ok.0 in omega (arith, few, l, len));
       replies_room = subst (λ (k : ℕ). n ≤ k) (sym served.replies_room) S.can_lead.lists.1.2;
       room = subst (HasRoom n) (sym served.room_same) c.group.ensures.room.0;
-      has_asked = asked_own v.number (told v.writer) (told v.writer ++ (own.asked, t.own_reply) ∷ []) own.asked t.own_reply (seen_by v.pass) (seen_by w.pass) served.known refl c.requires.has_asked served.delays own_at;
+      has_asked = asked_own v.number (answers_told v.writer) (answers_told v.writer ++ (own.asked, t.own_reply) ∷ []) own.asked t.own_reply (seen_by v.pass) (seen_by w.pass) served.known refl c.requires.has_asked served.delays own_at;
     } in
-    let fresh = fresh_same v.writer.client v.writer.client own own' L.1 seen' (told v.writer) (told v.writer) (sym L.2.0 ∙ chosen.0) in
-    let A = c.leave.ensures.answered v.number v.start (told v.writer) own L.1 leaves in
+    let fresh = fresh_same v.writer.client v.writer.client own own' L.1 seen' (answers_told v.writer) (answers_told v.writer) (sym L.2.0 ∙ chosen.0) in
+    let A = c.leave.ensures.answered v.number v.start (answers_told v.writer) own L.1 leaves in
     let same = c.leave.ensures.same in
     record {
-      told_now = A.told_now ∙ (λ i. told v.writer ++ ((fresh i).asked, c.leave.result) ∷ []);
+      told_now = A.told_now ∙ (λ i. answers_told v.writer ++ ((fresh i).asked, c.leave.result) ∷ []);
       handled = A.handled;
       are_handled = A.are_handled;
-      own = A.own ∙ (λ i. told v.writer ++ ((fresh i).asked, c.leave.result) ∷ []);
+      own = A.own ∙ (λ i. answers_told v.writer ++ ((fresh i).asked, c.leave.result) ∷ []);
       number = same.0 ∙ served.number;
       start_same = same.1 ∙ served.start;
     }
@@ -198,9 +198,9 @@ hand_on-requires-clause-leaves g c =
     let led = has_led about leadership pub_now own G.0 L.1 c.group.new.requests.list.items w.lists.replies.list.items G.3 served.in_order
     hs.path (of_list g.Versions.Table e E.controller E.start L.1 L.4) served.handed_back (shown_as e.controller about.controller.value (handled_with c.group.new.requests.list.items w.lists.replies.list.items) (sym E.controller) served.shown) in
     let t = led.is_paid in let all = all_answers own t.own_reply t.gs in
-    let mine : told c.group.new.writer ≡ told v.writer = ap told_in_first G.2.0 in
-    let has = has_as (wanted_in e.list) n (bound_of e.list) own G.0 G.1 L.1 (told v.writer) c.group.new.writer w.writer served.writer mine G.2 in
-    let told1 : told w.writer ≡ told v.writer = ap told served.writer ∙ mine in
+    let mine : answers_told c.group.new.writer ≡ answers_told v.writer = ap told_in_first G.2.0 in
+    let has = has_as (wanted_in e.list) n (bound_of e.list) own G.0 G.1 L.1 (answers_told v.writer) c.group.new.writer w.writer served.writer mine G.2 in
+    let told1 : answers_told w.writer ≡ answers_told v.writer = ap answers_told served.writer ∙ mine in
     let start_is = E.start ∙ sym E.start_number in
     let few = c.group.ensures.few in
     let l = pays_length c.group.new.requests.list.items w.lists.replies.list.items served.in_order in
@@ -210,7 +210,7 @@ hand_on-requires-clause-leaves g c =
     let path = subst (λ (o : Option ℕ). LogIn about leadership (published_with o parts st.published) (L.1 ++ all)) c.in-Some.is led.path in
     let may = staged.1 in
     let piped = is_piped g.Versions.Table about.table.value about.pipelined st.published leadership.turn hs.turn c.in-None.is in
-    let leaves : IsToLeave g.Versions.Table e v.number v.start (told v.writer) own L.1 w (record { path = leadership.path; turn = None; clock = leadership.clock; asked = leadership.asked }) = record {
+    let leaves : IsToLeave g.Versions.Table e v.number v.start (answers_told v.writer) own L.1 w (record { path = leadership.path; turn = None; clock = leadership.clock; asked = leadership.asked }) = record {
       seats = served.seats;
       layout = served.layout;
       number_is = served.number;
@@ -230,24 +230,24 @@ hand_on-requires-clause-leaves g c =
       before = of_list g.Versions.Table e E.controller E.start L.1 L.4;
       kept = led.kept;
       last = led.number ∙ ap (λ (k : ℕ). last_run run_of k (L.1 ++ all)) start_is;
-      own_now = own_now v.number own G.0 w.lists.replies.list.items t L.1 (told v.writer) (L.2.1 ∙ S.number) G.2.4.1 L.3;
+      own_now = own_now v.number own G.0 w.lists.replies.list.items t L.1 (answers_told v.writer) (L.2.1 ∙ S.number) G.2.4.1 L.3;
       requests = ((let k = w.lists.requests.list.ok.0 in let none = ap length served.taken in omega (arith, k, none)), served.taken, subst (λ (k : ℕ). n ≤ k) (sym requests_room) S.can_lead.lists.0.2);
       replies_few = (let len = w.lists.replies.list.ok.0 in omega (arith, few, l, len));
       replies_room = subst (λ (k : ℕ). n ≤ k) (sym served.replies_room) S.can_lead.lists.1.2;
       room = subst (HasRoom n) (sym served.room_same) c.group.ensures.room.0;
-      has_asked = asked_own v.number (told v.writer) (told v.writer ++ (own.asked, t.own_reply) ∷ []) own.asked t.own_reply (seen_by v.pass) (seen_by w.pass) served.known refl c.requires.has_asked served.delays own_at;
+      has_asked = asked_own v.number (answers_told v.writer) (answers_told v.writer ++ (own.asked, t.own_reply) ∷ []) own.asked t.own_reply (seen_by v.pass) (seen_by w.pass) served.known refl c.requires.has_asked served.delays own_at;
     } in
     let seat_number : v.number ≡ (g.Versions.Table.account w.seat).number = sym served.number ∙ sym served.seats.seat_number in
     let home = g.Versions.Table.opening e.table in
     let last_is : c.args.leadership.path.last ≡ last_after_all home.start (map commit_of L.1) = st.path.consistent.last_is ∙ ap (λ (k : ℕ). last_after_all k (map commit_of L.1)) E.start in
     let beside = subst (λ (o : Option ℕ). IfSome o (λ _. AreBeside (is_none c.args.leadership.turn) (others_in c.group.new.requests.list.items) w.layout.members.items)) c.in-Some.is c.serve-leadership.ensures.beside in
-    let hands : IsToHandOn g.Versions.Table e v.number v.start (told v.writer) own L.1 w (record { path = leadership.path; turn = None; clock = leadership.clock; asked = leadership.asked }) c.in-Some.end = record {
+    let hands : IsToHandOn g.Versions.Table e v.number v.start (answers_told v.writer) own L.1 w (record { path = leadership.path; turn = None; clock = leadership.clock; asked = leadership.asked }) c.in-Some.end = record {
       leaves = leaves;
       may = subst (λ (z : ℕ × ℕ × ℕ). MayLaunch z.0 z.1 z.2 c.in-Some.end w.layout.members.items (group_of parts)) (λ i. (seat_number i, sym E.clients i, last_is i)) may;
       beside = are_members n own t.gs w.layout.members.items (subst (Within n) (sym t.heads_are) G.2.3) (subst (λ xs. AreIn (others_in xs) w.layout.members.items) (G.3 ∙ ap (asks own) (sym t.heads_are)) beside.of_group);
       made = group_made L.1 all st.published (group_of parts) st.path.consistent.images path.consistent.images;
     } in
-    (v.number, v.start, told v.writer, own, L.1, hands)
+    (v.number, v.start, answers_told v.writer, own, L.1, hands)
 
 pub publish_alone-turn-requires-clause-may : goal.publish_alone-turn-requires-clause-may
 publish_alone-turn-requires-clause-may g c =
@@ -261,9 +261,9 @@ publish_alone-turn-requires-clause-may g c =
     let led = has_led about leadership pub_now own G.0 L.1 c.group.new.requests.list.items w.lists.replies.list.items G.3 served.in_order
     hs.path (of_list g.Versions.Table e E.controller E.start L.1 L.4) served.handed_back (shown_as e.controller about.controller.value (handled_with c.group.new.requests.list.items w.lists.replies.list.items) (sym E.controller) served.shown) in
     let t = led.is_paid in let all = all_answers own t.own_reply t.gs in
-    let mine : told c.group.new.writer ≡ told v.writer = ap told_in_first G.2.0 in
-    let has = has_as (wanted_in e.list) n (bound_of e.list) own G.0 G.1 L.1 (told v.writer) c.group.new.writer w.writer served.writer mine G.2 in
-    let told1 : told w.writer ≡ told v.writer = ap told served.writer ∙ mine in
+    let mine : answers_told c.group.new.writer ≡ answers_told v.writer = ap told_in_first G.2.0 in
+    let has = has_as (wanted_in e.list) n (bound_of e.list) own G.0 G.1 L.1 (answers_told v.writer) c.group.new.writer w.writer served.writer mine G.2 in
+    let told1 : answers_told w.writer ≡ answers_told v.writer = ap answers_told served.writer ∙ mine in
     let start_is = E.start ∙ sym E.start_number in
     let few = c.group.ensures.few in
     let l = pays_length c.group.new.requests.list.items w.lists.replies.list.items served.in_order in
@@ -293,9 +293,9 @@ leave-requires-in-Some-turn-clause-leaves g c =
     let led = has_led about leadership pub_now own G.0 L.1 c.group.new.requests.list.items w.lists.replies.list.items G.3 served.in_order
     hs.path (of_list g.Versions.Table e E.controller E.start L.1 L.4) served.handed_back (shown_as e.controller about.controller.value (handled_with c.group.new.requests.list.items w.lists.replies.list.items) (sym E.controller) served.shown) in
     let t = led.is_paid in let all = all_answers own t.own_reply t.gs in
-    let mine : told c.group.new.writer ≡ told v.writer = ap told_in_first G.2.0 in
-    let has = has_as (wanted_in e.list) n (bound_of e.list) own G.0 G.1 L.1 (told v.writer) c.group.new.writer w.writer served.writer mine G.2 in
-    let told1 : told w.writer ≡ told v.writer = ap told served.writer ∙ mine in
+    let mine : answers_told c.group.new.writer ≡ answers_told v.writer = ap told_in_first G.2.0 in
+    let has = has_as (wanted_in e.list) n (bound_of e.list) own G.0 G.1 L.1 (answers_told v.writer) c.group.new.writer w.writer served.writer mine G.2 in
+    let told1 : answers_told w.writer ≡ answers_told v.writer = ap answers_told served.writer ∙ mine in
     let start_is = E.start ∙ sym E.start_number in
     let few = c.group.ensures.few in
     let l = pays_length c.group.new.requests.list.items w.lists.replies.list.items served.in_order in
@@ -306,7 +306,7 @@ leave-requires-in-Some-turn-clause-leaves g c =
     let may = staged.1 in
     let one = single g.Versions.Table about.table.value about.pipelined st.published leadership.turn c.in-Some-turn.turn hs.turn c.in-Some-turn.is in
     let P = c.publish_alone-turn.ensures in let turn = c.publish_alone-turn.result in
-    let leaves : IsToLeave g.Versions.Table e v.number v.start (told v.writer) own L.1 (record { number = w.number; start = w.start; writer = w.writer; seat = c.publish_alone-turn.new.seat; pass = w.pass; lists = w.lists; layout = record { numberings = w.layout.numberings; batches = w.layout.batches; members = w.layout.members; parts = c.publish_alone-turn.new.parts } }) (record { path = leadership.path; turn = Some turn; clock = leadership.clock; asked = leadership.asked }) = record {
+    let leaves : IsToLeave g.Versions.Table e v.number v.start (answers_told v.writer) own L.1 (record { number = w.number; start = w.start; writer = w.writer; seat = c.publish_alone-turn.new.seat; pass = w.pass; lists = w.lists; layout = record { numberings = w.layout.numberings; batches = w.layout.batches; members = w.layout.members; parts = c.publish_alone-turn.new.parts } }) (record { path = leadership.path; turn = Some turn; clock = leadership.clock; asked = leadership.asked }) = record {
       seats = record { is_engine = E; seat = P.ours.0; ready = P.ours.2; seat_number = P.seen.0 ∙ served.seats.seat_number; pass = served.seats.pass; pass_number = served.seats.pass_number; number = served.seats.number };
       layout = record { no_numberings = served.layout.no_numberings; no_batches = served.layout.no_batches; clients_are = P.emptied.1 ∙ served.layout.clients_are; numberings = served.layout.numberings; batches = served.layout.batches; members = served.layout.members };
       number_is = served.number;
@@ -326,14 +326,14 @@ leave-requires-in-Some-turn-clause-leaves g c =
       before = of_list g.Versions.Table e E.controller E.start L.1 L.4;
       kept = led.kept;
       last = led.number ∙ ap (λ (k : ℕ). last_run run_of k (L.1 ++ all)) start_is;
-      own_now = own_now v.number own G.0 w.lists.replies.list.items t L.1 (told v.writer) (L.2.1 ∙ S.number) G.2.4.1 L.3;
+      own_now = own_now v.number own G.0 w.lists.replies.list.items t L.1 (answers_told v.writer) (L.2.1 ∙ S.number) G.2.4.1 L.3;
       requests = ((let k = w.lists.requests.list.ok.0 in let none = ap length served.taken in omega (arith, k, none)), served.taken, subst (λ (k : ℕ). n ≤ k) (sym requests_room) S.can_lead.lists.0.2);
       replies_few = (let len = w.lists.replies.list.ok.0 in omega (arith, few, l, len));
       replies_room = subst (λ (k : ℕ). n ≤ k) (sym served.replies_room) S.can_lead.lists.1.2;
       room = subst (HasRoom n) (sym served.room_same) c.group.ensures.room.0;
-      has_asked = asked_own v.number (told v.writer) (told v.writer ++ (own.asked, t.own_reply) ∷ []) own.asked t.own_reply (seen_by v.pass) (seen_by w.pass) served.known refl c.requires.has_asked served.delays own_at;
+      has_asked = asked_own v.number (answers_told v.writer) (answers_told v.writer ++ (own.asked, t.own_reply) ∷ []) own.asked t.own_reply (seen_by v.pass) (seen_by w.pass) served.known refl c.requires.has_asked served.delays own_at;
     } in
-    (v.number, v.start, told v.writer, own, L.1, leaves, (λ piped. let no = sym one.0 ∙ (E.pipelined ∙ piped) in absurd (false≢true no)))
+    (v.number, v.start, answers_told v.writer, own, L.1, leaves, (λ piped. let no = sym one.0 ∙ (E.pipelined ∙ piped) in absurd (false≢true no)))
 
 pub returns-in-None-clause-answered : goal.returns-in-None-clause-answered
 returns-in-None-clause-answered g c own' seen' chosen =
@@ -347,9 +347,9 @@ returns-in-None-clause-answered g c own' seen' chosen =
     let led = has_led about leadership pub_now own G.0 L.1 c.group.new.requests.list.items w.lists.replies.list.items G.3 served.in_order
     hs.path (of_list g.Versions.Table e E.controller E.start L.1 L.4) served.handed_back (shown_as e.controller about.controller.value (handled_with c.group.new.requests.list.items w.lists.replies.list.items) (sym E.controller) served.shown) in
     let t = led.is_paid in let all = all_answers own t.own_reply t.gs in
-    let mine : told c.group.new.writer ≡ told v.writer = ap told_in_first G.2.0 in
-    let has = has_as (wanted_in e.list) n (bound_of e.list) own G.0 G.1 L.1 (told v.writer) c.group.new.writer w.writer served.writer mine G.2 in
-    let told1 : told w.writer ≡ told v.writer = ap told served.writer ∙ mine in
+    let mine : answers_told c.group.new.writer ≡ answers_told v.writer = ap told_in_first G.2.0 in
+    let has = has_as (wanted_in e.list) n (bound_of e.list) own G.0 G.1 L.1 (answers_told v.writer) c.group.new.writer w.writer served.writer mine G.2 in
+    let told1 : answers_told w.writer ≡ answers_told v.writer = ap answers_told served.writer ∙ mine in
     let start_is = E.start ∙ sym E.start_number in
     let few = c.group.ensures.few in
     let l = pays_length c.group.new.requests.list.items w.lists.replies.list.items served.in_order in
@@ -359,7 +359,7 @@ returns-in-None-clause-answered g c own' seen' chosen =
     let path = subst (λ (o : Option ℕ). LogIn about leadership (published_with o parts st.published) (L.1 ++ all)) c.in-Some.is led.path in
     let may = staged.1 in
     let piped = is_piped g.Versions.Table about.table.value about.pipelined st.published leadership.turn hs.turn c.in-None.is in
-    let leaves : IsToLeave g.Versions.Table e v.number v.start (told v.writer) own L.1 w (record { path = leadership.path; turn = None; clock = leadership.clock; asked = leadership.asked }) = record {
+    let leaves : IsToLeave g.Versions.Table e v.number v.start (answers_told v.writer) own L.1 w (record { path = leadership.path; turn = None; clock = leadership.clock; asked = leadership.asked }) = record {
       seats = served.seats;
       layout = served.layout;
       number_is = served.number;
@@ -379,31 +379,31 @@ returns-in-None-clause-answered g c own' seen' chosen =
       before = of_list g.Versions.Table e E.controller E.start L.1 L.4;
       kept = led.kept;
       last = led.number ∙ ap (λ (k : ℕ). last_run run_of k (L.1 ++ all)) start_is;
-      own_now = own_now v.number own G.0 w.lists.replies.list.items t L.1 (told v.writer) (L.2.1 ∙ S.number) G.2.4.1 L.3;
+      own_now = own_now v.number own G.0 w.lists.replies.list.items t L.1 (answers_told v.writer) (L.2.1 ∙ S.number) G.2.4.1 L.3;
       requests = ((let k = w.lists.requests.list.ok.0 in let none = ap length served.taken in omega (arith, k, none)), served.taken, subst (λ (k : ℕ). n ≤ k) (sym requests_room) S.can_lead.lists.0.2);
       replies_few = (let len = w.lists.replies.list.ok.0 in omega (arith, few, l, len));
       replies_room = subst (λ (k : ℕ). n ≤ k) (sym served.replies_room) S.can_lead.lists.1.2;
       room = subst (HasRoom n) (sym served.room_same) c.group.ensures.room.0;
-      has_asked = asked_own v.number (told v.writer) (told v.writer ++ (own.asked, t.own_reply) ∷ []) own.asked t.own_reply (seen_by v.pass) (seen_by w.pass) served.known refl c.requires.has_asked served.delays own_at;
+      has_asked = asked_own v.number (answers_told v.writer) (answers_told v.writer ++ (own.asked, t.own_reply) ∷ []) own.asked t.own_reply (seen_by v.pass) (seen_by w.pass) served.known refl c.requires.has_asked served.delays own_at;
     } in
     let seat_number : v.number ≡ (g.Versions.Table.account w.seat).number = sym served.number ∙ sym served.seats.seat_number in
     let home = g.Versions.Table.opening e.table in
     let last_is : c.args.leadership.path.last ≡ last_after_all home.start (map commit_of L.1) = st.path.consistent.last_is ∙ ap (λ (k : ℕ). last_after_all k (map commit_of L.1)) E.start in
     let beside = subst (λ (o : Option ℕ). IfSome o (λ _. AreBeside (is_none c.args.leadership.turn) (others_in c.group.new.requests.list.items) w.layout.members.items)) c.in-Some.is c.serve-leadership.ensures.beside in
-    let hands : IsToHandOn g.Versions.Table e v.number v.start (told v.writer) own L.1 w (record { path = leadership.path; turn = None; clock = leadership.clock; asked = leadership.asked }) c.in-Some.end = record {
+    let hands : IsToHandOn g.Versions.Table e v.number v.start (answers_told v.writer) own L.1 w (record { path = leadership.path; turn = None; clock = leadership.clock; asked = leadership.asked }) c.in-Some.end = record {
       leaves = leaves;
       may = subst (λ (z : ℕ × ℕ × ℕ). MayLaunch z.0 z.1 z.2 c.in-Some.end w.layout.members.items (group_of parts)) (λ i. (seat_number i, sym E.clients i, last_is i)) may;
       beside = are_members n own t.gs w.layout.members.items (subst (Within n) (sym t.heads_are) G.2.3) (subst (λ xs. AreIn (others_in xs) w.layout.members.items) (G.3 ∙ ap (asks own) (sym t.heads_are)) beside.of_group);
       made = group_made L.1 all st.published (group_of parts) st.path.consistent.images path.consistent.images;
     } in
-    let fresh = fresh_same v.writer.client v.writer.client own own' L.1 seen' (told v.writer) (told v.writer) (sym L.2.0 ∙ chosen.0) in
-    let A = c.hand_on.ensures.answered v.number v.start (told v.writer) own L.1 hands in
+    let fresh = fresh_same v.writer.client v.writer.client own own' L.1 seen' (answers_told v.writer) (answers_told v.writer) (sym L.2.0 ∙ chosen.0) in
+    let A = c.hand_on.ensures.answered v.number v.start (answers_told v.writer) own L.1 hands in
     let same = c.hand_on.ensures.same in
     record {
-      told_now = A.told_now ∙ (λ i. told v.writer ++ ((fresh i).asked, c.hand_on.result) ∷ []);
+      told_now = A.told_now ∙ (λ i. answers_told v.writer ++ ((fresh i).asked, c.hand_on.result) ∷ []);
       handled = A.handled;
       are_handled = A.are_handled;
-      own = A.own ∙ (λ i. told v.writer ++ ((fresh i).asked, c.hand_on.result) ∷ []);
+      own = A.own ∙ (λ i. answers_told v.writer ++ ((fresh i).asked, c.hand_on.result) ∷ []);
       number = same.0 ∙ served.number;
       start_same = same.1 ∙ served.start;
     }
@@ -420,9 +420,9 @@ returns-in-Some-turn-clause-answered g c own' seen' chosen =
     let led = has_led about leadership pub_now own G.0 L.1 c.group.new.requests.list.items w.lists.replies.list.items G.3 served.in_order
     hs.path (of_list g.Versions.Table e E.controller E.start L.1 L.4) served.handed_back (shown_as e.controller about.controller.value (handled_with c.group.new.requests.list.items w.lists.replies.list.items) (sym E.controller) served.shown) in
     let t = led.is_paid in let all = all_answers own t.own_reply t.gs in
-    let mine : told c.group.new.writer ≡ told v.writer = ap told_in_first G.2.0 in
-    let has = has_as (wanted_in e.list) n (bound_of e.list) own G.0 G.1 L.1 (told v.writer) c.group.new.writer w.writer served.writer mine G.2 in
-    let told1 : told w.writer ≡ told v.writer = ap told served.writer ∙ mine in
+    let mine : answers_told c.group.new.writer ≡ answers_told v.writer = ap told_in_first G.2.0 in
+    let has = has_as (wanted_in e.list) n (bound_of e.list) own G.0 G.1 L.1 (answers_told v.writer) c.group.new.writer w.writer served.writer mine G.2 in
+    let told1 : answers_told w.writer ≡ answers_told v.writer = ap answers_told served.writer ∙ mine in
     let start_is = E.start ∙ sym E.start_number in
     let few = c.group.ensures.few in
     let l = pays_length c.group.new.requests.list.items w.lists.replies.list.items served.in_order in
@@ -433,7 +433,7 @@ returns-in-Some-turn-clause-answered g c own' seen' chosen =
     let may = staged.1 in
     let one = single g.Versions.Table about.table.value about.pipelined st.published leadership.turn c.in-Some-turn.turn hs.turn c.in-Some-turn.is in
     let P = c.publish_alone-turn.ensures in let turn = c.publish_alone-turn.result in
-    let leaves : IsToLeave g.Versions.Table e v.number v.start (told v.writer) own L.1 (record { number = w.number; start = w.start; writer = w.writer; seat = c.publish_alone-turn.new.seat; pass = w.pass; lists = w.lists; layout = record { numberings = w.layout.numberings; batches = w.layout.batches; members = w.layout.members; parts = c.publish_alone-turn.new.parts } }) (record { path = leadership.path; turn = Some turn; clock = leadership.clock; asked = leadership.asked }) = record {
+    let leaves : IsToLeave g.Versions.Table e v.number v.start (answers_told v.writer) own L.1 (record { number = w.number; start = w.start; writer = w.writer; seat = c.publish_alone-turn.new.seat; pass = w.pass; lists = w.lists; layout = record { numberings = w.layout.numberings; batches = w.layout.batches; members = w.layout.members; parts = c.publish_alone-turn.new.parts } }) (record { path = leadership.path; turn = Some turn; clock = leadership.clock; asked = leadership.asked }) = record {
       seats = record { is_engine = E; seat = P.ours.0; ready = P.ours.2; seat_number = P.seen.0 ∙ served.seats.seat_number; pass = served.seats.pass; pass_number = served.seats.pass_number; number = served.seats.number };
       layout = record { no_numberings = served.layout.no_numberings; no_batches = served.layout.no_batches; clients_are = P.emptied.1 ∙ served.layout.clients_are; numberings = served.layout.numberings; batches = served.layout.batches; members = served.layout.members };
       number_is = served.number;
@@ -453,21 +453,21 @@ returns-in-Some-turn-clause-answered g c own' seen' chosen =
       before = of_list g.Versions.Table e E.controller E.start L.1 L.4;
       kept = led.kept;
       last = led.number ∙ ap (λ (k : ℕ). last_run run_of k (L.1 ++ all)) start_is;
-      own_now = own_now v.number own G.0 w.lists.replies.list.items t L.1 (told v.writer) (L.2.1 ∙ S.number) G.2.4.1 L.3;
+      own_now = own_now v.number own G.0 w.lists.replies.list.items t L.1 (answers_told v.writer) (L.2.1 ∙ S.number) G.2.4.1 L.3;
       requests = ((let k = w.lists.requests.list.ok.0 in let none = ap length served.taken in omega (arith, k, none)), served.taken, subst (λ (k : ℕ). n ≤ k) (sym requests_room) S.can_lead.lists.0.2);
       replies_few = (let len = w.lists.replies.list.ok.0 in omega (arith, few, l, len));
       replies_room = subst (λ (k : ℕ). n ≤ k) (sym served.replies_room) S.can_lead.lists.1.2;
       room = subst (HasRoom n) (sym served.room_same) c.group.ensures.room.0;
-      has_asked = asked_own v.number (told v.writer) (told v.writer ++ (own.asked, t.own_reply) ∷ []) own.asked t.own_reply (seen_by v.pass) (seen_by w.pass) served.known refl c.requires.has_asked served.delays own_at;
+      has_asked = asked_own v.number (answers_told v.writer) (answers_told v.writer ++ (own.asked, t.own_reply) ∷ []) own.asked t.own_reply (seen_by v.pass) (seen_by w.pass) served.known refl c.requires.has_asked served.delays own_at;
     } in
-    let fresh = fresh_same v.writer.client v.writer.client own own' L.1 seen' (told v.writer) (told v.writer) (sym L.2.0 ∙ chosen.0) in
-    let A = c.leave-in-Some-turn.ensures.answered v.number v.start (told v.writer) own L.1 leaves in
+    let fresh = fresh_same v.writer.client v.writer.client own own' L.1 seen' (answers_told v.writer) (answers_told v.writer) (sym L.2.0 ∙ chosen.0) in
+    let A = c.leave-in-Some-turn.ensures.answered v.number v.start (answers_told v.writer) own L.1 leaves in
     let same = c.leave-in-Some-turn.ensures.same in
     record {
-      told_now = A.told_now ∙ (λ i. told v.writer ++ ((fresh i).asked, c.leave-in-Some-turn.result) ∷ []);
+      told_now = A.told_now ∙ (λ i. answers_told v.writer ++ ((fresh i).asked, c.leave-in-Some-turn.result) ∷ []);
       handled = A.handled;
       are_handled = A.are_handled;
-      own = A.own ∙ (λ i. told v.writer ++ ((fresh i).asked, c.leave-in-Some-turn.result) ∷ []);
+      own = A.own ∙ (λ i. answers_told v.writer ++ ((fresh i).asked, c.leave-in-Some-turn.result) ∷ []);
       number = same.0 ∙ served.number;
       start_same = same.1 ∙ served.start;
     }

@@ -1,4 +1,5 @@
 use Rattle.std.proofs.Common.{rules, ◌≡◌, ◌≤◌, sym, ◌∙◌, subst, arith}
+use Rattle.model_base.specs.declared.limits.TheConstants.{MAX_CLIENTS}
 use Rattle.engine_controller.specs.Passes.{AreNew}
 use Rattle.engine_parts.specs.Layout.{AreRoomy}
 use Rattle.engine_groups.proofs.Seating.{seats_count}
@@ -8,7 +9,7 @@ pub overflow_cast-count : goal.overflow_cast-count
 overflow_cast-count g c =
     let n = seats_count g.Versions.Table c.args.table (g.Versions.Table.opening c.args.table).clients c.args.seats.clients c.requires.seats in
     let few = c.requires.clients.1 in let is = c.len-count.ensures in
-    let small : c.len-count.result ≤ 16 = omega (arith, n, few, is) in
+    let small : c.len-count.result ≤ MAX_CLIENTS = omega (arith, n, few, is) in
     search (rules, small)
 
 pub open-requires : goal.open-requires

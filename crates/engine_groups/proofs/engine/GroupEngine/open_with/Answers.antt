@@ -1,4 +1,5 @@
 use Rattle.std.proofs.Common.{rules, ◌≡◌, ◌≤◌, ◌<◌, ◌+◌, List, [], Option, Some, None, ◌⊎◌, vec_capacity, refl, sym, ap, ◌∙◌, subst, arith}
+use Rattle.model_base.specs.declared.limits.TheConstants.{MAX_CLIENTS}
 use Rattle.model_base.specs.History.{max_sequence}
 use Rattle.log_writer.specs.Words.{disk_of}
 use Rattle.log_writer.specs.Opening.{HasOpened}
@@ -27,7 +28,7 @@ pub overflow_cast-count : goal.overflow_cast-count
 overflow_cast-count g c =
     let n = seats_count g.Versions.Table c.args.table (g.Versions.Table.opening c.args.table).clients c.args.seats.clients c.requires.seats in
     let few = c.requires.clients.1 in let is = c.len-count.ensures in
-    let small : c.len-count.result ≤ 16 = omega (arith, n, few, is) in
+    let small : c.len-count.result ≤ MAX_CLIENTS = omega (arith, n, few, is) in
     search (rules, small)
 
 pub first_note-requires : goal.first_note-requires

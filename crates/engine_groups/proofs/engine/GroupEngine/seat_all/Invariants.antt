@@ -1,5 +1,6 @@
--- The clients of the greatest numbers are made, and as many writers as have no client yet are left.
-use Rattle.std.proofs.Common.{◌≡◌, ◌+◌, ◌≤◌, length, vec_capacity}
+-- The clients of the greatest numbers are made, and as many writers as have no client yet are left. Writers and clients
+-- stand turned round.
+use Rattle.std.proofs.Common.{◌≡◌, ◌+◌, ◌≤◌, length, reverse, vec_capacity}
 use Rattle.line_writers.specs.Roles.{AreNew}
 use Rattle.line_writers.specs.Rooms.{AllReady}
 use Rattle.line_writers.specs.Seats.{table_of, clients_of}
@@ -10,7 +11,7 @@ use Rattle.engine_groups.proofs.engine.GroupEngine.seat_all.Given as goal
 
 abbrev pub invariant-loop-writer : goal.invariant-loop-writer
 invariant-loop-writer g l = record {
-  writers : AreNew (table_of l.self.list) (length l.writers.items) l.writers.items;
+  writers : AreNew (table_of l.self.list) (length l.writers.items) (reverse l.writers.items);
   seats : AreSeatsAtStart g.Versions.Table l.self.table (length l.writers.items) l.seats.items;
   passes : ArePassesAtStart l.self.controller 1 l.passes.items;
   passes_count : length l.passes.items ≡ length l.writers.items;
@@ -18,7 +19,7 @@ invariant-loop-writer g l = record {
   lists_count : length l.lists.items ≡ length l.writers.items;
   layouts : AreRoomy (clients_of l.self.list) l.layouts.items;
   layouts_count : length l.layouts.items ≡ length l.writers.items;
-  clients : AreNewcomers g.Versions.Table l.self (length l.writers.items + 1) l.clients.items;
+  clients : AreNewcomers g.Versions.Table l.self (length l.writers.items + 1) (reverse l.clients.items);
   count : length l.clients.items + length l.writers.items ≡ clients_of l.self.list;
   clients_room : clients_of l.self.list ≤ vec_capacity l.clients;
   others : IsOthersOf l.self.controller l.others;

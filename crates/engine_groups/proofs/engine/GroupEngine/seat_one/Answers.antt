@@ -1,7 +1,7 @@
 use Rattle.std.proofs.Common.{◌≡◌, ℕ, ◌<◌, ◌≤◌, [], ◌∷◌, sym, ap, ◌∙◌, subst}
 use Rattle.line_rule.specs.declared.view.LineStage.TheVariants.{Idle}
 use Rattle.line_rule.specs.Rule.{hold}
-use Rattle.line_writers.specs.Seats.{told, told_in_first, clients_of}
+use Rattle.line_writers.specs.Seats.{answers_told, told_in_first, clients_of}
 use Rattle.engine_rule.specs.Asked.{HasAsked}
 use Rattle.engine_rule.specs.Entries.{account_of}
 use Rattle.engine_groups.specs.Clients.{own_commits}
@@ -11,7 +11,7 @@ pub returns : goal.returns
 returns g c =
     let w = c.args.writer in let r = c.requires in let n : ℕ = c.args.number in let set = r.engine.0 in
     let at = r.writer.3 in
-    let none : told w ≡ [] = ap (λ m. told_in_first m.0) at in
+    let none : answers_told w ≡ [] = ap (λ m. told_in_first m.0) at in
     record {
       is_client = record {
         seated = record {
@@ -27,7 +27,7 @@ returns g c =
           can_lead = record { lists = r.room.0; layout = r.room.1 };
         };
         out = (ap (λ m. m.0) at ∙ (λ i. hold (sym r.writer.0 i) Idle (sym none i) ∷ []), ap (λ m. m.1) at);
-        has_asked = subst (HasAsked n (own_commits n (told w))) (sym r.pass.unseen) tt;
+        has_asked = subst (HasAsked n (own_commits n (answers_told w))) (sym r.pass.unseen) tt;
       };
       new = (λ i. account_of (r.engine.1 i) n (own_commits n (none i)) (r.seat.2 i) (r.pass.unseen i));
     }

@@ -1,4 +1,4 @@
-use Rattle.std.proofs.Common.{◌≡◌, ◌+◌, ◌*◌, refl, arith}
+use Rattle.std.proofs.Common.{◌≡◌, arith}
 use Rattle.line_rule.proofs.Passes.{aims_second}
 use Rattle.line_writers.proofs.line_writers.WriterList.aim_second.Goals as goal
 

@@ -1,4 +1,4 @@
-use Rattle.std.proofs.Common.{ℕ, ◌+◌, ◌*◌, sym, ap, ◌∙◌, subst, refl, arith}
+use Rattle.std.proofs.Common.{ℕ, sym, ap, ◌∙◌, subst, arith}
 use Rattle.line_writers.specs.Roles.{Turns}
 use Rattle.line_rule.specs.Rule.{logs_picked, kept_picked}
 use Rattle.line_rule.specs.Plays.{Elected}

@@ -1,4 +1,4 @@
-use Rattle.std.proofs.Common.{ℕ, ◌+◌, ◌*◌, sym, ap, ◌∙◌, refl, arith}
+use Rattle.std.proofs.Common.{ℕ, sym, ap, ◌∙◌, arith}
 use Rattle.line_rule.specs.Rule.{kept_picked}
 use Rattle.line_rule.proofs.Looks.{looks_beside_as}
 use Rattle.line_writers.proofs.line_writers.WriterList.await_reply.Goals as goal

@@ -1,5 +1,5 @@
 use Rattle.line_rule.specs.Chain.{state_at}
-use Rattle.std.proofs.Common.{◌≡◌, ℕ, ◌+◌, ◌*◌, sym, ap, ◌∙◌, arith}
+use Rattle.std.proofs.Common.{◌≡◌, ℕ, ◌+◌, sym, ap, ◌∙◌, arith}
 use Rattle.atomic_table.specs.Table.{rest}
 use Rattle.line_rule.proofs.Serves.{calls_next}
 use Rattle.line_writers.proofs.line_writers.WriterList.call_next.Goals as goal

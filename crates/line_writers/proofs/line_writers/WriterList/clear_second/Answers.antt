@@ -1,5 +1,5 @@
 use Rattle.line_rule.specs.Chain.{older_at}
-use Rattle.std.proofs.Common.{◌≡◌, ℕ, ◌+◌, ◌*◌, sym, ap, arith, ◌∙◌}
+use Rattle.std.proofs.Common.{◌≡◌, ℕ, sym, ap, arith, ◌∙◌}
 use Rattle.line_rule.proofs.Serves.{clears_second}
 use Rattle.line_writers.proofs.line_writers.WriterList.clear_second.Goals as goal
 

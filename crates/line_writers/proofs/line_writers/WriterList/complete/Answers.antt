@@ -1,5 +1,5 @@
 use Rattle.line_rule.specs.Chain.{state_at}
-use Rattle.std.proofs.Common.{◌≡◌, ℕ, ◌+◌, ◌*◌, sym, ap, arith, ◌∙◌}
+use Rattle.std.proofs.Common.{◌≡◌, ℕ, sym, ap, arith, ◌∙◌}
 use Rattle.line_rule.proofs.Settles.{tells}
 use Rattle.line_writers.proofs.line_writers.WriterList.complete.Goals as goal
 

@@ -1,5 +1,5 @@
 use Rattle.line_rule.specs.Chain.{older_at}
-use Rattle.std.proofs.Common.{◌≡◌, ℕ, ◌+◌, ◌*◌, sym, ap, arith, ◌∙◌}
+use Rattle.std.proofs.Common.{◌≡◌, ℕ, sym, ap, arith, ◌∙◌}
 use mathlib.Core.Option.{some}
 use Rattle.line_writers.proofs.Ways.{cuts_as}
 use Rattle.line_writers.proofs.line_writers.WriterList.cut_away.Goals as goal

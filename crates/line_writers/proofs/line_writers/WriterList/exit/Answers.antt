@@ -4,7 +4,7 @@ use Rattle.line_rule.specs.declared.content.LineSlot.TheVariants.{Empty, Told, T
 use Rattle.line_rule.specs.Chain.{newest, Within, heads}
 use Rattle.line_rule.specs.Plays.{At, blanks, slots_of, debt}
 use Rattle.line_rule.specs.declared.view.LineStage.TheVariants.{Idle, Leading, Settling}
-use Rattle.line_writers.specs.Seats.{told, told_in_first}
+use Rattle.line_writers.specs.Seats.{answers_told, told_in_first}
 use Rattle.line_rule.specs.Rule.{hold}
 use Rattle.line_rule.proofs.Enters.{one_hold}
 use Rattle.line_rule.proofs.Leads.{one_lead}
@@ -27,7 +27,7 @@ pub index-requires : goal.index-requires
 index-requires g c =
     let o = c.requires.group.1 in let k : ℕ = c.args.writer.now.client in
     let rev = ap reverse o.9 ∙ pays_back o.1 o.6 o.5 in
-    let lead : Lead g.row.Request.Denot g.row.Reply.Denot = lead_with_group o.1 o.4 (past_in c.args.writer.now.seat.me.0) o.3 o.2 in let mine = told c.args.writer.now in
+    let lead : Lead g.row.Request.Denot g.row.Reply.Denot = lead_with_group o.1 o.4 (past_in c.args.writer.now.seat.me.0) o.3 o.2 in let mine = answers_told c.args.writer.now in
     let e1 : c.fill.new.writer.client ≡ k = c.fill.ensures.seat.1 in
     let filled = c.fill.ensures.filled in
     let slots1 : c.fill.new.writer.seat.me.1 ≡ (0, Empty) ∷ slots_of o.5 ((k, Told o.6) ∷ []) = filled.0 ∙ ap (λ l. (0, Empty) ∷ fills l) rev ∙ ap (λ l. (0, Empty) ∷ l) (fills_of o.1 o.6 o.5) ∙ (λ i. (0, Empty) ∷ slots_of o.5 ((o.7.1 i, Told o.6) ∷ [])) in
@@ -43,7 +43,7 @@ pub hand_on-requires-clause-ready : goal.hand_on-requires-clause-ready
 hand_on-requires-clause-ready g c =
     let o = c.requires.group.1 in let k : ℕ = c.args.writer.now.client in
     let rev = ap reverse o.9 ∙ pays_back o.1 o.6 o.5 in
-    let lead : Lead g.row.Request.Denot g.row.Reply.Denot = lead_with_group o.1 o.4 (past_in c.args.writer.now.seat.me.0) o.3 o.2 in let mine = told c.args.writer.now in
+    let lead : Lead g.row.Request.Denot g.row.Reply.Denot = lead_with_group o.1 o.4 (past_in c.args.writer.now.seat.me.0) o.3 o.2 in let mine = answers_told c.args.writer.now in
     let e1 : c.fill.new.writer.client ≡ k = c.fill.ensures.seat.1 in
     let filled = c.fill.ensures.filled in
     let slots1 : c.fill.new.writer.seat.me.1 ≡ (0, Empty) ∷ slots_of o.5 ((k, Told o.6) ∷ []) = filled.0 ∙ ap (λ l. (0, Empty) ∷ fills l) rev ∙ ap (λ l. (0, Empty) ∷ l) (fills_of o.1 o.6 o.5) ∙ (λ i. (0, Empty) ∷ slots_of o.5 ((o.7.1 i, Told o.6) ∷ [])) in
@@ -62,7 +62,7 @@ pub tell_all-requires-clause-owed : goal.tell_all-requires-clause-owed
 tell_all-requires-clause-owed g c =
     let o = c.requires.group.1 in let k : ℕ = c.args.writer.now.client in
     let rev = ap reverse o.9 ∙ pays_back o.1 o.6 o.5 in
-    let lead : Lead g.row.Request.Denot g.row.Reply.Denot = lead_with_group o.1 o.4 (past_in c.args.writer.now.seat.me.0) o.3 o.2 in let mine = told c.args.writer.now in
+    let lead : Lead g.row.Request.Denot g.row.Reply.Denot = lead_with_group o.1 o.4 (past_in c.args.writer.now.seat.me.0) o.3 o.2 in let mine = answers_told c.args.writer.now in
     let e1 : c.fill.new.writer.client ≡ k = c.fill.ensures.seat.1 in
     let filled = c.fill.ensures.filled in
     let slots1 : c.fill.new.writer.seat.me.1 ≡ (0, Empty) ∷ slots_of o.5 ((k, Told o.6) ∷ []) = filled.0 ∙ ap (λ l. (0, Empty) ∷ fills l) rev ∙ ap (λ l. (0, Empty) ∷ l) (fills_of o.1 o.6 o.5) ∙ (λ i. (0, Empty) ∷ slots_of o.5 ((o.7.1 i, Told o.6) ∷ [])) in
@@ -82,7 +82,7 @@ pub retire-requires-clause-owed : goal.retire-requires-clause-owed
 retire-requires-clause-owed g c =
     let o = c.requires.group.1 in let k : ℕ = c.args.writer.now.client in
     let rev = ap reverse o.9 ∙ pays_back o.1 o.6 o.5 in
-    let lead : Lead g.row.Request.Denot g.row.Reply.Denot = lead_with_group o.1 o.4 (past_in c.args.writer.now.seat.me.0) o.3 o.2 in let mine = told c.args.writer.now in
+    let lead : Lead g.row.Request.Denot g.row.Reply.Denot = lead_with_group o.1 o.4 (past_in c.args.writer.now.seat.me.0) o.3 o.2 in let mine = answers_told c.args.writer.now in
     let e1 : c.fill.new.writer.client ≡ k = c.fill.ensures.seat.1 in
     let filled = c.fill.ensures.filled in
     let slots1 : c.fill.new.writer.seat.me.1 ≡ (0, Empty) ∷ slots_of o.5 ((k, Told o.6) ∷ []) = filled.0 ∙ ap (λ l. (0, Empty) ∷ fills l) rev ∙ ap (λ l. (0, Empty) ∷ l) (fills_of o.1 o.6 o.5) ∙ (λ i. (0, Empty) ∷ slots_of o.5 ((o.7.1 i, Told o.6) ∷ [])) in
@@ -111,7 +111,7 @@ pub returns-clause-out : goal.returns-clause-out
 returns-clause-out g c =
     let o = c.requires.group.1 in let k : ℕ = c.args.writer.now.client in
     let rev = ap reverse o.9 ∙ pays_back o.1 o.6 o.5 in
-    let lead : Lead g.row.Request.Denot g.row.Reply.Denot = lead_with_group o.1 o.4 (past_in c.args.writer.now.seat.me.0) o.3 o.2 in let mine = told c.args.writer.now in
+    let lead : Lead g.row.Request.Denot g.row.Reply.Denot = lead_with_group o.1 o.4 (past_in c.args.writer.now.seat.me.0) o.3 o.2 in let mine = answers_told c.args.writer.now in
     let e1 : c.fill.new.writer.client ≡ k = c.fill.ensures.seat.1 in
     let filled = c.fill.ensures.filled in
     let slots1 : c.fill.new.writer.seat.me.1 ≡ (0, Empty) ∷ slots_of o.5 ((k, Told o.6) ∷ []) = filled.0 ∙ ap (λ l. (0, Empty) ∷ fills l) rev ∙ ap (λ l. (0, Empty) ∷ l) (fills_of o.1 o.6 o.5) ∙ (λ i. (0, Empty) ∷ slots_of o.5 ((o.7.1 i, Told o.6) ∷ [])) in
@@ -132,7 +132,7 @@ returns-clause-out g c =
     let r = c.retire.ensures.idle mine o.1 o.6 at4 slots4 in
     let e5 : c.retire.new.writer.client ≡ k = c.retire.ensures.seat.1 ∙ e4 ∙ e3 ∙ e2 in
     let table = c.retire.ensures.seat.0 ∙ c.tell_all.ensures.seat.0 ∙ c.hand_on.ensures.seat.0 ∙ c.put_log.ensures.seat.0 ∙ c.fill.ensures.seat.0 ∙ c.requires.group.0.0 in
-    let told_is : told c.retire.new.writer ≡ mine ++ (o.1.asked, o.6) ∷ [] = ap told_in_first r.0 in (
+    let told_is : answers_told c.retire.new.writer ≡ mine ++ (o.1.asked, o.6) ∷ [] = ap told_in_first r.0 in (
       (table, subst (λ (j : ℕ). 0 < j) (sym e5) c.requires.group.0.1, subst (λ (j : ℕ). j ≤ c.args.self.now.clients) (sym e5) c.requires.group.0.2),
       (r.0 ∙ (λ i. hold (sym c.retire.ensures.seat.1 i) Idle (sym told_is i) ∷ []), r.1),
       λ max own group left seen gs p has heads_are replies.

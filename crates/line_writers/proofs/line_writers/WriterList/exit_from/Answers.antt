@@ -5,7 +5,7 @@ use Rattle.line_rule.specs.Chain.{newest, heads}
 use Rattle.line_rule.specs.Plays.{debt, At, blanks, slots_of, squad_with_end, squad_at_cut}
 use Rattle.line_rule.specs.declared.view.LineStage.TheVariants.{Leading}
 use Rattle.line_writers.specs.Roles.{HasSent}
-use Rattle.line_writers.specs.Seats.{told}
+use Rattle.line_writers.specs.Seats.{answers_told}
 use Rattle.line_writers.proofs.Gathers.{newest_is}
 use Rattle.line_writers.proofs.Tells.{some_by, length-bys}
 use Rattle.line_writers.specs.Roles.{firsts, fills, bys, lead_with_group, past_in}
@@ -25,7 +25,7 @@ pub index-requires : goal.index-requires
 index-requires g c =
     let o = c.requires.group.1 in let k : ℕ = c.args.writer.now.client in
     let rev = ap reverse o.9 ∙ pays_back o.1 o.6 o.5 in
-    let lead : Lead g.row.Request.Denot g.row.Reply.Denot = lead_with_group o.1 o.4 (past_in c.args.writer.now.seat.me.0) o.3 o.2 in let mine = told c.args.writer.now in
+    let lead : Lead g.row.Request.Denot g.row.Reply.Denot = lead_with_group o.1 o.4 (past_in c.args.writer.now.seat.me.0) o.3 o.2 in let mine = answers_told c.args.writer.now in
     let e1 : c.fill.new.writer.client ≡ k = c.fill.ensures.seat.1 ∙ c.own_code-code.ensures.seat.1 in
     let filled = c.fill.ensures.filled in
     let slots1 : c.fill.new.writer.seat.me.1 ≡ (0, Empty) ∷ slots_of o.5 ((k, Told o.6) ∷ []) = filled.0 ∙ ap (λ l. (0, Empty) ∷ fills l) rev ∙ ap (λ l. (0, Empty) ∷ l) (fills_of o.1 o.6 o.5) ∙ (λ i. (0, Empty) ∷ slots_of o.5 ((o.7.1 i, Told o.6) ∷ [])) in
@@ -46,7 +46,7 @@ pub send_on-requires-clause-ready : goal.send_on-requires-clause-ready
 send_on-requires-clause-ready g c =
     let o = c.requires.group.1 in let k : ℕ = c.args.writer.now.client in
     let rev = ap reverse o.9 ∙ pays_back o.1 o.6 o.5 in
-    let lead : Lead g.row.Request.Denot g.row.Reply.Denot = lead_with_group o.1 o.4 (past_in c.args.writer.now.seat.me.0) o.3 o.2 in let mine = told c.args.writer.now in
+    let lead : Lead g.row.Request.Denot g.row.Reply.Denot = lead_with_group o.1 o.4 (past_in c.args.writer.now.seat.me.0) o.3 o.2 in let mine = answers_told c.args.writer.now in
     let e1 : c.fill.new.writer.client ≡ k = c.fill.ensures.seat.1 ∙ c.own_code-code.ensures.seat.1 in
     let filled = c.fill.ensures.filled in
     let slots1 : c.fill.new.writer.seat.me.1 ≡ (0, Empty) ∷ slots_of o.5 ((k, Told o.6) ∷ []) = filled.0 ∙ ap (λ l. (0, Empty) ∷ fills l) rev ∙ ap (λ l. (0, Empty) ∷ l) (fills_of o.1 o.6 o.5) ∙ (λ i. (0, Empty) ∷ slots_of o.5 ((o.7.1 i, Told o.6) ∷ [])) in
@@ -68,7 +68,7 @@ pub returns-clause-sent : goal.returns-clause-sent
 returns-clause-sent g c max own group left seen gs p has heads_are replies =
     let k : ℕ = c.args.writer.now.client in
     let rev = ap reverse replies ∙ pays_back own p gs in
-    let lead : Lead g.row.Request.Denot g.row.Reply.Denot = lead_with_group own seen (past_in c.args.writer.now.seat.me.0) left group in let mine = told c.args.writer.now in
+    let lead : Lead g.row.Request.Denot g.row.Reply.Denot = lead_with_group own seen (past_in c.args.writer.now.seat.me.0) left group in let mine = answers_told c.args.writer.now in
     let e1 : c.fill.new.writer.client ≡ k = c.fill.ensures.seat.1 ∙ c.own_code-code.ensures.seat.1 in
     let filled = c.fill.ensures.filled in
     let slots1 : c.fill.new.writer.seat.me.1 ≡ (0, Empty) ∷ slots_of gs ((k, Told p) ∷ []) = filled.0 ∙ ap (λ l. (0, Empty) ∷ fills l) rev ∙ ap (λ l. (0, Empty) ∷ l) (fills_of own p gs) ∙ (λ i. (0, Empty) ∷ slots_of gs ((has.1 i, Told p) ∷ [])) in

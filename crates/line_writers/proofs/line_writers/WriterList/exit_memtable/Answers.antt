@@ -6,7 +6,7 @@ use Rattle.line_rule.specs.Chain.{newest, heads}
 use Rattle.line_rule.specs.Plays.{At, AtWith, debt, slots_of}
 use Rattle.line_rule.specs.Rule.{hold}
 use Rattle.line_rule.specs.Standing.{line_of}
-use Rattle.line_writers.specs.Seats.{told, told_in_first}
+use Rattle.line_writers.specs.Seats.{answers_told, told_in_first}
 use Rattle.line_writers.specs.Roles.{bys}
 use Rattle.line_writers.specs.Second.{squad}
 use Rattle.line_rule.proofs.Onward.{one_hold_at}
@@ -76,7 +76,7 @@ returns-clause-out g c =
     let slots4 = t.1 ∙ (λ i. (sym e4 i, Told d.reply) ∷ []) in
     let r = c.retire.ensures.idle o.3 d.own d.reply at4 slots4 in
     let e5 : c.retire.new.writer.client ≡ k = c.retire.ensures.seat.1 ∙ e4 ∙ e2 ∙ e1 in
-    let told_is : told c.retire.new.writer ≡ o.3 ++ (d.own.asked, d.reply) ∷ [] = ap told_in_first r.0 in (
+    let told_is : answers_told c.retire.new.writer ≡ o.3 ++ (d.own.asked, d.reply) ∷ [] = ap told_in_first r.0 in (
       (r.0 ∙ (λ i. hold (sym c.retire.ensures.seat.1 i) Idle (sym told_is i) ∷ []), r.1),
       λ d2 from to mine has.
           let same = one_hold_at k k (Settling d) (Settling d2) o.3 mine (Serving sq []) (Serving (squad d2 from to) []) c.args.writer.now.seat.me.0 o.4.0 has.0 in

@@ -6,7 +6,7 @@ use Rattle.line_rule.specs.Chain.{Within}
 use Rattle.line_rule.specs.Plays.{debt, squad_with_end, squad_at_cut, slots_of}
 use Rattle.line_rule.specs.Rule.{hold_at}
 use Rattle.line_rule.specs.Laws.{given_runs}
-use Rattle.line_writers.specs.Seats.{told}
+use Rattle.line_writers.specs.Seats.{answers_told}
 use Rattle.line_writers.specs.Roles.{HasSent, lead_with_group, past_in}
 use Rattle.line_writers.proofs.Sends.{slots_snoc, long_slots}
 use Rattle.line_writers.proofs.Views.{seen_in_first, handled_in_first, handled_all, long_members}
@@ -15,11 +15,11 @@ use Rattle.line_writers.proofs.line_writers.WriterList.exit_pipelined.Goals as g
 pub exit_from-alone-requires-clause-group : goal.exit_from-alone-requires-clause-group
 exit_from-alone-requires-clause-group g c =
     let o = c.requires.group.1 in
-    (c.requires.group.0, (o.0, o.1, o.2, o.3, o.4, o.5, o.6, o.7, o.8, o.9, o.10, ap (λ v. given_runs g.Reply.GivesRun.run_of (seen_in_first v)) o.7.0, ap (given_runs g.Reply.GivesRun.run_of) (handled_all c.args.writer.now.client o.1 o.4 (past_in c.args.writer.now.seat.me.0) o.3 o.2 (told c.args.writer.now) o.5 o.6 c.args.writer.now.seat.me.0 c.args.replies.now.list.items o.7.0 o.8 o.9)))
+    (c.requires.group.0, (o.0, o.1, o.2, o.3, o.4, o.5, o.6, o.7, o.8, o.9, o.10, ap (λ v. given_runs g.Reply.GivesRun.run_of (seen_in_first v)) o.7.0, ap (given_runs g.Reply.GivesRun.run_of) (handled_all c.args.writer.now.client o.1 o.4 (past_in c.args.writer.now.seat.me.0) o.3 o.2 (answers_told c.args.writer.now) o.5 o.6 c.args.writer.now.seat.me.0 c.args.replies.now.list.items o.7.0 o.8 o.9)))
 
 pub rotate-requires : goal.rotate-requires
 rotate-requires g c =
-    let o = c.requires.group.1 in let k : ℕ = c.args.writer.now.client in let n : ℕ = c.args.self.now.clients in let mine = told c.args.writer.now in
+    let o = c.requires.group.1 in let k : ℕ = c.args.writer.now.client in let n : ℕ = c.args.self.now.clients in let mine = answers_told c.args.writer.now in
     let from = given_runs g.Reply.GivesRun.run_of (seen_in_first c.args.writer.now.seat.me.0) in let to = given_runs g.Reply.GivesRun.run_of (handled_in_first c.args.writer.now.seat.me.0 c.args.replies.now.list.items) in
     let e = c.exit_from-alone.ensures.sent o.0 o.1 o.2 o.3 o.4 o.5 o.6 o.7 o.8 o.9 in
     let s = subst (λ (y : Bool). HasSent (g.Log.LogOfGroups.serves c.args.self.now.table.shared.key.about) n k y (debt o.5 o.1 o.6) mine (squad_with_end (squad_at_cut (lead_with_group o.1 o.4 (past_in c.args.writer.now.seat.me.0) o.3 o.2) from) to) c.exit_from-alone.new.writer.seat.me) c.if-alone.true e.0 in
@@ -41,7 +41,7 @@ returns-clause-client g c =
 
 pub returns-then-alone-clause-sent : goal.returns-then-alone-clause-sent
 returns-then-alone-clause-sent g c max own group left seen gs p has heads_are replies =
-    let b = c.requires.group.0 in let k : ℕ = c.args.writer.now.client in let n : ℕ = c.args.self.now.clients in let mine = told c.args.writer.now in
+    let b = c.requires.group.0 in let k : ℕ = c.args.writer.now.client in let n : ℕ = c.args.self.now.clients in let mine = answers_told c.args.writer.now in
     let from = given_runs g.Reply.GivesRun.run_of (seen_in_first c.args.writer.now.seat.me.0) in let to = given_runs g.Reply.GivesRun.run_of (handled_in_first c.args.writer.now.seat.me.0 c.args.replies.now.list.items) in
     let x = c.exit_from-alone.ensures in
     let e1 : c.exit_from-alone.new.writer.client ≡ k = x.seat.1 in
@@ -59,7 +59,7 @@ returns-then-alone-clause-sent g c max own group left seen gs p has heads_are re
 
 pub returns-clause-sent : goal.returns-clause-sent
 returns-clause-sent g c max own group left seen gs p has heads_are replies =
-    let b = c.requires.group.0 in let k : ℕ = c.args.writer.now.client in let n : ℕ = c.args.self.now.clients in let mine = told c.args.writer.now in
+    let b = c.requires.group.0 in let k : ℕ = c.args.writer.now.client in let n : ℕ = c.args.self.now.clients in let mine = answers_told c.args.writer.now in
     let from = given_runs g.Reply.GivesRun.run_of (seen_in_first c.args.writer.now.seat.me.0) in let to = given_runs g.Reply.GivesRun.run_of (handled_in_first c.args.writer.now.seat.me.0 c.args.replies.now.list.items) in
     let x = c.exit_from-alone.ensures in
     let e1 : c.exit_from-alone.new.writer.client ≡ k = x.seat.1 in

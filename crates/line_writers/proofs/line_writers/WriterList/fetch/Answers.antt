@@ -1,5 +1,5 @@
 use Rattle.line_rule.specs.Chain.{older_at}
-use Rattle.std.proofs.Common.{◌≡◌, ℕ, ◌+◌, ◌*◌, ◌∷◌, sym, ap, ◌∙◌, arith}
+use Rattle.std.proofs.Common.{◌≡◌, ℕ, ◌∷◌, sym, ap, ◌∙◌, arith}
 use Rattle.line_rule.specs.declared.content.LineSlot.TheVariants.{Asked}
 use Rattle.line_rule.proofs.Chains.{fronted}
 use Rattle.line_rule.proofs.Leads.{fetches}

@@ -1,4 +1,4 @@
-use Rattle.std.proofs.Common.{◌≡◌, ◌≤◌, ℕ, ◌+◌, List, [], ◌∷◌, ◌++◌, sym, ap, ◌∙◌, subst, refl, arith, length, length-append}
+use Rattle.std.proofs.Common.{◌≤◌, ℕ, ◌+◌, List, [], ◌∷◌, ◌++◌, sym, ap, ◌∙◌, subst, refl, arith, length, length-append}
 use Rattle.line_rule.specs.declared.view.Lead.{Lead}
 use Rattle.line_rule.specs.declared.view.LineStage.TheVariants.{Leading}
 use Rattle.line_rule.specs.Plays.{At, lead_with_one_more}

@@ -1,4 +1,4 @@
-use Rattle.std.proofs.Common.{◌≡◌, ℕ, ◌+◌, ◌-◌, ◌^◌, ◌<◌, [], ◌∷◌, ◌++◌, length, get_or, sym, ap, ◌∙◌, subst, arith}
+use Rattle.std.proofs.Common.{◌≡◌, ℕ, ◌+◌, ◌-◌, ◌^◌, ◌<◌, [], ◌∷◌, ◌++◌, length, get_or, sym, ap, ◌∙◌, subst, refl, inl, arith}
 use Rattle.line_rule.specs.declared.view.Lead.{Lead}
 use Rattle.line_rule.specs.declared.content.LineSlot.TheVariants.{Told, TheLog}
 use Rattle.line_rule.specs.declared.view.LineStage.TheVariants.{Leading, Settling}
@@ -17,7 +17,7 @@ survey-requires-clause-read g c =
     let w = (c.leave-found.ensures.left o.0 o.1 o.2 o.3 o.4 o.5 o.8.0 o.9).1 c.if-found-newest_member.false in
     let b = behind k slots o.0 o.1 found c.args.newest_member c.args.writer.now.seat.me c.leave-found.new.writer.seat.me w o.6 c.if-found-newest_member.false in
     let e1 : c.leave-found.new.writer.client ≡ k = c.leave-found.ensures.seat.1 in
-    subst (λ (j : ℕ). HasRead slots j found c.leave-found.new.writer.seat.me) (sym e1) b.read
+    subst (λ (j : ℕ). HasRead 0 slots j found c.leave-found.new.writer.seat.me) (sym e1) b.read
 
 pub overflow_sub-len : goal.overflow_sub-len
 overflow_sub-len g c =
@@ -26,7 +26,7 @@ overflow_sub-len g c =
     let b = behind k slots o.0 o.1 found c.args.newest_member c.args.writer.now.seat.me c.leave-found.new.writer.seat.me w o.6 c.if-found-newest_member.false in
     let e1 : c.leave-found.new.writer.client ≡ k = c.leave-found.ensures.seat.1 in
     let lead' : Lead g.row.Request.Denot g.row.Reply.Denot = lead_with_walk o.0 (b.queue ++ in_hand o.0) in
-    let items : c.survey.new.walk.items ≡ pairs (b.pre ++ b.x ∷ in_hand o.0) = c.survey.ensures.walk lead' o.1 (subst (λ (j : ℕ). At j (Leading lead') o.1 c.leave-found.new.writer.seat.me) (sym e1) b.at) ∙ ap pairs b.parts in
+    let items : c.survey.new.walk.items ≡ pairs (b.pre ++ b.x ∷ in_hand o.0) = c.survey.ensures.walk (b.queue ++ in_hand o.0) (inl (refl, (lead', o.1, subst (λ (j : ℕ). At j (Leading lead') o.1 c.leave-found.new.writer.seat.me) (sym e1) b.at, refl))) ∙ ap pairs b.parts in
     let long : length c.survey.new.walk.items ≡ length b.pre + 1 + length (in_hand o.0) = ap length items ∙ (length-pairs (b.pre ++ b.x ∷ in_hand o.0) ∙ (ap length (sym b.parts) ∙ b.long)) in
     let count : c.args.count ≡ length (in_hand o.0) = o.10 in
     omega arith
@@ -38,7 +38,7 @@ overflow_sub-len-2 g c =
     let b = behind k slots o.0 o.1 found c.args.newest_member c.args.writer.now.seat.me c.leave-found.new.writer.seat.me w o.6 c.if-found-newest_member.false in
     let e1 : c.leave-found.new.writer.client ≡ k = c.leave-found.ensures.seat.1 in
     let lead' : Lead g.row.Request.Denot g.row.Reply.Denot = lead_with_walk o.0 (b.queue ++ in_hand o.0) in
-    let items : c.survey.new.walk.items ≡ pairs (b.pre ++ b.x ∷ in_hand o.0) = c.survey.ensures.walk lead' o.1 (subst (λ (j : ℕ). At j (Leading lead') o.1 c.leave-found.new.writer.seat.me) (sym e1) b.at) ∙ ap pairs b.parts in
+    let items : c.survey.new.walk.items ≡ pairs (b.pre ++ b.x ∷ in_hand o.0) = c.survey.ensures.walk (b.queue ++ in_hand o.0) (inl (refl, (lead', o.1, subst (λ (j : ℕ). At j (Leading lead') o.1 c.leave-found.new.writer.seat.me) (sym e1) b.at, refl))) ∙ ap pairs b.parts in
     let long : length c.survey.new.walk.items ≡ length b.pre + 1 + length (in_hand o.0) = ap length items ∙ (length-pairs (b.pre ++ b.x ∷ in_hand o.0) ∙ (ap length (sym b.parts) ∙ b.long)) in
     let count : c.args.count ≡ length (in_hand o.0) = o.10 in
     omega arith
@@ -50,7 +50,7 @@ index-requires g c =
     let b = behind k slots o.0 o.1 found c.args.newest_member c.args.writer.now.seat.me c.leave-found.new.writer.seat.me w o.6 c.if-found-newest_member.false in
     let e1 : c.leave-found.new.writer.client ≡ k = c.leave-found.ensures.seat.1 in
     let lead' : Lead g.row.Request.Denot g.row.Reply.Denot = lead_with_walk o.0 (b.queue ++ in_hand o.0) in
-    let items : c.survey.new.walk.items ≡ pairs (b.pre ++ b.x ∷ in_hand o.0) = c.survey.ensures.walk lead' o.1 (subst (λ (j : ℕ). At j (Leading lead') o.1 c.leave-found.new.writer.seat.me) (sym e1) b.at) ∙ ap pairs b.parts in
+    let items : c.survey.new.walk.items ≡ pairs (b.pre ++ b.x ∷ in_hand o.0) = c.survey.ensures.walk (b.queue ++ in_hand o.0) (inl (refl, (lead', o.1, subst (λ (j : ℕ). At j (Leading lead') o.1 c.leave-found.new.writer.seat.me) (sym e1) b.at, refl))) ∙ ap pairs b.parts in
     let long : length c.survey.new.walk.items ≡ length b.pre + 1 + length (in_hand o.0) = ap length items ∙ (length-pairs (b.pre ++ b.x ∷ in_hand o.0) ∙ (ap length (sym b.parts) ∙ b.long)) in
     let count : c.args.count ≡ length (in_hand o.0) = o.10 in
     omega arith
@@ -62,7 +62,7 @@ wake-requires-clause-seat g c =
     let b = behind k slots o.0 o.1 found c.args.newest_member c.args.writer.now.seat.me c.leave-found.new.writer.seat.me w o.6 c.if-found-newest_member.false in
     let e1 : c.leave-found.new.writer.client ≡ k = c.leave-found.ensures.seat.1 in
     let lead' : Lead g.row.Request.Denot g.row.Reply.Denot = lead_with_walk o.0 (b.queue ++ in_hand o.0) in
-    let items : c.survey.new.walk.items ≡ pairs (b.pre ++ b.x ∷ in_hand o.0) = c.survey.ensures.walk lead' o.1 (subst (λ (j : ℕ). At j (Leading lead') o.1 c.leave-found.new.writer.seat.me) (sym e1) b.at) ∙ ap pairs b.parts in
+    let items : c.survey.new.walk.items ≡ pairs (b.pre ++ b.x ∷ in_hand o.0) = c.survey.ensures.walk (b.queue ++ in_hand o.0) (inl (refl, (lead', o.1, subst (λ (j : ℕ). At j (Leading lead') o.1 c.leave-found.new.writer.seat.me) (sym e1) b.at, refl))) ∙ ap pairs b.parts in
     let long : length c.survey.new.walk.items ≡ length b.pre + 1 + length (in_hand o.0) = ap length items ∙ (length-pairs (b.pre ++ b.x ∷ in_hand o.0) ∙ (ap length (sym b.parts) ∙ b.long)) in
     let count : c.args.count ≡ length (in_hand o.0) = o.10 in
     let got = c.index.result.now in
@@ -80,7 +80,7 @@ wake-requires-clause-ready g c =
     let b = behind k slots o.0 o.1 found c.args.newest_member c.args.writer.now.seat.me c.leave-found.new.writer.seat.me w o.6 c.if-found-newest_member.false in
     let e1 : c.leave-found.new.writer.client ≡ k = c.leave-found.ensures.seat.1 in
     let lead' : Lead g.row.Request.Denot g.row.Reply.Denot = lead_with_walk o.0 (b.queue ++ in_hand o.0) in
-    let items : c.survey.new.walk.items ≡ pairs (b.pre ++ b.x ∷ in_hand o.0) = c.survey.ensures.walk lead' o.1 (subst (λ (j : ℕ). At j (Leading lead') o.1 c.leave-found.new.writer.seat.me) (sym e1) b.at) ∙ ap pairs b.parts in
+    let items : c.survey.new.walk.items ≡ pairs (b.pre ++ b.x ∷ in_hand o.0) = c.survey.ensures.walk (b.queue ++ in_hand o.0) (inl (refl, (lead', o.1, subst (λ (j : ℕ). At j (Leading lead') o.1 c.leave-found.new.writer.seat.me) (sym e1) b.at, refl))) ∙ ap pairs b.parts in
     let long : length c.survey.new.walk.items ≡ length b.pre + 1 + length (in_hand o.0) = ap length items ∙ (length-pairs (b.pre ++ b.x ∷ in_hand o.0) ∙ (ap length (sym b.parts) ∙ b.long)) in
     let count : c.args.count ≡ length (in_hand o.0) = o.10 in
     let got = c.index.result.now in
@@ -99,7 +99,7 @@ returns-clause-settling g c lead mine gs p l at heads_are slot_is =
     let b = behind k slots o.0 o.1 found c.args.newest_member c.args.writer.now.seat.me c.leave-found.new.writer.seat.me w o.6 c.if-found-newest_member.false in
     let e1 : c.leave-found.new.writer.client ≡ k = c.leave-found.ensures.seat.1 in
     let lead' : Lead g.row.Request.Denot g.row.Reply.Denot = lead_with_walk o.0 (b.queue ++ in_hand o.0) in
-    let items : c.survey.new.walk.items ≡ pairs (b.pre ++ b.x ∷ in_hand o.0) = c.survey.ensures.walk lead' o.1 (subst (λ (j : ℕ). At j (Leading lead') o.1 c.leave-found.new.writer.seat.me) (sym e1) b.at) ∙ ap pairs b.parts in
+    let items : c.survey.new.walk.items ≡ pairs (b.pre ++ b.x ∷ in_hand o.0) = c.survey.ensures.walk (b.queue ++ in_hand o.0) (inl (refl, (lead', o.1, subst (λ (j : ℕ). At j (Leading lead') o.1 c.leave-found.new.writer.seat.me) (sym e1) b.at, refl))) ∙ ap pairs b.parts in
     let long : length c.survey.new.walk.items ≡ length b.pre + 1 + length (in_hand o.0) = ap length items ∙ (length-pairs (b.pre ++ b.x ∷ in_hand o.0) ∙ (ap length (sym b.parts) ∙ b.long)) in
     let count : c.args.count ≡ length (in_hand o.0) = o.10 in
     let e2 : c.survey.new.writer.client ≡ k = c.survey.ensures.seat.1 ∙ e1 in

@@ -2,7 +2,7 @@ use Rattle.std.proofs.Common.{[], ◌∷◌, ◌++◌, length, reverse, sym, ap,
 use Rattle.line_rule.specs.declared.view.LineStage.TheVariants.{Idle}
 use Rattle.line_rule.specs.Rule.{hold}
 use Rattle.line_rule.proofs.Opens.{joins}
-use Rattle.line_writers.specs.Seats.{AllOut, holds_of, told}
+use Rattle.line_writers.specs.Seats.{AllOut, holds_of, answers_told}
 use Rattle.line_writers.proofs.Closes.{holds_back, out_last}
 use Rattle.line_writers.proofs.line_writers.WriterList.join_all.Goals as goal
 
@@ -19,7 +19,7 @@ loop-i-preserved g c =
     record {
       table = e.0 ∙ v.table;
       none_out = ap (λ m. m.1) e.2 ∙ v.none_out;
-      view = ap (λ m. m.0 ++ reverse (holds_of rest)) e.2 ∙ (ap (λ l. (c.loop-i.first.me.0 ++ l) ++ reverse (holds_of rest)) x.1.0 ∙ (append_assoc c.loop-i.first.me.0 (hold w.client Idle (told w) ∷ []) (reverse (holds_of rest)) ∙ (ap (λ l. c.loop-i.first.me.0 ++ l) (sym (holds_back rest w)) ∙ (ap (λ l. c.loop-i.first.me.0 ++ reverse (holds_of l)) (sym c.in-Some.ensures.items) ∙ v.view))));
+      view = ap (λ m. m.0 ++ reverse (holds_of rest)) e.2 ∙ (ap (λ l. (c.loop-i.first.me.0 ++ l) ++ reverse (holds_of rest)) x.1.0 ∙ (append_assoc c.loop-i.first.me.0 (hold w.client Idle (answers_told w) ∷ []) (reverse (holds_of rest)) ∙ (ap (λ l. c.loop-i.first.me.0 ++ l) (sym (holds_back rest w)) ∙ (ap (λ l. c.loop-i.first.me.0 ++ reverse (holds_of l)) (sym c.in-Some.ensures.items) ∙ v.view))));
       all_out = x.2;
       count = (let k = v.count in omega (arith, ap length c.in-Some.ensures.items, length-append rest (w ∷ [])));
     }

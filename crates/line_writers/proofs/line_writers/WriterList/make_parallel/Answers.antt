@@ -1,5 +1,5 @@
 use Rattle.line_rule.specs.Chain.{state_at}
-use Rattle.std.proofs.Common.{◌≡◌, ℕ, ◌+◌, ◌*◌, sym, ap, arith, ◌∙◌}
+use Rattle.std.proofs.Common.{◌≡◌, ℕ, sym, ap, arith, ◌∙◌}
 use Rattle.line_rule.proofs.Serves.{parallels}
 use Rattle.line_writers.proofs.line_writers.WriterList.make_parallel.Goals as goal
 

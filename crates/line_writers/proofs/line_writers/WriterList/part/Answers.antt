@@ -1,4 +1,4 @@
-use Rattle.std.proofs.Common.{◌≡◌, ℕ, ◌+◌, ◌-◌, ◌^◌, ◌<◌, [], ◌∷◌, ◌++◌, length, get_or, sym, ap, ◌∙◌, subst, refl, arith}
+use Rattle.std.proofs.Common.{◌≡◌, ℕ, ◌+◌, ◌-◌, ◌^◌, ◌<◌, [], ◌∷◌, ◌++◌, length, get_or, sym, ap, ◌∙◌, subst, refl, inl, arith}
 use Rattle.line_rule.specs.declared.view.Lead.{Lead}
 use Rattle.line_rule.specs.declared.view.LineStage.TheVariants.{Leading, Cutting}
 use Rattle.line_rule.specs.declared.view.Back.TheVariants.{Parting}
@@ -22,7 +22,7 @@ survey-requires-clause-read g c =
     let b = behind k slots o.0 o.1 found c.args.newest_member c.args.writer.now.seat.me c.mark-found.new.writer.seat.me w o.3 c.if-found-newest_member.false in
     let e1 : c.mark-found.new.writer.client ≡ k = c.mark-found.ensures.seat.1 in
     let lead' : Lead g.row.Request.Denot g.row.Reply.Denot = lead_with_walk o.0 (b.queue ++ in_hand o.0) in
-    subst (λ (j : ℕ). HasRead slots j found c.mark-found.new.writer.seat.me) (sym e1) b.read
+    subst (λ (j : ℕ). HasRead 0 slots j found c.mark-found.new.writer.seat.me) (sym e1) b.read
 
 pub overflow_sub-len : goal.overflow_sub-len
 overflow_sub-len g c =
@@ -31,7 +31,7 @@ overflow_sub-len g c =
     let b = behind k slots o.0 o.1 found c.args.newest_member c.args.writer.now.seat.me c.mark-found.new.writer.seat.me w o.3 c.if-found-newest_member.false in
     let e1 : c.mark-found.new.writer.client ≡ k = c.mark-found.ensures.seat.1 in
     let lead' : Lead g.row.Request.Denot g.row.Reply.Denot = lead_with_walk o.0 (b.queue ++ in_hand o.0) in
-    let items : c.survey.new.walk.items ≡ pairs (b.pre ++ b.x ∷ in_hand o.0) = c.survey.ensures.walk lead' o.1 (subst (λ (j : ℕ). At j (Leading lead') o.1 c.mark-found.new.writer.seat.me) (sym e1) b.at) ∙ ap pairs b.parts in
+    let items : c.survey.new.walk.items ≡ pairs (b.pre ++ b.x ∷ in_hand o.0) = c.survey.ensures.walk (b.queue ++ in_hand o.0) (inl (refl, (lead', o.1, subst (λ (j : ℕ). At j (Leading lead') o.1 c.mark-found.new.writer.seat.me) (sym e1) b.at, refl))) ∙ ap pairs b.parts in
     let long : length c.survey.new.walk.items ≡ length b.pre + 1 + length (in_hand o.0) = ap length items ∙ (length-pairs (b.pre ++ b.x ∷ in_hand o.0) ∙ (ap length (sym b.parts) ∙ b.long)) in
     let count : c.args.count ≡ length (in_hand o.0) = o.5 in
     omega arith
@@ -43,7 +43,7 @@ overflow_sub-len-2 g c =
     let b = behind k slots o.0 o.1 found c.args.newest_member c.args.writer.now.seat.me c.mark-found.new.writer.seat.me w o.3 c.if-found-newest_member.false in
     let e1 : c.mark-found.new.writer.client ≡ k = c.mark-found.ensures.seat.1 in
     let lead' : Lead g.row.Request.Denot g.row.Reply.Denot = lead_with_walk o.0 (b.queue ++ in_hand o.0) in
-    let items : c.survey.new.walk.items ≡ pairs (b.pre ++ b.x ∷ in_hand o.0) = c.survey.ensures.walk lead' o.1 (subst (λ (j : ℕ). At j (Leading lead') o.1 c.mark-found.new.writer.seat.me) (sym e1) b.at) ∙ ap pairs b.parts in
+    let items : c.survey.new.walk.items ≡ pairs (b.pre ++ b.x ∷ in_hand o.0) = c.survey.ensures.walk (b.queue ++ in_hand o.0) (inl (refl, (lead', o.1, subst (λ (j : ℕ). At j (Leading lead') o.1 c.mark-found.new.writer.seat.me) (sym e1) b.at, refl))) ∙ ap pairs b.parts in
     let long : length c.survey.new.walk.items ≡ length b.pre + 1 + length (in_hand o.0) = ap length items ∙ (length-pairs (b.pre ++ b.x ∷ in_hand o.0) ∙ (ap length (sym b.parts) ∙ b.long)) in
     let count : c.args.count ≡ length (in_hand o.0) = o.5 in
     omega arith
@@ -55,7 +55,7 @@ index-requires g c =
     let b = behind k slots o.0 o.1 found c.args.newest_member c.args.writer.now.seat.me c.mark-found.new.writer.seat.me w o.3 c.if-found-newest_member.false in
     let e1 : c.mark-found.new.writer.client ≡ k = c.mark-found.ensures.seat.1 in
     let lead' : Lead g.row.Request.Denot g.row.Reply.Denot = lead_with_walk o.0 (b.queue ++ in_hand o.0) in
-    let items : c.survey.new.walk.items ≡ pairs (b.pre ++ b.x ∷ in_hand o.0) = c.survey.ensures.walk lead' o.1 (subst (λ (j : ℕ). At j (Leading lead') o.1 c.mark-found.new.writer.seat.me) (sym e1) b.at) ∙ ap pairs b.parts in
+    let items : c.survey.new.walk.items ≡ pairs (b.pre ++ b.x ∷ in_hand o.0) = c.survey.ensures.walk (b.queue ++ in_hand o.0) (inl (refl, (lead', o.1, subst (λ (j : ℕ). At j (Leading lead') o.1 c.mark-found.new.writer.seat.me) (sym e1) b.at, refl))) ∙ ap pairs b.parts in
     let long : length c.survey.new.walk.items ≡ length b.pre + 1 + length (in_hand o.0) = ap length items ∙ (length-pairs (b.pre ++ b.x ∷ in_hand o.0) ∙ (ap length (sym b.parts) ∙ b.long)) in
     let count : c.args.count ≡ length (in_hand o.0) = o.5 in
     omega arith
@@ -67,7 +67,7 @@ cut_away-requires-clause-seat g c =
     let b = behind k slots o.0 o.1 found c.args.newest_member c.args.writer.now.seat.me c.mark-found.new.writer.seat.me w o.3 c.if-found-newest_member.false in
     let e1 : c.mark-found.new.writer.client ≡ k = c.mark-found.ensures.seat.1 in
     let lead' : Lead g.row.Request.Denot g.row.Reply.Denot = lead_with_walk o.0 (b.queue ++ in_hand o.0) in
-    let items : c.survey.new.walk.items ≡ pairs (b.pre ++ b.x ∷ in_hand o.0) = c.survey.ensures.walk lead' o.1 (subst (λ (j : ℕ). At j (Leading lead') o.1 c.mark-found.new.writer.seat.me) (sym e1) b.at) ∙ ap pairs b.parts in
+    let items : c.survey.new.walk.items ≡ pairs (b.pre ++ b.x ∷ in_hand o.0) = c.survey.ensures.walk (b.queue ++ in_hand o.0) (inl (refl, (lead', o.1, subst (λ (j : ℕ). At j (Leading lead') o.1 c.mark-found.new.writer.seat.me) (sym e1) b.at, refl))) ∙ ap pairs b.parts in
     let long : length c.survey.new.walk.items ≡ length b.pre + 1 + length (in_hand o.0) = ap length items ∙ (length-pairs (b.pre ++ b.x ∷ in_hand o.0) ∙ (ap length (sym b.parts) ∙ b.long)) in
     let count : c.args.count ≡ length (in_hand o.0) = o.5 in
     let got = c.index.result.now in
@@ -85,7 +85,7 @@ cut_away-requires-clause-next g c =
     let b = behind k slots o.0 o.1 found c.args.newest_member c.args.writer.now.seat.me c.mark-found.new.writer.seat.me w o.3 c.if-found-newest_member.false in
     let e1 : c.mark-found.new.writer.client ≡ k = c.mark-found.ensures.seat.1 in
     let lead' : Lead g.row.Request.Denot g.row.Reply.Denot = lead_with_walk o.0 (b.queue ++ in_hand o.0) in
-    let items : c.survey.new.walk.items ≡ pairs (b.pre ++ b.x ∷ in_hand o.0) = c.survey.ensures.walk lead' o.1 (subst (λ (j : ℕ). At j (Leading lead') o.1 c.mark-found.new.writer.seat.me) (sym e1) b.at) ∙ ap pairs b.parts in
+    let items : c.survey.new.walk.items ≡ pairs (b.pre ++ b.x ∷ in_hand o.0) = c.survey.ensures.walk (b.queue ++ in_hand o.0) (inl (refl, (lead', o.1, subst (λ (j : ℕ). At j (Leading lead') o.1 c.mark-found.new.writer.seat.me) (sym e1) b.at, refl))) ∙ ap pairs b.parts in
     let long : length c.survey.new.walk.items ≡ length b.pre + 1 + length (in_hand o.0) = ap length items ∙ (length-pairs (b.pre ++ b.x ∷ in_hand o.0) ∙ (ap length (sym b.parts) ∙ b.long)) in
     let count : c.args.count ≡ length (in_hand o.0) = o.5 in
     let got = c.index.result.now in
@@ -106,7 +106,7 @@ returns-clause-next g c =
     let b = behind k slots o.0 o.1 found c.args.newest_member c.args.writer.now.seat.me c.mark-found.new.writer.seat.me w o.3 c.if-found-newest_member.false in
     let e1 : c.mark-found.new.writer.client ≡ k = c.mark-found.ensures.seat.1 in
     let lead' : Lead g.row.Request.Denot g.row.Reply.Denot = lead_with_walk o.0 (b.queue ++ in_hand o.0) in
-    let items : c.survey.new.walk.items ≡ pairs (b.pre ++ b.x ∷ in_hand o.0) = c.survey.ensures.walk lead' o.1 (subst (λ (j : ℕ). At j (Leading lead') o.1 c.mark-found.new.writer.seat.me) (sym e1) b.at) ∙ ap pairs b.parts in
+    let items : c.survey.new.walk.items ≡ pairs (b.pre ++ b.x ∷ in_hand o.0) = c.survey.ensures.walk (b.queue ++ in_hand o.0) (inl (refl, (lead', o.1, subst (λ (j : ℕ). At j (Leading lead') o.1 c.mark-found.new.writer.seat.me) (sym e1) b.at, refl))) ∙ ap pairs b.parts in
     let long : length c.survey.new.walk.items ≡ length b.pre + 1 + length (in_hand o.0) = ap length items ∙ (length-pairs (b.pre ++ b.x ∷ in_hand o.0) ∙ (ap length (sym b.parts) ∙ b.long)) in
     let count : c.args.count ≡ length (in_hand o.0) = o.5 in
     let got = c.index.result.now in
@@ -123,7 +123,7 @@ returns-clause-parted g c lead mine at =
     let b = behind k slots o.0 o.1 found c.args.newest_member c.args.writer.now.seat.me c.mark-found.new.writer.seat.me w o.3 c.if-found-newest_member.false in
     let e1 : c.mark-found.new.writer.client ≡ k = c.mark-found.ensures.seat.1 in
     let lead' : Lead g.row.Request.Denot g.row.Reply.Denot = lead_with_walk o.0 (b.queue ++ in_hand o.0) in
-    let items : c.survey.new.walk.items ≡ pairs (b.pre ++ b.x ∷ in_hand o.0) = c.survey.ensures.walk lead' o.1 (subst (λ (j : ℕ). At j (Leading lead') o.1 c.mark-found.new.writer.seat.me) (sym e1) b.at) ∙ ap pairs b.parts in
+    let items : c.survey.new.walk.items ≡ pairs (b.pre ++ b.x ∷ in_hand o.0) = c.survey.ensures.walk (b.queue ++ in_hand o.0) (inl (refl, (lead', o.1, subst (λ (j : ℕ). At j (Leading lead') o.1 c.mark-found.new.writer.seat.me) (sym e1) b.at, refl))) ∙ ap pairs b.parts in
     let long : length c.survey.new.walk.items ≡ length b.pre + 1 + length (in_hand o.0) = ap length items ∙ (length-pairs (b.pre ++ b.x ∷ in_hand o.0) ∙ (ap length (sym b.parts) ∙ b.long)) in
     let count : c.args.count ≡ length (in_hand o.0) = o.5 in
     let got = c.index.result.now in

@@ -11,5 +11,5 @@ invariant-loop-step g l = record {
   room : vec_capacity l.walk ≡ vec_capacity l.fn.walk;
   len : vec_len l.walk ≡ l.step;
   codes : CodesFit l.walk.items;
-  so_far : Surveyed l.fn.writer.client l.fn.self.table.shared.table_id.slots l.writer.seat.me l.at l.walk.items l.step;
+  so_far : Surveyed l.fn.end l.fn.writer.client l.fn.self.table.shared.table_id.slots l.writer.seat.me l.at l.walk.items l.step;
 }

@@ -1,5 +1,5 @@
 use Rattle.line_rule.specs.Chain.{state_at, older_at}
-use Rattle.std.proofs.Common.{◌≡◌, ℕ, ◌+◌, ◌*◌, [], ◌∷◌, sym, ap, ◌∙◌, arith}
+use Rattle.std.proofs.Common.{◌≡◌, ℕ, [], ◌∷◌, sym, ap, ◌∙◌, arith}
 use Rattle.line_rule.specs.Rule.{hold}
 use Rattle.line_rule.specs.declared.view.LineStage.TheVariants.{Leading, Cutting}
 use Rattle.line_rule.specs.declared.view.Back.TheVariants.{Away}

@@ -1,5 +1,6 @@
 use Rattle.std.proofs.Common.{◌≡◌, ◌+◌, [], ◌∷◌, ◌++◌, sym, ◌∙◌, ap, arith}
 use Rattle.std.proofs.lemmas.Grind.{common_steps}
+use Rattle.model_base.specs.declared.limits.TheConstants.{MAX_SIZE}
 use Rattle.model_base.specs.Batch.{count_of, record_bytes, header, body, size_of_batch}
 use Rattle.log_batch.specs.Contents.{Contents, IsBatch, with_addition}
 use Rattle.log_batch.specs.View.{record_of}
@@ -41,7 +42,7 @@ invariant_of-self-inside-2 c =
         records = old.holds.records ++ r ∷ [];
         count_is = counted c;
         bytes_are = written c;
-        fits = added_fits c.overwrite.new.self old.sequence (old.count + c.sequences_of.result) 16777216 old.holds.records r (written c)
+        fits = added_fits c.overwrite.new.self old.sequence (old.count + c.sequences_of.result) MAX_SIZE old.holds.records r (written c)
             (omega (arith, c.size.ensures.value, ap (λ (v : Contents). size_of_batch v.records) c.self.view_is, c.size_with_record-size.ensures, c.if-size-gt-MAX_SIZE.false));
       },
       tt,

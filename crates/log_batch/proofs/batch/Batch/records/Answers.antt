@@ -1,5 +1,5 @@
 -- The bytes behind the header are the batch's records.
-use Rattle.std.proofs.Common.{◌≡◌, ◌-◌, List, ℕ, length, take, drop, sym, ap, ◌∙◌, subst, arith, rules}
+use Rattle.std.proofs.Common.{◌≡◌, ◌-◌, List, ℕ, length, take, drop, sym, ap, ◌∙◌, subst, arith}
 use Rattle.std.proofs.lemmas.Grind.{common_steps}
 use Rattle.log_batch.specs.Body.{IsBody}
 use Rattle.log_batch.specs.Contents.{Contents}

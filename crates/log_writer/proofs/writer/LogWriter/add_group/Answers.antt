@@ -1,4 +1,4 @@
-use Rattle.std.proofs.Common.{[], ◌∷◌, length, None}
+use Rattle.std.proofs.Common.{[], ◌∷◌, length}
 use Rattle.model_base.specs.Log.{record_text, plain_log}
 use Rattle.log_writer.specs.Groups.{record_of_group}
 use Rattle.log_writer.proofs.Keeping.{crash_keeps, leaves_safe, leaves_same, durable, len_more}

@@ -20,7 +20,7 @@ no_answer s m None w = refl
 no_answer s m (Some client) w = refl
 
 some_reply : (records : List Record) (x : Answer) → shown_answer records (Some x) ≡ Some (shown_reply records x)
-some_reply records (Accepted first last) = refl
+some_reply records (Accepted run) = refl
 some_reply records (Refused why) = refl
 
 pub returns-in_default-clause-steps : goal.returns-in_default-clause-steps

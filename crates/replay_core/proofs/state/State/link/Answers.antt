@@ -3,6 +3,7 @@ use Rattle.std.specs.Prelude.{if◌then◌else◌, vec_capacity}
 use Rattle.std.specs.Option.{option_and_then}
 use Rattle.std.proofs.lemmas.Option.{slice_get_read, slice_get_within}
 use Rattle.std.proofs.lemmas.List.{length-map}
+use Rattle.model_base.specs.declared.limits.TheConstants.{MAX_SIZE}
 use Rattle.model_base.specs.declared.group.Item.{Item}
 use Rattle.model_base.specs.declared.write.WriteOptions.{WriteOptions}
 use Rattle.model_base.specs.Batch.{Record, count_of, size_of_batch}
@@ -163,7 +164,7 @@ returns-in-Some-refusal_at_once-clause-steps c = λ o s is_core m.
     let ahead : core.Ahead = core.next_call client in
     let added : List Record = ahead.client.added in
     let call : ahead.call ≡ Some (commit how) = next.1.call ∙ line in
-    let small : size_of_batch added ≤ 16777216 = commit_small client.calls client.added client.left client how is.small call in
+    let small : size_of_batch added ≤ MAX_SIZE = commit_small client.calls client.added client.left client how is.small call in
     let records_are : added_between a.from a.call plan4 ≡ added = ap (λ (p : ClientPlan). added_between a.from a.call p) again_plan ∙ sym next.1.added in
     let within : a.call ≤ length plan4 = omega (arith, next.1.within, ap length again_plan) in
     let same_size : size_of_batch (added_between a.from a.call plan4) ≡ size_of_batch added = ap size_of_batch records_are in
@@ -243,7 +244,7 @@ returns-in-None-clause-steps c = λ o s is_core m.
     let ahead : core.Ahead = core.next_call client in
     let added : List Record = ahead.client.added in
     let call : ahead.call ≡ Some (commit how) = next.1.call ∙ line in
-    let small : size_of_batch added ≤ 16777216 = commit_small client.calls client.added client.left client how is.small call in
+    let small : size_of_batch added ≤ MAX_SIZE = commit_small client.calls client.added client.left client how is.small call in
     let records_are : added_between a.from a.call plan4 ≡ added = ap (λ (p : ClientPlan). added_between a.from a.call p) again_plan ∙ sym next.1.added in
     let within : a.call ≤ length plan4 = omega (arith, next.1.within, ap length again_plan) in
     let same_size : size_of_batch (added_between a.from a.call plan4) ≡ size_of_batch added = ap size_of_batch records_are in

@@ -42,7 +42,7 @@ returns-clause-same g c =
 pub returns-clause-value : goal.returns-clause-value
 returns-clause-value g c =
     let z : Opening = c.args.table.now.table.shared.key in let id : TableId = c.args.table.now.table.shared.table_id in let k : ℕ = c.args.self.now.client.number in let o = c.requires.ours.0 in let m = c.args.self.now.client.seat.me in
-    let seen : List (List MemberVersions) = (first_state m.0).seen in let vs : List Version = g.T.Versioned.versions c.lock-tree.result in
+    let seen : List (List MemberVersions) = (first_state m.0).seen in let vs : List Version = g.ShardTree.Versioned.versions c.lock-tree.result in
     let same : seen ≡ o.3.0 = ap (λ l. (first_state l).seen) o.3.2 in
     let at = o.3.2 ∙ ap (λ (y : List (List MemberVersions)). seat_state k z y Free o.3.1 ∷ []) (sym same) in
     let l = c.lock-tree.ensures.locked seen o.3.1 at in

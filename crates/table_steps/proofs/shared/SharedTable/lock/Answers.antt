@@ -12,7 +12,7 @@ compare_exchange-found-requires g c =
     let q = c.args.self.now.sized in let o = c.requires.free in let z : Opening = c.args.self.now.table.shared.key in let e = shards_of z c.args.self.now.opening q.2 in let lt = c.requires.seat.1 in let i = c.loop.invariant in (
       i.3 ∙ c.requires.seat.0,
       omega arith,
-      locks g.T.Versioned.versions g.N.Versioned.versions z _ _ c.loop.who.seat.me c.args.who.now.number c.args.shard o.0 o.1 lt (ap (λ m. m.0) i.4 ∙ o.2),
+      locks g.ShardTree.Versioned.versions g.MemberNodes.Versioned.versions z _ _ c.loop.who.seat.me c.args.who.now.number c.args.shard o.0 o.1 lt (ap (λ m. m.0) i.4 ∙ o.2),
     )
 
 pub exchange-requires : goal.exchange-requires
@@ -33,5 +33,5 @@ returns-in-Tree-clause-locked g c seen stage at =
     let t = (c.compare_exchange-found.ensures.2 k z seen stage (ap (λ m. m.0) i.4 ∙ at)).0 c.if-found-eq0.true in
     let x = c.exchange.ensures.3 in
     let same : t.0 ≡ c.in-Tree.tree = same_tree t.0 c.in-Tree.tree j j c.compare_exchange-found.new.seat.me.1 _ _ t.2 (c.exchange.ensures.2 ∙ ap (λ y. (j, y) ∷ rest c.compare_exchange-found.new.seat.me.1) c.in-Tree.is) in
-    subst (λ (y : g.row.T.Denot). Locked k z j seen stage (g.T.Versioned.versions y) c.args.who.now.seat.me c.exchange.new.seat.me) same
+    subst (λ (y : g.row.ShardTree.Denot). Locked k z j seen stage (g.ShardTree.Versioned.versions y) c.args.who.now.seat.me c.exchange.new.seat.me) same
     (ap (λ m. m.0) x ∙ t.1, ap (λ m. m.1) x ∙ ap (λ l. (j, Blank) ∷ rest l) t.2 ∙ ap (λ m. (j, Blank) ∷ m.1) i.4, t.3, t.4)

@@ -1,7 +1,7 @@
 -- The nodes so far, turned, stand before what is left to make.
 use Rattle.std.proofs.Common.{◌≡◌, ◌++◌, reverse}
-use Rattle.table_tree.specs.Batches.{made}
+use Rattle.table_tree.specs.Batches.{new_versions}
 use Rattle.table_tree.proofs.node.Nodes.make.Given as goal
 
 abbrev pub invariant-loop-view : goal.invariant-loop-view
-invariant-loop-view l = reverse l.nodes ++ made l.view-iterator ≡ made l.batch.records
+invariant-loop-view l = reverse l.nodes ++ new_versions l.view-iterator ≡ new_versions l.batch.records

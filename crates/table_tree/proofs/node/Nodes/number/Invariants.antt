@@ -1,12 +1,12 @@
--- Those that are numbered stand, turned, before the others.
-use Rattle.std.proofs.Common.{◌≡◌, ◌+◌, ◌≤◌, ◌^◌, ◌++◌, length, reverse}
-use Rattle.table_tree.specs.Batches.{numbered}
+-- Those that are left, turned and numbered, stand before those that are numbered.
+use Rattle.std.proofs.Common.{◌≡◌, ◌+◌, ◌++◌, length, reverse}
+use Rattle.table_tree.specs.Batches.{number_from}
 use Rattle.table_tree.proofs.node.Nodes.number.Given as goal
 
 abbrev pub invariant-loop-node : goal.invariant-loop-node
 invariant-loop-node l = record {
-  all : reverse l.numbered ++ numbered l.sequence l.self ≡ numbered l.first l.initial.self;
-  fits : l.sequence + length l.self ≤ 2 ^ 56;
+  all : number_from l.first (reverse l.self) ++ l.numbered ≡ number_from l.first (reverse l.initial.self);
+  next : l.first + length l.self ≡ l.sequence;
 }
 
 abbrev pub decreases-loop-node : goal.decreases-loop-node

@@ -1,5 +1,5 @@
 -- The member's part is found and changed, or there is room for one more.
-use Rattle.std.proofs.Common.{◌≡◌, ◌≤◌, List, ℕ, eqb, set, Option, Some, None, sym, ap, ◌∙◌, arith, rules}
+use Rattle.std.proofs.Common.{◌≡◌, ◌≤◌, List, [], ◌∷◌, ◌++◌, ℕ, eqb, set, Option, Some, None, sym, ap, ◌∙◌, arith, rules}
 use Rattle.std.specs.List.{position_from}
 use Rattle.table_rule.specs.declared.content.Version.{Version}
 use Rattle.table_tree.specs.Parts.{with_part, Members}
@@ -36,6 +36,9 @@ unwrap-requires c =
     let room = room_left b.clients c.args.member c.args.nodes b.parts c.self.invariant c.requires.low high absent in
     c.push.ensures.succeeds (search rules)
 
+put : (c : goal.After-unwrap) → c.push.new.self.items ≡ c.self.inside.parts.items ++ record { member = c.args.member; nodes = c.args.nodes } ∷ []
+put c = (rw c.unwrap.ensures at c.push.ensures.items) ∙ ap (λ (vs : List Version). c.self.inside.parts.items ++ record { member = c.args.member; nodes = vs } ∷ []) c.of-nodes.ensures
+
 pub invariant_of-self-in-None : goal.invariant_of-self-in-None
 invariant_of-self-in-None c =
     let b = c.self.inside in
@@ -43,7 +46,7 @@ invariant_of-self-in-None c =
     let at : position_from (λ (p : MemberNodes). eqb p.member c.args.member) 0 b.parts.items ≡ none = search rules in
     let absent = absent_from c.args.member c.args.nodes b.parts.items 0 at in
     let high : c.args.member ≤ b.clients = rw (ap (λ (m : Members). m.clients) c.self.view_is) c.requires.high in
-    let items = rw c.unwrap.ensures at c.push.ensures.items in
+    let items = put c in
     room_kept b.clients c.args.member c.args.nodes b.parts c.self.invariant c.requires.low high c.push.new.self (items ∙ sym absent.behind) c.push.ensures.capacity
 
 pub returns-in-Some : goal.returns-in-Some
@@ -63,6 +66,6 @@ returns-in-None c =
     let none : Option ℕ = None in
     let at : position_from (λ (p : MemberNodes). eqb p.member c.args.member) 0 b.parts.items ≡ none = search rules in
     let absent = absent_from c.args.member c.args.nodes b.parts.items 0 at in
-    let items = rw c.unwrap.ensures at c.push.ensures.items in
+    let items = put c in
     let view = c.self.view_is in
     λ i. record { clients = (view i).clients; parts = (items ∙ sym absent.behind ∙ ap (λ (m : Members). with_part m.parts c.args.member c.args.nodes) view) i }

@@ -3,7 +3,8 @@ use Rattle.line_writers.specs.Roles.{IsNew, AreNew}
 use Rattle.line_writers.specs.Rooms.{AllReady}
 use Rattle.line_writers.specs.Seats.{table_of}
 use Rattle.tests_line_stages.specs.Clients.{IsIdle, AllMayWrite, AllStand}
-use Rattle.tests_line_stages.proofs.Seating.{IsNext, is_next, ready_last, new_last, new_idle, seat_more, stand_more}
+use Rattle.tests_line.proofs.Seating.{IsNext, is_next, ready_last}
+use Rattle.tests_line_stages.proofs.Seating.{new_last, new_idle, seat_more, stand_more}
 use Rattle.tests_line_stages.proofs.tests.clients.seated.Goals as goal
 
 pub loop-made-preserved : goal.loop-made-preserved

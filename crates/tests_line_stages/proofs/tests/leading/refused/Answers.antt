@@ -4,7 +4,8 @@ use Rattle.line_writers.specs.Seats.{start_of}
 use Rattle.line_rule.specs.Chain.{all_answers}
 use Rattle.tests_line.specs.declared.counter.CountRequest.{CountRequest}
 use Rattle.tests_line.specs.declared.counter.CountReply.{CountReply}
-use Rattle.tests_line_stages.proofs.Replies.{none_given, none_numbered}
+use Rattle.tests_line.proofs.Replies.{none_given}
+use Rattle.tests_line_stages.proofs.Replies.{none_numbered}
 use Rattle.tests_line_stages.proofs.tests.leading.refused.Goals as goal
 
 pub exit-requires-clause-group : goal.exit-requires-clause-group

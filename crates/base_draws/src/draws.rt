@@ -1,0 +1,54 @@
+//! The numbers of a seed, by a linear congruential generator. From a state `x` on the first is that of the state
+//! `(x * 1103515245 + 12345) mod 2^31`, and a state's number is `x / 65536`, so it is below 32,768.
+
+ghost use Rattle.std.specs.Prelude.{◌<◌, ◌^◌};
+
+/// How many states there are, `2^31`.
+const STATES: u64 = 2_147_483_648;
+
+const FACTOR: u64 = 1_103_515_245;
+
+const INCREMENT: u64 = 12_345;
+
+/// The low bits of a state, which are no part of its number, have so many values.
+const LOW: u64 = 65_536;
+
+/// The numbers that are drawn from some moment on.
+#[derive(Drop)]
+pub struct Draws {
+    /// The state, from which the next one is made before a number is drawn.
+    pub state: u64,
+    ghost below: { state < 2 ^ 31 },
+}
+
+impl Draws {
+    ghost use Rattle.std.specs.Prelude.{◌≡◌, ◌%◌, ◌^◌};
+    ghost use Rattle.model_base.specs.Generator.{next_state, number_at, first_state};
+
+    /// All draws of a seed.
+    pub fn of_seed(seed: u64) -> Draws
+        ensures { result.state ≡ seed % 2 ^ 31 }
+    {
+        Draws {
+            state: seed % STATES,
+        }
+    }
+
+    /// All draws of a client.
+    pub fn of_client(seed: u64, client: u32) -> Draws
+        ensures { result.state ≡ first_state seed client }
+    {
+        Draws {
+            state: (seed % STATES + u64::from(client)) % STATES,
+        }
+    }
+
+    /// The next number.
+    pub fn next(&mut self) -> u64
+        ensures state { self.new.state ≡ next_state self.old.state }
+        ensures number { result ≡ number_at self.new.state }
+    {
+        self.state = (self.state * FACTOR + INCREMENT) % STATES;
+        self.state / LOW
+    }
+}

@@ -1,0 +1,109 @@
+-- What each command's part promises is what is promised of the command. In the parts of other commands something else
+-- is asked for.
+use Rattle.std.proofs.Common.{refl, sym, ◌∙◌}
+use Rattle.program_call.proofs.Invocation.{of_run, of_generate, of_replay, is_run, is_generate, is_recover, is_replay, not_another}
+use Rattle.program_call.proofs.call.carry_out.Goals as goal
+
+pub returns-in-Run-clause-run : goal.returns-in-Run-clause-run
+returns-in-Run-clause-run g c = λ wanted asked.
+    let given = c.in-Run in
+    let does = c.run_script.ensures in
+    let named = of_run c.args.asked given.pipelined given.shards given.group_bytes given.batch_bytes given.last asked.0 asked.1 wanted given.is asked.2 in
+    let same = named ∙ sym c.setup_of-setup.ensures.options in
+    rw same (record {
+      other = does.other;
+      script = does.script;
+      other_script = does.other_script;
+      source_failed = λ four. let s = does.source four in record { failed = s.0; count = s.1.0; reached = s.1.1; said = s.1.2 };
+      source_stood = does.source_stood;
+      read_to_end = does.read_to_end;
+      disk_untouched = does.disk_untouched;
+      runs = does.runs;
+      completes = does.completes;
+    })
+
+pub returns-in-Generate-clause-generate : goal.returns-in-Generate-clause-generate
+returns-in-Generate-clause-generate g c = λ seed clients batches asked.
+    let given = c.in-Generate in
+    let does = c.run_generated.ensures in
+    let same = of_generate c.args.asked given.pipelined given.shards given.seed given.clients given.batches asked.0 asked.1 seed clients batches given.is asked.2 in
+    rw (same.0, same.1, same.2) (record {
+      one = does.status;
+      source_untouched = refl;
+      runs = does.runs;
+      completes = does.completes;
+      one_summary = does.one_summary;
+    })
+
+pub returns-in-Recover-clause-recover : goal.returns-in-Recover-clause-recover
+returns-in-Recover-clause-recover g c = λ asked.
+    let does = c.recover_log.ensures in
+    record {
+      one = does.status;
+      source_untouched = refl;
+      as_before = does.disk_as_before;
+      no_fault = does.no_fault;
+      disk_failed = does.disk_failed;
+      sink_failed = does.sink_failed;
+      recovered = does.recovered;
+      recovered_prefix = does.recovered_prefix;
+      refused = does.refused;
+      silent = does.silent;
+      completes = does.completes;
+    }
+
+pub returns-in-Replay-clause-replay : goal.returns-in-Replay-clause-replay
+returns-in-Replay-clause-replay g c = λ wanted asked.
+    let given = c.in-Replay in
+    let does = c.replay.ensures in
+    let same = of_replay c.args.asked given.pipelined given.group_bytes given.batch_bytes given.last wanted given.is asked in
+    rw same (record {
+      one = does.status;
+      disk_untouched = does.disk;
+      schedule = does.schedule;
+      other_schedule = does.other_schedule;
+      no_fault = does.no_fault;
+      source_failed = λ four. let s = does.source four in record { failed = s.0; count = s.1.0; reached = s.1.1; said = s.1.2 };
+      sink_failed = does.sink_failed;
+      read_to_end = does.read_to_end;
+      replayed = does.replayed;
+      replayed_prefix = does.replayed_prefix;
+      silent = does.silent;
+      completes = does.completes;
+    })
+
+pub returns-in-Run-clause-generate : goal.returns-in-Run-clause-generate
+returns-in-Run-clause-generate g c = λ seed clients batches asked. absurd (not_another is_run _ _ _ c.in-Run.is asked.2 refl refl)
+
+pub returns-in-Run-clause-recover : goal.returns-in-Run-clause-recover
+returns-in-Run-clause-recover g c = λ asked. absurd (not_another is_run _ _ _ c.in-Run.is asked refl refl)
+
+pub returns-in-Run-clause-replay : goal.returns-in-Run-clause-replay
+returns-in-Run-clause-replay g c = λ options asked. absurd (not_another is_run _ _ _ c.in-Run.is asked refl refl)
+
+pub returns-in-Generate-clause-run : goal.returns-in-Generate-clause-run
+returns-in-Generate-clause-run g c = λ options asked. absurd (not_another is_generate _ _ _ c.in-Generate.is asked.2 refl refl)
+
+pub returns-in-Generate-clause-recover : goal.returns-in-Generate-clause-recover
+returns-in-Generate-clause-recover g c = λ asked. absurd (not_another is_generate _ _ _ c.in-Generate.is asked refl refl)
+
+pub returns-in-Generate-clause-replay : goal.returns-in-Generate-clause-replay
+returns-in-Generate-clause-replay g c = λ options asked. absurd (not_another is_generate _ _ _ c.in-Generate.is asked refl refl)
+
+pub returns-in-Recover-clause-run : goal.returns-in-Recover-clause-run
+returns-in-Recover-clause-run g c = λ options asked. absurd (not_another is_recover _ _ _ c.in-Recover.is asked.2 refl refl)
+
+pub returns-in-Recover-clause-generate : goal.returns-in-Recover-clause-generate
+returns-in-Recover-clause-generate g c = λ seed clients batches asked. absurd (not_another is_recover _ _ _ c.in-Recover.is asked.2 refl refl)
+
+pub returns-in-Recover-clause-replay : goal.returns-in-Recover-clause-replay
+returns-in-Recover-clause-replay g c = λ options asked. absurd (not_another is_recover _ _ _ c.in-Recover.is asked refl refl)
+
+pub returns-in-Replay-clause-run : goal.returns-in-Replay-clause-run
+returns-in-Replay-clause-run g c = λ options asked. absurd (not_another is_replay _ _ _ c.in-Replay.is asked.2 refl refl)
+
+pub returns-in-Replay-clause-generate : goal.returns-in-Replay-clause-generate
+returns-in-Replay-clause-generate g c = λ seed clients batches asked. absurd (not_another is_replay _ _ _ c.in-Replay.is asked.2 refl refl)
+
+pub returns-in-Replay-clause-recover : goal.returns-in-Replay-clause-recover
+returns-in-Replay-clause-recover g c = λ asked. absurd (not_another is_replay _ _ _ c.in-Replay.is asked refl refl)

@@ -1,0 +1,73 @@
+//! What the tests' writers ask for, with the sizes at which the grouping rule decides.
+
+ghost use Rattle.std.specs.Prelude.{◌≡◌};
+
+use model_base::{Item, WriteOptions};
+
+/// The bound that the grouping rule's worked examples take.
+pub const MAX: u64 = 1048576;
+
+pub const UNFLAGGED: WriteOptions = WriteOptions {
+    sync: false,
+    no_log: false,
+    no_slowdown: false,
+};
+
+/// A small one. As a leader its cap is its 100 and an eighth of the bound.
+pub const PLAIN: Item = Item {
+    size: 100,
+    options: UNFLAGGED,
+};
+
+pub const SYNCED: Item = Item {
+    options: WriteOptions {
+        sync: true,
+        ..UNFLAGGED
+    },
+    ..PLAIN
+};
+
+pub const UNLOGGED: Item = Item {
+    options: WriteOptions {
+        no_log: true,
+        ..UNFLAGGED
+    },
+    ..PLAIN
+};
+
+pub const HASTY: Item = Item {
+    options: WriteOptions {
+        no_slowdown: true,
+        ..UNFLAGGED
+    },
+    ..PLAIN
+};
+
+/// An eighth of the bound. A leader past it is a larger one.
+pub const EIGHTH: Item = Item {
+    size: 131072,
+    ..PLAIN
+};
+
+pub const PAST_EIGHTH: Item = Item {
+    size: 131073,
+    ..PLAIN
+};
+
+/// What the bound leaves beside that.
+pub const REST: Item = Item {
+    size: 917503,
+    ..PLAIN
+};
+
+pub const PAST_REST: Item = Item {
+    size: 917504,
+    ..PLAIN
+};
+
+/// A plain one of this size.
+pub fn sized(size: u64) -> Item
+    ensures { result.size ≡ size }
+{
+    Item { size, ..PLAIN }
+}

@@ -1,0 +1,53 @@
+//! What is done to logs: they are cut, bytes of them are changed, and more is put behind them. A place in a log is
+//! counted from its first byte, which stands at 0.
+
+use log_block::{BLOCK_LEN, HEADER_LEN, MAX_PART_LEN, header};
+use std::alloc::AllocError;
+
+/// The first so many bytes of a log. It is an error where the log has fewer.
+pub(crate) fn cut_at(log: &[u8], len: usize) -> Result<&[u8], &'static str> {
+    log.get(..len).ok_or("the log has fewer bytes")
+}
+
+/// Puts another byte at a place. It is an error where the log ends before it.
+pub(crate) fn set_byte(log: &mut [u8], at: usize, byte: u8) -> Result<(), &'static str> {
+    let place = log.get_mut(at).ok_or("the log has no such byte")?;
+    *place = byte;
+    Ok(())
+}
+
+/// Inverts each bit of the byte at a place. It is an error where the log ends before it.
+pub(crate) fn flip_byte(log: &mut [u8], at: usize) -> Result<(), &'static str> {
+    let place = log.get_mut(at).ok_or("the log has no such byte")?;
+    *place ^= 0xff;
+    Ok(())
+}
+
+/// Makes the checksum right of the fragment whose header stands at a place, by the length and the type in the header.
+/// It is an error where no whole fragment stands there.
+pub(crate) fn fix_checksum(log: &mut [u8], at: usize) -> Result<(), &'static str> {
+    let rest = log.get_mut(at..).ok_or("the log has no such byte")?;
+    if rest.len() < HEADER_LEN {
+        return Err("the header is cut");
+    }
+    let len = usize::from(u16::from_le_bytes([rest[4], rest[5]]));
+    if rest.len() < HEADER_LEN + len || len > MAX_PART_LEN {
+        return Err("the part is cut");
+    }
+    let fixed = header(rest[6], &rest[HEADER_LEN..HEADER_LEN + len]);
+    rest[..HEADER_LEN].copy_from_slice(&fixed);
+    Ok(())
+}
+
+/// Puts so many zeros behind a log.
+pub(crate) fn put_zeros(log: &mut Vec<u8>, len: usize) -> Result<(), AllocError> {
+    log.resize(log.len().saturating_add(len), 0)
+}
+
+/// Puts zeros behind a log up to the end of its last block.
+pub(crate) fn fill_block(log: &mut Vec<u8>) -> Result<(), AllocError> {
+    match log.len() % BLOCK_LEN {
+        0 => Ok(()),
+        used => put_zeros(log, BLOCK_LEN - used),
+    }
+}
